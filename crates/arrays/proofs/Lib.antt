@@ -1,0 +1,13 @@
+pub mod ShapeLemmas
+pub mod SchemaLemmas
+pub mod EncodingLemmas
+pub mod ListLemmas
+pub mod BuilderLemmas
+pub mod NumberArrays
+pub mod ViewLemmas
+pub mod ByteLemmas
+pub mod RowLemmas
+pub mod FirstFaultLemmas
+pub mod LawfulLemmas
+pub mod SlotLemmas
+pub mod OffsetLemmas

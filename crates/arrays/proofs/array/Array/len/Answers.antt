@@ -1,0 +1,13 @@
+use Rattle.std.proofs.Common.{◌∙◌, map, length, None, option_map, ap, sym}
+use Rattle.std.specs.Arc.{arc_value}
+use Rattle.arrays.specs.Kind.{kind_of}
+use Rattle.arrays.specs.Seen.{Seen}
+use Rattle.arrays.specs.Reading.{reading}
+use Rattle.arrays.specs.Checked.{checked}
+use Rattle.arrays.proofs.ViewLemmas.{length-items}
+use Rattle.arrays.proofs.array.Array.len.Goals as goal
+
+pub returns : goal.returns
+returns c =
+    let a = c.self.inside in
+    sym (length-items (kind_of a.ty) a.length None a.buffers.items (map reading a.children.items) (option_map checked (option_map arc_value a.words))) ∙ ap (λ (s : Seen). length s.items) c.self.view_is

@@ -1,0 +1,46 @@
+-- A record batch, and what it refuses.
+use Rattle.std.specs.Prelude.{ℕ, ◌==◌, List, map, length, not, nat_lt, if◌then◌else◌, Option, Some, None, option_map, position, slice_index_or}
+use Rattle.std.specs.List.{range_with_len, zip}
+use Rattle.arrays.specs.Item.{Item, null}
+use Rattle.arrays.specs.Kind.{same_kind}
+use Rattle.arrays.specs.Shape.{FieldShape, kind_of_field}
+use Rattle.arrays.specs.Seen.{Seen}
+use Rattle.arrays.specs.declared.batch.BatchFault.{BatchFault}
+use Rattle.arrays.specs.declared.batch.BatchFault.TheVariants.{LengthsDiffer, TypeDiffers, ColumnCount}
+
+-- Columns under their fields, of so many rows.
+pub record Batch : Type 0 where
+  pub fields : List FieldShape
+  pub rows : ℕ
+  pub columns : List Seen
+
+-- The least column whose kind isn't that of its field.
+abbrev pub differing_type : List FieldShape → List Seen → Option ℕ
+differing_type fields columns = position (λ p. not (same_kind p.0.kind (kind_of_field p.1))) (zip columns fields)
+
+-- The least column that isn't so long.
+abbrev pub differing_length : ℕ → List Seen → Option ℕ
+differing_length rows columns = position (λ c. not (length c.items == rows)) columns
+
+-- The least column that isn't as long as the rows, or is one of too many rows.
+abbrev pub bad_length : ℕ → List Seen → Option ℕ
+bad_length rows columns = if nat_lt 2147483647 rows then Some 0 else differing_length rows columns
+
+abbrev pub or_else : Option BatchFault → Option BatchFault → Option BatchFault
+or_else (Some fault) other = Some fault
+or_else None other = other
+
+-- The first fault of columns under fields.
+abbrev pub batch_fault : List FieldShape → ℕ → List Seen → Option BatchFault
+batch_fault fields rows columns =
+    if not (length columns == length fields)
+    then Some ColumnCount
+    else or_else (option_map (λ c. TypeDiffers c) (differing_type fields columns)) (option_map (λ c. LengthsDiffer c) (bad_length rows columns))
+
+-- Row i of the columns: an item of each.
+abbrev pub row_of : List Seen → ℕ → List Item
+row_of columns i = map (λ c. slice_index_or c.items i null) columns
+
+-- The rows of a batch.
+abbrev pub rows_of : Batch → List (List Item)
+rows_of b = map (row_of b.columns) (range_with_len 0 b.rows)

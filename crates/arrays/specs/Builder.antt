@@ -1,0 +1,29 @@
+-- A column of numbers in the making.
+use Rattle.std.specs.Prelude.{◌≡◌, ℕ, ◌*◌, ◌≤◌, ℤ, List, Bool, false, map, length, Option, Some, None, slice_index_or, if◌then◌else◌}
+use Rattle.std.specs.List.{range_with_len}
+use Rattle.arrays.specs.declared.types.IntType.{IntType}
+use Rattle.arrays.specs.Kind.{bytes_of}
+use Rattle.arrays.specs.Layout.{number_at}
+use Rattle.arrays.specs.Item.{Item, null, int}
+use Rattle.arrays.specs.Column.{Column}
+use Rattle.arrays.specs.declared.builder.IntBuilder.TheInside.{Inside}
+
+-- A number where the slot is valid.
+abbrev pub item_at : IntType → List ℕ → List Bool → ℕ → Item
+item_at t values valid j = if slice_index_or valid j false then int (number_at t values j) else null
+
+unfoldable pub built : IntType → List ℕ → List Bool → List Item
+built t values valid = map (item_at t values valid) (range_with_len 0 (length valid))
+
+abbrev pub show_builder : Inside → Column
+show_builder b = record { ty = b.ty; items = built b.ty b.values.items b.valid.items }
+
+-- A number for each slot, and no more slots than an array may have.
+pub record IsBuilt (t : IntType) (values : List ℕ) (valid : List Bool) : Type 0 where
+  pub whole : length values ≡ length valid * bytes_of t.bits
+  pub short : length valid ≤ 2147483647
+
+-- The item of a number or none.
+abbrev pub item_of : Option ℤ → Item
+item_of None = null
+item_of (Some z) = int z

@@ -1,0 +1,14 @@
+-- Slots of a checked array, borrowed.
+use Rattle.std.specs.Prelude.{option_map}
+use Rattle.arrays.specs.ViewType.{view_kind}
+use Rattle.arrays.specs.Seen.{Seen, part}
+use Rattle.arrays.specs.Reading.{Reading}
+use Rattle.arrays.specs.Checked.{read_checked}
+use Rattle.arrays.specs.declared.view.View.TheInside.{Inside}
+
+-- The whole array that the view is of.
+abbrev pub read_view : Inside → Reading
+read_view v = read_checked (view_kind v.ty) v.total v.buffers.now v.children.now (option_map (λ w. w.now) v.words)
+
+abbrev pub show_view : Inside → Seen
+show_view v = part v.start v.len (read_view v).seen

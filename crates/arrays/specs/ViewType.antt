@@ -1,0 +1,13 @@
+-- The type of a view.
+use Rattle.arrays.specs.Kind as kind
+use Rattle.arrays.specs.Kind.{Kind, kind_of}
+use Rattle.arrays.specs.declared.types.Field.{out-Field}
+use Rattle.arrays.specs.declared.view.ViewType.{ViewType}
+use Rattle.arrays.specs.declared.view.ViewType.TheVariants.{Int, Bool, Utf8, List, Dict}
+
+abbrev pub view_kind : ViewType → Kind
+view_kind (Int t) = kind.int t
+view_kind Bool = kind.boolean
+view_kind Utf8 = kind.utf8
+view_kind (List item) = kind.list (kind_of (out-Field item.now).ty)
+view_kind Dict = kind.dict

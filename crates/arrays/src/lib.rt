@@ -1,0 +1,28 @@
+//! Arrow arrays, checked once: types, the layout validator, views and record batches.
+#![tactic(auto)]
+
+pub mod array;
+pub mod batch;
+pub mod builder;
+mod check;
+pub mod fault;
+pub mod file;
+mod number;
+mod numbers;
+pub mod schema;
+#[cfg(test)]
+mod tests;
+pub mod types;
+mod validator;
+pub mod view;
+pub mod words;
+
+pub use array::{Array, validate};
+pub use batch::{BatchFault, RecordBatch};
+pub use builder::IntBuilder;
+pub use fault::LayoutFault;
+pub use file::File;
+pub use schema::{Schema, SchemaFault};
+pub use types::{DataType, Field, IntType, RawArray, Width};
+pub use view::{View, ViewType};
+pub use words::Words;

@@ -1,0 +1,189 @@
+ghost use Rattle.std.specs.Prelude.{◌≡◌, ◌+◌, ◌<◌, ◌≤◌, Some, None, length, slice_get, option_map, IsTrue};
+ghost use Rattle.arrays.specs.Kind.{kind_of};
+ghost use Rattle.colbits.specs.Slice.{slice};
+ghost use Rattle.arrays.specs.Builder.{item_of};
+ghost use Rattle.arrays.specs.Checked.{read_checked};
+ghost use Rattle.arrays.specs.Kind as kind;
+ghost use Rattle.arrays.specs.Seen.{null_count_of, part, valid_at};
+ghost use Rattle.arrays.specs.Values.{HasNumbers};
+ghost use Rattle.arrays.specs.ViewType.{view_kind};
+
+use crate::check;
+use crate::numbers::number_at;
+use crate::types::{DataType, Field, IntType, RawArray};
+use crate::words::Words;
+use colbits::{Bits, Buffer};
+use std::marker::Model;
+
+/// The type of a view, with the item's field of a list.
+#[derive(Clone, Copy)]
+pub enum ViewType<'a> {
+    Int(IntType),
+    Bool,
+    Utf8,
+    List(&'a Field),
+    Dict,
+}
+
+impl<'a> ViewType<'a> {
+    /// The type without what lies in it.
+    pub fn of(ty: &'a DataType) -> ViewType<'a>
+        ensures { view_kind result ≡ kind_of ty.now }
+    {
+        match ty {
+            DataType::Int(int) => ViewType::Int(*int),
+            DataType::Bool => ViewType::Bool,
+            DataType::Utf8 => ViewType::Utf8,
+            DataType::List(item) => ViewType::List(item),
+            DataType::Dict => ViewType::Dict,
+        }
+    }
+}
+
+/// Neighbouring slots of an array, borrowed: nothing is copied, and no memory is taken.
+#[derive(Drop)]
+pub struct View<'a> {
+    ty: ViewType<'a>,
+    buffers: &'a [Option<Buffer>],
+    children: &'a [RawArray],
+    words: Option<&'a Words>,
+    /// How many slots the whole array has.
+    total: usize,
+    /// The first slot of the view, and how many it has.
+    start: usize,
+    len: usize,
+}
+
+impl<'a> Model for View<'a> {
+    ghost use Rattle.std.specs.Prelude.{◌≡◌, ◌+◌, ◌≤◌, None};
+    ghost use Rattle.arrays.specs.Seen.{Seen};
+    ghost use Rattle.arrays.specs.Code.{seen_code};
+
+    ghost Value = { Seen };
+
+    ghost coded = { seen_code };
+
+    ghost use Rattle.arrays.specs.View.{read_view, show_view};
+
+    ghost view = { show_view };
+
+    ghost invariant = { λ v. ((read_view v).fault ≡ None)
+        × (v.start + v.len ≤ v.total) × (v.total ≤ 2147483647) };
+}
+
+impl<'a> View<'a> {
+    /// All slots of the parts of a checked array.
+    pub(crate) fn whole(
+        ty: &'a DataType,
+        buffers: &'a [Option<Buffer>],
+        children: &'a [RawArray],
+        words: Option<&'a Words>,
+        total: u64,
+    ) -> View<'a>
+        requires { (read_checked (kind_of ty.now) total buffers.now children.now
+            (option_map (λ w. w.now) words)).fault ≡ None }
+        ensures { result ≡ (read_checked (kind_of ty.now) total buffers.now children.now
+            (option_map (λ w. w.now) words.entry)).seen }
+    {
+        let total = total as usize;
+        View {
+            ty: ViewType::of(ty),
+            buffers,
+            children,
+            words,
+            total,
+            start: 0,
+            len: total,
+        }
+    }
+
+    /// How many slots there are.
+    pub fn len(&self) -> usize
+        ensures { result ≡ length self.now.items }
+    {
+        self.len
+    }
+
+    /// The type of the slots.
+    pub fn ty(&self) -> ViewType<'a>
+        ensures { view_kind result ≡ self.now.kind }
+    {
+        self.ty
+    }
+
+    /// The `len` slots from slot `start` on.
+    pub fn slice(&self, start: usize, len: usize) -> View<'a>
+        requires { start + len ≤ length self.now.items }
+        ensures { result ≡ part start len self.now }
+    {
+        View {
+            ty: self.ty,
+            buffers: self.buffers,
+            children: self.children,
+            words: self.words,
+            total: self.total,
+            start: self.start + start,
+            len,
+        }
+    }
+
+    /// Whether slot `i` is valid: this is of the validity alone.
+    pub fn is_valid(&self, i: usize) -> bool
+        requires { i < length self.now.items }
+        ensures { result ≡ valid_at self.now i }
+    {
+        check::is_valid(self.buffers, self.start + i)
+    }
+
+    /// The validity of the slots, none where the bitmap is absent and all are valid.
+    pub fn validity(&self) -> Option<Bits<'a>>
+        ensures { result ≡ self.now.validity }
+    {
+        match check::held_at(self.buffers, 0) {
+            Some(bytes) => Some(Bits::new(bytes, self.start, self.len)),
+            None => None,
+        }
+    }
+
+    /// How many slots aren't valid. It counts the bits of the view.
+    pub fn null_count(&self) -> usize
+        ensures { result ≡ null_count_of self.now }
+    {
+        match self.validity() {
+            Some(bits) => bits.len() - bits.count_ones(),
+            None => 0,
+        }
+    }
+
+    /// The numbers of an integer view, little-endian and behind one another. What lies under a null is
+    /// any number.
+    pub fn numbers(&self, ty: IntType) -> &'a [u8]
+        requires { self.now.kind ≡ kind.int ty }
+        ensures { HasNumbers ty result.now self.now }
+    {
+        let width = ty.bits.bytes();
+        let bytes = check::bytes_at(self.buffers, 1);
+        part(bytes, self.start * width, self.len * width)
+    }
+
+    /// Number `i` of an integer view, none where the slot is null.
+    pub fn int_at(&self, ty: IntType, i: usize) -> Option<i128>
+        requires int { self.now.kind ≡ kind.int ty }
+        requires within { i < length self.now.items }
+        ensures { slice_get self.now.items i ≡ Some (item_of result) }
+    {
+        let numbers = self.numbers(ty);
+        if !self.is_valid(i) {
+            return None;
+        }
+        Some(number_at(ty, numbers, i))
+    }
+}
+
+/// The `len` bytes from byte `start` on.
+fn part(bytes: &[u8], start: usize, len: usize) -> &[u8]
+    requires { start + len ≤ length bytes.now }
+    ensures { result.now ≡ slice bytes.now start len }
+{
+    &bytes[start..start + len]
+}

@@ -1,0 +1,72 @@
+ghost use Rattle.std.specs.Prelude.{◌≡◌, None, IfOk, option_map};
+ghost use Rattle.std.specs.Option.{ForSome};
+ghost use Rattle.std.specs.Arc.{arc_value};
+ghost use Rattle.arrays.specs.Kind as kind;
+ghost use Rattle.arrays.specs.Reading.{fault, reading};
+
+use crate::types::RawArray;
+use colbits::{Buffer, NoMemory};
+use std::alloc::Global;
+use std::marker::Model;
+use std::sync::Arc;
+
+/// The texts of a dictionary: a Utf8 array, as a type that holds no other array. Doubles and nulls may
+/// stand among them.
+#[derive(Drop)]
+pub struct Words {
+    length: u64,
+    buffers: Vec<Option<Buffer>>,
+}
+
+impl Model for Words {
+    ghost use Rattle.std.specs.Prelude.{◌≡◌, None};
+    ghost use Rattle.arrays.specs.Seen.{Seen};
+    ghost use Rattle.arrays.specs.Code.{seen_code};
+
+    ghost Value = { Seen };
+
+    ghost coded = { seen_code };
+
+    ghost use Rattle.arrays.specs.Words.{read_words, show_words};
+
+    ghost view = { show_words };
+
+    ghost invariant = { λ w. (read_words w).fault ≡ None };
+}
+
+impl Words {
+    /// The texts of a lawful raw array of texts. No part is copied.
+    pub(crate) fn from_raw(raw: RawArray) -> Words
+        requires lawful { fault raw ≡ None }
+        requires texts { (reading raw).kind ≡ kind.utf8 }
+        ensures { result ≡ (reading raw).seen }
+    {
+        let RawArray {
+            ty: _,
+            length,
+            null_count: _,
+            buffers,
+            children: _,
+            dictionary: _,
+        } = raw;
+        Words { length, buffers }
+    }
+
+    /// The texts of a lawful raw dictionary, to be shared by arrays and their copies.
+    pub(crate) fn shared(
+        alloc: Global,
+        dictionary: Option<Box<RawArray>>,
+    ) -> Result<Option<Arc<Words>>, NoMemory>
+        requires { ForSome dictionary (λ raw. (fault raw.value ≡ None) × ((reading raw.value).kind ≡ kind.utf8)) }
+        ensures { IfOk result (λ words.
+            option_map arc_value words ≡ option_map (λ raw. (reading raw.value).seen) dictionary) }
+    {
+        match dictionary {
+            Some(raw) => {
+                let words = Words::from_raw(Box::into_inner(raw));
+                Ok(Some(Arc::new(alloc, words)?))
+            }
+            None => Ok(None),
+        }
+    }
+}

@@ -1,0 +1,11 @@
+use Rattle.std.proofs.Common.{map}
+use Rattle.serde_json.specs.View.{items_view}
+use Rattle.arrowtab.specs.JsonMember.{ReadsFirst}
+use Rattle.arrowtab.specs.JsonFile.{AreUnder}
+use Rattle.arrowtab.specs.JsonBatch.{ReadsBatch, table_of}
+use Rattle.arrowtab.proofs.json_file.file.read_batches.Given as goal
+
+-- the batches so far are read
+abbrev pub invariant-loop-index : goal.invariant-loop-index
+invariant-loop-index l =
+    ReadsFirst (ReadsBatch l.schema) (items_view l.values) l.index (map table_of l.batches.items) × AreUnder l.schema l.batches.items

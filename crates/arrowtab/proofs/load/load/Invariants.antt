@@ -1,0 +1,10 @@
+use Rattle.std.proofs.Common.{◌≡◌, ◌++◌, length}
+use Rattle.std.specs.Vec.Iter.{into_iter_items, into_iter_len}
+use Rattle.arrowtab.specs.Held.{alone}
+use Rattle.arrowtab.proofs.load.load.Given as goal
+
+abbrev pub invariant-loop-batch : goal.invariant-loop-batch
+invariant-loop-batch l = (l.yielded ++ into_iter_items l.batch-iterator ≡ l.fn.file.batches.items)
+    × (into_iter_len l.batch-iterator ≡ length (into_iter_items l.batch-iterator))
+    × (l.held.fields ≡ l.fn.file.schema)
+    × (l.held.history ≡ alone l.yielded)

@@ -1,0 +1,34 @@
+-- The columns of a table, side by side.
+use Rattle.std.specs.Prelude.{◌≡◌, ℕ, ◌<◌, List, length, slice_index_or, Bool, true, false, All}
+use Rattle.arrays.specs.Kind as kind
+use Rattle.arrays.specs.Kind.{Kind}
+use Rattle.arrays.specs.Batch.{Batch}
+use Rattle.arrays.specs.Seen.{Seen}
+use Rattle.arrays.specs.Shape.{FieldShape, kind_of_field}
+use Rattle.arrowtab.specs.Cause.{IsItemOf}
+use Rattle.arrowtab.specs.History.{Table, column}
+
+-- The columns are those of the table.
+pub record HasColumns (t : Table) (columns : List Seen) : Type 0 where
+  pub each : (k : ℕ) (d : Seen) → k < length columns → column t k ≡ (slice_index_or columns k d).items
+
+-- A kind of integers.
+abbrev pub is_integer : Kind → Bool
+is_integer (kind.int t) = true
+is_integer k = false
+
+abbrev pub AreIntegers : List FieldShape → Type 0
+AreIntegers fields = All (λ f. is_integer (kind_of_field f) ≡ true) fields
+
+abbrev pub AreIntegerColumns : List Seen → Type 0
+AreIntegerColumns columns = All (λ c. is_integer c.kind ≡ true) columns
+
+-- Each item of each column is null or of the column's kind.
+abbrev pub AreTyped : List Seen → Type 0
+AreTyped columns = All (λ c. All (IsItemOf c.kind) c.items) columns
+
+-- Column k of the batch is one of integers, as long as the batch.
+pub record HasIntegers (k : ℕ) (b : Batch) : Type 0 where
+  pub below : k < length b.columns
+  pub integer : (d : Seen) → is_integer (slice_index_or b.columns k d).kind ≡ true
+  pub size : (d : Seen) → length (slice_index_or b.columns k d).items ≡ b.rows

@@ -1,0 +1,27 @@
+-- The lines of faults.
+use Rattle.std.specs.Prelude.{ℕ, List, ◌++◌, codes}
+use Rattle.std.specs.Fmt.{decimal}
+use Rattle.arrowtab.specs.Shown.{line}
+use Rattle.arrowtab.specs.RefusalText.{refusal_text}
+use Rattle.arrowtab.specs.JsonFaultText.{fault_text}
+use Rattle.arrowtab.specs.declared.refusal.Refusal.{Refusal}
+use Rattle.arrowtab.specs.declared.json_file.path.Step.{Step}
+use Rattle.arrowtab.specs.declared.json_file.fault.JsonFaultKind.{JsonFaultKind}
+
+abbrev pub told : List ℕ → List ℕ
+told what = line (codes "arrowtab: " ++ what)
+
+abbrev pub unread_line : List ℕ → List ℕ
+unread_line name = told (name ++ codes ": cannot be read")
+
+abbrev pub file_line : List ℕ → JsonFaultKind → List Step → List ℕ
+file_line name kind path = told (name ++ codes ": " ++ fault_text kind path)
+
+abbrev pub refusal_line : List ℕ → ℕ → Refusal → List ℕ
+refusal_line name number refusal = told (name ++ codes ": batch " ++ decimal number ++ codes ": " ++ refusal_text refusal)
+
+abbrev pub memory_line : List ℕ
+memory_line = told (codes "no memory")
+
+abbrev pub output_line : List ℕ
+output_line = told (codes "output failed")

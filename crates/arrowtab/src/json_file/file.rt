@@ -1,0 +1,162 @@
+ghost use Rattle.std.specs.Prelude.{◌≡◌, Some, IfOk, IfErr, OnOk, IsSome, IsUtf8, map};
+ghost use Rattle.arrays.specs.Shape.{field_of, fields_of};
+ghost use Rattle.arrays.specs.Kind.{kind_of};
+ghost use Rattle.arrays.specs.declared.types.Field.{out-Field};
+ghost use Rattle.serde_json.specs.Read.{read};
+ghost use Rattle.serde_json.specs.View.{view, items_view};
+ghost use Rattle.arrowtab.specs.JsonBatch.{AreInts, ReadsBatch, int_of, table_of};
+ghost use Rattle.arrowtab.specs.JsonBatchFault.{BatchFault};
+ghost use Rattle.arrowtab.specs.JsonFault.{Tells, no_memory};
+ghost use Rattle.arrowtab.specs.JsonMember.{EachFault, IsObject, ReadsEach, member_of};
+ghost use Rattle.arrowtab.specs.JsonSchema.{ReadsSchema};
+ghost use Rattle.arrowtab.specs.JsonFile.{AreUnder, BytesFault, FileFault, HasSchema, Reads, ReadsFile, file_of};
+
+use crate::json_file::batch::{int_type, read_batch};
+use crate::json_file::fault::{JsonFault, JsonFaultKind};
+use crate::json_file::member::{array_member, check_object, push, required};
+use crate::json_file::path::{Member, Step};
+use crate::json_file::schema::read_schema;
+use arrays::{DataType, Field, RecordBatch, Schema};
+use serde_json::Value;
+use std::alloc::Global;
+
+/// A schema, and batches of its types.
+#[derive(Drop)]
+pub struct File {
+    pub schema: Schema,
+    pub batches: Vec<RecordBatch>,
+}
+
+/// A copy of a field of integers.
+fn copy_field(alloc: Global, field: &Field) -> Result<Field, JsonFault>
+    requires { IsSome (int_of (kind_of (out-Field field.now).ty)) }
+    ensures ok { IfOk result (λ f. field_of f ≡ field_of field.now) }
+    ensures err { IfErr result (λ fault. fault ≡ no_memory) }
+{
+    let Some(ty) = int_type(&field.ty) else {
+        unreachable!();
+    };
+    match String::from_str(alloc, field.name.as_str()) {
+        Ok(name) => Ok(Field {
+            name,
+            nullable: field.nullable,
+            ty: DataType::Int(ty),
+        }),
+        Err(_) => Err(JsonFault::no_memory(alloc)),
+    }
+}
+
+fn copy_fields(alloc: Global, fields: &[Field]) -> Result<Vec<Field>, JsonFault>
+    requires { AreInts (fields_of fields.now) }
+    ensures ok { IfOk result (λ copies. fields_of copies.items ≡ fields_of fields.now) }
+    ensures err { IfErr result (λ fault. fault ≡ no_memory) }
+{
+    let mut copies = Vec::new(alloc);
+    for field in fields {
+        let copy = copy_field(alloc, field)?;
+        push(alloc, &mut copies, copy)?;
+    }
+    Ok(copies)
+}
+
+/// A copy of a schema of integers.
+fn copy_schema(alloc: Global, schema: &Schema) -> Result<Schema, JsonFault>
+    requires { AreInts schema.now }
+    ensures ok { IfOk result (λ copy. copy ≡ schema.now) }
+    ensures err { IfErr result (λ fault. fault ≡ no_memory) }
+{
+    let copies = copy_fields(alloc, schema.fields())?;
+    match Schema::new(copies) {
+        Ok(copy) => Ok(copy),
+        Err(_) => unreachable!(),
+    }
+}
+
+/// The batches of a file under its schema.
+#[tactic(auto, using(crate::proofs::JsonFiles::batches_told))]
+fn read_batches(
+    alloc: Global,
+    schema: &Schema,
+    values: &[Value],
+) -> Result<Vec<RecordBatch>, JsonFault>
+    requires { AreInts schema.now }
+    ensures under { IfOk result (λ batches. AreUnder schema.now batches.items) }
+    ensures ok { IfOk result (λ batches.
+        ReadsEach (ReadsBatch schema.now) (items_view values.now) (map table_of batches.items)) }
+    ensures err { IfErr result (Tells (EachFault (BatchFault schema.now) (items_view values.now))) }
+{
+    let mut batches = Vec::new(alloc);
+    for (index, value) in values.iter().enumerate() {
+        let copy = copy_schema(alloc, schema)?;
+        let batch = match read_batch(alloc, copy, value) {
+            Ok(batch) => batch,
+            Err(fault) => return Err(fault.under(alloc, Step::Item(index))),
+        };
+        push(alloc, &mut batches, batch)?;
+    }
+    Ok(batches)
+}
+
+/// The schema of a document.
+#[tactic(auto, using(crate::proofs::JsonFiles::file_told))]
+fn file_schema(alloc: Global, document: &Value) -> Result<Schema, JsonFault>
+    requires { IsObject (view document.now) }
+    ensures ok { IfOk result (HasSchema (view document.now)) }
+    ensures err { IfErr result (Tells (FileFault (view document.now))) }
+{
+    let schema = required(alloc, document, Member::Schema)?;
+    match read_schema(alloc, schema) {
+        Ok(schema) => Ok(schema),
+        Err(fault) => Err(fault.under(alloc, Step::Member(Member::Schema))),
+    }
+}
+
+/// The file of a document.
+#[tactic(auto, using(crate::proofs::JsonFiles::file_told))]
+fn read_document(alloc: Global, document: &Value) -> Result<File, JsonFault>
+    ensures under { IfOk result (λ f. AreUnder f.schema f.batches.items) }
+    ensures ok { IfOk result (λ f. ReadsFile (view document.now) (file_of f)) }
+    ensures err { IfErr result (Tells (FileFault (view document.now))) }
+{
+    check_object(alloc, document)?;
+    let schema = file_schema(alloc, document)?;
+    let values = array_member(alloc, document, Member::Batches)?;
+    match read_batches(alloc, &schema, values) {
+        Ok(batches) => Ok(File { schema, batches }),
+        Err(fault) => Err(fault.under(alloc, Step::Member(Member::Batches))),
+    }
+}
+
+/// The document that the bytes spell. They are let go of here, before anything is made of it.
+#[tactic(auto, using(crate::proofs::JsonFiles::bytes_told))]
+fn parse(alloc: Global, bytes: Vec<u8>) -> Result<Value, JsonFault>
+    ensures utf8 { OnOk result (IsUtf8 bytes.items) }
+    ensures document { IfOk result (λ document. read bytes.items ≡ Some (view document)) }
+    ensures err { IfErr result (Tells (BytesFault bytes.items)) }
+{
+    match Value::from_slice(alloc, &bytes) {
+        Ok(document) => Ok(document),
+        Err(error) => if error.is_memory() {
+            Err(JsonFault::no_memory(alloc))
+        } else {
+            Err(JsonFault::at(alloc, JsonFaultKind::NotJson, &[]))
+        },
+    }
+}
+
+/// Reads a file: its schema, and its batches under it.
+///
+/// Where several faults stand, which of them is told is open. A count that is stated takes no memory:
+/// it is compared with the arrays that are there.
+#[tactic(auto, using(crate::proofs::JsonFiles::bytes_told))]
+pub fn read_file(alloc: Global, bytes: Vec<u8>) -> Result<File, JsonFault>
+    // What is read is what the bytes say.
+    ensures ok { IfOk result (λ f. Reads bytes.items (file_of f)) }
+    // Each batch is under the schema, which is one of integers.
+    ensures under { IfOk result (λ f. AreUnder f.schema f.batches.items) }
+    // A fault that is told stands, want of memory apart.
+    ensures err { IfErr result (Tells (BytesFault bytes.items)) }
+{
+    let document = parse(alloc, bytes)?;
+    read_document(alloc, &document)
+}

@@ -1,0 +1,28 @@
+//! What `arrowtab` does between its ends: where the bytes come from, what they hold, and where they go to.
+#![tactic(auto)]
+
+mod answer;
+mod batches;
+mod column;
+mod invocation;
+pub mod job;
+pub mod json_file;
+mod load;
+pub mod memory;
+mod nulls;
+pub mod refusal;
+mod report;
+mod run_fault;
+pub mod sink;
+pub mod source;
+mod stats;
+mod tell;
+#[cfg(test)]
+mod tests;
+mod text;
+
+pub use invocation::run;
+pub use job::{Command, Job};
+pub use json_file::{JsonFault, JsonFaultKind, Member, Path, Step, fault_text};
+pub use sink::{Sink, WriteFailed, write_whole};
+pub use source::{ReadFailed, Source, SourceFault, read_whole};

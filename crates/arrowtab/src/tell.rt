@@ -1,0 +1,99 @@
+//! Faults as lines on the error sink.
+ghost use Rattle.std.specs.Prelude.{◌≡◌, ◌^◌, ◌-◌, ◌<◌, IfOk, string_bytes};
+ghost use Rattle.arrowtab.specs.Lines.{unread_line, file_line, refusal_line, memory_line, output_line};
+ghost use Rattle.arrowtab.specs.Told.{TookLine, fault_line};
+
+use crate::json_file::{JsonFault, fault_text};
+use crate::refusal::{Refusal, refusal_text};
+use crate::run_fault::RunFault;
+use crate::sink::{Sink, write_whole};
+use colbits::NoMemory;
+use std::alloc::Global;
+
+/// The line that is written where memory ran out. It takes none itself.
+const MEMORY_LINE: &[u8] = b"arrowtab: no memory\n";
+
+/// The line that is written where the output failed.
+const OUTPUT_LINE: &[u8] = b"arrowtab: output failed\n";
+
+/// The line of a fault.
+fn line_of(alloc: Global, name: &str, fault: &RunFault) -> Result<String, NoMemory>
+    ensures { IfOk result (λ text. string_bytes text ≡ fault_line name.now fault.now) }
+{
+    match fault {
+        RunFault::CannotRead => unread_line(alloc, name),
+        RunFault::NoMemory => Ok(String::from_str(alloc, "arrowtab: no memory\n")?),
+        RunFault::File(fault) => file_line(alloc, name, fault),
+        RunFault::Refused { batch, refusal } => refusal_line(alloc, name, *batch, *refusal),
+    }
+}
+
+fn unread_line(alloc: Global, name: &str) -> Result<String, NoMemory>
+    ensures { IfOk result (λ text. string_bytes text ≡ unread_line name.now) }
+{
+    let mut text = String::from_str(alloc, "arrowtab: ")?;
+    text.push_str(name)?;
+    text.push_str(": cannot be read")?;
+    text.push_str("\n")?;
+    Ok(text)
+}
+
+fn file_line(alloc: Global, name: &str, fault: &JsonFault) -> Result<String, NoMemory>
+    ensures { IfOk result (λ text. string_bytes text ≡ file_line name.now fault.now.kind fault.now.path) }
+{
+    let what = fault_text(alloc, fault)?;
+    let mut text = String::from_str(alloc, "arrowtab: ")?;
+    text.push_str(name)?;
+    text.push_str(": ")?;
+    text.push_str(&what)?;
+    text.push_str("\n")?;
+    Ok(text)
+}
+
+fn refusal_line(
+    alloc: Global,
+    name: &str,
+    batch: usize,
+    refusal: Refusal,
+) -> Result<String, NoMemory>
+    ensures { IfOk result (λ text. string_bytes text ≡ refusal_line name.now batch refusal) }
+{
+    let what = refusal_text(alloc, refusal)?;
+    let mut text = String::from_str(alloc, "arrowtab: ")?;
+    text.push_str(name)?;
+    text.push_str(": batch ")?;
+    write!(text, "{batch}")?;
+    text.push_str(": ")?;
+    text.push_str(&what)?;
+    text.push_str("\n")?;
+    Ok(text)
+}
+
+/// Writes the line of a fault, or that memory ran out where there was none for the line. A failure of
+/// the sink can't be told any more; it stands in the sink's count.
+pub(crate) fn tell<E: Sink>(alloc: Global, name: &str, fault: &RunFault, err: &mut E)
+    requires { E.failures err.old < 2 ^ 64 - 1 }
+    ensures { TookLine (fault_line name.now fault.now) (E.failures err.old) (E.failures err.new)
+        (E.taken err.old) (E.taken err.new) }
+{
+    match line_of(alloc, name, fault) {
+        Ok(line) => write_line(line.as_bytes(), err),
+        Err(NoMemory) => write_line(MEMORY_LINE, err),
+    }
+}
+
+/// Writes that the output failed.
+pub(crate) fn tell_output<E: Sink>(err: &mut E)
+    requires { E.failures err.old < 2 ^ 64 - 1 }
+    ensures { TookLine output_line (E.failures err.old) (E.failures err.new) (E.taken err.old) (E.taken err.new) }
+{
+    write_line(OUTPUT_LINE, err);
+}
+
+/// Writes a line.
+fn write_line<E: Sink>(line: &[u8], err: &mut E)
+    requires { E.failures err.old < 2 ^ 64 - 1 }
+    ensures { TookLine line.now (E.failures err.old) (E.failures err.new) (E.taken err.old) (E.taken err.new) }
+{
+    let _ = write_whole(err, line);
+}

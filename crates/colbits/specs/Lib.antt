@@ -1,0 +1,4 @@
+pub mod Bit
+pub mod Bitmap
+pub mod Padding
+pub mod Slice

@@ -1,0 +1,84 @@
+ghost use Rattle.std.specs.Prelude.{◌≡◌, ◌+◌, ◌*◌, ◌/◌, ◌%◌, ◌<◌, ◌≤◌, List, Bool, Some, length, slice_get, true, count_by};
+ghost use Rattle.colbits.specs.Bit.{bits};
+ghost use Rattle.colbits.specs.Slice.{slice};
+
+use std::marker::Model;
+
+/// Bits that lie in borrowed bytes, from any bit on: a validity bitmap or packed booleans.
+///
+/// Nothing is copied. Clauses see the list of the bits.
+#[derive(Drop)]
+pub struct Bits<'a> {
+    /// The bytes from the one on that holds the first bit.
+    bytes: &'a [u8],
+    /// How many bits of the first byte come before the first bit.
+    shift: u8,
+    len: usize,
+}
+
+impl<'a> Model for Bits<'a> {
+    ghost use Rattle.std.specs.Prelude.{◌+◌, ◌*◌, ◌<◌, ◌≤◌, List, Bool, length};
+    ghost use Rattle.colbits.specs.Bit.{bits};
+
+    ghost Value = { List Bool };
+
+    ghost view = { λ b. bits b.bytes.now b.shift b.len };
+
+    ghost invariant = { λ b. (b.shift < 8) × (b.shift + b.len ≤ 8 * length b.bytes.now) };
+}
+
+impl<'a> Bits<'a> {
+    /// The `len` bits of `bytes` from bit `start` on, counted from the least significant bit of the first byte.
+    pub fn new(bytes: &'a [u8], start: usize, len: usize) -> Bits<'a>
+        requires { start + len ≤ 8 * length bytes.now }
+        ensures { result ≡ bits bytes.now start len }
+    {
+        Bits {
+            bytes: &bytes[start / 8..],
+            shift: (start % 8) as u8,
+            len,
+        }
+    }
+
+    /// How many bits there are.
+    pub fn len(&self) -> usize
+        ensures { result ≡ length self.now }
+    {
+        self.len
+    }
+
+    /// Bit `i`.
+    pub fn get(&self, i: usize) -> bool
+        requires { i < length self.now }
+        ensures { slice_get self.now i ≡ Some result }
+    {
+        let k = i % 8 + self.shift as usize;
+        (self.bytes[i / 8 + k / 8] >> (k % 8)) & 1 == 1
+    }
+
+    /// The `len` bits from bit `start` on.
+    pub fn slice(&self, start: usize, len: usize) -> Bits<'a>
+        requires { start + len ≤ length self.now }
+        ensures { result ≡ slice self.now start len }
+    {
+        let k = start % 8 + self.shift as usize;
+        Bits {
+            bytes: &self.bytes[start / 8 + k / 8..],
+            shift: (k % 8) as u8,
+            len,
+        }
+    }
+
+    /// How many of the bits are 1.
+    pub fn count_ones(&self) -> usize
+        ensures { result ≡ count_by (λ b. b) self.now }
+    {
+        let mut ones = 0;
+        for i in 0..self.len() {
+            if self.get(i) {
+                ones += 1;
+            }
+        }
+        ones
+    }
+}

@@ -1,0 +1,14 @@
+//! Padded buffers and bitmaps, the bytes below every Arrow array.
+#![tactic(auto)]
+
+pub mod bitmap;
+pub mod bits;
+pub mod buffer;
+pub mod memory;
+#[cfg(test)]
+mod tests;
+
+pub use bitmap::BitmapBuf;
+pub use bits::Bits;
+pub use buffer::Buffer;
+pub use memory::NoMemory;
