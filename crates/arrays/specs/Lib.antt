@@ -23,3 +23,5 @@ pub mod Validity
 pub mod ViewType
 pub mod View
 pub mod Held
+pub mod Dictionary
+pub mod Offsets

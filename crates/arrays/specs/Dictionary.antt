@@ -1,0 +1,37 @@
+-- Dictionary-encoded columns (Arrow columnar format, "Dictionary-encoded layout").
+use Rattle.std.specs.Prelude.{ℕ, ◌&&◌, pos, int_lt, List, [], map, Bool, true, false, not, slice_index_or}
+use Rattle.arrays.specs.Item.{Item, null, int}
+use Rattle.arrays.specs.Kind as kind
+use Rattle.arrays.specs.Kind.{int32}
+use Rattle.arrays.specs.Layout.{natural}
+use Rattle.arrays.specs.Fault.{is_negative}
+use Rattle.arrays.specs.Seen.{Seen, no_entries}
+
+-- The entry that a code names, null where the code is null.
+abbrev pub looked_up : List Item → Item → Item
+looked_up entries (int z) = slice_index_or entries (natural z) null
+looked_up entries code = null
+
+-- The code is null, or names one of n entries.
+abbrev pub is_code : ℕ → Item → Bool
+is_code n null = true
+is_code n (int z) = not (is_negative z) && int_lt z (pos n)
+is_code n code = false
+
+-- What codes with a dictionary show.
+abbrev pub encoded : Seen → Seen → Seen
+encoded codes dictionary = record {
+  kind = kind.dict;
+  validity = codes.validity;
+  items = map (looked_up dictionary.items) codes.items;
+  codes = codes.items;
+  entries = record { validity = dictionary.validity; items = dictionary.items };
+}
+
+-- The codes of a dictionary-encoded column, as a column of their own.
+abbrev pub codes_of : Seen → Seen
+codes_of s = record { kind = kind.int int32; validity = s.validity; items = s.codes; codes = []; entries = no_entries }
+
+-- The whole dictionary, as a column of its own.
+abbrev pub dictionary_of : Seen → Seen
+dictionary_of s = record { kind = kind.utf8; validity = s.entries.validity; items = s.entries.items; codes = []; entries = no_entries }

@@ -1,0 +1,19 @@
+-- Offsets of texts and lists (Arrow columnar format, "Variable-size binary layout", "Variable-size list layout").
+use Rattle.std.specs.Prelude.{◌≡◌, ℕ, ◌+◌, ◌-◌, ◌*◌, ◌<◌, ◌≤◌, List, false, length}
+use Rattle.arrays.specs.Kind.{int32}
+use Rattle.arrays.specs.Layout.{natural, number_at}
+use Rattle.arrays.specs.Fault.{is_negative}
+
+-- Where slot j begins, and how long it is.
+abbrev pub start_of : List ℕ → ℕ → ℕ
+start_of offsets j = natural (number_at int32 offsets j)
+
+abbrev pub length_of : List ℕ → ℕ → ℕ
+length_of offsets j = start_of offsets (j + 1) - start_of offsets j
+
+-- Offsets of n slots: one more than slots, none negative, none below the one before it, the last at most `most`.
+pub record AreOffsets (n : ℕ) (offsets : List ℕ) (most : ℕ) : Type 0 where
+  pub size : 4 * (n + 1) ≤ length offsets
+  pub counted : (j : ℕ) → j ≤ n → is_negative (number_at int32 offsets j) ≡ false
+  pub rising : (j : ℕ) → j < n → start_of offsets j ≤ start_of offsets (j + 1)
+  pub last : start_of offsets n ≤ most
