@@ -1,5 +1,5 @@
 -- What a file's batches are, and why its faults stand.
-use Rattle.std.proofs.Common.{◌≡◌, ◌∙◌, ℕ, ◌+◌, ◌<◌, List, [], ◌∷◌, ◌++◌, length, get_or, map, Some, None, option_and_then, IsUtf8, sym, subst}
+use Rattle.std.proofs.Common.{◌≡◌, ℕ, ◌+◌, ◌<◌, List, [], ◌∷◌, ◌++◌, length, get_or, map, Some, None, option_and_then, IsUtf8, sym, subst}
 use Rattle.std.specs.List.{AllByRecursion}
 use Rattle.std.proofs.lemmas.List.{map-append}
 use Rattle.arrays.specs.Shape.{FieldShape}
@@ -27,12 +27,11 @@ pub tells_batch : (fields : List FieldShape) (vs : List Value) (i : ℕ) (v : Va
     → IsUnder (step.Item i) f g → Tells (EachFault (BatchFault fields) (items_view vs)) g
 tells_batch fields vs i v f g t within is up = tells_item_at (BatchFault fields) vs i v f g t within is up
 
--- the loop's step: the batch is read under a copy of the schema
-pub batch_pushed : (fields copy : List FieldShape) (vs : List Value) (n : ℕ) (bs : List Batch) (v : Value) (b : Batch) → copy ≡ fields → ReadsFirst (ReadsBatch fields) (items_view vs) n (map table_of bs)
-    → n < length vs → v ≡ get_or vs n v → ReadsBatch copy (view v) (table_of b) → ReadsFirst (ReadsBatch fields) (items_view vs) (n + 1) (map table_of (bs ++ b ∷ []))
-batch_pushed fields copy vs n bs v b same h within is batch =
-    rw (map-append table_of bs (b ∷ []))
-    (each_pushed (ReadsBatch fields) vs n (map table_of bs) v (table_of b) h within is (subst (λ fs. ReadsBatch fs (view v) (table_of b)) same batch))
+-- the loop's step
+pub batch_pushed : (fields : List FieldShape) (vs : List Value) (n : ℕ) (bs : List Batch) (v : Value) (b : Batch) → ReadsFirst (ReadsBatch fields) (items_view vs) n (map table_of bs)
+    → n < length vs → v ≡ get_or vs n v → ReadsBatch fields (view v) (table_of b) → ReadsFirst (ReadsBatch fields) (items_view vs) (n + 1) (map table_of (bs ++ b ∷ []))
+batch_pushed fields vs n bs v b h within is batch =
+    rw (map-append table_of bs (b ∷ [])) (each_pushed (ReadsBatch fields) vs n (map table_of bs) v (table_of b) h within is batch)
 
 pub ints_from_schema : (d : Data) (fields : List FieldShape) → HasSchema d fields → AreInts fields
 ints_from_schema d fields h = ints_from_read h.reads.fields.0 fields h.reads.fields.2
@@ -76,8 +75,8 @@ each_under fields (x ∷ bs) b h is = (h.0, each_under fields bs b h.1 is)
 pub AreUnder-nil : (fields : List FieldShape) (bs : List Batch) → AreInts fields → bs ≡ [] → AreUnder fields bs
 AreUnder-nil fields bs ints none = record { integers = ints; each = subst (λ xs. AllByRecursion (λ (x : Batch). x.fields ≡ fields) xs) (sym none) tt }
 
-pub AreUnder-push : (fields copy : List FieldShape) (bs new : List Batch) (b : Batch) → AreUnder fields bs → copy ≡ fields → b.fields ≡ copy → new ≡ bs ++ b ∷ [] → AreUnder fields new
-AreUnder-push fields copy bs new b under same is grown = record {
+pub AreUnder-push : (fields : List FieldShape) (bs new : List Batch) (b : Batch) → AreUnder fields bs → b.fields ≡ fields → new ≡ bs ++ b ∷ [] → AreUnder fields new
+AreUnder-push fields bs new b under is grown = record {
   integers = under.integers;
-  each = subst (λ xs. AllByRecursion (λ (x : Batch). x.fields ≡ fields) xs) (sym grown) (each_under fields bs b under.each (is ∙ same));
+  each = subst (λ xs. AllByRecursion (λ (x : Batch). x.fields ≡ fields) xs) (sym grown) (each_under fields bs b under.each is);
 }

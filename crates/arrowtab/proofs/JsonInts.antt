@@ -51,7 +51,7 @@ position-none p xs h =
     let past : nat_lt (position_or_len p xs) (length xs) ≡ false = grind (arith, nat_tests) in
     ap (λ b. cond b (Some (position_or_len p xs)) None) past
 
-pub schema_fault-ints : (fields : List FieldShape) → AreInts fields → schema_fault fields ≡ None
+schema_fault-ints : (fields : List FieldShape) → AreInts fields → schema_fault fields ≡ None
 schema_fault-ints fields h =
     let deep = position-none is_deep fields (λ i f at. (flat f (h.each i f at)).0) in
     let held = position-none holds_dict fields (λ i f at. (flat f (h.each i f at)).1) in

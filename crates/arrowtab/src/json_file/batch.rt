@@ -16,7 +16,7 @@ use serde_json::Value;
 use std::alloc::Global;
 
 /// The integer type that a type is, else none.
-pub(crate) fn int_type(ty: &DataType) -> Option<IntType>
+fn int_type(ty: &DataType) -> Option<IntType>
     ensures { result ≡ int_of (kind_of ty.now) }
 {
     match ty {

@@ -1,22 +1,19 @@
-ghost use Rattle.std.specs.Prelude.{◌≡◌, Some, IfOk, IfErr, OnOk, IsSome, IsUtf8, map};
-ghost use Rattle.arrays.specs.Shape.{field_of, fields_of};
-ghost use Rattle.arrays.specs.Kind.{kind_of};
-ghost use Rattle.arrays.specs.declared.types.Field.{out-Field};
+ghost use Rattle.std.specs.Prelude.{◌≡◌, Some, IfOk, IfErr, OnOk, IsUtf8, map};
 ghost use Rattle.serde_json.specs.Read.{read};
 ghost use Rattle.serde_json.specs.View.{view, items_view};
-ghost use Rattle.arrowtab.specs.JsonBatch.{AreInts, ReadsBatch, int_of, table_of};
+ghost use Rattle.arrowtab.specs.JsonBatch.{AreInts, ReadsBatch, table_of};
 ghost use Rattle.arrowtab.specs.JsonBatchFault.{BatchFault};
-ghost use Rattle.arrowtab.specs.JsonFault.{Tells, no_memory};
+ghost use Rattle.arrowtab.specs.JsonFault.{Tells};
 ghost use Rattle.arrowtab.specs.JsonMember.{EachFault, IsObject, ReadsEach, member_of};
 ghost use Rattle.arrowtab.specs.JsonSchema.{ReadsSchema};
 ghost use Rattle.arrowtab.specs.JsonFile.{AreUnder, BytesFault, FileFault, HasSchema, Reads, ReadsFile, file_of};
 
-use crate::json_file::batch::{int_type, read_batch};
+use crate::json_file::batch::read_batch;
 use crate::json_file::fault::{JsonFault, JsonFaultKind};
 use crate::json_file::member::{array_member, check_object, push, required};
 use crate::json_file::path::{Member, Step};
 use crate::json_file::schema::read_schema;
-use arrays::{DataType, Field, RecordBatch, Schema};
+use arrays::{RecordBatch, Schema};
 use serde_json::Value;
 use std::alloc::Global;
 
@@ -27,48 +24,17 @@ pub struct File {
     pub batches: Vec<RecordBatch>,
 }
 
-/// A copy of a field of integers.
-fn copy_field(alloc: Global, field: &Field) -> Result<Field, JsonFault>
-    requires { IsSome (int_of (kind_of (out-Field field.now).ty)) }
-    ensures ok { IfOk result (λ f. field_of f ≡ field_of field.now) }
-    ensures err { IfErr result (λ fault. fault ≡ no_memory) }
-{
-    let Some(ty) = int_type(&field.ty) else {
-        unreachable!();
-    };
-    match String::from_str(alloc, field.name.as_str()) {
-        Ok(name) => Ok(Field {
-            name,
-            nullable: field.nullable,
-            ty: DataType::Int(ty),
-        }),
-        Err(_) => Err(JsonFault::no_memory(alloc)),
-    }
-}
-
-fn copy_fields(alloc: Global, fields: &[Field]) -> Result<Vec<Field>, JsonFault>
-    requires { AreInts (fields_of fields.now) }
-    ensures ok { IfOk result (λ copies. fields_of copies.items ≡ fields_of fields.now) }
-    ensures err { IfErr result (λ fault. fault ≡ no_memory) }
-{
-    let mut copies = Vec::new(alloc);
-    for field in fields {
-        let copy = copy_field(alloc, field)?;
-        push(alloc, &mut copies, copy)?;
-    }
-    Ok(copies)
-}
-
-/// A copy of a schema of integers.
-fn copy_schema(alloc: Global, schema: &Schema) -> Result<Schema, JsonFault>
+/// The batch that a batch object holds, under a copy of the schema.
+#[tactic(auto, using(crate::proofs::JsonFiles::batches_told))]
+fn read_under(alloc: Global, schema: &Schema, batch: &Value) -> Result<RecordBatch, JsonFault>
     requires { AreInts schema.now }
-    ensures ok { IfOk result (λ copy. copy ≡ schema.now) }
-    ensures err { IfErr result (λ fault. fault ≡ no_memory) }
+    ensures fields { IfOk result (λ b. b.fields ≡ schema.now) }
+    ensures ok { IfOk result (λ b. ReadsBatch schema.now (view batch.now) (table_of b)) }
+    ensures err { IfErr result (Tells (BatchFault schema.now (view batch.now))) }
 {
-    let copies = copy_fields(alloc, schema.fields())?;
-    match Schema::new(copies) {
-        Ok(copy) => Ok(copy),
-        Err(_) => unreachable!(),
+    match schema.copy(alloc) {
+        Ok(copy) => read_batch(alloc, copy, batch),
+        Err(_) => Err(JsonFault::no_memory(alloc)),
     }
 }
 
@@ -87,8 +53,7 @@ fn read_batches(
 {
     let mut batches = Vec::new(alloc);
     for (index, value) in values.iter().enumerate() {
-        let copy = copy_schema(alloc, schema)?;
-        let batch = match read_batch(alloc, copy, value) {
+        let batch = match read_under(alloc, schema, value) {
             Ok(batch) => batch,
             Err(fault) => return Err(fault.under(alloc, Step::Item(index))),
         };
