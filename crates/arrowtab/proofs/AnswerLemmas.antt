@@ -5,6 +5,7 @@ use Rattle.std.proofs.lemmas.Simd.{map-map}
 use Rattle.std.specs.List.{range_with_len}
 use Rattle.arrays.specs.Batch.{Batch}
 use Rattle.arrays.specs.Batch as batch
+use Rattle.arrays.specs.File.{File}
 use Rattle.arrays.specs.Item.{Item, null}
 use Rattle.arrays.specs.Seen.{Seen}
 use Rattle.arrowtab.specs.Held.{alone, IsRefused, Shows, Stops}
@@ -15,7 +16,6 @@ use Rattle.arrowtab.specs.JsonTable as read
 use Rattle.arrowtab.specs.Loaded.{IsLoaded, added_by}
 use Rattle.arrowtab.specs.Plan.{planned}
 use Rattle.arrowtab.specs.Run.{Answers, Refuses, batches_of}
-use Rattle.arrowtab.specs.declared.json_file.file.File.{File}
 use Rattle.arrowtab.specs.Explained.{ExplainsBytes}
 use Rattle.arrowtab.specs.declared.refusal.Refusal.{Refusal}
 use Rattle.arrowtab.specs.declared.run_fault.RunFault.{RunFault}
@@ -40,32 +40,32 @@ known_alone [] k d below = absurd (omega (arith, below))
 known_alone (b ∷ bs) zero d below = omega arith
 known_alone (b ∷ bs) (suc k) d below = known_alone bs k d (omega (arith, below))
 
-whole : (f : File) → added_by (alone f.batches.items) 0 ≡ planned (batches_of (file_of f) ∷ []) 1 0
-whole f = added_alone f.batches.items ∙ sym (tables f.batches.items) ∙ sym (planned_alone (batches_of (file_of f)))
+whole : (f : File) → added_by (alone f.batches) 0 ≡ planned (batches_of (file_of f) ∷ []) 1 0
+whole f = added_alone f.batches ∙ sym (tables f.batches) ∙ sym (planned_alone (batches_of (file_of f)))
 
-IsLoaded-alone : (f : File) → IsLoaded 1 (batches_of (file_of f) ∷ []) (alone f.batches.items)
+IsLoaded-alone : (f : File) → IsLoaded 1 (batches_of (file_of f) ∷ []) (alone f.batches)
 IsLoaded-alone f = record {
-  known = known_alone f.batches.items;
+  known = known_alone f.batches;
   each =
       λ w below.
       let first : 0 ≡ w = omega (arith, below) in
-      subst (λ k. added_by (alone f.batches.items) k ≡ planned (batches_of (file_of f) ∷ []) 1 k) first (whole f);
+      subst (λ k. added_by (alone f.batches) k ≡ planned (batches_of (file_of f) ∷ []) 1 k) first (whole f);
 }
 
-pub Answers-shown : (bytes : List ℕ) (f : File) (text : List ℕ) → Reads bytes (file_of f) → Shows f.schema f.batches.items text → Answers bytes text
+pub Answers-shown : (bytes : List ℕ) (f : File) (text : List ℕ) → Reads bytes (file_of f) → Shows f.fields f.batches text → Answers bytes text
 Answers-shown bytes f text reads shows = record {
   file = file_of f;
   reads = reads;
-  history = alone f.batches.items;
+  history = alone f.batches;
   loaded = IsLoaded-alone f;
   legal = shows.legal;
   shows = shows.text;
 }
 
-pub Refuses-stopped : (bytes : List ℕ) (f : File) (number : ℕ) (refusal : Refusal) → Reads bytes (file_of f) → IsRefused f.schema f.batches.items number refusal → Refuses bytes number refusal
+pub Refuses-stopped : (bytes : List ℕ) (f : File) (number : ℕ) (refusal : Refusal) → Reads bytes (file_of f) → IsRefused f.fields f.batches number refusal → Refuses bytes number refusal
 Refuses-stopped bytes f number refusal reads refused =
     let split : batches_of (file_of f) ≡ map batch.rows_of refused.before ++ batch.rows_of refused.batch ∷ map batch.rows_of refused.rest =
-    tables f.batches.items ∙ ap (map batch.rows_of) refused.place ∙ map-append batch.rows_of refused.before (refused.batch ∷ refused.rest) in
+    tables f.batches ∙ ap (map batch.rows_of) refused.place ∙ map-append batch.rows_of refused.before (refused.batch ∷ refused.rest) in
     record {
       file = file_of f;
       reads = reads;
@@ -86,18 +86,18 @@ Refuses-stopped bytes f number refusal reads refused =
       };
     }
 
-ExplainsBytes-stopped : (bytes : List ℕ) (f : File) (fault : RunFault) → Reads bytes (file_of f) → Stops f.schema f.batches.items fault → ExplainsBytes bytes fault
+ExplainsBytes-stopped : (bytes : List ℕ) (f : File) (fault : RunFault) → Reads bytes (file_of f) → Stops f.fields f.batches fault → ExplainsBytes bytes fault
 ExplainsBytes-stopped bytes f CannotRead reads stops = stops
 ExplainsBytes-stopped bytes f NoMemory reads stops = tt
 ExplainsBytes-stopped bytes f (run_fault.File g) reads stops = absurd stops
 ExplainsBytes-stopped bytes f (Refused number refusal) reads stops = Refuses-stopped bytes f number refusal reads stops
 
 pub ok_answers : {A : Type 0} (bytes : List ℕ) (f : File) (r : Result A RunFault) (text : A → List ℕ) → Reads bytes (file_of f)
-    → IfOk r (λ t. Shows f.schema f.batches.items (text t)) → IfOk r (λ t. Answers bytes (text t))
+    → IfOk r (λ t. Shows f.fields f.batches (text t)) → IfOk r (λ t. Answers bytes (text t))
 ok_answers bytes f (Ok t) text reads shows = Answers-shown bytes f (text t) reads shows
 ok_answers bytes f (Err fault) text reads shows = tt
 
 pub err_explains : {A : Type 0} (bytes : List ℕ) (f : File) (r : Result A RunFault) → Reads bytes (file_of f)
-    → IfErr r (Stops f.schema f.batches.items) → IfErr r (ExplainsBytes bytes)
+    → IfErr r (Stops f.fields f.batches) → IfErr r (ExplainsBytes bytes)
 err_explains bytes f (Ok t) reads stops = tt
 err_explains bytes f (Err fault) reads stops = ExplainsBytes-stopped bytes f fault reads stops

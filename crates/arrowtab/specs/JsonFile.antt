@@ -3,6 +3,7 @@ use Rattle.std.specs.Prelude.{◌≡◌, ℕ, List, [], ◌∷◌, map, Some, No
 use Rattle.std.specs.List.{AllByRecursion}
 use Rattle.arrays.specs.Shape.{FieldShape}
 use Rattle.arrays.specs.Batch.{Batch}
+use Rattle.arrays.specs.File.{File}
 use Rattle.serde_json.specs.Data.{Data, Items}
 use Rattle.serde_json.specs.Find.{as_array, as_object}
 use Rattle.serde_json.specs.Read.{read}
@@ -17,11 +18,10 @@ use Rattle.arrowtab.specs.declared.json_file.path.Step.{Step}
 use Rattle.arrowtab.specs.declared.json_file.path.Step.TheVariants as step
 use Rattle.arrowtab.specs.declared.json_file.fault.JsonFaultKind.{JsonFaultKind}
 use Rattle.arrowtab.specs.declared.json_file.fault.JsonFaultKind.TheVariants.{NotJson}
-use Rattle.arrowtab.specs.declared.json_file.file.File.{File}
 
 -- What a file that was read holds, without where it lies in memory.
 abbrev pub file_of : File → FileData
-file_of f = record { fields = f.schema; tables = map table_of f.batches.items }
+file_of f = record { fields = f.fields; tables = map table_of f.batches }
 
 -- Each batch is under the fields, and these are integers.
 pub record AreUnder (fields : List FieldShape) (batches : List Batch) : Type 0 where

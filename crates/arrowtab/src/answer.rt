@@ -5,11 +5,12 @@ ghost use Rattle.arrowtab.specs.Explained.{Explains, ExplainsBytes};
 ghost use Rattle.arrowtab.specs.Held.{Shows, Stops};
 ghost use Rattle.arrowtab.specs.JsonFile.{AreUnder};
 
-use crate::json_file::{File, JsonFaultKind, read_file};
+use crate::json_file::{JsonFaultKind, read_file};
 use crate::load::load;
 use crate::report::stats_text;
 use crate::run_fault::RunFault;
 use crate::source::{Source, SourceFault, read_whole};
+use arrays::File;
 use std::alloc::Global;
 
 /// Reads the source, and makes the output of `stats` of its bytes.
@@ -42,9 +43,9 @@ fn answer_bytes(alloc: Global, bytes: Vec<u8>) -> Result<String, RunFault>
 
 /// The output of `stats` of a file.
 fn answer_file(alloc: Global, file: File) -> Result<String, RunFault>
-    requires { AreUnder file.schema file.batches.items }
-    ensures ok { IfOk result (λ text. Shows file.schema file.batches.items (string_bytes text)) }
-    ensures err { IfErr result (Stops file.schema file.batches.items) }
+    requires { AreUnder file.fields file.batches }
+    ensures ok { IfOk result (λ text. Shows file.fields file.batches (string_bytes text)) }
+    ensures err { IfErr result (Stops file.fields file.batches) }
 {
     let held = load(alloc, file)?;
     match stats_text(alloc, 1, &held) {

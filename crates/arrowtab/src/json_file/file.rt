@@ -1,4 +1,5 @@
 ghost use Rattle.std.specs.Prelude.{◌≡◌, Some, IfOk, IfErr, OnOk, IsUtf8, map};
+ghost use Rattle.std.specs.Arc.{arc_value};
 ghost use Rattle.serde_json.specs.Read.{read};
 ghost use Rattle.serde_json.specs.View.{view, items_view};
 ghost use Rattle.arrowtab.specs.JsonBatch.{AreInts, ReadsBatch, table_of};
@@ -13,16 +14,10 @@ use crate::json_file::fault::{JsonFault, JsonFaultKind};
 use crate::json_file::member::{array_member, check_object, push, required};
 use crate::json_file::path::{Member, Step};
 use crate::json_file::schema::read_schema;
-use arrays::{RecordBatch, Schema};
+use arrays::{File, RecordBatch, Schema};
 use serde_json::Value;
 use std::alloc::Global;
-
-/// A schema, and batches of its types.
-#[derive(Drop)]
-pub struct File {
-    pub schema: Schema,
-    pub batches: Vec<RecordBatch>,
-}
+use std::sync::Arc;
 
 /// The batch that a batch object holds, under a copy of the schema.
 #[tactic(auto, using(crate::proofs::JsonFiles::batches_told))]
@@ -38,22 +33,37 @@ fn read_under(alloc: Global, schema: &Schema, batch: &Value) -> Result<RecordBat
     }
 }
 
+/// The same, to be shared.
+#[tactic(auto, using(crate::proofs::JsonFiles::batches_told))]
+fn read_shared(alloc: Global, schema: &Schema, batch: &Value) -> Result<Arc<RecordBatch>, JsonFault>
+    requires { AreInts schema.now }
+    ensures fields { IfOk result (λ b. (arc_value b).fields ≡ schema.now) }
+    ensures ok { IfOk result (λ b. ReadsBatch schema.now (view batch.now) (table_of (arc_value b))) }
+    ensures err { IfErr result (Tells (BatchFault schema.now (view batch.now))) }
+{
+    let batch = read_under(alloc, schema, batch)?;
+    match Arc::new(alloc, batch) {
+        Ok(batch) => Ok(batch),
+        Err(_) => Err(JsonFault::no_memory(alloc)),
+    }
+}
+
 /// The batches of a file under its schema.
 #[tactic(auto, using(crate::proofs::JsonFiles::batches_told))]
 fn read_batches(
     alloc: Global,
     schema: &Schema,
     values: &[Value],
-) -> Result<Vec<RecordBatch>, JsonFault>
+) -> Result<Vec<Arc<RecordBatch>>, JsonFault>
     requires { AreInts schema.now }
-    ensures under { IfOk result (λ batches. AreUnder schema.now batches.items) }
-    ensures ok { IfOk result (λ batches.
-        ReadsEach (ReadsBatch schema.now) (items_view values.now) (map table_of batches.items)) }
+    ensures under { IfOk result (λ batches. AreUnder schema.now (map arc_value batches.items)) }
+    ensures ok { IfOk result (λ batches. ReadsEach (ReadsBatch schema.now) (items_view values.now)
+        (map table_of (map arc_value batches.items))) }
     ensures err { IfErr result (Tells (EachFault (BatchFault schema.now) (items_view values.now))) }
 {
     let mut batches = Vec::new(alloc);
     for (index, value) in values.iter().enumerate() {
-        let batch = match read_under(alloc, schema, value) {
+        let batch = match read_shared(alloc, schema, value) {
             Ok(batch) => batch,
             Err(fault) => return Err(fault.under(alloc, Step::Item(index))),
         };
@@ -79,7 +89,7 @@ fn file_schema(alloc: Global, document: &Value) -> Result<Schema, JsonFault>
 /// The file of a document.
 #[tactic(auto, using(crate::proofs::JsonFiles::file_told))]
 fn read_document(alloc: Global, document: &Value) -> Result<File, JsonFault>
-    ensures under { IfOk result (λ f. AreUnder f.schema f.batches.items) }
+    ensures under { IfOk result (λ f. AreUnder f.fields f.batches) }
     ensures ok { IfOk result (λ f. ReadsFile (view document.now) (file_of f)) }
     ensures err { IfErr result (Tells (FileFault (view document.now))) }
 {
@@ -87,7 +97,7 @@ fn read_document(alloc: Global, document: &Value) -> Result<File, JsonFault>
     let schema = file_schema(alloc, document)?;
     let values = array_member(alloc, document, Member::Batches)?;
     match read_batches(alloc, &schema, values) {
-        Ok(batches) => Ok(File { schema, batches }),
+        Ok(batches) => Ok(File::new(schema, batches)),
         Err(fault) => Err(fault.under(alloc, Step::Member(Member::Batches))),
     }
 }
@@ -118,7 +128,7 @@ pub fn read_file(alloc: Global, bytes: Vec<u8>) -> Result<File, JsonFault>
     // What is read is what the bytes say.
     ensures ok { IfOk result (λ f. Reads bytes.items (file_of f)) }
     // Each batch is under the schema, which is one of integers.
-    ensures under { IfOk result (λ f. AreUnder f.schema f.batches.items) }
+    ensures under { IfOk result (λ f. AreUnder f.fields f.batches) }
     // A fault that is told stands, want of memory apart.
     ensures err { IfErr result (Tells (BytesFault bytes.items)) }
 {

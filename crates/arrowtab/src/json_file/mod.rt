@@ -13,5 +13,5 @@ mod schema;
 mod tests;
 
 pub use fault::{JsonFault, JsonFaultKind, fault_text};
-pub use file::{File, read_file};
+pub use file::read_file;
 pub use path::{Member, Path, Step};

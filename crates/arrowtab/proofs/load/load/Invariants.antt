@@ -1,10 +1,11 @@
-use Rattle.std.proofs.Common.{◌≡◌, ◌++◌, length}
+use Rattle.std.proofs.Common.{◌≡◌, ◌++◌, length, map}
+use Rattle.std.specs.Arc.{arc_value}
 use Rattle.std.specs.Vec.Iter.{into_iter_items, into_iter_len}
 use Rattle.arrowtab.specs.Held.{alone}
 use Rattle.arrowtab.proofs.load.load.Given as goal
 
 abbrev pub invariant-loop-batch : goal.invariant-loop-batch
-invariant-loop-batch l = (l.yielded ++ into_iter_items l.batch-iterator ≡ l.fn.file.batches.items)
+invariant-loop-batch l = (map arc_value (l.yielded ++ into_iter_items l.batch-iterator) ≡ l.fn.file.batches)
     × (into_iter_len l.batch-iterator ≡ length (into_iter_items l.batch-iterator))
-    × (l.held.fields ≡ l.fn.file.schema)
-    × (l.held.history ≡ alone l.yielded)
+    × (l.held.fields ≡ l.fn.file.fields)
+    × (l.held.history ≡ alone (map arc_value l.yielded))

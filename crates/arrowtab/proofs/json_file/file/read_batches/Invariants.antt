@@ -1,4 +1,5 @@
 use Rattle.std.proofs.Common.{map}
+use Rattle.std.specs.Arc.{arc_value}
 use Rattle.serde_json.specs.View.{items_view}
 use Rattle.arrowtab.specs.JsonMember.{ReadsFirst}
 use Rattle.arrowtab.specs.JsonFile.{AreUnder}
@@ -8,4 +9,4 @@ use Rattle.arrowtab.proofs.json_file.file.read_batches.Given as goal
 -- the batches so far are read
 abbrev pub invariant-loop-index : goal.invariant-loop-index
 invariant-loop-index l =
-    ReadsFirst (ReadsBatch l.schema) (items_view l.values) l.index (map table_of l.batches.items) × AreUnder l.schema l.batches.items
+    ReadsFirst (ReadsBatch l.schema) (items_view l.values) l.index (map table_of (map arc_value l.batches.items)) × AreUnder l.schema (map arc_value l.batches.items)
