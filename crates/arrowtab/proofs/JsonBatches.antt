@@ -1,7 +1,7 @@
 -- What a batch's columns are, and why its faults stand.
-use Rattle.std.proofs.Common.{◌≡◌, ◌∙◌, ℕ, ◌+◌, ◌<◌, List, [], ◌∷◌, ◌++◌, length, get_or, Some, IsSome, option_map, option_and_then, refl, sym, ap, subst, arith, length-append, below_more}
+use Rattle.std.proofs.Common.{◌≡◌, ◌∙◌, ℕ, ◌+◌, ◌<◌, List, [], ◌∷◌, ◌++◌, length, get_or, true, Some, option_map, option_and_then, refl, sym, ap, subst, arith, length-append, below_more}
 use Rattle.std.specs.List.{slice_get}
-use Rattle.std.proofs.lemmas.Option.{slice_get-map, slice_get_within, slice_get_read}
+use Rattle.std.proofs.lemmas.Option.{slice_get-map, slice_get_within, slice_get_read, get_or_from_slice_get}
 use Rattle.arrays.specs.Kind.{kind_of}
 use Rattle.arrays.specs.Shape.{FieldShape, field_of, fields_of, kind_of_field}
 use Rattle.arrays.specs.declared.types.Field.{Field, out-Field}
@@ -25,7 +25,8 @@ use Rattle.arrowtab.specs.declared.json_file.fault.JsonFault.{JsonFault}
 use Rattle.arrowtab.specs.JsonFault.{Tells, IsUnder}
 use Rattle.arrowtab.specs.JsonColumn.{ReadsInts}
 use Rattle.arrowtab.specs.JsonColumnFault.{ColumnFault}
-use Rattle.arrowtab.specs.JsonBatch.{AreInts, int_of, HoldsColumn, HoldsColumns}
+use Rattle.arrowtab.specs.Columns.{AreIntegers, int_of, is_integer}
+use Rattle.arrowtab.specs.JsonBatch.{HoldsColumn, HoldsColumns}
 use Rattle.arrowtab.specs.JsonBatchFault.{KindFault, ColumnsFault, bad_column, BatchFault, no_batch_object, bad_rows, bad_list, bad_columns}
 use Rattle.arrowtab.proofs.JsonFaults.{tells_as, tells_under, tells_wants}
 
@@ -62,8 +63,11 @@ slice_get_from_get_or xs i x within is = slice_get_read xs (length xs) i x refl 
 pub field_at : (fs : List Field) (i : ℕ) (f : Field) → i < length fs → f ≡ get_or fs i f → slice_get (fields_of fs) i ≡ Some (field_of f)
 field_at fs i f within is = slice_get-map field_of fs i ∙ ap (option_map field_of) (slice_get_from_get_or fs i f within is)
 
-pub int_at : (fs : List Field) (i : ℕ) (f : Field) → i < length fs → f ≡ get_or fs i f → AreInts (fields_of fs) → IsSome (int_of (kind_of (out-Field f).ty))
-int_at fs i f within is ints = subst (λ k. IsSome (int_of k)) (kind_of_field-field_of f) (ints.each i (field_of f) (field_at fs i f within is))
+pub int_at : (fs : List Field) (i : ℕ) (f : Field) → i < length fs → f ≡ get_or fs i f → AreIntegers (fields_of fs) → is_integer (kind_of (out-Field f).ty) ≡ true
+int_at fs i f within is ints =
+    let at = field_at fs i f within is in
+    let read : get_or (fields_of fs) i (field_of f) ≡ field_of f = get_or_from_slice_get (fields_of fs) i (field_of f) (field_of f) at in
+    subst (λ k. is_integer k ≡ true) (ap kind_of_field read ∙ kind_of_field-field_of f) (ints i (field_of f) (slice_get_within (fields_of fs) i (field_of f) at))
 
 -- ---- columns
 

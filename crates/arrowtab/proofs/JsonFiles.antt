@@ -17,7 +17,8 @@ use Rattle.arrowtab.specs.declared.json_file.fault.JsonFaultKind.TheVariants.{No
 use Rattle.arrowtab.specs.JsonFault.{Tells, IsFault, IsUnder}
 use Rattle.arrowtab.specs.JsonMember.{member_of, Unlike, Missing, MemberFault, absent, wrong, EachFault, ReadsFirst}
 use Rattle.arrowtab.specs.JsonSchemaFault.{SchemaFault}
-use Rattle.arrowtab.specs.JsonBatch.{AreInts, ReadsBatch, table_of}
+use Rattle.arrowtab.specs.Columns.{AreIntegers}
+use Rattle.arrowtab.specs.JsonBatch.{ReadsBatch, table_of}
 use Rattle.arrowtab.specs.JsonBatchFault.{BatchFault}
 use Rattle.arrowtab.specs.JsonFile.{AreUnder, HasSchema, FileFault, no_file_object, bad_schema, bad_batches, bad_batch, BytesFault, no_json, bad_file}
 use Rattle.arrowtab.proofs.JsonFaults.{tells_at, tells_as, tells_under, tells_wants, tells_item_at}
@@ -34,7 +35,7 @@ pub batch_pushed : (fields : List FieldShape) (vs : List Value) (n : ℕ) (bs : 
 batch_pushed fields vs n bs v b h within is batch =
     rw (map-append table_of bs (b ∷ [])) (each_pushed (ReadsBatch fields) vs n (map table_of bs) v (table_of b) h within is batch)
 
-pub ints_from_schema : (d : Data) (fields : List FieldShape) → HasSchema d fields → AreInts fields
+pub ints_from_schema : (d : Data) (fields : List FieldShape) → HasSchema d fields → AreIntegers fields
 ints_from_schema d fields h = ints_from_read h.reads.fields.0 fields h.reads.fields.2
 
 pub ruleset batches_told = (tells_batch, tells_wants)
@@ -73,7 +74,7 @@ each_under : (fields : List FieldShape) (bs : List Batch) (b : Batch) → AllByR
 each_under fields [] b h is = (is, tt)
 each_under fields (x ∷ bs) b h is = (h.0, each_under fields bs b h.1 is)
 
-pub AreUnder-nil : (fields : List FieldShape) (bs : List Batch) → AreInts fields → bs ≡ [] → AreUnder fields bs
+pub AreUnder-nil : (fields : List FieldShape) (bs : List Batch) → AreIntegers fields → bs ≡ [] → AreUnder fields bs
 AreUnder-nil fields bs ints none = record { integers = ints; each = subst (λ xs. AllByRecursion (λ (x : Batch). x.fields ≡ fields) xs) (sym none) tt }
 
 pub AreUnder-push : (fields : List FieldShape) (bs new : List Batch) (b : Batch) → AreUnder fields bs → b.fields ≡ fields → new ≡ bs ++ b ∷ [] → AreUnder fields new

@@ -1,10 +1,10 @@
 -- A schema that is read has integers alone, and so is lawful.
-use Rattle.std.proofs.Common.{◌≡◌, ◌∙◌, ℕ, zero, suc, ◌+◌, ◌<◌, Bool, false, cond, not, nat_lt, List, [], ◌∷◌, length, Some, None, IsSome, position, refl, ap, arith}
+use Rattle.std.proofs.Common.{◌≡◌, ◌∙◌, ℕ, zero, suc, ◌+◌, ◌<◌, Bool, true, false, cond, not, nat_lt, List, [], ◌∷◌, length, get_or, Some, None, position, refl, ap, subst, arith}
 use Rattle.std.specs.List.{slice_get, position_or_len}
 use Rattle.std.proofs.lemmas.Bool.Decides.{nat_tests}
-use Rattle.std.proofs.lemmas.Option.{slice_get_within}
+use Rattle.std.proofs.lemmas.Option.{slice_get_within, slice_get-get_or, get_or_from_slice_get}
 use Rattle.arrays.specs.Shape.{FieldShape, int, boolean, utf8, list, dict, field, kind_of_field}
-use Rattle.arrowtab.specs.JsonBatch.{AreInts, int_of}
+use Rattle.arrowtab.specs.Columns.{AreIntegers, is_integer}
 use Rattle.arrays.specs.Schema.{schema_fault, is_deep, holds_dict}
 use Rattle.serde_json.specs.Data.{Data, Items, no_items, item}
 use Rattle.serde_json.specs.Find.{get_item}
@@ -17,7 +17,7 @@ get_item_some no_items i h = absurd (omega arith)
 get_item_some (item d ds) zero h = (d, refl)
 get_item_some (item d ds) (suc i) h = get_item_some ds i (omega arith)
 
-int_field : (d : Data) (f : FieldShape) → ReadsField d f → IsSome (int_of (kind_of_field f))
+int_field : (d : Data) (f : FieldShape) → ReadsField d f → is_integer (kind_of_field f) ≡ true
 int_field d (field bytes b (int t)) h = refl
 int_field d (field bytes b boolean) h = absurd h.ty.2
 int_field d (field bytes b utf8) h = absurd h.ty.2
@@ -25,15 +25,19 @@ int_field d (field bytes b (list f)) h = absurd h.ty.2
 int_field d (field bytes b dict) h = absurd h.ty.2
 
 -- the fields that are read are integers
-pub ints_from_read : (ds : Items) (fields : List FieldShape) → ReadsEach ReadsField ds fields → AreInts fields
-ints_from_read ds fields h = record {
-  each = λ i f at.
-      let found = get_item_some ds i (omega (arith, slice_get_within fields i f at, h.len)) in
-      int_field found.0 f (h.each i found.0 f found.1 at);
-}
+pub ints_from_read : (ds : Items) (fields : List FieldShape) → ReadsEach ReadsField ds fields → AreIntegers fields
+ints_from_read ds fields h =
+    λ i e below.
+    let found = get_item_some ds i (omega (arith, below, h.len)) in
+    int_field found.0 (get_or fields i e) (h.each i found.0 (get_or fields i e) found.1 (slice_get-get_or fields i e below))
+
+-- the same of the field at a place
+int_at : (fields : List FieldShape) (i : ℕ) (f : FieldShape) → AreIntegers fields → slice_get fields i ≡ Some f → is_integer (kind_of_field f) ≡ true
+int_at fields i f ints at =
+    subst (λ g. is_integer (kind_of_field g) ≡ true) (get_or_from_slice_get fields i f f at) (ints i f (slice_get_within fields i f at))
 
 -- an integer is neither too deep nor a dictionary
-flat : (f : FieldShape) → IsSome (int_of (kind_of_field f)) → (is_deep f ≡ false) × (holds_dict f ≡ false)
+flat : (f : FieldShape) → is_integer (kind_of_field f) ≡ true → (is_deep f ≡ false) × (holds_dict f ≡ false)
 flat (field bytes b (int t)) h = (refl, refl)
 flat (field bytes b boolean) h = absurd cc
 flat (field bytes b utf8) h = absurd cc
@@ -51,10 +55,10 @@ position-none p xs h =
     let past : nat_lt (position_or_len p xs) (length xs) ≡ false = grind (arith, nat_tests) in
     ap (λ b. cond b (Some (position_or_len p xs)) None) past
 
-schema_fault-ints : (fields : List FieldShape) → AreInts fields → schema_fault fields ≡ None
+schema_fault-ints : (fields : List FieldShape) → AreIntegers fields → schema_fault fields ≡ None
 schema_fault-ints fields h =
-    let deep = position-none is_deep fields (λ i f at. (flat f (h.each i f at)).0) in
-    let held = position-none holds_dict fields (λ i f at. (flat f (h.each i f at)).1) in
+    let deep = position-none is_deep fields (λ i f at. (flat f (int_at fields i f h at)).0) in
+    let held = position-none holds_dict fields (λ i f at. (flat f (int_at fields i f h at)).1) in
     rw (deep, held) refl
 
 pub schema_fault-read : (ds : Items) (fields : List FieldShape) → ReadsEach ReadsField ds fields → schema_fault fields ≡ None

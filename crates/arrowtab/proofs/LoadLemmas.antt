@@ -1,28 +1,11 @@
 -- Batches of a file, added one after the other.
-use Rattle.std.proofs.Common.{◌≡◌, ◌∙◌, List, [], ◌∷◌, ◌++◌, get_or, IsSome, true, ap, sym, refl, subst, map, Global}
+use Rattle.std.proofs.Common.{◌≡◌, ◌∙◌, List, [], ◌∷◌, ◌++◌, ap, sym, subst, map, Global}
 use Rattle.std.proofs.lemmas.List.{map-append}
-use Rattle.std.proofs.lemmas.Option.{slice_get-get_or}
 use Rattle.std.specs.List.{AllByRecursion}
 use Rattle.std.specs.Arc.{arc_value}
 use Rattle.std.specs.declared.sync.Arc.{Arc}
 use Rattle.arrays.specs.Batch.{Batch}
-use Rattle.arrays.specs.Kind.{Kind}
-use Rattle.arrays.specs.Kind.Kind.{int, boolean, utf8, list, dict}
-use Rattle.arrays.specs.Shape.{FieldShape, kind_of_field}
-use Rattle.arrowtab.specs.Columns.{AreIntegers, is_integer}
-use Rattle.arrowtab.specs.JsonBatch.{AreInts, int_of}
-
-integer : (k : Kind) → IsSome (int_of k) → is_integer k ≡ true
-integer (int t) h = refl
-integer boolean h = h
-integer utf8 h = h
-integer (list k) h = h
-integer dict h = h
-
-pub AreIntegers-read : (fields : List FieldShape) → AreInts fields → AreIntegers fields
-AreIntegers-read fields ints k d below = integer (kind_of_field (get_or fields k d)) (ints.each k (get_or fields k d) (slice_get-get_or fields k d below))
-
--- ---- batches that are shared
+use Rattle.arrays.specs.Shape.{FieldShape}
 
 abbrev pub Shared : Type 0
 Shared = Arc Batch Global

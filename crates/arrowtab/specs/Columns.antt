@@ -1,5 +1,6 @@
 -- The columns of a table, side by side.
-use Rattle.std.specs.Prelude.{◌≡◌, ℕ, ◌<◌, List, length, slice_index_or, Bool, true, false, All}
+use Rattle.std.specs.Prelude.{◌≡◌, ℕ, ◌<◌, List, length, slice_index_or, Bool, true, Option, Some, None, is_some, All}
+use Rattle.arrays.specs.declared.types.IntType.{IntType}
 use Rattle.arrays.specs.Kind as kind
 use Rattle.arrays.specs.Kind.{Kind}
 use Rattle.arrays.specs.Batch.{Batch}
@@ -12,10 +13,17 @@ use Rattle.arrowtab.specs.History.{Table, column}
 pub record HasColumns (t : Table) (columns : List Seen) : Type 0 where
   pub each : (k : ℕ) (d : Seen) → k < length columns → column t k ≡ (slice_index_or columns k d).items
 
+-- The integer type of a kind.
+abbrev pub int_of : Kind → Option IntType
+int_of (kind.int t) = Some t
+int_of kind.boolean = None
+int_of kind.utf8 = None
+int_of (kind.list k) = None
+int_of kind.dict = None
+
 -- A kind of integers.
 abbrev pub is_integer : Kind → Bool
-is_integer (kind.int t) = true
-is_integer k = false
+is_integer k = is_some (int_of k)
 
 abbrev pub AreIntegers : List FieldShape → Type 0
 AreIntegers fields = All (λ f. is_integer (kind_of_field f) ≡ true) fields

@@ -1,6 +1,6 @@
 -- What a table holds: rows, and who added which of them.
-use Rattle.std.specs.Prelude.{ℕ, ◌==◌, List, map, filter, length, slice_index_or}
-use Rattle.std.specs.List.{range_with_len, flat_map}
+use Rattle.std.specs.Prelude.{ℕ, ◌==◌, List, map, filter, slice_index_or}
+use Rattle.std.specs.List.{flat_map}
 use Rattle.arrays.specs.Item.{Item, null}
 
 -- A row is a list of items, one a field. A table is a list of rows.
@@ -14,10 +14,6 @@ Table = List Row
 abbrev pub column : Table → ℕ → List Item
 column t k = map (λ row. slice_index_or row k null) t
 
--- The table of so many rows that has these columns. ("RecordBatch")
-unfoldable pub table_of : ℕ → List (List Item) → Table
-table_of n columns = map (λ i. map (λ c. slice_index_or c i null) columns) (range_with_len 0 n)
-
 -- A history is a list of pairs: a worker, and the table that it added.
 abbrev pub History : Type 0
 History = List (ℕ × Table)
@@ -29,7 +25,3 @@ rows h = flat_map (λ e. e.1) h
 -- The pairs of one worker.
 abbrev pub of : History → ℕ → History
 of h worker = filter (λ e. e.0 == worker) h
-
--- Of each pair the worker and how many rows it added.
-abbrev pub book : History → List (ℕ × ℕ)
-book h = map (λ e. (e.0, length e.1)) h

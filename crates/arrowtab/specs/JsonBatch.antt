@@ -1,6 +1,5 @@
 -- The batches of a file. (Arrow integration testing, "JSON test data format", RecordBatch)
-use Rattle.std.specs.Prelude.{◌≡◌, ℕ, List, map, length, slice_get, Option, Some, None, IsSome, option_and_then}
-use Rattle.arrays.specs.declared.types.IntType.{IntType}
+use Rattle.std.specs.Prelude.{◌≡◌, ℕ, List, map, length, slice_get, Some, option_and_then}
 use Rattle.arrays.specs.Kind.{Kind, int, boolean, utf8, list, dict}
 use Rattle.arrays.specs.Item.{Item}
 use Rattle.arrays.specs.Shape.{FieldShape, kind_of_field}
@@ -18,18 +17,6 @@ use Rattle.arrowtab.specs.declared.json_file.path.Member.TheVariants as member
 -- The columns of a batch, without where they lie in memory.
 abbrev pub table_of : Batch → Table
 table_of b = record { rows = b.rows; columns = map (λ s. s.items) b.columns }
-
--- The integer type of a kind.
-abbrev pub int_of : Kind → Option IntType
-int_of (int t) = Some t
-int_of boolean = None
-int_of utf8 = None
-int_of (list k) = None
-int_of dict = None
-
--- Each field is one of integers.
-pub record AreInts (fields : List FieldShape) : Type 0 where
-  pub each : (i : ℕ) (f : FieldShape) → slice_get fields i ≡ Some f → IsSome (int_of (kind_of_field f))
 
 -- The column object of n items of the kind. Only integers are read.
 abbrev pub ReadsColumn : Kind → ℕ → Data → List Item → Type 0

@@ -7,11 +7,12 @@ use Rattle.arrays.specs.File.{File}
 use Rattle.serde_json.specs.Data.{Data, Items}
 use Rattle.serde_json.specs.Find.{as_array, as_object}
 use Rattle.serde_json.specs.Read.{read}
+use Rattle.arrowtab.specs.Columns.{AreIntegers}
 use Rattle.arrowtab.specs.JsonMember.{member_of, Unlike, MemberFault, EachFault, ReadsEach}
 use Rattle.arrowtab.specs.JsonSchema.{ReadsSchema}
 use Rattle.arrowtab.specs.JsonSchemaFault.{SchemaFault}
 use Rattle.arrowtab.specs.JsonTable.{FileData}
-use Rattle.arrowtab.specs.JsonBatch.{AreInts, ReadsBatch, table_of}
+use Rattle.arrowtab.specs.JsonBatch.{ReadsBatch, table_of}
 use Rattle.arrowtab.specs.JsonBatchFault.{BatchFault}
 use Rattle.arrowtab.specs.declared.json_file.path.Member.TheVariants as member
 use Rattle.arrowtab.specs.declared.json_file.path.Step.{Step}
@@ -25,7 +26,7 @@ file_of f = record { fields = f.fields; tables = map table_of f.batches }
 
 -- Each batch is under the fields, and these are integers.
 pub record AreUnder (fields : List FieldShape) (batches : List Batch) : Type 0 where
-  pub integers : AreInts fields
+  pub integers : AreIntegers fields
   pub each : AllByRecursion (λ b. b.fields ≡ fields) batches
 
 -- The document has the schema of the fields.

@@ -1,21 +1,19 @@
 -- Integers, counts and flags of a document. (Arrow integration testing, "JSON test data format")
-use Rattle.std.specs.Prelude.{ℕ, ◌-◌, ◌^◌, ◌==◌, ◌&&◌, ℤ, pos, neg_ℤ, nat_abs, int_le, nat_lt, List, length, drop, slice_index, Bool, true, false, if◌then◌else◌, Option, Some, None, option_map, option_and_then}
+use Rattle.std.specs.Prelude.{ℕ, ◌-◌, ◌*◌, ◌^◌, ◌==◌, ◌&&◌, ℤ, pos, neg_ℤ, nat_abs, int_le, nat_lt, List, length, drop, slice_index, Bool, true, false, if◌then◌else◌, Option, Some, None, option_map, option_and_then}
 use Rattle.std.specs.List.{list_all}
 use Rattle.std.specs.Char.{is_ascii_digit}
 use Rattle.std.specs.Str.Parse.{digits_value}
 use Rattle.arrays.specs.declared.types.IntType.{IntType}
 use Rattle.arrays.specs.declared.types.Width.{Width}
 use Rattle.arrays.specs.declared.types.Width.TheVariants.{W8, W16, W32, W64}
+use Rattle.arrays.specs.Kind.{bytes_of}
 use Rattle.serde_json.specs.Data.{Num, Data, null, boolean, number, string, array, object}
 use Rattle.serde_json.specs.Find.{as_number, as_integer, as_u64}
 
 -- ---- an integer type's numbers
 
 abbrev pub bit_count : Width → ℕ
-bit_count W8 = 8
-bit_count W16 = 16
-bit_count W32 = 32
-bit_count W64 = 64
+bit_count w = 8 * bytes_of w
 
 abbrev pub least : IntType → ℤ
 least t = if t.signed then neg_ℤ (pos (2 ^ (bit_count t.bits - 1))) else pos 0

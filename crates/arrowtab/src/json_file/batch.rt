@@ -1,9 +1,10 @@
-ghost use Rattle.std.specs.Prelude.{◌≡◌, ◌<◌, ◌^◌, length, Some, IsSome, IfOk, IfErr};
+ghost use Rattle.std.specs.Prelude.{◌≡◌, ◌<◌, ◌^◌, length, true, Some, IfOk, IfErr};
 ghost use Rattle.arrays.specs.Kind.{kind_of};
 ghost use Rattle.arrays.specs.Shape.{fields_of};
 ghost use Rattle.arrays.specs.declared.types.Field.{out-Field};
 ghost use Rattle.serde_json.specs.View.{view, items_view};
-ghost use Rattle.arrowtab.specs.JsonBatch.{AreInts, HoldsColumn, HoldsColumns, ReadsBatch, int_of, table_of};
+ghost use Rattle.arrowtab.specs.Columns.{AreIntegers, int_of, is_integer};
+ghost use Rattle.arrowtab.specs.JsonBatch.{HoldsColumn, HoldsColumns, ReadsBatch, table_of};
 ghost use Rattle.arrowtab.specs.JsonBatchFault.{BatchFault, ColumnsFault, KindFault};
 ghost use Rattle.arrowtab.specs.JsonFault.{Tells};
 
@@ -29,7 +30,7 @@ fn int_type(ty: &DataType) -> Option<IntType>
 #[tactic(auto, using(crate::proofs::JsonBatches::column_told))]
 fn read_array(alloc: Global, field: &Field, rows: u32, column: &Value) -> Result<Array, JsonFault>
     requires small { rows < 2 ^ 31 }
-    requires int { IsSome (int_of (kind_of (out-Field field.now).ty)) }
+    requires int { is_integer (kind_of (out-Field field.now).ty) ≡ true }
     ensures ok { IfOk result
         (HoldsColumn (kind_of (out-Field field.now).ty) rows (view column.now)) }
     ensures err { IfErr result
@@ -55,7 +56,7 @@ fn read_columns(
 ) -> Result<Vec<Array>, JsonFault>
     requires small { rows < 2 ^ 31 }
     requires whole { length values.now ≡ length fields.now }
-    requires ints { AreInts (fields_of fields.now) }
+    requires ints { AreIntegers (fields_of fields.now) }
     ensures ok { IfOk result (λ columns.
         HoldsColumns (fields_of fields.now) rows (items_view values.now) (length fields.now) columns.items) }
     ensures err { IfErr result
@@ -79,7 +80,7 @@ pub(crate) fn read_batch(
     schema: Schema,
     batch: &Value,
 ) -> Result<RecordBatch, JsonFault>
-    requires { AreInts schema }
+    requires { AreIntegers schema }
     ensures fields { IfOk result (λ b. b.fields ≡ schema) }
     ensures ok { IfOk result (λ b. ReadsBatch schema (view batch.now) (table_of b)) }
     ensures err { IfErr result (Tells (BatchFault schema (view batch.now))) }

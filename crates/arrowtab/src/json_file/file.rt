@@ -2,7 +2,8 @@ ghost use Rattle.std.specs.Prelude.{◌≡◌, Some, IfOk, IfErr, OnOk, IsUtf8, 
 ghost use Rattle.std.specs.Arc.{arc_value};
 ghost use Rattle.serde_json.specs.Read.{read};
 ghost use Rattle.serde_json.specs.View.{view, items_view};
-ghost use Rattle.arrowtab.specs.JsonBatch.{AreInts, ReadsBatch, table_of};
+ghost use Rattle.arrowtab.specs.Columns.{AreIntegers};
+ghost use Rattle.arrowtab.specs.JsonBatch.{ReadsBatch, table_of};
 ghost use Rattle.arrowtab.specs.JsonBatchFault.{BatchFault};
 ghost use Rattle.arrowtab.specs.JsonFault.{Tells};
 ghost use Rattle.arrowtab.specs.JsonMember.{EachFault, IsObject, ReadsEach, member_of};
@@ -22,7 +23,7 @@ use std::sync::Arc;
 /// The batch that a batch object holds, under a copy of the schema.
 #[tactic(auto, using(crate::proofs::JsonFiles::batches_told))]
 fn read_under(alloc: Global, schema: &Schema, batch: &Value) -> Result<RecordBatch, JsonFault>
-    requires { AreInts schema.now }
+    requires { AreIntegers schema.now }
     ensures fields { IfOk result (λ b. b.fields ≡ schema.now) }
     ensures ok { IfOk result (λ b. ReadsBatch schema.now (view batch.now) (table_of b)) }
     ensures err { IfErr result (Tells (BatchFault schema.now (view batch.now))) }
@@ -36,7 +37,7 @@ fn read_under(alloc: Global, schema: &Schema, batch: &Value) -> Result<RecordBat
 /// The same, to be shared.
 #[tactic(auto, using(crate::proofs::JsonFiles::batches_told))]
 fn read_shared(alloc: Global, schema: &Schema, batch: &Value) -> Result<Arc<RecordBatch>, JsonFault>
-    requires { AreInts schema.now }
+    requires { AreIntegers schema.now }
     ensures fields { IfOk result (λ b. (arc_value b).fields ≡ schema.now) }
     ensures ok { IfOk result (λ b. ReadsBatch schema.now (view batch.now) (table_of (arc_value b))) }
     ensures err { IfErr result (Tells (BatchFault schema.now (view batch.now))) }
@@ -55,7 +56,7 @@ fn read_batches(
     schema: &Schema,
     values: &[Value],
 ) -> Result<Vec<Arc<RecordBatch>>, JsonFault>
-    requires { AreInts schema.now }
+    requires { AreIntegers schema.now }
     ensures under { IfOk result (λ batches. AreUnder schema.now (map arc_value batches.items)) }
     ensures ok { IfOk result (λ batches. ReadsEach (ReadsBatch schema.now) (items_view values.now)
         (map table_of (map arc_value batches.items))) }
