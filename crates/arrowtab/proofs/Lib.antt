@@ -11,6 +11,7 @@ pub mod JsonRecordBatches
 pub mod JsonFiles
 mod IntegerLemmas
 mod StatsLemmas
+mod StatsLaws
 mod ColumnLemmas
 pub mod ToldLemmas
 pub mod JsonLaws

@@ -1,5 +1,5 @@
 -- Statistics of a column of integers, made from all of its items. (Arrow columnar format, "Null count", "Fixed-size primitive layout")
-use Rattle.std.specs.Prelude.{◌≡◌, ℕ, ◌+◌, ℤ, pos, ◌+ℤ◌, List, ◌++◌, length, map, Bool, Option, Some, None, fold, count_by, if◌then◌else◌}
+use Rattle.std.specs.Prelude.{◌≡◌, ℕ, ◌+◌, ℤ, pos, ◌+ℤ◌, ◌≤ℤ◌, List, ◌++◌, length, map, Bool, Option, Some, None, Contains, fold, count_by, if◌then◌else◌}
 use Rattle.std.specs.List.{filter_map, reduce, range_with_len}
 use Rattle.std.specs.Int.{int_min, int_max}
 use Rattle.arrays.specs.declared.types.IntType.{IntType}
@@ -34,6 +34,16 @@ least_of column = reduce int_min (numbers_of column)
 
 abbrev pub greatest_of : List Item → Option ℤ
 greatest_of column = reduce int_max (numbers_of column)
+
+-- The number is one of the column's and at most each of them.
+pub record IsLeast (column : List Item) (least : ℤ) : Type 0 where
+  pub within : Contains column (int least)
+  pub at_most : (z : ℤ) → Contains column (int z) → least ≤ℤ z
+
+-- The number is one of the column's and at least each of them.
+pub record IsGreatest (column : List Item) (greatest : ℤ) : Type 0 where
+  pub within : Contains column (int greatest)
+  pub at_least : (z : ℤ) → Contains column (int z) → z ≤ℤ greatest
 
 -- These are the statistics of the column.
 pub record AreStats (s : ColumnStats) (column : List Item) : Type 0 where

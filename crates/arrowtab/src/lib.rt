@@ -15,7 +15,7 @@ mod report;
 mod run_fault;
 pub mod sink;
 pub mod source;
-mod stats;
+pub mod stats;
 mod tell;
 #[cfg(test)]
 mod tests;

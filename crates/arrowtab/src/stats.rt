@@ -4,6 +4,7 @@ ghost use Rattle.std.specs.Int.{int_min, int_max};
 ghost use Rattle.arrowtab.specs.Cells.{IsCell, null_count, amount, better};
 
 mod integer;
+pub mod laws;
 pub(crate) mod slots;
 
 /// The statistics of a column of integers: how many slots it has and how many of them are null, and of the
