@@ -1,5 +1,5 @@
-//! The faults of a file at their places, and the spellings of its numbers.
-use crate::json_file::{fault_text, read_file};
+//! Places, the faults of a file at them, and the spellings of its numbers.
+use crate::json_file::{Member, Path, Step, fault_text, read_file};
 use std::alloc::{AllocError, Global};
 use std::process::Abort;
 use std::test::Fail;
@@ -282,5 +282,31 @@ fn reads_both_spellings(rt: HostRuntime) -> Result<(), Fail> {
         let text = with_column(rt.alloc(), ty, under_null.as_str())?;
         expect(&rt, rt.alloc(), text.as_str(), "read")?;
     }
+    Ok(())
+}
+
+#[test]
+fn leads_to_places(rt: HostRuntime) -> Result<(), Fail> {
+    let steps = [Step::Member(Member::Columns), Step::Item(3)];
+    let path = Path::from_steps(rt.alloc(), &steps)?;
+    assert_eq!(rt; path.steps(), steps.as_slice());
+    let path = path.under(Step::Item(7))?;
+    let path = path.under(Step::Member(Member::Batches))?;
+    assert_eq!(rt;
+        path.steps(),
+        [
+            Step::Member(Member::Batches),
+            Step::Item(7),
+            Step::Member(Member::Columns),
+            Step::Item(3),
+        ]
+        .as_slice()
+    );
+    let root = Path::from_steps(rt.alloc(), &[])?;
+    assert!(rt; root.steps().is_empty());
+    assert_eq!(rt;
+        root.under(Step::Item(0))?.steps(),
+        [Step::Item(0)].as_slice()
+    );
     Ok(())
 }
