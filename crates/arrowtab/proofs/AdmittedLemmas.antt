@@ -26,11 +26,6 @@ passed (Some r) full book h = absurd cc
 history_of-push : (entries : List Entry) (e : Entry) → history_of (entries ++ e ∷ []) ≡ history_of entries ++ pair_of e ∷ []
 history_of-push entries e = map-append pair_of entries (e ∷ [])
 
-pub history_of-new : (fields : List FieldShape) (entries new : List Entry) (e : Entry) (a : Admitted) → ◌≡◌ {A = Admitted} (record { fields = fields; history = history_of entries }) a
-    → new ≡ entries ++ e ∷ [] → history_of new ≡ a.history ++ pair_of e ∷ []
-history_of-new fields entries new e a is grown =
-    ap history_of grown ∙ history_of-push entries e ∙ ap (λ (x : Admitted). x.history ++ pair_of e ∷ []) is
-
 pub AreAdmitted-push : (fields : List FieldShape) (entries new : List Entry) (count n : ℕ) (e : Entry) (a : Admitted) → ◌≡◌ {A = Admitted} (record { fields = fields; history = history_of entries }) a
     → AreAdmitted fields entries count → kinds_of (arc_value e.batch).fields ≡ kinds_of a.fields
     → batch_fault (arc_value e.batch).fields (arc_value e.batch).rows (arc_value e.batch).columns ≡ None

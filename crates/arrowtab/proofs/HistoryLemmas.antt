@@ -1,7 +1,7 @@
 -- Histories that grow, and tables made of columns.
 use Rattle.std.proofs.Common.{◌≡◌, ◌∙◌, ◌⊎◌, inl, inr, ℕ, zero, suc, ◌+◌, ◌<◌, List, [], ◌∷◌, ◌++◌, length, get_or, map, Option, Some, None, Bool, true, false, not, cond, ap, sym, refl, subst, arith, ◌≤◌, nat_lt, eqb, position, option_map, length-append, append_assoc}
 use Rattle.std.proofs.lemmas.List.{append-nil}
-use Rattle.std.proofs.lemmas.List.Elements.{All-push, All-nil}
+use Rattle.std.proofs.lemmas.List.Elements.{All-push}
 use Rattle.std.specs.List.{range_with_len, zip, position_or_len}
 use Rattle.std.proofs.lemmas.List.Sums.{fails_before_first}
 use Rattle.std.proofs.lemmas.List.{get_or-map}
@@ -50,15 +50,6 @@ IsLegal-push schema h e legal shaped allowed = record {
         | inr q ↦ legal.allowed before q.0 x q.1
       ];
 }
-
-pub IsLegal-none : (schema : List FieldShape) → IsLegal schema []
-IsLegal-none schema = record {
-  shaped = All-nil (λ (e : ℕ × Table). IsTableOf schema e.1);
-  allowed = λ before rest e p. no_place before rest e p;
-} where
-  no_place : (before rest : History) (e : ℕ × Table) → [] ≡ before ++ e ∷ rest → cause schema before e.1 ≡ None
-  no_place [] rest e p = absurd cc
-  no_place (b ∷ bs) rest e p = absurd cc
 
 -- ---- tables made of columns
 

@@ -1,10 +1,9 @@
 -- What a file's batches are, and why its faults stand.
-use Rattle.std.proofs.Common.{◌≡◌, ℕ, zero, suc, ◌+◌, ◌<◌, List, [], ◌∷◌, ◌++◌, length, get_or, map, Some, None, option_and_then, IsUtf8, ap, sym, subst}
-use Rattle.std.specs.List.{AllByRecursion, slice_get}
+use Rattle.std.proofs.Common.{◌≡◌, ℕ, ◌+◌, ◌<◌, List, [], ◌∷◌, ◌++◌, length, get_or, map, Some, None, option_and_then, IsUtf8, sym, subst}
+use Rattle.std.specs.List.{AllByRecursion}
 use Rattle.std.proofs.lemmas.List.{map-append}
 use Rattle.arrays.specs.Shape.{FieldShape}
 use Rattle.arrays.specs.Batch.{Batch}
-use Rattle.arrays.specs.File.{AreBatchesOf, kinds_of}
 use Rattle.serde_json.specs.Data.{Data, Items}
 use Rattle.serde_json.specs.Find.{as_array, as_object}
 use Rattle.serde_json.specs.Read.{read}
@@ -74,21 +73,8 @@ each_under : (fields : List FieldShape) (bs : List Batch) (b : Batch) → AllByR
 each_under fields [] b h is = (is, tt)
 each_under fields (x ∷ bs) b h is = (h.0, each_under fields bs b h.1 is)
 
-pub AreUnder-nil : (fields : List FieldShape) (bs : List Batch) → AreIntegers fields → bs ≡ [] → AreUnder fields bs
-AreUnder-nil fields bs ints none = record { integers = ints; each = subst (λ xs. AllByRecursion (λ (x : Batch). x.fields ≡ fields) xs) (sym none) tt }
-
 pub AreUnder-push : (fields : List FieldShape) (bs new : List Batch) (b : Batch) → AreUnder fields bs → b.fields ≡ fields → new ≡ bs ++ b ∷ [] → AreUnder fields new
 AreUnder-push fields bs new b under is grown = record {
   integers = under.integers;
   each = subst (λ xs. AllByRecursion (λ (x : Batch). x.fields ≡ fields) xs) (sym grown) (each_under fields bs b under.each is);
 }
-
-pub AreBatchesOf-under : (fields : List FieldShape) (bs : List Batch) → AreUnder fields bs → AreBatchesOf fields bs
-AreBatchesOf-under fields bs under = λ i b at. ap kinds_of (fields_at bs i b under.each at)
-  where
-    fields_at : (xs : List Batch) (i : ℕ) (b : Batch) → AllByRecursion (λ x. x.fields ≡ fields) xs → slice_get xs i ≡ Some b → b.fields ≡ fields
-    fields_at [] i b h at = absurd cc
-    fields_at (x ∷ xs) zero b h at =
-        let same : x ≡ b = cc in
-        subst (λ (y : Batch). y.fields ≡ fields) same h.0
-    fields_at (x ∷ xs) (suc i) b h at = fields_at xs i b h.1 at

@@ -3,7 +3,6 @@ use Rattle.std.specs.Prelude.{◌≡◌, ℕ, ◌<◌, List, length, slice_index
 use Rattle.arrays.specs.declared.types.IntType.{IntType}
 use Rattle.arrays.specs.Kind as kind
 use Rattle.arrays.specs.Kind.{Kind}
-use Rattle.arrays.specs.Batch.{Batch}
 use Rattle.arrays.specs.Seen.{Seen}
 use Rattle.arrays.specs.Shape.{FieldShape, kind_of_field}
 use Rattle.arrowtab.specs.Cause.{IsItemOf}
@@ -34,9 +33,3 @@ AreIntegerColumns columns = All (λ c. is_integer c.kind ≡ true) columns
 -- Each item of each column is null or of the column's kind.
 abbrev pub AreTyped : List Seen → Type 0
 AreTyped columns = All (λ c. All (IsItemOf c.kind) c.items) columns
-
--- Column k of the batch is one of integers, as long as the batch.
-pub record HasIntegers (k : ℕ) (b : Batch) : Type 0 where
-  pub below : k < length b.columns
-  pub integer : (d : Seen) → is_integer (slice_index_or b.columns k d).kind ≡ true
-  pub size : (d : Seen) → length (slice_index_or b.columns k d).items ≡ b.rows
