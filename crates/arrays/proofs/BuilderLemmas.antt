@@ -11,12 +11,12 @@ use Rattle.arrays.specs.Item.{Item, null, int}
 use Rattle.colbits.specs.Bit.{bit, bits}
 use Rattle.colbits.specs.Bitmap.{IsBitmapOf}
 use Rattle.colbits.proofs.BitLemmas.{get_or-bits}
-use Rattle.arrays.specs.Kind as kind
-use Rattle.arrays.specs.Layout.{number_at, column, is_valid_in}
+use Rattle.arrays.specs.Layout.{number_at, is_valid_in}
 use Rattle.arrays.specs.Fault.{bytes_for}
 use Rattle.arrays.specs.Validity.{IsValidityOf}
 use Rattle.arrays.specs.Number.{IsOfType, bytes_of_number}
 use Rattle.arrays.specs.Column.{Column}
+use Rattle.arrays.specs.Made.{show_numbers}
 use Rattle.arrays.specs.Builder.{built, item_at, IsBuilt}
 use Rattle.arrays.proofs.ListLemmas.{map-range-below}
 use Rattle.arrays.proofs.EncodingLemmas.{length-bytes_of_number, number_at-append-front, number_at-append-end}
@@ -102,8 +102,8 @@ IsValidityOf-bitmap bytes bitmap valid is same =
 
 -- an array of the numbers has the column's items
 pub column-built : (t : IntType) (n : ℕ) (validity : Option (List ℕ)) (values bytes : List ℕ) (valid : List Bool) → n ≡ length valid → bytes ≡ values → IsValidityOf validity valid
-    → column (kind.int t) n (validity ∷ Some bytes ∷ []) [] [] ≡ built t values valid
-unfolding column built
+    → (show_numbers t n validity bytes).items ≡ built t values valid
+unfolding built
 column-built t n validity values bytes valid len_is bytes_are is =
     let slot : ℕ → Item = λ j. cond (is_valid_in validity j) (int (number_at t bytes j)) null in
     let same : (j : ℕ) → j < length valid → slot (0 + j) ≡ item_at t values valid (0 + j) =

@@ -9,7 +9,9 @@ use Rattle.arrays.specs.Held.{held_raw, held_children, held_dictionary, shape_fa
 use Rattle.arrays.specs.Reading.{Reading, held, reading_step, reading, child_fault, dictionary_fault, read_parts, fault}
 use Rattle.arrays.specs.declared.fault.LayoutFault.{LayoutFault}
 use Rattle.arrays.specs.declared.fault.LayoutFault.TheVariants.{MissingBuffer, ExtraBuffer, BufferTooShort, OffsetNegative, OffsetDecreases, OffsetPastEnd, NullCountDiffers, NotUtf8, IndexPastDictionary, ChildDiffers, TooLong, TooDeep}
-use Rattle.arrays.specs.declared.types.RawArray.{RawArray, out-RawArray, fold_out-RawArray}
+use Rattle.arrays.specs.declared.types.RawArray.{RawArray, RawArray-F, out-RawArray, fold_out-RawArray}
+use Rattle.arrays.specs.declared.types.RawArray.TheViews.{roll-RawArray}
+use Rattle.arrays.specs.declared.types.RawArray.TheFolds.{fold-roll-RawArray}
 use Rattle.arrays.specs.declared.types.RawArray.TheShapes.{former-RawArray-dictionary}
 
 -- ---- no fault at all
@@ -161,7 +163,7 @@ own_fault-none k n stated buffers children dictionary h =
 
 -- ---- raw arrays
 
-entries-map : (h : RawArray → Reading) (d : Option (Box RawArray Global))
+pub entries-map : (h : RawArray → Reading) (d : Option (Box RawArray Global))
     → option_map (λ b. b.value) (former-RawArray-dictionary.map RawArray Reading h d) ≡ option_map (λ b. h b.value) d
 entries-map h None = refl
 entries-map h (Some b) = refl
@@ -172,6 +174,13 @@ pub reading-raw : (raw : RawArray) → let r = out-RawArray raw in
 reading-raw raw =
     let r = out-RawArray raw in
     fold_out-RawArray Reading reading_step raw
+    ∙ ap (read_parts (kind_of r.ty) r.length r.null_count r.buffers.items (map reading r.children.items)) (entries-map reading r.dictionary)
+
+-- The reading of a raw array that was put together, by its parts.
+pub reading-roll : (r : RawArray-F RawArray)
+    → reading (roll-RawArray r) ≡ read_parts (kind_of r.ty) r.length r.null_count r.buffers.items (map reading r.children.items) (option_map (λ b. reading b.value) r.dictionary)
+reading-roll r =
+    fold-roll-RawArray Reading reading_step r
     ∙ ap (read_parts (kind_of r.ty) r.length r.null_count r.buffers.items (map reading r.children.items)) (entries-map reading r.dictionary)
 
 -- What an array knows of its child is what the child's reading holds.

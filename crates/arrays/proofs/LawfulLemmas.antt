@@ -66,24 +66,24 @@ seen-unstated k n stated buffers children dictionary = refl
 
 -- ---- children and dictionaries of lawful arrays
 
-parts_agree : (k : Kind) (n : ℕ) (stated : Option ℕ) (buffers : Buffers) (children : List Reading) (dictionary : Option Reading)
+pub parts_agree : (k : Kind) (n : ℕ) (stated : Option ℕ) (buffers : Buffers) (children : List Reading) (dictionary : Option Reading)
     → (read_parts k n stated buffers children dictionary).fault ≡ None → do_parts_differ k (map held children) (option_map held dictionary) ≡ false
 unfolding read_parts
 parts_agree k n stated buffers children dictionary h =
     (own_fault-none k n stated buffers (map held children) (option_map held dictionary) (first-parts _ _ h).0).parts_agree
 
-either_false : (a b : Bool) → (a || b) ≡ false → (a ≡ false) × (b ≡ false)
+pub either_false : (a b : Bool) → (a || b) ≡ false → (a ≡ false) × (b ≡ false)
 either_false true b h = cc
 either_false false b h = (refl, h)
 
 some_length : (n : ℕ) → not (nat_eq (suc n) 0) ≡ false → ⊥
 some_length n h = grind (arith, nat_tests)
 
-none_held : (children : List Reading) → not (nat_eq (length (map held children)) 0) ≡ false → children ≡ []
+pub none_held : (children : List Reading) → not (nat_eq (length (map held children)) 0) ≡ false → children ≡ []
 none_held [] h = refl
 none_held (c ∷ cs) h = absurd (some_length (length (map held cs)) h)
 
-no_dictionary : (dictionary : Option Reading) → not (is_none (option_map held dictionary)) ≡ false → dictionary ≡ None
+pub no_dictionary : (dictionary : Option Reading) → not (is_none (option_map held dictionary)) ≡ false → dictionary ≡ None
 no_dictionary None h = refl
 no_dictionary (Some d) h = cc
 
@@ -118,7 +118,7 @@ dictionary_lawful k n stated buffers children d h =
 
 -- ---- a lawful raw array, read again from what it shows
 
-reading-again : (k : Kind) (n : ℕ) (stated : Option ℕ) (buffers : Buffers) (children : List Reading) (dictionary : Option Reading)
+pub reading-again : (k : Kind) (n : ℕ) (stated : Option ℕ) (buffers : Buffers) (children : List Reading) (dictionary : Option Reading)
     → (read_parts k n stated buffers children dictionary).fault ≡ None
     → checked (read_parts k n stated buffers children dictionary).seen ≡ read_parts k n stated buffers children dictionary
 unfolding read_parts
@@ -148,7 +148,7 @@ pub record AreTexts (raw : RawArray) : Type 0 where
   pub lawful : (read_parts kind.utf8 (out-RawArray raw).length None (out-RawArray raw).buffers.items [] None).fault ≡ None
   pub shows : (read_parts kind.utf8 (out-RawArray raw).length None (out-RawArray raw).buffers.items [] None).seen ≡ (reading raw).seen
 
-texts_of : (n : ℕ) (stated : Option ℕ) (buffers : Buffers) (children : List Reading) (dictionary : Option Reading)
+pub texts_of : (n : ℕ) (stated : Option ℕ) (buffers : Buffers) (children : List Reading) (dictionary : Option Reading)
     → (read_parts kind.utf8 n stated buffers children dictionary).fault ≡ None
     → ((read_parts kind.utf8 n None buffers [] None).fault ≡ None) × ((read_parts kind.utf8 n None buffers [] None).seen ≡ (read_parts kind.utf8 n stated buffers children dictionary).seen)
 texts_of n stated buffers children dictionary h =

@@ -53,7 +53,7 @@ start-rises (kind.int t) n buffers has none j below = cc
 start-rises kind.boolean n buffers has none j below = cc
 start-rises kind.dict n buffers has none j below = cc
 
-rises_by : (starts : ℕ → ℕ) (n : ℕ) → ((j : ℕ) → j < n → starts j ≤ starts (j + 1)) → (d j : ℕ) → j + d ≤ n → starts j ≤ starts (j + d)
+pub rises_by : (starts : ℕ → ℕ) (n : ℕ) → ((j : ℕ) → j < n → starts j ≤ starts (j + 1)) → (d j : ℕ) → j + d ≤ n → starts j ≤ starts (j + d)
 rises_by starts n h zero j within =
     let same : starts j ≡ starts (j + 0) = ap starts (omega arith) in
     omega arith

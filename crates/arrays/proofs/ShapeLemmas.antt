@@ -1,7 +1,10 @@
 -- A field's kind is that of its type, whichever way it is read.
 use Rattle.std.proofs.Common.{◌≡◌, ◌∙◌, ap, sym}
+use Rattle.std.specs.declared.boxed.Box.{Box}
+use Rattle.std.specs.declared.alloc.Global.{Global}
 use Rattle.arrays.specs.declared.types.DataType.{DataType, DataType-F, out-DataType, fold-DataType, fold_out-DataType, map-DataType}
 use Rattle.arrays.specs.declared.types.DataType.TheVariants.{Int, Bool, Utf8, List', Dict, outs-Int, outs-Bool, outs-Utf8, outs-List', outs-Dict}
+use Rattle.arrays.specs.declared.types.DataType.TheViews as types
 use Rattle.arrays.specs.declared.types.DataType.TheOpen.{Field-F}
 use Rattle.arrays.specs.declared.types.Field.{Field, out-Field, fold-Field, fold_out-Field}
 use Rattle.arrays.specs.declared.types.IntType.{IntType}
@@ -43,3 +46,14 @@ kind_of_field-field_of f =
 
 pub kind_of-Int : (t : IntType) → kind_of (Int t) ≡ kind.int t
 kind_of-Int t = kind_at (Int t) _ (outs-Int t)
+
+pub kind_of-Bool : kind_of Bool ≡ kind.boolean
+kind_of-Bool = kind_at Bool _ outs-Bool
+
+pub kind_of-Utf8 : kind_of Utf8 ≡ kind.utf8
+kind_of-Utf8 = kind_at Utf8 _ outs-Utf8
+
+pub kind_of-List : (item : Box Field Global) → kind_of (types.List item) ≡ kind.list (kind_of item.value.ty)
+kind_of-List item =
+    kind_at (types.List item) _ (outs-List' record { ptr = item.ptr; alloc = item.alloc; value = record {} } item.value.name item.value.nullable item.value.ty)
+    ∙ ap kind.list (fold_out-Field Kind Kind kind_step (λ f. f.ty) item.value)

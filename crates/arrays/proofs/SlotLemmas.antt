@@ -6,6 +6,7 @@ use Rattle.std.proofs.lemmas.List.Sums.{sum_by-cons}
 use Rattle.std.proofs.lemmas.Nat.{row_fits, mul-le}
 use Rattle.std.proofs.lemmas.Option.{slice_get-get_or}
 use Rattle.std.specs.Int.{cast_signed, from_le_bytes}
+use Rattle.std.specs.Arc.{arc_value}
 use Rattle.colbits.specs.Bit.{bits}
 use Rattle.colbits.specs.Slice.{slice}
 use Rattle.colbits.proofs.BitLemmas.{get_or-bits, slice-bits, drop-map-range, map-range-same}
@@ -36,7 +37,7 @@ whole k n stated buffers children dictionary h =
 
 -- ---- validity
 
-seen-validity : (k : Kind) (n : ℕ) (stated : Option ℕ) (buffers : Buffers) (children : List Reading) (dictionary : Option Reading)
+pub seen-validity : (k : Kind) (n : ℕ) (stated : Option ℕ) (buffers : Buffers) (children : List Reading) (dictionary : Option Reading)
     → (read_parts k n stated buffers children dictionary).seen.validity ≡ validity_of n buffers
 unfolding read_parts
 seen-validity (kind.int t) n stated buffers children dictionary = refl
@@ -64,7 +65,7 @@ valid-part start len j (Some bytes) h = get_or-bits bytes start len j false h
 
 -- ---- numbers
 
-number_at-slice : (t : IntType) (bytes : List ℕ) (start len j : ℕ) → j < len
+pub number_at-slice : (t : IntType) (bytes : List ℕ) (start len j : ℕ) → j < len
     → number_at t (slice bytes (start * bytes_of t.bits) (len * bytes_of t.bits)) j ≡ number_at t bytes (start + j)
 unfolding number_at
 number_at-slice t bytes start len j h =
@@ -78,7 +79,7 @@ number_at-slice t bytes start len j h =
     places s j w = omega arith
 
 -- a part of a column, place by place
-slice-column : (k : Kind) (n : ℕ) (buffers : Buffers) (child entries : List Item) (start len : ℕ) → start + len ≤ n
+pub slice-column : (k : Kind) (n : ℕ) (buffers : Buffers) (child entries : List Item) (start len : ℕ) → start + len ≤ n
     → slice (column k n buffers child entries) start len ≡ map (λ j. cond (is_valid buffers (start + j)) (value_at k buffers child entries (start + j)) null) (range_with_len 0 len)
 unfolding column
 slice-column k n buffers child entries start len h =
@@ -155,7 +156,7 @@ number_there t bytes s j has within =
 
 pub validity-view : (v : Inside) → v.start + v.len ≤ v.total → (show_view v).validity ≡ option_map (λ bytes. bits bytes v.start v.len) (held_at v.buffers.now 0)
 validity-view v h =
-    ap (option_map (λ b. slice b v.start v.len)) (seen-validity (view_kind v.ty) v.total None v.buffers.now (map reading v.children.now) (option_map checked (option_map (λ w. w.now) v.words)))
+    ap (option_map (λ b. slice b v.start v.len)) (seen-validity (view_kind v.ty) v.total None v.buffers.now (map reading v.children.now) (option_map checked (option_map (λ w. arc_value w.now) v.words)))
     ∙ validity-part v.start v.len v.total (held_at v.buffers.now 0) h
 
 pub valid-view : (v : Inside) (j : ℕ) → v.start + v.len ≤ v.total → j < v.len → valid_at (show_view v) j ≡ is_valid v.buffers.now (v.start + j)
@@ -164,7 +165,7 @@ valid-view v j h below = ap (λ o. valid_in o j) (validity-view v h) ∙ valid-p
 pub bits-view : (v : Inside) (bytes : List ℕ) → (read_view v).fault ≡ None → held_at v.buffers.now 0 ≡ Some bytes → v.total ≤ 8 * length bytes
 bits-view v bytes lawful is =
     bits_enough v.total bytes (held_at v.buffers.now 0) is
-    (whole (view_kind v.ty) v.total None v.buffers.now (map reading v.children.now) (option_map checked (option_map (λ w. w.now) v.words)) lawful).validity_enough
+    (whole (view_kind v.ty) v.total None v.buffers.now (map reading v.children.now) (option_map checked (option_map (λ w. arc_value w.now) v.words)) lawful).validity_enough
 
 -- the numbers of an integer view, and that their bytes are there
 pub record ViewNumbers (t : IntType) (v : Inside) : Type 0 where
@@ -174,7 +175,7 @@ pub record ViewNumbers (t : IntType) (v : Inside) : Type 0 where
 pub numbers-view : (t : IntType) (v : Inside) → view_kind v.ty ≡ kind.int t → (read_view v).fault ≡ None → v.start + v.len ≤ v.total → ViewNumbers t v
 numbers-view t v is lawful within =
     let children = map reading v.children.now in
-    let words = option_map checked (option_map (λ w. w.now) v.words) in
+    let words = option_map checked (option_map (λ w. arc_value w.now) v.words) in
     let same = ap (λ k. read_parts k v.total None v.buffers.now children words) is in
     let lawful_int = sym (ap (λ (r : Reading). r.fault) same) ∙ lawful in
     record {

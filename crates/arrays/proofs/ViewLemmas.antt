@@ -2,6 +2,7 @@
 use Rattle.std.proofs.Common.{◌≡◌, ◌∙◌, ℕ, ◌+◌, ◌-◌, ◌≤◌, List, map, Bool, length, take, drop, Option, Some, None, option_map, IfSome, [], ◌∷◌, true, false, ltb-false, ap, refl, arith, length-take, length-drop}
 use Rattle.std.proofs.lemmas.List.{drop-take, drop-drop, take-take, take_all}
 use Rattle.std.proofs.lemmas.List.FromFn.{length-map-range_with_len}
+use Rattle.std.specs.Arc.{arc_value}
 use Rattle.colbits.specs.Bit.{bits}
 use Rattle.colbits.specs.Slice.{slice}
 use Rattle.colbits.proofs.BitLemmas.{length-bits}
@@ -72,10 +73,10 @@ part-part s start n begin m h =
 
 pub length-show_view : (v : Inside) → v.start + v.len ≤ v.total → length (show_view v).items ≡ v.len
 length-show_view v h =
-    length-slice (read_view v).seen.items v.start v.len (omega (arith, length-items (view_kind v.ty) v.total None v.buffers.now (map reading v.children.now) (option_map checked (option_map (λ w. w.now) v.words))))
+    length-slice (read_view v).seen.items v.start v.len (omega (arith, length-items (view_kind v.ty) v.total None v.buffers.now (map reading v.children.now) (option_map checked (option_map (λ w. arc_value w.now) v.words))))
 
 pub kind-show_view : (v : Inside) → (show_view v).kind ≡ view_kind v.ty
-kind-show_view v = seen-kind (view_kind v.ty) v.total None v.buffers.now (map reading v.children.now) (option_map checked (option_map (λ w. w.now) v.words))
+kind-show_view v = seen-kind (view_kind v.ty) v.total None v.buffers.now (map reading v.children.now) (option_map checked (option_map (λ w. arc_value w.now) v.words))
 
 -- all of the slots
 pub take-length-all : {A : Type 0} (xs : List A) (n : ℕ) → length xs ≡ n → slice xs 0 n ≡ xs

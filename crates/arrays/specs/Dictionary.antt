@@ -5,7 +5,7 @@ use Rattle.arrays.specs.Kind as kind
 use Rattle.arrays.specs.Kind.{int32}
 use Rattle.arrays.specs.Layout.{natural}
 use Rattle.arrays.specs.Fault.{is_negative}
-use Rattle.arrays.specs.Seen.{Seen, no_entries}
+use Rattle.arrays.specs.Seen.{Seen, Entries, no_entries}
 
 -- The entry that a code names, null where the code is null.
 abbrev pub looked_up : List Item → Item → Item
@@ -18,6 +18,10 @@ is_code n null = true
 is_code n (int z) = not (is_negative z) && int_lt z (pos n)
 is_code n code = false
 
+-- The texts of a dictionary, as its arrays show them.
+abbrev pub entries_shown : Seen → Entries
+entries_shown s = record { validity = s.validity; items = s.items }
+
 -- What codes with a dictionary show.
 abbrev pub encoded : Seen → Seen → Seen
 encoded codes dictionary = record {
@@ -25,13 +29,17 @@ encoded codes dictionary = record {
   validity = codes.validity;
   items = map (looked_up dictionary.items) codes.items;
   codes = codes.items;
-  entries = record { validity = dictionary.validity; items = dictionary.items };
+  entries = entries_shown dictionary;
 }
 
 -- The codes of a dictionary-encoded column, as a column of their own.
 abbrev pub codes_of : Seen → Seen
 codes_of s = record { kind = kind.int int32; validity = s.validity; items = s.codes; codes = []; entries = no_entries }
 
--- The whole dictionary, as a column of its own.
+-- The texts of a dictionary, as a column of their own.
+abbrev pub texts_alone : Entries → Seen
+texts_alone e = record { kind = kind.utf8; validity = e.validity; items = e.items; codes = []; entries = no_entries }
+
+-- The whole dictionary of a column.
 abbrev pub dictionary_of : Seen → Seen
-dictionary_of s = record { kind = kind.utf8; validity = s.entries.validity; items = s.entries.items; codes = []; entries = no_entries }
+dictionary_of s = texts_alone s.entries

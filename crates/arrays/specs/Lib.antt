@@ -9,6 +9,7 @@ pub mod Reading
 pub mod Shape
 pub mod Schema
 pub mod Values
+pub mod Slot
 pub mod Batch
 pub mod File
 pub mod Code
@@ -18,7 +19,7 @@ pub mod Array
 pub mod Number
 pub mod Column
 pub mod Builder
-pub mod Numbers
+pub mod Made
 pub mod Validity
 pub mod ViewType
 pub mod View

@@ -1,5 +1,6 @@
 -- Slots of a checked array, borrowed.
 use Rattle.std.specs.Prelude.{option_map}
+use Rattle.std.specs.Arc.{arc_value}
 use Rattle.arrays.specs.ViewType.{view_kind}
 use Rattle.arrays.specs.Seen.{Seen, part}
 use Rattle.arrays.specs.Reading.{Reading}
@@ -8,7 +9,7 @@ use Rattle.arrays.specs.declared.view.View.TheInside.{Inside}
 
 -- The whole array that the view is of.
 abbrev pub read_view : Inside → Reading
-read_view v = read_checked (view_kind v.ty) v.total v.buffers.now v.children.now (option_map (λ w. w.now) v.words)
+read_view v = read_checked (view_kind v.ty) v.total v.buffers.now v.children.now (option_map (λ w. arc_value w.now) v.words)
 
 abbrev pub show_view : Inside → Seen
 show_view v = part v.start v.len (read_view v).seen

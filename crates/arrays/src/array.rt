@@ -1,13 +1,20 @@
-ghost use Rattle.std.specs.Prelude.{◌≡◌, ◌*◌, ◌≤◌, [], ◌∷◌, length, false, Some, IfOk, IfErr, None, ◌==◌, ◌⊎◌};
-ghost use Rattle.arrays.specs.Kind.{bytes_of, kind_of};
-ghost use Rattle.arrays.specs.Fault.{is_validity_short};
-ghost use Rattle.arrays.specs.Reading.{fault, reading};
-ghost use Rattle.arrays.specs.Numbers.{show_numbers};
+ghost use Rattle.std.specs.Prelude.{◌≡◌, [], length, true, Some, IfOk, IfErr, None, ◌==◌, ◌⊎◌};
+ghost use Rattle.std.specs.List.{All};
+ghost use Rattle.std.specs.Arc.{arc_value};
+ghost use Rattle.arrays.specs.Dictionary.{encoded, is_code};
+ghost use Rattle.arrays.specs.Kind as kind;
+ghost use Rattle.arrays.specs.Kind.{int32, kind_of};
+ghost use Rattle.arrays.specs.Reading.{fault, read_parts, reading};
 
+mod made;
+#[cfg(test)]
+mod tests;
+
+use crate::copies;
 use crate::fault::LayoutFault;
-use crate::types::{DataType, IntType, RawArray};
+use crate::types::{DataType, RawArray};
 use crate::validator::first_fault;
-use crate::view::View;
+use crate::view::{View, ViewType};
 use crate::words::Words;
 use colbits::{Buffer, NoMemory};
 use std::alloc::Global;
@@ -109,34 +116,64 @@ impl Array {
         ensures { result ≡ self.now }
     {
         View::whole(
-            &self.ty,
+            ViewType::of(&self.ty),
             &self.buffers,
             &self.children,
-            self.words.as_deref(),
+            self.words.as_ref(),
             self.length,
         )
     }
 
-    /// An array of integers: `len` little-endian numbers, valid where their bit is 1, all of them where
-    /// there are no bits.
-    pub fn from_numbers(
-        alloc: Global,
-        ty: IntType,
-        len: u32,
-        validity: Option<Buffer>,
-        values: Buffer,
-    ) -> Result<Array, NoMemory>
-        requires short { len ≤ 2147483647 }
-        requires numbers { len * bytes_of ty.bits ≤ length values }
-        requires bits { is_validity_short len validity ≡ false }
-        ensures { IfOk result (λ a. a ≡ show_numbers ty len validity values) }
+    /// An array of codes and their dictionary, which may be shared: 32-bit numbers, each of them null or
+    /// the index of an entry. No memory is taken, and nothing is copied or checked.
+    pub fn dict(codes: Array, dictionary: Arc<Words>) -> Array
+        requires numbers { codes.kind ≡ kind.int int32 }
+        requires codes { All (λ c. is_code (length (arc_value dictionary).items) c ≡ true) codes.items }
+        ensures { result ≡ encoded codes (arc_value dictionary) }
+    {
+        dictionary.tell_kind();
+        let Array {
+            ty: _,
+            length,
+            buffers,
+            children,
+            words: _,
+        } = codes;
+        Array {
+            ty: DataType::Dict,
+            length,
+            buffers,
+            children,
+            words: Some(dictionary),
+        }
+    }
+
+    /// The length and the buffers of an array of texts: these are all of its parts.
+    pub(crate) fn into_texts(self) -> (u64, Vec<Option<Buffer>>)
+        requires { self.kind ≡ kind.utf8 }
+        ensures lawful { (read_parts kind.utf8 result.0 None result.1.items [] None).fault ≡ None }
+        ensures shows { (read_parts kind.utf8 result.0 None result.1.items [] None).seen ≡ self }
+    {
+        let Array {
+            ty: _,
+            length,
+            buffers,
+            children: _,
+            words: _,
+        } = self;
+        (length, buffers)
+    }
+
+    /// The same array in memory of its own, save that the dictionary is shared.
+    pub fn copy(&self, alloc: Global) -> Result<Array, NoMemory>
+        ensures { IfOk result (λ a. a ≡ self.now) }
     {
         Ok(Array {
-            ty: DataType::Int(ty),
-            length: u64::from(len),
-            buffers: vec![in alloc; validity, Some(values)]?,
-            children: Vec::new(alloc),
-            words: None,
+            ty: self.ty.copy(alloc)?,
+            length: self.length,
+            buffers: copies::buffers(alloc, &self.buffers)?,
+            children: copies::children(alloc, &self.children)?,
+            words: copies::shared(&self.words)?,
         })
     }
 }

@@ -5,11 +5,14 @@ pub mod array;
 pub mod batch;
 pub mod builder;
 mod check;
+mod copies;
 pub mod fault;
 pub mod file;
 mod number;
 mod numbers;
 pub mod schema;
+#[cfg(test)]
+mod testing;
 #[cfg(test)]
 mod tests;
 pub mod types;
@@ -24,5 +27,5 @@ pub use fault::LayoutFault;
 pub use file::File;
 pub use schema::{Schema, SchemaFault};
 pub use types::{DataType, Field, IntType, RawArray, Width};
-pub use view::{View, ViewType};
+pub use view::{Lists, Texts, View, ViewType};
 pub use words::Words;

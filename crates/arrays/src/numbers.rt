@@ -1,8 +1,9 @@
-ghost use Rattle.std.specs.Prelude.{◌≡◌, ◌+◌, ◌*◌, ◌^◌, ◌<◌, ◌≤◌, length};
+ghost use Rattle.std.specs.Prelude.{◌≡◌, ◌+◌, ◌*◌, ◌^◌, ◌<◌, ◌≤◌, false, length};
 ghost use Rattle.std.specs.Int.{from_le_bytes};
 ghost use Rattle.colbits.specs.Slice.{slice};
 ghost use Rattle.arrays.specs.Kind.{bits_of, bytes_of, int32};
-ghost use Rattle.arrays.specs.Layout.{number_at};
+ghost use Rattle.arrays.specs.Fault.{is_negative};
+ghost use Rattle.arrays.specs.Layout.{natural, number_at};
 
 use crate::types::{IntType, Width};
 
@@ -13,6 +14,15 @@ pub(crate) fn int32_at(bytes: &[u8], j: usize) -> i32
 {
     let k = 4 * j;
     i32::from_le_bytes([bytes[k], bytes[k + 1], bytes[k + 2], bytes[k + 3]])
+}
+
+/// Number `j` of a buffer of offsets or indices, which isn't negative.
+pub(crate) fn natural_at(bytes: &[u8], j: usize) -> usize
+    requires there { 4 * j + 4 ≤ length bytes.now }
+    requires counted { is_negative (number_at int32 bytes.now j) ≡ false }
+    ensures { result ≡ natural (number_at int32 bytes.now j) }
+{
+    int32_at(bytes, j) as usize
 }
 
 /// Number `j` of a buffer of unsigned numbers of this width.

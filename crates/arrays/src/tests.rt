@@ -4,57 +4,11 @@ use crate::fault::LayoutFault::{
     OffsetDecreases, OffsetNegative, OffsetPastEnd, TooLong,
 };
 use crate::schema::SchemaFault::{self, DictInList, TooDeep};
-use crate::{
-    Array, DataType, Field, IntBuilder, IntType, RawArray, RecordBatch, Schema, View, ViewType,
-    Width, validate,
-};
+use crate::testing::{INT16, INT32, Positions, assert_numbers, raw};
+use crate::{Array, DataType, Field, IntBuilder, IntType, RecordBatch, Schema, validate};
 use colbits::Buffer;
 use std::alloc::Global;
-use std::process::Abort;
 use std::test::Fail;
-
-const INT16: IntType = IntType {
-    bits: Width::W16,
-    signed: true,
-};
-
-const INT32: IntType = IntType {
-    bits: Width::W32,
-    signed: true,
-};
-
-/// The bytes of each position of a layout, none where it holds no buffer.
-type Positions = &'static [Option<&'static [u8]>];
-
-fn raw(alloc: Global, ty: DataType, length: u64, positions: Positions) -> Result<RawArray, Fail> {
-    let mut buffers = Vec::new(alloc);
-    for position in positions {
-        buffers.push(match position {
-            Some(bytes) => Some(Buffer::from_bytes(alloc, *bytes)?),
-            None => None,
-        })?;
-    }
-    Ok(RawArray {
-        ty,
-        length,
-        null_count: None,
-        buffers,
-        children: Vec::new(alloc),
-        dictionary: None,
-    })
-}
-
-/// Asserts that the slots of a view hold these numbers.
-fn assert_numbers(rt: &impl Abort, view: &View<'_>, numbers: &[Option<i128>]) {
-    assert_eq!(rt; view.len(), numbers.len());
-    let ViewType::Int(ty) = view.ty() else {
-        panic!(rt; "these are no numbers");
-    };
-    for (i, number) in numbers.iter().enumerate() {
-        assert!(rt; i < view.len());
-        assert_eq!(rt; view.int_at(ty, i), *number, "at slot {i}");
-    }
-}
 
 /// The numbers 1, 0, 2, 4 and 8, of which the second is null.
 const NUMBERS: Positions = &[

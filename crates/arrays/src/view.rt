@@ -1,19 +1,25 @@
-ghost use Rattle.std.specs.Prelude.{◌≡◌, ◌+◌, ◌<◌, ◌≤◌, Some, None, length, slice_get, option_map, IsTrue};
-ghost use Rattle.arrays.specs.Kind.{kind_of};
-ghost use Rattle.colbits.specs.Slice.{slice};
-ghost use Rattle.arrays.specs.Builder.{item_of};
+ghost use Rattle.std.specs.Prelude.{◌≡◌, ◌+◌, ◌<◌, ◌≤◌, None, false, length, option_map};
+ghost use Rattle.std.specs.Arc.{arc_value};
 ghost use Rattle.arrays.specs.Checked.{read_checked};
 ghost use Rattle.arrays.specs.Kind as kind;
+ghost use Rattle.arrays.specs.Kind.{kind_of, same_kind};
 ghost use Rattle.arrays.specs.Seen.{null_count_of, part, valid_at};
-ghost use Rattle.arrays.specs.Values.{HasNumbers};
+ghost use Rattle.arrays.specs.Slot.{holds_at};
 ghost use Rattle.arrays.specs.ViewType.{view_kind};
 
+mod dictionary;
+mod items;
+mod parts;
+#[cfg(test)]
+mod tests;
+
 use crate::check;
-use crate::numbers::number_at;
 use crate::types::{DataType, Field, IntType, RawArray};
 use crate::words::Words;
 use colbits::{Bits, Buffer};
+pub use parts::{Lists, Texts};
 use std::marker::Model;
+use std::sync::Arc;
 
 /// The type of a view, with the item's field of a list.
 #[derive(Clone, Copy)]
@@ -46,7 +52,7 @@ pub struct View<'a> {
     ty: ViewType<'a>,
     buffers: &'a [Option<Buffer>],
     children: &'a [RawArray],
-    words: Option<&'a Words>,
+    words: Option<&'a Arc<Words>>,
     /// How many slots the whole array has.
     total: usize,
     /// The first slot of the view, and how many it has.
@@ -74,20 +80,20 @@ impl<'a> Model for View<'a> {
 impl<'a> View<'a> {
     /// All slots of the parts of a checked array.
     pub(crate) fn whole(
-        ty: &'a DataType,
+        ty: ViewType<'a>,
         buffers: &'a [Option<Buffer>],
         children: &'a [RawArray],
-        words: Option<&'a Words>,
+        words: Option<&'a Arc<Words>>,
         total: u64,
     ) -> View<'a>
-        requires { (read_checked (kind_of ty.now) total buffers.now children.now
-            (option_map (λ w. w.now) words)).fault ≡ None }
-        ensures { result ≡ (read_checked (kind_of ty.now) total buffers.now children.now
-            (option_map (λ w. w.now) words.entry)).seen }
+        requires { (read_checked (view_kind ty) total buffers.now children.now
+            (option_map (λ w. arc_value w.now) words)).fault ≡ None }
+        ensures { result ≡ (read_checked (view_kind ty.entry) total buffers.now children.now
+            (option_map (λ w. arc_value w.now) words.entry)).seen }
     {
         let total = total as usize;
         View {
-            ty: ViewType::of(ty),
+            ty,
             buffers,
             children,
             words,
@@ -130,7 +136,10 @@ impl<'a> View<'a> {
     /// Whether slot `i` is valid: this is of the validity alone.
     pub fn is_valid(&self, i: usize) -> bool
         requires { i < length self.now.items }
-        ensures { result ≡ valid_at self.now i }
+        ensures validity { result ≡ valid_at self.now i }
+
+        // Where no dictionary is named, a valid slot holds an item.
+        ensures item { same_kind self.now.kind kind.dict ≡ false → result ≡ holds_at self.now i }
     {
         check::is_valid(self.buffers, self.start + i)
     }
@@ -154,36 +163,4 @@ impl<'a> View<'a> {
             None => 0,
         }
     }
-
-    /// The numbers of an integer view, little-endian and behind one another. What lies under a null is
-    /// any number.
-    pub fn numbers(&self, ty: IntType) -> &'a [u8]
-        requires { self.now.kind ≡ kind.int ty }
-        ensures { HasNumbers ty result.now self.now }
-    {
-        let width = ty.bits.bytes();
-        let bytes = check::bytes_at(self.buffers, 1);
-        part(bytes, self.start * width, self.len * width)
-    }
-
-    /// Number `i` of an integer view, none where the slot is null.
-    pub fn int_at(&self, ty: IntType, i: usize) -> Option<i128>
-        requires int { self.now.kind ≡ kind.int ty }
-        requires within { i < length self.now.items }
-        ensures { slice_get self.now.items i ≡ Some (item_of result) }
-    {
-        let numbers = self.numbers(ty);
-        if !self.is_valid(i) {
-            return None;
-        }
-        Some(number_at(ty, numbers, i))
-    }
-}
-
-/// The `len` bytes from byte `start` on.
-fn part(bytes: &[u8], start: usize, len: usize) -> &[u8]
-    requires { start + len ≤ length bytes.now }
-    ensures { result.now ≡ slice bytes.now start len }
-{
-    &bytes[start..start + len]
 }

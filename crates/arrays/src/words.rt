@@ -2,9 +2,12 @@ ghost use Rattle.std.specs.Prelude.{◌≡◌, None, IfOk, option_map};
 ghost use Rattle.std.specs.Option.{ForSome};
 ghost use Rattle.std.specs.Arc.{arc_value};
 ghost use Rattle.arrays.specs.Kind as kind;
+ghost use Rattle.arrays.specs.Dictionary.{entries_shown, texts_alone};
 ghost use Rattle.arrays.specs.Reading.{fault, reading};
 
+use crate::array::Array;
 use crate::types::RawArray;
+use crate::view::{View, ViewType};
 use colbits::{Buffer, NoMemory};
 use std::alloc::Global;
 use std::marker::Model;
@@ -35,6 +38,30 @@ impl Model for Words {
 }
 
 impl Words {
+    /// All texts.
+    pub fn view(&self) -> View<'_>
+        ensures value { result ≡ self.now }
+        ensures texts { result ≡ texts_alone (entries_shown result) }
+    {
+        View::whole(ViewType::Utf8, &self.buffers, &[], None, self.length)
+    }
+
+    /// An array of texts as a dictionary: its parts move, so that no memory is taken and nothing is copied.
+    pub fn of(array: Array) -> Words
+        requires { array.kind ≡ kind.utf8 }
+        ensures { result ≡ array }
+    {
+        let (length, buffers) = array.into_texts();
+        Words { length, buffers }
+    }
+
+    /// Says that these are texts.
+    pub(crate) fn tell_kind(&self)
+        ensures { self.now.kind ≡ kind.utf8 }
+    {
+        let _ = &self.length;
+    }
+
     /// The texts of a lawful raw array of texts. No part is copied.
     pub(crate) fn from_raw(raw: RawArray) -> Words
         requires lawful { fault raw ≡ None }

@@ -7,15 +7,15 @@ use Rattle.arrays.specs.Seen.{valid_at}
 use Rattle.arrays.proofs.SlotLemmas.{number_slot}
 use Rattle.arrays.proofs.view.View.int_at.Goals as goal
 
-pub returns-then-not-is_valid : goal.returns-then-not-is_valid
-returns-then-not-is_valid c =
+pub returns-else-is_valid : goal.returns-else-is_valid
+returns-else-is_valid c =
     let a = c.args in
     let valid : valid_at a.self.now a.i ≡ false = search rules in
     number_slot a.ty c.numbers-numbers.result.now a.self.now a.i c.numbers-numbers.ensures c.requires.within
     ∙ ap (λ v. Some (cond v (int (number_at a.ty c.numbers-numbers.result.now a.i)) null)) valid
 
-pub returns : goal.returns
-returns c =
+pub returns-then-is_valid : goal.returns-then-is_valid
+returns-then-is_valid c =
     let a = c.args in
     let valid : valid_at a.self.now a.i ≡ true = search rules in
     let fits : FitsSigned w128 c.number_at.result = search rules in

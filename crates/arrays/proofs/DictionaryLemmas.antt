@@ -1,0 +1,158 @@
+-- An array of codes with a dictionary, and a dictionary from an array of texts.
+use Rattle.std.proofs.Common.{◌≡◌, ◌∙◌, ℕ, ◌+◌, List, [], ◌∷◌, map, Bool, true, false, not, ◌||◌, ◌&&◌, int_lt, pos, length, cond, Option, Some, None, ap, sym, refl, subst, arith, zero-add, slice_index_or}
+use Rattle.std.specs.List.{All, range_with_len}
+use Rattle.std.proofs.lemmas.Simd.{map-map}
+use Rattle.std.proofs.lemmas.List.FromFn.{get_or-map-range_with_len}
+use Rattle.arrays.specs.Item.{Item, null, int}
+use Rattle.arrays.specs.Kind as kind
+use Rattle.arrays.specs.Kind.{Kind, int32, kind_of, kind_step, same_kind}
+use Rattle.arrays.specs.declared.types.DataType.{DataType, fold_out-DataType, map-DataType}
+use Rattle.arrays.specs.declared.types.DataType.TheVariants.{Dict, outs-Dict}
+use Rattle.arrays.specs.declared.types.Field.{Field, fold-Field}
+use Rattle.arrays.specs.Layout.{Buffers, column, codes, code_at, is_valid, natural, validity_of}
+use Rattle.arrays.specs.Fault.{first, is_no_code, is_negative, least_row}
+use Rattle.arrays.specs.Dictionary.{encoded, is_code, looked_up}
+use Rattle.arrays.specs.Seen.{Seen}
+use Rattle.arrays.specs.Reading.{Reading, held, read_parts}
+use Rattle.arrays.specs.Checked.{checked}
+use Rattle.arrays.proofs.FirstFaultLemmas.{IsWhole, own_fault-whole}
+use Rattle.arrays.proofs.LawfulLemmas.{texts_of, either_false, none_held, no_dictionary}
+use Rattle.arrays.proofs.ListLemmas.{map-range-below}
+use Rattle.arrays.proofs.RowLemmas.{least_none}
+use Rattle.arrays.proofs.SlotLemmas.{whole}
+use Rattle.arrays.proofs.ViewLemmas.{seen-kind, length-column}
+
+-- ---- texts
+
+-- Texts alone: an array of texts by its length and buffers.
+pub record IsTexts (n : ℕ) (buffers : Buffers) (s : Seen) : Type 0 where
+  pub lawful : (read_parts kind.utf8 n None buffers [] None).fault ≡ None
+  pub shows : (read_parts kind.utf8 n None buffers [] None).seen ≡ s
+
+pub IsTexts-array : (k : Kind) (n : ℕ) (buffers : Buffers) (children : List Reading) (words : Option Reading) (s : Seen)
+    → (read_parts k n None buffers children words).fault ≡ None → (read_parts k n None buffers children words).seen ≡ s → s.kind ≡ kind.utf8 → IsTexts n buffers s
+IsTexts-array k n buffers children words s lawful shows texts =
+    let is : k ≡ kind.utf8 = sym (seen-kind k n None buffers children words) ∙ ap (λ (q : Seen). q.kind) shows ∙ texts in
+    let same = ap (λ q. read_parts q n None buffers children words) is in
+    let alone = texts_of n None buffers children words (sym (ap (λ (q : Reading). q.fault) same) ∙ lawful) in
+    record { lawful = alone.0; shows = alone.1 ∙ sym (ap (λ (q : Reading). q.seen) same) ∙ shows }
+
+-- ---- codes
+
+-- an array of numbers has neither child nor dictionary
+numbers_alone : (n : ℕ) (buffers : Buffers) (children : List Reading) (words : Option Reading)
+    → (read_parts (kind.int int32) n None buffers children words).fault ≡ None → (children ≡ []) × (words ≡ None)
+numbers_alone n buffers children words h =
+    let parts = either_false _ _ (whole (kind.int int32) n None buffers children words h).parts_agree in
+    (none_held children parts.0, no_dictionary words parts.1)
+
+-- a code that is null or within the entries breaks no rule
+code_kept : (valid : Bool) (z : _) (entries : ℕ) → is_code entries (cond valid (int z) null) ≡ true → (valid && (is_negative z || not (int_lt z (pos entries)))) ≡ false
+code_kept false z entries h = refl
+code_kept true z entries h = both_kept (is_negative z) (int_lt z (pos entries)) h where
+  both_kept : (a b : Bool) → (not a && b) ≡ true → (a || not b) ≡ false
+  both_kept true b h = cc
+  both_kept false true h = refl
+  both_kept false false h = cc
+
+codes_kept : (n entries : ℕ) (buffers : Buffers) → All (λ c. is_code entries c ≡ true) (column (kind.int int32) n buffers [] []) → least_row (is_no_code buffers entries) n ≡ None
+unfolding column
+codes_kept n entries buffers all =
+    let code : ℕ → Item = λ j. cond (is_valid buffers j) (int (code_at buffers j)) null in
+    least_none (is_no_code buffers entries) n (λ j below.
+    code_kept (is_valid buffers j) (code_at buffers j) entries
+    (subst (λ c. is_code entries c ≡ true) (get_or-map-range_with_len code 0 n j j null below (zero-add j)) (all j null (omega (arith, below, length-column (kind.int int32) n buffers [] [])))))
+
+-- what the codes name is what the slots show
+named : (n : ℕ) (buffers : Buffers) (entries : List Item) → map (looked_up entries) (column (kind.int int32) n buffers [] []) ≡ column kind.dict n buffers [] entries
+unfolding column
+named n buffers entries =
+    let code : ℕ → Item = λ j. cond (is_valid buffers j) (int (code_at buffers j)) null in
+    map-map (looked_up entries) code (range_with_len 0 n)
+    ∙ map-range-below (λ j. looked_up entries (code j)) (λ j. cond (is_valid buffers j) (slice_index_or entries (natural (code_at buffers j)) null) null) 0 n
+    (λ j below. chosen (is_valid buffers (0 + j)) (code_at buffers (0 + j)))
+  where
+    chosen : (valid : Bool) (z : _) → looked_up entries (cond valid (int z) null) ≡ cond valid (slice_index_or entries (natural z) null) null
+    chosen true z = refl
+    chosen false z = refl
+
+-- ---- the array that they make
+
+dict_whole : (n : ℕ) (buffers : Buffers) (d : Reading) → (read_parts (kind.int int32) n None buffers [] None).fault ≡ None → d.kind ≡ kind.utf8
+    → All (λ c. is_code d.length c ≡ true) (column (kind.int int32) n buffers [] []) → IsWhole kind.dict n None buffers [] (Some (held d))
+dict_whole n buffers d lawful texts all =
+    let w = whole (kind.int int32) n None buffers [] None lawful in
+    record {
+      short = w.short;
+      shallow = refl;
+      none_missing = w.none_missing;
+      none_extra = w.none_extra;
+      parts_agree = ap (λ k. not (same_kind k kind.utf8)) texts;
+      validity_enough = w.validity_enough;
+      data_enough = w.data_enough;
+      none_negative = refl;
+      none_decreases = refl;
+      within_end = refl;
+      count_agrees = refl;
+      all_texts = refl;
+      all_codes = codes_kept n d.length buffers all;
+    }
+
+dict_lawful : (n : ℕ) (buffers : Buffers) (d : Reading) → (read_parts (kind.int int32) n None buffers [] None).fault ≡ None → d.kind ≡ kind.utf8 → d.fault ≡ None
+    → All (λ c. is_code d.length c ≡ true) (column (kind.int int32) n buffers [] []) → (read_parts kind.dict n None buffers [] (Some d)).fault ≡ None
+unfolding read_parts
+dict_lawful n buffers d lawful texts none all =
+    ap (λ o. first (o ∷ None ∷ d.fault ∷ [])) (own_fault-whole kind.dict n None buffers [] (Some (held d)) (dict_whole n buffers d lawful texts all))
+    ∙ ap (λ o. first (None ∷ None ∷ o ∷ [])) none
+
+codes_shown : (n : ℕ) (buffers : Buffers) → (read_parts (kind.int int32) n None buffers [] None).seen.items ≡ column (kind.int int32) n buffers [] []
+unfolding read_parts
+codes_shown n buffers = refl
+
+dict_shows : (n : ℕ) (buffers : Buffers) (d : Reading) → (read_parts kind.dict n None buffers [] (Some d)).seen ≡ encoded (read_parts (kind.int int32) n None buffers [] None).seen d.seen
+unfolding read_parts codes
+dict_shows n buffers d =
+    ap (λ xs. record {
+      kind = kind.dict;
+      validity = validity_of n buffers;
+      items = xs;
+      codes = column (kind.int int32) n buffers [] [];
+      entries = record { validity = d.seen.validity; items = d.seen.items };
+    }) (sym (named n buffers d.seen.items))
+
+-- The parts of an array of codes make a lawful array with a dictionary, which shows what the codes name.
+pub record MakesDict (n : ℕ) (buffers : Buffers) (children : List Reading) (shown words : Seen) : Type 0 where
+  pub lawful : (read_parts kind.dict n None buffers children (Some (checked words))).fault ≡ None
+  pub shows : (read_parts kind.dict n None buffers children (Some (checked words))).seen ≡ encoded shown words
+
+makes_alone : (n : ℕ) (buffers : Buffers) (words : Seen) → (read_parts (kind.int int32) n None buffers [] None).fault ≡ None → words.kind ≡ kind.utf8
+    → All (λ c. is_code (length words.items) c ≡ true) (read_parts (kind.int int32) n None buffers [] None).seen.items
+    → MakesDict n buffers [] (read_parts (kind.int int32) n None buffers [] None).seen words
+makes_alone n buffers words lawful texts all = record {
+  lawful = dict_lawful n buffers (checked words) lawful texts refl (subst (λ (xs : List Item). All (λ c. is_code (length words.items) c ≡ true) xs) (codes_shown n buffers) all);
+  shows = dict_shows n buffers (checked words);
+}
+
+makes_numbers : (n : ℕ) (buffers : Buffers) (children : List Reading) (held_words : Option Reading) (words : Seen) → children ≡ [] → held_words ≡ None
+    → (read_parts (kind.int int32) n None buffers children held_words).fault ≡ None → words.kind ≡ kind.utf8
+    → All (λ c. is_code (length words.items) c ≡ true) (read_parts (kind.int int32) n None buffers children held_words).seen.items
+    → MakesDict n buffers children (read_parts (kind.int int32) n None buffers children held_words).seen words
+makes_numbers n buffers [] None words childless wordless lawful texts all = makes_alone n buffers words lawful texts all
+makes_numbers n buffers [] (Some d) words childless wordless lawful texts all = cc
+makes_numbers n buffers (c ∷ cs) held_words words childless wordless lawful texts all = cc
+
+pub MakesDict-array : (k : Kind) (n : ℕ) (buffers : Buffers) (children : List Reading) (held_words : Option Reading) (shown words : Seen)
+    → (read_parts k n None buffers children held_words).fault ≡ None → (read_parts k n None buffers children held_words).seen ≡ shown
+    → shown.kind ≡ kind.int int32 → words.kind ≡ kind.utf8 → All (λ c. is_code (length words.items) c ≡ true) shown.items
+    → MakesDict n buffers children shown words
+MakesDict-array k n buffers children held_words shown words lawful shows numbers texts all =
+    let is : k ≡ kind.int int32 = sym (seen-kind k n None buffers children held_words) ∙ ap (λ (q : Seen). q.kind) shows ∙ numbers in
+    let same = ap (λ q. read_parts q n None buffers children held_words) is in
+    let lawful_int = sym (ap (λ (q : Reading). q.fault) same) ∙ lawful in
+    let shows_int = sym (ap (λ (q : Reading). q.seen) same) ∙ shows in
+    let alone = numbers_alone n buffers children held_words lawful_int in
+    subst (λ (s : Seen). MakesDict n buffers children s words) shows_int
+    (makes_numbers n buffers children held_words words alone.0 alone.1 lawful_int texts (subst (λ (s : Seen). All (λ c. is_code (length words.items) c ≡ true) s.items) (sym shows_int) all))
+
+pub kind_of-Dict : kind_of Dict ≡ kind.dict
+kind_of-Dict = fold_out-DataType Kind Kind kind_step (λ f. f.ty) Dict ∙ ap (λ o. kind_step (map-DataType DataType Field Kind Kind kind_of (fold-Field Kind Kind kind_step (λ f. f.ty)) o)) outs-Dict

@@ -1,0 +1,98 @@
+-- A list column over a child, made of parts that are known to be lawful.
+use Rattle.std.proofs.Common.{◌≡◌, ◌∙◌, ℕ, suc, ◌<◌, ◌≤◌, List, [], ◌∷◌, map, Bool, true, false, not, cond, length, Option, Some, None, option_map, ap, sym, refl, arith, le-ltb, eq-eqb}
+use Rattle.arrays.specs.declared.types.RawArray.{RawArray}
+use Rattle.std.specs.Arc.{arc_value}
+use Rattle.arrays.specs.Kind as kind
+use Rattle.arrays.specs.Kind.{Kind, bytes_of, depth, kind_of, same_int, same_kind}
+use Rattle.arrays.specs.Seen.{Seen}
+use Rattle.arrays.specs.Checked.{checked}
+use Rattle.arrays.specs.Array.{read_array, show_array}
+use Rattle.arrays.specs.Reading.{Reading, read_parts, reading, held}
+use Rattle.arrays.specs.Fault.{Held, do_parts_differ, first, is_validity_short, own_fault}
+use Rattle.arrays.specs.Offsets.{AreOffsets, start_of}
+use Rattle.arrays.specs.Made.{show_lists}
+use Rattle.arrays.specs.declared.array.Array.TheInside.{Inside}
+use Rattle.arrays.specs.Layout.{Buffers, column}
+use Rattle.arrays.proofs.FirstFaultLemmas.{own_fault-whole}
+use Rattle.arrays.proofs.MadeLemmas.{offsets_pass}
+use Rattle.arrays.proofs.ViewLemmas.{seen-kind}
+use Rattle.arrays.proofs.LawfulLemmas.{either_false, no_dictionary, parts_agree, reading-again}
+
+-- ---- the parts of an array that has no dictionary
+
+none_held : (k : Kind) (children : List Held) (dictionary : Option Reading) → same_kind k kind.dict ≡ false
+    → do_parts_differ k children (option_map held dictionary) ≡ false → dictionary ≡ None
+none_held (kind.int t) children dictionary other h = no_dictionary dictionary (either_false _ _ h).1
+none_held kind.boolean children dictionary other h = no_dictionary dictionary (either_false _ _ h).1
+none_held kind.utf8 children dictionary other h = no_dictionary dictionary (either_false _ _ h).1
+none_held (kind.list k) children dictionary other h = no_dictionary dictionary (either_false _ _ h).1
+none_held kind.dict children dictionary other h = cc
+
+-- the parts of an array are read without its words
+pub read-wordless : (a : Inside) → (read_array a).fault ≡ None → same_kind (show_array a).kind kind.dict ≡ false
+    → read_parts (kind_of a.ty) a.length None a.buffers.items (map reading a.children.items) None ≡ checked (show_array a)
+read-wordless a lawful other =
+    let k = kind_of a.ty in
+    let children = map reading a.children.items in
+    let words = option_map checked (option_map arc_value a.words) in
+    let not_dict : same_kind k kind.dict ≡ false = ap (λ k. same_kind k kind.dict) (sym (seen-kind k a.length None a.buffers.items children words)) ∙ other in
+    let wordless = none_held k (map held children) words not_dict (parts_agree k a.length None a.buffers.items children words lawful) in
+    ap (read_parts k a.length None a.buffers.items children) (sym wordless)
+    ∙ sym (reading-again k a.length None a.buffers.items children words lawful)
+
+-- ---- lists
+
+sign_same : (b : Bool) → cond b b (not b) ≡ true
+sign_same true = refl
+sign_same false = refl
+
+same_kind-refl : (k : Kind) → same_kind k k ≡ true
+same_kind-refl (kind.int t) = rw (eq-eqb (bytes_of t.bits) (bytes_of t.bits) refl) (sign_same t.signed)
+same_kind-refl kind.boolean = refl
+same_kind-refl kind.utf8 = refl
+same_kind-refl (kind.list k) = same_kind-refl k
+same_kind-refl kind.dict = refl
+
+-- a child and the list's parts, as they were handed in
+pub read_over : (k l : Kind) (m n : ℕ) (buffers parts : Buffers) (children : List RawArray) (raw : RawArray) (child : Seen)
+    → k ≡ l → m ≡ n → buffers ≡ parts → children ≡ raw ∷ [] → reading raw ≡ checked child
+    → read_parts k m None buffers (map reading children) None ≡ read_parts l n None parts (checked child ∷ []) None
+read_over k l m n buffers parts children raw child kind_is len_is buffers_are one is =
+    ap (λ k. read_parts k m None buffers (map reading children) None) kind_is
+    ∙ ap (λ m. read_parts l m None buffers (map reading children) None) len_is
+    ∙ ap (λ b. read_parts l n None b (map reading children) None) buffers_are
+    ∙ ap (λ rs. read_parts l n None parts (map reading rs) None) one
+    ∙ ap (λ r. read_parts l n None parts (r ∷ []) None) is
+
+own_fault-list : (n : ℕ) (validity : Option (List ℕ)) (offsets : List ℕ) (child : Seen) → n ≤ 2147483647 → is_validity_short n validity ≡ false
+    → AreOffsets n offsets (length child.items) → same_kind child.kind kind.dict ≡ false → depth child.kind < 8
+    → own_fault (kind.list child.kind) n None (validity ∷ Some offsets ∷ []) (held (checked child) ∷ []) None ≡ None
+own_fault-list n validity offsets child short valid are other shallow =
+    let pass = offsets_pass n offsets (length child.items) are in
+    own_fault-whole (kind.list child.kind) n None (validity ∷ Some offsets ∷ []) (held (checked child) ∷ []) None record {
+      short = le-ltb 2147483647 n short;
+      shallow = le-ltb 8 (suc (depth child.kind)) (omega arith);
+      none_missing = refl;
+      none_extra = refl;
+      parts_agree = rw (same_kind-refl child.kind) (rw other refl);
+      validity_enough = valid;
+      data_enough = pass.enough;
+      none_negative = pass.none_negative;
+      none_decreases = pass.none_decreases;
+      within_end = le-ltb (length child.items) (start_of offsets n) are.last;
+      count_agrees = refl;
+      all_texts = refl;
+      all_codes = refl;
+    }
+
+pub read_lists : (n : ℕ) (validity : Option (List ℕ)) (offsets : List ℕ) (child : Seen) → n ≤ 2147483647 → is_validity_short n validity ≡ false
+    → AreOffsets n offsets (length child.items) → same_kind child.kind kind.dict ≡ false → depth child.kind < 8
+    → (read_parts (kind.list child.kind) n None (validity ∷ Some offsets ∷ []) (checked child ∷ []) None).fault ≡ None
+unfolding read_parts
+read_lists n validity offsets child short valid are other shallow =
+    ap (λ f. first (f ∷ None ∷ None ∷ [])) (own_fault-list n validity offsets child short valid are other shallow)
+
+pub show_read_lists : (n : ℕ) (validity : Option (List ℕ)) (offsets : List ℕ) (child : Seen)
+    → (read_parts (kind.list child.kind) n None (validity ∷ Some offsets ∷ []) (checked child ∷ []) None).seen ≡ show_lists n validity offsets child
+unfolding read_parts column
+show_read_lists n validity offsets child = refl

@@ -1,0 +1,288 @@
+-- The values of a view, as they lie in its buffers.
+use Rattle.std.proofs.Common.{◌≡◌, ◌∙◌, ℕ, ◌+◌, ◌*◌, ◌<◌, ◌≤◌, ◌&&◌, ◌||◌, List, [], ◌∷◌, map, slice_index_or, slice_get, get_or, Bool, true, false, not, length, cond, Some, None, Option, option_map, IsUtf8, ap, sym, refl, subst, arith, zero-add, ltb-false}
+use Rattle.std.specs.List.{range_with_len}
+use Rattle.std.specs.Arc.{arc_value}
+use Rattle.std.specs.Str.{is_utf8}
+use Rattle.std.proofs.lemmas.Str.{IsUtf8-from_is_utf8}
+use Rattle.std.proofs.lemmas.List.FromFn.{get_or-map-range_with_len}
+use Rattle.std.proofs.lemmas.Option.{slice_get-get_or, get_or_from_slice_get}
+use Rattle.colbits.specs.Bit.{bits}
+use Rattle.colbits.specs.Slice.{slice}
+use Rattle.colbits.proofs.BitLemmas.{get_or-bits, length-bits}
+use Rattle.arrays.specs.declared.types.RawArray.{RawArray, out-RawArray}
+use Rattle.arrays.specs.Item.{Item, null, is_null, boolean, text, list, list_of}
+use Rattle.arrays.specs.Kind as kind
+use Rattle.arrays.specs.Kind.{Kind, kind_of, same_kind}
+use Rattle.arrays.specs.Layout.{Buffers, bytes_at, held_at, is_valid, column, value_at, start_at, length_at}
+use Rattle.arrays.specs.declared.fault.LayoutFault.{LayoutFault}
+use Rattle.arrays.specs.Fault.{first, own_fault, bytes_for, child_length, is_no_child, bad_text_row, is_no_text}
+use Rattle.arrays.specs.Held.{HasOffsets}
+use Rattle.arrays.specs.Seen.{Seen, part, valid_in, valid_at}
+use Rattle.arrays.specs.Reading.{Reading, read_parts, reading, held, fault, child_fault, dictionary_fault, child_items, entries_of}
+use Rattle.arrays.specs.Checked.{checked}
+use Rattle.arrays.specs.Offsets.{AreOffsets, offsets_from, start_of, length_of}
+use Rattle.arrays.specs.Values.{HasBits, HasTexts, HasLists, valid_values}
+use Rattle.arrays.specs.Slot.{is_list, holds_at}
+use Rattle.arrays.specs.View.{read_view, show_view}
+use Rattle.arrays.specs.ViewType.{view_kind}
+use Rattle.arrays.specs.declared.view.View.TheInside.{Inside}
+use Rattle.arrays.proofs.FirstFaultLemmas.{IsWhole, reading-raw}
+use Rattle.arrays.proofs.ChildLemmas.{only_child}
+use Rattle.arrays.proofs.ListLemmas.{map-range-below}
+use Rattle.arrays.proofs.OffsetLemmas.{fails-least_none}
+use Rattle.arrays.proofs.OffsetParts.{rising-texts, rising-lists, has_offsets_part, start_part, length_part, AreOffsets-part}
+use Rattle.arrays.proofs.SlotLemmas.{seen-validity, slice-column, validity-part, valid-part, valid-view, whole}
+use Rattle.arrays.proofs.ViewLemmas.{length-items, length-slice, length-show_view, kind-show_view, seen-kind}
+
+-- ---- the items of part of an array, by the value of each slot
+
+pub seen-items : (k : Kind) (n : ℕ) (stated : Option ℕ) (buffers : Buffers) (children : List Reading) (dictionary : Option Reading)
+    → (read_parts k n stated buffers children dictionary).seen.items ≡ column k n buffers (child_items children) (entries_of dictionary).items
+unfolding read_parts column
+seen-items (kind.int t) n stated buffers children dictionary = refl
+seen-items kind.boolean n stated buffers children dictionary = refl
+seen-items kind.utf8 n stated buffers children dictionary = refl
+seen-items (kind.list k) n stated buffers children dictionary = refl
+seen-items kind.dict n stated buffers children dictionary = refl
+
+pub items-part : (k : Kind) (n : ℕ) (buffers : Buffers) (children : List Reading) (dictionary : Option Reading) (start len : ℕ) (value : ℕ → Item) → start + len ≤ n
+    → ((j : ℕ) → j < len → value_at k buffers (child_items children) (entries_of dictionary).items (start + j) ≡ value j)
+    → (part start len (read_parts k n None buffers children dictionary).seen).items ≡ valid_values value (part start len (read_parts k n None buffers children dictionary).seen)
+items-part k n buffers children dictionary start len value within is =
+    let s = part start len (read_parts k n None buffers children dictionary).seen in
+    let child = child_items children in
+    let entries = (entries_of dictionary).items in
+    let slots : length s.items ≡ len = length-slice _ start len (omega (arith, within, length-items k n None buffers children dictionary)) in
+    let valid : (j : ℕ) → j < len → valid_at s j ≡ is_valid buffers (start + j) =
+    λ j h.
+    ap (λ v. valid_in (option_map (λ b. slice b start len) v) j) (seen-validity k n None buffers children dictionary)
+    ∙ ap (λ v. valid_in v j) (validity-part start len n (held_at buffers 0) within)
+    ∙ valid-part start len j (held_at buffers 0) h in
+    let slot : ℕ → Item = λ j. cond (is_valid buffers (start + j)) (value_at k buffers child entries (start + j)) null in
+    let shown : ℕ → Item = λ j. cond (valid_at s j) (value j) null in
+    let same : (j : ℕ) → j < len → slot (0 + j) ≡ shown (0 + j) =
+    λ j h.
+    ap slot (zero-add j)
+    ∙ ap (λ v. cond v (value_at k buffers child entries (start + j)) null) (sym (valid j h))
+    ∙ ap (λ x. cond (valid_at s j) x null) (is j h)
+    ∙ ap shown (sym (zero-add j)) in
+    ap (λ xs. slice xs start len) (seen-items k n None buffers children dictionary)
+    ∙ slice-column k n buffers child entries start len within
+    ∙ map-range-below slot shown 0 len same
+    ∙ ap (λ m. map shown (range_with_len 0 m)) (sym slots)
+
+pub items-view : (v : Inside) (value : ℕ → Item) → v.start + v.len ≤ v.total
+    → ((j : ℕ) → j < v.len → value_at (view_kind v.ty) v.buffers.now (child_items (map reading v.children.now)) (entries_of (option_map checked (option_map (λ w. arc_value w.now) v.words))).items (v.start + j) ≡ value j)
+    → (show_view v).items ≡ valid_values value (show_view v)
+items-view v value within is =
+    items-part (view_kind v.ty) v.total v.buffers.now (map reading v.children.now) (option_map checked (option_map (λ w. arc_value w.now) v.words)) v.start v.len value within is
+
+-- the values of a view of one kind
+value_is : (v : Inside) (k : Kind) → view_kind v.ty ≡ k → (j : ℕ)
+    → value_at (view_kind v.ty) v.buffers.now (child_items (map reading v.children.now)) (entries_of (option_map checked (option_map (λ w. arc_value w.now) v.words))).items (v.start + j)
+    ≡ value_at k v.buffers.now (child_items (map reading v.children.now)) (entries_of (option_map checked (option_map (λ w. arc_value w.now) v.words))).items (v.start + j)
+value_is v k is j =
+    ap (λ q. value_at q v.buffers.now (child_items (map reading v.children.now)) (entries_of (option_map checked (option_map (λ w. arc_value w.now) v.words))).items (v.start + j)) is
+
+-- a view is of an array where each test has passed
+whole_view : (v : Inside) (k : Kind) → view_kind v.ty ≡ k → (read_view v).fault ≡ None
+    → IsWhole k v.total None v.buffers.now (map held (map reading v.children.now)) (option_map held (option_map checked (option_map (λ w. arc_value w.now) v.words)))
+whole_view v k is lawful =
+    subst (λ q. IsWhole q v.total None v.buffers.now (map held (map reading v.children.now)) (option_map held (option_map checked (option_map (λ w. arc_value w.now) v.words)))) is
+    (whole (view_kind v.ty) v.total None v.buffers.now (map reading v.children.now) (option_map checked (option_map (λ w. arc_value w.now) v.words)) lawful)
+
+either_false : (a b : Bool) → (a || b) ≡ false → (a ≡ false) × (b ≡ false)
+either_false true b h = cc
+either_false false b h = (refl, h)
+
+second_of_three : (a b c : Option LayoutFault) → first (a ∷ b ∷ c ∷ []) ≡ None → b ≡ None
+second_of_three None None c h = refl
+second_of_three None (Some fault) c h = cc
+second_of_three (Some fault) b c h = cc
+
+children_lawful : (k : Kind) (n : ℕ) (buffers : Buffers) (children : List Reading) (dictionary : Option Reading)
+    → (read_parts k n None buffers children dictionary).fault ≡ None → child_fault children ≡ None
+unfolding read_parts
+children_lawful k n buffers children dictionary h =
+    second_of_three (own_fault k n None buffers (map held children) (option_map held dictionary)) (child_fault children) (dictionary_fault dictionary) h
+
+-- ---- bits
+
+-- the kind of a view, by what it shows
+pub kind_shown : (v : Inside) (s : Seen) → show_view v ≡ s → view_kind v.ty ≡ s.kind
+kind_shown v s shows = sym (kind-show_view v) ∙ ap (λ (q : Seen). q.kind) shows
+
+-- the bits of a view of truth values, and that they are there
+pub record ViewBits (v : Inside) (s : Seen) : Type 0 where
+  pub enough : v.start + v.len ≤ 8 * length (bytes_at v.buffers.now 1)
+  pub bits : HasBits (bits (bytes_at v.buffers.now 1) v.start v.len) s
+
+pub bits_of_view : (v : Inside) (s : Seen) → show_view v ≡ s → s.kind ≡ kind.boolean → (read_view v).fault ≡ None → v.start + v.len ≤ v.total → ViewBits v s
+bits_of_view v s shows kind_is lawful within =
+    let bytes = bytes_at v.buffers.now 1 in
+    let is = kind_shown v s shows ∙ kind_is in
+    let long = ltb-false (length bytes) (bytes_for v.total) (whole_view v kind.boolean is lawful).data_enough in
+    record {
+      enough = omega (arith, long, within);
+      bits = subst (HasBits (bits bytes v.start v.len)) shows (record {
+        size = length-bits bytes v.start v.len ∙ sym (length-show_view v within);
+        values = items-view v _ within (λ j h. value_is v kind.boolean is j ∙ ap boolean (sym (get_or-bits bytes v.start v.len j false h)));
+      });
+    }
+
+-- ---- texts
+
+is_utf8_at : (n : ℕ) (buffers : Buffers) → bad_text_row kind.utf8 n buffers ≡ None → (j : ℕ) → j < n → is_valid buffers j ≡ true
+    → IsUtf8 (slice (bytes_at buffers 2) (start_at buffers j) (length_at buffers j))
+is_utf8_at n buffers none j below valid =
+    let bytes = slice (bytes_at buffers 2) (start_at buffers j) (length_at buffers j) in
+    let fine : (true && not (is_utf8 bytes)) ≡ false = ap (λ b. b && not (is_utf8 bytes)) (sym valid) ∙ fails-least_none (is_no_text buffers) n none j below in
+    IsUtf8-from_is_utf8 bytes (not_false (is_utf8 bytes) fine)
+  where
+    not_false : (b : Bool) → not b ≡ false → b ≡ true
+    not_false true h = refl
+    not_false false h = cc
+
+-- the texts of a view
+pub record ViewTexts (v : Inside) (s : Seen) : Type 0 where
+  pub enough : HasOffsets (v.start + v.len) (bytes_at v.buffers.now 1)
+  pub texts : HasTexts (offsets_from (bytes_at v.buffers.now 1) v.start v.len) (bytes_at v.buffers.now 2) s
+
+pub texts_of_view : (v : Inside) (s : Seen) → show_view v ≡ s → s.kind ≡ kind.utf8 → (read_view v).fault ≡ None → v.start + v.len ≤ v.total → ViewTexts v s
+texts_of_view v s shows kind_is lawful within =
+    let buffers = v.buffers.now in
+    let bytes = bytes_at buffers 2 in
+    let offsets = offsets_from (bytes_at buffers 1) v.start v.len in
+    let is = kind_shown v s shows ∙ kind_is in
+    let w = whole_view v kind.utf8 is lawful in
+    let rises = rising-texts v.total None buffers _ _ w in
+    let slots = length-show_view v within in
+    let same : (j : ℕ) → j < v.len → slice (bytes_at buffers 2) (start_at buffers (v.start + j)) (length_at buffers (v.start + j)) ≡ slice bytes (start_of offsets j) (length_of offsets j) =
+    λ j h.
+    ap (λ a. slice bytes a (length_at buffers (v.start + j))) (sym (start_part v.total (bytes_at buffers 1) rises.enough v.start v.len within j (omega (arith, h))))
+    ∙ ap (slice bytes (start_of offsets j)) (sym (length_part v.total (bytes_at buffers 1) rises.enough v.start v.len within j h)) in
+    record {
+      enough = has_offsets_part v.total (v.start + v.len) (bytes_at buffers 1) rises.enough within;
+      texts = subst (HasTexts offsets bytes) shows (record {
+        bounds = subst (λ n. AreOffsets n offsets (length bytes)) (sym slots) (AreOffsets-part v.total (bytes_at buffers 1) (length bytes) rises v.start v.len within);
+        texts = items-view v _ within (λ j h. value_is v kind.utf8 is j ∙ ap text (same j h));
+        utf8 =
+            λ j h valid.
+            let below : j < v.len = omega (arith, h, slots) in
+            subst IsUtf8 (same j below) (is_utf8_at v.total buffers w.all_texts (v.start + j) (omega (arith, below, within)) (sym (valid-view v j within below) ∙ valid));
+      });
+    }
+
+-- ---- lists
+
+list_kind : (k : Kind) → is_list k ≡ true → (j : Kind) × (k ≡ kind.list j)
+list_kind (kind.int t) h = cc
+list_kind kind.boolean h = cc
+list_kind kind.utf8 h = cc
+list_kind (kind.list k) h = (k, refl)
+list_kind kind.dict h = cc
+
+some_child : (k : Kind) (children : List RawArray) → is_no_child k (map held (map reading children)) ≡ false → 0 < length children
+some_child k [] h = cc
+some_child k (c ∷ cs) h = omega arith
+
+-- a view of lists has offsets and a child
+pub record ViewChild (v : Inside) : Type 0 where
+  pub enough : HasOffsets (v.start + v.len) (bytes_at v.buffers.now 1)
+  pub there : 0 < length v.children.now
+
+pub child_of_view : (v : Inside) (s : Seen) → show_view v ≡ s → is_list s.kind ≡ true → (read_view v).fault ≡ None → v.start + v.len ≤ v.total → ViewChild v
+child_of_view v s shows listed lawful within =
+    let of = list_kind s.kind listed in
+    let w = whole_view v (kind.list of.0) (kind_shown v s shows ∙ of.1) lawful in
+    record {
+      enough = has_offsets_part v.total (v.start + v.len) (bytes_at v.buffers.now 1) w.data_enough within;
+      there = some_child of.0 v.children.now (either_false _ _ w.parts_agree).0;
+    }
+
+-- the lists of a view, and its child
+pub record ViewLists (v : Inside) (s : Seen) (raw : RawArray) : Type 0 where
+  pub lawful : fault raw ≡ None
+  pub plain : same_kind (kind_of (out-RawArray raw).ty) kind.dict ≡ false
+  pub lists : HasLists (offsets_from (bytes_at v.buffers.now 1) v.start v.len) (reading raw).seen s
+
+seen-reading : (raw : RawArray) → ((reading raw).seen.kind ≡ (reading raw).kind) × (length (reading raw).seen.items ≡ (reading raw).length)
+unfolding read_parts
+seen-reading raw =
+    let r = out-RawArray raw in
+    let children = map reading r.children.items in
+    let dictionary = option_map (λ b. reading b.value) r.dictionary in
+    let is = reading-raw raw in (
+      ap (λ (q : Reading). q.seen.kind) is ∙ seen-kind (kind_of r.ty) r.length r.null_count r.buffers.items children dictionary ∙ sym (ap (λ (q : Reading). q.kind) is),
+      ap (λ (q : Reading). length q.seen.items) is ∙ length-items (kind_of r.ty) r.length r.null_count r.buffers.items children dictionary ∙ sym (ap (λ (q : Reading). q.length) is),
+    )
+
+pub lists_of_view : (v : Inside) (s : Seen) (d : RawArray) → show_view v ≡ s → is_list s.kind ≡ true → (read_view v).fault ≡ None → v.start + v.len ≤ v.total → ViewLists v s (slice_index_or v.children.now 0 d)
+lists_of_view v s d shows listed lawful within =
+    let buffers = v.buffers.now in
+    let offsets = offsets_from (bytes_at buffers 1) v.start v.len in
+    let of = list_kind s.kind listed in
+    let is = kind_shown v s shows ∙ of.1 in
+    let w = whole_view v (kind.list of.0) is lawful in
+    let raw = slice_index_or v.children.now 0 d in
+    let child = only_child of.0 v.children.now d (either_false _ _ w.parts_agree).0 (children_lawful (view_kind v.ty) v.total buffers (map reading v.children.now) (option_map checked (option_map (λ w. arc_value w.now) v.words)) lawful) in
+    let seen = seen-reading raw in
+    let most : child_length (map held (map reading v.children.now)) ≡ length (reading raw).seen.items =
+    ap (λ (cs : List RawArray). child_length (map held (map reading cs))) child.is ∙ sym seen.1 in
+    let items : child_items (map reading v.children.now) ≡ (reading raw).seen.items = ap (λ (cs : List RawArray). child_items (map reading cs)) child.is in
+    let rises = rising-lists of.0 v.total None buffers _ _ w in
+    let slots = length-show_view v within in
+    let same : (j : ℕ) → j < v.len → slice (child_items (map reading v.children.now)) (start_at buffers (v.start + j)) (length_at buffers (v.start + j)) ≡ slice (reading raw).seen.items (start_of offsets j) (length_of offsets j) =
+    λ j h.
+    ap (λ xs. slice xs (start_at buffers (v.start + j)) (length_at buffers (v.start + j))) items
+    ∙ ap (λ a. slice (reading raw).seen.items a (length_at buffers (v.start + j))) (sym (start_part v.total (bytes_at buffers 1) rises.enough v.start v.len within j (omega (arith, h))))
+    ∙ ap (slice (reading raw).seen.items (start_of offsets j)) (sym (length_part v.total (bytes_at buffers 1) rises.enough v.start v.len within j h)) in
+    let bounds = AreOffsets-part v.total (bytes_at buffers 1) (child_length (map held (map reading v.children.now))) rises v.start v.len within in
+    record {
+      lawful = child.lawful;
+      plain = child.plain;
+      lists = record {
+        kind = of.1 ∙ ap kind.list (sym child.kind_is ∙ sym seen.0);
+        bounds = subst (λ n. AreOffsets n offsets (length (reading raw).seen.items)) (sym slots ∙ ap (λ (q : Seen). length q.items) shows) (subst (AreOffsets v.len offsets) most bounds);
+        lists = subst (λ (q : Seen). q.items ≡ valid_values (λ j. list (list_of (slice (reading raw).seen.items (start_of offsets j) (length_of offsets j)))) q) shows (items-view v _ within (λ j h. value_is v (kind.list of.0) is j ∙ ap (λ xs. list (list_of xs)) (same j h)));
+      };
+    }
+
+-- ---- the item of one slot
+
+pub item_slot : (value : ℕ → Item) (s : Seen) (i : ℕ) → s.items ≡ valid_values value s → i < length s.items → slice_get s.items i ≡ Some (cond (valid_at s i) (value i) null)
+item_slot value s i is within =
+    let shown : ℕ → Item = λ k. cond (valid_at s k) (value k) null in
+    slice_get-get_or s.items i null within
+    ∙ ap (λ xs. Some (get_or xs i null)) is
+    ∙ ap (λ x. Some x) (get_or-map-range_with_len shown 0 (length s.items) i i null within (zero-add i))
+
+pub null_slot : (value : ℕ → Item) (s : Seen) (i : ℕ) → s.items ≡ valid_values value s → i < length s.items → valid_at s i ≡ false → slice_get s.items i ≡ Some null
+null_slot value s i is within h = item_slot value s i is within ∙ ap (λ v. Some (cond v (value i) null)) h
+
+pub valid_slot : (value : ℕ → Item) (s : Seen) (i : ℕ) → s.items ≡ valid_values value s → i < length s.items → valid_at s i ≡ true → slice_get s.items i ≡ Some (value i)
+valid_slot value s i is within h = item_slot value s i is within ∙ ap (λ v. Some (cond v (value i) null)) h
+
+-- ---- slots of an array that isn't dictionary-encoded
+
+no_null : (k : Kind) (buffers : Buffers) (child entries : List Item) (j : ℕ) → same_kind k kind.dict ≡ false → is_null (value_at k buffers child entries j) ≡ false
+no_null (kind.int t) buffers child entries j h = refl
+no_null kind.boolean buffers child entries j h = refl
+no_null kind.utf8 buffers child entries j h = refl
+no_null (kind.list k) buffers child entries j h = refl
+no_null kind.dict buffers child entries j h = cc
+
+held_where_valid : (b : Bool) (x : Item) → is_null x ≡ false → not (is_null (cond b x null)) ≡ b
+held_where_valid true x h = ap not h
+held_where_valid false x h = refl
+
+-- its items are null exactly where its slots aren't valid
+pub holds_plain : (v : Inside) (s : Seen) (i : ℕ) → show_view v ≡ s → same_kind s.kind kind.dict ≡ false → v.start + v.len ≤ v.total → i < length s.items → holds_at s i ≡ valid_at s i
+holds_plain v s i shows plain within below =
+    let child = child_items (map reading v.children.now) in
+    let entries = (entries_of (option_map checked (option_map (λ w. arc_value w.now) v.words))).items in
+    let value : ℕ → Item = λ j. value_at (view_kind v.ty) v.buffers.now child entries (v.start + j) in
+    let is : s.items ≡ valid_values value s = subst (λ (q : Seen). q.items ≡ valid_values value q) shows (items-view v value within (λ j h. refl)) in
+    let plain_view = subst (λ k. same_kind k kind.dict ≡ false) (sym (kind_shown v s shows)) plain in
+    ap (λ x. not (is_null x)) (get_or_from_slice_get s.items i (cond (valid_at s i) (value i) null) null (item_slot value s i is below))
+    ∙ held_where_valid (valid_at s i) (value i) (no_null (view_kind v.ty) v.buffers.now child entries (v.start + i) plain_view)

@@ -1,0 +1,16 @@
+use Rattle.std.proofs.Common.{◌∙◌, ap}
+use Rattle.arrays.specs.Kind as kind
+use Rattle.arrays.specs.Reading.{Reading}
+use Rattle.arrays.proofs.ShapeLemmas.{kind_of-Bool}
+use Rattle.arrays.proofs.MadeLemmas.{read_bits, read_same, show_read_bits}
+use Rattle.arrays.proofs.array.Array.from_bits.Goals as goal
+
+pub invariant_of-result : goal.invariant_of-result
+invariant_of-result c =
+    let same = read_same _ kind.boolean _ c.args.len _ _ _ kind_of-Bool c.from.ensures c.in_ok-vec.ensures.items c.new.ensures.items in
+    ap (λ (r : Reading). r.fault) same ∙ read_bits c.args.len c.args.validity c.args.bits c.requires.short c.requires.bits c.requires.validity
+
+pub returns : goal.returns
+returns c =
+    let same = read_same _ kind.boolean _ c.args.len _ _ _ kind_of-Bool c.from.ensures c.in_ok-vec.ensures.items c.new.ensures.items in
+    ap (λ (r : Reading). r.seen) same ∙ show_read_bits c.args.len c.args.validity c.args.bits

@@ -1,0 +1,17 @@
+use Rattle.std.proofs.Common.{◌∙◌, ap}
+use Rattle.arrays.specs.Kind as kind
+use Rattle.arrays.specs.Reading.{Reading}
+use Rattle.arrays.proofs.ShapeLemmas.{kind_of-Utf8}
+use Rattle.arrays.proofs.MadeLemmas.{read_same, read_texts, show_read_texts}
+use Rattle.arrays.proofs.array.Array.from_texts.Goals as goal
+
+pub invariant_of-result : goal.invariant_of-result
+invariant_of-result c =
+    let same = read_same _ kind.utf8 _ c.args.len _ _ _ kind_of-Utf8 c.from.ensures c.in_ok-vec.ensures.items c.new.ensures.items in
+    ap (λ (r : Reading). r.fault) same
+    ∙ read_texts c.args.len c.args.validity c.args.offsets c.args.bytes c.requires.short c.requires.validity c.requires.offsets c.requires.texts
+
+pub returns : goal.returns
+returns c =
+    let same = read_same _ kind.utf8 _ c.args.len _ _ _ kind_of-Utf8 c.from.ensures c.in_ok-vec.ensures.items c.new.ensures.items in
+    ap (λ (r : Reading). r.seen) same ∙ show_read_texts c.args.len c.args.validity c.args.offsets c.args.bytes

@@ -1,0 +1,13 @@
+use Rattle.std.proofs.Common.{[], None, ◌∙◌, ap, sym}
+use Rattle.arrays.specs.Kind.{utf8}
+use Rattle.arrays.specs.Reading.{read_parts}
+use Rattle.arrays.specs.Seen.{Seen}
+use Rattle.arrays.specs.Dictionary.{entries_shown, texts_alone}
+use Rattle.arrays.proofs.DictionaryViews.{texts_seen}
+use Rattle.arrays.proofs.words.Words.view.Goals as goal
+
+pub returns-clause-texts : goal.returns-clause-texts
+returns-clause-texts c =
+    let w = c.self.inside in
+    let is = c.whole.ensures ∙ ap (λ b. (read_parts utf8 w.length None b [] None).seen) c.deref.ensures.value in
+    is ∙ texts_seen w.length w.buffers.items ∙ ap (λ (s : Seen). texts_alone (entries_shown s)) (sym is)

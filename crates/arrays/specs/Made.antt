@@ -1,0 +1,43 @@
+-- What parts show that are known to be lawful, slot by slot (Arrow columnar format, "Physical memory layout").
+use Rattle.std.specs.Prelude.{◌≡◌, ℕ, ◌<◌, List, [], map, true, Option, option_map, if◌then◌else◌}
+use Rattle.std.specs.List.{range_with_len}
+use Rattle.std.specs.Str.{IsUtf8}
+use Rattle.colbits.specs.Bit.{bit, bits}
+use Rattle.arrays.specs.declared.types.IntType.{IntType}
+use Rattle.arrays.specs.Item.{Item, null, int, boolean, text, list, list_of}
+use Rattle.arrays.specs.Kind as kind
+use Rattle.arrays.specs.Kind.{Kind}
+use Rattle.arrays.specs.Layout.{is_valid_in, number_at}
+use Rattle.arrays.specs.Offsets.{of_slot}
+use Rattle.arrays.specs.Seen.{Seen, no_entries}
+
+-- A column of n slots: slot j holds value j where its bit of the validity is 1 or there is no validity, else null.
+abbrev pub show_slots : Kind → ℕ → Option (List ℕ) → (ℕ → Item) → Seen
+show_slots k n validity value = record {
+  kind = k;
+  validity = option_map (λ bytes. bits bytes 0 n) validity;
+  items = map (λ j. if is_valid_in validity j then value j else null) (range_with_len 0 n);
+  codes = [];
+  entries = no_entries;
+}
+
+-- Little-endian numbers. ("Fixed-size primitive layout")
+abbrev pub show_numbers : IntType → ℕ → Option (List ℕ) → List ℕ → Seen
+show_numbers t n validity values = show_slots (kind.int t) n validity (λ j. int (number_at t values j))
+
+-- Truth values, a bit each. ("Fixed-size primitive layout")
+abbrev pub show_bits : ℕ → Option (List ℕ) → List ℕ → Seen
+show_bits n validity packed = show_slots kind.boolean n validity (λ j. boolean (bit packed j))
+
+-- The bytes of each valid slot are a text. What lies under a null is any bytes.
+pub record AreTexts (n : ℕ) (validity : Option (List ℕ)) (offsets bytes : List ℕ) : Type 0 where
+  pub each : (j : ℕ) → j < n → is_valid_in validity j ≡ true → IsUtf8 (of_slot offsets bytes j)
+
+-- Texts. ("Variable-size binary layout")
+abbrev pub show_texts : ℕ → Option (List ℕ) → List ℕ → List ℕ → Seen
+show_texts n validity offsets bytes = show_slots kind.utf8 n validity (λ j. text (of_slot offsets bytes j))
+
+-- Lists over the items of a child, each from one offset up to the next. ("Variable-size list layout")
+abbrev pub show_lists : ℕ → Option (List ℕ) → List ℕ → Seen → Seen
+show_lists n validity offsets child =
+    show_slots (kind.list child.kind) n validity (λ j. list (list_of (of_slot offsets child.items j)))

@@ -1,0 +1,35 @@
+-- What a slot holds, as an item: null for none.
+use Rattle.std.specs.Prelude.{ℕ, List, Bool, true, false, not, Option, Some, None, slice_index_or}
+use Rattle.arrays.specs.Kind.{Kind, utf8, list, dict}
+use Rattle.arrays.specs.Item as item
+use Rattle.arrays.specs.Item.{Item, null, is_null, list_of}
+use Rattle.arrays.specs.Seen.{Seen}
+
+abbrev pub item_of_bool : Option Bool → Item
+item_of_bool None = null
+item_of_bool (Some b) = item.boolean b
+
+-- A text by its bytes.
+abbrev pub item_of_text : Option (List ℕ) → Item
+item_of_text None = null
+item_of_text (Some bytes) = item.text bytes
+
+-- A list by the column of its items.
+abbrev pub item_of_list : Option Seen → Item
+item_of_list None = null
+item_of_list (Some s) = item.list (list_of s.items)
+
+-- Whether slot i holds an item: of a dictionary-encoded column, its code may be valid and name an entry that is null.
+abbrev pub holds_at : Seen → ℕ → Bool
+holds_at s i = not (is_null (slice_index_or s.items i null))
+
+-- Whether the items are texts.
+abbrev pub is_text : Kind → Bool
+is_text utf8 = true
+is_text dict = true
+is_text k = false
+
+-- Whether the items are lists.
+abbrev pub is_list : Kind → Bool
+is_list (list k) = true
+is_list k = false

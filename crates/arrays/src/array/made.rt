@@ -1,0 +1,138 @@
+ghost use Rattle.std.specs.Prelude.{◌≡◌, ◌*◌, ◌<◌, ◌≤◌, length, false, Some, IfOk};
+ghost use Rattle.arrays.specs.Kind.{bytes_of, depth, dict, kind_of, same_kind};
+ghost use Rattle.arrays.specs.Fault.{is_validity_short};
+ghost use Rattle.arrays.specs.Made.{AreTexts, show_bits, show_lists, show_numbers, show_texts};
+ghost use Rattle.arrays.specs.Offsets.{AreOffsets};
+ghost use Rattle.arrays.specs.Reading.{reading};
+ghost use Rattle.arrays.specs.Checked.{checked};
+
+#[cfg(test)]
+mod tests;
+
+use super::Array;
+use crate::types::{DataType, Field, IntType, RawArray};
+use colbits::{Buffer, NoMemory};
+use std::alloc::Global;
+
+// Arrays of parts that are known to be lawful: nothing is checked.
+impl Array {
+    /// An array of integers: `len` little-endian numbers, valid where their bit is 1, all of them where
+    /// there are no bits. It fails for want of memory alone, and the parts are gone then.
+    pub fn from_numbers(
+        alloc: Global,
+        ty: IntType,
+        len: u32,
+        validity: Option<Buffer>,
+        values: Buffer,
+    ) -> Result<Array, NoMemory>
+        requires short { len ≤ 2147483647 }
+        requires numbers { len * bytes_of ty.bits ≤ length values }
+        requires bits { is_validity_short len validity ≡ false }
+        ensures { IfOk result (λ a. a ≡ show_numbers ty len validity values) }
+    {
+        Ok(Array {
+            ty: DataType::Int(ty),
+            length: u64::from(len),
+            buffers: vec![in alloc; validity, Some(values)]?,
+            children: Vec::new(alloc),
+            words: None,
+        })
+    }
+
+    /// An array of truth values: `len` bits, valid where their bit of the validity is 1, all of them where
+    /// there is no validity. It fails for want of memory alone, and the parts are gone then.
+    pub fn from_bits(
+        alloc: Global,
+        len: u32,
+        validity: Option<Buffer>,
+        bits: Buffer,
+    ) -> Result<Array, NoMemory>
+        requires short { len ≤ 2147483647 }
+        requires bits { is_validity_short len (Some bits) ≡ false }
+        requires validity { is_validity_short len validity ≡ false }
+        ensures { IfOk result (λ a. a ≡ show_bits len validity bits) }
+    {
+        Ok(Array {
+            ty: DataType::Bool,
+            length: u64::from(len),
+            buffers: vec![in alloc; validity, Some(bits)]?,
+            children: Vec::new(alloc),
+            words: None,
+        })
+    }
+
+    /// An array of texts: slot `j` is the bytes from offset `j` up to offset `j + 1`, valid where its bit
+    /// is 1, all of them where there are no bits. The offsets are little-endian, of 32 bits. It fails for
+    /// want of memory alone, and the parts are gone then.
+    pub fn from_texts(
+        alloc: Global,
+        len: u32,
+        validity: Option<Buffer>,
+        offsets: Buffer,
+        bytes: Buffer,
+    ) -> Result<Array, NoMemory>
+        requires short { len ≤ 2147483647 }
+        requires validity { is_validity_short len validity ≡ false }
+        requires offsets { AreOffsets len offsets (length bytes) }
+        requires texts { AreTexts len validity offsets bytes }
+        ensures { IfOk result (λ a. a ≡ show_texts len validity offsets bytes) }
+    {
+        Ok(Array {
+            ty: DataType::Utf8,
+            length: u64::from(len),
+            buffers: vec![in alloc; validity, Some(offsets), Some(bytes)]?,
+            children: Vec::new(alloc),
+            words: None,
+        })
+    }
+
+    /// An array of lists of the field's type: slot `j` holds the items of the child from offset `j` up to
+    /// offset `j + 1`, valid where its bit is 1, all of them where there are no bits. The offsets are
+    /// little-endian, of 32 bits. It fails for want of memory alone, and the parts are gone then.
+    pub fn from_list(
+        alloc: Global,
+        item: Field,
+        len: u32,
+        validity: Option<Buffer>,
+        offsets: Buffer,
+        child: Array,
+    ) -> Result<Array, NoMemory>
+        requires short { len ≤ 2147483647 }
+        requires validity { is_validity_short len validity ≡ false }
+        requires offsets { AreOffsets len offsets (length child.items) }
+        requires kind { kind_of item.ty ≡ child.kind }
+        requires no_dict { same_kind child.kind dict ≡ false }
+        requires depth { depth child.kind < 8 }
+        ensures { IfOk result (λ a. a ≡ show_lists len validity offsets child) }
+    {
+        Ok(Array {
+            ty: DataType::List(Box::new(alloc, item)?),
+            length: u64::from(len),
+            buffers: vec![in alloc; validity, Some(offsets)]?,
+            children: vec![in alloc; child.into_raw()]?,
+            words: None,
+        })
+    }
+
+    /// The parts of an array that has no dictionary.
+    fn into_raw(self) -> RawArray
+        requires { same_kind self.kind dict ≡ false }
+        ensures { reading result ≡ checked self }
+    {
+        let Array {
+            ty,
+            length,
+            buffers,
+            children,
+            words: _,
+        } = self;
+        RawArray {
+            ty,
+            length,
+            null_count: None,
+            buffers,
+            children,
+            dictionary: None,
+        }
+    }
+}

@@ -1,0 +1,107 @@
+//! What tests make arrays of, and compare views with.
+
+ghost use Rattle.std.specs.Prelude.{◌≡◌, IfOk};
+
+use crate::types::{DataType, Field, IntType, RawArray, Width};
+use crate::view::{View, ViewType};
+use colbits::Buffer;
+use std::alloc::Global;
+use std::process::Abort;
+use std::test::Fail;
+
+pub(crate) const INT8: IntType = IntType {
+    bits: Width::W8,
+    signed: true,
+};
+
+pub(crate) const INT16: IntType = IntType {
+    bits: Width::W16,
+    signed: true,
+};
+
+pub(crate) const INT32: IntType = IntType {
+    bits: Width::W32,
+    signed: true,
+};
+
+/// The bytes of each position of a layout, none where it holds no buffer.
+pub(crate) type Positions = &'static [Option<&'static [u8]>];
+
+pub(crate) fn raw(
+    alloc: Global,
+    ty: DataType,
+    length: u64,
+    positions: Positions,
+) -> Result<RawArray, Fail> {
+    let mut buffers = Vec::new(alloc);
+    for position in positions {
+        buffers.push(match position {
+            Some(bytes) => Some(Buffer::from_bytes(alloc, *bytes)?),
+            None => None,
+        })?;
+    }
+    Ok(RawArray {
+        ty,
+        length,
+        null_count: None,
+        buffers,
+        children: Vec::new(alloc),
+        dictionary: None,
+    })
+}
+
+/// A nullable field that is named `item`.
+pub(crate) fn item(alloc: Global, ty: DataType) -> Result<Field, Fail>
+    ensures { IfOk result (λ f. f.ty ≡ ty) }
+{
+    Ok(Field {
+        name: String::from_str(alloc, "item")?,
+        nullable: true,
+        ty,
+    })
+}
+
+/// Asserts that the slots of a view hold these numbers.
+pub(crate) fn assert_numbers(rt: &impl Abort, view: &View<'_>, numbers: &[Option<i128>]) {
+    assert_eq!(rt; view.len(), numbers.len());
+    let ViewType::Int(ty) = view.ty() else {
+        panic!(rt; "these are no numbers");
+    };
+    for (i, number) in numbers.iter().enumerate() {
+        assert!(rt; i < view.len());
+        assert_eq!(rt; view.int_at(ty, i), *number, "at slot {i}");
+        assert_eq!(rt; view.holds(i), number.is_some(), "at slot {i}");
+    }
+}
+
+/// Asserts that the slots of a view hold these truth values.
+pub(crate) fn assert_bools(rt: &impl Abort, view: &View<'_>, bools: &[Option<bool>]) {
+    assert_eq!(rt; view.len(), bools.len());
+    let ViewType::Bool = view.ty() else {
+        panic!(rt; "these are no truth values");
+    };
+    for (i, value) in bools.iter().enumerate() {
+        assert!(rt; i < view.len());
+        assert_eq!(rt; view.bool_at(i), *value, "at slot {i}");
+        assert_eq!(rt; view.holds(i), value.is_some(), "at slot {i}");
+    }
+}
+
+/// Asserts that the slots of a view hold these texts, in a dictionary or not.
+pub(crate) fn assert_texts(rt: &impl Abort, view: &View<'_>, texts: &[Option<&str>]) {
+    assert_eq!(rt; view.len(), texts.len());
+    for (i, text) in texts.iter().enumerate() {
+        assert_text(rt, view, i, *text);
+    }
+}
+
+fn assert_text(rt: &impl Abort, view: &View<'_>, i: usize, text: Option<&str>) {
+    assert!(rt; i < view.len());
+    let shown = match view.ty() {
+        ViewType::Utf8 => view.text_at(i),
+        ViewType::Dict => view.text_at(i),
+        _ => panic!(rt; "these are no texts"),
+    };
+    assert_eq!(rt; shown, text, "at slot {i}");
+    assert_eq!(rt; view.holds(i), text.is_some(), "at slot {i}");
+}

@@ -1,0 +1,131 @@
+//! The item of one slot.
+
+ghost use Rattle.std.specs.Prelude.{◌≡◌, ◌+◌, ◌*◌, ◌<◌, ◌≤◌, IfSome, IsUtf8, Some, false, length, slice_get, true};
+ghost use Rattle.std.specs.Option.{option_copied};
+ghost use Rattle.arrays.specs.Builder.{item_of};
+ghost use Rattle.arrays.specs.Fault.{is_negative};
+ghost use Rattle.arrays.specs.Kind as kind;
+ghost use Rattle.arrays.specs.Kind.{int32};
+ghost use Rattle.arrays.specs.Layout.{number_at};
+ghost use Rattle.arrays.specs.Offsets.{of_slot, start_of};
+ghost use Rattle.arrays.specs.Slot.{holds_at, is_list, is_text, item_of_bool, item_of_list, item_of_text};
+
+use crate::numbers::{natural_at, number_at};
+use crate::types::IntType;
+use crate::view::{Texts, View, ViewType};
+use std::str::from_utf8_unchecked;
+
+impl<'a> View<'a> {
+    /// Number `i` of an integer view, none where the slot is null.
+    pub fn int_at(&self, ty: IntType, i: usize) -> Option<i128>
+        requires int { self.now.kind ≡ kind.int ty }
+        requires within { i < length self.now.items }
+        ensures { slice_get self.now.items i ≡ Some (item_of result) }
+    {
+        let numbers = self.numbers(ty);
+        if self.is_valid(i) {
+            Some(number_at(ty, numbers, i))
+        } else {
+            None
+        }
+    }
+
+    /// Truth value `i`, none where the slot is null.
+    pub fn bool_at(&self, i: usize) -> Option<bool>
+        requires boolean { self.now.kind ≡ kind.boolean }
+        requires within { i < length self.now.items }
+        ensures { slice_get self.now.items i ≡ Some (item_of_bool result) }
+    {
+        let bits = self.bool_bits();
+        if !self.is_valid(i) {
+            return None;
+        }
+        Some(bits.get(i))
+    }
+
+    /// Text `i` of a view of texts that lie in it, none where the slot is null.
+    fn utf8_at(&self, i: usize) -> Option<&'a str>
+        requires utf8 { self.now.kind ≡ kind.utf8 }
+        requires within { i < length self.now.items }
+        ensures { slice_get self.now.items i ≡ Some (item_of_text (option_copied result)) }
+    {
+        let texts = self.texts();
+        if !self.is_valid(i) {
+            return None;
+        }
+        Some(texts.get(i))
+    }
+
+    /// Text `i` of a view of texts, dictionary-encoded or not, none where there is no item.
+    pub fn text_at(&self, i: usize) -> Option<&'a str>
+        requires text { is_text self.now.kind ≡ true }
+        requires within { i < length self.now.items }
+        ensures { slice_get self.now.items i ≡ Some (item_of_text (option_copied result)) }
+    {
+        match self.ty {
+            ViewType::Dict => self.entry_at(i),
+            _ => self.utf8_at(i),
+        }
+    }
+
+    /// The text that code `i` names, none where there is no item.
+    fn entry_at(&self, i: usize) -> Option<&'a str>
+        requires dict { self.now.kind ≡ kind.dict }
+        requires within { i < length self.now.items }
+        ensures { slice_get self.now.items i ≡ Some (item_of_text (option_copied result)) }
+    {
+        match self.code_at(i) {
+            Some(code) => self.entries().utf8_at(code),
+            None => None,
+        }
+    }
+
+    /// Whether slot `i` holds an item: where its code is valid, its entry of a dictionary may still be null.
+    pub fn holds(&self, i: usize) -> bool
+        requires { i < length self.now.items }
+        ensures { result ≡ holds_at self.now i }
+    {
+        match self.ty {
+            ViewType::Dict => match self.code_at(i) {
+                Some(code) => self.entries().is_valid(code),
+                None => false,
+            },
+            _ => self.is_valid(i),
+        }
+    }
+
+    /// List `i`, none where the slot is null.
+    pub fn list_at(&self, i: usize) -> Option<View<'a>>
+        requires list { is_list self.now.kind ≡ true }
+        requires within { i < length self.now.items }
+        ensures items { slice_get self.now.items i ≡ Some (item_of_list result) }
+        ensures kind { IfSome result (λ v. kind.list v.kind ≡ self.now.kind) }
+    {
+        let lists = self.lists();
+        if !self.is_valid(i) {
+            return None;
+        }
+        let start = natural_at(lists.offsets, i);
+        let end = natural_at(lists.offsets, i + 1);
+        Some(lists.child.slice(start, end - start))
+    }
+}
+
+impl<'a> Texts<'a> {
+    /// Text `i`, which was checked.
+    fn get(self, i: usize) -> &'a str
+        requires start { i * 4 + 4 ≤ length self.offsets.now }
+        requires end { (i + 1) * 4 + 4 ≤ length self.offsets.now }
+        requires counted { is_negative (number_at int32 self.offsets.now i) ≡ false }
+        requires counted_end { is_negative (number_at int32 self.offsets.now (i + 1)) ≡ false }
+        requires rising { start_of self.offsets.now i ≤ start_of self.offsets.now (i + 1) }
+        requires within { start_of self.offsets.now (i + 1) ≤ length self.bytes.now }
+        requires utf8 { IsUtf8 (of_slot self.offsets.now self.bytes.now i) }
+        ensures { result.now ≡ of_slot self.entry.offsets.now self.entry.bytes.now i }
+    {
+        let start = natural_at(self.offsets, i);
+        let end = natural_at(self.offsets, i + 1);
+        let bytes = &self.bytes[start..end];
+        unsafe { from_utf8_unchecked(bytes) }
+    }
+}
