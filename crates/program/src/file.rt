@@ -1,6 +1,8 @@
 //! A file as a source of bytes.
-ghost use Rattle.std.specs.Prelude.{◌≡◌, ◌^◌, ◌-◌, ◌<◌, None};
+ghost use Rattle.std.specs.Prelude.{◌≡◌, ◌^◌, ◌-◌, ◌<◌, ◌≢◌, IfErr, option_and_then};
 ghost use Rattle.std.specs.Io.{ReadsAtMost};
+ghost use Rattle.std.specs.IoError.{error_kind};
+ghost use Rattle.std.specs.Io.KnownBytes.{ReadConsumes};
 
 use arrowtab::{ReadFailed, Source};
 use std::io;
@@ -25,7 +27,7 @@ impl<F> FileSource<F> {
 impl<F: Read> Source for FileSource<F> {
     ghost failures = { λ s. s.failures };
 
-    ghost remaining = { λ _. None };
+    ghost remaining = { λ s. option_and_then F.remaining s.file };
 
     fn read(&mut self, buffer: &mut [u8]) -> Result<usize, ReadFailed> {
         if let Some(file) = &mut self.file {
@@ -40,7 +42,9 @@ impl<F: Read> Source for FileSource<F> {
 
 // One read, tried again where a signal interrupts it.
 fn read_retrying<F: Read>(file: &mut F, buffer: &mut [u8]) -> io::Result<usize>
-    ensures { ReadsAtMost result buffer.new }
+    ensures bound { ReadsAtMost result buffer.new }
+    ensures retried { IfErr result (λ e. error_kind e ≢ ErrorKind.Interrupted) }
+    ensures bytes { ReadConsumes (F.remaining file.old) (F.remaining file.new) result buffer.new }
 {
     for _try in 0..u64::MAX {
         match file.read(buffer) {
@@ -48,5 +52,5 @@ fn read_retrying<F: Read>(file: &mut F, buffer: &mut [u8]) -> io::Result<usize>
             result => return result,
         }
     }
-    Err(io::Error::from(ErrorKind::Interrupted))
+    Err(io::Error::from(ErrorKind::TimedOut))
 }

@@ -1,6 +1,8 @@
 //! An output as a sink of bytes.
-ghost use Rattle.std.specs.Prelude.{◌≡◌, ◌^◌, ◌-◌, ◌<◌, None};
+ghost use Rattle.std.specs.Prelude.{◌≡◌, ◌^◌, ◌-◌, ◌<◌, ◌≢◌, IfErr};
 ghost use Rattle.std.specs.Io.{WritesAtMost};
+ghost use Rattle.std.specs.IoError.{error_kind};
+ghost use Rattle.std.specs.Io.KnownBytes.{WriteAppends};
 
 use arrowtab::{Sink, WriteFailed};
 use std::io;
@@ -28,7 +30,7 @@ impl<W> OutputSink<W> {
 impl<W: Write> Sink for OutputSink<W> {
     ghost failures = { λ s. s.failures };
 
-    ghost taken = { λ _. None };
+    ghost taken = { λ s. W.contents s.output };
 
     fn write(&mut self, bytes: &[u8]) -> Result<usize, WriteFailed> {
         match write_retrying(&mut self.output, bytes) {
@@ -43,7 +45,9 @@ impl<W: Write> Sink for OutputSink<W> {
 
 // One write, tried again where a signal interrupts it.
 fn write_retrying<W: Write>(output: &mut W, bytes: &[u8]) -> io::Result<usize>
-    ensures { WritesAtMost result bytes.now }
+    ensures bound { WritesAtMost result bytes.now }
+    ensures retried { IfErr result (λ e. error_kind e ≢ ErrorKind.Interrupted) }
+    ensures bytes { WriteAppends (W.contents output.old) (W.contents output.new) result bytes.now }
 {
     for _try in 0..u64::MAX {
         match output.write(bytes) {
@@ -51,5 +55,5 @@ fn write_retrying<W: Write>(output: &mut W, bytes: &[u8]) -> io::Result<usize>
             result => return result,
         }
     }
-    Err(io::Error::from(ErrorKind::Interrupted))
+    Err(io::Error::from(ErrorKind::TimedOut))
 }
