@@ -12,7 +12,7 @@ use Rattle.arrays.specs.Fault.{Held, do_parts_differ, is_no_child}
 use Rattle.arrays.specs.Held.{held_children, held_dictionary}
 use Rattle.arrays.specs.Reading.{Reading, read_parts, reading, held, fault, child_fault}
 use Rattle.arrays.proofs.FirstFaultLemmas.{fault-none, reading-raw}
-use Rattle.arrays.proofs.LawfulLemmas.{MakesArray-raw, MakesArray}
+use Rattle.arrays.proofs.LawfulLemmas.{MakesArray-raw, MakesArray, either_false}
 
 -- ---- the same kind
 
@@ -79,10 +79,6 @@ same_kinds kind.dict (kind.list l) h = cc
 same_kinds kind.dict kind.dict h = refl
 
 -- ---- an array that is no dictionary-encoded one
-
-either_false : (a b : Bool) → (a || b) ≡ false → (a ≡ false) × (b ≡ false)
-either_false true b h = cc
-either_false false b h = (refl, h)
 
 none_of : (b : Bool) → not b ≡ false → b ≡ true
 none_of true h = refl

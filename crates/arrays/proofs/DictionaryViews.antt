@@ -31,28 +31,14 @@ use Rattle.arrays.proofs.FirstFaultLemmas.{IsWhole, own_fault-whole}
 use Rattle.arrays.proofs.OffsetLemmas.{fails-least_none}
 use Rattle.arrays.proofs.PartLemmas.{kind_shown, valid_slot, null_slot}
 use Rattle.arrays.proofs.SlotLemmas.{slice-column, whole}
+use Rattle.arrays.proofs.LawfulLemmas.{either_false, none_held}
 
 -- ---- the codes are a lawful array of their own
-
-none_of : (b : Bool) → not b ≡ false → b ≡ true
-none_of true h = refl
-none_of false h = cc
-
-either_false : (a b : Bool) → (a || b) ≡ false → (a ≡ false) × (b ≡ false)
-either_false true b h = cc
-either_false false b h = (refl, h)
-
-some_length : (n : ℕ) → not (nat_eq (suc n) 0) ≡ false → ⊥
-some_length n h = grind (arith, nat_tests)
-
-no_children : (children : List Reading) → not (nat_eq (length (map held children)) 0) ≡ false → children ≡ []
-no_children [] h = refl
-no_children (c ∷ cs) h = absurd (some_length (length (map held cs)) h)
 
 childless : (n : ℕ) (buffers : Buffers) (children : List Reading) (dictionary : Option Reading)
     → (read_parts kind.dict n None buffers children dictionary).fault ≡ None → children ≡ []
 childless n buffers children dictionary lawful =
-    no_children children (either_false _ _ (whole kind.dict n None buffers children dictionary lawful).parts_agree).0
+    none_held children (either_false _ _ (whole kind.dict n None buffers children dictionary lawful).parts_agree).0
 
 codes_whole : (n : ℕ) (buffers : Buffers) (dictionary : Option Held) → IsWhole kind.dict n None buffers [] dictionary → IsWhole (kind.int int32) n None buffers [] None
 codes_whole n buffers dictionary w = record {

@@ -19,3 +19,4 @@ pub mod DictionaryViews
 pub mod OffsetLemmas
 pub mod DictionaryLemmas
 pub mod CopyLemmas
+pub mod IntegerLemmas

@@ -33,6 +33,7 @@ use Rattle.arrays.proofs.OffsetLemmas.{fails-least_none}
 use Rattle.arrays.proofs.OffsetParts.{rising-texts, rising-lists, has_offsets_part, start_part, length_part, AreOffsets-part}
 use Rattle.arrays.proofs.SlotLemmas.{seen-validity, slice-column, validity-part, valid-part, valid-view, whole}
 use Rattle.arrays.proofs.ViewLemmas.{length-items, length-slice, length-show_view, kind-show_view, seen-kind}
+use Rattle.arrays.proofs.LawfulLemmas.{either_false}
 
 -- ---- the items of part of an array, by the value of each slot
 
@@ -90,10 +91,6 @@ whole_view : (v : Inside) (k : Kind) → view_kind v.ty ≡ k → (read_view v).
 whole_view v k is lawful =
     subst (λ q. IsWhole q v.total None v.buffers.now (map held (map reading v.children.now)) (option_map held (option_map checked (option_map (λ w. arc_value w.now) v.words)))) is
     (whole (view_kind v.ty) v.total None v.buffers.now (map reading v.children.now) (option_map checked (option_map (λ w. arc_value w.now) v.words)) lawful)
-
-either_false : (a b : Bool) → (a || b) ≡ false → (a ≡ false) × (b ≡ false)
-either_false true b h = cc
-either_false false b h = (refl, h)
 
 second_of_three : (a b c : Option LayoutFault) → first (a ∷ b ∷ c ∷ []) ≡ None → b ≡ None
 second_of_three None None c h = refl

@@ -1,13 +1,18 @@
 -- Numbers as little-endian bytes (Arrow columnar format, "Fixed-size primitive layout").
-use Rattle.std.specs.Prelude.{ℕ, ℤ, List, MatchBool, FitsSigned, if◌then◌else◌}
+use Rattle.std.specs.Prelude.{ℕ, ◌-◌, ◌*◌, ◌^◌, ℤ, pos, negsuc, Bool, false, nat_lt, List, MatchBool, FitsSigned, if◌then◌else◌}
 use Rattle.std.specs.Int.{FitsUnsigned, cast_unsigned, to_le_bytes}
 use Rattle.arrays.specs.declared.types.IntType.{IntType}
-use Rattle.arrays.specs.Kind.{bits_of}
+use Rattle.arrays.specs.Kind.{bits_of, bytes_of}
 use Rattle.arrays.specs.Layout.{natural}
 
 -- The number is in the type's range.
 abbrev pub IsOfType : IntType → ℤ → Type 0
 IsOfType t z = MatchBool t.signed (FitsSigned (bits_of t.bits) z) (FitsUnsigned (bits_of t.bits) z)
+
+-- The same as a test: a type of b bits has numbers up to 2^b - 1, a signed one from -2^(b - 1) to 2^(b - 1) - 1.
+abbrev pub is_of_type : IntType → ℤ → Bool
+is_of_type t (pos n) = nat_lt n (if t.signed then 2 ^ (8 * bytes_of t.bits - 1) else 2 ^ (8 * bytes_of t.bits))
+is_of_type t (negsuc n) = if t.signed then nat_lt n (2 ^ (8 * bytes_of t.bits - 1)) else false
 
 -- The bytes of a number: two's complement if signed.
 unfoldable pub bytes_of_number : IntType → ℤ → List ℕ

@@ -110,6 +110,15 @@ impl<'a> View<'a> {
         self.len
     }
 
+    /// How many slots there are, as arrays are made of: no more than an array may have.
+    pub fn slots(&self) -> u32
+        ensures count { result ≡ length self.now.items }
+        ensures short { result ≤ 2147483647 }
+    {
+        let len = self.len;
+        len as u32
+    }
+
     /// The type of the slots.
     pub fn ty(&self) -> ViewType<'a>
         ensures { view_kind result ≡ self.now.kind }

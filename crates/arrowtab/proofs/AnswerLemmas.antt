@@ -10,9 +10,9 @@ use Rattle.arrays.specs.Item.{Item, null}
 use Rattle.arrays.specs.Seen.{Seen}
 use Rattle.arrowtab.specs.Held.{alone, IsRefused, Shows, Stops}
 use Rattle.arrowtab.specs.History.{Table}
-use Rattle.arrowtab.specs.JsonBatch.{table_of}
-use Rattle.arrowtab.specs.JsonFile.{Reads, file_of}
-use Rattle.arrowtab.specs.JsonTable as read
+use Rattle.arrow_json.specs.JsonBatch.{table_of}
+use Rattle.arrow_json.specs.JsonFile.{Reads, file_of}
+use Rattle.arrow_json.specs.JsonTable as read
 use Rattle.arrowtab.specs.Loaded.{IsLoaded, added_by}
 use Rattle.arrowtab.specs.Plan.{planned}
 use Rattle.arrowtab.specs.Run.{Answers, Refuses, batches_of}

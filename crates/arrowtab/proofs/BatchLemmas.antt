@@ -18,53 +18,13 @@ use Rattle.arrays.specs.Seen.{Seen}
 use Rattle.arrays.specs.Shape as shape
 use Rattle.arrays.specs.Shape.{FieldShape, field, kind_of_field}
 use Rattle.arrowtab.specs.Cause.{IsItemOf, IsRowOf, IsTableOf, cause, null_cause, is_table_full, is_book_full, first, when}
-use Rattle.arrowtab.specs.Columns.{HasColumns, AreIntegers, AreIntegerColumns, AreTyped, is_integer}
+use Rattle.arrow_json.specs.Integers.{AreIntegers, is_integer}
+use Rattle.arrowtab.specs.Columns.{HasColumns, AreIntegerColumns, AreTyped}
 use Rattle.arrowtab.specs.History.{Table, History, rows}
 use Rattle.arrowtab.specs.declared.refusal.Refusal.{Refusal}
 use Rattle.arrowtab.specs.declared.refusal.Refusal.TheVariants.{TableFull, BookFull}
+use Rattle.arrays.proofs.ChildLemmas.{same_kinds}
 use Rattle.arrowtab.proofs.HistoryLemmas.{IsWhole-lawful, column-rows_of, length-rows_of}
-
--- ---- the same kind of integers
-
-same_sign : (a b : Bool) → cond a b (not b) ≡ true → a ≡ b
-same_sign true true h = refl
-same_sign true false h = absurd cc
-same_sign false true h = absurd cc
-same_sign false false h = refl
-
-same_parts : (v w : Width) (a b : Bool) → (eqb (bytes_of v) (bytes_of w) && cond a b (not b)) ≡ true → (v ≡ w) × (a ≡ b)
-same_parts W8 W8 a b h = (refl, same_sign a b h)
-same_parts W8 W16 a b h = absurd cc
-same_parts W8 W32 a b h = absurd cc
-same_parts W8 W64 a b h = absurd cc
-same_parts W16 W8 a b h = absurd cc
-same_parts W16 W16 a b h = (refl, same_sign a b h)
-same_parts W16 W32 a b h = absurd cc
-same_parts W16 W64 a b h = absurd cc
-same_parts W32 W8 a b h = absurd cc
-same_parts W32 W16 a b h = absurd cc
-same_parts W32 W32 a b h = (refl, same_sign a b h)
-same_parts W32 W64 a b h = absurd cc
-same_parts W64 W8 a b h = absurd cc
-same_parts W64 W16 a b h = absurd cc
-same_parts W64 W32 a b h = absurd cc
-same_parts W64 W64 a b h = (refl, same_sign a b h)
-
-same_type : (s t : IntType) → same_int s t ≡ true → s ≡ t
-same_type s t h =
-    let p = same_parts s.bits t.bits s.signed t.signed h in
-    λ i. record { bits = p.0 i; signed = p.1 i }
-
-same_integers : (k j : Kind) → is_integer j ≡ true → same_kind k j ≡ true → k ≡ j
-same_integers (int s) (int t) i h = ap int (same_type s t h)
-same_integers boolean (int t) i h = absurd cc
-same_integers utf8 (int t) i h = absurd cc
-same_integers (list k) (int t) i h = absurd cc
-same_integers dict (int t) i h = absurd cc
-same_integers k boolean i h = absurd cc
-same_integers k utf8 i h = absurd cc
-same_integers k (list j) i h = absurd cc
-same_integers k dict i h = absurd cc
 
 -- ---- a batch of the fields' types
 
@@ -89,7 +49,7 @@ Suits-lawful fields b integers types lawful =
     λ k f. sym (get_or-map kind_of_field b.fields k f) ∙ ap (λ ks. get_or ks k (kind_of_field f)) types ∙ get_or-map kind_of_field fields k f in
     let kinds : (k : ℕ) (d : Seen) (f : FieldShape) → k < length b.columns → (get_or b.columns k d).kind ≡ kind_of_field (get_or fields k f) =
     λ k d f below.
-    same_integers _ _ (integers k f (omega (arith, counts)))
+    same_kinds _ _
     (subst (λ (j : Kind). same_kind (get_or b.columns k d).kind j ≡ true) (same_field k f) (whole.kinds k d f below)) in
     record {
       counts = counts;

@@ -9,7 +9,7 @@ use Rattle.arrays.specs.Kind.{Kind, kind_of, kind_step}
 use Rattle.arrays.specs.Seen.{Seen}
 use Rattle.arrays.specs.Shape.{FieldShape, field_of, fields_of, kind_of_field}
 use Rattle.arrays.proofs.ShapeLemmas.{kind_of_field-field_of}
-use Rattle.arrowtab.specs.Columns.{AreIntegers, is_integer}
+use Rattle.arrow_json.specs.Integers.{AreIntegers, is_integer}
 use Rattle.arrowtab.proofs.BatchLemmas.{Suits, Suits-lawful, HasColumns-rows_of}
 use Rattle.std.specs.List.{flat_map, range_with_len, enumerate_from}
 use Rattle.std.proofs.lemmas.Grind.{flat_map-append}

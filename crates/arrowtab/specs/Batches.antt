@@ -6,7 +6,7 @@ use Rattle.arrays.specs.File.{kinds_of}
 use Rattle.arrays.specs.Shape.{FieldShape}
 use Rattle.arrowtab.specs.Admitted.{Admitted}
 use Rattle.arrowtab.specs.Cause.{IsLegal}
-use Rattle.arrowtab.specs.Columns.{AreIntegers}
+use Rattle.arrow_json.specs.Integers.{AreIntegers}
 use Rattle.arrowtab.specs.History.{Table, History, rows}
 use Rattle.arrowtab.specs.declared.batches.Entry.{Entry}
 use Rattle.arrowtab.specs.declared.batches.Batches.TheInside.{Inside}

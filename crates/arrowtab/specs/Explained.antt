@@ -1,7 +1,7 @@
 -- Why there is no output.
 use Rattle.std.specs.Prelude.{ℕ, ◌<◌, List, Option, IfSome, ⊤}
 use Rattle.arrowtab.specs.Run.{Refuses}
-use Rattle.arrowtab.specs.JsonFile.{BytesFault}
+use Rattle.arrow_json.specs.JsonFile.{BytesFault}
 use Rattle.arrowtab.specs.declared.run_fault.RunFault.{RunFault}
 use Rattle.arrowtab.specs.declared.run_fault.RunFault.TheVariants.{CannotRead, NoMemory, File, Refused}
 

@@ -3,10 +3,10 @@ use Rattle.std.specs.Prelude.{ℕ, List, ◌++◌, codes}
 use Rattle.std.specs.Fmt.{decimal}
 use Rattle.arrowtab.specs.Shown.{line}
 use Rattle.arrowtab.specs.RefusalText.{refusal_text}
-use Rattle.arrowtab.specs.JsonFaultText.{fault_text}
+use Rattle.arrow_json.specs.JsonFaultText.{fault_text}
 use Rattle.arrowtab.specs.declared.refusal.Refusal.{Refusal}
-use Rattle.arrowtab.specs.declared.json_file.path.Step.{Step}
-use Rattle.arrowtab.specs.declared.json_file.fault.JsonFaultKind.{JsonFaultKind}
+use Rattle.arrow_json.specs.declared.path.Step.{Step}
+use Rattle.arrow_json.specs.declared.fault.JsonFaultKind.{JsonFaultKind}
 
 abbrev pub told : List ℕ → List ℕ
 told what = line (codes "arrowtab: " ++ what)

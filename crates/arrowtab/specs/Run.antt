@@ -7,11 +7,11 @@ use Rattle.arrowtab.specs.Cause.{IsLegal}
 use Rattle.arrowtab.specs.Shown.{shown}
 use Rattle.arrowtab.specs.Lines.{unread_line, file_line, refusal_line, memory_line, output_line}
 use Rattle.arrowtab.specs.Loaded.{IsLoaded, IsStopped}
-use Rattle.arrowtab.specs.JsonFile.{Reads, BytesFault}
-use Rattle.arrowtab.specs.JsonTable.{FileData, rows_of}
+use Rattle.arrow_json.specs.JsonFile.{Reads, BytesFault}
+use Rattle.arrow_json.specs.JsonTable.{FileData, rows_of}
 use Rattle.arrowtab.specs.declared.refusal.Refusal.{Refusal}
-use Rattle.arrowtab.specs.declared.json_file.path.Step.{Step}
-use Rattle.arrowtab.specs.declared.json_file.fault.JsonFaultKind.{JsonFaultKind}
+use Rattle.arrow_json.specs.declared.path.Step.{Step}
+use Rattle.arrow_json.specs.declared.fault.JsonFaultKind.{JsonFaultKind}
 
 -- The batches of a file, each as its rows.
 abbrev pub batches_of : FileData → List Table

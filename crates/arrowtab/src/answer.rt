@@ -3,14 +3,14 @@ ghost use Rattle.std.specs.Prelude.{◌≡◌, ◌^◌, ◌-◌, ◌<◌, IfOk, 
 ghost use Rattle.arrowtab.specs.Run.{Answers};
 ghost use Rattle.arrowtab.specs.Explained.{Explains, ExplainsBytes};
 ghost use Rattle.arrowtab.specs.Held.{Shows, Stops};
-ghost use Rattle.arrowtab.specs.JsonFile.{AreUnder};
+ghost use Rattle.arrow_json.specs.JsonFile.{AreUnder};
 
-use crate::json_file::{JsonFaultKind, read_file};
 use crate::load::load;
 use crate::report::stats_text;
 use crate::run_fault::RunFault;
 use crate::source::{Source, SourceFault, read_whole};
 use arrays::File;
+use arrow_json::{JsonFaultKind, read_file};
 use std::alloc::Global;
 
 /// Reads the source, and makes the output of `stats` of its bytes.

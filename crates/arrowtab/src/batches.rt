@@ -52,7 +52,7 @@ impl Model for Batches {
 }
 
 impl Batches {
-    ghost use Rattle.arrowtab.specs.Columns.{AreIntegers};
+    ghost use Rattle.arrow_json.specs.Integers.{AreIntegers};
     ghost use Rattle.arrowtab.specs.Batches.{history_of, IsBatchOf};
     ghost use Rattle.arrowtab.specs.Cause.{cause, IsLegal, IsTableOf};
     ghost use Rattle.arrowtab.specs.History.{rows};

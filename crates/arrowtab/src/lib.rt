@@ -6,7 +6,6 @@ mod batches;
 mod column;
 mod invocation;
 pub mod job;
-pub mod json_file;
 mod load;
 pub mod memory;
 mod nulls;
@@ -21,8 +20,8 @@ mod tell;
 mod tests;
 mod text;
 
+pub use arrow_json::{JsonFault, JsonFaultKind, Member, Path, Step, fault_text};
 pub use invocation::run;
 pub use job::{Command, Job};
-pub use json_file::{JsonFault, JsonFaultKind, Member, Path, Step, fault_text};
 pub use sink::{Sink, WriteFailed, write_whole};
 pub use source::{ReadFailed, Source, SourceFault, read_whole};

@@ -2,7 +2,7 @@
 ghost use Rattle.std.specs.Prelude.{◌≡◌, ◌++◌, ◌∷◌, [], IfOk, IfErr, OnOk};
 ghost use Rattle.std.specs.Arc.{arc_value};
 ghost use Rattle.arrays.specs.Batch.{rows_of};
-ghost use Rattle.arrowtab.specs.JsonFile.{AreUnder};
+ghost use Rattle.arrow_json.specs.JsonFile.{AreUnder};
 ghost use Rattle.arrowtab.specs.Held.{alone, Stops, StopsTable};
 
 use crate::batches::{AdmitError, Batches};

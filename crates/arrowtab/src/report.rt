@@ -6,7 +6,7 @@ ghost use Rattle.arrays.specs.Batch.{rows_of};
 ghost use Rattle.arrays.specs.Shape.{field_of, fields_of, kind_of_field};
 ghost use Rattle.arrowtab.specs.Batches.{history_of, IsBatchOf};
 ghost use Rattle.arrowtab.specs.History.{column, of, rows};
-ghost use Rattle.arrowtab.specs.Columns.{AreIntegers, is_integer};
+ghost use Rattle.arrow_json.specs.Integers.{AreIntegers, is_integer};
 ghost use Rattle.arrowtab.specs.Shown.{shown, worker_lines, column_lines, field_line};
 ghost use Rattle.arrowtab.specs.Stats.{AreStats};
 

@@ -1,5 +1,5 @@
-use crate::json_file::JsonFault;
 use crate::refusal::Refusal;
+use arrow_json::JsonFault;
 
 /// Why there is no output.
 #[derive(Debug, Drop)]

@@ -3,7 +3,6 @@ ghost use Rattle.std.specs.Option.{ForSome};
 ghost use Rattle.std.specs.Int.{int_min, int_max};
 ghost use Rattle.arrowtab.specs.Cells.{IsCell, null_count, amount, better};
 
-mod integer;
 pub mod laws;
 pub(crate) mod slots;
 

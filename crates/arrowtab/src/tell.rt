@@ -3,10 +3,10 @@ ghost use Rattle.std.specs.Prelude.{◌≡◌, ◌^◌, ◌-◌, ◌<◌, IfOk, 
 ghost use Rattle.arrowtab.specs.Lines.{unread_line, file_line, refusal_line, memory_line, output_line};
 ghost use Rattle.arrowtab.specs.Told.{TookLine, fault_line};
 
-use crate::json_file::{JsonFault, fault_text};
 use crate::refusal::{Refusal, refusal_text};
 use crate::run_fault::RunFault;
 use crate::sink::{Sink, write_whole};
+use arrow_json::{JsonFault, fault_text};
 use colbits::NoMemory;
 use std::alloc::Global;
 

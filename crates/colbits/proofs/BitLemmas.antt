@@ -1,14 +1,16 @@
 -- Bits of bytes, as a list.
-use Rattle.std.proofs.Common.{◌&&◌, inl, inr, not, nat_lt, replicate, zero-add, lt-ltb, le-ltb, ◌≡◌, ℕ, zero, suc, ◌+◌, ◌*◌, ◌-◌, ◌/◌, ◌%◌, ◌<◌, ◌≤◌, ◌∙◌, List, ◌∷◌, Bool, false, Some, map, length, take, drop, get_or, slice_get, slice_index, nat_eq, ap, sym, refl, arith, add-zero}
+use Rattle.std.proofs.Common.{◌&&◌, ◌⊎◌, ◌≢◌, ◌^◌, ◌++◌, [], true, inl, inr, not, nat_lt, bit_or, w8, subst, zero-add, lt-ltb, le-ltb, ◌≡◌, ℕ, zero, suc, ◌+◌, ◌*◌, ◌-◌, ◌/◌, ◌%◌, ◌<◌, ◌≤◌, ◌∙◌, List, ◌∷◌, Bool, false, Some, map, length, take, drop, get_or, slice_get, slice_index, nat_eq, ap, sym, refl, arith, add-zero}
 use Rattle.std.specs.List.{range_with_len}
 use Rattle.std.specs.Int.{bit_at}
 use Rattle.std.proofs.lemmas.List.FromFn.{fill_by_all, length-map-range_with_len, get_or-map-range_with_len, take-map-range_with_len}
-use Rattle.std.proofs.lemmas.List.{get_or-drop, get_or_past, get_or-replicate, length-replicate}
+use Rattle.std.proofs.lemmas.List.{get_or-drop, get_or_past}
+use Rattle.std.proofs.Math.ListN.{get_or-append}
+use Rattle.std.proofs.Math.Seq.{get_or-append_seam}
 use Rattle.std.proofs.lemmas.Simd.{map-map}
-use Rattle.std.proofs.lemmas.Bool.{cases_lt}
-use Rattle.std.proofs.lemmas.Nat.Bits.{bit_at-zero}
+use Rattle.std.proofs.lemmas.Bool.{cases_lt, cases_eq}
+use Rattle.std.proofs.lemmas.Nat.Bits.{bit_at-zero, bit_at_set_same, bit_at_set_other}
 use Rattle.std.proofs.lemmas.Option.{slice_get-get_or}
-use Rattle.colbits.specs.Bit.{bit, bits}
+use Rattle.colbits.specs.Bit.{bit, bit_in, bits}
 use Rattle.colbits.specs.Bitmap.{bit_of}
 use Rattle.colbits.specs.Slice.{slice}
 
@@ -81,17 +83,89 @@ listed xs = sym (fill_by_all (bit_of xs) xs (length xs) false refl (λ k h. refl
 pub listed_not : (xs : List Bool) → map (λ i. not (bit_of xs i)) (range_with_len 0 (length xs)) ≡ map not xs
 listed_not xs = sym (map-map not (bit_of xs) (range_with_len 0 (length xs))) ∙ ap (map not) (listed xs)
 
--- past the end and within, zeros are 0
-get_or-zeros : (n i : ℕ) → get_or {A = ℕ} (replicate n 0) i 0 ≡ 0
-get_or-zeros n i = elim (cases_lt i n) [
-  | inl h ↦ get_or-replicate n i 0 0 h
-  | inr h ↦ get_or_past (replicate n 0) i 0 (omega (arith, length-replicate {A = ℕ} n 0))
-]
+-- one more bit of a byte made 1, or none
+pub bits-set : (f : ℕ → Bool) (byte j : ℕ) → j < 8 → f j ≡ true → ((k : ℕ) → bit_in byte k ≡ (nat_lt k j && f k))
+    → (k : ℕ) → bit_in (bit_or byte (1 * 2 ^ j % 256)) k ≡ (nat_lt k (j + 1) && f k)
+bits-set f byte j small one h k =
+    elim (cases_eq k j) [
+      | inl same ↦ (
+          let set : bit_in (bit_or byte (1 * 2 ^ j % 256)) j ≡ true = ap (λ b. nat_eq b 1) (bit_at_set_same w8 byte j small) in
+          subst (λ i. bit_in (bit_or byte (1 * 2 ^ j % 256)) i ≡ (nat_lt i (j + 1) && f i)) (sym same)
+          (set ∙ sym (ap (λ b. b && f j) (lt-ltb j (j + 1) (omega arith)) ∙ one)))
+      | inr other ↦ (
+          ap (λ b. nat_eq b 1) (bit_at_set_other w8 byte j small k other) ∙ h k ∙ ap (λ b. b && f k) (below-next k j other))
+    ]
+  where
+    below-next : (k j : ℕ) → k ≢ j → nat_lt k j ≡ nat_lt k (j + 1)
+    below-next k j other =
+        elim (cases_lt k j) [
+          | inl h ↦ lt-ltb k j h ∙ sym (lt-ltb k (j + 1) (omega arith))
+          | inr h ↦ le-ltb k j h ∙ sym (le-ltb k (j + 1) (omega arith))
+        ]
 
--- no bit of zeros is 1
-pub bit-zeros : (n k : ℕ) → bit (replicate n 0) k ≡ false
+pub bits-left : (f : ℕ → Bool) (byte j : ℕ) → f j ≡ false → ((k : ℕ) → bit_in byte k ≡ (nat_lt k j && f k))
+    → (k : ℕ) → bit_in byte k ≡ (nat_lt k (j + 1) && f k)
+bits-left f byte j unset h k = h k ∙ next
+  where
+    next : (nat_lt k j && f k) ≡ (nat_lt k (j + 1) && f k)
+    next =
+        elim (cases_lt k j) [
+          | inl below ↦ ap (λ b. b && f k) (lt-ltb k j below ∙ sym (lt-ltb k (j + 1) (omega arith)))
+          | inr past ↦ elim (cases_eq k j) [
+            | inl same ↦ ap (λ b. b && f k) (le-ltb k j past) ∙ sym (ap (λ b. nat_lt k (j + 1) && b) (ap f same ∙ unset) ∙ none (nat_lt k (j + 1)))
+            | inr other ↦ ap (λ b. b && f k) (le-ltb k j past ∙ sym (le-ltb k (j + 1) (omega arith)))
+          ]
+        ]
+      where
+        none : (b : Bool) → (b && false) ≡ false
+        none true = refl
+        none false = refl
+
+-- no bit of a byte of 0 is 1
+pub bits-zero : (f : ℕ → Bool) (k : ℕ) → bit_in 0 k ≡ (nat_lt k 0 && f k)
+bits-zero f k = ap (λ b. nat_eq b 1) (bit_at-zero k) ∙ sym (ap (λ b. b && f k) (le-ltb k 0 (omega arith)))
+
+-- a bit of bytes with one more at the end
+pub bit-before : (bytes : List ℕ) (byte i : ℕ) → i < 8 * length bytes → bit (bytes ++ byte ∷ []) i ≡ bit bytes i
 unfolding bit
-bit-zeros n k = ap (λ b. nat_eq (bit_at b (k % 8)) 1) (get_or-zeros n (k / 8)) ∙ ap (λ b. nat_eq b 1) (bit_at-zero (k % 8))
+bit-before bytes byte i h = ap (λ b. nat_eq (bit_at b (i % 8)) 1) (get_or-append bytes (byte ∷ []) 0 (i / 8) (omega arith))
+
+pub bit-last : (bytes : List ℕ) (byte i : ℕ) → i / 8 ≡ length bytes → bit (bytes ++ byte ∷ []) i ≡ bit_in byte (i % 8)
+unfolding bit
+bit-last bytes byte i h = ap (λ b. nat_eq (bit_at b (i % 8)) 1) (ap (λ k. get_or (bytes ++ byte ∷ []) k 0) h ∙ get_or-append_seam bytes byte [] 0)
+
+pub bit-past : (bytes : List ℕ) (i : ℕ) → 8 * length bytes ≤ i → bit bytes i ≡ false
+unfolding bit
+bit-past bytes i h =
+    ap (λ b. nat_eq (bit_at b (i % 8)) 1) (get_or_past bytes (i / 8) 0 (omega arith)) ∙ ap (λ b. nat_eq b 1) (bit_at-zero (i % 8))
+
+-- one more byte of n places
+pub byte-more : (f : ℕ → Bool) (n : ℕ) (bytes : List ℕ) (byte k count : ℕ) → length bytes ≡ k → (8 ≤ count) ⊎ (8 * k + count ≡ n)
+    → 8 * k + count ≤ n → ((i : ℕ) → bit_in byte i ≡ (nat_lt i count && f (8 * k + i))) → ((i : ℕ) → i < 8 * k → bit bytes i ≡ (nat_lt i n && f i))
+    → (i : ℕ) → i < 8 * (k + 1) → bit (bytes ++ byte ∷ []) i ≡ (nat_lt i n && f i)
+byte-more f n bytes byte k count long whole within here before i h =
+    elim (cases_lt i (8 * k)) [
+      | inl below ↦ bit-before bytes byte i (omega arith) ∙ before i below
+      | inr last ↦ (
+          let place : 8 * k + i % 8 ≡ i = omega arith in
+          bit-last bytes byte i (omega arith) ∙ here (i % 8) ∙ ap (λ p. nat_lt (i % 8) count && f p) place ∙ ap (λ b. b && f i) (same last))
+    ]
+  where
+    same : 8 * k ≤ i → nat_lt (i % 8) count ≡ nat_lt i n
+    same last =
+        elim (cases_lt (i % 8) count) [
+          | inl low ↦ lt-ltb (i % 8) count low ∙ sym (lt-ltb i n (omega arith))
+          | inr high ↦ le-ltb (i % 8) count high ∙ sym (le-ltb i n (elim whole [ inl eight ↦ absurd (omega arith) | inr end ↦ omega arith ]))
+        ]
+
+-- bytes for n places have f at each place below n, and 0 at all others
+pub bytes-whole : (f : ℕ → Bool) (n : ℕ) (bytes : List ℕ) → length bytes ≡ (n + 7) / 8 → ((i : ℕ) → i < 8 * length bytes → bit bytes i ≡ (nat_lt i n && f i))
+    → (i : ℕ) → bit bytes i ≡ (nat_lt i n && f i)
+bytes-whole f n bytes long h i =
+    elim (cases_lt i (8 * length bytes)) [
+      | inl below ↦ h i below
+      | inr past ↦ bit-past bytes i past ∙ sym (ap (λ b. b && f i) (le-ltb i n (omega arith)))
+    ]
 
 -- bytes that have f at each place below n, and 0 at all others
 pub bits-filled : (f : ℕ → Bool) (bytes : List ℕ) (n : ℕ) → ((k : ℕ) → bit bytes k ≡ (nat_lt k n && f k)) → bits bytes 0 n ≡ map f (range_with_len 0 n)
@@ -101,6 +175,3 @@ bits-filled f bytes n h =
 
 pub past-filled : (f : ℕ → Bool) (bytes : List ℕ) (n : ℕ) → ((k : ℕ) → bit bytes k ≡ (nat_lt k n && f k)) → (k : ℕ) → n ≤ k → bit bytes k ≡ false
 past-filled f bytes n h k past = h k ∙ ap (λ b. b && f k) (le-ltb k n past)
-
-pub none-filled : (f : ℕ → Bool) (k : ℕ) → (nat_lt k 0 && f k) ≡ false
-none-filled f k = ap (λ b. b && f k) (le-ltb k 0 (omega arith))

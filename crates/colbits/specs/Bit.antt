@@ -3,6 +3,10 @@ use Rattle.std.specs.Prelude.{ℕ, ◌/◌, ◌%◌, ◌==◌, List, Bool, map, 
 use Rattle.std.specs.List.{range_with_len}
 use Rattle.std.specs.Int.{bit_at}
 
+-- Bit k of a byte, counted from the least significant.
+abbrev pub bit_in : ℕ → ℕ → Bool
+bit_in byte k = bit_at byte k == 1
+
 -- Bit k of the bytes is bit k mod 8 of byte k / 8, counted from the least significant.
 -- (Arrow columnar format, "Validity bitmaps".)
 unfoldable pub bit : List ℕ → ℕ → Bool

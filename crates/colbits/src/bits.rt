@@ -1,4 +1,5 @@
-ghost use Rattle.std.specs.Prelude.{◌≡◌, ◌+◌, ◌*◌, ◌/◌, ◌%◌, ◌<◌, ◌≤◌, List, Bool, Some, length, slice_get, true, count_by};
+ghost use Rattle.std.specs.Prelude.{◌≡◌, ◌+◌, ◌*◌, ◌/◌, ◌%◌, ◌<◌, ◌≤◌, List, Bool, Some, length, slice_get, true, count_by, IsTrue, ◌↔◌};
+ghost use Rattle.std.specs.List.{All};
 ghost use Rattle.colbits.specs.Bit.{bits};
 ghost use Rattle.colbits.specs.Slice.{slice};
 
@@ -80,5 +81,18 @@ impl<'a> Bits<'a> {
             }
         }
         ones
+    }
+
+    /// Whether each of the bits is 1. It looks no further than the first that is 0.
+    pub fn are_ones(&self) -> bool
+        ensures { IsTrue result ↔ All (λ b. b ≡ true) self.now }
+    {
+        let count = self.len();
+        for i in 0..count {
+            if !self.get(i) {
+                return false;
+            }
+        }
+        true
     }
 }

@@ -5,6 +5,7 @@ pub mod bitmap;
 pub mod bits;
 pub mod buffer;
 pub mod memory;
+pub mod places;
 #[cfg(test)]
 mod tests;
 
@@ -12,3 +13,4 @@ pub use bitmap::BitmapBuf;
 pub use bits::Bits;
 pub use buffer::Buffer;
 pub use memory::NoMemory;
+pub use places::Places;

@@ -3,7 +3,7 @@ ghost use Rattle.std.specs.Option.{ForSome};
 ghost use Rattle.arrays.specs.File.{kinds_of};
 ghost use Rattle.arrays.specs.Kind as kind;
 ghost use Rattle.arrays.specs.Number.{IsOfType};
-ghost use Rattle.arrowtab.specs.Columns.{AreIntegers};
+ghost use Rattle.arrow_json.specs.Integers.{AreIntegers};
 
 use crate::batches::{AdmitError, Batches};
 use crate::nulls::int_column;

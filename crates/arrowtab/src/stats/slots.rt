@@ -4,7 +4,7 @@ ghost use Rattle.arrays.specs.Kind.{bytes_of};
 ghost use Rattle.arrowtab.specs.Stats.{Adds, slots};
 
 use crate::stats::ColumnStats;
-use crate::stats::integer::Integer;
+use arrays::Integer;
 use colbits::Bits;
 
 /// The statistics with `len` slots more: numbers, or nulls where there are bits and they aren't 1.

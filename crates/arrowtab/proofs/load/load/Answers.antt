@@ -1,5 +1,5 @@
 use Rattle.std.proofs.Common.{◌∙◌, sym, subst}
-use Rattle.arrowtab.specs.Columns.{AreIntegers}
+use Rattle.arrow_json.specs.Integers.{AreIntegers}
 use Rattle.arrowtab.proofs.LoadLemmas.{fields_at}
 use Rattle.arrowtab.proofs.load.load.Goals as goal
 

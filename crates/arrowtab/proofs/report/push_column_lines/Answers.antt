@@ -1,7 +1,7 @@
 use Rattle.std.proofs.Common.{◌≡◌, ◌∙◌, ◌++◌, ◌<◌, length, take, string_bytes, true, ap, sym, subst, arith}
 use Rattle.std.proofs.lemmas.List.{length-map}
 use Rattle.arrays.specs.Shape.{FieldShape, field_of, kind_of_field}
-use Rattle.arrowtab.specs.Columns.{is_integer}
+use Rattle.arrow_json.specs.Integers.{is_integer}
 use Rattle.arrowtab.specs.History.{column, rows}
 use Rattle.arrowtab.specs.Shown.{column_lines, field_line}
 use Rattle.arrowtab.proofs.ReportLemmas.{field-at, column_lines-more, one_line_more}

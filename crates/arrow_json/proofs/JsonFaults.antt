@@ -1,0 +1,129 @@
+-- Why a fault that is told stands: one lemma for each way in which it came about.
+use Rattle.std.proofs.Common.{◌≡◌, ◌≢◌, inl, inr, ◌∙◌, ℕ, ◌<◌, length, get_or, List, [], ◌∷◌, Option, Some, None, option_and_then, false, codes, sym, ap, subst}
+use Rattle.serde_json.specs.Data.{Data, Items}
+use Rattle.serde_json.specs.Find.{get_item, as_array, as_bool, as_number, as_object, as_str}
+use Rattle.serde_json.proofs.Views.{items_len-items_view, get_item_within}
+use Rattle.serde_json.specs.View.{view, items_view}
+use Rattle.serde_json.specs.declared.value.Value.{Value}
+use Rattle.arrow_json.specs.declared.path.Member.{Member}
+use Rattle.arrow_json.specs.declared.path.Member.TheVariants as member
+use Rattle.arrow_json.specs.declared.path.Step.{Step}
+use Rattle.arrow_json.specs.declared.path.Step.TheVariants as step
+use Rattle.arrow_json.specs.declared.fault.JsonFault.{JsonFault}
+use Rattle.arrow_json.specs.declared.fault.JsonFaultKind.{JsonFaultKind}
+use Rattle.arrow_json.specs.declared.fault.JsonFaultKind.TheVariants.{MissingMember, WrongMember, UnsupportedType}
+use Rattle.arrow_json.specs.JsonFault.{no_memory, IsFault, IsUnder, Tells, stands, wants}
+use Rattle.arrow_json.specs.JsonMember.{member_of, IsObject, Unlike, unlike, Missing, missing, MemberFault, absent, wrong, EachFault, item}
+use Rattle.arrow_json.specs.JsonNumber.{width_of}
+use Rattle.arrow_json.specs.JsonSchema.{type_name, is_without, is_childless}
+use Rattle.arrow_json.specs.JsonSchemaFault.{TypeFault, no_type_object, bad_type_name, other_type, bad_width, other_width, bad_sign, FieldFault, no_field_object, bad_field_name, bad_nullable, bad_type, encoded, has_children, SchemaFault, no_schema_object, bad_fields, bad_field}
+
+abbrev Faults : Type 1
+Faults = JsonFaultKind → List Step → Type 0
+
+-- a fault made at a place stands if that kind stands there
+pub tells_at : (S : JsonFaultKind → List Step → Type 0) (k : JsonFaultKind) (p : List Step) (f : JsonFault) → S k p → IsFault k p f → Tells S f
+tells_at S k p f s (inl e) = let P : JsonFault → Type 0 = λ g. S g.kind g.path in stands (subst P (sym e) s)
+tells_at S k p f s (inr e) = wants e
+
+-- a fault that stands for one thing stands for another
+pub tells_as : (S R : JsonFaultKind → List Step → Type 0) (f : JsonFault) → ((k : JsonFaultKind) (p : List Step) → S k p → R k p) → Tells S f → Tells R f
+tells_as S R f h (stands s) = stands (h f.kind f.path s)
+tells_as S R f h (wants e) = wants e
+
+-- a fault that stands for one thing stands for another, one step above
+pub tells_under : (S R : JsonFaultKind → List Step → Type 0) (x : Step) (f g : JsonFault) → ((k : JsonFaultKind) (p : List Step) → S k p → R k (x ∷ p)) → Tells S f → IsUnder x f g → Tells R g
+tells_under S R x f g h t (inr e) = wants e
+tells_under S R x f g h (stands s) (inl e) = let P : JsonFault → Type 0 = λ a. R a.kind a.path in stands (subst P (sym e.1) (h f.kind f.path s))
+tells_under S R x f g h (wants w) (inl e) = absurd (e.0 (ap (λ a. a.kind) w))
+
+pub tells_unlike : {A : Type 0} (wanted : Data → Option A) (d : Data) (f : JsonFault) → wanted d ≡ None → IsFault WrongMember [] f → Tells (Unlike wanted d) f
+tells_unlike wanted d f h is = tells_at (Unlike wanted d) WrongMember [] f (unlike h) is
+
+pub tells_missing : (m : Member) (d : Data) (f : JsonFault) → IsObject d → member_of m d ≡ None → IsFault MissingMember (step.Member m ∷ []) f → Tells (Missing m d) f
+tells_missing m d f o h is = tells_at (Missing m d) MissingMember (step.Member m ∷ []) f (missing o h) is
+
+pub tells_absent : (m : Member) (W : Data → JsonFaultKind → List Step → Type 0) (d : Data) (f : JsonFault) → Tells (Missing m d) f → Tells (MemberFault m W d) f
+tells_absent m W d f t = tells_as (Missing m d) (MemberFault m W d) f (λ k p h. absent k p h) t
+
+pub tells_unlike_member : {A : Type 0} (wanted : Data → Option A) (m : Member) (d : Data) (f : JsonFault) (e : Data) → member_of m d ≡ Some e → wanted e ≡ None
+    → IsFault WrongMember (step.Member m ∷ []) f → Tells (MemberFault m (Unlike wanted) d) f
+tells_unlike_member wanted m d f e at h is = tells_at (MemberFault m (Unlike wanted) d) WrongMember (step.Member m ∷ []) f (wrong e WrongMember [] at (unlike h)) is
+
+-- ---- types
+
+pub type_object : (d : Data) (f : JsonFault) → Tells (Unlike as_object d) f → Tells (TypeFault d) f
+type_object d f t = tells_as (Unlike as_object d) (TypeFault d) f (λ k p h. no_type_object k p h) t
+
+pub type_name_told : (d : Data) (f : JsonFault) → Tells (MemberFault member.Name (Unlike as_str) d) f → Tells (TypeFault d) f
+type_name_told d f t = tells_as (MemberFault member.Name (Unlike as_str) d) (TypeFault d) f (λ k p h. bad_type_name k p h) t
+
+pub type_other_name : (d : Data) (f : JsonFault) (bytes : List ℕ) → type_name d ≡ Some bytes → bytes ≢ codes "int" → IsFault UnsupportedType [] f → Tells (TypeFault d) f
+type_other_name d f bytes at other is = tells_at (TypeFault d) UnsupportedType [] f (other_type bytes at other) is
+
+pub type_width : (d : Data) (f : JsonFault) → Tells (MemberFault member.BitWidth (Unlike as_number) d) f → type_name d ≡ Some (codes "int") → Tells (TypeFault d) f
+type_width d f t int = tells_as (MemberFault member.BitWidth (Unlike as_number) d) (TypeFault d) f (λ k p h. bad_width k p int h) t
+
+pub type_other_width : (d : Data) (f : JsonFault) → type_name d ≡ Some (codes "int") → option_and_then width_of (option_and_then as_number (member_of member.BitWidth d)) ≡ None
+    → IsFault UnsupportedType [] f → Tells (TypeFault d) f
+type_other_width d f int other is = tells_at (TypeFault d) UnsupportedType [] f (other_width int other) is
+
+pub type_sign : (d : Data) (f : JsonFault) → Tells (MemberFault member.IsSigned (Unlike as_bool) d) f → type_name d ≡ Some (codes "int") → Tells (TypeFault d) f
+type_sign d f t int = tells_as (MemberFault member.IsSigned (Unlike as_bool) d) (TypeFault d) f (λ k p h. bad_sign k p int h) t
+
+-- ---- fields
+
+pub field_object : (d : Data) (f : JsonFault) → Tells (Unlike as_object d) f → Tells (FieldFault d) f
+field_object d f t = tells_as (Unlike as_object d) (FieldFault d) f (λ k p h. no_field_object k p h) t
+
+pub field_name_told : (d : Data) (f : JsonFault) → Tells (MemberFault member.Name (Unlike as_str) d) f → Tells (FieldFault d) f
+field_name_told d f t = tells_as (MemberFault member.Name (Unlike as_str) d) (FieldFault d) f (λ k p h. bad_field_name k p h) t
+
+pub field_nullable_told : (d : Data) (f : JsonFault) → Tells (MemberFault member.Nullable (Unlike as_bool) d) f → Tells (FieldFault d) f
+field_nullable_told d f t = tells_as (MemberFault member.Nullable (Unlike as_bool) d) (FieldFault d) f (λ k p h. bad_nullable k p h) t
+
+pub field_no_type : (d : Data) (f : JsonFault) → Tells (Missing member.DataType d) f → Tells (FieldFault d) f
+field_no_type d f t = tells_as (Missing member.DataType d) (FieldFault d) f (λ k p h. bad_type k p (absent k p h)) t
+
+pub field_type_told : (d e : Data) (f g : JsonFault) → Tells (TypeFault e) f → member_of member.DataType d ≡ Some e → IsUnder (step.Member member.DataType) f g → Tells (FieldFault d) g
+field_type_told d e f g t at up =
+    tells_under (TypeFault e) (FieldFault d) (step.Member member.DataType) f g (λ k p h. bad_type k (step.Member member.DataType ∷ p) (wrong e k p at h)) t up
+
+pub field_encoded : (d : Data) (f : JsonFault) → is_without (member_of member.Dictionary d) ≡ false → IsFault UnsupportedType (step.Member member.DataType ∷ []) f → Tells (FieldFault d) f
+field_encoded d f h is = tells_at (FieldFault d) UnsupportedType (step.Member member.DataType ∷ []) f (encoded h) is
+
+pub field_children : (d : Data) (f : JsonFault) → is_childless (member_of member.Children d) ≡ false → IsFault WrongMember (step.Member member.Children ∷ []) f → Tells (FieldFault d) f
+field_children d f h is = tells_at (FieldFault d) WrongMember (step.Member member.Children ∷ []) f (has_children h) is
+
+pub tells_wants : (S : JsonFaultKind → List Step → Type 0) (f : JsonFault) → f ≡ no_memory → Tells S f
+tells_wants S f h = wants h
+
+pub ruleset lengths = (items_len-items_view)
+
+-- ---- schemas
+
+pub tells_item : (W : Data → JsonFaultKind → List Step → Type 0) (ds : Items) (i : ℕ) (e : Data) (f g : JsonFault) → Tells (W e) f → get_item i ds ≡ Some e → IsUnder (step.Item i) f g
+    → Tells (EachFault W ds) g
+tells_item W ds i e f g t at up = tells_under (W e) (EachFault W ds) (step.Item i) f g (λ k p h. item i e k p at h) t up
+
+pub tells_item_at : (W : Data → JsonFaultKind → List Step → Type 0) (vs : List Value) (i : ℕ) (v : Value) (f g : JsonFault) → Tells (W (view v)) f → i < length vs → v ≡ get_or vs i v
+    → IsUnder (step.Item i) f g → Tells (EachFault W (items_view vs)) g
+tells_item_at W vs i v f g t within is up = tells_item W (items_view vs) i (view v) f g t (sym (get_item_within vs i v within) ∙ ap (λ w. Some (view w)) (sym is)) up
+
+pub schema_object : (d : Data) (f : JsonFault) → Tells (Unlike as_object d) f → Tells (SchemaFault d) f
+schema_object d f t = tells_as (Unlike as_object d) (SchemaFault d) f (λ k p h. no_schema_object k p h) t
+
+pub schema_fields : (d : Data) (f : JsonFault) → Tells (MemberFault member.Fields (Unlike as_array) d) f → Tells (SchemaFault d) f
+schema_fields d f t = tells_as (MemberFault member.Fields (Unlike as_array) d) (SchemaFault d) f (λ k p h. bad_fields k p h) t
+
+pub schema_field : (d : Data) (ds : Items) (f g : JsonFault) → Tells (EachFault FieldFault ds) f → option_and_then as_array (member_of member.Fields d) ≡ Some ds
+    → IsUnder (step.Member member.Fields) f g → Tells (SchemaFault d) g
+schema_field d ds f g t at up = tells_under (EachFault FieldFault ds) (SchemaFault d) (step.Member member.Fields) f g (λ k p h. bad_field ds k p at h) t up
+
+pub ruleset schema_told = (tells_item_at, schema_object, schema_fields, schema_field, tells_wants)
+
+pub ruleset type_told = (type_object, type_name_told, type_other_name, type_width, type_other_width, type_sign)
+
+pub ruleset field_told = (field_object, field_name_told, field_nullable_told, field_no_type, field_type_told, field_encoded, field_children, tells_wants)
+
+pub ruleset told = (tells_unlike, tells_missing, tells_absent, tells_unlike_member)

@@ -1,0 +1,80 @@
+-- What a file's batches are, and why its faults stand.
+use Rattle.std.proofs.Common.{◌≡◌, ℕ, ◌+◌, ◌<◌, List, [], ◌∷◌, ◌++◌, length, get_or, map, Some, None, option_and_then, IsUtf8, sym, subst}
+use Rattle.std.specs.List.{AllByRecursion}
+use Rattle.std.proofs.lemmas.List.{map-append}
+use Rattle.arrays.specs.Shape.{FieldShape}
+use Rattle.arrays.specs.Batch.{Batch}
+use Rattle.serde_json.specs.Data.{Data, Items}
+use Rattle.serde_json.specs.Find.{as_array, as_object}
+use Rattle.serde_json.specs.Read.{read}
+use Rattle.serde_json.specs.View.{view, items_view}
+use Rattle.serde_json.specs.declared.value.Value.{Value}
+use Rattle.arrow_json.specs.declared.path.Member.TheVariants as member
+use Rattle.arrow_json.specs.declared.path.Step.TheVariants as step
+use Rattle.arrow_json.specs.declared.fault.JsonFault.{JsonFault}
+use Rattle.arrow_json.specs.declared.fault.JsonFaultKind.TheVariants.{NotJson}
+use Rattle.arrow_json.specs.JsonFault.{Tells, IsFault, IsUnder}
+use Rattle.arrow_json.specs.JsonMember.{member_of, Unlike, Missing, MemberFault, absent, wrong, EachFault, ReadsFirst}
+use Rattle.arrow_json.specs.JsonSchemaFault.{SchemaFault}
+use Rattle.arrow_json.specs.Integers.{AreIntegers}
+use Rattle.arrow_json.specs.JsonBatch.{ReadsBatch, table_of}
+use Rattle.arrow_json.specs.JsonBatchFault.{BatchFault}
+use Rattle.arrow_json.specs.JsonFile.{AreUnder, HasSchema, FileFault, no_file_object, bad_schema, bad_batches, bad_batch, BytesFault, no_json, bad_file}
+use Rattle.arrow_json.proofs.JsonFaults.{tells_at, tells_as, tells_under, tells_wants, tells_item_at}
+use Rattle.arrow_json.proofs.JsonItems.{each_pushed}
+use Rattle.arrow_json.proofs.JsonInts.{ints_from_read}
+
+pub tells_batch : (fields : List FieldShape) (vs : List Value) (i : ℕ) (v : Value) (f g : JsonFault) → Tells (BatchFault fields (view v)) f → i < length vs → v ≡ get_or vs i v
+    → IsUnder (step.Item i) f g → Tells (EachFault (BatchFault fields) (items_view vs)) g
+tells_batch fields vs i v f g t within is up = tells_item_at (BatchFault fields) vs i v f g t within is up
+
+-- the loop's step
+pub batch_pushed : (fields : List FieldShape) (vs : List Value) (n : ℕ) (bs : List Batch) (v : Value) (b : Batch) → ReadsFirst (ReadsBatch fields) (items_view vs) n (map table_of bs)
+    → n < length vs → v ≡ get_or vs n v → ReadsBatch fields (view v) (table_of b) → ReadsFirst (ReadsBatch fields) (items_view vs) (n + 1) (map table_of (bs ++ b ∷ []))
+batch_pushed fields vs n bs v b h within is batch =
+    rw (map-append table_of bs (b ∷ [])) (each_pushed (ReadsBatch fields) vs n (map table_of bs) v (table_of b) h within is batch)
+
+pub ints_from_schema : (d : Data) (fields : List FieldShape) → HasSchema d fields → AreIntegers fields
+ints_from_schema d fields h = ints_from_read h.reads.fields.0 fields h.reads.fields.2
+
+pub ruleset batches_told = (tells_batch, tells_wants)
+
+pub file_object : (d : Data) (f : JsonFault) → Tells (Unlike as_object d) f → Tells (FileFault d) f
+file_object d f t = tells_as (Unlike as_object d) (FileFault d) f (λ k p h. no_file_object k p h) t
+
+pub file_no_schema : (d : Data) (f : JsonFault) → Tells (Missing member.Schema d) f → Tells (FileFault d) f
+file_no_schema d f t = tells_as (Missing member.Schema d) (FileFault d) f (λ k p h. bad_schema k p (absent k p h)) t
+
+pub file_schema : (d e : Data) (f g : JsonFault) → Tells (SchemaFault e) f → member_of member.Schema d ≡ Some e → IsUnder (step.Member member.Schema) f g → Tells (FileFault d) g
+file_schema d e f g t at up =
+    tells_under (SchemaFault e) (FileFault d) (step.Member member.Schema) f g (λ k p h. bad_schema k (step.Member member.Schema ∷ p) (wrong e k p at h)) t up
+
+pub file_batches : (d : Data) (f : JsonFault) → Tells (MemberFault member.Batches (Unlike as_array) d) f → Tells (FileFault d) f
+file_batches d f t = tells_as (MemberFault member.Batches (Unlike as_array) d) (FileFault d) f (λ k p h. bad_batches k p h) t
+
+pub file_batch : (d : Data) (fields : List FieldShape) (ds : Items) (f g : JsonFault) → Tells (EachFault (BatchFault fields) ds) f → HasSchema d fields
+    → option_and_then as_array (member_of member.Batches d) ≡ Some ds → IsUnder (step.Member member.Batches) f g → Tells (FileFault d) g
+file_batch d fields ds f g t schema at up =
+    tells_under (EachFault (BatchFault fields) ds) (FileFault d) (step.Member member.Batches) f g (λ k p h. bad_batch fields ds k p schema at h) t up
+
+pub ruleset file_told = (file_object, file_no_schema, file_schema, file_batches, file_batch)
+
+pub bytes_no_json : (bytes : List ℕ) (f : JsonFault) → (IsUtf8 bytes → read bytes ≡ None) → IsFault NotJson [] f → Tells (BytesFault bytes) f
+bytes_no_json bytes f h is = tells_at (BytesFault bytes) NotJson [] f (no_json h) is
+
+pub bytes_file : (bytes : List ℕ) (d : Data) (f : JsonFault) → Tells (FileFault d) f → IsUtf8 bytes → read bytes ≡ Some d → Tells (BytesFault bytes) f
+bytes_file bytes d f t text parsed = tells_as (FileFault d) (BytesFault bytes) f (λ k p h. bad_file d k p text parsed h) t
+
+pub ruleset bytes_told = (bytes_no_json, bytes_file, tells_wants)
+
+-- ---- the batches are under the schema
+
+each_under : (fields : List FieldShape) (bs : List Batch) (b : Batch) → AllByRecursion (λ x. x.fields ≡ fields) bs → b.fields ≡ fields → AllByRecursion (λ x. x.fields ≡ fields) (bs ++ b ∷ [])
+each_under fields [] b h is = (is, tt)
+each_under fields (x ∷ bs) b h is = (h.0, each_under fields bs b h.1 is)
+
+pub AreUnder-push : (fields : List FieldShape) (bs new : List Batch) (b : Batch) → AreUnder fields bs → b.fields ≡ fields → new ≡ bs ++ b ∷ [] → AreUnder fields new
+AreUnder-push fields bs new b under is grown = record {
+  integers = under.integers;
+  each = subst (λ xs. AllByRecursion (λ (x : Batch). x.fields ≡ fields) xs) (sym grown) (each_under fields bs b under.each is);
+}

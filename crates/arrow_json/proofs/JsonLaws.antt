@@ -1,0 +1,351 @@
+-- Where a fault stands, nothing is read.
+use Rattle.std.proofs.Common.{◌≡◌, ◌∙◌, ℕ, zero, suc, ◌<◌, Bool, true, List, [], ◌∷◌, length, Option, Some, None, option_map, option_and_then, codes, refl, sym, ap, subst, arith}
+use Rattle.std.specs.List.{slice_get}
+use Rattle.arrays.specs.declared.types.IntType.{IntType}
+use Rattle.arrays.specs.Kind as kind
+use Rattle.arrays.specs.Kind.{Kind}
+use Rattle.arrays.specs.Item.{Item}
+use Rattle.arrays.specs.Item as column
+use Rattle.arrays.specs.Shape.{Shape, FieldShape, int, boolean, utf8, list, dict, field, kind_of_field}
+use Rattle.serde_json.specs.Data as data'
+use Rattle.serde_json.specs.Data.{Data, Items, no_items, item}
+use Rattle.serde_json.specs.Find.{get_item, as_null, as_bool, as_number, as_str, as_array, as_object}
+use Rattle.serde_json.specs.Events.{items_len}
+use Rattle.arrow_json.specs.declared.path.Member.{Member}
+use Rattle.arrow_json.specs.declared.path.Member.TheVariants as member
+use Rattle.arrow_json.specs.declared.path.Step.{Step}
+use Rattle.arrow_json.specs.declared.fault.JsonFaultKind.{JsonFaultKind}
+use Rattle.arrow_json.specs.JsonMember as at
+use Rattle.arrow_json.specs.JsonMember.{member_of, Unlike, unlike, Missing, missing, MemberFault, absent, wrong, ListFault, no_array, length_differs, EachFault, ReadsEach}
+use Rattle.arrow_json.specs.JsonNumber.{count_of, flag_of, width_of, integer_of}
+use Rattle.arrow_json.specs.JsonSchema.{ReadsInt, ReadsShape, ReadsField, HasField, ReadsSchema}
+use Rattle.arrow_json.specs.JsonSchemaFault.{TypeFault, no_type_object, bad_type_name, other_type, bad_width, other_width, bad_sign, FieldFault, no_field_object, bad_field_name, bad_nullable, bad_type, encoded, has_children, SchemaFault, no_schema_object, bad_fields, bad_field}
+use Rattle.arrow_json.specs.JsonColumn.{flags_of, HasFlags, valid_at, slot_of, ReadsInts}
+use Rattle.arrow_json.specs.JsonColumnFault.{CountFault, no_count, other_count, FlagsFault, no_flags, SlotFault, no_flag, no_integer, SlotsFault, bad_valid, bad_slot, ColumnFault, no_column_object, bad_count, bad_flags, bad_values, bad_slots}
+use Rattle.arrow_json.specs.JsonTable.{Table, FileData}
+use Rattle.arrow_json.specs.JsonBatch.{ReadsColumn, ReadsColumns, ReadsBatch}
+use Rattle.arrow_json.specs.JsonBatchFault.{KindFault, ColumnsFault, bad_column, BatchFault, no_batch_object, bad_rows, bad_list, bad_columns}
+use Rattle.arrow_json.proofs.JsonInts.{get_item_some}
+use Rattle.arrow_json.specs.JsonFile.{HasSchema, ReadsFile, Reads, FileFault, no_file_object, bad_schema, bad_batches, bad_batch, BytesFault, no_json, bad_file}
+
+-- ---- members
+
+inner : {A B : Type 0} (f : A → Option B) (o : Option A) (y : B) → option_and_then f o ≡ Some y → (x : A) × (o ≡ Some x) × (f x ≡ Some y)
+inner f None y h = absurd cc
+inner f (Some x) y h = (x, refl, h)
+
+-- what has a member is an object
+no_object : {A : Type 0} (w : Data → Option A) (m : Member) (d : Data) (x : A) → option_and_then w (member_of m d) ≡ Some x → as_object d ≡ None → ⊥
+no_object w m data'.null x h e = cc
+no_object w m (data'.boolean b) x h e = cc
+no_object w m (data'.number n) x h e = cc
+no_object w m (data'.string s) x h e = cc
+no_object w m (data'.array ds) x h e = cc
+no_object w m (data'.object ms) x h e = cc
+
+not_unlike : {A : Type 0} (w : Data → Option A) (d : Data) (k : JsonFaultKind) (p : List Step) → Unlike w d k p → w d ≡ None
+not_unlike w d k p (unlike h) = h
+
+no_missing : (m : Member) (d : Data) (k : JsonFaultKind) (p : List Step) → Missing m d k p → member_of m d ≡ None
+no_missing m d k p (missing o h) = h
+
+-- a member that is what it is to be
+no_member : {A : Type 0} (w : Data → Option A) (m : Member) (d : Data) (x : A) (k : JsonFaultKind) (p : List Step) → option_and_then w (member_of m d) ≡ Some x → MemberFault m (Unlike w) d k p → ⊥
+no_member w m d x k p h (absent k' p' a) =
+    let e = no_missing m d k p a in
+    let i = inner w (member_of m d) x h in
+    cc (e, i.1)
+no_member w m d x k p h (wrong e k' p' found u) =
+    let i = inner w (member_of m d) x h in
+    let none = not_unlike w e _ _ u in
+    let same : e ≡ i.0 = cc (found, i.1) in
+    cc (ap w same, none, i.2)
+
+-- ---- schemas
+
+type_law : (d : Data) (t : IntType) (k : JsonFaultKind) (p : List Step) → ReadsInt d t → TypeFault d k p → ⊥
+type_law d t k p h (no_type_object k' p' u) = no_object as_str member.Name d _ h.name (not_unlike as_object d _ _ u)
+type_law d t k p h (bad_type_name k' p' f) = no_member as_str member.Name d _ _ _ h.name f
+type_law d t k p h (other_type bytes found other) =
+    let same : bytes ≡ codes "int" = cc (found, h.name) in
+    other same
+type_law d t k p h (bad_width k' p' name f) =
+    let i = inner width_of (option_and_then as_number (member_of member.BitWidth d)) t.bits h.width in
+    no_member as_number member.BitWidth d i.0 _ _ i.1 f
+type_law d t k p h (other_width name none) = cc (none, h.width)
+type_law d t k p h (bad_sign k' p' name f) = no_member as_bool member.IsSigned d _ _ _ h.sign f
+
+shape_law : (d : Data) (s : Shape) (k : JsonFaultKind) (p : List Step) → ReadsShape d s → TypeFault d k p → ⊥
+shape_law d (int t) k p h f = type_law d t k p h f
+shape_law d boolean k p h f = absurd h
+shape_law d utf8 k p h f = absurd h
+shape_law d (list g) k p h f = absurd h
+shape_law d dict k p h f = absurd h
+
+-- a member under which a thing stands that has no fault
+under_law : (m : Member) (W : Data → JsonFaultKind → List Step → Type 0) (d e : Data) (k : JsonFaultKind) (p : List Step) → member_of m d ≡ Some e
+    → ((k : JsonFaultKind) (p : List Step) → W e k p → ⊥) → MemberFault m W d k p → ⊥
+under_law m W d e k p found law (absent k' p' a) = cc (found, no_missing m d k p a)
+under_law m W d e k p found law (wrong g k' p' at w) =
+    let same : g ≡ e = cc (found, at) in
+    law k' p' (subst (λ x. W x k' p') same w)
+
+has_law : (d : Data) (bytes : List ℕ) (b : Bool) (s : Shape) (k : JsonFaultKind) (p : List Step) → HasField d bytes b s → FieldFault d k p → ⊥
+has_law d bytes b s k p h (no_field_object k' p' u) = no_object as_str member.Name d _ h.name (not_unlike as_object d _ _ u)
+has_law d bytes b s k p h (bad_field_name k' p' f) = no_member as_str member.Name d _ _ _ h.name f
+has_law d bytes b s k p h (bad_nullable k' p' f) = no_member as_bool member.Nullable d _ _ _ h.nullable f
+has_law d bytes b s k p h (bad_type k' p' f) = under_law member.DataType TypeFault d h.ty.0 _ _ h.ty.1 (λ k p w. shape_law h.ty.0 s k p h.ty.2 w) f
+has_law d bytes b s k p h (encoded e) = cc (e, h.plain)
+has_law d bytes b s k p h (has_children e) = cc (e, h.childless)
+
+field_law : (d : Data) (f : FieldShape) (k : JsonFaultKind) (p : List Step) → ReadsField d f → FieldFault d k p → ⊥
+field_law d (field bytes b s) k p h w = has_law d bytes b s k p h w
+
+get_item-within : (ds : Items) (i : ℕ) (d : Data) → get_item i ds ≡ Some d → i < items_len ds
+get_item-within no_items i d h = absurd cc
+get_item-within (item e ds) zero d h = omega arith
+get_item-within (item e ds) (suc i) d h = omega (arith, get_item-within ds i d h)
+
+slice_get_some : {A : Type 0} (xs : List A) (i : ℕ) → i < length xs → (x : A) × (slice_get xs i ≡ Some x)
+slice_get_some [] i h = absurd (omega arith)
+slice_get_some (x ∷ xs) zero h = (x, refl)
+slice_get_some (x ∷ xs) (suc i) h = slice_get_some xs i (omega arith)
+
+each_law : {A : Type 0} (R : Data → A → Type 0) (W : Data → JsonFaultKind → List Step → Type 0) (ds : Items) (xs : List A) (k : JsonFaultKind) (p : List Step) → ReadsEach R ds xs
+    → ((d : Data) (x : A) (k : JsonFaultKind) (p : List Step) → R d x → W d k p → ⊥) → EachFault W ds k p → ⊥
+each_law R W ds xs k p h law (at.item i e k' p' found w) =
+    let x = slice_get_some xs i (omega (arith, get_item-within ds i e found, h.len)) in
+    law e x.0 _ _ (h.each i e x.0 found x.1) w
+
+schema_law : (d : Data) (fields : List FieldShape) (k : JsonFaultKind) (p : List Step) → ReadsSchema d fields → SchemaFault d k p → ⊥
+schema_law d fields k p h (no_schema_object k' p' u) = no_object as_array member.Fields d _ h.fields.1 (not_unlike as_object d _ _ u)
+schema_law d fields k p h (bad_fields k' p' f) = no_member as_array member.Fields d _ _ _ h.fields.1 f
+schema_law d fields k p h (bad_field ds k' p' found f) =
+    let same : ds ≡ h.fields.0 = cc (found, h.fields.1) in
+    each_law ReadsField FieldFault h.fields.0 fields k' p' h.fields.2 field_law (subst (λ x. EachFault FieldFault x k' p') same f)
+
+-- ---- columns
+
+count_law : (n : ℕ) (d : Data) (k : JsonFaultKind) (p : List Step) → option_and_then count_of (member_of member.Count d) ≡ Some n → CountFault n d k p → ⊥
+count_law n d k p h (no_count k' p' f) = no_member count_of member.Count d n _ _ h f
+count_law n d k p h (other_count m found other) =
+    let same : m ≡ n = cc (found, h) in
+    other same
+
+-- an array of the right length
+list_law : (n : ℕ) (d : Data) (ds : Items) (k : JsonFaultKind) (p : List Step) → as_array d ≡ Some ds → items_len ds ≡ n → ListFault n d k p → ⊥
+list_law n d ds k p h len (no_array none) = cc (none, h)
+list_law n d ds k p h len (length_differs es found other) =
+    let same : es ≡ ds = cc (found, h) in
+    other (ap items_len same ∙ len)
+
+-- flags that are there are an array of them
+flags_array : (e : Data) (n : ℕ) (flags : Option Items) → flags_of (Some e) ≡ Some flags → HasFlags n flags → as_null e ≡ None → (fs : Items) × (as_array e ≡ Some fs) × (items_len fs ≡ n)
+flags_array data'.null n flags h len none = absurd cc
+flags_array (data'.boolean b) n flags h len none = absurd cc
+flags_array (data'.number x) n flags h len none = absurd cc
+flags_array (data'.string s) n flags h len none = absurd cc
+flags_array (data'.array fs) n flags h len none =
+    let same : flags ≡ Some fs = cc in
+    (fs, refl, subst (λ o. HasFlags n o) same len)
+flags_array (data'.object ms) n flags h len none = absurd cc
+
+flags_law : (n : ℕ) (d : Data) (flags : Option Items) (k : JsonFaultKind) (p : List Step) → flags_of (member_of member.Validity d) ≡ Some flags → HasFlags n flags → FlagsFault n d k p → ⊥
+flags_law n d flags k p h len (no_flags e k' p' found there w) =
+    let a = flags_array e n flags (ap flags_of (sym found) ∙ h) len there in
+    list_law n e a.0 _ _ a.1 a.2 w
+
+valid_law : (t : IntType) (o : Option Data) (d : Data) (x : Item) → slot_of t (Some true) o ≡ Some x → o ≡ Some d → integer_of t d ≡ None → ⊥
+valid_law t o d x h at none =
+    let e = ap (slot_of t (Some true)) at ∙ ap (option_map column.int) none in
+    cc (e, h)
+
+no_flag_law : (t : IntType) (o : Option Data) (d : Data) (x : Item) → slot_of t None o ≡ Some x → ⊥
+no_flag_law t None d x h = cc
+no_flag_law t (Some e) d x h = cc
+
+slot_law : (t : IntType) (i : ℕ) (f d : Data) (x : Item) (k : JsonFaultKind) (p : List Step) → slot_of t (flag_of f) (Some d) ≡ Some x → SlotFault t i f d k p → ⊥
+slot_law t i f d x k p h (no_flag none) = no_flag_law t (Some d) d x (ap (λ o. slot_of t o (Some d)) (sym none) ∙ h)
+slot_law t i f d x k p h (no_integer valid none) = valid_law t (Some d) d x (ap (λ o. slot_of t o (Some d)) (sym valid) ∙ h) refl none
+
+slot_read : (t : IntType) (n : ℕ) (d : Data) (items : List Item) (h : ReadsInts t n d items) (i : ℕ) (e : Data) → get_item i h.values ≡ Some e
+    → (x : Item) × (slot_of t (valid_at h.flags i) (get_item i h.values) ≡ Some x)
+slot_read t n d items h i e found =
+    let within : i < n = omega (arith, get_item-within h.values i e found, h.whole) in
+    let x = slice_get_some items i (omega (arith, h.slots.len)) in
+    (x.0, sym (h.slots.each i within) ∙ x.1)
+
+slots_law : (t : IntType) (n : ℕ) (d : Data) (items : List Item) (k : JsonFaultKind) (p : List Step) → (h : ReadsInts t n d items) → SlotsFault t h.flags h.values k p → ⊥
+slots_law t n d items k p h (bad_valid i e none found w) =
+    let x = slot_read t n d items h i e found in
+    valid_law t (get_item i h.values) e x.0 (ap (λ o. slot_of t (valid_at o i) (get_item i h.values)) (sym none) ∙ x.1) found w
+slots_law t n d items k p h (bad_slot fs i f e k' p' flags at_flag found w) =
+    let x = slot_read t n d items h i e found in
+    let valid : valid_at h.flags i ≡ flag_of f = ap (λ o. valid_at o i) flags ∙ ap (option_and_then flag_of) at_flag in
+    slot_law t i f e x.0 _ _ (ap (slot_of t (flag_of f)) (sym found) ∙ (ap (λ o. slot_of t o (get_item i h.values)) (sym valid) ∙ x.1)) w
+
+ints_law : (t : IntType) (n : ℕ) (d : Data) (items : List Item) (k : JsonFaultKind) (p : List Step) → ReadsInts t n d items → ColumnFault t n d k p → ⊥
+ints_law t n d items k p h (no_column_object k' p' u) = no_object count_of member.Count d n h.count (not_unlike as_object d _ _ u)
+ints_law t n d items k p h (bad_count k' p' f) = count_law n d _ _ h.count f
+ints_law t n d items k p h (bad_flags k' p' f) = flags_law n d h.flags _ _ h.validity h.flagged f
+ints_law t n d items k p h (bad_values k' p' f) =
+    let i = inner as_array (member_of member.Data d) h.values h.listed in
+    under_law member.Data (ListFault n) d i.0 _ _ i.1 (λ k p w. list_law n i.0 h.values k p i.2 h.whole w) f
+ints_law t n d items k p h (bad_slots flags values k' p' at_flags at_values f) =
+    let a : flags ≡ h.flags = cc (at_flags, h.validity) in
+    let b : values ≡ h.values = cc (at_values, h.listed) in
+    slots_law t n d items k' p' h (subst (λ x. SlotsFault t x h.values k' p') a (subst (λ y. SlotsFault t flags y k' p') b f))
+
+column_law : (c : Kind) (n : ℕ) (d : Data) (items : List Item) (k : JsonFaultKind) (p : List Step) → ReadsColumn c n d items → KindFault c n d k p → ⊥
+column_law (kind.int t) n d items k p h f = ints_law t n d items k p h f
+column_law kind.boolean n d items k p h f = absurd h
+column_law kind.utf8 n d items k p h f = absurd h
+column_law (kind.list c) n d items k p h f = absurd h
+column_law kind.dict n d items k p h f = absurd h
+
+-- ---- batches and files
+
+columns_law : (fields : List FieldShape) (d : Data) (t : Table) (k : JsonFaultKind) (p : List Step) → (h : ReadsBatch fields d t) → ColumnsFault fields t.rows h.found k p → ⊥
+columns_law fields d t k p h (bad_column i f e k' p' at_field found w) =
+    let x = slice_get_some t.columns i (omega (arith, get_item-within h.found i e found, h.whole, h.columns.len)) in
+    column_law (kind_of_field f) t.rows e x.0 _ _ (h.columns.each i f e x.0 at_field found x.1) w
+
+batch_law : (fields : List FieldShape) (d : Data) (t : Table) (k : JsonFaultKind) (p : List Step) → ReadsBatch fields d t → BatchFault fields d k p → ⊥
+batch_law fields d t k p h (no_batch_object k' p' u) = no_object count_of member.Count d t.rows h.count (not_unlike as_object d _ _ u)
+batch_law fields d t k p h (bad_rows k' p' f) = no_member count_of member.Count d t.rows _ _ h.count f
+batch_law fields d t k p h (bad_list k' p' f) =
+    let i = inner as_array (member_of member.Columns d) h.found h.listed in
+    under_law member.Columns (ListFault (length fields)) d i.0 _ _ i.1 (λ k p w. list_law (length fields) i.0 h.found k p i.2 h.whole w) f
+batch_law fields d t k p h (bad_columns rows ds k' p' at_rows at_list f) =
+    let a : rows ≡ t.rows = cc (at_rows, h.count) in
+    let b : ds ≡ h.found = cc (at_list, h.listed) in
+    columns_law fields d t k' p' h (subst (λ x. ColumnsFault fields x h.found k' p') a (subst (λ y. ColumnsFault fields rows y k' p') b f))
+
+-- ---- two readings of one schema are one
+
+same_int : (d : Data) (s t : IntType) → ReadsInt d s → ReadsInt d t → s ≡ t
+same_int d s t h g =
+    let width : s.bits ≡ t.bits = cc (h.width, g.width) in
+    let sign : s.signed ≡ t.signed = cc (h.sign, g.sign) in
+    ap (λ w. record { bits = w; signed = s.signed }) width ∙ ap (λ b. record { bits = t.bits; signed = b }) sign
+
+same_shape : (d : Data) (s t : Shape) → ReadsShape d s → ReadsShape d t → s ≡ t
+same_shape d (int s) (int t) h g = ap int (same_int d s t h g)
+same_shape d (int s) boolean h g = absurd g
+same_shape d (int s) utf8 h g = absurd g
+same_shape d (int s) (list f) h g = absurd g
+same_shape d (int s) dict h g = absurd g
+same_shape d boolean t h g = absurd h
+same_shape d utf8 t h g = absurd h
+same_shape d (list f) t h g = absurd h
+same_shape d dict t h g = absurd h
+
+same_field : (d : Data) (f g : FieldShape) → ReadsField d f → ReadsField d g → f ≡ g
+same_field d (field bytes b s) (field bytes' b' s') h g =
+    let name : bytes ≡ bytes' = cc (h.name, g.name) in
+    let nullable : b ≡ b' = cc (h.nullable, g.nullable) in
+    let place : h.ty.0 ≡ g.ty.0 = cc (h.ty.1, g.ty.1) in
+    let shape : s ≡ s' = same_shape g.ty.0 s s' (subst (λ e. ReadsShape e s) place h.ty.2) g.ty.2 in
+    cc (name, nullable, shape)
+
+same_lists : {A : Type 0} (xs ys : List A) → length xs ≡ length ys → ((i : ℕ) (x y : A) → slice_get xs i ≡ Some x → slice_get ys i ≡ Some y → x ≡ y) → xs ≡ ys
+same_lists [] [] len h = refl
+same_lists [] (y ∷ ys) len h = absurd (omega arith)
+same_lists (x ∷ xs) [] len h = absurd (omega arith)
+same_lists (x ∷ xs) (y ∷ ys) len h =
+    ap (λ a. a ∷ xs) (h 0 x y refl refl) ∙ ap (λ l. y ∷ l) (same_lists xs ys (omega arith) (λ i a b at at'. h (suc i) a b at at'))
+
+slice_get-within : {A : Type 0} (xs : List A) (i : ℕ) (x : A) → slice_get xs i ≡ Some x → i < length xs
+slice_get-within [] i x h = absurd cc
+slice_get-within (y ∷ xs) zero x h = omega arith
+slice_get-within (y ∷ xs) (suc i) x h = omega (arith, slice_get-within xs i x h)
+
+-- two readings of the items of one array are one, if those of each item are
+same_each : {A : Type 0} (R : Data → A → Type 0) (ds : Items) (xs ys : List A) → ((d : Data) (x y : A) → R d x → R d y → x ≡ y) → ReadsEach R ds xs → ReadsEach R ds ys → xs ≡ ys
+same_each R ds xs ys law h g =
+    same_lists xs ys (h.len ∙ sym g.len)
+    (λ i x y at at'.
+    let d = get_item_some ds i (omega (arith, slice_get-within xs i x at, h.len)) in
+    law d.0 x y (h.each i d.0 x d.1 at) (g.each i d.0 y d.1 at'))
+
+same_schema : (d : Data) (fs gs : List FieldShape) → HasSchema d fs → HasSchema d gs → fs ≡ gs
+same_schema d fs gs h g =
+    let place : h.schema ≡ g.schema = cc (h.at_schema, g.at_schema) in
+    let reads = subst (λ e. ReadsSchema e fs) place h.reads in
+    let found : reads.fields.0 ≡ g.reads.fields.0 = cc (reads.fields.1, g.reads.fields.1) in
+    same_each ReadsField g.reads.fields.0 fs gs same_field (subst (λ ds. ReadsEach ReadsField ds fs) found reads.fields.2) g.reads.fields.2
+
+file_law : (d : Data) (f : FileData) (k : JsonFaultKind) (p : List Step) → ReadsFile d f → FileFault d k p → ⊥
+file_law d f k p h (no_file_object k' p' u) = no_object as_array member.Batches d h.batches h.at_batches (not_unlike as_object d _ _ u)
+file_law d f k p h (bad_schema k' p' w) = under_law member.Schema SchemaFault d h.schema.schema _ _ h.schema.at_schema (λ k p w. schema_law h.schema.schema f.fields k p h.schema.reads w) w
+file_law d f k p h (bad_batches k' p' w) = no_member as_array member.Batches d h.batches _ _ h.at_batches w
+file_law d f k p h (bad_batch fields ds k' p' schema found w) =
+    let a : fields ≡ f.fields = same_schema d fields f.fields schema h.schema in
+    let b : ds ≡ h.batches = cc (found, h.at_batches) in
+    each_law (ReadsBatch f.fields) (BatchFault f.fields) h.batches f.tables k' p' h.tables (λ e t k p r w. batch_law f.fields e t k p r w)
+    (subst (λ x. EachFault (BatchFault x) h.batches k' p') a (subst (λ y. EachFault (BatchFault fields) y k' p') b w))
+
+pub bytes_law : (bytes : List ℕ) (f : FileData) (k : JsonFaultKind) (p : List Step) → Reads bytes f → BytesFault bytes k p → ⊥
+bytes_law bytes f k p h (no_json none) =
+    let e = none h.text in
+    cc (e, h.parsed)
+bytes_law bytes f k p h (bad_file d k' p' text parsed w) =
+    let same : d ≡ h.document = cc (parsed, h.parsed) in
+    file_law h.document f k' p' h.file (subst (λ x. FileFault x k' p') same w)
+
+-- ---- two readings of one file are one
+
+same_ints : (t : IntType) (n : ℕ) (d : Data) (xs ys : List Item) → ReadsInts t n d xs → ReadsInts t n d ys → xs ≡ ys
+same_ints t n d xs ys h g =
+    let flags : h.flags ≡ g.flags = cc (h.validity, g.validity) in
+    let values : h.values ≡ g.values = cc (h.listed, g.listed) in
+    same_lists xs ys (h.slots.len ∙ sym g.slots.len)
+    (λ i x y at at'.
+    let within : i < n = omega (arith, slice_get-within xs i x at, h.slots.len) in
+    let slot = ap (λ fs. slot_of t (valid_at fs i) (get_item i h.values)) flags ∙ ap (λ vs. slot_of t (valid_at g.flags i) (get_item i vs)) values in
+    let e : Some x ≡ Some y = sym at ∙ (h.slots.each i within ∙ (slot ∙ (sym (g.slots.each i within) ∙ at'))) in
+    cc)
+
+same_column : (k : Kind) (n : ℕ) (d : Data) (xs ys : List Item) → ReadsColumn k n d xs → ReadsColumn k n d ys → xs ≡ ys
+same_column (kind.int t) n d xs ys h g = same_ints t n d xs ys h g
+same_column kind.boolean n d xs ys h g = absurd h
+same_column kind.utf8 n d xs ys h g = absurd h
+same_column (kind.list k) n d xs ys h g = absurd h
+same_column kind.dict n d xs ys h g = absurd h
+
+same_columns : (fields : List FieldShape) (n : ℕ) (ds : Items) (xs ys : List (List Item)) → items_len ds ≡ length fields → ReadsColumns fields n ds (length fields) xs
+    → ReadsColumns fields n ds (length fields) ys → xs ≡ ys
+same_columns fields n ds xs ys whole h g =
+    same_lists xs ys (h.len ∙ sym g.len)
+    (λ i x y at at'.
+    let within : i < length fields = omega (arith, slice_get-within xs i x at, h.len) in
+    let f = slice_get_some fields i within in
+    let d = get_item_some ds i (omega arith) in
+    same_column (kind_of_field f.0) n d.0 x y (h.each i f.0 d.0 x f.1 d.1 at) (g.each i f.0 d.0 y f.1 d.1 at'))
+
+table_by : (t u : Table) → t.rows ≡ u.rows → t.columns ≡ u.columns → t ≡ u
+table_by t u rows columns = ap (λ n. record { rows = n; columns = t.columns }) rows ∙ ap (λ xs. record { rows = u.rows; columns = xs }) columns
+
+same_table : (fields : List FieldShape) (d : Data) (t u : Table) → ReadsBatch fields d t → ReadsBatch fields d u → t ≡ u
+same_table fields d t u h g =
+    let rows : t.rows ≡ u.rows = cc (h.count, g.count) in
+    let found : h.found ≡ g.found = cc (h.listed, g.listed) in
+    let read : ReadsColumns fields u.rows g.found (length fields) t.columns =
+    subst (λ n. ReadsColumns fields n g.found (length fields) t.columns) rows (subst (λ ds. ReadsColumns fields t.rows ds (length fields) t.columns) found h.columns) in
+    table_by t u rows (same_columns fields u.rows g.found t.columns u.columns g.whole read g.columns)
+
+file_by : (f g : FileData) → f.fields ≡ g.fields → f.tables ≡ g.tables → f ≡ g
+file_by f g fields tables = ap (λ fs. record { fields = fs; tables = f.tables }) fields ∙ ap (λ ts. record { fields = g.fields; tables = ts }) tables
+
+same_file : (d : Data) (f g : FileData) → ReadsFile d f → ReadsFile d g → f ≡ g
+same_file d f g h k =
+    let fields : f.fields ≡ g.fields = same_schema d f.fields g.fields h.schema k.schema in
+    let found : h.batches ≡ k.batches = cc (h.at_batches, k.at_batches) in
+    let read : ReadsEach (ReadsBatch g.fields) k.batches f.tables =
+    subst (λ fs. ReadsEach (ReadsBatch fs) k.batches f.tables) fields (subst (λ ds. ReadsEach (ReadsBatch f.fields) ds f.tables) found h.tables) in
+    file_by f g fields (same_each (ReadsBatch g.fields) k.batches f.tables g.tables (same_table g.fields) read k.tables)
+
+pub bytes_same : (bytes : List ℕ) (f g : FileData) → Reads bytes f → Reads bytes g → f ≡ g
+bytes_same bytes f g h k =
+    let same : h.document ≡ k.document = cc (h.parsed, k.parsed) in
+    same_file k.document f g (subst (λ d. ReadsFile d f) same h.file) k.file

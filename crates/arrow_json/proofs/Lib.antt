@@ -1,0 +1,11 @@
+-- What the proofs of this crate share.
+pub mod JsonNumbers
+pub mod JsonFaults
+pub mod JsonItems
+pub mod JsonInts
+pub mod JsonColumnFaults
+pub mod JsonSlots
+pub mod JsonBatches
+pub mod JsonRecordBatches
+pub mod JsonFiles
+pub mod JsonLaws

@@ -1,0 +1,8 @@
+use Rattle.serde_json.specs.View.{items_view}
+use Rattle.arrays.specs.Shape.{fields_of}
+use Rattle.arrow_json.specs.JsonBatch.{HoldsColumns}
+use Rattle.arrow_json.proofs.batch.read_columns.Given as goal
+
+-- the columns so far are read
+abbrev pub invariant-loop-index : goal.invariant-loop-index
+invariant-loop-index l = HoldsColumns (fields_of l.fields) l.rows (items_view l.values) l.index l.columns.items

@@ -1,0 +1,12 @@
+use Rattle.std.proofs.Common.{map}
+use Rattle.std.specs.Arc.{arc_value}
+use Rattle.serde_json.specs.View.{items_view}
+use Rattle.arrow_json.specs.JsonMember.{ReadsFirst}
+use Rattle.arrow_json.specs.JsonFile.{AreUnder}
+use Rattle.arrow_json.specs.JsonBatch.{ReadsBatch, table_of}
+use Rattle.arrow_json.proofs.file.read_batches.Given as goal
+
+-- the batches so far are read
+abbrev pub invariant-loop-index : goal.invariant-loop-index
+invariant-loop-index l =
+    ReadsFirst (ReadsBatch l.schema) (items_view l.values) l.index (map table_of (map arc_value l.batches.items)) × AreUnder l.schema (map arc_value l.batches.items)

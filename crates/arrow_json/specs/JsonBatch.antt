@@ -1,0 +1,53 @@
+-- The batches of a file. (Arrow integration testing, "JSON test data format", RecordBatch)
+use Rattle.std.specs.Prelude.{◌≡◌, ℕ, List, map, length, slice_get, Some, option_and_then}
+use Rattle.arrays.specs.Kind.{Kind, int, boolean, utf8, list, dict}
+use Rattle.arrays.specs.Item.{Item}
+use Rattle.arrays.specs.Shape.{FieldShape, kind_of_field}
+use Rattle.arrays.specs.Seen.{Seen}
+use Rattle.arrays.specs.Batch.{Batch}
+use Rattle.serde_json.specs.Data.{Data, Items}
+use Rattle.serde_json.specs.Find.{get_item, as_array}
+use Rattle.serde_json.specs.Events.{items_len}
+use Rattle.arrow_json.specs.JsonNumber.{count_of}
+use Rattle.arrow_json.specs.JsonMember.{member_of}
+use Rattle.arrow_json.specs.JsonColumn.{ReadsInts}
+use Rattle.arrow_json.specs.JsonTable.{Table}
+use Rattle.arrow_json.specs.declared.path.Member.TheVariants as member
+
+-- The columns of a batch, without where they lie in memory.
+abbrev pub table_of : Batch → Table
+table_of b = record { rows = b.rows; columns = map (λ s. s.items) b.columns }
+
+-- The column object of n items of the kind. Only integers are read.
+abbrev pub ReadsColumn : Kind → ℕ → Data → List Item → Type 0
+ReadsColumn (int t) n d items = ReadsInts t n d items
+ReadsColumn boolean n d items = ⊥
+ReadsColumn utf8 n d items = ⊥
+ReadsColumn (list k) n d items = ⊥
+ReadsColumn dict n d items = ⊥
+
+-- An array that is the column of the kind.
+pub record HoldsColumn (k : Kind) (rows : ℕ) (d : Data) (s : Seen) : Type 0 where
+  pub kind : s.kind ≡ k
+  pub len : length s.items ≡ rows
+  pub reads : ReadsColumn k rows d s.items
+
+-- Arrays that are the columns of the first fields.
+pub record HoldsColumns (fields : List FieldShape) (rows : ℕ) (ds : Items) (m : ℕ) (columns : List Seen) : Type 0 where
+  pub len : length columns ≡ m
+  pub each : (i : ℕ) (f : FieldShape) (d : Data) (s : Seen) → slice_get fields i ≡ Some f → get_item i ds ≡ Some d → slice_get columns i ≡ Some s
+      → HoldsColumn (kind_of_field f) rows d s
+
+-- The columns of the first fields.
+pub record ReadsColumns (fields : List FieldShape) (rows : ℕ) (ds : Items) (m : ℕ) (columns : List (List Item)) : Type 0 where
+  pub len : length columns ≡ m
+  pub each : (i : ℕ) (f : FieldShape) (d : Data) (items : List Item) → slice_get fields i ≡ Some f → get_item i ds ≡ Some d → slice_get columns i ≡ Some items
+      → ReadsColumn (kind_of_field f) rows d items
+
+-- The batch object of a table under the fields.
+pub record ReadsBatch (fields : List FieldShape) (d : Data) (t : Table) : Type 0 where
+  pub count : option_and_then count_of (member_of member.Count d) ≡ Some t.rows
+  pub found : Items
+  pub listed : option_and_then as_array (member_of member.Columns d) ≡ Some found
+  pub whole : items_len found ≡ length fields
+  pub columns : ReadsColumns fields t.rows found (length fields) t.columns

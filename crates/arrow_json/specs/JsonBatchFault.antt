@@ -1,0 +1,33 @@
+-- What can be wrong with a batch.
+use Rattle.std.specs.Prelude.{◌≡◌, ℕ, List, ◌∷◌, length, slice_get, Some, option_and_then}
+use Rattle.arrays.specs.Kind.{Kind, int, boolean, utf8, list, dict}
+use Rattle.arrays.specs.Shape.{FieldShape, kind_of_field}
+use Rattle.serde_json.specs.Data.{Data, Items}
+use Rattle.serde_json.specs.Find.{get_item, as_array, as_object}
+use Rattle.arrow_json.specs.JsonNumber.{count_of}
+use Rattle.arrow_json.specs.JsonMember.{member_of, Unlike, MemberFault, ListFault}
+use Rattle.arrow_json.specs.JsonColumnFault.{ColumnFault}
+use Rattle.arrow_json.specs.declared.path.Member.TheVariants as member
+use Rattle.arrow_json.specs.declared.path.Step.{Step}
+use Rattle.arrow_json.specs.declared.path.Step.TheVariants as step
+use Rattle.arrow_json.specs.declared.fault.JsonFaultKind.{JsonFaultKind}
+
+-- Only integers are read.
+abbrev pub KindFault : Kind → ℕ → Data → JsonFaultKind → List Step → Type 0
+KindFault (int t) n d kind path = ColumnFault t n d kind path
+KindFault boolean n d kind path = ⊥
+KindFault utf8 n d kind path = ⊥
+KindFault (list k) n d kind path = ⊥
+KindFault dict n d kind path = ⊥
+
+-- Some column is wrong.
+pub data ColumnsFault (fields : List FieldShape) (rows : ℕ) (ds : Items) : JsonFaultKind → List Step → Type 0 where
+  bad_column : (i : ℕ) (f : FieldShape) (d : Data) (kind : JsonFaultKind) (path : List Step) → slice_get fields i ≡ Some f → get_item i ds ≡ Some d
+      → KindFault (kind_of_field f) rows d kind path → ColumnsFault fields rows ds kind (step.Item i ∷ path)
+
+pub data BatchFault (fields : List FieldShape) (d : Data) : JsonFaultKind → List Step → Type 0 where
+  no_batch_object : (kind : JsonFaultKind) (path : List Step) → Unlike as_object d kind path → BatchFault fields d kind path
+  bad_rows : (kind : JsonFaultKind) (path : List Step) → MemberFault member.Count (Unlike count_of) d kind path → BatchFault fields d kind path
+  bad_list : (kind : JsonFaultKind) (path : List Step) → MemberFault member.Columns (ListFault (length fields)) d kind path → BatchFault fields d kind path
+  bad_columns : (rows : ℕ) (ds : Items) (kind : JsonFaultKind) (path : List Step) → option_and_then count_of (member_of member.Count d) ≡ Some rows
+      → option_and_then as_array (member_of member.Columns d) ≡ Some ds → ColumnsFault fields rows ds kind path → BatchFault fields d kind (step.Member member.Columns ∷ path)

@@ -1,0 +1,42 @@
+-- What can be wrong with a column.
+use Rattle.std.specs.Prelude.{◌≡◌, ◌≢◌, ℕ, List, [], ◌∷◌, true, Option, Some, None, option_and_then}
+use Rattle.arrays.specs.declared.types.IntType.{IntType}
+use Rattle.serde_json.specs.Data.{Data, Items}
+use Rattle.serde_json.specs.Find.{get_item, as_array, as_null, as_object}
+use Rattle.arrow_json.specs.JsonNumber.{integer_of, count_of, flag_of}
+use Rattle.arrow_json.specs.JsonMember.{member_of, Unlike, MemberFault, ListFault}
+use Rattle.arrow_json.specs.JsonColumn.{flags_of}
+use Rattle.arrow_json.specs.declared.path.Member.TheVariants as member
+use Rattle.arrow_json.specs.declared.path.Step.{Step}
+use Rattle.arrow_json.specs.declared.path.Step.TheVariants as step
+use Rattle.arrow_json.specs.declared.fault.JsonFaultKind.{JsonFaultKind}
+use Rattle.arrow_json.specs.declared.fault.JsonFaultKind.TheVariants.{WrongMember, BadNumber, CountDiffers}
+
+-- Slot i: its flag is none, or it is valid and its value is no integer of the type.
+pub data SlotFault (t : IntType) (i : ℕ) (f : Data) (d : Data) : JsonFaultKind → List Step → Type 0 where
+  no_flag : flag_of f ≡ None → SlotFault t i f d WrongMember (step.Member member.Validity ∷ step.Item i ∷ [])
+  no_integer : flag_of f ≡ Some true → integer_of t d ≡ None → SlotFault t i f d BadNumber (step.Member member.Data ∷ step.Item i ∷ [])
+
+-- Some slot is wrong.
+pub data SlotsFault (t : IntType) (flags : Option Items) (values : Items) : JsonFaultKind → List Step → Type 0 where
+  bad_valid : (i : ℕ) (d : Data) → flags ≡ None → get_item i values ≡ Some d → integer_of t d ≡ None → SlotsFault t flags values BadNumber (step.Member member.Data ∷ step.Item i ∷ [])
+  bad_slot : (fs : Items) (i : ℕ) (f d : Data) (kind : JsonFaultKind) (path : List Step) → flags ≡ Some fs → get_item i fs ≡ Some f → get_item i values ≡ Some d
+      → SlotFault t i f d kind path → SlotsFault t flags values kind path
+
+-- The column is to have n slots.
+pub data CountFault (n : ℕ) (d : Data) : JsonFaultKind → List Step → Type 0 where
+  no_count : (kind : JsonFaultKind) (path : List Step) → MemberFault member.Count (Unlike count_of) d kind path → CountFault n d kind path
+  other_count : (m : ℕ) → option_and_then count_of (member_of member.Count d) ≡ Some m → m ≢ n → CountFault n d CountDiffers (step.Member member.Count ∷ [])
+
+-- A validity that is there is to have a flag for each slot.
+pub data FlagsFault (n : ℕ) (d : Data) : JsonFaultKind → List Step → Type 0 where
+  no_flags : (e : Data) (kind : JsonFaultKind) (path : List Step) → member_of member.Validity d ≡ Some e → as_null e ≡ None → ListFault n e kind path
+      → FlagsFault n d kind (step.Member member.Validity ∷ path)
+
+pub data ColumnFault (t : IntType) (n : ℕ) (d : Data) : JsonFaultKind → List Step → Type 0 where
+  no_column_object : (kind : JsonFaultKind) (path : List Step) → Unlike as_object d kind path → ColumnFault t n d kind path
+  bad_count : (kind : JsonFaultKind) (path : List Step) → CountFault n d kind path → ColumnFault t n d kind path
+  bad_flags : (kind : JsonFaultKind) (path : List Step) → FlagsFault n d kind path → ColumnFault t n d kind path
+  bad_values : (kind : JsonFaultKind) (path : List Step) → MemberFault member.Data (ListFault n) d kind path → ColumnFault t n d kind path
+  bad_slots : (flags : Option Items) (values : Items) (kind : JsonFaultKind) (path : List Step) → flags_of (member_of member.Validity d) ≡ Some flags
+      → option_and_then as_array (member_of member.Data d) ≡ Some values → SlotsFault t flags values kind path → ColumnFault t n d kind path

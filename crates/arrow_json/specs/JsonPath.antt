@@ -1,0 +1,33 @@
+-- Places of a document, and their text: a JSON pointer (RFC 6901).
+use Rattle.std.specs.Prelude.{ℕ, List, ◌++◌, codes}
+use Rattle.std.specs.List.{flat_map}
+use Rattle.std.specs.Fmt.{decimal}
+use Rattle.arrow_json.specs.declared.path.Member.{Member}
+use Rattle.arrow_json.specs.declared.path.Member.TheVariants as member
+use Rattle.arrow_json.specs.declared.path.Step.{Step}
+use Rattle.arrow_json.specs.declared.path.Step.TheVariants as step
+
+-- The names of the members. (Arrow integration testing, "JSON test data format")
+abbrev pub member_name : Member → List ℕ
+member_name member.Schema = codes "schema"
+member_name member.Fields = codes "fields"
+member_name member.Name = codes "name"
+member_name member.Nullable = codes "nullable"
+member_name member.DataType = codes "type"
+member_name member.BitWidth = codes "bitWidth"
+member_name member.IsSigned = codes "isSigned"
+member_name member.Children = codes "children"
+member_name member.Dictionary = codes "dictionary"
+member_name member.Batches = codes "batches"
+member_name member.Count = codes "count"
+member_name member.Columns = codes "columns"
+member_name member.Validity = codes "VALIDITY"
+member_name member.Data = codes "DATA"
+
+-- A slash, and the member's name or the item's number.
+abbrev pub step_text : Step → List ℕ
+step_text (step.Member m) = codes "/" ++ member_name m
+step_text (step.Item i) = codes "/" ++ decimal i
+
+abbrev pub pointer : List Step → List ℕ
+pointer steps = flat_map step_text steps

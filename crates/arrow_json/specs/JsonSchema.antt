@@ -1,0 +1,61 @@
+-- The schema of a file. (Arrow integration testing, "JSON test data format", Schema and Field)
+use Rattle.std.specs.Prelude.{◌≡◌, ℕ, ◌==◌, List, codes, Bool, true, Option, Some, None, is_some, option_map, option_and_then, unwrap_or}
+use Rattle.arrays.specs.declared.types.IntType.{IntType}
+use Rattle.arrays.specs.Shape.{Shape, FieldShape, int, boolean, utf8, list, dict, field}
+use Rattle.serde_json.specs.Data.{Data, Items}
+use Rattle.serde_json.specs.Find.{as_null, as_bool, as_number, as_str, as_array}
+use Rattle.serde_json.specs.Events.{items_len}
+use Rattle.arrow_json.specs.JsonNumber.{width_of}
+use Rattle.arrow_json.specs.JsonMember.{member_of, ReadsEach}
+use Rattle.arrow_json.specs.declared.path.Member.TheVariants as member
+
+-- ---- types
+
+-- The name that a type object has.
+abbrev pub type_name : Data → Option (List ℕ)
+type_name d = option_and_then as_str (member_of member.Name d)
+
+-- The type object of an integer type.
+pub record ReadsInt (d : Data) (t : IntType) : Type 0 where
+  pub name : type_name d ≡ Some (codes "int")
+  pub width : option_and_then width_of (option_and_then as_number (member_of member.BitWidth d)) ≡ Some t.bits
+  pub sign : option_and_then as_bool (member_of member.IsSigned d) ≡ Some t.signed
+
+-- The type object of a type. Only integers are read.
+abbrev pub ReadsShape : Data → Shape → Type 0
+ReadsShape d (int t) = ReadsInt d t
+ReadsShape d boolean = ⊥
+ReadsShape d utf8 = ⊥
+ReadsShape d (list f) = ⊥
+ReadsShape d dict = ⊥
+
+-- ---- fields
+
+-- The member is absent or null.
+abbrev pub is_without : Option Data → Bool
+is_without None = true
+is_without (Some d) = is_some (as_null d)
+
+-- The member is absent, null or empty.
+abbrev pub is_childless : Option Data → Bool
+is_childless None = true
+is_childless (Some d) = unwrap_or (option_map (λ ds. items_len ds == 0) (as_array d)) (is_some (as_null d))
+
+-- The field's type object is that of an integer type.
+pub record HasType (d : Data) (t : IntType) : Type 0 where
+  pub found : (e : Data) × (member_of member.DataType d ≡ Some e) × ReadsInt e t
+
+pub record HasField (d : Data) (bytes : List ℕ) (b : Bool) (shape : Shape) : Type 0 where
+  pub name : option_and_then as_str (member_of member.Name d) ≡ Some bytes
+  pub nullable : option_and_then as_bool (member_of member.Nullable d) ≡ Some b
+  pub ty : (e : Data) × (member_of member.DataType d ≡ Some e) × ReadsShape e shape
+  pub plain : is_without (member_of member.Dictionary d) ≡ true
+  pub childless : is_childless (member_of member.Children d) ≡ true
+
+abbrev pub ReadsField : Data → FieldShape → Type 0
+ReadsField d (field bytes b shape) = HasField d bytes b shape
+
+-- ---- schemas
+
+pub record ReadsSchema (d : Data) (shapes : List FieldShape) : Type 0 where
+  pub fields : (ds : Items) × (option_and_then as_array (member_of member.Fields d) ≡ Some ds) × ReadsEach ReadsField ds shapes

@@ -1,0 +1,15 @@
+-- The words of this crate's contracts.
+pub mod JsonPath
+pub mod JsonFault
+pub mod JsonFaultText
+pub mod JsonNumber
+pub mod JsonMember
+pub mod Integers
+pub mod JsonSchema
+pub mod JsonSchemaFault
+pub mod JsonColumn
+pub mod JsonColumnFault
+pub mod JsonTable
+pub mod JsonBatch
+pub mod JsonBatchFault
+pub mod JsonFile

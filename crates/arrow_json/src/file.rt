@@ -1,0 +1,138 @@
+ghost use Rattle.std.specs.Prelude.{◌≡◌, Some, IfOk, IfErr, OnOk, IsUtf8, map};
+ghost use Rattle.std.specs.Arc.{arc_value};
+ghost use Rattle.serde_json.specs.Read.{read};
+ghost use Rattle.serde_json.specs.View.{view, items_view};
+ghost use Rattle.arrow_json.specs.Integers.{AreIntegers};
+ghost use Rattle.arrow_json.specs.JsonBatch.{ReadsBatch, table_of};
+ghost use Rattle.arrow_json.specs.JsonBatchFault.{BatchFault};
+ghost use Rattle.arrow_json.specs.JsonFault.{Tells};
+ghost use Rattle.arrow_json.specs.JsonMember.{EachFault, IsObject, ReadsEach, member_of};
+ghost use Rattle.arrow_json.specs.JsonSchema.{ReadsSchema};
+ghost use Rattle.arrow_json.specs.JsonFile.{AreUnder, BytesFault, FileFault, HasSchema, Reads, ReadsFile, file_of};
+
+use crate::batch::read_batch;
+use crate::fault::{JsonFault, JsonFaultKind};
+use crate::member::{array_member, check_object, push, required};
+use crate::path::{Member, Step};
+use crate::schema::read_schema;
+use arrays::{File, RecordBatch, Schema};
+use serde_json::Value;
+use std::alloc::Global;
+use std::sync::Arc;
+
+/// The batch that a batch object holds, under a copy of the schema.
+#[tactic(auto, using(crate::proofs::JsonFiles::batches_told))]
+fn read_under(alloc: Global, schema: &Schema, batch: &Value) -> Result<RecordBatch, JsonFault>
+    requires { AreIntegers schema.now }
+    ensures fields { IfOk result (λ b. b.fields ≡ schema.now) }
+    ensures ok { IfOk result (λ b. ReadsBatch schema.now (view batch.now) (table_of b)) }
+    ensures err { IfErr result (Tells (BatchFault schema.now (view batch.now))) }
+{
+    match schema.copy(alloc) {
+        Ok(copy) => read_batch(alloc, copy, batch),
+        Err(_) => Err(JsonFault::no_memory(alloc)),
+    }
+}
+
+/// The same, to be shared.
+#[tactic(auto, using(crate::proofs::JsonFiles::batches_told))]
+fn read_shared(alloc: Global, schema: &Schema, batch: &Value) -> Result<Arc<RecordBatch>, JsonFault>
+    requires { AreIntegers schema.now }
+    ensures fields { IfOk result (λ b. (arc_value b).fields ≡ schema.now) }
+    ensures ok { IfOk result (λ b. ReadsBatch schema.now (view batch.now) (table_of (arc_value b))) }
+    ensures err { IfErr result (Tells (BatchFault schema.now (view batch.now))) }
+{
+    let batch = read_under(alloc, schema, batch)?;
+    match Arc::new(alloc, batch) {
+        Ok(batch) => Ok(batch),
+        Err(_) => Err(JsonFault::no_memory(alloc)),
+    }
+}
+
+/// The batches of a file under its schema.
+#[tactic(auto, using(crate::proofs::JsonFiles::batches_told))]
+fn read_batches(
+    alloc: Global,
+    schema: &Schema,
+    values: &[Value],
+) -> Result<Vec<Arc<RecordBatch>>, JsonFault>
+    requires { AreIntegers schema.now }
+    ensures under { IfOk result (λ batches. AreUnder schema.now (map arc_value batches.items)) }
+    ensures ok { IfOk result (λ batches. ReadsEach (ReadsBatch schema.now) (items_view values.now)
+        (map table_of (map arc_value batches.items))) }
+    ensures err { IfErr result (Tells (EachFault (BatchFault schema.now) (items_view values.now))) }
+{
+    let mut batches = Vec::new(alloc);
+    for (index, value) in values.iter().enumerate() {
+        let batch = match read_shared(alloc, schema, value) {
+            Ok(batch) => batch,
+            Err(fault) => return Err(fault.under(alloc, Step::Item(index))),
+        };
+        push(alloc, &mut batches, batch)?;
+    }
+    Ok(batches)
+}
+
+/// The schema of a document.
+#[tactic(auto, using(crate::proofs::JsonFiles::file_told))]
+fn file_schema(alloc: Global, document: &Value) -> Result<Schema, JsonFault>
+    requires { IsObject (view document.now) }
+    ensures ok { IfOk result (HasSchema (view document.now)) }
+    ensures err { IfErr result (Tells (FileFault (view document.now))) }
+{
+    let schema = required(alloc, document, Member::Schema)?;
+    match read_schema(alloc, schema) {
+        Ok(schema) => Ok(schema),
+        Err(fault) => Err(fault.under(alloc, Step::Member(Member::Schema))),
+    }
+}
+
+/// The file of a document.
+#[tactic(auto, using(crate::proofs::JsonFiles::file_told))]
+fn read_document(alloc: Global, document: &Value) -> Result<File, JsonFault>
+    ensures under { IfOk result (λ f. AreUnder f.fields f.batches) }
+    ensures ok { IfOk result (λ f. ReadsFile (view document.now) (file_of f)) }
+    ensures err { IfErr result (Tells (FileFault (view document.now))) }
+{
+    check_object(alloc, document)?;
+    let schema = file_schema(alloc, document)?;
+    let values = array_member(alloc, document, Member::Batches)?;
+    match read_batches(alloc, &schema, values) {
+        Ok(batches) => Ok(File::new(schema, batches)),
+        Err(fault) => Err(fault.under(alloc, Step::Member(Member::Batches))),
+    }
+}
+
+/// The document that the bytes spell. They are let go of here, before anything is made of it.
+#[tactic(auto, using(crate::proofs::JsonFiles::bytes_told))]
+fn parse(alloc: Global, bytes: Vec<u8>) -> Result<Value, JsonFault>
+    ensures utf8 { OnOk result (IsUtf8 bytes.items) }
+    ensures document { IfOk result (λ document. read bytes.items ≡ Some (view document)) }
+    ensures err { IfErr result (Tells (BytesFault bytes.items)) }
+{
+    match Value::from_slice(alloc, &bytes) {
+        Ok(document) => Ok(document),
+        Err(error) => if error.is_memory() {
+            Err(JsonFault::no_memory(alloc))
+        } else {
+            Err(JsonFault::at(alloc, JsonFaultKind::NotJson, &[]))
+        },
+    }
+}
+
+/// Reads a file: its schema, and its batches under it.
+///
+/// Where several faults stand, which of them is told is open. A count that is stated takes no memory:
+/// it is compared with the arrays that are there.
+#[tactic(auto, using(crate::proofs::JsonFiles::bytes_told))]
+pub fn read_file(alloc: Global, bytes: Vec<u8>) -> Result<File, JsonFault>
+    // What is read is what the bytes say.
+    ensures ok { IfOk result (λ f. Reads bytes.items (file_of f)) }
+    // Each batch is under the schema, which is one of integers.
+    ensures under { IfOk result (λ f. AreUnder f.fields f.batches) }
+    // A fault that is told stands, want of memory apart.
+    ensures err { IfErr result (Tells (BytesFault bytes.items)) }
+{
+    let document = parse(alloc, bytes)?;
+    read_document(alloc, &document)
+}

@@ -1,0 +1,17 @@
+//! What holds of files whatever program reads them.
+ghost use Rattle.std.specs.Prelude.{◌≡◌, ℕ, List};
+ghost use Rattle.arrow_json.specs.JsonFile.{BytesFault, Reads};
+ghost use Rattle.arrow_json.specs.JsonTable.{FileData};
+ghost use Rattle.arrow_json.specs.declared.path.Step.{Step};
+ghost use Rattle.arrow_json.specs.declared.fault.JsonFaultKind.{JsonFaultKind};
+
+/// Where a fault stands, nothing is read.
+pub fn read_has_no_fault()
+    ensures { (bytes : List ℕ) (f : FileData) (kind : JsonFaultKind) (path : List Step) →
+        Reads bytes f → BytesFault bytes kind path → ⊥ }
+{}
+
+/// The bytes decide what is read.
+pub fn bytes_decide_the_file()
+    ensures { (bytes : List ℕ) (f g : FileData) → Reads bytes f → Reads bytes g → f ≡ g }
+{}

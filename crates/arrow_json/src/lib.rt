@@ -1,0 +1,18 @@
+//! Reads Arrow's JSON integration files into record batches.
+#![tactic(auto)]
+
+mod batch;
+mod column;
+pub mod fault;
+pub mod file;
+pub mod laws;
+mod member;
+mod number;
+pub mod path;
+mod schema;
+#[cfg(test)]
+mod tests;
+
+pub use fault::{JsonFault, JsonFaultKind, fault_text};
+pub use file::read_file;
+pub use path::{Member, Path, Step};

@@ -1,0 +1,155 @@
+ghost use Rattle.std.specs.Prelude.{◌≡◌, ◌≤◌, true, false, IfOk, IfErr, OnOk, Some, codes};
+ghost use Rattle.serde_json.specs.View.{view, items_view};
+ghost use Rattle.arrays.specs.Shape.{field_of, fields_of, int};
+ghost use Rattle.arrow_json.specs.JsonFault.{Tells};
+ghost use Rattle.arrow_json.specs.JsonMember.{member_of, EachFault, IsObject, ReadsEach};
+ghost use Rattle.arrow_json.specs.JsonSchema.{type_name, HasType, ReadsInt, ReadsField, ReadsSchema, is_without, is_childless};
+ghost use Rattle.arrow_json.specs.JsonSchemaFault.{TypeFault, FieldFault, SchemaFault};
+ghost use Rattle.arrow_json.specs.declared.path.Member.TheVariants as member;
+
+use crate::fault::{JsonFault, JsonFaultKind};
+use crate::member::{
+    array_member, check_object, number_member, push, required, text_member, truth_member,
+};
+use crate::number::width;
+use crate::path::{Member, Step};
+use arrays::{DataType, Field, IntType, Schema};
+use serde_json::Value;
+use std::alloc::Global;
+
+/// The integer type that a type object names.
+#[tactic(auto, using(crate::proofs::JsonFaults::type_told))]
+pub(crate) fn read_type(alloc: Global, object: &Value) -> Result<IntType, JsonFault>
+    ensures ok { IfOk result (ReadsInt (view object.now)) }
+    ensures err { IfErr result (Tells (TypeFault (view object.now))) }
+{
+    check_object(alloc, object)?;
+    check_name(alloc, object)?;
+    let Some(bits) = width(number_member(alloc, object, Member::BitWidth)?) else {
+        return Err(JsonFault::at(alloc, JsonFaultKind::UnsupportedType, &[]));
+    };
+    let signed = truth_member(alloc, object, Member::IsSigned)?;
+    Ok(IntType { bits, signed })
+}
+
+/// That a type object has the name of the integers.
+#[tactic(auto, using(crate::proofs::JsonFaults::type_told))]
+fn check_name(alloc: Global, object: &Value) -> Result<(), JsonFault>
+    requires { IsObject (view object.now) }
+    ensures ok { OnOk result (type_name (view object.now) ≡ Some (codes "int")) }
+    ensures err { IfErr result (Tells (TypeFault (view object.now))) }
+{
+    if text_member(alloc, object, Member::Name)? == "int" {
+        Ok(())
+    } else {
+        Err(JsonFault::at(alloc, JsonFaultKind::UnsupportedType, &[]))
+    }
+}
+
+/// The type of a field.
+#[tactic(auto, using(crate::proofs::JsonFaults::field_told))]
+fn field_type(alloc: Global, field: &Value) -> Result<IntType, JsonFault>
+    requires { IsObject (view field.now) }
+    ensures ok { IfOk result (λ t. HasType (view field.now) t) }
+    ensures err { IfErr result (Tells (FieldFault (view field.now))) }
+{
+    let object = required(alloc, field, Member::DataType)?;
+    match read_type(alloc, object) {
+        Ok(ty) => Ok(ty),
+        Err(fault) => Err(fault.under(alloc, Step::Member(Member::DataType))),
+    }
+}
+
+/// Whether the member is absent or null.
+fn is_without(object: &Value, member: Member) -> bool
+    ensures { result ≡ is_without (member_of member (view object.now)) }
+{
+    match object.get(member.name()) {
+        Some(found) => found.is_null(),
+        None => true,
+    }
+}
+
+#[tactic(auto, using(crate::proofs::JsonFaults::lengths))]
+/// Whether the field has no children: they are absent, null or empty.
+fn is_childless(field: &Value) -> bool
+    ensures { result ≡ is_childless (member_of member.Children (view field.now)) }
+{
+    match field.get(Member::Children.name()) {
+        Some(found) => match found.as_array() {
+            Some(children) => children.is_empty(),
+            None => found.is_null(),
+        },
+        None => true,
+    }
+}
+
+/// The field of a schema.
+#[tactic(auto, using(crate::proofs::JsonFaults::field_told))]
+pub(crate) fn read_field(alloc: Global, field: &Value) -> Result<Field, JsonFault>
+    ensures ok { IfOk result (λ f. ReadsField (view field.now) (field_of f)) }
+    ensures err { IfErr result (Tells (FieldFault (view field.now))) }
+{
+    check_object(alloc, field)?;
+    let name = text_member(alloc, field, Member::Name)?;
+    let nullable = truth_member(alloc, field, Member::Nullable)?;
+    let ty = field_type(alloc, field)?;
+    if !is_without(field, Member::Dictionary) {
+        return Err(JsonFault::at(
+            alloc,
+            JsonFaultKind::UnsupportedType,
+            &[Step::Member(Member::DataType)],
+        ));
+    }
+    if !is_childless(field) {
+        return Err(JsonFault::at(
+            alloc,
+            JsonFaultKind::WrongMember,
+            &[Step::Member(Member::Children)],
+        ));
+    }
+    let Ok(name) = String::from_str(alloc, name) else {
+        return Err(JsonFault::no_memory(alloc));
+    };
+    Ok(Field {
+        name,
+        nullable,
+        ty: DataType::Int(ty),
+    })
+}
+
+/// The fields of a schema.
+#[tactic(auto, using(crate::proofs::JsonFaults::schema_told))]
+fn read_fields(alloc: Global, values: &[Value]) -> Result<Vec<Field>, JsonFault>
+    ensures ok { IfOk result (λ fields.
+        ReadsEach ReadsField (items_view values.now) (fields_of fields.items)) }
+    ensures err { IfErr result (Tells (EachFault FieldFault (items_view values.now))) }
+{
+    let mut fields = Vec::new(alloc);
+    for (index, value) in values.iter().enumerate() {
+        let field = match read_field(alloc, value) {
+            Ok(field) => field,
+            Err(fault) => return Err(fault.under(alloc, Step::Item(index))),
+        };
+        push(alloc, &mut fields, field)?;
+    }
+    Ok(fields)
+}
+
+/// The schema of a file.
+#[tactic(auto, using(crate::proofs::JsonFaults::schema_told))]
+pub(crate) fn read_schema(alloc: Global, schema: &Value) -> Result<Schema, JsonFault>
+    ensures ok { IfOk result (ReadsSchema (view schema.now)) }
+    ensures err { IfErr result (Tells (SchemaFault (view schema.now))) }
+{
+    check_object(alloc, schema)?;
+    let values = array_member(alloc, schema, Member::Fields)?;
+    let fields = match read_fields(alloc, values) {
+        Ok(fields) => fields,
+        Err(fault) => return Err(fault.under(alloc, Step::Member(Member::Fields))),
+    };
+    match Schema::new(fields) {
+        Ok(schema) => Ok(schema),
+        Err(_) => unreachable!(),
+    }
+}

@@ -1,8 +1,0 @@
-use Rattle.serde_json.specs.View.{items_view}
-use Rattle.arrays.specs.Shape.{fields_of}
-use Rattle.arrowtab.specs.JsonBatch.{HoldsColumns}
-use Rattle.arrowtab.proofs.json_file.batch.read_columns.Given as goal
-
--- the columns so far are read
-abbrev pub invariant-loop-index : goal.invariant-loop-index
-invariant-loop-index l = HoldsColumns (fields_of l.fields) l.rows (items_view l.values) l.index l.columns.items

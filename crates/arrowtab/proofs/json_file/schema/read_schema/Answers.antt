@@ -1,7 +1,0 @@
-use Rattle.arrowtab.proofs.JsonInts.{schema_fault-read}
-use Rattle.arrowtab.proofs.json_file.schema.read_schema.Goals as goal
-
-pub unreachable-requires : goal.unreachable-requires
-unreachable-requires c =
-    let lawful = schema_fault-read _ _ c.in-Ok.ensures.ok in
-    cc (lawful, c.in-Err-new.ensures.err)

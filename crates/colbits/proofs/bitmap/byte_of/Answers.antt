@@ -1,0 +1,19 @@
+use Rattle.std.proofs.Common.{◌≡◌, ◌+◌, ◌&&◌, ◌<◌, ℕ, nat_lt, sym, ◌∙◌, subst, arith}
+use Rattle.colbits.specs.Bit.{bit_in}
+use Rattle.colbits.proofs.BitLemmas.{bits-set, bits-left, bits-zero}
+use Rattle.colbits.proofs.bitmap.byte_of.Goals as goal
+use Rattle.colbits.proofs.bitmap.byte_of.Goals.{then-at, else-at}
+
+pub loop-j-init : goal.loop-j-init
+loop-j-init g c = bits-zero (λ k. g.P.Places.at c.args.places.now (c.args.start + k))
+
+pub loop-j-preserved : goal.loop-j-preserved
+loop-j-preserved g c =
+    let f = λ (k : ℕ). g.P.Places.at c.args.places.now (c.args.start + k) in
+    let j = c.loop-j.j in
+    let P = λ (byte : ℕ). (k : ℕ) → bit_in byte k ≡ (nat_lt k (j + 1) && f k) in
+    let small : j < 8 = omega arith in
+    elim c.if-at.branch [
+      | then-at w ↦ subst P (sym w.byte-is) (bits-set f c.loop-j.byte j small (sym c.at.ensures ∙ w.if-at.true) c.loop-j.invariant)
+      | else-at w ↦ subst P (sym w.byte-is) (bits-left f c.loop-j.byte j (sym c.at.ensures ∙ w.if-at.false) c.loop-j.invariant)
+    ]
