@@ -1,0 +1,118 @@
+-- Decisions place by place are the comparison of two columns.
+use Rattle.std.proofs.Common.{◌≡◌, ℕ, ◌<◌, ◌&&◌, ◌||◌, not, Bool, true, false, List, length, cond, refl, sym, subst, ap, ◌∙◌, zero-add, get_or, slice_index_or, Option}
+use Rattle.std.specs.declared.cmp.Ordering.{Ordering}
+use Rattle.std.specs.declared.cmp.Ordering.TheVariants.{Less, Equal, Greater}
+use Rattle.std.specs.Ordering.{int_cmp, bool_cmp, nat_cmp, is_eq}
+use Rattle.std.specs.Cmp.Lexicographic.{slice_cmp}
+use Rattle.std.proofs.lemmas.List.FromFn.{get_or-map-range_with_len}
+use Rattle.arrays.proofs.ListLemmas.{map-range-below}
+use Rattle.arrays.specs.Item as item
+use Rattle.arrays.specs.Item.{Item, null, int, text, is_null}
+use Rattle.arrays.specs.Layout.{number_at}
+use Rattle.arrays.specs.Offsets.{of_slot}
+use Rattle.arrays.specs.Seen.{Seen, valid_at, valid_in}
+use Rattle.arrays.specs.Slot.{holds_at}
+use Rattle.arrays.specs.Values.{HasBits, HasNumbers, HasTexts, valid_values}
+use Rattle.arrays.specs.declared.types.IntType.{IntType}
+use Rattle.kernels.specs.Lift.{item_at, lifted}
+use Rattle.kernels.specs.Order.{compared, meets, order}
+use Rattle.kernels.specs.Truth.{truth_at}
+use Rattle.kernels.specs.Wanted.{decisions, wants}
+use Rattle.kernels.specs.declared.comparison.CmpOp.{CmpOp}
+use Rattle.kernels.specs.declared.comparison.wanted.Wanted.{Wanted}
+
+-- whether two items meet the comparison
+abbrev pub met : CmpOp → Item → Item → Item
+met op x y = item.boolean (meets op (order x y))
+
+-- a decision at each place
+pub decisions-compared : (op : CmpOp) (both : ℕ → Bool) (o : ℕ → Ordering) (xs ys : List Item) →
+    ((i : ℕ) → i < length xs → truth_at both (λ j. meets op (o j)) i ≡ lifted (met op) (item_at xs i) (item_at ys i)) →
+    decisions op both o (length xs) ≡ compared op xs ys
+decisions-compared op both o xs ys same =
+    map-range-below (truth_at both (λ j. meets op (o j))) (λ i. lifted (met op) (item_at xs i) (item_at ys i)) 0 (length xs)
+    (λ i h. subst (λ k. truth_at both (λ j. meets op (o j)) k ≡ lifted (met op) (item_at xs k) (item_at ys k)) (sym (zero-add i)) (same i h))
+
+-- an item of a column whose valid slots have values
+valid_value : (value : ℕ → Item) (s : Seen) (i : ℕ) → s.items ≡ valid_values value s → i < length s.items →
+    item_at s.items i ≡ cond (valid_at s i) (value i) null
+valid_value value s i are within =
+    ap (λ l. get_or l i null) are
+    ∙ get_or-map-range_with_len (λ j. cond (valid_at s j) (value j) null) 0 (length s.items) i i null within (zero-add i)
+
+-- two items, where the slots are valid
+two_valid : (op : CmpOp) (v w : Bool) (x y : Item) → is_null x ≡ false → is_null y ≡ false →
+    cond (v && w) (met op x y) null ≡ lifted (met op) (cond v x null) (cond w y null)
+two_valid op true true x y p q =
+    let e : (is_null x || is_null y) ≡ false = ap (λ b. b || is_null y) p ∙ q in
+    ap (λ b. cond b null (met op x y)) (sym e)
+two_valid op true false x y p q = ap (λ b. cond (b || true) null (met op x null)) (sym p)
+two_valid op false w x y p q = refl
+
+-- two items, which may be null
+two_items : (op : CmpOp) (x y : Item) → cond (not (is_null x) && not (is_null y)) (met op x y) null ≡ lifted (met op) x y
+two_items op x y = by_tests (is_null x) (is_null y)
+  where
+    by_tests : (p q : Bool) → cond (not p && not q) (met op x y) null ≡ cond (p || q) null (met op x y)
+    by_tests true q = refl
+    by_tests false true = refl
+    by_tests false false = refl
+
+module _ (op : CmpOp) (a b : Seen) (lengths : length a.items ≡ length b.items) where
+  -- two columns whose valid slots have values
+  values-compared : (x y : ℕ → Item) → a.items ≡ valid_values x a → b.items ≡ valid_values y b →
+      ((i : ℕ) → is_null (x i) ≡ false) → ((i : ℕ) → is_null (y i) ≡ false) →
+      decisions op (λ i. valid_at a i && valid_at b i) (λ i. order (x i) (y i)) (length a.items) ≡ compared op a.items b.items
+  values-compared x y are_x are_y there_x there_y =
+      decisions-compared op (λ i. valid_at a i && valid_at b i) (λ i. order (x i) (y i)) a.items b.items (λ i h.
+      let below : i < length b.items = subst (λ n. i < n) lengths h in
+      let e = valid_value x a i are_x h in
+      let f = valid_value y b i are_y below in
+      two_valid op (valid_at a i) (valid_at b i) (x i) (y i) (there_x i) (there_y i)
+      ∙ sym (λ j. lifted (met op) (e j) (f j)))
+
+  -- two columns of numbers
+  pub numbers-compared : (t : IntType) (x y : List ℕ) → HasNumbers t x a → HasNumbers t y b →
+      (v w : Option (List Bool)) (n : ℕ) → v ≡ a.validity → w ≡ b.validity → n ≡ length a.items →
+      decisions op (λ i. valid_in v i && valid_in w i) (λ i. int_cmp (number_at t x i) (number_at t y i)) n ≡ compared op a.items b.items
+  numbers-compared t x y has_x has_y v w n v_is w_is n_is =
+      (λ j. decisions op (λ i. valid_in (v_is j) i && valid_in (w_is j) i) (λ i. int_cmp (number_at t x i) (number_at t y i)) (n_is j))
+      ∙ values-compared (λ i. int (number_at t x i)) (λ i. int (number_at t y i)) has_x.numbers has_y.numbers (λ i. refl) (λ i. refl)
+
+  -- two columns of truth values
+  pub bools-compared : (x y : List Bool) → HasBits x a → HasBits y b →
+      (v w : Option (List Bool)) (n : ℕ) → v ≡ a.validity → w ≡ b.validity → n ≡ length a.items →
+      decisions op (λ i. valid_in v i && valid_in w i) (λ i. bool_cmp (slice_index_or x i false) (slice_index_or y i false)) n
+      ≡ compared op a.items b.items
+  bools-compared x y has_x has_y v w n v_is w_is n_is =
+      (λ j. decisions op (λ i. valid_in (v_is j) i && valid_in (w_is j) i) (λ i. bool_cmp (slice_index_or x i false) (slice_index_or y i false)) (n_is j))
+      ∙ values-compared (λ i. item.boolean (slice_index_or x i false)) (λ i. item.boolean (slice_index_or y i false)) has_x.values has_y.values (λ i. refl) (λ i. refl)
+
+  -- two columns of texts that lie behind one another
+  pub texts-compared : (xo x yo y : List ℕ) → HasTexts xo x a → HasTexts yo y b →
+      (v w : Option (List Bool)) (n : ℕ) → v ≡ a.validity → w ≡ b.validity → n ≡ length a.items →
+      decisions op (λ i. valid_in v i && valid_in w i) (λ i. slice_cmp nat_cmp (of_slot xo x i) (of_slot yo y i)) n
+      ≡ compared op a.items b.items
+  texts-compared xo x yo y has_x has_y v w n v_is w_is n_is =
+      (λ j. decisions op (λ i. valid_in (v_is j) i && valid_in (w_is j) i) (λ i. slice_cmp nat_cmp (of_slot xo x i) (of_slot yo y i)) (n_is j))
+      ∙ values-compared (λ i. text (of_slot xo x i)) (λ i. text (of_slot yo y i)) has_x.texts has_y.texts (λ i. refl) (λ i. refl)
+
+  -- two columns, item by item
+  pub items-compared :
+      decisions op (λ i. holds_at a i && holds_at b i) (λ i. order (item_at a.items i) (item_at b.items i)) (length a.items)
+      ≡ compared op a.items b.items
+  items-compared =
+      decisions-compared op (λ i. holds_at a i && holds_at b i) (λ i. order (item_at a.items i) (item_at b.items i)) a.items b.items
+      (λ i h. two_items op (item_at a.items i) (item_at b.items i))
+
+-- what is wanted of two equal items
+pub wants-equal : (w : Wanted) (o : Ordering) → is_eq o ≡ true → w.equal ≡ wants w o
+wants-equal w Less e = cc
+wants-equal w Equal e = refl
+wants-equal w Greater e = cc
+
+-- what is wanted of two others, where less and greater are wanted alike
+pub wants-unequal : (w : Wanted) (o : Ordering) → w.less ≡ w.greater → is_eq o ≡ false → w.less ≡ wants w o
+wants-unequal w Less alike e = refl
+wants-unequal w Equal alike e = cc
+wants-unequal w Greater alike e = alike

@@ -1,0 +1,7 @@
+-- What the proofs of this crate share.
+pub mod ValidityLemmas
+pub mod TruthLemmas
+pub mod ComparisonLemmas
+pub mod KleeneLemmas
+pub mod NumberLemmas
+pub mod ResultLemmas

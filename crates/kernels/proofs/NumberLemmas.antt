@@ -1,0 +1,107 @@
+-- Numbers of a type, and numbers written one behind the other.
+use Rattle.std.proofs.Common.{◌≡◌, ◌∙◌, ◌*ℤ◌, Option, Some, None, SomeIff, IfNone, ℕ, ◌+◌, ◌*◌, ◌<◌, ◌≤◌, ℤ, pos, negsuc, List, ◌++◌, Bool, true, false, length, ap, sym, subst, refl, arith, FitsSigned, length-append}
+use borrow.Author.Count.{below_more}
+use Rattle.std.specs.Int.{w128}
+use Rattle.std.proofs.lemmas.Bool.{ltb-true}
+use Rattle.std.proofs.lemmas.Int.{ints}
+use Rattle.std.proofs.lemmas.Nat.{row_fits}
+use Rattle.arrays.specs.declared.types.Width.{Width}
+use Rattle.arrays.specs.declared.types.Width.TheVariants.{W8, W16, W32, W64}
+use Rattle.arrays.specs.declared.types.IntType.{IntType}
+use Rattle.arrays.specs.Kind.{bytes_of}
+use Rattle.arrays.specs.Layout.{number_at}
+use Rattle.arrays.specs.Number.{IsOfType, is_of_type, bytes_of_number}
+use Rattle.arrays.proofs.EncodingLemmas.{length-bytes_of_number, number_at-append-front, number_at-append-end}
+use Rattle.kernels.specs.Computed.{AreResults}
+
+-- ---- the test of a number
+
+is_number : (w : Width) (signed : Bool) (z : ℤ) → is_of_type (record { bits = w; signed = signed }) z ≡ true → IsOfType (record { bits = w; signed = signed }) z
+is_number W8 true (pos n) h = let below = ltb-true _ _ h in omega (arith, ints)
+is_number W8 true (negsuc n) h = let below = ltb-true _ _ h in omega (arith, ints)
+is_number W8 false (pos n) h = let below = ltb-true _ _ h in omega (arith, ints)
+is_number W8 false (negsuc n) h = cc
+is_number W16 true (pos n) h = let below = ltb-true _ _ h in omega (arith, ints)
+is_number W16 true (negsuc n) h = let below = ltb-true _ _ h in omega (arith, ints)
+is_number W16 false (pos n) h = let below = ltb-true _ _ h in omega (arith, ints)
+is_number W16 false (negsuc n) h = cc
+is_number W32 true (pos n) h = let below = ltb-true _ _ h in omega (arith, ints)
+is_number W32 true (negsuc n) h = let below = ltb-true _ _ h in omega (arith, ints)
+is_number W32 false (pos n) h = let below = ltb-true _ _ h in omega (arith, ints)
+is_number W32 false (negsuc n) h = cc
+is_number W64 true (pos n) h = let below = ltb-true _ _ h in omega (arith, ints)
+is_number W64 true (negsuc n) h = let below = ltb-true _ _ h in omega (arith, ints)
+is_number W64 false (pos n) h = let below = ltb-true _ _ h in omega (arith, ints)
+is_number W64 false (negsuc n) h = cc
+
+pub IsOfType-from_test : (t : IntType) (z : ℤ) → is_of_type t z ≡ true → IsOfType t z
+IsOfType-from_test t z h = is_number t.bits t.signed z h
+
+wide : (w : Width) (signed : Bool) (z : ℤ) → IsOfType (record { bits = w; signed = signed }) z → FitsSigned w128 z
+wide W8 true z h = omega (arith, ints)
+wide W8 false z h = omega (arith, ints)
+wide W16 true z h = omega (arith, ints)
+wide W16 false z h = omega (arith, ints)
+wide W32 true z h = omega (arith, ints)
+wide W32 false z h = omega (arith, ints)
+wide W64 true z h = omega (arith, ints)
+wide W64 false z h = omega (arith, ints)
+
+-- a number of any type is one of 128 bits
+pub FitsSigned-from_test : (t : IntType) (z : ℤ) → is_of_type t z ≡ true → FitsSigned w128 z
+FitsSigned-from_test t z h = wide t.bits t.signed z (IsOfType-from_test t z h)
+
+by_test : {P : Type 0} (b : Bool) → (b ≡ true → P) → (b ≡ false → P) → P
+by_test true holds fails = holds refl
+by_test false holds fails = fails refl
+
+-- a number past 128 bits is of no type
+too_wide : (t : IntType) (z : ℤ) → (FitsSigned w128 z → ⊥) → is_of_type t z ≡ false
+too_wide t z h = by_test (is_of_type t z) (λ yes. absurd (h (FitsSigned-from_test t z yes))) (λ no. no)
+
+-- a product that 128 bits don't hold is of no type
+pub unheld : (r : Option ℤ) (x y bx by : ℤ) → bx ≡ x → by ≡ y → SomeIff r (FitsSigned w128 (bx *ℤ by)) (bx *ℤ by) → IfNone r ((t : IntType) → is_of_type t (x *ℤ y) ≡ false)
+unheld None x y bx by same_x same_y h = λ t. subst (λ z. is_of_type t z ≡ false) (ap (λ v. v *ℤ by) same_x ∙ ap (λ v. x *ℤ v) same_y) (too_wide t (bx *ℤ by) h)
+unheld (Some z) x y bx by same_x same_y h = tt
+
+number_of_zero : (w : Width) (signed : Bool) → is_of_type (record { bits = w; signed = signed }) (pos 0) ≡ true
+number_of_zero W8 true = refl
+number_of_zero W8 false = refl
+number_of_zero W16 true = refl
+number_of_zero W16 false = refl
+number_of_zero W32 true = refl
+number_of_zero W32 false = refl
+number_of_zero W64 true = refl
+number_of_zero W64 false = refl
+
+pub is_of_type-zero : (t : IntType) → is_of_type t (pos 0) ≡ true
+is_of_type-zero t = number_of_zero t.bits t.signed
+
+-- ---- one number more
+
+more_rows : (n w : ℕ) → n * w + w ≡ (n + 1) * w
+more_rows n w = omega arith
+
+pub AreResults-more : (t : IntType) (result : ℕ → ℤ) (valid : ℕ → Bool) (n : ℕ) (bytes longer : List ℕ) (pushed z : ℤ) → AreResults t result valid n bytes → longer ≡ bytes ++ bytes_of_number t pushed
+    → pushed ≡ z → is_of_type t z ≡ true → (valid n ≡ true → z ≡ result n) → AreResults t result valid (n + 1) longer
+AreResults-more t result valid n bytes longer pushed z are grows same fits here =
+    let grown = grows ∙ ap (λ y. bytes ++ bytes_of_number t y) same in
+    let w = bytes_of t.bits in
+    let added = bytes_of_number t z in
+    let of_type = IsOfType-from_test t z fits in
+    let within : (j : ℕ) → j < n → j * w + w ≤ length bytes = λ j before. subst (λ m. j * w + w ≤ m) (sym are.size) (row_fits j w n w before (omega arith)) in
+    record {
+      size =
+          ap length grown
+          ∙ length-append bytes added
+          ∙ ap (λ m. m + length added) are.size
+          ∙ ap (λ m. n * w + m) (length-bytes_of_number t z)
+          ∙ more_rows n w;
+      numbers =
+          below_more (λ j. valid j ≡ true → number_at t longer j ≡ result j) n
+          (λ j before is_valid. ap (λ v. number_at t v j) grown ∙ number_at-append-front t bytes added j (within j before) ∙ are.numbers j before is_valid)
+          (λ is_valid. ap (λ v. number_at t v n) grown ∙ number_at-append-end t bytes z n (sym are.size) of_type ∙ here is_valid);
+      of_type = record {
+        each = below_more (λ j. valid j ≡ true → is_of_type t (result j) ≡ true) n are.of_type.each (λ is_valid. ap (is_of_type t) (sym (here is_valid)) ∙ fits);
+      };
+    }

@@ -1,0 +1,15 @@
+use Rattle.std.proofs.Common.{◌≡◌, ◌∙◌, true, Some, sym, ap}
+use Rattle.std.specs.List.{All}
+use Rattle.kernels.specs.Shown.{kept}
+use Rattle.kernels.proofs.ValidityLemmas.{kept-ones, kept-some}
+use Rattle.kernels.proofs.validity.validity_of.Goals as goal
+
+pub returns-then-are_ones : goal.returns-then-are_ones
+returns-then-are_ones g c =
+    let ones : All (λ b. b ≡ true) c.bits.result = c.are_ones.ensures.0 c.if-are_ones.true in
+    sym (ap kept (sym c.in_ok-bitmap.ensures ∙ sym c.bits.ensures) ∙ kept-ones c.bits.result ones)
+
+pub returns : goal.returns
+returns g c =
+    let some : All (λ b. b ≡ true) c.bits.result → ⊥ = λ all. let t = c.are_ones.ensures.1 all in let f = c.if-are_ones.false in cc in
+    ap Some (sym c.bits.ensures) ∙ sym (ap kept (sym c.in_ok-bitmap.ensures ∙ sym c.bits.ensures) ∙ kept-some c.bits.result some)

@@ -1,0 +1,13 @@
+pub mod Lift
+pub mod Shown
+pub mod Fault
+pub mod Arithmetic
+pub mod Computed
+pub mod Order
+pub mod Kleene
+pub mod Nulls
+pub mod Valid
+pub mod Truth
+pub mod Packed
+pub mod Wanted
+pub mod Known

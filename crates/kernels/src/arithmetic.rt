@@ -1,0 +1,232 @@
+//! Checked arithmetic on two columns of one integer type, place by place.
+
+ghost use Rattle.std.specs.Prelude.{◌≡◌, ◌+◌, ◌≤◌, ◌*◌, ◌+ℤ◌, ◌-ℤ◌, ◌*ℤ◌, IfErr, IfNone, IfOk, IfSome};
+ghost use Rattle.std.specs.Prelude.{None, true, false, length};
+ghost use Rattle.arrays.specs.Kind as kind;
+ghost use Rattle.arrays.specs.Kind.{bytes_of};
+ghost use Rattle.arrays.specs.Number.{is_of_type};
+ghost use Rattle.arrays.specs.Seen.{valid_in};
+ghost use Rattle.arrays.specs.ViewType.{view_kind};
+ghost use Rattle.kernels.specs.Arithmetic.{are_one_int, arithmetic_fault, operands_fault, results};
+ghost use Rattle.kernels.specs.Computed.{AreResults, StopsAt, result_at};
+ghost use Rattle.kernels.specs.Fault.{Told};
+ghost use Rattle.kernels.specs.Shown.{shown};
+
+#[cfg(test)]
+mod tests;
+
+use crate::fault::KernelFault;
+use crate::validity::{both_valid, buffer_of, is_valid};
+use arrays::{Array, IntType, Integer, View, ViewType, Width};
+use colbits::{BitmapBuf, Bits, Buffer};
+use std::alloc::Global;
+
+/// The sums of two columns of one integer type: null where either is null, else the exact sum, which has to be of
+/// the type. `TypesDiffer` unless both columns are of one integer type; else `LengthsDiffer` unless they are of one
+/// length; else `Overflow` at the least row where both have a number and the sum is outside the type. What lies
+/// under a null is never looked at. `NoMemory` where a growth was refused.
+pub fn add(alloc: Global, a: &View<'_>, b: &View<'_>) -> Result<Array, KernelFault>
+    ensures ok { IfOk result (λ r. (arithmetic_fault ◌+ℤ◌ a.now b.now ≡ None)
+        × (r ≡ shown a.now.kind (results ◌+ℤ◌ a.now.items b.now.items))) }
+    ensures err { IfErr result (λ e. Told (operands_fault a.now b.now) (arithmetic_fault ◌+ℤ◌ a.now b.now) e) }
+{
+    compute::<Sum>(alloc, a, b)
+}
+
+/// The differences of two columns of one integer type, the second taken from the first: null where either is null,
+/// else the exact difference, which has to be of the type. The errors are those of [`add`], with the difference in
+/// place of the sum.
+pub fn sub(alloc: Global, a: &View<'_>, b: &View<'_>) -> Result<Array, KernelFault>
+    ensures ok { IfOk result (λ r. (arithmetic_fault ◌-ℤ◌ a.now b.now ≡ None)
+        × (r ≡ shown a.now.kind (results ◌-ℤ◌ a.now.items b.now.items))) }
+    ensures err { IfErr result (λ e. Told (operands_fault a.now b.now) (arithmetic_fault ◌-ℤ◌ a.now b.now) e) }
+{
+    compute::<Difference>(alloc, a, b)
+}
+
+/// The products of two columns of one integer type: null where either is null, else the exact product, which has
+/// to be of the type. The errors are those of [`add`], with the product in place of the sum.
+pub fn mul(alloc: Global, a: &View<'_>, b: &View<'_>) -> Result<Array, KernelFault>
+    ensures ok { IfOk result (λ r. (arithmetic_fault ◌*ℤ◌ a.now b.now ≡ None)
+        × (r ≡ shown a.now.kind (results ◌*ℤ◌ a.now.items b.now.items))) }
+    ensures err { IfErr result (λ e. Told (operands_fault a.now b.now) (arithmetic_fault ◌*ℤ◌ a.now b.now) e) }
+{
+    compute::<Product>(alloc, a, b)
+}
+
+/// An operation on two numbers of the eight integer types.
+trait Operation {
+    ghost use Rattle.std.specs.Prelude.{◌≡◌, ◌^◌, ◌≤ℤ◌, ℤ, neg_ℤ, pos, false, IfNone, IfSome};
+    ghost use Rattle.arrays.specs.Number.{is_of_type};
+    ghost use Rattle.arrays.specs.declared.types.IntType.{IntType};
+
+    // The exact result, of any size.
+    ghost exact: { ℤ → ℤ → ℤ };
+
+    /// The exact result, none only where it is in none of the eight types.
+    fn apply(x: i128, y: i128) -> Option<i128>
+        requires low_x { neg_ℤ (pos (2 ^ 64)) ≤ℤ x }
+        requires high_x { x ≤ℤ pos (2 ^ 64) }
+        requires low_y { neg_ℤ (pos (2 ^ 64)) ≤ℤ y }
+        requires high_y { y ≤ℤ pos (2 ^ 64) }
+        ensures some { IfSome result (λ z. z ≡ exact x y) }
+        ensures none { IfNone result ((t : IntType) → is_of_type t (exact x y) ≡ false) };
+}
+
+/// The first number and the second together.
+struct Sum;
+
+impl Operation for Sum {
+    ghost use Rattle.std.specs.Prelude.{◌+ℤ◌};
+
+    ghost exact = { ◌+ℤ◌ };
+
+    #[inline(always)]
+    fn apply(x: i128, y: i128) -> Option<i128> {
+        Some(x + y)
+    }
+}
+
+/// The first number less the second.
+struct Difference;
+
+impl Operation for Difference {
+    ghost use Rattle.std.specs.Prelude.{◌-ℤ◌};
+
+    ghost exact = { ◌-ℤ◌ };
+
+    #[inline(always)]
+    fn apply(x: i128, y: i128) -> Option<i128> {
+        Some(x - y)
+    }
+}
+
+/// The first number times the second.
+struct Product;
+
+impl Operation for Product {
+    ghost use Rattle.std.specs.Prelude.{◌*ℤ◌};
+
+    ghost exact = { ◌*ℤ◌ };
+
+    #[inline(always)]
+    fn apply(x: i128, y: i128) -> Option<i128> {
+        x.checked_mul(y)
+    }
+}
+
+/// The results of two columns, whose types and lengths are looked at here.
+fn compute<O: Operation>(alloc: Global, a: &View<'_>, b: &View<'_>) -> Result<Array, KernelFault>
+    ensures ok { IfOk result (λ r. (arithmetic_fault O.exact a.now b.now ≡ None)
+        × (r ≡ shown a.now.kind (results O.exact a.now.items b.now.items))) }
+    ensures err { IfErr result (λ e. Told (operands_fault a.now b.now) (arithmetic_fault O.exact a.now b.now) e) }
+{
+    let ty = one_type(a.ty(), b.ty())?;
+    if a.len() != b.len() {
+        return Err(KernelFault::LengthsDiffer);
+    }
+    match (ty.bits, ty.signed) {
+        (Width::W8, true) => computed::<O, i8>(alloc, a, b),
+        (Width::W8, false) => computed::<O, u8>(alloc, a, b),
+        (Width::W16, true) => computed::<O, i16>(alloc, a, b),
+        (Width::W16, false) => computed::<O, u16>(alloc, a, b),
+        (Width::W32, true) => computed::<O, i32>(alloc, a, b),
+        (Width::W32, false) => computed::<O, u32>(alloc, a, b),
+        (Width::W64, true) => computed::<O, i64>(alloc, a, b),
+        (Width::W64, false) => computed::<O, u64>(alloc, a, b),
+    }
+}
+
+/// The integer type of two columns.
+fn one_type(a: ViewType<'_>, b: ViewType<'_>) -> Result<IntType, KernelFault>
+    ensures ok { IfOk result (λ t. (view_kind a.entry ≡ kind.int t) × (view_kind b.entry ≡ kind.int t)) }
+    ensures err { IfErr result (λ e. (are_one_int (view_kind a.entry) (view_kind b.entry) ≡ false)
+        × (e ≡ KernelFault.TypesDiffer)) }
+{
+    if let (ViewType::Int(s), ViewType::Int(t)) = (a, b) {
+        if s == t {
+            return Ok(s);
+        }
+    }
+    Err(KernelFault::TypesDiffer)
+}
+
+/// The results of two columns of this integer type and of one length.
+fn computed<O: Operation, T: Integer>(
+    alloc: Global,
+    a: &View<'_>,
+    b: &View<'_>,
+) -> Result<Array, KernelFault>
+    requires kind_a { a.now.kind ≡ kind.int T.ty }
+    requires kind_b { b.now.kind ≡ kind.int T.ty }
+    requires lengths { length a.now.items ≡ length b.now.items }
+    ensures ok { IfOk result (λ r. (arithmetic_fault O.exact a.now b.now ≡ None)
+        × (r ≡ shown a.now.kind (results O.exact a.now.items b.now.items))) }
+    ensures err { IfErr result (λ e. Told (operands_fault a.now b.now) (arithmetic_fault O.exact a.now b.now) e) }
+{
+    let len = a.slots();
+    let validity = both_valid(alloc, a, b)?;
+    let (x, y) = (a.numbers(T::ty()), b.numbers(T::ty()));
+    let numbers = numbers::<O, T>(alloc, x, y, &bits_of(&validity), len)?;
+    let values = Buffer::from_vec(numbers)?;
+    Ok(Array::from_numbers(alloc, T::ty(), len, buffer_of(validity), values)?)
+}
+
+/// The bits of a validity.
+fn bits_of(validity: &Option<BitmapBuf>) -> Option<Bits<'_>>
+    ensures { result ≡ validity.now }
+{
+    match validity {
+        Some(bitmap) => Some(bitmap.bits()),
+        None => None,
+    }
+}
+
+/// The results of `len` slots as numbers of the type, any number where a slot isn't valid. It stops at the first
+/// valid slot whose result is outside the type.
+fn numbers<O: Operation, T: Integer>(
+    alloc: Global,
+    a: &[u8],
+    b: &[u8],
+    valid: &Option<Bits<'_>>,
+    len: u32,
+) -> Result<Vec<u8>, KernelFault>
+    requires short { len ≤ 2147483647 }
+    requires a { len * bytes_of T.ty.bits ≤ length a.now }
+    requires b { len * bytes_of T.ty.bits ≤ length b.now }
+    ensures ok { let exact = result_at O.exact T.ty a.now b.now in
+        IfOk result (λ v. AreResults T.ty exact (valid_in valid.now) len v.items) }
+    ensures err { let exact = result_at O.exact T.ty a.now b.now in
+        IfErr result (λ e. StopsAt T.ty exact (valid_in valid.now) len e) }
+{
+    let count = len as usize;
+
+    // A buffer is padded by at most 63 bytes, so that the numbers aren't copied again.
+    let mut numbers = Vec::with_capacity(alloc, count * T::ty().bits.bytes() + 63)?;
+    for j in 0..count {
+        let number = if is_valid(valid, j) {
+            match exact_number::<O, T>(a, b, j) {
+                Some(number) => number,
+                None => return Err(KernelFault::Overflow { row: j }),
+            }
+        } else {
+            0
+        };
+        T::push(&mut numbers, number)?;
+    }
+    Ok(numbers)
+}
+
+/// The exact result of the two numbers `j`, none where it is outside the type.
+#[inline(always)]
+fn exact_number<O: Operation, T: Integer>(a: &[u8], b: &[u8], j: usize) -> Option<i128>
+    requires a { j * bytes_of T.ty.bits + bytes_of T.ty.bits ≤ length a.now }
+    requires b { j * bytes_of T.ty.bits + bytes_of T.ty.bits ≤ length b.now }
+    ensures some { IfSome result (λ z. (z ≡ result_at O.exact T.ty a.now b.now j) × (is_of_type T.ty z ≡ true)) }
+    ensures none { IfNone result (is_of_type T.ty (result_at O.exact T.ty a.now b.now j) ≡ false) }
+{
+    match O::apply(T::at(a, j), T::at(b, j)) {
+        Some(number) if T::holds(number) => Some(number),
+        _ => None,
+    }
+}

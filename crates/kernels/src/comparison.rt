@@ -1,0 +1,217 @@
+//! Comparisons of two columns, place by place.
+
+ghost use Rattle.std.specs.Prelude.{◌≡◌, None, true, length, IfOk, IfErr};
+ghost use Rattle.arrays.specs.Kind as kind;
+ghost use Rattle.arrays.specs.Slot.{is_text};
+ghost use Rattle.arrays.specs.ViewType.{view_kind};
+ghost use Rattle.kernels.specs.Fault.{Told};
+ghost use Rattle.kernels.specs.Order.{are_comparable, compared, comparison_fault};
+ghost use Rattle.kernels.specs.Shown.{shown};
+ghost use Rattle.kernels.specs.Wanted.{decisions, wants};
+
+mod pairs;
+#[cfg(test)]
+mod tests;
+mod wanted;
+
+use crate::fault::KernelFault;
+use crate::truths::{Truths, array_of};
+use crate::validity::BothValid;
+use arrays::{Array, IntType, Integer, View, ViewType, Width};
+use colbits::NoMemory;
+use pairs::{Bools, Numbers, Pairs, Plain, Texts, Utf8s};
+use std::alloc::Global;
+use std::marker::PhantomData;
+use wanted::Wanted;
+
+/// A comparison.
+#[derive(Clone, Copy, Debug, PartialEq, Eq)]
+pub enum CmpOp {
+    Eq,
+    Ne,
+    Lt,
+    Le,
+    Gt,
+    Ge,
+}
+
+/// Compares two columns place by place: numbers by value, false before true, texts byte by byte with a front before
+/// what it begins. The result is null where either item is. The columns are of one integer type, both of truth
+/// values, or both of texts, dictionary-encoded or not: else it fails with `TypesDiffer`. Where the types suit and
+/// the lengths aren't equal it fails with `LengthsDiffer`, and with `NoMemory` only where both suit.
+pub fn compare(alloc: Global, op: CmpOp, a: &View<'_>, b: &View<'_>) -> Result<Array, KernelFault>
+    ensures ok { IfOk result (λ r. (comparison_fault a.now b.now ≡ None)
+        × (r ≡ shown kind.boolean (compared op a.now.items b.now.items))) }
+    ensures err { IfErr result (λ e. Told (comparison_fault a.now b.now) (comparison_fault a.now b.now) e) }
+{
+    if !are_comparable(a.ty(), b.ty()) {
+        return Err(KernelFault::TypesDiffer);
+    }
+    if a.len() != b.len() {
+        return Err(KernelFault::LengthsDiffer);
+    }
+    Ok(compare_slots(alloc, op, a, b)?)
+}
+
+/// Whether columns of the two types can be compared.
+fn are_comparable(a: ViewType<'_>, b: ViewType<'_>) -> bool
+    ensures { result ≡ are_comparable (view_kind a.entry) (view_kind b.entry) }
+{
+    match (a, b) {
+        (ViewType::Int(s), ViewType::Int(t)) => is_same(s, t),
+        (ViewType::Bool, ViewType::Bool) => true,
+        (ViewType::Utf8 | ViewType::Dict, ViewType::Utf8 | ViewType::Dict) => true,
+        _ => false,
+    }
+}
+
+/// Whether the two are one type.
+fn is_same(s: IntType, t: IntType) -> bool
+    ensures { result ≡ kind.same_int s t }
+{
+    s.bits.bytes() == t.bits.bytes() && s.signed == t.signed
+}
+
+/// Compares two columns of one length that can be compared.
+fn compare_slots(alloc: Global, op: CmpOp, a: &View<'_>, b: &View<'_>) -> Result<Array, NoMemory>
+    requires types { are_comparable a.now.kind b.now.kind ≡ true }
+    requires lengths { length a.now.items ≡ length b.now.items }
+    ensures { IfOk result (λ r. r ≡ shown kind.boolean (compared op a.now.items b.now.items)) }
+{
+    match a.ty() {
+        ViewType::Int(ty) => compare_ints(alloc, op, ty, a, b),
+        ViewType::Bool => compare_bools(alloc, op, a, b),
+        _ => compare_texts(alloc, op, a, b),
+    }
+}
+
+/// Compares two columns of an integer type.
+fn compare_ints(
+    alloc: Global,
+    op: CmpOp,
+    ty: IntType,
+    a: &View<'_>,
+    b: &View<'_>,
+) -> Result<Array, NoMemory>
+    requires a { a.now.kind ≡ kind.int ty }
+    requires b { b.now.kind ≡ kind.int ty }
+    requires lengths { length a.now.items ≡ length b.now.items }
+    ensures { IfOk result (λ r. r ≡ shown kind.boolean (compared op a.now.items b.now.items)) }
+{
+    match (ty.bits, ty.signed) {
+        (Width::W8, true) => compare_numbers::<i8>(alloc, op, a, b),
+        (Width::W8, false) => compare_numbers::<u8>(alloc, op, a, b),
+        (Width::W16, true) => compare_numbers::<i16>(alloc, op, a, b),
+        (Width::W16, false) => compare_numbers::<u16>(alloc, op, a, b),
+        (Width::W32, true) => compare_numbers::<i32>(alloc, op, a, b),
+        (Width::W32, false) => compare_numbers::<u32>(alloc, op, a, b),
+        (Width::W64, true) => compare_numbers::<i64>(alloc, op, a, b),
+        (Width::W64, false) => compare_numbers::<u64>(alloc, op, a, b),
+    }
+}
+
+/// Compares two columns of numbers of type `T`.
+fn compare_numbers<T: Integer>(
+    alloc: Global,
+    op: CmpOp,
+    a: &View<'_>,
+    b: &View<'_>,
+) -> Result<Array, NoMemory>
+    requires a { a.now.kind ≡ kind.int T.ty }
+    requires b { b.now.kind ≡ kind.int T.ty }
+    requires lengths { length a.now.items ≡ length b.now.items }
+    ensures { IfOk result (λ r. r ≡ shown kind.boolean (compared op a.now.items b.now.items)) }
+{
+    let pairs = Numbers::<T> {
+        a: a.numbers(T::ty()),
+        b: b.numbers(T::ty()),
+        valid: BothValid::of(a, b),
+        slots: a.slots(),
+        of: PhantomData,
+    };
+    decided(alloc, op, &pairs)
+}
+
+/// Compares two columns of truth values.
+fn compare_bools(alloc: Global, op: CmpOp, a: &View<'_>, b: &View<'_>) -> Result<Array, NoMemory>
+    requires a { a.now.kind ≡ kind.boolean }
+    requires b { b.now.kind ≡ kind.boolean }
+    requires lengths { length a.now.items ≡ length b.now.items }
+    ensures { IfOk result (λ r. r ≡ shown kind.boolean (compared op a.now.items b.now.items)) }
+{
+    let pairs = Bools {
+        a: a.bool_bits(),
+        b: b.bool_bits(),
+        valid: BothValid::of(a, b),
+        slots: a.slots(),
+    };
+    decided(alloc, op, &pairs)
+}
+
+/// Compares two columns of texts, dictionary-encoded or not.
+fn compare_texts(alloc: Global, op: CmpOp, a: &View<'_>, b: &View<'_>) -> Result<Array, NoMemory>
+    requires a { is_text a.now.kind ≡ true }
+    requires b { is_text b.now.kind ≡ true }
+    requires lengths { length a.now.items ≡ length b.now.items }
+    ensures { IfOk result (λ r. r ≡ shown kind.boolean (compared op a.now.items b.now.items)) }
+{
+    match (a.ty(), b.ty()) {
+        (ViewType::Utf8, ViewType::Utf8) => compare_utf8s(alloc, op, a, b),
+        _ => decided(alloc, op, &Texts { a, b }),
+    }
+}
+
+/// Compares two columns of texts that aren't dictionary-encoded.
+fn compare_utf8s(alloc: Global, op: CmpOp, a: &View<'_>, b: &View<'_>) -> Result<Array, NoMemory>
+    requires a { a.now.kind ≡ kind.utf8 }
+    requires b { b.now.kind ≡ kind.utf8 }
+    requires lengths { length a.now.items ≡ length b.now.items }
+    ensures { IfOk result (λ r. r ≡ shown kind.boolean (compared op a.now.items b.now.items)) }
+{
+    let pairs = Utf8s {
+        a: Plain::of(a),
+        b: Plain::of(b),
+        valid: BothValid::of(a, b),
+    };
+    decided(alloc, op, &pairs)
+}
+
+/// The array that tells of each pair whether it meets the comparison.
+fn decided<P: Pairs>(alloc: Global, op: CmpOp, pairs: &P) -> Result<Array, NoMemory>
+    ensures { IfOk result (λ r. r ≡ shown kind.boolean
+        (decisions op (P.both pairs.now) (P.order pairs.now) (P.count pairs.now))) }
+{
+    let wanted = Wanted::of(op);
+    array_of(alloc, &Verdicts { pairs, wanted })
+}
+
+/// Whether the items stand to each other as wanted, at each place.
+#[derive(Drop)]
+struct Verdicts<'p, P> {
+    pairs: &'p P,
+    wanted: Wanted,
+}
+
+impl<'p, P: Pairs> Truths for Verdicts<'p, P> {
+    ghost count = { λ d. P.count d.pairs.now };
+
+    ghost known = { λ d. P.both d.pairs.now };
+
+    ghost value = { λ d i. wants d.wanted (P.order d.pairs.now i) };
+
+    fn slots(&self) -> u32 {
+        self.pairs.slots()
+    }
+
+    fn are_known(&self) -> bool {
+        self.pairs.are_there()
+    }
+
+    fn known(&self, i: usize) -> bool {
+        self.pairs.holds(i)
+    }
+
+    fn value(&self, i: usize) -> bool {
+        self.pairs.meets(self.wanted, i)
+    }
+}

@@ -1,0 +1,265 @@
+//! Two items at each place: numbers, truth values or texts.
+
+ghost use Rattle.std.specs.Prelude.{◌≡◌, ◌+◌, ◌<◌, ◌≤◌, ◌*◌, ◌&&◌, ℕ, Bool, true, false, length, slice_index_or, is_none, IsTrue};
+ghost use Rattle.std.specs.Cmp.Lexicographic.{slice_cmp};
+ghost use Rattle.std.specs.Ordering.{bool_cmp, int_cmp, nat_cmp};
+ghost use Rattle.std.specs.declared.cmp.Ordering.{Ordering};
+ghost use Rattle.arrays.specs.Fault.{is_negative};
+ghost use Rattle.arrays.specs.Kind as kind;
+ghost use Rattle.arrays.specs.Kind.{bytes_of, int32};
+ghost use Rattle.arrays.specs.Layout.{natural, number_at};
+ghost use Rattle.arrays.specs.Offsets.{of_slot, start_of};
+ghost use Rattle.arrays.specs.Seen.{valid_in};
+ghost use Rattle.arrays.specs.Slot.{holds_at, is_text};
+ghost use Rattle.arrays.specs.Values.{HasTexts};
+ghost use Rattle.kernels.specs.Lift.{item_at};
+ghost use Rattle.kernels.specs.Order.{order};
+ghost use Rattle.kernels.specs.Wanted.{wants};
+
+use super::wanted::Wanted;
+use crate::validity::{BothValid, is_valid};
+use arrays::{Integer, View};
+use colbits::Bits;
+use std::marker::PhantomData;
+
+/// Two items at each place, where both are there.
+pub(crate) trait Pairs {
+    ghost count: { Self → ℕ };
+
+    // Whether both items are there, and how they stand to each other: where they aren't, in any way.
+    ghost both: { Self → ℕ → Bool };
+
+    ghost order: { Self → ℕ → Ordering };
+
+    /// How many places there are.
+    fn slots(&self) -> u32
+        ensures count { result ≡ count self.now }
+        ensures short { result ≤ 2147483647 };
+
+    /// Whether both items are there at each place, as far as can be told without a look at each.
+    fn are_there(&self) -> bool
+        ensures { IsTrue result → (i : ℕ) → i < count self.now → both self.now i ≡ true };
+
+    /// Whether both items are there at place `i`.
+    fn holds(&self, i: usize) -> bool
+        requires { i < count self.now }
+        ensures { result ≡ both self.now i };
+
+    /// Whether the items at place `i` stand to each other as wanted; either where they aren't both there.
+    fn meets(&self, wanted: Wanted, i: usize) -> bool
+        requires { i < count self.now }
+        ensures { result ≡ wants wanted (order self.now i) };
+}
+
+/// Whether both slots are valid at place `i`.
+#[inline(always)]
+fn are_both_valid(valid: &BothValid<'_, '_>, i: usize) -> bool
+    ensures { result ≡ (valid_in valid.now.a i && valid_in valid.now.b i) }
+{
+    is_valid(&valid.a, i) & is_valid(&valid.b, i)
+}
+
+/// Whether both slots are valid at each place, as neither column has a bitmap.
+fn are_all_valid(valid: &BothValid<'_, '_>) -> bool
+    ensures { result ≡ (is_none valid.now.a && is_none valid.now.b) }
+{
+    valid.a.is_none() && valid.b.is_none()
+}
+
+/// Numbers of type `T`.
+#[derive(Drop)]
+pub(crate) struct Numbers<'a, 'b, T: Integer> {
+    pub(crate) a: &'a [u8],
+    pub(crate) b: &'b [u8],
+    pub(crate) valid: BothValid<'a, 'b>,
+    pub(crate) slots: u32,
+    pub(crate) of: PhantomData<T>,
+    ghost a_has: { slots * bytes_of T.ty.bits ≤ length a.now },
+    ghost b_has: { slots * bytes_of T.ty.bits ≤ length b.now },
+    ghost short: { slots ≤ 2147483647 },
+}
+
+impl<'a, 'b, T: Integer> Pairs for Numbers<'a, 'b, T> {
+    ghost count = { λ p. p.slots };
+
+    ghost both = { λ p i. valid_in p.valid.a i && valid_in p.valid.b i };
+
+    ghost order = { λ p i. int_cmp (number_at T.ty p.a.now i) (number_at T.ty p.b.now i) };
+
+    fn slots(&self) -> u32 {
+        self.slots
+    }
+
+    fn are_there(&self) -> bool {
+        are_all_valid(&self.valid)
+    }
+
+    fn holds(&self, i: usize) -> bool {
+        are_both_valid(&self.valid, i)
+    }
+
+    fn meets(&self, wanted: Wanted, i: usize) -> bool {
+        wanted.numbers(T::at(self.a, i), T::at(self.b, i))
+    }
+}
+
+/// Truth values.
+#[derive(Drop)]
+pub(crate) struct Bools<'a, 'b> {
+    pub(crate) a: Bits<'a>,
+    pub(crate) b: Bits<'b>,
+    pub(crate) valid: BothValid<'a, 'b>,
+    pub(crate) slots: u32,
+    ghost a_has: { slots ≤ length a },
+    ghost b_has: { slots ≤ length b },
+    ghost short: { slots ≤ 2147483647 },
+}
+
+impl<'a, 'b> Pairs for Bools<'a, 'b> {
+    ghost count = { λ p. p.slots };
+
+    ghost both = { λ p i. valid_in p.valid.a i && valid_in p.valid.b i };
+
+    ghost order = { λ p i. bool_cmp (slice_index_or p.a i false) (slice_index_or p.b i false) };
+
+    fn slots(&self) -> u32 {
+        self.slots
+    }
+
+    fn are_there(&self) -> bool {
+        are_all_valid(&self.valid)
+    }
+
+    fn holds(&self, i: usize) -> bool {
+        are_both_valid(&self.valid, i)
+    }
+
+    fn meets(&self, wanted: Wanted, i: usize) -> bool {
+        wanted.bools(self.a.get(i), self.b.get(i))
+    }
+}
+
+/// Texts that lie behind one another in bytes, one for each slot.
+#[derive(Drop)]
+pub(crate) struct Plain<'a> {
+    pub(crate) offsets: &'a [u8],
+    pub(crate) bytes: &'a [u8],
+    pub(crate) slots: u32,
+    ghost size: { 4 * (slots + 1) ≤ length offsets.now },
+    ghost counted: { (j : ℕ) → j ≤ slots → is_negative (number_at int32 offsets.now j) ≡ false },
+    ghost rising: { (j : ℕ) → j < slots → start_of offsets.now j ≤ start_of offsets.now (j + 1) },
+    ghost ends: { (j : ℕ) → j ≤ slots → start_of offsets.now j ≤ length bytes.now },
+    ghost short: { slots ≤ 2147483647 },
+}
+
+impl<'a> Plain<'a> {
+    /// Those of a column.
+    pub(crate) fn of(view: &View<'a>) -> Plain<'a>
+        requires { view.now.kind ≡ kind.utf8 }
+        ensures texts { HasTexts result.offsets.now result.bytes.now view.now }
+        ensures slots { result.slots ≡ length view.now.items }
+    {
+        let texts = view.texts();
+        Plain {
+            offsets: texts.offsets,
+            bytes: texts.bytes,
+            slots: view.slots(),
+        }
+    }
+
+    /// The bytes of text `i`.
+    #[inline(always)]
+    fn get(&self, i: usize) -> &'a [u8]
+        requires { i < self.now.slots }
+        ensures { result.now ≡ of_slot self.now.offsets.now self.now.bytes.now i }
+    {
+        let start = natural_at(self.offsets, i);
+        let end = natural_at(self.offsets, i + 1);
+        &self.bytes[start..end]
+    }
+}
+
+/// Offset `j`, which isn't negative.
+#[inline(always)]
+fn natural_at(offsets: &[u8], j: usize) -> usize
+    requires there { j * 4 + 4 ≤ length offsets.now }
+    requires counted { is_negative (number_at int32 offsets.now j) ≡ false }
+    ensures { result ≡ natural (number_at int32 offsets.now j) }
+{
+    let offset = <i32 as Integer>::at(offsets, j);
+    offset as usize
+}
+
+/// Texts of which neither column is dictionary-encoded.
+#[derive(Drop)]
+pub(crate) struct Utf8s<'a, 'b> {
+    pub(crate) a: Plain<'a>,
+    pub(crate) b: Plain<'b>,
+    pub(crate) valid: BothValid<'a, 'b>,
+    ghost lengths: { a.slots ≡ b.slots },
+}
+
+impl<'a, 'b> Pairs for Utf8s<'a, 'b> {
+    ghost count = { λ p. p.a.slots };
+
+    ghost both = { λ p i. valid_in p.valid.a i && valid_in p.valid.b i };
+
+    ghost order = { λ p i. slice_cmp nat_cmp (of_slot p.a.offsets.now p.a.bytes.now i) (of_slot p.b.offsets.now p.b.bytes.now i) };
+
+    fn slots(&self) -> u32 {
+        self.a.slots
+    }
+
+    fn are_there(&self) -> bool {
+        are_all_valid(&self.valid)
+    }
+
+    fn holds(&self, i: usize) -> bool {
+        are_both_valid(&self.valid, i)
+    }
+
+    fn meets(&self, wanted: Wanted, i: usize) -> bool {
+        let x = self.a.get(i);
+        let y = self.b.get(i);
+        wanted.bytes(x, y)
+    }
+}
+
+/// Texts, dictionary-encoded or not.
+#[derive(Drop)]
+pub(crate) struct Texts<'a, 'b, 'c, 'd> {
+    pub(crate) a: &'c View<'a>,
+    pub(crate) b: &'d View<'b>,
+    ghost a_is: { is_text a.now.kind ≡ true },
+    ghost b_is: { is_text b.now.kind ≡ true },
+    ghost lengths: { length a.now.items ≡ length b.now.items },
+}
+
+impl<'a, 'b, 'c, 'd> Pairs for Texts<'a, 'b, 'c, 'd> {
+    ghost count = { λ p. length p.a.now.items };
+
+    ghost both = { λ p i. holds_at p.a.now i && holds_at p.b.now i };
+
+    ghost order = { λ p i. order (item_at p.a.now.items i) (item_at p.b.now.items i) };
+
+    fn slots(&self) -> u32 {
+        self.a.slots()
+    }
+
+    fn are_there(&self) -> bool {
+        false
+    }
+
+    fn holds(&self, i: usize) -> bool {
+        self.a.holds(i) & self.b.holds(i)
+    }
+
+    fn meets(&self, wanted: Wanted, i: usize) -> bool {
+        let x = self.a.text_at(i);
+        let y = self.b.text_at(i);
+        match (x, y) {
+            (Some(x), Some(y)) => wanted.has(x.cmp(y)),
+            _ => wanted.equal,
+        }
+    }
+}
