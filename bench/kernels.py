@@ -1,0 +1,52 @@
+#!/usr/bin/env python3
+"""Measures the kernels beside plain Rust loops with the same checks.
+
+    bench/kernels.py [RUNS]
+
+Builds bench/kernels.rs by `rustc -O` in a folder of its own; `crates/bench_kernels` has to be checked before (`rt check`
+there). The runs alternate. Printed are, for each kernel, the medians of the milliseconds of one call and their
+ratio: what a process takes for many calls less what it takes for one, so that making the columns doesn't count.
+"""
+import os
+import statistics
+import subprocess
+import sys
+import tempfile
+import time
+
+TOP = os.path.dirname(os.path.dirname(os.path.abspath(__file__)))
+OURS = os.path.join(TOP, "crates", "bench_kernels", "out", "bench_kernels")
+KERNELS = [("add", 8_000_000, 10), ("less", 8_000_000, 10), ("equal", 1_000_000, 20), ("and", 64_000_000, 5)]
+
+
+def seconds(program, kernel, rows, times):
+    begin = time.monotonic()
+    out = subprocess.run([program, kernel, str(rows), str(times)], stdout=subprocess.PIPE, check=True).stdout
+    return time.monotonic() - begin, out
+
+
+def one_call(program, kernel, rows, times):
+    once, first = seconds(program, kernel, rows, 1)
+    often, last = seconds(program, kernel, rows, times + 1)
+    assert first == last
+    return 1000 * (often - once) / times, first
+
+
+def main():
+    runs = int(sys.argv[1]) if len(sys.argv) > 1 else 5
+    with tempfile.TemporaryDirectory() as folder:
+        peer = os.path.join(folder, "kernels")
+        subprocess.run(["rustc", "-O", "-o", peer, os.path.join(TOP, "bench", "kernels.rs")], check=True)
+        for kernel, rows, times in KERNELS:
+            pairs = []
+            for _ in range(runs):
+                ours, said = one_call(OURS, kernel, rows, times)
+                theirs, told = one_call(peer, kernel, rows, times)
+                assert said == told, (kernel, said, told)
+                pairs.append((ours, theirs))
+            ours = statistics.median(pair[0] for pair in pairs)
+            theirs = statistics.median(pair[1] for pair in pairs)
+            print(f"{kernel} of {rows} rows: {ours:.2f} ms beside {theirs:.2f} ms, {ours / theirs:.2f}")
+
+
+main()

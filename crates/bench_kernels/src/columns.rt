@@ -1,0 +1,106 @@
+//! The columns that kernels are run on: each value follows from its row and a salt.
+
+ghost use Rattle.std.specs.Prelude.{◌≡◌, ◌*◌, ◌%◌, ◌+◌, ◌<◌, ◌^◌, IsTrue, ◌↔◌, ◌≢◌};
+
+use arrays::{Array, DataType, IntType, RawArray, Width, validate};
+use colbits::{BitmapBuf, Buffer, Places};
+use std::alloc::Global;
+
+/// Numbers of 64 bits, each twentieth of them null; none where memory ran out.
+pub fn numbers(alloc: Global, rows: u32, salt: u32) -> Option<Array> {
+    let mut bytes = Vec::with_capacity(alloc, 8 * rows as usize + 63).ok()?;
+    for row in 0..rows {
+        let number = i64::from(spread(row.wrapping_add(salt)));
+        bytes.extend_from_slice(&number.to_le_bytes()).ok()?;
+    }
+    let ty = DataType::Int(IntType {
+        bits: Width::W64,
+        signed: true,
+    });
+    column(alloc, ty, rows, salt, bytes)
+}
+
+/// Truth values, each twentieth of them null.
+pub fn truths(alloc: Global, rows: u32, salt: u32) -> Option<Array> {
+    let mut bytes = Vec::with_capacity(alloc, rows as usize / 8 + 64).ok()?;
+    for k in 0..rows / 8 + 1 {
+        let noise = spread(k.wrapping_add(salt));
+        bytes.push((noise >> 24) as u8).ok()?;
+    }
+    column(alloc, DataType::Bool, rows, salt, bytes)
+}
+
+/// Texts of up to six digits, each twentieth of them null.
+pub fn texts(alloc: Global, rows: u32, salt: u32) -> Option<Array> {
+    let mut offsets = Vec::with_capacity(alloc, 4 * rows as usize + 67).ok()?;
+    let mut bytes = Vec::new(alloc);
+    offsets.extend_from_slice(&[0; 4]).ok()?;
+    for row in 0..rows {
+        let digits = (spread(row / 2 + salt % 2) % 1_000_000)
+            .to_string(alloc)
+            .ok()?;
+        bytes.extend_from_slice(digits.as_bytes()).ok()?;
+        let end = u32::try_from(bytes.len()).ok()?;
+        offsets.extend_from_slice(&end.to_le_bytes()).ok()?;
+    }
+    let validity = validity(alloc, rows, salt)?;
+    let offsets = Some(Buffer::from_vec(offsets).ok()?);
+    let bytes = Some(Buffer::from_vec(bytes).ok()?);
+    let buffers = vec![in alloc; validity, offsets, bytes].ok()?;
+    checked(alloc, DataType::Utf8, rows, buffers)
+}
+
+/// A column of values that lie behind one another, each twentieth of them null.
+fn column(alloc: Global, ty: DataType, rows: u32, salt: u32, values: Vec<u8>) -> Option<Array> {
+    let validity = validity(alloc, rows, salt)?;
+    let values = Some(Buffer::from_vec(values).ok()?);
+    let buffers = vec![in alloc; validity, values].ok()?;
+    checked(alloc, ty, rows, buffers)
+}
+
+fn validity(alloc: Global, rows: u32, salt: u32) -> Option<Option<Buffer>> {
+    let bitmap = BitmapBuf::from_places(alloc, &Sparse { rows, salt }).ok()?;
+    Some(Some(bitmap.into_buffer()))
+}
+
+fn checked(alloc: Global, ty: DataType, rows: u32, buffers: Vec<Option<Buffer>>) -> Option<Array> {
+    let raw = RawArray {
+        ty,
+        length: u64::from(rows),
+        null_count: None,
+        buffers,
+        children: Vec::new(alloc),
+        dictionary: None,
+    };
+    validate(alloc, raw).ok()
+}
+
+/// A number of 32 bits that follows from its place.
+fn spread(place: u32) -> u32
+    ensures { result ≡ place * 2654435761 % 2 ^ 32 }
+{
+    place.wrapping_mul(2_654_435_761)
+}
+
+/// All rows but each twentieth.
+#[derive(Drop)]
+struct Sparse {
+    rows: u32,
+    salt: u32,
+}
+
+impl Places for Sparse {
+    ghost use Rattle.std.specs.Prelude.{◌+◌, ◌%◌, ◌==◌, not};
+
+    ghost at = { λ s i. not ((i + s.salt) % 20 == 0) };
+
+    ghost count = { λ s. s.rows };
+
+    fn len(&self) -> usize {
+        self.rows as usize
+    }
+
+    fn at(&self, i: usize) -> bool {
+        !(i + self.salt as usize).is_multiple_of(20)
+    }
+}
