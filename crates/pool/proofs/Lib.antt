@@ -1,0 +1,5 @@
+-- What the proofs of this crate share.
+pub mod TextLemmas
+pub mod PlaceLemmas
+pub mod PoolLemmas
+pub mod RecodeLemmas

@@ -1,0 +1,124 @@
+-- A column recoded slot by slot.
+use Rattle.std.proofs.Common.{◌≡◌, ◌∙◌, ℕ, ◌+◌, ◌<◌, ◌≤◌, pos, Bool, true, false, List, [], ◌∷◌, ◌++◌, length, take, drop, map, Option, None, Some, option_map, refl, sym, ap, subst, if◌then◌else◌, arith, length-append, append_assoc, get_or}
+use Rattle.std.specs.Prelude.{slice_get, Result, Ok, Err, IfErr, IsErrAnd, ◌⊎◌}
+use Rattle.std.proofs.Common.{inl, inr, to_z, ◌^◌, lit≤}
+use Rattle.std.proofs.lemmas.Int.{to_z_pos}
+use Rattle.std.specs.Int.{w128}
+use Rattle.pool.specs.declared.fault.PoolFault.{PoolFault}
+use Rattle.pool.specs.declared.fault.PoolFault.TheVariants.{TextsFull, NoMemory}
+use Rattle.std.proofs.lemmas.List.{append-nil, map-append, take-append-drop, take_more}
+use Rattle.std.proofs.Math.Seq.{take-append_seam}
+use Rattle.std.proofs.lemmas.List.Elements.{filter_map-append}
+use Rattle.std.proofs.lemmas.Option.{slice_get_within, get_or_from_slice_get}
+use Rattle.arrays.specs.Item.{Item, null, text}
+use Rattle.arrays.specs.Column.{Column}
+use Rattle.arrays.specs.Builder.{item_of}
+use Rattle.arrays.specs.Kind.{int32}
+use Rattle.arrays.specs.declared.types.IntType.{IntType}
+use Rattle.std.specs.Str.{bytes_eq}
+use Rattle.pool.specs.Texts.{text_of, texts_of, firsts, is_among, is_once, with_text, is_too_full, place_of}
+use Rattle.pool.specs.Codes.{code_item}
+use Rattle.pool.proofs.TextLemmas.{beyond, firsts-append, firsts-push, firsts-once, is_too_full-append}
+use Rattle.pool.proofs.PlaceLemmas.{position-append}
+
+-- What the texts of the first slots leave in the pool, and their codes among the texts of all.
+pub record Recoded (old : List (List ℕ)) (items : List Item) (i : ℕ) (pool : List (List ℕ)) (column : Column) : Type 0 where
+  pub pool_is : pool ≡ firsts (old ++ texts_of (take i items))
+  pub codes_are : column.items ≡ map (code_item (firsts (old ++ texts_of items))) (take i items)
+  pub of_type : column.ty ≡ int32
+
+module _ (old : List (List ℕ)) (items : List Item) where
+  -- The texts that the slots from i on add.
+  abbrev rest_from : ℕ → List (List ℕ)
+  rest_from i = beyond (old ++ texts_of (take i items)) (firsts (texts_of (drop i items)))
+
+  pub grown : (i : ℕ) → firsts (old ++ texts_of items) ≡ firsts (old ++ texts_of (take i items)) ++ rest_from i
+  grown i =
+      ap (λ l. firsts (old ++ l)) (ap texts_of (sym (take-append-drop i items)) ∙ filter_map-append text_of (take i items) (drop i items))
+      ∙ ap firsts (sym (append_assoc old (texts_of (take i items)) (texts_of (drop i items))))
+      ∙ firsts-append (old ++ texts_of (take i items)) (texts_of (drop i items))
+
+  take-item : (i : ℕ) (x : Item) → slice_get items i ≡ Some x → take (i + 1) items ≡ take i items ++ x ∷ []
+  take-item i x at =
+      take_more items i x (slice_get_within items i x at) ∙ ap (λ y. take i items ++ y ∷ []) (get_or_from_slice_get items i x x at)
+
+  texts-item : (i : ℕ) (x : Item) → slice_get items i ≡ Some x → old ++ texts_of (take (i + 1) items) ≡ old ++ texts_of (take i items) ++ texts_of (x ∷ [])
+  texts-item i x at =
+      ap (λ l. old ++ texts_of l) (take-item i x at) ∙ ap (λ l. old ++ l) (filter_map-append text_of (take i items) (x ∷ []))
+      ∙ sym (append_assoc old (texts_of (take i items)) (texts_of (x ∷ [])))
+
+  pub pool-text : (i : ℕ) (t : List ℕ) (pool : List (List ℕ)) → slice_get items i ≡ Some (text t) → pool ≡ firsts (old ++ texts_of (take i items))
+      → with_text pool t ≡ firsts (old ++ texts_of (take (i + 1) items))
+  pool-text i t pool at is =
+      ap (λ l. with_text l t) is ∙ sym (firsts-push (old ++ texts_of (take i items)) t) ∙ ap firsts (sym (texts-item i (text t) at))
+
+  pub pool-null : (i : ℕ) (pool : List (List ℕ)) → slice_get items i ≡ Some null → pool ≡ firsts (old ++ texts_of (take i items))
+      → pool ≡ firsts (old ++ texts_of (take (i + 1) items))
+  pool-null i pool at is = is ∙ ap firsts (sym (append-nil (old ++ texts_of (take i items))) ∙ sym (texts-item i null at))
+
+  codes-item : (i : ℕ) (x code : Item) (codes more : List Item) → slice_get items i ≡ Some x → code_item (firsts (old ++ texts_of items)) x ≡ code
+      → codes ≡ map (code_item (firsts (old ++ texts_of items))) (take i items) → more ≡ codes ++ code ∷ []
+      → more ≡ map (code_item (firsts (old ++ texts_of items))) (take (i + 1) items)
+  codes-item i x code codes more at is are pushed =
+      let f = code_item (firsts (old ++ texts_of items)) in
+      pushed ∙ ap (λ l. l ++ code ∷ []) are ∙ ap (λ c. map f (take i items) ++ c ∷ []) (sym is)
+      ∙ sym (map-append f (take i items) (x ∷ [])) ∙ ap (map f) (sym (take-item i x at))
+
+  pub Recoded-none : (column : Column) (i : ℕ) → i ≡ 0 → is_once old ≡ true → column.ty ≡ int32 → column.items ≡ [] → Recoded old items i old column
+  Recoded-none column i start once ty none = record {
+    pool_is = sym (ap (λ i. firsts (old ++ texts_of (take i items))) start ∙ ap firsts (append-nil old) ∙ firsts-once old once);
+    codes_are = none ∙ sym (ap (λ i. map (code_item (firsts (old ++ texts_of items))) (take i items)) start);
+    of_type = ty;
+  }
+
+  pub Recoded-text : (i : ℕ) (t : List ℕ) (code : ℕ) (pool wider : List (List ℕ)) (before after : Column) → Recoded old items i pool before
+      → slice_get items i ≡ Some (text t) → wider ≡ with_text pool t → place_of wider t ≡ Some code
+      → after.ty ≡ before.ty → after.items ≡ before.items ++ item_of (Some (pos code)) ∷ [] → Recoded old items (i + 1) wider after
+  Recoded-text i t code pool wider before after is at added place ty pushed =
+      let now : wider ≡ firsts (old ++ texts_of (take (i + 1) items)) = added ∙ pool-text i t pool at is.pool_is in
+      let end : firsts (old ++ texts_of items) ≡ wider ++ rest_from (i + 1) = grown (i + 1) ∙ ap (λ l. l ++ rest_from (i + 1)) (sym now) in
+      let there : place_of (firsts (old ++ texts_of items)) t ≡ Some code = ap (λ l. place_of l t) end ∙ position-append (bytes_eq t) wider (rest_from (i + 1)) code place in
+      record {
+        pool_is = now;
+        codes_are = codes-item i (text t) (item_of (Some (pos code))) before.items after.items at (ap (λ o. item_of (option_map pos o)) there) is.codes_are pushed;
+        of_type = ty ∙ is.of_type;
+      }
+
+  pub Recoded-null : (i : ℕ) (pool : List (List ℕ)) (before after : Column) → Recoded old items i pool before
+      → slice_get items i ≡ Some null → after.ty ≡ before.ty → after.items ≡ before.items ++ null ∷ [] → Recoded old items (i + 1) pool after
+  Recoded-null i pool before after is at ty pushed = record {
+    pool_is = pool-null i pool at is.pool_is;
+    codes_are = codes-item i null null before.items after.items at refl is.codes_are pushed;
+    of_type = ty ∙ is.of_type;
+  }
+
+  -- A text that is one too many is so among all.
+  pub full_in_all : (i : ℕ) (t : List ℕ) (pool : List (List ℕ)) → slice_get items i ≡ Some (text t) → pool ≡ firsts (old ++ texts_of (take i items))
+      → is_too_full (with_text pool t) ≡ true → is_too_full (firsts (old ++ texts_of items)) ≡ true
+  full_in_all i t pool at is full =
+      ap is_too_full (grown (i + 1)) ∙ is_too_full-append (firsts (old ++ texts_of (take (i + 1) items))) (rest_from (i + 1))
+      (ap is_too_full (sym (pool-text i t pool at is)) ∙ full)
+
+-- The pool as it was comes first.
+starts : (old seen pool : List (List ℕ)) → is_once old ≡ true → pool ≡ firsts (old ++ seen) → pool ≡ old ++ beyond old (firsts seen)
+starts old seen pool once is = is ∙ firsts-append old seen ∙ ap (λ l. l ++ beyond old (firsts seen)) (firsts-once old once)
+
+pub starts_take : (old seen pool : List (List ℕ)) → is_once old ≡ true → pool ≡ firsts (old ++ seen) → take (length old) pool ≡ old
+starts_take old seen pool once is = ap (take (length old)) (starts old seen pool once is) ∙ take-append_seam old (beyond old (firsts seen))
+
+pub starts_longer : (old seen pool : List (List ℕ)) → is_once old ≡ true → pool ≡ firsts (old ++ seen) → length old ≤ length pool
+starts_longer old seen pool once is =
+    omega (arith, ap (λ (l : List (List ℕ)). length l) (starts old seen pool once is), length-append old (beyond old (firsts seen)))
+
+-- A fault of one text, told of all.
+pub told_of_all : {T : Type 0} (r : Result T PoolFault) (e : PoolFault) (one all : List (List ℕ)) → IsErrAnd r (λ x. x ≡ e)
+    → ((e ≡ TextsFull) × (is_too_full one ≡ true)) ⊎ (e ≡ NoMemory) → (is_too_full one ≡ true → is_too_full all ≡ true)
+    → IfErr r (λ e. ((e ≡ TextsFull) × (is_too_full all ≡ true)) ⊎ (e ≡ NoMemory))
+told_of_all (Ok v) e one all same told grows = tt
+told_of_all (Err x) e one all same told grows = elim told [ inl h ↦ inl (same ∙ h.0, grows h.1) | inr h ↦ inr (same ∙ h) ]
+
+-- A code is the same as a signed number.
+pub to_z_small : (n : ℕ) → n < 2147483647 → to_z w128 n ≡ pos n
+to_z_small n small =
+    let top : 2147483647 ≤ 2 ^ 127 = lit≤ tt in
+    to_z_pos w128 n (omega (arith, small, top))

@@ -1,0 +1,5 @@
+use Rattle.pool.proofs.RecodeLemmas.{Recoded}
+use Rattle.pool.proofs.recoding.add_all.Given as goal
+
+abbrev pub invariant-loop-i : goal.invariant-loop-i
+invariant-loop-i l = Recoded l.fn.pool l.fn.view.items l.i l.pool l.codes

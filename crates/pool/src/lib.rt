@@ -1,0 +1,14 @@
+//! Texts each once, and columns of texts recoded into their places.
+#![tactic(auto)]
+
+pub mod fault;
+pub mod recoding;
+#[cfg(test)]
+mod testing;
+#[cfg(test)]
+mod tests;
+pub mod text_pool;
+
+pub use fault::PoolFault;
+pub use recoding::recode;
+pub use text_pool::TextPool;

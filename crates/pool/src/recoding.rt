@@ -1,0 +1,66 @@
+//! Columns of texts recoded into places of a pool.
+
+ghost use Rattle.std.specs.Prelude.{◌≡◌, ◌≤◌, ◌⊎◌, ◌++◌, false, true, length, map, take, OnOk, IfOk, IfErr, OnErr};
+ghost use Rattle.arrays.specs.Kind as kind;
+ghost use Rattle.arrays.specs.Kind.{int32};
+ghost use Rattle.arrays.specs.Slot.{is_text};
+ghost use Rattle.pool.specs.Codes.{code_item};
+ghost use Rattle.pool.specs.Texts.{firsts, texts_of, is_too_full};
+
+use crate::fault::PoolFault;
+use crate::text_pool::TextPool;
+use arrays::{Array, IntBuilder, IntType, View, Width};
+use std::alloc::Global;
+
+/// The places of a column's texts in a pool, to which its new texts are added: null for null. It fails where the
+/// pool would be too full, and for want of memory; then the pool is as it was.
+pub fn recode(alloc: Global, view: &View<'_>, pool: &mut TextPool) -> Result<Array, PoolFault>
+    requires { is_text view.now.kind ≡ true }
+    ensures texts { OnOk result (pool.new ≡ firsts (pool.old ++ texts_of view.now.items)) }
+    ensures fits { OnOk result (is_too_full (firsts (pool.old ++ texts_of view.now.items)) ≡ false) }
+    ensures kind { IfOk result (λ a. a.kind ≡ kind.int int32) }
+    ensures codes { IfOk result (λ a. a.items ≡ map (code_item pool.new) view.now.items) }
+    ensures err { IfErr result (λ e. ((e ≡ PoolFault.TextsFull)
+        × (is_too_full (firsts (pool.old ++ texts_of view.now.items)) ≡ true)) ⊎ (e ≡ PoolFault.NoMemory)) }
+    ensures kept { OnErr result (pool.new ≡ pool.old) }
+{
+    let len = pool.len();
+    match add_all(alloc, view, pool) {
+        Ok(codes) => {
+            pool.tell_bounds();
+            Ok(codes)
+        }
+        Err(fault) => {
+            pool.cut_back(len);
+            Err(fault)
+        }
+    }
+}
+
+/// The same, but the pool keeps what was added where it fails.
+fn add_all(alloc: Global, view: &View<'_>, pool: &mut TextPool) -> Result<Array, PoolFault>
+    requires { is_text view.now.kind ≡ true }
+    ensures texts { OnOk result (pool.new ≡ firsts (pool.old ++ texts_of view.now.items)) }
+    ensures kind { IfOk result (λ a. a.kind ≡ kind.int int32) }
+    ensures codes { IfOk result (λ a. a.items ≡ map (code_item (firsts (pool.old ++ texts_of view.now.items))) view.now.items) }
+    ensures err { IfErr result (λ e. ((e ≡ PoolFault.TextsFull)
+        × (is_too_full (firsts (pool.old ++ texts_of view.now.items)) ≡ true)) ⊎ (e ≡ PoolFault.NoMemory)) }
+    ensures longer { length pool.old ≤ length pool.new }
+    ensures begins { take (length pool.old) pool.new ≡ pool.old }
+{
+    let ty = IntType {
+        bits: Width::W32,
+        signed: true,
+    };
+    pool.tell_bounds();
+    let slots = view.slots() as usize;
+    let mut codes = IntBuilder::with_capacity(alloc, ty, slots)?;
+    for i in 0..slots {
+        let code = match view.text_at(i) {
+            Some(text) => Some(pool.add(text)? as i128),
+            None => None,
+        };
+        codes.push(code)?;
+    }
+    Ok(codes.finish()?)
+}

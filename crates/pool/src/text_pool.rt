@@ -1,0 +1,143 @@
+ghost use Rattle.std.specs.Prelude.{◌≡◌, ◌<◌, ◌≤◌, ◌==◌, ◌++◌, ◌∷◌, false, IfSome, ◌⊎◌, [], length, take, true, slice_get, sum_by, Some, IfOk, IfErr, OnOk, OnErr, option_copied};
+ghost use Rattle.std.specs.String.{string_bytes};
+ghost use Rattle.std.specs.Option.{option_map};
+ghost use Rattle.pool.specs.Texts.{is_among, is_once, is_too_full, place_of, with_text};
+
+use crate::fault::PoolFault;
+use indexmap::IndexSet;
+use std::alloc::Global;
+use std::marker::Model;
+
+/// The most texts of a pool, and the most bytes of them together: what 32-bit numbers of a column count.
+const MOST: usize = 2147483647;
+
+/// Texts in order of coming, each once.
+#[derive(Drop)]
+pub struct TextPool {
+    alloc: Global,
+    texts: IndexSet<String>,
+    /// How many bytes the texts have together.
+    bytes: usize,
+}
+
+impl Model for TextPool {
+    ghost use Rattle.std.specs.Prelude.{List, ℕ};
+    ghost use Rattle.std.specs.Coded.{coded_list, coded_ℕ};
+
+    ghost Value = { List (List ℕ) };
+
+    ghost coded = { coded_list (coded_list coded_ℕ) };
+
+    ghost use Rattle.pool.specs.Pool.{show_pool, IsPool};
+
+    ghost view = { show_pool };
+
+    ghost invariant = { λ p. IsPool (show_pool p) p.bytes };
+}
+
+impl TextPool {
+    /// A pool of no texts, which takes no memory until the first.
+    pub fn new(alloc: Global) -> TextPool
+        ensures { result ≡ [] }
+    {
+        TextPool {
+            alloc,
+            texts: IndexSet::new(alloc),
+            bytes: 0,
+        }
+    }
+
+    /// How many texts there are.
+    pub fn len(&self) -> usize
+        ensures { result ≡ length self.now }
+    {
+        self.texts.len()
+    }
+
+    /// Whether there is no text.
+    pub fn is_empty(&self) -> bool
+        ensures { result ≡ (length self.now == 0) }
+    {
+        self.len() == 0
+    }
+
+    /// The place of a text, none where it isn't in the pool.
+    pub fn code_of(&self, text: &str) -> Option<u32>
+        ensures place { result ≡ place_of self.now text.now }
+        ensures small { IfSome result (λ code. code < 2147483647) }
+    {
+        match self.texts.get_index_of(text) {
+            Some(place) => Some(place as u32),
+            None => None,
+        }
+    }
+
+    /// The text at a place, none past the end.
+    pub fn text_of(&self, code: u32) -> Option<&str>
+        ensures { option_copied result ≡ slice_get self.now code }
+    {
+        match self.texts.get_index(code as usize) {
+            Some(text) => Some(text.as_str()),
+            None => None,
+        }
+    }
+
+    /// Takes back all texts but the first `len`.
+    pub fn cut_back(&mut self, len: usize)
+        requires { len ≤ length self.old }
+        ensures { self.new ≡ take len self.old }
+    {
+        let cut = byte_count(&self.texts.as_slice()[len..]);
+        self.texts.truncate(len);
+        self.bytes -= cut;
+    }
+
+    /// Says that no text comes twice, and that all fit a column.
+    pub(crate) fn tell_bounds(&self)
+        ensures once { is_once self.now ≡ true }
+        ensures fits { is_too_full self.now ≡ false }
+    {
+        let _ = &self.bytes;
+    }
+
+    /// The place of a text, which is put at the end where it is new. The pool stays where it can't have it.
+    pub(crate) fn add(&mut self, text: &str) -> Result<u32, PoolFault>
+        ensures texts { OnOk result (self.new ≡ with_text self.old text.now) }
+        ensures place { IfOk result (λ code. place_of self.new text.now ≡ Some code) }
+        ensures small { IfOk result (λ code. code < 2147483647) }
+        ensures err { OnErr result (self.new ≡ self.old) }
+        ensures fault { IfErr result (λ e. ((e ≡ PoolFault.TextsFull) × (is_too_full (with_text self.old text.now) ≡ true)) ⊎ (e ≡ PoolFault.NoMemory)) }
+    {
+        match self.code_of(text) {
+            Some(code) => Ok(code),
+            None => self.add_new(text),
+        }
+    }
+
+    /// The place of a text that isn't in the pool, which is put at the end.
+    fn add_new(&mut self, text: &str) -> Result<u32, PoolFault>
+        requires { is_among self.old text.now ≡ false }
+        ensures texts { OnOk result (self.new ≡ self.old ++ text.now ∷ []) }
+        ensures place { IfOk result (λ code. code ≡ length self.old) }
+        ensures small { IfOk result (λ code. code < 2147483647) }
+        ensures err { OnErr result (self.new ≡ self.old) }
+        ensures fault { IfErr result (λ e. ((e ≡ PoolFault.TextsFull) × (is_too_full (self.old ++ text.now ∷ []) ≡ true)) ⊎ (e ≡ PoolFault.NoMemory)) }
+    {
+        let code = self.len();
+        if code >= MOST || text.len() > MOST - self.bytes {
+            return Err(PoolFault::TextsFull);
+        }
+        let copy = String::from_str(self.alloc, text)?;
+        self.texts.insert(copy)?;
+        self.bytes += text.len();
+        Ok(code as u32)
+    }
+}
+
+/// How many bytes texts have together.
+fn byte_count(texts: &[String]) -> usize
+    requires { sum_by (λ t. length (string_bytes t)) texts.now ≤ 2147483647 }
+    ensures { result ≡ sum_by (λ t. length (string_bytes t)) texts.now }
+{
+    texts.iter().map(|t| t.len()).sum()
+}
