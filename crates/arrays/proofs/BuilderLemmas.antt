@@ -1,25 +1,28 @@
--- A column of numbers grows by one slot.
-use Rattle.std.proofs.Common.{◌≡◌, ◌∙◌, ℕ, ◌+◌, ◌*◌, ◌<◌, ◌≤◌, ℤ, List, [], ◌∷◌, ◌++◌, Bool, false, map, length, get_or, cond, ap, sym, arith, subst, length-append, zero-add, le-ltb, Option, Some}
+-- A column of numbers grows by one slot or by many.
+use Rattle.std.proofs.Common.{◌≡◌, ◌∙◌, ℕ, ◌+◌, ◌*◌, ◌^◌, ◌<◌, ◌≤◌, ◌≤ℤ◌, ℤ, pos, negsuc, neg_ℤ, FitsSigned, List, [], ◌∷◌, ◌++◌, Bool, true, false, map, length, replicate, get_or, cond, ap, sym, refl, arith, subst, length-append, zero-add, Option, Some, None, Result, Ok, Err, OnOk, OnErr, take}
+use Rattle.std.specs.Int.{w128}
 use Rattle.std.specs.List.{range_with_len}
+use Rattle.std.proofs.lemmas.Int.{ints}
 use Rattle.std.proofs.lemmas.List.FromFn.{map-range_with_len_more, length-map-range_with_len}
-use Rattle.std.proofs.lemmas.List.{get_or_append_left}
+use Rattle.std.proofs.lemmas.List.{append_assoc, append-nil, get_or_append_left, get_or-append-add, get_or-replicate, length-replicate}
 use Rattle.std.proofs.lemmas.Nat.{row_fits}
-use Rattle.std.proofs.Math.Seq.{get_or-append_seam}
+use Rattle.std.proofs.Math.Seq.{get_or-append_seam, take-append_seam}
 use Rattle.arrays.specs.declared.types.IntType.{IntType}
+use Rattle.arrays.specs.Kind as kind
 use Rattle.arrays.specs.Kind.{bytes_of}
 use Rattle.arrays.specs.Item.{Item, null, int}
-use Rattle.colbits.specs.Bit.{bit, bits}
-use Rattle.colbits.specs.Bitmap.{IsBitmapOf}
-use Rattle.colbits.proofs.BitLemmas.{get_or-bits}
-use Rattle.arrays.specs.Layout.{number_at, is_valid_in}
-use Rattle.arrays.specs.Fault.{bytes_for}
-use Rattle.arrays.specs.Validity.{IsValidityOf}
+use Rattle.arrays.specs.Layout.{number_at}
 use Rattle.arrays.specs.Number.{IsOfType, bytes_of_number}
 use Rattle.arrays.specs.Column.{Column}
 use Rattle.arrays.specs.Made.{show_numbers}
-use Rattle.arrays.specs.Builder.{built, item_at, IsBuilt}
-use Rattle.arrays.proofs.ListLemmas.{map-range-below}
-use Rattle.arrays.proofs.EncodingLemmas.{length-bytes_of_number, number_at-append-front, number_at-append-end}
+use Rattle.arrays.specs.Packed.{IsBufferOf}
+use Rattle.arrays.specs.Seen.{Seen, valid_at, valid_in}
+use Rattle.arrays.specs.Shown.{kept, shown}
+use Rattle.arrays.specs.Values.{HasNumbers}
+use Rattle.arrays.specs.Builder.{built, item_at, item_of, numbers_where, IsBuilt}
+use Rattle.arrays.proofs.ListLemmas.{map-range-below, map-range-joined}
+use Rattle.arrays.proofs.EncodingLemmas.{length-bytes_of_number, number_at-append-front, number_at-append-end, number_at-append-past}
+use Rattle.arrays.proofs.FinishedLemmas.{slots_shown}
 
 -- one row more
 more_rows : (n w : ℕ) → n * w + w ≡ (n + 1) * w
@@ -87,29 +90,134 @@ added t values bytes valid flags z b old is whole of_type room bytes_are flags_a
           ∙ ap (λ (c : Column). c.items ++ cond b (int z) null ∷ []) is;
     }
 
--- ---- the finished column
+-- the builder after a try to add a slot, which may have failed
+pub record Tried {E : Type 0} (r : Result (Unit {0}) E) (t : IntType) (values : List ℕ) (valid : List Bool) (old : Column) (x : Item) : Type 0 where
+  pub built_still : IsBuilt t values valid
+  pub one_more : OnOk r (built t values valid ≡ old.items ++ x ∷ [])
 
-pub IsValidityOf-bitmap : (bytes : List ℕ) (bitmap valid : List Bool) → IsBitmapOf bytes bitmap → bitmap ≡ valid → IsValidityOf (Some bytes) valid
-IsValidityOf-bitmap bytes bitmap valid is same =
-    let packed : bits bytes 0 (length valid) ≡ valid = ap (λ v. bits bytes 0 (length v)) (sym same) ∙ is.values_are ∙ same in
-    let size = ap length same in
+pub tried : {E : Type 0} (r : Result (Unit {0}) E) (t s : IntType) (values longer bytes : List ℕ) (valid flags : List Bool) (n : ℕ) (y z : ℤ) (b : Bool) (old : Column)
+    → ◌≡◌ {A = Column} (record { ty = t; items = built t values valid }) old → IsBuilt t values valid → IsOfType old.ty z → length old.items < 2147483647 → s ≡ old.ty → y ≡ z
+    → longer ≡ values ++ bytes_of_number s y → n ≡ length values → OnOk r (bytes ≡ longer) → OnOk r (flags ≡ valid ++ b ∷ []) → OnErr r (bytes ≡ take n longer) → OnErr r (flags ≡ valid)
+    → Tried r t bytes flags old (cond b (int z) null)
+tried (Ok u) t s values longer bytes valid flags n y z b old is whole of_type room type_is same grows before bytes_are flags_are bytes_were flags_were =
+    let type_same : s ≡ t = type_is ∙ sym (ap (λ (c : Column). c.ty) is) in
+    let grown = bytes_are ∙ grows ∙ ap (λ s. values ++ bytes_of_number s y) type_same ∙ ap (λ y. values ++ bytes_of_number t y) same in
+    let all = added t values bytes valid flags z b old is whole of_type room grown flags_are in
+    record { built_still = all.built_still; one_more = all.one_more }
+tried (Err e) t s values longer bytes valid flags n y z b old is whole of_type room type_is same grows before bytes_are flags_are bytes_were flags_were =
+    let back : bytes ≡ values =
+    bytes_were ∙ ap (take n) grows ∙ ap (λ n. take n (values ++ bytes_of_number s y)) before ∙ take-append_seam values (bytes_of_number s y) in
+    record { built_still = subst (λ v. IsBuilt t v flags) (sym back) (subst (IsBuilt t values) (sym flags_were) whole); one_more = tt }
+
+-- ---- many slots at once
+
+more_slots : (n m w a b : ℕ) → a ≡ n * w → b ≡ m * w → a + b ≡ (n + m) * w
+more_slots n m w a b at first = omega arith
+
+pub IsBuilt-joined : (t : IntType) (values numbers : List ℕ) (valid : List Bool) (m : ℕ) → IsBuilt t values valid → length numbers ≡ m * bytes_of t.bits → length valid + m ≤ 2147483647
+    → IsBuilt t (values ++ numbers) (valid ++ replicate m true)
+IsBuilt-joined t values numbers valid m is size room =
+    let longer : length (valid ++ replicate m true) ≡ length valid + m = length-append valid (replicate m true) ∙ ap (λ k. length valid + k) (length-replicate m true) in
     record {
-      each =
-          λ j below.
-          sym (ap (bit bytes) (zero-add j)) ∙ sym (get_or-bits bytes 0 (length valid) j false below) ∙ ap (λ v. get_or v j false) packed;
-      long = le-ltb (length bytes) (bytes_for (length valid)) (omega (arith, is.bitmap.length_is, size));
+      whole =
+          length-append values numbers
+          ∙ more_slots (length valid) m (bytes_of t.bits) (length values) (length numbers) is.whole size
+          ∙ ap (λ k. k * bytes_of t.bits) (sym longer);
+      short = omega arith;
     }
 
--- an array of the numbers has the column's items
-pub column-built : (t : IntType) (n : ℕ) (validity : Option (List ℕ)) (values bytes : List ℕ) (valid : List Bool) → n ≡ length valid → bytes ≡ values → IsValidityOf validity valid
-    → (show_numbers t n validity bytes).items ≡ built t values valid
-unfolding built
-column-built t n validity values bytes valid len_is bytes_are is =
-    let slot : ℕ → Item = λ j. cond (is_valid_in validity j) (int (number_at t bytes j)) null in
-    let same : (j : ℕ) → j < length valid → slot (0 + j) ≡ item_at t values valid (0 + j) =
+pub built-joined : (t : IntType) (values numbers : List ℕ) (valid : List Bool) (m : ℕ) → IsBuilt t values valid
+    → built t (values ++ numbers) (valid ++ replicate m true) ≡ built t values valid ++ numbers_where None t numbers m
+unfolding built numbers_where
+built-joined t values numbers valid m is =
+    let n = length valid in
+    let w = bytes_of t.bits in
+    let values' = values ++ numbers in
+    let valid' = valid ++ replicate m true in
+    let longer : length valid' ≡ n + m = length-append valid (replicate m true) ∙ ap (λ k. n + k) (length-replicate m true) in
+    let front : (i : ℕ) → i < n → item_at t values' valid' i ≡ item_at t values valid i =
+    λ i below.
+    let within : i * w + w ≤ length values = subst (λ m. i * w + w ≤ m) (sym is.whole) (row_fits i w n w below (omega arith)) in
+    ap (λ v. cond v (int (number_at t values' i)) null) (get_or_append_left valid (replicate m true) false i below)
+    ∙ ap (λ z. cond (get_or valid i false) (int z) null) (number_at-append-front t values numbers i within) in
+    let past : (j : ℕ) → j < m → item_at t values' valid' (n + j) ≡ int (number_at t numbers j) =
     λ j below.
-    ap slot (zero-add j)
-    ∙ ap (λ v. cond v (int (number_at t bytes j)) null) (is.each j below)
-    ∙ ap (λ b. cond (get_or valid j false) (int (number_at t b j)) null) bytes_are
-    ∙ ap (item_at t values valid) (sym (zero-add j)) in
-    ap (λ m. map slot (range_with_len 0 m)) len_is ∙ map-range-below slot (item_at t values valid) 0 (length valid) same
+    ap (λ v. cond v (int (number_at t values' (n + j))) null) (get_or-append-add valid (replicate m true) j false ∙ get_or-replicate m j true false below)
+    ∙ ap int (number_at-append-past t values numbers n j (sym is.whole)) in
+    ap (λ k. map (item_at t values' valid') (range_with_len 0 k)) longer
+    ∙ map-range-joined (item_at t values' valid') (item_at t values valid) (λ j. int (number_at t numbers j)) n m front past
+
+-- the builder after the slots
+pub record Extended (t : IntType) (values : List ℕ) (valid : List Bool) (old : Column) (numbers : List ℕ) (m : ℕ) : Type 0 where
+  pub built_still : IsBuilt t values valid
+  pub many_more : built t values valid ≡ old.items ++ numbers_where None old.ty numbers m
+
+pub extended : (t : IntType) (values numbers bytes : List ℕ) (valid flags : List Bool) (m : ℕ) (old : Column) → ◌≡◌ {A = Column} (record { ty = t; items = built t values valid }) old
+    → IsBuilt t values valid → length numbers ≡ m * bytes_of old.ty.bits → length old.items + m ≤ 2147483647 → bytes ≡ values ++ numbers → flags ≡ valid ++ replicate m true
+    → Extended t bytes flags old numbers m
+extended t values numbers bytes valid flags m old is whole size room bytes_are flags_are =
+    let few : length valid + m ≤ 2147483647 = omega (arith, length-built t values valid, ap (λ (c : Column). length c.items) is) in
+    let of_type = size ∙ ap (λ (c : Column). m * bytes_of c.ty.bits) (sym is) in
+    let still = IsBuilt-joined t values numbers valid m whole of_type few in
+    record {
+      built_still = subst (λ v. IsBuilt t v flags) (sym bytes_are) (subst (IsBuilt t (values ++ numbers)) (sym flags_are) still);
+      many_more =
+          ap (λ v. built t v flags) bytes_are
+          ∙ ap (built t (values ++ numbers)) flags_are
+          ∙ built-joined t values numbers valid m whole
+          ∙ ap (λ (c : Column). c.items ++ numbers_where None c.ty numbers m) is;
+    }
+
+-- ---- slots one by one
+
+pub numbers_where-none : (validity : Option (List Bool)) (t : IntType) (numbers : List ℕ) → numbers_where validity t numbers 0 ≡ []
+unfolding numbers_where
+numbers_where-none validity t numbers = refl
+
+pub numbers_where-more : (validity : Option (List Bool)) (t : IntType) (numbers : List ℕ) (n : ℕ)
+    → numbers_where validity t numbers (n + 1) ≡ numbers_where validity t numbers n ++ (cond (valid_in validity n) (int (number_at t numbers n)) null) ∷ []
+unfolding numbers_where
+numbers_where-more validity t numbers n = map-range_with_len_more (λ j. cond (valid_in validity j) (int (number_at t numbers j)) null) 0 n n (zero-add n)
+
+pub length-numbers_where : (validity : Option (List Bool)) (t : IntType) (numbers : List ℕ) (n : ℕ) → length (numbers_where validity t numbers n) ≡ n
+unfolding numbers_where
+length-numbers_where validity t numbers n = length-map-range_with_len (λ j. cond (valid_in validity j) (int (number_at t numbers j)) null) 0 n
+
+-- the bounds of the eight types lie within 128 bits
+pub FitsSigned-bounded : (z : ℤ) → neg_ℤ (pos (2 ^ 64)) ≤ℤ z → z ≤ℤ pos (2 ^ 64) → FitsSigned w128 z
+FitsSigned-bounded (pos n) low high = omega (arith, ints)
+FitsSigned-bounded (negsuc n) low high = omega (arith, ints)
+
+pub item_of-valid : (number : Option ℤ) (y z : ℤ) (v w : Bool) → number ≡ Some y → y ≡ z → w ≡ v → w ≡ true → item_of number ≡ cond v (int z) null
+item_of-valid number y z v w is same e one = ap item_of is ∙ ap int same ∙ sym (ap (λ b. cond b (int z) null) (sym e ∙ one))
+
+pub item_of-null : (number : Option ℤ) (z : ℤ) (v w : Bool) → number ≡ None → w ≡ v → w ≡ false → item_of number ≡ cond v (int z) null
+item_of-null number z v w is e not_one = ap item_of is ∙ sym (ap (λ b. cond b (int z) null) (sym e ∙ not_one))
+
+-- the builder after one slot more of many
+pub slot_more : (validity : Option (List Bool)) (t : IntType) (numbers : List ℕ) (n : ℕ) (new here old : List Item) (x : Item) → new ≡ here ++ x ∷ [] → here ≡ old ++ numbers_where validity t numbers n
+    → x ≡ cond (valid_in validity n) (int (number_at t numbers n)) null → new ≡ old ++ numbers_where validity t numbers (n + 1)
+slot_more validity t numbers n new here old x new_is here_is x_is =
+    new_is
+    ∙ ap (λ xs. xs ++ x ∷ []) here_is
+    ∙ ap (λ y. old ++ numbers_where validity t numbers n ++ y ∷ []) x_is
+    ∙ append_assoc old (numbers_where validity t numbers n) (cond (valid_in validity n) (int (number_at t numbers n)) null ∷ [])
+    ∙ ap (λ xs. old ++ xs) (sym (numbers_where-more validity t numbers n))
+
+-- the items of a column are its numbers where they are valid
+pub numbers_where-items : (t : IntType) (numbers : List ℕ) (s : Seen) (validity : Option (List Bool)) (n : ℕ) → HasNumbers t numbers s → validity ≡ s.validity → n ≡ length s.items
+    → numbers_where validity t numbers n ≡ s.items
+unfolding numbers_where
+numbers_where-items t numbers s validity n has is size =
+    ap (λ v. map (λ j. cond (valid_in v j) (int (number_at t numbers j)) null) (range_with_len 0 n)) is
+    ∙ ap (λ m. map (λ j. cond (valid_at s j) (int (number_at t numbers j)) null) (range_with_len 0 m)) size
+    ∙ sym has.numbers
+
+-- ---- the finished column
+
+pub numbers-shown : (t : IntType) (n : ℕ) (values bytes : List ℕ) (valid : List Bool) (validity : Option (List Bool)) (buffer : Option (List ℕ)) → n ≡ length valid → bytes ≡ values
+    → validity ≡ kept valid → IsBufferOf buffer validity → show_numbers t n buffer bytes ≡ shown (kind.int t) (built t values valid)
+unfolding built
+numbers-shown t n values bytes valid validity buffer size same is holds =
+    slots_shown (kind.int t) (λ j. int (number_at t values j)) (λ j. int (number_at t bytes j)) n valid validity buffer size is holds (λ j. refl)
+    (λ j below. ap (λ b. int (number_at t b j)) same)

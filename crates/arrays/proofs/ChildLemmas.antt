@@ -109,6 +109,7 @@ pub record OneChild (k : Kind) (children : List RawArray) (raw : RawArray) : Typ
   pub is : children ≡ raw ∷ []
   pub lawful : fault raw ≡ None
   pub kind_is : (reading raw).kind ≡ k
+  pub no_dict : same_kind (reading raw).kind kind.dict ≡ false
   pub plain : same_kind (kind_of (out-RawArray raw).ty) kind.dict ≡ false
 
 kind-raw : (raw : RawArray) → (reading raw).kind ≡ kind_of (out-RawArray raw).ty
@@ -129,6 +130,7 @@ only_child k (c ∷ []) d h lawful =
       is = refl;
       lawful = lawful;
       kind_is = sym same.0;
+      no_dict = same.1;
       plain = subst (λ q. same_kind q kind.dict ≡ false) (kind-raw c) same.1;
     }
 only_child k (c ∷ e ∷ cs) d h lawful = cc

@@ -2,7 +2,7 @@
 use Rattle.std.proofs.Common.{◌≡◌, ◌∙◌, ℕ, ◌+◌, ◌*◌, ◌^◌, ◌<◌, ◌≤◌, ℤ, pos, negsuc, List, ◌++◌, Bool, true, false, length, take, drop, cond, ap, refl, arith, FitsSigned, length-drop}
 use mir.Val.{bits}
 use Rattle.std.proofs.lemmas.List.{take_all, drop-append-le, take-append-le}
-use Rattle.std.proofs.Math.Seq.{drop-append_seam}
+use Rattle.std.proofs.Math.Seq.{drop-append_seam, drop-append-add}
 use Rattle.std.proofs.lemmas.Nat.{from_le_bytes-to_le_bytes_2, from_le_bytes-to_le_bytes_4, from_le_bytes-to_le_bytes_8}
 use Rattle.std.proofs.lemmas.Int.{ints, to_z-of_z}
 use Rattle.std.specs.Int.{Width as Bits, cast_signed, cast_unsigned, to_le_bytes, from_le_bytes, FitsUnsigned}
@@ -81,3 +81,15 @@ number_at-append-end t xs z j is h =
     ap (λ b. cond t.signed (cast_signed (bits_of t.bits) (from_le_bytes (bits_of t.bits) b)) (pos (from_le_bytes (bits_of t.bits) b)))
     (slice-append-end xs (bytes_of_number t z) (j * bytes_of t.bits) (bytes_of t.bits) is (omega (arith, length-bytes_of_number t z)))
     ∙ read_again t.bits t.signed z h
+
+-- a number behind n numbers
+pub number_at-append-past : (t : IntType) (xs ys : List ℕ) (n j : ℕ) → n * bytes_of t.bits ≡ length xs → number_at t (xs ++ ys) (n + j) ≡ number_at t ys j
+unfolding number_at
+number_at-append-past t xs ys n j is =
+    let w = bytes_of t.bits in
+    let place : (n + j) * w ≡ length xs + j * w = places n j w (length xs) is in
+    ap (λ b. cond t.signed (cast_signed (bits_of t.bits) (from_le_bytes (bits_of t.bits) b)) (pos (from_le_bytes (bits_of t.bits) b)))
+    (ap (λ s. take w (drop s (xs ++ ys))) place ∙ ap (take w) (drop-append-add xs ys (j * w)))
+  where
+    places : (n j w a : ℕ) → n * w ≡ a → (n + j) * w ≡ a + j * w
+    places n j w a is = omega arith

@@ -20,3 +20,9 @@ pub mod OffsetLemmas
 pub mod DictionaryLemmas
 pub mod CopyLemmas
 pub mod IntegerLemmas
+pub mod ValidityLemmas
+pub mod CutLemmas
+pub mod LaidLemmas
+pub mod SlotsLemmas
+pub mod FinishedLemmas
+pub mod GrowingLemmas

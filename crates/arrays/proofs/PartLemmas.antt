@@ -201,6 +201,8 @@ child_of_view v s shows listed lawful within =
 pub record ViewLists (v : Inside) (s : Seen) (raw : RawArray) : Type 0 where
   pub lawful : fault raw ≡ None
   pub plain : same_kind (kind_of (out-RawArray raw).ty) kind.dict ≡ false
+  pub no_dict : same_kind (reading raw).seen.kind kind.dict ≡ false
+  pub depth : kind.depth (reading raw).seen.kind < 8
   pub lists : HasLists (offsets_from (bytes_at v.buffers.now 1) v.start v.len) (reading raw).seen s
 
 seen-reading : (raw : RawArray) → ((reading raw).seen.kind ≡ (reading raw).kind) × (length (reading raw).seen.items ≡ (reading raw).length)
@@ -224,6 +226,8 @@ lists_of_view v s d shows listed lawful within =
     let raw = slice_index_or v.children.now 0 d in
     let child = only_child of.0 v.children.now d (either_false _ _ w.parts_agree).0 (children_lawful (view_kind v.ty) v.total buffers (map reading v.children.now) (option_map checked (option_map (λ w. arc_value w.now) v.words)) lawful) in
     let seen = seen-reading raw in
+    let seen_kind : (reading raw).seen.kind ≡ of.0 = seen.0 ∙ child.kind_is in
+    let few = ltb-false 8 (kind.depth (kind.list of.0)) w.shallow in
     let most : child_length (map held (map reading v.children.now)) ≡ length (reading raw).seen.items =
     ap (λ (cs : List RawArray). child_length (map held (map reading cs))) child.is ∙ sym seen.1 in
     let items : child_items (map reading v.children.now) ≡ (reading raw).seen.items = ap (λ (cs : List RawArray). child_items (map reading cs)) child.is in
@@ -238,6 +242,8 @@ lists_of_view v s d shows listed lawful within =
     record {
       lawful = child.lawful;
       plain = child.plain;
+      no_dict = ap (λ k. same_kind k kind.dict) seen.0 ∙ child.no_dict;
+      depth = omega (arith, few, ap kind.depth seen_kind);
       lists = record {
         kind = of.1 ∙ ap kind.list (sym child.kind_is ∙ sym seen.0);
         bounds = subst (λ n. AreOffsets n offsets (length (reading raw).seen.items)) (sym slots ∙ ap (λ (q : Seen). length q.items) shows) (subst (AreOffsets v.len offsets) most bounds);

@@ -6,6 +6,7 @@ use Rattle.arrays.specs.Kind.{bytes_of}
 use Rattle.arrays.specs.Layout.{number_at}
 use Rattle.arrays.specs.Item.{Item, null, int}
 use Rattle.arrays.specs.Column.{Column}
+use Rattle.arrays.specs.Seen.{valid_in}
 use Rattle.arrays.specs.declared.builder.IntBuilder.TheInside.{Inside}
 
 -- A number where the slot is valid.
@@ -16,7 +17,11 @@ unfoldable pub built : IntType → List ℕ → List Bool → List Item
 built t values valid = map (item_at t values valid) (range_with_len 0 (length valid))
 
 abbrev pub show_builder : Inside → Column
-show_builder b = record { ty = b.ty; items = built b.ty b.values.items b.valid.items }
+show_builder b = record { ty = b.ty; items = built b.ty b.values.items b.valid }
+
+-- Numbers one behind the other where the slot is valid, else null.
+unfoldable pub numbers_where : Option (List Bool) → IntType → List ℕ → ℕ → List Item
+numbers_where validity t values n = map (λ j. if valid_in validity j then int (number_at t values j) else null) (range_with_len 0 n)
 
 -- A number for each slot, and no more slots than an array may have.
 pub record IsBuilt (t : IntType) (values : List ℕ) (valid : List Bool) : Type 0 where

@@ -81,6 +81,9 @@ top (x ∷ rest) = x
 abbrev pub item_code : Coded Item
 item_code = code_by (List Step) (coded_list (coded⊎ coded_ℤ (coded⊎ coded_bool (coded⊎ (coded_list coded_ℕ) coded_ℕ)))) steps (λ s. top (run s [])) (λ x. ap top (run-steps x []))
 
+abbrev pub items_code : Coded (List Item)
+items_code = coded_list item_code
+
 -- ---- kinds, as how many lists and what is inside
 
 abbrev width_number : Width → ℕ

@@ -20,9 +20,13 @@ pub mod Number
 pub mod Column
 pub mod Builder
 pub mod Made
-pub mod Validity
 pub mod ViewType
 pub mod View
 pub mod Held
 pub mod Dictionary
 pub mod Offsets
+pub mod Shown
+pub mod Packed
+pub mod Lengths
+pub mod Slots
+pub mod Growing

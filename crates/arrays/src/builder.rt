@@ -1,15 +1,29 @@
-ghost use Rattle.std.specs.Prelude.{◌≡◌, ◌<◌, ◌≤◌, [], ◌∷◌, ◌++◌, length, IfOk, OnOk, OnErr, All, IsTrue, true, ◌↔◌, if◌then◌else◌};
+ghost use Rattle.std.specs.Prelude.{◌≡◌, ◌+◌, ◌*◌, ◌<◌, ◌≤◌, [], ◌∷◌, ◌++◌, length, take, None, IfOk, OnOk, OnErr, if◌then◌else◌};
 ghost use Rattle.std.specs.Option.{ForSome};
 ghost use Rattle.arrays.specs.Number.{IsOfType};
-ghost use Rattle.arrays.specs.Validity.{IsValidityOf};
 ghost use Rattle.arrays.specs.Kind as kind;
+ghost use Rattle.arrays.specs.Kind.{bytes_of};
+ghost use Rattle.arrays.specs.Shown.{shown};
+
+pub mod bools;
+pub mod fault;
+pub mod lists;
+mod offsets;
+#[cfg(test)]
+mod tests;
+pub mod texts;
+pub mod validity;
 
 use crate::array::Array;
+use crate::integer::Integer;
 use crate::number::push_number;
 use crate::types::IntType;
-use colbits::{BitmapBuf, Buffer, NoMemory};
+use crate::validity::{buffer_of, is_valid};
+use crate::view::View;
+use colbits::{Bits, Buffer, NoMemory};
 use std::alloc::Global;
 use std::marker::Model;
+use validity::ValidityBuilder;
 
 /// A column of integers in the making.
 #[derive(Drop)]
@@ -17,7 +31,7 @@ pub struct IntBuilder {
     alloc: Global,
     ty: IntType,
     values: Vec<u8>,
-    valid: Vec<bool>,
+    valid: ValidityBuilder,
 }
 
 impl Model for IntBuilder {
@@ -32,12 +46,12 @@ impl Model for IntBuilder {
 
     ghost view = { show_builder };
 
-    ghost invariant = { λ b. IsBuilt b.ty b.values.items b.valid.items };
+    ghost invariant = { λ b. IsBuilt b.ty b.values.items b.valid };
 }
 
 impl IntBuilder {
     ghost use Rattle.arrays.specs.Item.{int, null};
-    ghost use Rattle.arrays.specs.Builder.{item_of};
+    ghost use Rattle.arrays.specs.Builder.{item_of, numbers_where};
 
     /// An empty column of the type, with room for so many slots.
     pub fn with_capacity(alloc: Global, ty: IntType, slots: usize) -> Result<IntBuilder, NoMemory>
@@ -45,11 +59,13 @@ impl IntBuilder {
         ensures { IfOk result (λ b. (b.ty ≡ ty) × (b.items ≡ [])) }
     {
         let width = ty.bits.bytes();
+
+        // A buffer is padded by at most 63 bytes, so that the numbers aren't copied again.
         Ok(IntBuilder {
             alloc,
             ty,
-            values: Vec::with_capacity(alloc, slots * width)?,
-            valid: Vec::with_capacity(alloc, slots)?,
+            values: Vec::with_capacity(alloc, slots * width + 63)?,
+            valid: ValidityBuilder::new(alloc),
         })
     }
 
@@ -67,10 +83,42 @@ impl IntBuilder {
         }
     }
 
+    /// The same for a type that is known to the compiler, so that no slot is asked for its type.
+    pub fn push_as<T: Integer>(&mut self, number: Option<i128>) -> Result<(), NoMemory>
+        requires ty { T.ty ≡ self.old.ty }
+        requires of_type { ForSome number (IsOfType self.old.ty) }
+        requires room { length self.old.items < 2147483647 }
+        ensures kept { self.new.ty ≡ self.old.ty }
+        ensures ok { OnOk result (self.new.items ≡ self.old.items ++ item_of number ∷ []) }
+        ensures err { OnErr result (self.new.items ≡ self.old.items) }
+    {
+        match number {
+            Some(number) => self.add_as::<T>(number, true),
+            None => self.add_as::<T>(0, false),
+        }
+    }
+
+    /// The column with all slots of a view of the same type at its end. Numbers without a null are copied at once.
+    pub fn extended<T: Integer>(self, view: &View<'_>) -> Result<IntBuilder, NoMemory>
+        requires kind { view.now.kind ≡ kind.int self.ty }
+        requires ty { T.ty ≡ self.ty }
+        requires room { length self.items + length view.now.items ≤ 2147483647 }
+        ensures ty { IfOk result (λ b. b.ty ≡ self.ty) }
+        ensures items { IfOk result (λ b. b.items ≡ self.items ++ view.now.items) }
+    {
+        let numbers = view.numbers(T::ty());
+        let len = view.len();
+        match view.validity() {
+            None => self.extended_at_once(numbers, len),
+            validity => self.extended_by_slot::<T>(numbers, &validity, len),
+        }
+    }
+
     /// The column as an array, with a validity only where there is a null.
     pub fn finish(self) -> Result<Array, NoMemory>
         ensures kind { IfOk result (λ a. a.kind ≡ kind.int self.ty) }
         ensures items { IfOk result (λ a. a.items ≡ self.items) }
+        ensures whole { IfOk result (λ a. a ≡ shown (kind.int self.ty) self.items) }
     {
         let IntBuilder {
             alloc,
@@ -78,9 +126,58 @@ impl IntBuilder {
             values,
             valid,
         } = self;
-        let validity = validity_buffer(alloc, &valid)?;
+        let len = valid.len() as u32;
+        let validity = valid.finish()?;
         let values = Buffer::from_vec(values)?;
-        Array::from_numbers(alloc, ty, valid.len() as u32, validity, values)
+        Array::from_numbers(alloc, ty, len, buffer_of(validity), values)
+    }
+
+    /// The column with so many valid slots at its end, whose numbers are these.
+    fn extended_at_once(self, numbers: &[u8], count: usize) -> Result<IntBuilder, NoMemory>
+        requires size { length numbers.now ≡ count * bytes_of self.ty.bits }
+        requires room { length self.items + count ≤ 2147483647 }
+        ensures ty { IfOk result (λ b. b.ty ≡ self.ty) }
+        ensures items { IfOk result (λ b. b.items ≡ self.items ++ numbers_where None self.ty numbers.now count) }
+    {
+        let IntBuilder {
+            alloc,
+            ty,
+            mut values,
+            mut valid,
+        } = self;
+        values.extend_from_slice(numbers)?;
+        valid.push_valid(count)?;
+        Ok(IntBuilder {
+            alloc,
+            ty,
+            values,
+            valid,
+        })
+    }
+
+    /// The column with so many slots at its end, whose numbers are these where they are valid.
+    fn extended_by_slot<T: Integer>(
+        self,
+        numbers: &[u8],
+        validity: &Option<Bits<'_>>,
+        count: usize,
+    ) -> Result<IntBuilder, NoMemory>
+        requires ty { T.ty ≡ self.ty }
+        requires size { length numbers.now ≡ count * bytes_of self.ty.bits }
+        requires room { length self.items + count ≤ 2147483647 }
+        ensures ty { IfOk result (λ b. b.ty ≡ self.ty) }
+        ensures items { IfOk result (λ b. b.items ≡ self.items ++ numbers_where validity.now self.ty numbers.now count) }
+    {
+        let mut builder = self;
+        for j in 0..count {
+            let number = if is_valid(validity, j) {
+                Some(T::at(numbers, j))
+            } else {
+                None
+            };
+            builder.push_as::<T>(number)?;
+        }
+        Ok(builder)
     }
 
     fn add(&mut self, number: i128, valid: bool) -> Result<(), NoMemory>
@@ -90,30 +187,46 @@ impl IntBuilder {
         ensures ok { OnOk result (self.new.items ≡ self.old.items ++ (if valid then int number else null) ∷ []) }
         ensures err { OnErr result (self.new.items ≡ self.old.items) }
     {
-        self.valid.push(valid)?;
-        match push_number(&mut self.values, self.ty, number) {
-            Ok(()) => Ok(()),
-            Err(error) => {
-                self.valid.pop();
-                Err(error)
-            }
+        let before = self.values.len();
+        push_number(&mut self.values, self.ty, number)?;
+        mark(&mut self.values, &mut self.valid, before, valid)
+    }
+
+    fn add_as<T: Integer>(&mut self, number: i128, valid: bool) -> Result<(), NoMemory>
+        requires ty { T.ty ≡ self.old.ty }
+        requires of_type { IsOfType self.old.ty number }
+        requires room { length self.old.items < 2147483647 }
+        ensures kept { self.new.ty ≡ self.old.ty }
+        ensures ok { OnOk result (self.new.items ≡ self.old.items ++ (if valid then int number else null) ∷ []) }
+        ensures err { OnErr result (self.new.items ≡ self.old.items) }
+    {
+        let before = self.values.len();
+        T::push(&mut self.values, number)?;
+        mark(&mut self.values, &mut self.valid, before, valid)
+    }
+}
+
+/// Tells of the slot whose number lies at the end of the values whether it is valid, or takes the number away: the
+/// values had so many bytes before it.
+#[inline(always)]
+fn mark(
+    values: &mut Vec<u8>,
+    slots: &mut ValidityBuilder,
+    before: usize,
+    valid: bool,
+) -> Result<(), NoMemory>
+    requires within { before ≤ length values.old.items }
+    requires room { length slots.old < 2147483647 }
+    ensures ok_values { OnOk result (values.new.items ≡ values.old.items) }
+    ensures ok_slots { OnOk result (slots.new ≡ slots.old ++ valid ∷ []) }
+    ensures err_values { OnErr result (values.new.items ≡ take before values.old.items) }
+    ensures err_slots { OnErr result (slots.new ≡ slots.old) }
+{
+    match slots.push(valid) {
+        Ok(()) => Ok(()),
+        Err(error) => {
+            values.truncate(before);
+            Err(error)
         }
     }
-}
-
-/// The validity of slots, none where all are valid.
-pub(crate) fn validity_buffer(alloc: Global, valid: &[bool]) -> Result<Option<Buffer>, NoMemory>
-    ensures { IfOk result (λ o. IsValidityOf o valid.now) }
-{
-    if are_all_valid(valid) {
-        return Ok(None);
-    }
-    let bitmap = BitmapBuf::from_bools(alloc, valid)?;
-    Ok(Some(bitmap.into_buffer()))
-}
-
-fn are_all_valid(valid: &[bool]) -> bool
-    ensures { IsTrue result ↔ All (λ v. v ≡ true) valid.now }
-{
-    valid.iter().all(|v| *v)
 }

@@ -18,12 +18,18 @@ mod testing;
 mod tests;
 pub mod types;
 mod validator;
+pub mod validity;
 pub mod view;
 pub mod words;
 
 pub use array::{Array, validate};
 pub use batch::{BatchFault, RecordBatch};
 pub use builder::IntBuilder;
+pub use builder::bools::BoolBuilder;
+pub use builder::fault::BuildFault;
+pub use builder::lists::ListBuilder;
+pub use builder::texts::TextBuilder;
+pub use builder::validity::ValidityBuilder;
 pub use fault::LayoutFault;
 pub use file::File;
 pub use integer::Integer;

@@ -44,6 +44,20 @@ impl<'a> ViewType<'a> {
             DataType::Dict => ViewType::Dict,
         }
     }
+
+    /// Whether two types are the same: names and nullability of list items aren't compared.
+    pub fn is_same(self, other: ViewType<'_>) -> bool
+        ensures { result ≡ same_kind (view_kind self.entry) (view_kind other.entry) }
+    {
+        match (self, other) {
+            (ViewType::Int(a), ViewType::Int(b)) => a == b,
+            (ViewType::Bool, ViewType::Bool) => true,
+            (ViewType::Utf8, ViewType::Utf8) => true,
+            (ViewType::List(a), ViewType::List(b)) => check::is_same(&a.ty, &b.ty),
+            (ViewType::Dict, ViewType::Dict) => true,
+            _ => false,
+        }
+    }
 }
 
 /// Neighbouring slots of an array, borrowed: nothing is copied, and no memory is taken.

@@ -7,7 +7,7 @@ use Rattle.bench_kernels.specs.declared.kernel.Kernel.TheVariants.{Add, Less, Eq
 use Rattle.kernels.specs.Arithmetic.{results}
 use Rattle.kernels.specs.Kleene.{conjunction}
 use Rattle.kernels.specs.Order.{compared}
-use Rattle.kernels.specs.Shown.{shown}
+use Rattle.arrays.specs.Shown.{shown}
 use Rattle.kernels.specs.declared.comparison.CmpOp.TheVariants.{Eq, Lt}
 
 -- The array of a kernel's result on two columns.

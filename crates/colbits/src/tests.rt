@@ -1,3 +1,4 @@
+use crate::places::Given;
 use crate::{BitmapBuf, Buffer, NoMemory};
 use std::alloc::Global;
 use std::test::Fail;
@@ -8,6 +9,16 @@ fn packs_bits(rt: HostRuntime) -> Result<(), Fail> {
     let buffer = BitmapBuf::from_bools(rt.alloc(), &bools)?.into_buffer();
     assert_eq!(rt; buffer.bytes(), [0x2b].as_slice());
     assert_eq!(rt; buffer.stored_len(), 64);
+    Ok(())
+}
+
+#[test]
+fn packs_places(rt: HostRuntime) -> Result<(), Fail> {
+    let bools = [true, false, false, false, false, false, false, true, true];
+    let bitmap = BitmapBuf::from_places(rt.alloc(), &Given(&bools))?;
+    assert_eq!(rt; bitmap.bits().len(), 9);
+    let buffer = bitmap.into_buffer();
+    assert_eq!(rt; buffer.bytes(), [0x81, 0x01].as_slice());
     Ok(())
 }
 

@@ -21,13 +21,13 @@ use Rattle.arrays.proofs.ListLemmas.{map-range-below}
 use Rattle.arrays.proofs.RowLemmas.{least_found, least_none}
 use Rattle.arrays.proofs.SchemaLemmas.{position-map}
 use Rattle.kernels.specs.Lift.{item_at, lifted}
-use Rattle.kernels.specs.Packed.{IsBufferOf}
-use Rattle.kernels.specs.Shown.{kept, shown}
+use Rattle.arrays.specs.Packed.{IsBufferOf}
+use Rattle.arrays.specs.Shown.{kept, shown}
 use Rattle.kernels.specs.Valid.{valid_in_both, both_valid}
 use Rattle.kernels.specs.Fault.{Told, or_else, shape_fault}
 use Rattle.kernels.specs.Arithmetic.{exact, results, is_outside, first_bad, are_one_int, operands_fault, arithmetic_fault}
 use Rattle.kernels.specs.Computed.{result_at, AreOfType, AreResults, IsLeastOutside, StopsAt}
-use Rattle.kernels.proofs.ValidityLemmas.{valid-kept-places, kept_buffer}
+use Rattle.arrays.proofs.ValidityLemmas.{valid-kept-places, kept_buffer}
 use Rattle.kernels.specs.declared.fault.KernelFault.{KernelFault}
 use Rattle.kernels.specs.declared.fault.KernelFault.TheVariants.{TypesDiffer, LengthsDiffer, Overflow, NoMemory}
 

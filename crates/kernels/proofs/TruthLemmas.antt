@@ -15,9 +15,9 @@ use Rattle.arrays.specs.Seen.{Seen, no_entries}
 use Rattle.arrays.proofs.ListLemmas.{map-range-below}
 use Rattle.arrays.specs.Slot.{holds_at}
 use Rattle.kernels.specs.Nulls.{nulls}
-use Rattle.kernels.specs.Shown.{kept, shown, validity_of}
+use Rattle.arrays.specs.Shown.{kept, shown, validity_of}
 use Rattle.kernels.specs.Truth.{truth_at, truths_of}
-use Rattle.kernels.proofs.ValidityLemmas.{IsKept}
+use Rattle.arrays.proofs.ValidityLemmas.{IsKept}
 
 -- ---- bits of values
 

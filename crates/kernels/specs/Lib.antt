@@ -1,5 +1,4 @@
 pub mod Lift
-pub mod Shown
 pub mod Fault
 pub mod Arithmetic
 pub mod Computed
@@ -8,6 +7,5 @@ pub mod Kleene
 pub mod Nulls
 pub mod Valid
 pub mod Truth
-pub mod Packed
 pub mod Wanted
 pub mod Known

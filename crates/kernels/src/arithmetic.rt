@@ -10,13 +10,14 @@ ghost use Rattle.arrays.specs.ViewType.{view_kind};
 ghost use Rattle.kernels.specs.Arithmetic.{are_one_int, arithmetic_fault, operands_fault, results};
 ghost use Rattle.kernels.specs.Computed.{AreResults, StopsAt, result_at};
 ghost use Rattle.kernels.specs.Fault.{Told};
-ghost use Rattle.kernels.specs.Shown.{shown};
+ghost use Rattle.arrays.specs.Shown.{shown};
 
 #[cfg(test)]
 mod tests;
 
 use crate::fault::KernelFault;
-use crate::validity::{both_valid, buffer_of, is_valid};
+use crate::validity::both_valid;
+use arrays::validity::{buffer_of, is_valid};
 use arrays::{Array, IntType, Integer, View, ViewType, Width};
 use colbits::{BitmapBuf, Bits, Buffer};
 use std::alloc::Global;

@@ -6,7 +6,7 @@ ghost use Rattle.arrays.specs.Slot.{is_text};
 ghost use Rattle.arrays.specs.ViewType.{view_kind};
 ghost use Rattle.kernels.specs.Fault.{Told};
 ghost use Rattle.kernels.specs.Order.{are_comparable, compared, comparison_fault};
-ghost use Rattle.kernels.specs.Shown.{shown};
+ghost use Rattle.arrays.specs.Shown.{shown};
 ghost use Rattle.kernels.specs.Wanted.{decisions, wants};
 
 mod pairs;

@@ -6,14 +6,14 @@ ghost use Rattle.arrays.specs.Kind.{same_kind};
 ghost use Rattle.kernels.specs.Fault.{Told};
 ghost use Rattle.kernels.specs.Kleene.{conjunction, disjunction, negation, truth_fault, truths_fault};
 ghost use Rattle.kernels.specs.Known.{are_both, is_either, knows_false, knows_true, stored_truth, tells_and, tells_or, truth_in};
-ghost use Rattle.kernels.specs.Shown.{shown};
+ghost use Rattle.arrays.specs.Shown.{shown};
 
 #[cfg(test)]
 mod tests;
 
 use crate::fault::KernelFault;
 use crate::truths::{Truths, array_of};
-use crate::validity::is_valid;
+use arrays::validity::is_valid;
 use arrays::{Array, View, ViewType};
 use colbits::Bits;
 use std::alloc::Global;

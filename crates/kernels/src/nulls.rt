@@ -4,7 +4,7 @@ ghost use Rattle.std.specs.Prelude.{◌≡◌, ◌≤◌, ℕ, not, true, length
 ghost use Rattle.arrays.specs.Kind as kind;
 ghost use Rattle.arrays.specs.Slot.{holds_at};
 ghost use Rattle.kernels.specs.Nulls.{nulls};
-ghost use Rattle.kernels.specs.Shown.{shown};
+ghost use Rattle.arrays.specs.Shown.{shown};
 
 #[cfg(test)]
 mod tests;

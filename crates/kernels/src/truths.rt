@@ -3,11 +3,11 @@
 ghost use Rattle.std.specs.Prelude.{◌≡◌, ◌<◌, ◌≤◌, ℕ, Bool, true, map, IfOk, IsTrue};
 ghost use Rattle.std.specs.List.{range_with_len};
 ghost use Rattle.arrays.specs.Kind as kind;
-ghost use Rattle.kernels.specs.Shown.{kept, shown};
+ghost use Rattle.arrays.specs.Shown.{kept, shown};
 ghost use Rattle.kernels.specs.Truth.{truths_of};
 
-use crate::validity::{buffer_of, validity_of};
 use arrays::Array;
+use arrays::validity::{buffer_of, validity_of};
 use colbits::{BitmapBuf, NoMemory, Places};
 use std::alloc::Global;
 

@@ -1,29 +1,14 @@
-//! The validity of a result.
+//! The slots that are valid in both of two views.
 
-ghost use Rattle.std.specs.Prelude.{◌≡◌, ◌&&◌, map, length, IfOk};
-ghost use Rattle.std.specs.List.{range_with_len};
+ghost use Rattle.std.specs.Prelude.{◌≡◌, ◌&&◌, length, IfOk};
 ghost use Rattle.arrays.specs.Seen.{valid_in};
-ghost use Rattle.kernels.specs.Packed.{IsBufferOf};
-ghost use Rattle.kernels.specs.Shown.{kept};
+ghost use Rattle.arrays.specs.Shown.{kept};
 ghost use Rattle.kernels.specs.Valid.{both_valid};
 
 use arrays::View;
-use colbits::{BitmapBuf, Bits, Buffer, NoMemory, Places};
+use arrays::validity::{is_valid, validity_of};
+use colbits::{BitmapBuf, Bits, NoMemory, Places};
 use std::alloc::Global;
-
-/// The validity of slots that are valid where the places are 1: none where all of them are.
-pub(crate) fn validity_of<P: Places>(
-    alloc: Global,
-    places: &P,
-) -> Result<Option<BitmapBuf>, NoMemory>
-    ensures { IfOk result (λ v. v ≡ kept (map (P.at places.now) (range_with_len 0 (P.count places.now)))) }
-{
-    let bitmap = BitmapBuf::from_places(alloc, places)?;
-    if bitmap.bits().are_ones() {
-        return Ok(None);
-    }
-    Ok(Some(bitmap))
-}
 
 /// The validity of slots that are valid where those of two views are: none where all of them are.
 pub(crate) fn both_valid(
@@ -39,16 +24,6 @@ pub(crate) fn both_valid(
         return Ok(None);
     }
     validity_of(alloc, &both)
-}
-
-/// The buffer of a validity.
-pub(crate) fn buffer_of(validity: Option<BitmapBuf>) -> Option<Buffer>
-    ensures { IsBufferOf result validity }
-{
-    match validity {
-        Some(bitmap) => Some(bitmap.into_buffer()),
-        None => None,
-    }
 }
 
 /// Whether the slots of two views of one length are both valid.
@@ -85,16 +60,5 @@ impl<'a, 'b> Places for BothValid<'a, 'b> {
 
     fn at(&self, i: usize) -> bool {
         is_valid(&self.a, i) & is_valid(&self.b, i)
-    }
-}
-
-/// Whether slot `i` is valid: its bit is there and 1, or there are no bits.
-#[inline(always)]
-pub(crate) fn is_valid(validity: &Option<Bits<'_>>, i: usize) -> bool
-    ensures { result ≡ valid_in validity.now i }
-{
-    match validity {
-        None => true,
-        Some(bits) => i < bits.len() && bits.get(i),
     }
 }

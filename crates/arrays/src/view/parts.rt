@@ -1,10 +1,10 @@
 //! What a loop over many slots needs: the values of a view as they lie in its buffers.
 
-ghost use Rattle.std.specs.Prelude.{◌≡◌, ◌+◌, ◌≤◌, None, false, length, true};
+ghost use Rattle.std.specs.Prelude.{◌≡◌, ◌+◌, ◌<◌, ◌≤◌, None, false, length, true};
 ghost use Rattle.colbits.specs.Slice.{slice};
 ghost use Rattle.arrays.specs.Held.{HasOffsets};
 ghost use Rattle.arrays.specs.Kind as kind;
-ghost use Rattle.arrays.specs.Kind.{kind_of, same_kind};
+ghost use Rattle.arrays.specs.Kind.{depth, kind_of, same_kind};
 ghost use Rattle.arrays.specs.Offsets.{offsets_from};
 ghost use Rattle.arrays.specs.Reading.{fault, reading};
 ghost use Rattle.arrays.specs.Slot.{is_list};
@@ -69,7 +69,11 @@ impl<'a> View<'a> {
     /// The offsets and the child of a view of lists. What lies under a null is any list.
     pub fn lists(&self) -> Lists<'a>
         requires { is_list self.now.kind ≡ true }
-        ensures { HasLists result.offsets.now result.child self.now }
+        ensures value { HasLists result.offsets.now result.child self.now }
+
+        // Lists of texts with a dictionary there are none, nor more than 8 lists in one another.
+        ensures no_dict { same_kind result.child.kind kind.dict ≡ false }
+        ensures depth { depth result.child.kind < 8 }
     {
         let offsets = check::bytes_at(self.buffers, 1);
         let children = self.children;

@@ -17,7 +17,8 @@ ghost use Rattle.kernels.specs.Order.{order};
 ghost use Rattle.kernels.specs.Wanted.{wants};
 
 use super::wanted::Wanted;
-use crate::validity::{BothValid, is_valid};
+use crate::validity::BothValid;
+use arrays::validity::is_valid;
 use arrays::{Integer, View};
 use colbits::Bits;
 use std::marker::PhantomData;

@@ -2,8 +2,8 @@ use Rattle.std.proofs.Common.{◌≡◌, ◌∙◌, ap, sym, subst}
 use Rattle.arrays.specs.Values.{HasNumbers}
 use Rattle.arrays.specs.Made.{show_numbers}
 use Rattle.kernels.specs.Arithmetic.{operands_fault, arithmetic_fault}
-use Rattle.kernels.specs.Packed.{IsBufferOf}
-use Rattle.kernels.specs.Shown.{kept}
+use Rattle.arrays.specs.Packed.{IsBufferOf}
+use Rattle.arrays.specs.Shown.{kept}
 use Rattle.kernels.specs.Valid.{both_valid}
 use Rattle.kernels.proofs.ResultLemmas.{told, told_on, computed, AreOperands}
 use Rattle.kernels.proofs.arithmetic.computed.Goals as goal

@@ -2,7 +2,7 @@ use Rattle.std.proofs.Common.{◌∙◌, ap, sym, cond, Some, None}
 use Rattle.arrays.specs.Kind as kind
 use Rattle.arrays.specs.Seen.{Seen}
 use Rattle.kernels.specs.Kleene.{negation}
-use Rattle.kernels.specs.Shown.{shown}
+use Rattle.arrays.specs.Shown.{shown}
 use Rattle.kernels.specs.declared.fault.KernelFault.TheVariants.{TypesDiffer}
 use Rattle.kernels.proofs.KleeneLemmas.{kind_of_truths, truths-negation}
 use Rattle.kernels.proofs.kleene.kleene_not.Goals as goal

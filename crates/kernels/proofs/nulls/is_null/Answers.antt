@@ -1,6 +1,6 @@
 use Rattle.std.proofs.Common.{◌∙◌, ap}
 use Rattle.arrays.specs.Kind as kind
-use Rattle.kernels.specs.Shown.{shown}
+use Rattle.arrays.specs.Shown.{shown}
 use Rattle.kernels.proofs.TruthLemmas.{truths-nulls}
 use Rattle.kernels.proofs.nulls.is_null.Goals as goal
 

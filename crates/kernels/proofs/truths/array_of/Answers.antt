@@ -1,7 +1,7 @@
 use Rattle.std.proofs.Common.{◌∙◌, ap}
 use Rattle.std.proofs.lemmas.Result.{IfOk-weaker}
 use Rattle.arrays.specs.Fault.{is_validity_short}
-use Rattle.kernels.proofs.ValidityLemmas.{kept_buffer}
+use Rattle.arrays.proofs.ValidityLemmas.{kept_buffer}
 use Rattle.kernels.proofs.TruthLemmas.{packed_enough, shown-truths}
 use Rattle.kernels.proofs.truths.array_of.Goals as goal
 

@@ -1,5 +1,5 @@
 use Rattle.std.proofs.Common.{sym}
-use Rattle.kernels.proofs.ValidityLemmas.{kept-places-ones}
+use Rattle.arrays.proofs.ValidityLemmas.{kept-places-ones}
 use Rattle.kernels.proofs.truths.known_of.Goals as goal
 
 pub returns-then-are_known : goal.returns-then-are_known

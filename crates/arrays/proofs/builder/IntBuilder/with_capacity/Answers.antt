@@ -4,4 +4,4 @@ use Rattle.arrays.proofs.builder.IntBuilder.with_capacity.Goals as goal
 
 pub returns : goal.returns
 unfolding built
-returns c = (refl, ap (built c.args.ty c.in_ok-with_capacity.field-0.items) c.in_ok-with_capacity-2.ensures.items)
+returns c = (refl, ap (built c.args.ty c.in_ok-with_capacity.field-0.items) c.new.ensures)

@@ -11,13 +11,13 @@ pub returns-then-not-is_valid-clause-items : goal.returns-then-not-is_valid-clau
 returns-then-not-is_valid-clause-items c =
     let s = c.args.self.now in
     let null : valid_at s c.args.i ≡ false = search rules in
-    null_slot _ s c.args.i c.lists-lists.ensures.lists c.requires.within null
+    null_slot _ s c.args.i c.lists-lists.ensures.value.lists c.requires.within null
 
 pub slice-requires : goal.slice-requires
 slice-requires c =
     let s = c.args.self.now in
     let offsets = c.lists-lists.result.offsets.now in
-    let bounds = c.lists-lists.ensures.bounds in
+    let bounds = c.lists-lists.ensures.value.bounds in
     let below : c.args.i + 1 ≤ length s.items = omega (arith, c.requires.within) in
     let end = ends_within (length s.items) offsets (length c.lists-lists.result.child.items) bounds (c.args.i + 1) below in
     let rises = bounds.rising c.args.i c.requires.within in
@@ -29,7 +29,7 @@ returns-clause-items c =
     let child = c.lists-lists.result.child in
     let offsets = c.lists-lists.result.offsets.now in
     let valid : valid_at s c.args.i ≡ true = search rules in
-    valid_slot _ s c.args.i c.lists-lists.ensures.lists c.requires.within valid
+    valid_slot _ s c.args.i c.lists-lists.ensures.value.lists c.requires.within valid
     ∙ ap (λ n. Some (list (list_of (slice child.items (start_of offsets c.args.i) (n - start_of offsets c.args.i))))) (sym c.natural_at-end.ensures)
     ∙ ap (λ a. Some (list (list_of (slice child.items a (c.natural_at-end.result - a))))) (sym c.natural_at-start.ensures)
     ∙ ap (λ (q : Seen). Some (list (list_of q.items))) (sym c.slice.ensures)

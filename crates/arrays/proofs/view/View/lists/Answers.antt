@@ -1,4 +1,4 @@
-use Rattle.std.proofs.Common.{◌≡◌, ◌+◌, ◌∙◌, None, false, ap, sym, subst}
+use Rattle.std.proofs.Common.{◌≡◌, ◌+◌, ◌<◌, ◌∙◌, None, false, ap, sym, subst}
 use Rattle.arrays.specs.declared.types.RawArray.{RawArray, out-RawArray}
 use Rattle.arrays.specs.Held.{HasOffsets}
 use Rattle.arrays.specs.Kind as kind
@@ -6,6 +6,7 @@ use Rattle.arrays.specs.Kind.{kind_of, same_kind}
 use Rattle.arrays.specs.Layout.{bytes_at}
 use Rattle.arrays.specs.Offsets.{offsets_from}
 use Rattle.arrays.specs.Reading.{fault, reading}
+use Rattle.arrays.specs.Seen.{Seen}
 use Rattle.arrays.specs.Values.{HasLists}
 use Rattle.arrays.proofs.PartLemmas.{child_of_view, lists_of_view}
 use Rattle.arrays.proofs.view.View.lists.Goals as goal
@@ -30,8 +31,8 @@ child_view-requires-clause-plain c =
     let there = lists_of_view v c.args.self.now c.index-children-0.result c.self.view_is c.requires c.self.invariant.0 c.self.invariant.1 in
     subst (λ (r : RawArray). same_kind (kind_of (out-RawArray r).ty) kind.dict ≡ false) (sym c.index-children-0.is) there.plain
 
-pub returns : goal.returns
-returns c =
+pub returns-clause-value : goal.returns-clause-value
+returns-clause-value c =
     let v = c.self.inside in
     let s = c.args.self.now in
     let there = lists_of_view v s c.index-children-0.result c.self.view_is c.requires c.self.invariant.0 c.self.invariant.1 in
@@ -39,3 +40,17 @@ returns c =
     let child = c.child_view.ensures ∙ ap (λ (r : RawArray). (reading r).seen) c.index-children-0.is in
     subst (λ o. HasLists o c.child_view.result s) (sym offsets)
     (subst (λ q. HasLists (offsets_from (bytes_at v.buffers.now 1) v.start v.len) q s) (sym child) there.lists)
+
+pub returns-clause-no_dict : goal.returns-clause-no_dict
+returns-clause-no_dict c =
+    let v = c.self.inside in
+    let there = lists_of_view v c.args.self.now c.index-children-0.result c.self.view_is c.requires c.self.invariant.0 c.self.invariant.1 in
+    let child = c.child_view.ensures ∙ ap (λ (r : RawArray). (reading r).seen) c.index-children-0.is in
+    ap (λ (s : Seen). same_kind s.kind kind.dict) child ∙ there.no_dict
+
+pub returns-clause-depth : goal.returns-clause-depth
+returns-clause-depth c =
+    let v = c.self.inside in
+    let there = lists_of_view v c.args.self.now c.index-children-0.result c.self.view_is c.requires c.self.invariant.0 c.self.invariant.1 in
+    let child = c.child_view.ensures ∙ ap (λ (r : RawArray). (reading r).seen) c.index-children-0.is in
+    subst (λ (s : Seen). kind.depth s.kind < 8) (sym child) there.depth

@@ -1,8 +1,8 @@
 use Rattle.std.proofs.Common.{◌≡◌, ◌∙◌, true, Some, sym, ap}
 use Rattle.std.specs.List.{All}
-use Rattle.kernels.specs.Shown.{kept}
-use Rattle.kernels.proofs.ValidityLemmas.{kept-ones, kept-some}
-use Rattle.kernels.proofs.validity.validity_of.Goals as goal
+use Rattle.arrays.specs.Shown.{kept}
+use Rattle.arrays.proofs.ValidityLemmas.{kept-ones, kept-some}
+use Rattle.arrays.proofs.validity.validity_of.Goals as goal
 
 pub returns-then-are_ones : goal.returns-then-are_ones
 returns-then-are_ones g c =

@@ -1,0 +1,176 @@
+-- Columns cut by lengths, and by offsets.
+use Rattle.std.proofs.Common.{◌≡◌, ◌∙◌, ℕ, zero, suc, ◌+◌, ◌-◌, ◌<◌, ◌≤◌, List, [], ◌∷◌, ◌++◌, map, Bool, true, false, length, take, drop, cond, Option, Some, None, unwrap_or, IsUtf8, ap, sym, subst, refl, arith, length-append, length-drop}
+use Rattle.std.specs.List.{range_with_len, All}
+use Rattle.std.proofs.lemmas.List.{drop-append-le, take-append-le, drop-drop, nil_from_length, length-take-le}
+use Rattle.std.proofs.lemmas.List.Elements.{All-append}
+use Rattle.std.proofs.lemmas.List.Sums.{sum_by-cons, sum_by_push}
+use Rattle.std.proofs.Math.Seq.{take-length}
+use Rattle.arrays.specs.Item.{Item, null, text, list, list_of}
+use Rattle.arrays.specs.Growing.{cut_texts, AreTextsOf, IsText}
+use Rattle.arrays.specs.Lengths.{cut, total, text_length, text_bytes}
+use Rattle.arrays.specs.Offsets.{length_of, of_slot, start_of}
+
+-- ---- how long slots are together
+
+pub total-cons : (l : Option ℕ) (ls : List (Option ℕ)) → total (l ∷ ls) ≡ unwrap_or l 0 + total ls
+total-cons l ls = sum_by-cons (λ (o : Option ℕ). unwrap_or o 0) l ls
+
+pub total-push : (ls : List (Option ℕ)) (l : Option ℕ) → total (ls ++ l ∷ []) ≡ total ls + unwrap_or l 0
+total-push ls l = sum_by_push (λ (o : Option ℕ). unwrap_or o 0) ls l
+
+-- ---- slots of any values
+
+-- Slots of these lengths, cut one after the other from the values; x where there is no length.
+abbrev pub cut_by : {A X : Type 0} → (List A → X) → X → List (Option ℕ) → List A → List X
+cut_by wrap x [] values = []
+cut_by wrap x (None ∷ ls) values = x ∷ cut_by wrap x ls values
+cut_by wrap x (Some n ∷ ls) values = wrap (take n values) ∷ cut_by wrap x ls (drop n values)
+
+pub texts_cut : (ls : List (Option ℕ)) (bytes : List ℕ) → cut_texts ls bytes ≡ cut_by text null ls bytes
+texts_cut [] bytes = refl
+texts_cut (None ∷ ls) bytes = ap (λ xs. null ∷ xs) (texts_cut ls bytes)
+texts_cut (Some n ∷ ls) bytes = ap (λ xs. text (take n bytes) ∷ xs) (texts_cut ls (drop n bytes))
+
+pub lists_cut : (ls : List (Option ℕ)) (items : List Item) → cut ls items ≡ cut_by (λ xs. list (list_of xs)) null ls items
+lists_cut [] items = refl
+lists_cut (None ∷ ls) items = ap (λ xs. null ∷ xs) (lists_cut ls items)
+lists_cut (Some n ∷ ls) items = ap (λ xs. list (list_of (take n items)) ∷ xs) (lists_cut ls (drop n items))
+
+-- ---- cut by offsets
+
+-- How long slot j is, none where it isn't valid.
+abbrev pub slot_length : (ℕ → Bool) → List ℕ → ℕ → Option ℕ
+slot_length valid offsets j = cond (valid j) (Some (length_of offsets j)) None
+
+-- Offsets that rise, by which a slot that isn't valid is empty.
+pub record Rises (valid : ℕ → Bool) (n : ℕ) (offsets : List ℕ) : Type 0 where
+  pub rising : (j : ℕ) → j < n → start_of offsets j ≤ start_of offsets (j + 1)
+  pub empty : (j : ℕ) → j < n → valid j ≡ false → length_of offsets j ≡ 0
+
+slot_total : (b : Bool) (l start end : ℕ) → l ≡ end - start → start ≤ end → (b ≡ false → l ≡ 0) → unwrap_or (cond b (Some l) None) 0 + start ≡ end
+slot_total true l start end is le empty = omega arith
+slot_total false l start end is le empty = let none = empty refl in omega arith
+
+pub total-from : (valid : ℕ → Bool) (offsets : List ℕ) (n : ℕ) → Rises valid n offsets → (d a : ℕ) → a + d ≡ n
+    → total (map (slot_length valid offsets) (range_with_len a d)) + start_of offsets a ≡ start_of offsets n
+total-from valid offsets n rises zero a e =
+    let same : start_of offsets a ≡ start_of offsets n = ap (start_of offsets) (omega arith) in
+    omega (arith, same)
+total-from valid offsets n rises (suc d) a e =
+    let here = slot_total (valid a) (length_of offsets a) (start_of offsets a) (start_of offsets (a + 1)) refl (rises.rising a (omega arith)) (rises.empty a (omega arith)) in
+    let there = total-from valid offsets n rises d (a + 1) (omega arith) in
+    let both = total-cons (slot_length valid offsets a) (map (slot_length valid offsets) (range_with_len (a + 1) d)) in
+    omega (arith, here, there, both)
+
+slot_cut : {A X : Type 0} (wrap : List A → X) (x : X) (b : Bool) (l start end : ℕ) (ls : List (Option ℕ)) (values : List A) (out : List X) → l ≡ end - start → start ≤ end
+    → (b ≡ false → l ≡ 0) → cut_by wrap x ls (drop end values) ≡ out
+    → cut_by wrap x (cond b (Some l) None ∷ ls) (drop start values) ≡ cond b (wrap (take l (drop start values))) x ∷ out
+slot_cut wrap x true l start end ls values out is le empty rest =
+    ap (λ xs. wrap (take l (drop start values)) ∷ xs)
+    (ap (cut_by wrap x ls) (drop-drop l start values) ∙ ap (λ s. cut_by wrap x ls (drop s values)) (omega arith) ∙ rest)
+slot_cut wrap x false l start end ls values out is le empty rest =
+    let none = empty refl in
+    ap (λ xs. x ∷ xs) (ap (λ s. cut_by wrap x ls (drop s values)) (omega arith) ∙ rest)
+
+pub cut-from : {A X : Type 0} (wrap : List A → X) (x : X) (valid : ℕ → Bool) (offsets : List ℕ) (n : ℕ) (values : List A) → Rises valid n offsets → (d a : ℕ) → a + d ≡ n
+    → cut_by wrap x (map (slot_length valid offsets) (range_with_len a d)) (drop (start_of offsets a) values)
+    ≡ map (λ j. cond (valid j) (wrap (of_slot offsets values j)) x) (range_with_len a d)
+cut-from wrap x valid offsets n values rises zero a e = refl
+cut-from wrap x valid offsets n values rises (suc d) a e =
+    slot_cut wrap x (valid a) (length_of offsets a) (start_of offsets a) (start_of offsets (a + 1)) (map (slot_length valid offsets) (range_with_len (a + 1) d)) values
+    (map (λ j. cond (valid j) (wrap (of_slot offsets values j)) x) (range_with_len (a + 1) d))
+    refl (rises.rising a (omega arith)) (rises.empty a (omega arith)) (cut-from wrap x valid offsets n values rises d (a + 1) (omega arith))
+
+-- ---- a slot more
+
+pub length-cut_by : {A X : Type 0} (wrap : List A → X) (x : X) (ls : List (Option ℕ)) (values : List A) → length (cut_by wrap x ls values) ≡ length ls
+length-cut_by wrap x [] values = refl
+length-cut_by wrap x (None ∷ ls) values = ap suc (length-cut_by wrap x ls values)
+length-cut_by wrap x (Some n ∷ ls) values = ap suc (length-cut_by wrap x ls (drop n values))
+
+pub cut-push-none : {A X : Type 0} (wrap : List A → X) (x : X) (ls : List (Option ℕ)) (values : List A) → cut_by wrap x (ls ++ None ∷ []) values ≡ cut_by wrap x ls values ++ x ∷ []
+cut-push-none wrap x [] values = refl
+cut-push-none wrap x (None ∷ ls) values = ap (λ xs. x ∷ xs) (cut-push-none wrap x ls values)
+cut-push-none wrap x (Some n ∷ ls) values = ap (λ xs. wrap (take n values) ∷ xs) (cut-push-none wrap x ls (drop n values))
+
+pub cut-push-some : {A X : Type 0} (wrap : List A → X) (x : X) (ls : List (Option ℕ)) (values more : List A) → total ls ≡ length values
+    → cut_by wrap x (ls ++ Some (length more) ∷ []) (values ++ more) ≡ cut_by wrap x ls values ++ wrap more ∷ []
+cut-push-some wrap x [] values more h =
+    ap (λ v. wrap (take (length more) (v ++ more)) ∷ []) (nil_from_length values (sym h)) ∙ ap (λ t. wrap t ∷ []) (take-length more)
+cut-push-some wrap x (None ∷ ls) values more h =
+    ap (λ xs. x ∷ xs) (cut-push-some wrap x ls values more (omega (arith, total-cons None ls)))
+cut-push-some wrap x (Some n ∷ ls) values more h =
+    let all = total-cons (Some n) ls in
+    let within : n ≤ length values = omega (arith, all) in
+    ap (λ t. wrap t ∷ cut_by wrap x (ls ++ Some (length more) ∷ []) (drop n (values ++ more))) (take-append-le n values more within)
+    ∙ ap (λ xs. wrap (take n values) ∷ xs)
+    (ap (cut_by wrap x (ls ++ Some (length more) ∷ [])) (drop-append-le n values more within)
+    ∙ cut-push-some wrap x ls (drop n values) more (omega (arith, all, length-drop n values)))
+
+-- how many bytes texts have
+pub text_bytes-cut : (ls : List (Option ℕ)) (bytes : List ℕ) → total ls ≤ length bytes → text_bytes (cut_by text null ls bytes) ≡ total ls
+text_bytes-cut [] bytes h = refl
+text_bytes-cut (None ∷ ls) bytes h =
+    let all = total-cons None ls in
+    let rest = text_bytes-cut ls bytes (omega (arith, all)) in
+    omega (arith, all, rest, sum_by-cons text_length null (cut_by text null ls bytes))
+text_bytes-cut (Some n ∷ ls) bytes h =
+    let all = total-cons (Some n) ls in
+    let rest = text_bytes-cut ls (drop n bytes) (omega (arith, all, length-drop n bytes)) in
+    let here = length-take-le n bytes (omega (arith, all)) in
+    omega (arith, all, rest, here, sum_by-cons text_length (text (take n bytes)) (cut_by text null ls (drop n bytes)))
+
+-- ---- texts in the making
+
+-- The texts after one more slot.
+pub record TextsGrown (ls : List (Option ℕ)) (bytes : List ℕ) (old : List Item) (x : Item) : Type 0 where
+  pub texts_still : AreTextsOf ls bytes
+  pub one_more : cut_texts ls bytes ≡ old ++ x ∷ []
+
+one_is : (x : Item) → IsText x → All IsText (x ∷ [])
+one_is x h zero d below = h
+one_is x h (suc k) d below = absurd (omega arith)
+
+grown_by : (ls : List (Option ℕ)) (bytes : List ℕ) (old : List Item) (x : Item) → total ls ≡ length bytes → cut_texts ls bytes ≡ old ++ x ∷ [] → All IsText old → IsText x
+    → TextsGrown ls bytes old x
+grown_by ls bytes old x whole one all is = record {
+  texts_still = record { whole = whole; utf8 = subst (All IsText) (sym one) (All-append IsText old (x ∷ []) all (one_is x is)) };
+  one_more = one;
+}
+
+text_grows : (ls : List (Option ℕ)) (bytes t : List ℕ) (old : List Item) → cut_texts ls bytes ≡ old → AreTextsOf ls bytes → IsUtf8 t
+    → TextsGrown (ls ++ Some (length t) ∷ []) (bytes ++ t) old (text t)
+text_grows ls bytes t old view_is texts is =
+    grown_by (ls ++ Some (length t) ∷ []) (bytes ++ t) old (text t)
+    (total-push ls (Some (length t)) ∙ ap (λ n. n + length t) texts.whole ∙ sym (length-append bytes t))
+    (texts_cut (ls ++ Some (length t) ∷ []) (bytes ++ t)
+    ∙ cut-push-some text null ls bytes t texts.whole
+    ∙ ap (λ xs. xs ++ text t ∷ []) (sym (texts_cut ls bytes) ∙ view_is))
+    (subst (All IsText) view_is texts.utf8)
+    is
+
+pub text_more : (ls slots : List (Option ℕ)) (bytes all t : List ℕ) (old : List Item) → cut_texts ls bytes ≡ old → AreTextsOf ls bytes → IsUtf8 t → all ≡ bytes ++ t
+    → slots ≡ ls ++ Some (length t) ∷ [] → TextsGrown slots all old (text t)
+text_more ls slots bytes all t old view_is texts is all_are slots_are =
+    subst (λ b. TextsGrown slots b old (text t)) (sym all_are)
+    (subst (λ s. TextsGrown s (bytes ++ t) old (text t)) (sym slots_are) (text_grows ls bytes t old view_is texts is))
+
+pub null_more : (ls slots : List (Option ℕ)) (bytes : List ℕ) (old : List Item) → cut_texts ls bytes ≡ old → AreTextsOf ls bytes → slots ≡ ls ++ None ∷ []
+    → TextsGrown slots bytes old null
+null_more ls slots bytes old view_is texts slots_are =
+    subst (λ s. TextsGrown s bytes old null) (sym slots_are)
+    (grown_by (ls ++ None ∷ []) bytes old null
+    (omega (arith, total-push ls None, texts.whole))
+    (texts_cut (ls ++ None ∷ []) bytes ∙ cut-push-none text null ls bytes ∙ ap (λ xs. xs ++ null ∷ []) (sym (texts_cut ls bytes) ∙ view_is))
+    (subst (All IsText) view_is texts.utf8)
+    tt)
+
+pub length-texts : (ls : List (Option ℕ)) (bytes : List ℕ) (old : List Item) → cut_texts ls bytes ≡ old → length ls ≡ length old
+length-texts ls bytes old view_is = sym (length-cut_by text null ls bytes) ∙ ap length (sym (texts_cut ls bytes) ∙ view_is)
+
+-- the slots of texts are as long as their bytes
+pub bytes_with : (ls : List (Option ℕ)) (bytes : List ℕ) (old : List Item) (l : Option ℕ) (x : Item) → cut_texts ls bytes ≡ old → AreTextsOf ls bytes → text_length x ≡ unwrap_or l 0
+    → total (ls ++ l ∷ []) ≡ text_bytes (old ++ x ∷ [])
+bytes_with ls bytes old l x view_is texts same =
+    let here : text_bytes old ≡ total ls = ap text_bytes (sym view_is ∙ texts_cut ls bytes) ∙ text_bytes-cut ls bytes (omega (arith, texts.whole)) in
+    omega (arith, here, same, total-push ls l, sum_by_push text_length old x)

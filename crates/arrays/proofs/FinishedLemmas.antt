@@ -1,0 +1,68 @@
+-- A column that was built slot by slot, as an array.
+use Rattle.std.proofs.Common.{◌≡◌, ◌∙◌, ℕ, ◌+◌, ◌<◌, ◌++◌, ◌∷◌, List, [], map, Bool, true, false, not, length, cond, get_or, Option, Some, None, option_map, ap, sym, subst, refl, arith, zero-add, length-append}
+use Rattle.std.specs.List.{range_with_len}
+use Rattle.std.proofs.lemmas.Simd.{map-map}
+use Rattle.std.proofs.lemmas.List.{get_or_append_left}
+use Rattle.std.proofs.lemmas.List.FromFn.{map-range_with_len_more}
+use Rattle.std.proofs.Math.Seq.{get_or-append_seam}
+use Rattle.colbits.specs.Bit.{bits}
+use Rattle.colbits.proofs.BitLemmas.{listed}
+use Rattle.arrays.specs.Fault.{is_validity_short}
+use Rattle.arrays.specs.Item.{Item, null, is_null}
+use Rattle.arrays.specs.Kind.{Kind}
+use Rattle.arrays.specs.Layout.{is_valid_in}
+use Rattle.arrays.specs.Made.{show_slots}
+use Rattle.arrays.specs.Packed.{IsBufferOf}
+use Rattle.arrays.specs.Seen.{Seen, no_entries}
+use Rattle.arrays.specs.Shown.{kept, shown}
+use Rattle.arrays.proofs.ListLemmas.{map-range-below}
+use Rattle.arrays.proofs.ValidityLemmas.{IsKept, kept_buffer}
+
+-- the value of a slot where it is valid, else null
+abbrev pub slot : (ℕ → Item) → List Bool → ℕ → Item
+slot value valid j = cond (get_or valid j false) (value j) null
+
+made : Kind → Option (List Bool) → List Item → Seen
+made k validity items = record { kind = k; validity = validity; items = items; codes = []; entries = no_entries }
+
+is_there : (v : Bool) (x : Item) → is_null x ≡ false → not (is_null (cond v x null)) ≡ v
+is_there true x h = ap not h
+is_there false x h = refl
+
+slot_same : (p q : Bool) (x y : Item) → p ≡ q → (q ≡ true → x ≡ y) → cond p x null ≡ cond q y null
+slot_same p true x y same is = ap (λ v. cond v x null) same ∙ is refl
+slot_same p false x y same is = ap (λ v. cond v x null) same
+
+-- the buffer of what is kept of the slots
+pub kept_slots : (n : ℕ) (valid : List Bool) (validity : Option (List Bool)) (buffer : Option (List ℕ)) → n ≡ length valid → validity ≡ kept valid → IsBufferOf buffer validity
+    → IsKept n (λ j. get_or valid j false) buffer
+kept_slots n valid validity buffer size is holds =
+    let bit : ℕ → Bool = λ j. get_or valid j false in
+    let all : map bit (range_with_len 0 n) ≡ valid = ap (λ m. map bit (range_with_len 0 m)) size ∙ listed valid in
+    kept_buffer n bit buffer validity (is ∙ ap kept (sym all)) holds
+
+pub slots_shown : (k : Kind) (value packed : ℕ → Item) (n : ℕ) (valid : List Bool) (validity : Option (List Bool)) (buffer : Option (List ℕ)) → n ≡ length valid → validity ≡ kept valid
+    → IsBufferOf buffer validity → ((j : ℕ) → is_null (value j) ≡ false) → ((j : ℕ) → j < n → packed j ≡ value j)
+    → show_slots k n buffer packed ≡ shown k (map (slot value valid) (range_with_len 0 (length valid)))
+unfolding made
+slots_shown k value packed n valid validity buffer size is holds not_null same =
+    let bit : ℕ → Bool = λ j. get_or valid j false in
+    let kept_is = kept_slots n valid validity buffer size is holds in
+    let here : ℕ → Item = λ j. cond (is_valid_in buffer j) (packed j) null in
+    let there : ℕ → Item = slot value valid in
+    let items : map here (range_with_len 0 n) ≡ map there (range_with_len 0 (length valid)) =
+    map-range-below here there 0 n
+    (λ j below.
+    ap here (zero-add j)
+    ∙ slot_same (is_valid_in buffer j) (bit j) (packed j) (value j) (kept_is.each j below) (λ _. same j below)
+    ∙ ap there (sym (zero-add j)))
+    ∙ ap (λ m. map there (range_with_len 0 m)) size in
+    let flags : map (λ x. not (is_null x)) (map there (range_with_len 0 n)) ≡ map bit (range_with_len 0 n) =
+    map-map (λ x. not (is_null x)) there (range_with_len 0 n)
+    ∙ map-range-below (λ j. not (is_null (there j))) bit 0 n (λ j below. is_there (bit (0 + j)) (value (0 + j)) (not_null (0 + j))) in
+    let validities : option_map (λ bytes. bits bytes 0 n) buffer ≡ kept (map (λ x. not (is_null x)) (map there (range_with_len 0 (length valid)))) =
+    kept_is.shown
+    ∙ ap kept (sym flags)
+    ∙ ap (λ m. kept (map (λ x. not (is_null x)) (map there (range_with_len 0 m)))) size in
+    ap (λ v. made k v (map here (range_with_len 0 n))) validities
+    ∙ ap (made k (kept (map (λ x. not (is_null x)) (map there (range_with_len 0 (length valid)))))) items

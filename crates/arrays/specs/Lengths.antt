@@ -1,0 +1,40 @@
+-- How much the items of a column hold together, and columns cut by such lengths.
+use Rattle.std.specs.Prelude.{ℕ, List, [], ◌∷◌, ◌++◌, length, take, drop, sum_by, flat_map, Option, Some, None, Bool, nat_lt, unwrap_or}
+use Rattle.arrays.specs.Item.{Item, null, text, list, items_of, list_of}
+
+-- How many bytes a text has.
+abbrev pub text_length : Item → ℕ
+text_length (text t) = length t
+text_length x = 0
+
+-- How many bytes the texts of a column have together.
+abbrev pub text_bytes : List Item → ℕ
+text_bytes items = sum_by text_length items
+
+-- The items of a list, none of what is no list.
+abbrev pub items_in : Item → List Item
+items_in (list xs) = items_of xs
+items_in x = []
+
+-- The items of all lists, one list after the other.
+abbrev pub inner_items : List Item → List Item
+inner_items items = flat_map items_in items
+
+-- How long a list is, none of what is no list.
+abbrev pub list_length : Item → Option ℕ
+list_length (list xs) = Some (length (items_of xs))
+list_length x = None
+
+-- How long lists are together.
+abbrev pub total : List (Option ℕ) → ℕ
+total lengths = sum_by (λ l. unwrap_or l 0) lengths
+
+-- Lists of these lengths, cut one after the other from the items; null where there is no length.
+abbrev pub cut : List (Option ℕ) → List Item → List Item
+cut [] items = []
+cut (None ∷ lengths) items = null ∷ cut lengths items
+cut (Some n ∷ lengths) items = list (list_of (take n items)) ∷ cut lengths (drop n items)
+
+-- More than 32-bit offsets count.
+abbrev pub is_past : ℕ → Bool
+is_past n = nat_lt 2147483647 n

@@ -1,0 +1,46 @@
+//! Validities that are kept only where a slot isn't valid.
+
+ghost use Rattle.std.specs.Prelude.{◌≡◌, map, IfOk};
+ghost use Rattle.std.specs.List.{range_with_len};
+ghost use Rattle.arrays.specs.Packed.{IsBufferOf};
+ghost use Rattle.arrays.specs.Seen.{valid_in};
+ghost use Rattle.arrays.specs.Shown.{kept};
+
+#[cfg(test)]
+mod tests;
+
+use colbits::{BitmapBuf, Bits, Buffer, NoMemory, Places};
+use std::alloc::Global;
+
+/// The validity of slots that are valid where the places are 1: none where all of them are. It fails for want of memory
+/// alone.
+pub fn validity_of<P: Places>(alloc: Global, places: &P) -> Result<Option<BitmapBuf>, NoMemory>
+    ensures { IfOk result (λ v. v ≡ kept (map (P.at places.now) (range_with_len 0 (P.count places.now)))) }
+{
+    let bitmap = BitmapBuf::from_places(alloc, places)?;
+    if bitmap.bits().are_ones() {
+        return Ok(None);
+    }
+    Ok(Some(bitmap))
+}
+
+/// The buffer of a validity, as the makers of arrays take it.
+pub fn buffer_of(validity: Option<BitmapBuf>) -> Option<Buffer>
+    ensures { IsBufferOf result validity }
+{
+    match validity {
+        Some(bitmap) => Some(bitmap.into_buffer()),
+        None => None,
+    }
+}
+
+/// Whether slot `i` is valid: its bit is there and 1, or there are no bits.
+#[inline(always)]
+pub fn is_valid(validity: &Option<Bits<'_>>, i: usize) -> bool
+    ensures { result ≡ valid_in validity.now i }
+{
+    match validity {
+        None => true,
+        Some(bits) => i < bits.len() && bits.get(i),
+    }
+}
