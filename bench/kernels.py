@@ -1,5 +1,5 @@
 #!/usr/bin/env python3
-"""Measures the kernels beside plain Rust loops with the same checks.
+"""Measures the kernels and selections beside plain Rust loops with the same checks.
 
     bench/kernels.py [RUNS]
 
@@ -16,7 +16,8 @@ import time
 
 TOP = os.path.dirname(os.path.dirname(os.path.abspath(__file__)))
 OURS = os.path.join(TOP, "crates", "bench_kernels", "out", "bench_kernels")
-KERNELS = [("add", 8_000_000, 10), ("less", 8_000_000, 10), ("equal", 1_000_000, 20), ("and", 64_000_000, 5)]
+KERNELS = [("add", 8_000_000, 10), ("less", 8_000_000, 10), ("equal", 1_000_000, 20), ("and", 64_000_000, 5), ("filter", 8_000_000, 10), ("take", 8_000_000, 5),
+           ("take-texts", 1_000_000, 10)]
 
 
 def seconds(program, kernel, rows, times):
@@ -36,7 +37,7 @@ def main():
     runs = int(sys.argv[1]) if len(sys.argv) > 1 else 5
     with tempfile.TemporaryDirectory() as folder:
         peer = os.path.join(folder, "kernels")
-        subprocess.run(["rustc", "-O", "-o", peer, os.path.join(TOP, "bench", "kernels.rs")], check=True)
+        subprocess.run(["rustc", "--edition", "2021", "-O", "-o", peer, os.path.join(TOP, "bench", "kernels.rs")], check=True)
         for kernel, rows, times in KERNELS:
             pairs = []
             for _ in range(runs):

@@ -26,6 +26,13 @@ impl Bitmap {
         self.0[i / 8] |= u8::from(bit) << (i % 8);
     }
 
+    fn push(&mut self, i: usize, bit: bool) {
+        if i % 8 == 0 {
+            self.0.push(0);
+        }
+        self.set(i, bit);
+    }
+
     fn zeros(&self, rows: usize) -> usize {
         (0..rows).filter(|i| !self.get(*i)).count()
     }
@@ -34,6 +41,11 @@ impl Bitmap {
 struct Numbers {
     validity: Bitmap,
     values: Vec<i64>,
+}
+
+struct ShortNumbers {
+    validity: Bitmap,
+    values: Vec<i32>,
 }
 
 struct Truths {
@@ -60,6 +72,16 @@ fn validity(rows: usize, salt: u32) -> Bitmap {
 fn numbers(rows: usize, salt: u32) -> Numbers {
     let values = (0..rows as u32).map(|i| i64::from(spread(i.wrapping_add(salt)))).collect();
     Numbers { validity: validity(rows, salt), values }
+}
+
+fn short_numbers(rows: usize, salt: u32) -> ShortNumbers {
+    let values = (0..rows as u32).map(|i| spread(i.wrapping_add(salt)) as i32).collect();
+    ShortNumbers { validity: validity(rows, salt), values }
+}
+
+/// Rows in no order.
+fn places(count: usize) -> Vec<u32> {
+    (0..count as u32).map(|place| spread(place) % count as u32).collect()
 }
 
 fn truths(rows: usize, salt: u32) -> Truths {
@@ -130,6 +152,51 @@ fn and(a: &Truths, b: &Truths, rows: usize) -> Truths {
     Truths { validity, values }
 }
 
+/// The numbers where the mask is true.
+fn filter(a: &Numbers, mask: &Truths) -> Numbers {
+    let mut validity = Bitmap(Vec::new());
+    let mut values = Vec::new();
+    for i in 0..a.values.len() {
+        if mask.validity.get(i) && mask.values.get(i) {
+            validity.push(values.len(), a.validity.get(i));
+            values.push(a.values[i]);
+        }
+    }
+    Numbers { validity, values }
+}
+
+/// The numbers at the rows, or the least place of a row that isn't there.
+fn take(a: &ShortNumbers, rows: &[u32]) -> Result<ShortNumbers, usize> {
+    let mut validity = Bitmap(vec![0; rows.len().div_ceil(8)]);
+    let mut values = Vec::with_capacity(rows.len());
+    for (j, row) in rows.iter().enumerate() {
+        values.push(*a.values.get(*row as usize).ok_or(j)?);
+        validity.set(j, a.validity.get(*row as usize));
+    }
+    Ok(ShortNumbers { validity, values })
+}
+
+/// The texts at the rows, or the least place of a row that isn't there.
+fn take_texts(a: &Texts, rows: &[u32]) -> Result<Texts, usize> {
+    let count = a.offsets.len() - 1;
+    let mut validity = Bitmap(vec![0; rows.len().div_ceil(8)]);
+    let mut offsets = Vec::with_capacity(rows.len() + 1);
+    let mut bytes = String::new();
+    offsets.push(0);
+    for (j, row) in rows.iter().enumerate() {
+        let row = *row as usize;
+        if row >= count {
+            return Err(j);
+        }
+        if a.validity.get(row) {
+            bytes += a.get(row);
+            validity.set(j, true);
+        }
+        offsets.push(bytes.len().try_into().map_err(|_| j)?);
+    }
+    Ok(Texts { validity, offsets, bytes })
+}
+
 fn main() {
     let words: Vec<String> = args().collect();
     let rows: usize = words[2].parse().unwrap();
@@ -155,6 +222,33 @@ fn main() {
                 let result = black_box(equal(black_box(&a), black_box(&b)));
                 if turn + 1 == times {
                     nulls = result.validity.zeros(rows);
+                }
+            }
+        }
+        "filter" => {
+            let (a, b) = (numbers(rows, 3), truths(rows, 8));
+            for turn in 0..times {
+                let result = black_box(filter(black_box(&a), black_box(&b)));
+                if turn + 1 == times {
+                    nulls = result.validity.zeros(result.values.len());
+                }
+            }
+        }
+        "take" => {
+            let (a, b) = (short_numbers(rows, 3), places(rows));
+            for turn in 0..times {
+                let result = black_box(take(black_box(&a), black_box(&b))).unwrap();
+                if turn + 1 == times {
+                    nulls = result.validity.zeros(result.values.len());
+                }
+            }
+        }
+        "take-texts" => {
+            let (a, b) = (texts(rows, 3), places(rows));
+            for turn in 0..times {
+                let result = black_box(take_texts(black_box(&a), black_box(&b))).unwrap();
+                if turn + 1 == times {
+                    nulls = result.validity.zeros(result.offsets.len() - 1);
                 }
             }
         }

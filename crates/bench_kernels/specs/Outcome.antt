@@ -2,13 +2,15 @@
 use Rattle.std.specs.Prelude.{◌+ℤ◌}
 use Rattle.arrays.specs.Kind as kind
 use Rattle.arrays.specs.Seen.{Seen}
+use Rattle.arrays.specs.Shown.{shown}
 use Rattle.bench_kernels.specs.declared.kernel.Kernel.{Kernel}
-use Rattle.bench_kernels.specs.declared.kernel.Kernel.TheVariants.{Add, Less, Equal, And}
+use Rattle.bench_kernels.specs.declared.kernel.Kernel.TheVariants.{Add, Less, Equal, And, Filter, Take, TakeTexts}
 use Rattle.kernels.specs.Arithmetic.{results}
 use Rattle.kernels.specs.Kleene.{conjunction}
 use Rattle.kernels.specs.Order.{compared}
-use Rattle.arrays.specs.Shown.{shown}
 use Rattle.kernels.specs.declared.comparison.CmpOp.TheVariants.{Eq, Lt}
+use Rattle.select.specs.Chosen.{chosen}
+use Rattle.select.specs.Selection.{kept, taken}
 
 -- The array of a kernel's result on two columns.
 abbrev pub outcome : Kernel → Seen → Seen → Seen
@@ -16,3 +18,6 @@ outcome Add a b = shown a.kind (results ◌+ℤ◌ a.items b.items)
 outcome Less a b = shown kind.boolean (compared Lt a.items b.items)
 outcome Equal a b = shown kind.boolean (compared Eq a.items b.items)
 outcome And a b = shown kind.boolean (conjunction a.items b.items)
+outcome Filter a b = chosen a.kind (λ items. kept items b.items) a
+outcome Take a b = chosen a.kind (λ items. taken items b.items) a
+outcome TakeTexts a b = chosen a.kind (λ items. taken items b.items) a

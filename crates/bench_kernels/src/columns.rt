@@ -20,6 +20,36 @@ pub fn numbers(alloc: Global, rows: u32, salt: u32) -> Option<Array> {
     column(alloc, ty, rows, salt, bytes)
 }
 
+/// Numbers of 32 bits, each twentieth of them null.
+pub fn short_numbers(alloc: Global, rows: u32, salt: u32) -> Option<Array> {
+    let mut bytes = Vec::with_capacity(alloc, 4 * rows as usize + 63).ok()?;
+    for row in 0..rows {
+        let number = spread(row.wrapping_add(salt));
+        bytes.extend_from_slice(&number.to_le_bytes()).ok()?;
+    }
+    let ty = DataType::Int(IntType {
+        bits: Width::W32,
+        signed: true,
+    });
+    column(alloc, ty, rows, salt, bytes)
+}
+
+/// As many rows of as many, in no order and none of them null, as unsigned numbers of 32 bits.
+pub fn rows(alloc: Global, count: u32) -> Option<Array> {
+    let mut bytes = Vec::with_capacity(alloc, 4 * count as usize + 63).ok()?;
+    for place in 0..count {
+        let row = spread(place) % count;
+        bytes.extend_from_slice(&row.to_le_bytes()).ok()?;
+    }
+    let ty = DataType::Int(IntType {
+        bits: Width::W32,
+        signed: false,
+    });
+    let values = Some(Buffer::from_vec(bytes).ok()?);
+    let buffers = vec![in alloc; None, values].ok()?;
+    checked(alloc, ty, count, buffers)
+}
+
 /// Truth values, each twentieth of them null.
 pub fn truths(alloc: Global, rows: u32, salt: u32) -> Option<Array> {
     let mut bytes = Vec::with_capacity(alloc, rows as usize / 8 + 64).ok()?;

@@ -1,10 +1,11 @@
 //! The kernels that are measured.
 
-ghost use Rattle.std.specs.Prelude.{◌≡◌, Some, IfOk, codes};
+ghost use Rattle.std.specs.Prelude.{◌≡◌, Some, IfSome, codes};
 
-use crate::columns::{numbers, texts, truths};
+use crate::columns::{numbers, rows, short_numbers, texts, truths};
 use arrays::{Array, View};
-use kernels::{CmpOp, KernelFault, add, compare, kleene_and};
+use kernels::{CmpOp, add, compare, kleene_and};
+use select::{filter, take};
 use std::alloc::Global;
 
 /// A kernel, and the columns that it is run on.
@@ -18,6 +19,12 @@ pub enum Kernel {
     Equal,
     /// `kleene_and`.
     And,
+    /// `filter` of numbers of 64 bits.
+    Filter,
+    /// `take` of numbers of 32 bits.
+    Take,
+    /// `take` of texts.
+    TakeTexts,
 }
 
 impl Kernel {
@@ -29,23 +36,29 @@ impl Kernel {
         ensures less { name.now ≡ codes "less" → result ≡ Some Kernel.Less }
         ensures equal { name.now ≡ codes "equal" → result ≡ Some Kernel.Equal }
         ensures and { name.now ≡ codes "and" → result ≡ Some Kernel.And }
+        ensures filter { name.now ≡ codes "filter" → result ≡ Some Kernel.Filter }
+        ensures take { name.now ≡ codes "take" → result ≡ Some Kernel.Take }
+        ensures take_texts { name.now ≡ codes "take-texts" → result ≡ Some Kernel.TakeTexts }
     {
         match name {
             "add" => Some(Kernel::Add),
             "less" => Some(Kernel::Less),
             "equal" => Some(Kernel::Equal),
             "and" => Some(Kernel::And),
+            "filter" => Some(Kernel::Filter),
+            "take" => Some(Kernel::Take),
+            "take-texts" => Some(Kernel::TakeTexts),
             _ => None,
         }
     }
 
     /// How many slots of the last result are null, 0 where it was never run; none where memory ran out.
     pub fn nulls_after(self, alloc: Global, rows: u32, times: u32) -> Option<usize> {
-        let a = self.operand(alloc, rows, 3)?;
-        let b = self.operand(alloc, rows, 8)?;
+        let a = self.first(alloc, rows)?;
+        let b = self.second(alloc, rows)?;
         let mut last = None;
         for _ in 0..times {
-            last = Some(self.run(alloc, &a.view(), &b.view()).ok()?);
+            last = Some(self.run(alloc, &a.view(), &b.view())?);
         }
         match last {
             Some(result) => Some(result.view().null_count()),
@@ -53,23 +66,42 @@ impl Kernel {
         }
     }
 
-    fn operand(self, alloc: Global, rows: u32, salt: u32) -> Option<Array> {
+    fn first(self, alloc: Global, count: u32) -> Option<Array> {
         match self {
-            Kernel::Add => numbers(alloc, rows, salt),
-            Kernel::Less => numbers(alloc, rows, salt),
-            Kernel::Equal => texts(alloc, rows, salt),
-            Kernel::And => truths(alloc, rows, salt),
+            Kernel::Add => numbers(alloc, count, 3),
+            Kernel::Less => numbers(alloc, count, 3),
+            Kernel::Equal => texts(alloc, count, 3),
+            Kernel::And => truths(alloc, count, 3),
+            Kernel::Filter => numbers(alloc, count, 3),
+            Kernel::Take => short_numbers(alloc, count, 3),
+            Kernel::TakeTexts => texts(alloc, count, 3),
         }
     }
 
-    fn run(self, alloc: Global, a: &View<'_>, b: &View<'_>) -> Result<Array, KernelFault>
-        ensures { IfOk result (λ r. r ≡ outcome self a.now b.now) }
+    fn second(self, alloc: Global, count: u32) -> Option<Array> {
+        match self {
+            Kernel::Add => numbers(alloc, count, 8),
+            Kernel::Less => numbers(alloc, count, 8),
+            Kernel::Equal => texts(alloc, count, 8),
+            Kernel::And => truths(alloc, count, 8),
+            Kernel::Filter => truths(alloc, count, 8),
+            Kernel::Take => rows(alloc, count),
+            Kernel::TakeTexts => rows(alloc, count),
+        }
+    }
+
+    /// The result, none where the kernel refused.
+    fn run(self, alloc: Global, a: &View<'_>, b: &View<'_>) -> Option<Array>
+        ensures { IfSome result (λ r. r ≡ outcome self a.now b.now) }
     {
         match self {
-            Kernel::Add => add(alloc, a, b),
-            Kernel::Less => compare(alloc, CmpOp::Lt, a, b),
-            Kernel::Equal => compare(alloc, CmpOp::Eq, a, b),
-            Kernel::And => kleene_and(alloc, a, b),
+            Kernel::Add => add(alloc, a, b).ok(),
+            Kernel::Less => compare(alloc, CmpOp::Lt, a, b).ok(),
+            Kernel::Equal => compare(alloc, CmpOp::Eq, a, b).ok(),
+            Kernel::And => kleene_and(alloc, a, b).ok(),
+            Kernel::Filter => filter(alloc, a, b).ok(),
+            Kernel::Take => take(alloc, a, b).ok(),
+            Kernel::TakeTexts => take(alloc, a, b).ok(),
         }
     }
 }

@@ -1,5 +1,6 @@
 //! `bench_kernels KERNEL ROWS TIMES` makes two columns of so many rows, runs a kernel on them so many times, and
-//! prints how many slots of the last result are null. KERNEL is `add`, `less`, `equal` (of texts) or `and`.
+//! prints how many slots of the last result are null. KERNEL is `add`, `less`, `equal` (of texts), `and`, `filter`, `take`
+//! or `take-texts`.
 //!
 //! Without arguments it runs each kernel once, on few rows.
 #![tactic(auto)]
@@ -13,6 +14,17 @@ use std::process::ExitCode;
 
 /// How many rows the kernels run on without arguments.
 const FEW: u32 = 1000;
+
+/// All kernels.
+const EACH: [Kernel; 7] = [
+    Kernel::Add,
+    Kernel::Less,
+    Kernel::Equal,
+    Kernel::And,
+    Kernel::Filter,
+    Kernel::Take,
+    Kernel::TakeTexts,
+];
 
 fn main(rt: HostRuntime) -> ExitCode {
     let Ok(mut words) = env::args(&rt) else {
@@ -38,7 +50,7 @@ fn number(word: Option<String>) -> Option<u32> {
 
 // Runs each kernel once.
 fn try_each(rt: &HostRuntime) -> ExitCode {
-    for kernel in [Kernel::Add, Kernel::Less, Kernel::Equal, Kernel::And] {
+    for kernel in EACH {
         if tell(rt, kernel, FEW, 1) != ExitCode::SUCCESS {
             return ExitCode::FAILURE;
         }

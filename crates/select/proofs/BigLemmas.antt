@@ -1,0 +1,32 @@
+-- Results that are too big.
+use Rattle.std.proofs.Common.{◌≡◌, ◌∙◌, ℕ, ◌+◌, ◌<◌, ◌≤◌, List, [], ◌∷◌, ◌++◌, length, take, map, Bool, true, false, Option, None, Some, Result, Ok, Err, IfErr, IsErrAnd, ap, sym, refl, arith, subst, inl, inr, ◌⊎◌}
+use Rattle.std.specs.Prelude.{slice_get, sum_by}
+use Rattle.std.proofs.lemmas.Bool.{ltb-true, lt-ltb}
+use Rattle.std.proofs.lemmas.List.{take-map}
+use Rattle.std.proofs.lemmas.List.Sums.{sum_by-take-le}
+use Rattle.arrays.specs.Item.{Item}
+use Rattle.arrays.specs.Lengths.{is_past, text_bytes, text_length}
+use Rattle.arrays.specs.declared.builder.fault.BuildFault.{BuildFault}
+use Rattle.arrays.specs.declared.builder.fault.BuildFault.TheVariants as build
+use Rattle.select.specs.declared.fault.SelectFault.{SelectFault}
+use Rattle.select.specs.Fault.{IsFull, of_build}
+use Rattle.select.specs.Picked.{picked, picked_at}
+use Rattle.select.proofs.PickLemmas.{picked-more}
+
+pub past-more : (m n : ℕ) → m ≤ n → is_past m ≡ true → is_past n ≡ true
+past-more m n le past = lt-ltb 2147483647 n (omega (arith, le, ltb-true 2147483647 m past))
+
+-- texts of the first rows are too many only where those of all are
+pub past-picked : (items : List Item) (picks : List (Option ℕ)) (j : ℕ) (pick : Option ℕ) (old : List Item) (x : Item) → slice_get picks j ≡ Some pick
+    → old ≡ picked items (take j picks) → x ≡ picked_at items pick → is_past (text_bytes (old ++ x ∷ [])) ≡ true → is_past (text_bytes (picked items picks)) ≡ true
+past-picked items picks j pick old x at is of past =
+    let front : old ++ x ∷ [] ≡ take (j + 1) (picked items picks) =
+    ap (λ l. l ++ x ∷ []) is ∙ ap (λ y. picked items (take j picks) ++ y ∷ []) of ∙ sym (picked-more items picks j pick at) ∙ sym (take-map (picked_at items) (j + 1) picks) in
+    past-more (text_bytes (old ++ x ∷ [])) (text_bytes (picked items picks))
+    (omega (arith, ap text_bytes front, sum_by-take-le text_length (picked items picks) (j + 1))) past
+
+-- a builder's fault, told of all
+pub told_of_all : {T : Type 0} (r : Result T SelectFault) (b : BuildFault) (one all : Bool) → IsErrAnd r (λ e. e ≡ of_build b)
+    → ((b ≡ build.OffsetsFull) × (one ≡ true)) ⊎ (b ≡ build.NoMemory) → (one ≡ true → all ≡ true) → IfErr r (IsFull all)
+told_of_all (Ok v) b one all same told grows = tt
+told_of_all (Err e) b one all same told grows = elim told [ inl h ↦ inl (same ∙ ap of_build h.0, grows h.1) | inr h ↦ inr (same ∙ ap of_build h) ]

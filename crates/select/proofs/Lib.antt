@@ -1,0 +1,6 @@
+-- What the proofs of this crate share.
+pub mod PickLemmas
+pub mod BigLemmas
+pub mod SelectionLemmas
+pub mod ListLemmas
+pub mod ChosenLemmas

@@ -1,0 +1,11 @@
+-- What an array shows that has chosen items of a column.
+use Rattle.std.specs.Prelude.{List}
+use Rattle.arrays.specs.Item.{Item}
+use Rattle.arrays.specs.Kind.{Kind, dict}
+use Rattle.arrays.specs.Seen.{Seen}
+use Rattle.arrays.specs.Shown.{shown, validity_of}
+
+-- Where the column is dictionary-encoded the codes are chosen in the same way, and its dictionary stays as it is.
+abbrev pub chosen : Kind → (List Item → List Item) → Seen → Seen
+chosen dict choose s = record { kind = dict; validity = validity_of (choose s.codes); items = choose s.items; codes = choose s.codes; entries = s.entries }
+chosen k choose s = shown k (choose s.items)

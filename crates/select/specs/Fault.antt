@@ -1,0 +1,20 @@
+-- What a selection refuses.
+use Rattle.std.specs.Prelude.{◌≡◌, ◌⊎◌, Bool, true, Option, Some, None}
+use Rattle.arrays.specs.declared.builder.fault.BuildFault.{BuildFault}
+use Rattle.arrays.specs.declared.builder.fault.BuildFault.TheVariants as build
+use Rattle.select.specs.declared.fault.SelectFault.{SelectFault}
+use Rattle.select.specs.declared.fault.SelectFault.TheVariants.{OffsetsFull, NoMemory}
+
+-- A builder's fault.
+abbrev pub of_build : BuildFault → SelectFault
+of_build build.OffsetsFull = OffsetsFull
+of_build build.NoMemory = NoMemory
+
+-- Full offsets, only where they would be, or want of memory.
+abbrev pub IsFull : Bool → SelectFault → Type 0
+IsFull full told = ((told ≡ OffsetsFull) × (full ≡ true)) ⊎ (told ≡ NoMemory)
+
+-- What is told: the first fault that stands; else full offsets, only where they would be; or want of memory, which
+-- comes only where kinds, types and lengths are as they should be.
+abbrev pub Told : Option SelectFault → Option SelectFault → Bool → SelectFault → Type 0
+Told shape all full told = (all ≡ Some told) ⊎ (((told ≡ NoMemory) × (shape ≡ None)) ⊎ ((told ≡ OffsetsFull) × ((all ≡ None) × (full ≡ true))))

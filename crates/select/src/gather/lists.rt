@@ -1,0 +1,109 @@
+//! Picked lists: how long they are, and the rows of the child that they hold.
+
+ghost use Rattle.std.specs.Prelude.{◌≡◌, ◌+◌, ◌*◌, ◌<◌, ◌≤◌, ◌++◌, ◌||◌, ◌∷◌, [], false, map, length, option_map, IfErr, IfOk, OnOk};
+ghost use Rattle.std.specs.List.{All};
+ghost use Rattle.arrays.specs.Fault.{is_negative};
+ghost use Rattle.arrays.specs.Kind.{int32};
+ghost use Rattle.arrays.specs.Layout.{number_at};
+ghost use Rattle.arrays.specs.Lengths.{inner_items, is_past, list_length, total};
+ghost use Rattle.arrays.specs.Offsets.{start_of};
+ghost use Rattle.arrays.specs.Values.{HasLists};
+ghost use Rattle.select.specs.Fault.{IsFull};
+ghost use Rattle.select.specs.Picked.{IsPick, picked, picked_at};
+ghost use Rattle.select.specs.Ranges.{IsRange, ranged, rows_of};
+
+use crate::fault::SelectFault;
+use crate::picks::Picks;
+use arrays::validity::is_valid;
+use arrays::{Integer, ListBuilder, Lists, View};
+use colbits::Bits;
+use std::alloc::Global;
+
+/// Lists in the making, and the rows of the child that they hold, one list after the other.
+#[derive(Drop)]
+pub(crate) struct Spread {
+    pub(crate) lengths: ListBuilder,
+    pub(crate) rows: Picks,
+}
+
+/// The picked rows of a view of lists.
+pub(super) fn spread_out(
+    alloc: Global,
+    view: &View<'_>,
+    lists: &Lists<'_>,
+    picks: &Picks,
+) -> Result<Spread, SelectFault>
+    requires lists { HasLists lists.now.offsets.now lists.now.child view.now }
+    requires within { All (IsPick (length view.now.items)) picks.now }
+    ensures lengths { IfOk result (λ s. s.lengths ≡ map list_length (picked view.now.items picks.now)) }
+    ensures rows { IfOk result (λ s. picked lists.now.child.items s.rows ≡ inner_items (picked view.now.items picks.now)) }
+    ensures within { IfOk result (λ s. All (IsPick (length lists.now.child.items)) s.rows) }
+    ensures err { IfErr result (IsFull (is_past (length (inner_items (picked view.now.items picks.now))))) }
+{
+    let mut spread = Spread {
+        lengths: ListBuilder::with_capacity(alloc, picks.len())?,
+        rows: Picks::with_capacity(alloc, 0)?,
+    };
+    let validity = view.validity();
+    for j in 0..picks.len() {
+        let range = range_at(view, lists, &validity, picks.get(j));
+        spread.push(range)?;
+    }
+    Ok(spread)
+}
+
+impl Spread {
+    /// Adds a list at the end that holds neighbouring rows of the child, or null.
+    fn push(&mut self, range: Option<(usize, usize)>) -> Result<(), SelectFault>
+        requires room { length self.old.lengths < 2147483647 }
+        requires range { IsRange 2147483647 range }
+        ensures lengths { OnOk result (self.new.lengths ≡ self.old.lengths ++ option_map (λ r. r.1) range ∷ []) }
+        ensures rows { OnOk result (self.new.rows ≡ self.old.rows ++ rows_of range) }
+        ensures err { IfErr result (IsFull (is_past (length self.old.rows + length (rows_of range))
+            || is_past (total (self.old.lengths ++ option_map (λ r. r.1) range ∷ [])))) }
+    {
+        match range {
+            Some((start, count)) => {
+                self.rows.push_run(start, count)?;
+                self.lengths.push(Some(count))?;
+            }
+            None => self.lengths.push(None)?,
+        }
+        Ok(())
+    }
+}
+
+/// The rows of the child that the picked list holds: the first one, and how many. None where there is no list.
+fn range_at(
+    view: &View<'_>,
+    lists: &Lists<'_>,
+    validity: &Option<Bits<'_>>,
+    pick: Option<usize>,
+) -> Option<(usize, usize)>
+    requires lists { HasLists lists.now.offsets.now lists.now.child view.now }
+    requires valid { validity.now ≡ view.now.validity }
+    requires pick { IsPick (length view.now.items) pick }
+    ensures item { ranged lists.now.child.items result ≡ picked_at view.now.items pick }
+    ensures within { IsRange (length lists.now.child.items) result }
+    ensures small { IsRange 2147483647 result }
+{
+    match pick {
+        Some(i) if is_valid(validity, i) => {
+            let start = offset_at(lists.offsets, i);
+            let end = offset_at(lists.offsets, i + 1);
+            Some((start, end - start))
+        }
+        _ => None,
+    }
+}
+
+/// Offset `j`, which isn't negative.
+fn offset_at(offsets: &[u8], j: usize) -> usize
+    requires there { 4 * (j + 1) ≤ length offsets.now }
+    requires counted { is_negative (number_at int32 offsets.now j) ≡ false }
+    ensures value { result ≡ start_of offsets.now j }
+    ensures small { result ≤ 2147483647 }
+{
+    let offset = <i32 as Integer>::at(offsets, j);
+    offset as usize
+}

@@ -1,0 +1,42 @@
+//! Picked texts.
+
+ghost use Rattle.std.specs.Prelude.{◌≡◌, IfErr, IfOk, length};
+ghost use Rattle.std.specs.List.{All};
+ghost use Rattle.std.specs.Option.{option_copied};
+ghost use Rattle.arrays.specs.Kind as kind;
+ghost use Rattle.arrays.specs.Lengths.{is_past, text_bytes};
+ghost use Rattle.arrays.specs.Shown.{shown};
+ghost use Rattle.arrays.specs.Slot.{item_of_text};
+ghost use Rattle.select.specs.Fault.{IsFull};
+ghost use Rattle.select.specs.Picked.{IsPick, picked, picked_at};
+
+use crate::fault::SelectFault;
+use crate::picks::Picks;
+use arrays::{Array, TextBuilder, View};
+use std::alloc::Global;
+
+/// The picked rows of a view of texts without a dictionary.
+pub(super) fn gather(alloc: Global, view: &View<'_>, picks: &Picks) -> Result<Array, SelectFault>
+    requires kind { view.now.kind ≡ kind.utf8 }
+    requires within { All (IsPick (length view.now.items)) picks.now }
+    ensures ok { IfOk result (λ r. r ≡ shown kind.utf8 (picked view.now.items picks.now)) }
+    ensures err { IfErr result (IsFull (is_past (text_bytes (picked view.now.items picks.now)))) }
+{
+    let mut builder = TextBuilder::with_capacity(alloc, picks.len(), 0)?;
+    for j in 0..picks.len() {
+        builder.push(text_at(view, picks.get(j)))?;
+    }
+    Ok(builder.finish()?)
+}
+
+/// The text of the picked row, none where there is none.
+fn text_at<'a>(view: &View<'a>, pick: Option<usize>) -> Option<&'a str>
+    requires kind { view.now.kind ≡ kind.utf8 }
+    requires within { IsPick (length view.now.items) pick }
+    ensures { item_of_text (option_copied result) ≡ picked_at view.now.items pick }
+{
+    match pick {
+        Some(i) => view.text_at(i),
+        None => None,
+    }
+}

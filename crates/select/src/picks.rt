@@ -1,0 +1,98 @@
+//! Rows that are picked, one for each slot of a result.
+
+ghost use Rattle.std.specs.Prelude.{◌≡◌, ◌+◌, ◌<◌, ◌≤◌, [], ◌∷◌, ◌++◌, Some, map, length, slice_get, IfErr, IfOk, IfSome, OnErr, OnOk};
+ghost use Rattle.std.specs.List.{range_with_len};
+ghost use Rattle.arrays.specs.Lengths.{is_past};
+ghost use Rattle.select.specs.Fault.{IsFull};
+
+use crate::fault::SelectFault;
+use colbits::NoMemory;
+use std::alloc::Global;
+use std::marker::Model;
+
+/// The most slots that an array may have.
+const MOST: usize = 2147483647;
+
+/// What is kept for no row.
+const NONE: u32 = u32::MAX;
+
+/// A row or none for each slot of a result.
+#[derive(Drop)]
+pub(crate) struct Picks {
+    rows: Vec<u32>,
+}
+
+impl Model for Picks {
+    ghost use Rattle.std.specs.Prelude.{ℕ, ◌≤◌, List, Option, map, length};
+    ghost use Rattle.select.specs.Picked.{pick_of};
+
+    ghost Value = { List (Option ℕ) };
+
+    ghost view = { λ p. map pick_of p.rows.items };
+
+    ghost invariant = { λ p. length p.rows.items ≤ 2147483647 };
+}
+
+impl Picks {
+    /// No slots, with room for so many.
+    pub(crate) fn with_capacity(alloc: Global, slots: usize) -> Result<Picks, NoMemory>
+        ensures { IfOk result (λ p. p ≡ []) }
+    {
+        Ok(Picks {
+            rows: Vec::with_capacity(alloc, slots)?,
+        })
+    }
+
+    /// How many slots there are.
+    pub(crate) fn len(&self) -> usize
+        ensures count { result ≡ length self.now }
+        ensures short { result ≤ 2147483647 }
+    {
+        self.rows.len()
+    }
+
+    /// The row of slot `j`, or none.
+    #[inline(always)]
+    pub(crate) fn get(&self, j: usize) -> Option<usize>
+        requires { j < length self.now }
+        ensures { slice_get self.now j ≡ Some result }
+    {
+        let row = self.rows[j];
+        if row == NONE {
+            None
+        } else {
+            Some(row as usize)
+        }
+    }
+
+    /// Adds a slot at the end.
+    #[inline(always)]
+    pub(crate) fn push(&mut self, pick: Option<usize>) -> Result<(), NoMemory>
+        requires room { length self.old < 2147483647 }
+        requires small { IfSome pick (λ i. i < 2147483647) }
+        ensures ok { OnOk result (self.new ≡ self.old ++ pick ∷ []) }
+        ensures err { OnErr result (self.new ≡ self.old) }
+    {
+        let row = match pick {
+            Some(row) => row as u32,
+            None => NONE,
+        };
+        self.rows.push(row)?;
+        Ok(())
+    }
+
+    /// Adds a slot for each of so many neighbouring rows.
+    pub(crate) fn push_run(&mut self, start: usize, count: usize) -> Result<(), SelectFault>
+        requires { start + count ≤ 2147483647 }
+        ensures ok { OnOk result (self.new ≡ self.old ++ map (λ i. Some i) (range_with_len start count)) }
+        ensures err { IfErr result (IsFull (is_past (length self.old + count))) }
+    {
+        if count > MOST - self.len() {
+            return Err(SelectFault::OffsetsFull);
+        }
+        for i in start..start + count {
+            self.push(Some(i))?;
+        }
+        Ok(())
+    }
+}
