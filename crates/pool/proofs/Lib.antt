@@ -3,3 +3,4 @@ pub mod TextLemmas
 pub mod PlaceLemmas
 pub mod PoolLemmas
 pub mod RecodeLemmas
+pub mod UnifyLemmas

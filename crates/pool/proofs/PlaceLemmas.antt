@@ -1,13 +1,11 @@
 -- The places of texts.
-use Rattle.std.proofs.Common.{◌≡◌, ◌∙◌, ℕ, ◌+◌, ◌<◌, ◌≤◌, Bool, true, false, not, ◌||◌, cond, eqb, List, [], ◌∷◌, ◌++◌, length, position, Option, None, Some, refl, sym, ap, subst, arith, length-append, map, add-zero, true≢false, Result, Ok, Err, OnOk, IfOk, if◌then◌else◌}
+use Rattle.std.proofs.Common.{◌≡◌, ◌∙◌, ℕ, ◌+◌, ◌<◌, Bool, true, false, not, ◌||◌, cond, eqb, List, [], ◌∷◌, ◌++◌, length, position, Option, None, Some, refl, sym, ap, subst, arith, length-append, map, add-zero, true≢false, Result, Ok, Err, OnOk, IfOk, if◌then◌else◌}
 use Rattle.std.specs.Prelude.{nat_lt}
-use Rattle.std.specs.List.{list_any, position_or_len, prefix_len}
+use Rattle.std.specs.List.{list_any, position_or_len}
 use Rattle.std.specs.Str.{bytes_eq}
-use Rattle.std.proofs.lemmas.Bool.{ltb-true, ltb-false, lt-ltb, le-ltb}
+use Rattle.std.proofs.lemmas.Bool.{ltb-true, lt-ltb}
 use Rattle.std.proofs.lemmas.Cmp.{nat_list_eq_equiv}
 use Rattle.std.proofs.lemmas.List.Folds.{prefix_len-append}
-use Rattle.std.proofs.lemmas.List.Sums.{prefix_len-le-length}
-use Rattle.std.proofs.lemmas.List.{length-map}
 use Rattle.pool.specs.Texts.{is_among, with_text, place_of}
 use Rattle.pool.proofs.TextLemmas.{either}
 
@@ -48,6 +46,9 @@ module _ {X : Type 0} (p : X → Bool) where
   place_from_among [] some = absurd (true≢false (sym some))
   place_from_among (x ∷ xs) some = grind (arith, place_from_among xs)
 
+  pub among_place : (xs : List X) → list_any p xs ≡ true → position p xs ≡ Some (position_or_len p xs)
+  among_place xs some = position_is xs (position_or_len p xs) refl (place_from_among xs some)
+
   pub among_found : (xs : List X) (k : ℕ) → position p xs ≡ Some k → list_any p xs ≡ true
   among_found xs k is = let h = position_found xs k is in among_from_place xs (omega (arith, h.0, h.1))
 
@@ -65,14 +66,6 @@ module _ {X : Type 0} (p : X → Bool) where
       (prefix_len-append (λ x. not (p x)) xs (x ∷ []) ∙ ap (λ b. cond b (length xs + position_or_len p (x ∷ [])) (position_or_len p xs)) same
       ∙ ap (λ b. length xs + cond (not b) (1 + 0) 0) is ∙ add-zero (length xs))
       (omega (arith, length-append xs (x ∷ [])))
-
-prefix_len-map : {X Y : Type 0} (p : Y → Bool) (f : X → Y) (xs : List X) → prefix_len p (map f xs) ≡ prefix_len (λ x. p (f x)) xs
-prefix_len-map p f [] = refl
-prefix_len-map p f (x ∷ xs) = ap (λ n. cond (p (f x)) (1 + n) 0) (prefix_len-map p f xs)
-
-pub position-map : {X Y : Type 0} (p : Y → Bool) (f : X → Y) (xs : List X) → position p (map f xs) ≡ position (λ x. p (f x)) xs
-position-map p f xs =
-    ap (λ n. answer n (length (map f xs))) (prefix_len-map (λ y. not (p y)) f xs) ∙ ap (answer (position_or_len (λ x. p (f x)) xs)) (length-map xs f)
 
 pub list_any-map : {X Y : Type 0} (p : Y → Bool) (f : X → Y) (xs : List X) → list_any p (map f xs) ≡ list_any (λ x. p (f x)) xs
 list_any-map p f [] = refl

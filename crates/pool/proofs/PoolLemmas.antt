@@ -1,10 +1,10 @@
 -- A pool by its fields.
-use Rattle.std.proofs.Common.{◌≡◌, ◌∙◌, ℕ, ◌+◌, ◌-◌, ◌<◌, ◌≤◌, Bool, true, false, List, [], ◌∷◌, ◌++◌, length, take, drop, map, refl, sym, ap, subst, if◌then◌else◌, arith, length-append, String}
+use Rattle.std.proofs.Common.{◌≡◌, ◌∙◌, ℕ, ◌+◌, ◌-◌, ◌<◌, ◌≤◌, true, false, List, [], ◌∷◌, ◌++◌, length, take, drop, map, refl, sym, ap, if◌then◌else◌, arith, length-append, String}
 use Rattle.std.specs.Prelude.{sum_by}
 use Rattle.std.specs.List.{list_any}
 use Rattle.std.specs.Str.{bytes_eq}
 use Rattle.std.specs.String.{string_bytes, string_eq}
-use Rattle.std.proofs.lemmas.List.{take-map, length-map, map-append, take_rest, take-append-drop}
+use Rattle.std.proofs.lemmas.List.{take-map, map-append, take_rest}
 use Rattle.std.proofs.lemmas.List.Sums.{sum_by-cons, sum_by-take-drop, sum_by_push}
 use Rattle.pool.specs.Texts.{is_among, is_once, is_too_full, byte_count}
 use Rattle.pool.specs.Pool.{IsPool}

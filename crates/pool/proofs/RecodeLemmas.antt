@@ -1,5 +1,5 @@
 -- A column recoded slot by slot.
-use Rattle.std.proofs.Common.{◌≡◌, ◌∙◌, ℕ, ◌+◌, ◌<◌, ◌≤◌, pos, Bool, true, false, List, [], ◌∷◌, ◌++◌, length, take, drop, map, Option, None, Some, option_map, refl, sym, ap, subst, if◌then◌else◌, arith, length-append, append_assoc, get_or}
+use Rattle.std.proofs.Common.{◌≡◌, ◌∙◌, ℕ, ◌+◌, ◌<◌, ◌≤◌, pos, true, List, [], ◌∷◌, ◌++◌, length, take, drop, map, Some, option_map, refl, sym, ap, arith, length-append, append_assoc}
 use Rattle.std.specs.Prelude.{slice_get, Result, Ok, Err, IfErr, IsErrAnd, ◌⊎◌}
 use Rattle.std.proofs.Common.{inl, inr, to_z, ◌^◌, lit≤}
 use Rattle.std.proofs.lemmas.Int.{to_z_pos}
@@ -14,9 +14,8 @@ use Rattle.arrays.specs.Item.{Item, null, text}
 use Rattle.arrays.specs.Column.{Column}
 use Rattle.arrays.specs.Builder.{item_of}
 use Rattle.arrays.specs.Kind.{int32}
-use Rattle.arrays.specs.declared.types.IntType.{IntType}
 use Rattle.std.specs.Str.{bytes_eq}
-use Rattle.pool.specs.Texts.{text_of, texts_of, firsts, is_among, is_once, with_text, is_too_full, place_of}
+use Rattle.pool.specs.Texts.{text_of, texts_of, firsts, is_once, with_text, is_too_full, place_of}
 use Rattle.pool.specs.Codes.{code_item}
 use Rattle.pool.proofs.TextLemmas.{beyond, firsts-append, firsts-push, firsts-once, is_too_full-append}
 use Rattle.pool.proofs.PlaceLemmas.{position-append}

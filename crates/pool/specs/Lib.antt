@@ -1,3 +1,4 @@
 pub mod Texts
 pub mod Pool
 pub mod Codes
+pub mod Unified

@@ -1,5 +1,5 @@
 -- What a pool shows of itself.
-use Rattle.std.specs.Prelude.{◌≡◌, ℕ, Bool, true, false, List, map}
+use Rattle.std.specs.Prelude.{◌≡◌, ℕ, true, false, List, map}
 use Rattle.std.specs.String.{string_bytes}
 use Rattle.pool.specs.Texts.{is_once, is_too_full, byte_count}
 use Rattle.pool.specs.declared.text_pool.TextPool.TheInside.{Inside}

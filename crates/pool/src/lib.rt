@@ -8,7 +8,9 @@ mod testing;
 #[cfg(test)]
 mod tests;
 pub mod text_pool;
+pub mod unifying;
 
 pub use fault::PoolFault;
 pub use recoding::recode;
 pub use text_pool::TextPool;
+pub use unifying::unify;

@@ -3,6 +3,7 @@
 ghost use Rattle.std.specs.Prelude.{◌≡◌, ◌≤◌, ◌⊎◌, ◌++◌, false, true, length, map, take, OnOk, IfOk, IfErr, OnErr};
 ghost use Rattle.arrays.specs.Kind as kind;
 ghost use Rattle.arrays.specs.Kind.{int32};
+ghost use Rattle.arrays.specs.Shown.{shown};
 ghost use Rattle.arrays.specs.Slot.{is_text};
 ghost use Rattle.pool.specs.Codes.{code_item};
 ghost use Rattle.pool.specs.Texts.{firsts, texts_of, is_too_full};
@@ -20,6 +21,7 @@ pub fn recode(alloc: Global, view: &View<'_>, pool: &mut TextPool) -> Result<Arr
     ensures fits { OnOk result (is_too_full (firsts (pool.old ++ texts_of view.now.items)) ≡ false) }
     ensures kind { IfOk result (λ a. a.kind ≡ kind.int int32) }
     ensures codes { IfOk result (λ a. a.items ≡ map (code_item pool.new) view.now.items) }
+    ensures whole { IfOk result (λ a. a ≡ shown (kind.int int32) (map (code_item pool.new) view.now.items)) }
     ensures err { IfErr result (λ e. ((e ≡ PoolFault.TextsFull)
         × (is_too_full (firsts (pool.old ++ texts_of view.now.items)) ≡ true)) ⊎ (e ≡ PoolFault.NoMemory)) }
     ensures kept { OnErr result (pool.new ≡ pool.old) }
@@ -43,6 +45,8 @@ fn add_all(alloc: Global, view: &View<'_>, pool: &mut TextPool) -> Result<Array,
     ensures texts { OnOk result (pool.new ≡ firsts (pool.old ++ texts_of view.now.items)) }
     ensures kind { IfOk result (λ a. a.kind ≡ kind.int int32) }
     ensures codes { IfOk result (λ a. a.items ≡ map (code_item (firsts (pool.old ++ texts_of view.now.items))) view.now.items) }
+    ensures whole { IfOk result (λ a. a ≡ shown (kind.int int32)
+        (map (code_item (firsts (pool.old ++ texts_of view.now.items))) view.now.items)) }
     ensures err { IfErr result (λ e. ((e ≡ PoolFault.TextsFull)
         × (is_too_full (firsts (pool.old ++ texts_of view.now.items)) ≡ true)) ⊎ (e ≡ PoolFault.NoMemory)) }
     ensures longer { length pool.old ≤ length pool.new }

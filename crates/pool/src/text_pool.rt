@@ -92,6 +92,11 @@ impl TextPool {
         self.bytes -= cut;
     }
 
+    /// How many bytes the texts have together.
+    pub(crate) fn byte_len(&self) -> usize {
+        self.bytes
+    }
+
     /// Says that no text comes twice, and that all fit a column.
     pub(crate) fn tell_bounds(&self)
         ensures once { is_once self.now ≡ true }

@@ -1,4 +1,4 @@
-use Rattle.std.proofs.Common.{◌≡◌, ◌∙◌, ◌++◌, ◌∷◌, ◌⊎◌, [], Some, None, OnOk, IfErr, true, sym, ap, subst, if◌then◌else◌}
+use Rattle.std.proofs.Common.{◌≡◌, ◌++◌, ◌∷◌, ◌⊎◌, [], Some, OnOk, IfErr, true, sym, ap, subst, if◌then◌else◌}
 use Rattle.std.specs.Str.{bytes_eq}
 use Rattle.pool.specs.declared.fault.PoolFault.TheVariants.{TextsFull, NoMemory}
 use Rattle.pool.specs.Texts.{place_of, is_too_full}

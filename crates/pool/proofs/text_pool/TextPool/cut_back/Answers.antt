@@ -1,4 +1,4 @@
-use Rattle.std.proofs.Common.{◌≡◌, ◌∙◌, ◌-◌, ◌≤◌, length, take, drop, map, sym, ap, subst}
+use Rattle.std.proofs.Common.{◌∙◌, ◌-◌, ◌≤◌, length, take, drop, map, sym, ap, subst}
 use Rattle.std.specs.Prelude.{sum_by}
 use Rattle.std.specs.String.{string_bytes}
 use Rattle.pool.specs.Pool.{IsPool}

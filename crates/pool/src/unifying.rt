@@ -1,0 +1,72 @@
+//! Columns of texts brought to one dictionary.
+
+ghost use Rattle.std.specs.Prelude.{◌≡◌, ◌⊎◌, false, true, map, All, IfOk, IfErr, OnOk};
+ghost use Rattle.arrays.specs.Item as item;
+ghost use Rattle.arrays.specs.Kind as kind;
+ghost use Rattle.arrays.specs.Shown.{shown};
+ghost use Rattle.arrays.specs.Slot.{is_text};
+ghost use Rattle.pool.specs.Texts.{is_too_full};
+ghost use Rattle.pool.specs.Unified.{all_texts, codes_among};
+
+#[cfg(test)]
+mod tests;
+
+use crate::fault::PoolFault;
+use crate::recoding::recode;
+use crate::text_pool::TextPool;
+use arrays::{Array, BuildFault, TextBuilder, View};
+use std::alloc::Global;
+
+/// One dictionary of the texts of some columns, in order of first appearance, and for each column its codes into it:
+/// null for null. It fails where the dictionary would be too full, and for want of memory.
+pub fn unify(alloc: Global, views: &[View<'_>]) -> Result<(Array, Vec<Array>), PoolFault>
+    requires { All (λ v. is_text v.kind ≡ true) views.now }
+    ensures dictionary { IfOk result (λ r. r.0 ≡ shown kind.utf8 (map item.text (all_texts views.now))) }
+    ensures codes { IfOk result (λ r. r.1.items ≡ map (codes_among (all_texts views.now)) views.now) }
+    ensures fits { OnOk result (is_too_full (all_texts views.now) ≡ false) }
+    ensures err { IfErr result (λ e. ((e ≡ PoolFault.TextsFull) × (is_too_full (all_texts views.now) ≡ true))
+        ⊎ (e ≡ PoolFault.NoMemory)) }
+{
+    let (pool, codes) = recode_all(alloc, views)?;
+    pool.tell_bounds();
+    let dictionary = dictionary_of(alloc, &pool)?;
+    Ok((dictionary, codes))
+}
+
+/// A pool of the texts of all columns, and each column's places in it.
+fn recode_all(alloc: Global, views: &[View<'_>]) -> Result<(TextPool, Vec<Array>), PoolFault>
+    requires { All (λ v. is_text v.kind ≡ true) views.now }
+    ensures texts { IfOk result (λ r. r.0 ≡ all_texts views.now) }
+    ensures codes { IfOk result (λ r. r.1.items ≡ map (codes_among (all_texts views.now)) views.now) }
+    ensures err { IfErr result (λ e. ((e ≡ PoolFault.TextsFull) × (is_too_full (all_texts views.now) ≡ true))
+        ⊎ (e ≡ PoolFault.NoMemory)) }
+{
+    let mut pool = TextPool::new(alloc);
+    let mut codes = Vec::with_capacity(alloc, views.len())?;
+    for view in views {
+        pool.tell_bounds();
+        let column = recode(alloc, view, &mut pool)?;
+        codes.push(column)?;
+    }
+    Ok((pool, codes))
+}
+
+/// The texts of a pool as a column.
+fn dictionary_of(alloc: Global, pool: &TextPool) -> Result<Array, PoolFault>
+    ensures ok { IfOk result (λ d. d ≡ shown kind.utf8 (map item.text pool.now)) }
+    ensures err { IfErr result (λ e. e ≡ PoolFault.NoMemory) }
+{
+    pool.tell_bounds();
+    let len = pool.len();
+    let mut texts = TextBuilder::with_capacity(alloc, len, pool.byte_len())?;
+    for code in 0..len {
+        let text = pool.text_of(code as u32);
+        match texts.push(text) {
+            Ok(()) => {}
+            Err(BuildFault::NoMemory) => return Err(PoolFault::NoMemory),
+            // The texts of a pool fit a column.
+            Err(BuildFault::OffsetsFull) => unreachable!(),
+        }
+    }
+    Ok(texts.finish()?)
+}
