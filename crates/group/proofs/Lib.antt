@@ -1,0 +1,4 @@
+-- What the proofs of this crate share.
+pub mod TallyLemmas
+pub mod SumLemmas
+pub mod JoinLemmas

@@ -1,0 +1,5 @@
+-- What the contracts of this crate speak of.
+pub mod Stats
+pub mod Tally
+pub mod Summary
+pub mod Joined

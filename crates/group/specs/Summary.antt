@@ -1,0 +1,22 @@
+-- Statistics of a column. (Arrow columnar format, "Null count")
+use Rattle.std.specs.Prelude.{◌≡◌, List, length, option_map, string_bytes}
+use Rattle.arrays.specs.Kind.{Kind}
+use Rattle.arrays.specs.Item.{Item, int, boolean, text}
+use Rattle.group.specs.Stats.{nulls_of, sum_of, least_of, greatest_of}
+use Rattle.group.specs.declared.stats.Scalar.{Scalar}
+use Rattle.group.specs.declared.stats.Scalar.TheVariants.{Int, Bool, Text}
+use Rattle.group.specs.declared.stats.ColumnStats.{ColumnStats}
+
+-- A value as an item.
+abbrev pub scalar_item : Scalar → Item
+scalar_item (Int z) = int z
+scalar_item (Bool b) = boolean b
+scalar_item (Text s) = text (string_bytes s)
+
+-- These are the statistics of a column of the kind with these items.
+pub record AreStats (s : ColumnStats) (k : Kind) (items : List Item) : Type 0 where
+  pub rows : s.rows ≡ length items
+  pub nulls : s.nulls ≡ nulls_of items
+  pub sum : s.sum ≡ sum_of k items
+  pub least : option_map scalar_item s.least ≡ least_of k items
+  pub greatest : option_map scalar_item s.greatest ≡ greatest_of k items

@@ -1,0 +1,174 @@
+//! The statistics of the slots of a view.
+
+ghost use Rattle.std.specs.Prelude.{◌≡◌, IfOk, option_map, true};
+ghost use Rattle.arrays.specs.Item.{boolean, int, text};
+ghost use Rattle.arrays.specs.Kind as kind;
+ghost use Rattle.arrays.specs.Slot.{is_list, is_text};
+ghost use Rattle.group.specs.Summary.{AreStats, scalar_item};
+
+use crate::stats::{ColumnStats, Scalar};
+use crate::tally::{Tally, greater, lesser};
+use arrays::validity::is_valid;
+use arrays::{IntType, Integer, View, ViewType, Width};
+use colbits::NoMemory;
+use std::alloc::Global;
+
+/// The statistics of a column.
+pub fn stats_of(alloc: Global, view: &View<'_>) -> Result<ColumnStats, NoMemory>
+    ensures { IfOk result (λ s. AreStats s view.now.kind view.now.items) }
+{
+    match view.ty() {
+        ViewType::Int(ty) => Ok(int_stats(ty, view)),
+        ViewType::Bool => Ok(truth_stats(view)),
+        ViewType::List(_) => Ok(list_stats(view)),
+        _ => text_stats(alloc, view),
+    }
+}
+
+/// The statistics of a column of an integer type.
+fn int_stats(ty: IntType, view: &View<'_>) -> ColumnStats
+    requires { view.now.kind ≡ kind.int ty }
+    ensures { AreStats result view.now.kind view.now.items }
+{
+    match (ty.bits, ty.signed) {
+        (Width::W8, true) => number_stats::<i8>(view),
+        (Width::W8, false) => number_stats::<u8>(view),
+        (Width::W16, true) => number_stats::<i16>(view),
+        (Width::W16, false) => number_stats::<u16>(view),
+        (Width::W32, true) => number_stats::<i32>(view),
+        (Width::W32, false) => number_stats::<u32>(view),
+        (Width::W64, true) => number_stats::<i64>(view),
+        (Width::W64, false) => number_stats::<u64>(view),
+    }
+}
+
+/// The statistics of a column of numbers of type `T`.
+fn number_stats<T: Integer>(view: &View<'_>) -> ColumnStats
+    requires { view.now.kind ≡ kind.int T.ty }
+    ensures { AreStats result view.now.kind view.now.items }
+{
+    let numbers = view.numbers(T::ty());
+    let validity = view.validity();
+    let slots = view.slots();
+    let mut tally = Tally::new();
+    let mut sum: i128 = 0;
+    for i in 0..slots as usize {
+        if is_valid(&validity, i) {
+            let number = T::at(numbers, i);
+            sum += number;
+            tally = tally.with_value(number);
+        } else {
+            tally = tally.with_null();
+        }
+    }
+    ColumnStats {
+        rows: u64::from(slots),
+        nulls: tally.nulls,
+        sum: Some(sum),
+        least: int_scalar(tally.least),
+        greatest: int_scalar(tally.greatest),
+    }
+}
+
+/// The statistics of a column of truth values.
+fn truth_stats(view: &View<'_>) -> ColumnStats
+    requires { view.now.kind ≡ kind.boolean }
+    ensures { AreStats result view.now.kind view.now.items }
+{
+    let bits = view.bool_bits();
+    let validity = view.validity();
+    let slots = view.slots();
+    let mut tally = Tally::new();
+    for i in 0..slots as usize {
+        if is_valid(&validity, i) {
+            tally = tally.with_value(bits.get(i));
+        } else {
+            tally = tally.with_null();
+        }
+    }
+    ColumnStats {
+        rows: u64::from(slots),
+        nulls: tally.nulls,
+        sum: None,
+        least: bool_scalar(tally.least),
+        greatest: bool_scalar(tally.greatest),
+    }
+}
+
+/// The statistics of a column of texts, dictionary-encoded or not.
+fn text_stats(alloc: Global, view: &View<'_>) -> Result<ColumnStats, NoMemory>
+    requires { is_text view.now.kind ≡ true }
+    ensures { IfOk result (λ s. AreStats s view.now.kind view.now.items) }
+{
+    let slots = view.slots();
+    let mut nulls = 0;
+    let mut least = None;
+    let mut greatest = None;
+    for i in 0..slots as usize {
+        match view.text_at(i) {
+            Some(text) => {
+                least = Some(lesser(least, text));
+                greatest = Some(greater(greatest, text));
+            }
+            None => nulls += 1,
+        }
+    }
+    Ok(ColumnStats {
+        rows: u64::from(slots),
+        nulls,
+        sum: None,
+        least: text_scalar(alloc, least)?,
+        greatest: text_scalar(alloc, greatest)?,
+    })
+}
+
+/// The statistics of a column of lists.
+fn list_stats(view: &View<'_>) -> ColumnStats
+    requires { is_list view.now.kind ≡ true }
+    ensures { AreStats result view.now.kind view.now.items }
+{
+    let slots = view.slots();
+    let mut nulls = 0;
+    for i in 0..slots as usize {
+        if !view.holds(i) {
+            nulls += 1;
+        }
+    }
+    ColumnStats {
+        rows: u64::from(slots),
+        nulls,
+        sum: None,
+        least: None,
+        greatest: None,
+    }
+}
+
+/// A number as a value, if there is one.
+fn int_scalar(number: Option<i128>) -> Option<Scalar>
+    ensures { option_map scalar_item result ≡ option_map int number }
+{
+    match number {
+        Some(number) => Some(Scalar::Int(number)),
+        None => None,
+    }
+}
+
+/// A truth value as a value, if there is one.
+fn bool_scalar(truth: Option<bool>) -> Option<Scalar>
+    ensures { option_map scalar_item result ≡ option_map boolean truth }
+{
+    match truth {
+        Some(truth) => Some(Scalar::Bool(truth)),
+        None => None,
+    }
+}
+
+/// A copy of a text as a value, if there is one.
+fn text_scalar(alloc: Global, best: Option<&str>) -> Result<Option<Scalar>, NoMemory>
+    ensures { IfOk result (λ s. option_map scalar_item s ≡ option_map (λ t. text t.now) best.entry) }
+{
+    match best {
+        Some(best) => Ok(Some(Scalar::Text(String::from_str(alloc, best)?))),
+        None => Ok(None),
+    }
+}
