@@ -38,7 +38,6 @@ kept-told before (false ∷ rest) first some =
 
 -- ---- place by place
 
-
 by_place : (before i : ℕ) (after : List Bool) (v : Bool) → nat_lt i before ≡ v → get_or (replicate before true ++ after) i false ≡ (v || get_or after (i - before) false)
 by_place before i after true e =
     let below : i < before = grind (arith, nat_tests) in

@@ -130,15 +130,7 @@ fn extends_by_slots_with_nulls(rt: HostRuntime) -> Result<(), Fail> {
     let more = numbers(rt.alloc(), true)?;
     let builder = pushed(rt.alloc())?;
     let array = builder.extended::<i16>(&more.view())?.finish()?;
-    let expected = [
-        Some(5),
-        None,
-        Some(-6),
-        Some(1),
-        None,
-        Some(3),
-        Some(4),
-    ];
+    let expected = [Some(5), None, Some(-6), Some(1), None, Some(3), Some(4)];
     assert_numbers(&rt, &array.view(), &expected);
     assert_eq!(rt; array.view().null_count(), 2);
     Ok(())
@@ -149,15 +141,7 @@ fn extends_after_a_null(rt: HostRuntime) -> Result<(), Fail> {
     let more = numbers(rt.alloc(), false)?;
     let builder = pushed(rt.alloc())?;
     let array = builder.extended::<i16>(&more.view())?.finish()?;
-    let expected = [
-        Some(5),
-        None,
-        Some(-6),
-        Some(1),
-        Some(-2),
-        Some(3),
-        Some(4),
-    ];
+    let expected = [Some(5), None, Some(-6), Some(1), Some(-2), Some(3), Some(4)];
     assert_numbers(&rt, &array.view(), &expected);
     assert_eq!(rt; array.view().null_count(), 1);
     Ok(())
