@@ -26,3 +26,4 @@ pub mod LaidLemmas
 pub mod SlotsLemmas
 pub mod FinishedLemmas
 pub mod GrowingLemmas
+pub mod TypedLemmas

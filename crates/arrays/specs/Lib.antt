@@ -30,3 +30,4 @@ pub mod Packed
 pub mod Lengths
 pub mod Slots
 pub mod Growing
+pub mod Typed

@@ -12,6 +12,7 @@ mod items;
 mod parts;
 #[cfg(test)]
 mod tests;
+mod typed;
 
 use crate::check;
 use crate::types::{DataType, Field, IntType, RawArray};

@@ -1,9 +1,14 @@
-ghost use Rattle.std.specs.Prelude.{◌≡◌, ◌<◌, ◌≤◌, ◌==◌, ◌++◌, ◌∷◌, false, IfSome, ◌⊎◌, [], length, take, true, slice_get, sum_by, Some, IfOk, IfErr, OnOk, OnErr, option_copied};
+ghost use Rattle.std.specs.Prelude.{◌≡◌, ◌<◌, ◌≤◌, ◌==◌, ◌++◌, ◌∷◌, false, IfSome, ◌⊎◌, [], length, map, take, true, slice_get, sum_by, Some, IfOk, IfErr, OnOk, OnErr, option_copied};
 ghost use Rattle.std.specs.String.{string_bytes};
 ghost use Rattle.std.specs.Option.{option_map};
+ghost use Rattle.arrays.specs.Item as item;
+ghost use Rattle.arrays.specs.Kind as kind;
+ghost use Rattle.arrays.specs.Shown.{shown};
 ghost use Rattle.pool.specs.Texts.{is_among, is_once, is_too_full, place_of, with_text};
 
 use crate::fault::PoolFault;
+use arrays::{Array, BuildFault, TextBuilder};
+use colbits::NoMemory;
 use indexmap::IndexSet;
 use std::alloc::Global;
 use std::marker::Model;
@@ -92,13 +97,32 @@ impl TextPool {
         self.bytes -= cut;
     }
 
+    /// The texts as a column, in their order.
+    pub fn to_array(&self, alloc: Global) -> Result<Array, NoMemory>
+        ensures { IfOk result (λ d. d ≡ shown kind.utf8 (map item.text self.now)) }
+    {
+        self.tell_bounds();
+        let len = self.len();
+        let mut texts = TextBuilder::with_capacity(alloc, len, self.byte_len())?;
+        for code in 0..len {
+            let text = self.text_of(code as u32);
+            match texts.push(text) {
+                Ok(()) => {}
+                Err(BuildFault::NoMemory) => return Err(NoMemory),
+                // The texts of a pool fit a column.
+                Err(BuildFault::OffsetsFull) => unreachable!(),
+            }
+        }
+        texts.finish()
+    }
+
     /// How many bytes the texts have together.
-    pub(crate) fn byte_len(&self) -> usize {
+    fn byte_len(&self) -> usize {
         self.bytes
     }
 
     /// Says that no text comes twice, and that all fit a column.
-    pub(crate) fn tell_bounds(&self)
+    pub fn tell_bounds(&self)
         ensures once { is_once self.now ≡ true }
         ensures fits { is_too_full self.now ≡ false }
     {

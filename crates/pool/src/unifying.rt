@@ -14,7 +14,7 @@ mod tests;
 use crate::fault::PoolFault;
 use crate::recoding::recode;
 use crate::text_pool::TextPool;
-use arrays::{Array, BuildFault, TextBuilder, View};
+use arrays::{Array, View};
 use std::alloc::Global;
 
 /// One dictionary of the texts of some columns, in order of first appearance, and for each column its codes into it:
@@ -29,7 +29,7 @@ pub fn unify(alloc: Global, views: &[View<'_>]) -> Result<(Array, Vec<Array>), P
 {
     let (pool, codes) = recode_all(alloc, views)?;
     pool.tell_bounds();
-    let dictionary = dictionary_of(alloc, &pool)?;
+    let dictionary = pool.to_array(alloc)?;
     Ok((dictionary, codes))
 }
 
@@ -49,24 +49,4 @@ fn recode_all(alloc: Global, views: &[View<'_>]) -> Result<(TextPool, Vec<Array>
         codes.push(column)?;
     }
     Ok((pool, codes))
-}
-
-/// The texts of a pool as a column.
-fn dictionary_of(alloc: Global, pool: &TextPool) -> Result<Array, PoolFault>
-    ensures ok { IfOk result (λ d. d ≡ shown kind.utf8 (map item.text pool.now)) }
-    ensures err { IfErr result (λ e. e ≡ PoolFault.NoMemory) }
-{
-    pool.tell_bounds();
-    let len = pool.len();
-    let mut texts = TextBuilder::with_capacity(alloc, len, pool.byte_len())?;
-    for code in 0..len {
-        let text = pool.text_of(code as u32);
-        match texts.push(text) {
-            Ok(()) => {}
-            Err(BuildFault::NoMemory) => return Err(PoolFault::NoMemory),
-            // The texts of a pool fit a column.
-            Err(BuildFault::OffsetsFull) => unreachable!(),
-        }
-    }
-    Ok(texts.finish()?)
 }

@@ -1,0 +1,111 @@
+-- Items are of their column's kind.
+use Rattle.std.proofs.Common.{◌≡◌, ℕ, zero, suc, ◌+◌, ◌*◌, ◌^◌, ◌<◌, pos, negsuc, List, [], ◌∷◌, length, Bool, true, false, cond, get_or, All, sym, subst, arith, map}
+use mir.Val.{bits}
+use Rattle.std.proofs.Math.Facts.{sfits_to_z}
+use Rattle.std.proofs.lemmas.Int.{ints}
+use Rattle.std.proofs.lemmas.List.Elements.{All-drop, All-map, All-take}
+use Rattle.std.specs.List.{range_with_len}
+use Rattle.std.specs.Int.{from_le_bytes, cast_signed}
+use Rattle.std.specs.Prelude.{slice_index_or}
+use Rattle.colbits.specs.Slice.{slice}
+use Rattle.arrays.specs.declared.types.Width.{Width}
+use Rattle.arrays.specs.declared.types.Width.TheVariants.{W8, W16, W32, W64}
+use Rattle.arrays.specs.declared.types.IntType.{IntType}
+use Rattle.arrays.specs.Dictionary.{looked_up}
+use Rattle.arrays.specs.Kind as kind
+use Rattle.arrays.specs.Kind.{Kind, bits_of, bytes_of}
+use Rattle.arrays.specs.Item.{Item, null, int, boolean, text, list, list_of}
+use Rattle.arrays.specs.Layout.{natural, number_at}
+use Rattle.arrays.specs.Number.{IsOfType}
+use Rattle.arrays.specs.Offsets.{of_slot}
+use Rattle.arrays.specs.Seen.{Seen, valid_at}
+use Rattle.arrays.specs.Typed.{AreItemsOf, IsItemOf}
+use Rattle.arrays.specs.Values.{valid_values}
+use Rattle.arrays.proofs.ByteLemmas.{get_or-slice}
+
+-- ---- numbers
+
+from_le_bytes-small : (w : Width) (bytes : List ℕ) → ((i : ℕ) → i < bytes_of w → get_or bytes i 0 < 256) → from_le_bytes (bits_of w) bytes < 2 ^ bits (bits_of w)
+from_le_bytes-small W8 bytes h =
+    let b0 = h 0 (omega arith) in
+    omega arith
+from_le_bytes-small W16 bytes h =
+    let b0 = h 0 (omega arith) in
+    let b1 = h 1 (omega arith) in
+    omega arith
+from_le_bytes-small W32 bytes h =
+    let b0 = h 0 (omega arith) in
+    let b1 = h 1 (omega arith) in
+    let b2 = h 2 (omega arith) in
+    let b3 = h 3 (omega arith) in
+    omega arith
+from_le_bytes-small W64 bytes h =
+    let b0 = h 0 (omega arith) in
+    let b1 = h 1 (omega arith) in
+    let b2 = h 2 (omega arith) in
+    let b3 = h 3 (omega arith) in
+    let b4 = h 4 (omega arith) in
+    let b5 = h 5 (omega arith) in
+    let b6 = h 6 (omega arith) in
+    let b7 = h 7 (omega arith) in
+    omega arith
+
+of_type : (w : Width) (signed : Bool) (n : ℕ) → n < 2 ^ bits (bits_of w)
+    → IsOfType (record { bits = w; signed = signed }) (cond signed (cast_signed (bits_of w) n) (pos n))
+of_type w true n h = sfits_to_z (record { fits = h })
+of_type w false n h = (omega (arith, ints), omega (arith, ints))
+
+pub number_at-of_type : (t : IntType) (bytes : List ℕ) (j : ℕ) → ((i : ℕ) → get_or bytes i 0 < 256) → IsOfType t (number_at t bytes j)
+unfolding number_at
+number_at-of_type t bytes j small =
+    of_type t.bits t.signed _ (from_le_bytes-small t.bits (slice bytes (j * bytes_of t.bits) (bytes_of t.bits))
+    (λ i below. subst (λ n. n < 256) (sym (get_or-slice bytes (j * bytes_of t.bits) (bytes_of t.bits) i below)) (small (j * bytes_of t.bits + i))))
+
+-- ---- slots
+
+slot-typed : (k : Kind) (x : Item) (b : Bool) → IsItemOf k x → IsItemOf k (cond b x null)
+slot-typed k x true of = of
+slot-typed k x false of = null-typed k
+  where
+    null-typed : (k : Kind) → IsItemOf k null
+    null-typed k = tt
+
+pub values-typed : (k : Kind) (value : ℕ → Item) (s : Seen) → s.items ≡ valid_values value s → ((j : ℕ) → IsItemOf k (value j)) → All (IsItemOf k) s.items
+values-typed k value s is of =
+    subst (All (IsItemOf k)) (sym is)
+    (All-map (IsItemOf k) (λ j. cond (valid_at s j) (value j) null) (range_with_len 0 (length s.items))
+    (λ i d below. slot-typed k (value (get_or (range_with_len 0 (length s.items)) i d)) (valid_at s (get_or (range_with_len 0 (length s.items)) i d)) (of (get_or (range_with_len 0 (length s.items)) i d))))
+
+-- ---- lists
+
+list_of-typed : (k : Kind) (xs : List Item) → All (IsItemOf k) xs → AreItemsOf k (list_of xs)
+list_of-typed k [] all = tt
+list_of-typed k (x ∷ xs) all = (all 0 x (omega arith), list_of-typed k xs (λ i d below. all (suc i) d (omega (arith, below))))
+
+pub list-typed : (k : Kind) (offsets : List ℕ) (items : List Item) (j : ℕ) → All (IsItemOf k) items → IsItemOf (kind.list k) (list (list_of (of_slot offsets items j)))
+list-typed k offsets items j all = list_of-typed k (of_slot offsets items j) (All-take (IsItemOf k) _ _ (All-drop (IsItemOf k) _ items all))
+
+-- ---- texts with a dictionary
+
+entry-typed : (x : Item) → IsItemOf kind.utf8 x → IsItemOf kind.dict x
+entry-typed null of = tt
+entry-typed (text t) of = tt
+entry-typed (int z) of = of
+entry-typed (boolean b) of = of
+entry-typed (list xs) of = of
+
+index-typed : (k : Kind) (xs : List Item) (i : ℕ) → All (IsItemOf k) xs → IsItemOf k (slice_index_or xs i null)
+index-typed k [] i all = tt
+index-typed k (x ∷ xs) zero all = all 0 x (omega arith)
+index-typed k (x ∷ xs) (suc i) all = index-typed k xs i (λ j d below. all (suc j) d (omega (arith, below)))
+
+looked-typed : (entries : List Item) (code : Item) → All (IsItemOf kind.utf8) entries → IsItemOf kind.dict (looked_up entries code)
+looked-typed entries null all = tt
+looked-typed entries (int z) all = entry-typed (slice_index_or entries (natural z) null) (index-typed kind.utf8 entries (natural z) all)
+looked-typed entries (boolean b) all = tt
+looked-typed entries (text t) all = tt
+looked-typed entries (list xs) all = tt
+
+pub codes-typed : (entries codes items : List Item) → items ≡ map (looked_up entries) codes → All (IsItemOf kind.utf8) entries → All (IsItemOf kind.dict) items
+codes-typed entries codes items is all =
+    subst (All (IsItemOf kind.dict)) (sym is) (All-map (IsItemOf kind.dict) (looked_up entries) codes (λ i d below. looked-typed entries (get_or codes i d) all))
