@@ -4,3 +4,5 @@ pub mod BigLemmas
 pub mod SelectionLemmas
 pub mod ListLemmas
 pub mod ChosenLemmas
+pub mod JoinLemmas
+pub mod JoinedCodes

@@ -2,9 +2,9 @@
 use Rattle.std.proofs.Common.{◌≡◌, ◌∙◌, ℕ, zero, suc, ◌+◌, ◌-◌, ◌<◌, ◌≤◌, ◌||◌, ◌⊎◌, inl, inr, List, [], ◌∷◌, ◌++◌, length, take, drop, map, Bool, true, false, cond, Option, None, Some, option_map, Result, Ok, Err, IfErr, IsErrAnd, ap, sym, refl, arith, subst, get_or, append-nil, zero-add, length-append}
 use Rattle.std.specs.Prelude.{slice_get, All, flat_map, sum_by, unwrap_or}
 use Rattle.std.specs.List.{range_with_len}
-use Rattle.std.proofs.lemmas.List.{map-append, take_more, take-map, length-map, get_or-drop, length-drop}
+use Rattle.std.proofs.lemmas.List.{map-append, take_all, take_more, take-map, length-map, get_or-drop, length-drop}
 use Rattle.std.proofs.lemmas.List.Concat.{length-flat_map}
-use Rattle.std.proofs.lemmas.List.Elements.{All-append}
+use Rattle.std.proofs.lemmas.List.Elements.{All-append, All-from_get_or}
 use Rattle.std.proofs.lemmas.List.FromFn.{get_or-map-range_with_len, length-map-range_with_len, map-range_with_len_more}
 use Rattle.std.proofs.lemmas.List.Sums.{sum_by-append, sum_by-take-le}
 use Rattle.std.proofs.lemmas.Grind.{flat_map-append}
@@ -18,6 +18,7 @@ use Rattle.arrays.specs.Values.{HasLists}
 use Rattle.arrays.proofs.OffsetParts.{ends_within}
 use Rattle.arrays.proofs.PartLemmas.{item_slot, null_slot, valid_slot}
 use Rattle.select.specs.declared.fault.SelectFault.{SelectFault}
+use Rattle.select.specs.Children.{IsList}
 use Rattle.select.specs.Fault.{IsFull}
 use Rattle.select.specs.Picked.{picked, picked_at, IsPick}
 use Rattle.select.specs.Ranges.{IsRange, ranged, rows_of}
@@ -53,7 +54,7 @@ pub list_of-items_of : (xs : Items) → list_of (items_of xs) ≡ xs
 list_of-items_of Items.none = refl
 list_of-items_of (Items.more x xs) = ap (Items.more x) (list_of-items_of xs)
 
-picked-run : (items : List Item) (start count : ℕ) → start + count ≤ length items → picked items (map (λ i. Some i) (range_with_len start count)) ≡ slice items start count
+pub picked-run : (items : List Item) (start count : ℕ) → start + count ≤ length items → picked items (map (λ i. Some i) (range_with_len start count)) ≡ slice items start count
 picked-run items start zero within = refl
 picked-run items start (suc n) within =
     let here : n < length (drop start items) = omega (arith, within, length-drop start items) in
@@ -76,7 +77,7 @@ length-ranged items None within = refl
 length-ranged items (Some r) within =
     ap Some (sym (ap length (sym (picked-rows items (Some r) within)) ∙ length-map (map (λ i. Some i) (range_with_len r.0 r.1)) (picked_at items) ∙ length-map-range_with_len (λ i. Some i) r.0 r.1))
 
-rows-within : (n : ℕ) (range : Option (ℕ × ℕ)) → IsRange n range → All (IsPick n) (rows_of range)
+pub rows-within : (n : ℕ) (range : Option (ℕ × ℕ)) → IsRange n range → All (IsPick n) (rows_of range)
 rows-within n None within = λ k d below. absurd (omega (arith, below))
 rows-within n (Some r) within =
     λ k d below.
@@ -170,11 +171,6 @@ full_of_all (Err x) e one all same told grows = elim told [ inl h ↦ inl (same 
 
 -- ---- lists cut from their items
 
-abbrev pub IsList : Item → Type 0
-IsList null = Unit {0}
-IsList (list xs) = Unit {0}
-IsList x = ⊥
-
 take-front : {A : Type 0} (xs ys : List A) → take (length xs) (xs ++ ys) ≡ xs
 take-front [] ys = refl
 take-front (x ∷ xs) ys = ap (λ l. x ∷ l) (take-front xs ys)
@@ -219,6 +215,20 @@ lists-picked offsets child s picks has within k d below =
     one : (pick : Option ℕ) → IsPick (length s.items) pick → IsList (picked_at s.items pick)
     one None h = tt
     one (Some i) h = subst IsList (sym (get_or_from_slice_get s.items i (cond (valid_in s.validity i) (list (list_of (of_slot offsets child.items i))) null) null (item_slot _ s i has.lists h))) (valid-list (valid_in s.validity i) (list_of (of_slot offsets child.items i)))
+
+-- the items of a column of lists are lists or null
+pub all-lists : (offsets : List ℕ) (child s : Seen) → HasLists offsets child s → All IsList s.items
+all-lists offsets child s has = All-from_get_or IsList s.items null (λ i h.
+    subst IsList (sym (get_or_from_slice_get s.items i (cond (valid_in s.validity i) (list (list_of (of_slot offsets child.items i))) null) null (item_slot _ s i has.lists h)))
+    (valid-list (valid_in s.validity i) (list_of (of_slot offsets child.items i))))
+
+-- all rows, each picked once
+pub picked-each : (items : List Item) (picks : List (Option ℕ)) (n : ℕ) → picks ≡ map (λ i. Some i) (range_with_len 0 n) → n ≡ length items → picked items picks ≡ items
+picked-each items picks n is all =
+    ap (picked items) is ∙ picked-run items 0 n (omega (arith, all)) ∙ take_all n items (omega (arith, all))
+
+pub each-within : (items : List Item) (picks : List (Option ℕ)) (n : ℕ) → picks ≡ map (λ i. Some i) (range_with_len 0 n) → n ≡ length items → All (IsPick (length items)) picks
+each-within items picks n is all = subst (All (IsPick (length items))) (sym is) (rows-within (length items) (Some (0, n)) (omega (arith, all)))
 
 pub past-left : (rows : List (Option ℕ)) (range : Option (ℕ × ℕ)) (r : ℕ × ℕ) (other : Bool) → range ≡ Some r → is_past (length rows + r.1) ≡ true
     → (is_past (length rows + length (rows_of range)) || other) ≡ true

@@ -5,3 +5,5 @@ pub mod Big
 pub mod Selection
 pub mod Ranges
 pub mod Stored
+pub mod Joined
+pub mod Children

@@ -17,6 +17,7 @@ mod texts;
 use crate::fault::SelectFault;
 use crate::picks::Picks;
 use arrays::{Array, View, ViewType};
+pub(crate) use lists::spread_out;
 pub(crate) use numbers::Numbers;
 use std::alloc::Global;
 

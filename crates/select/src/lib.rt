@@ -1,9 +1,10 @@
-//! Selection of rows: take and filter views of Arrow arrays.
+//! Selection of rows: take, filter and concatenate views of Arrow arrays.
 #![tactic(auto)]
 
 pub mod fault;
 pub mod filtering;
 mod gather;
+mod joining;
 mod picks;
 pub mod taking;
 #[cfg(test)]
@@ -11,4 +12,5 @@ mod testing;
 
 pub use fault::SelectFault;
 pub use filtering::filter;
+pub use joining::concat;
 pub use taking::take;

@@ -43,6 +43,17 @@ impl Picks {
         })
     }
 
+    /// The first so many rows, each once.
+    pub(crate) fn all(alloc: Global, rows: u32) -> Result<Picks, SelectFault>
+        requires { rows ≤ 2147483647 }
+        ensures ok { IfOk result (λ p. p ≡ map (λ i. Some i) (range_with_len 0 rows)) }
+        ensures err { IfErr result (λ e. e ≡ SelectFault.NoMemory) }
+    {
+        let mut picks = Picks::with_capacity(alloc, rows as usize)?;
+        picks.push_run(0, rows as usize)?;
+        Ok(picks)
+    }
+
     /// How many slots there are.
     pub(crate) fn len(&self) -> usize
         ensures count { result ≡ length self.now }

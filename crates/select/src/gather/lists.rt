@@ -27,7 +27,7 @@ pub(crate) struct Spread {
 }
 
 /// The picked rows of a view of lists.
-pub(super) fn spread_out(
+pub(crate) fn spread_out(
     alloc: Global,
     view: &View<'_>,
     lists: &Lists<'_>,

@@ -1,0 +1,73 @@
+use Rattle.std.proofs.Common.{◌≡◌, ◌∙◌, ◌<◌, List, ap, length, subst, sym}
+use Rattle.arrays.specs.Item.{Item}
+use Rattle.arrays.specs.Kind as kind
+use Rattle.arrays.specs.Kind.{depth, kind_of, same_kind}
+use Rattle.arrays.specs.Lengths.{inner_items, total}
+use Rattle.arrays.specs.Seen.{Seen}
+use Rattle.arrays.specs.Shape.{field_of, kind_of_field}
+use Rattle.arrays.specs.Shown.{shown}
+use Rattle.arrays.specs.ViewType.{view_kind}
+use Rattle.arrays.specs.declared.types.Field.{out-Field}
+use Rattle.arrays.proofs.ShapeLemmas.{kind_of_field-field_of}
+use Rattle.select.specs.Joined.{is_content_too_big, joined, joined_items}
+use Rattle.select.proofs.JoinLemmas.{child-shown, child-too_big, lists-joined}
+use Rattle.select.proofs.ListLemmas.{full_of_all, total-lengths}
+use Rattle.select.proofs.joining.+join.Goals as goal
+
+pub returns-in_err-child-in-List-clause-err : goal.returns-in_err-child-in-List-clause-err
+returns-in_err-child-in-List-clause-err n c =
+    let k = kind_of (out-Field c.in-List.item.now).ty in
+    let parts = c.deref-in-List-2.ensures.value ∙ c.in_ok-parts-in-List.ensures ∙ c.deref.ensures.value in
+    full_of_all c.from_residual-in_err-child-in-List.result c.in_err-child-in-List.field-0.0 _ _ c.from_residual-in_err-child-in-List.ensures.1 c.in_err-child-in-List.ensures.err
+    (λ big.
+    ap (λ t. is_content_too_big (view_kind t) c.args.views.now) c.in-List.is
+    ∙ child-too_big k (view_kind c.of.result) c.args.views.now c.deref-in-List-2.result.now c.in_ok-children-in-List.children.items c.in_ok-children-in-List.ensures.ok c.requires.some parts c.of.ensures big)
+
+pub finish-requires-clause-total : goal.finish-requires-clause-total
+finish-requires-clause-total n c =
+    let k = kind_of (out-Field c.in-List.item.now).ty in
+    let views = c.args.views.now in
+    let parts = c.deref-in-List-2.ensures.value ∙ c.in_ok-parts-in-List.ensures ∙ c.deref.ensures.value in
+    let is = child-shown k (view_kind c.of.result) views c.deref-in-List-2.result.now c.in_ok-children-in-List.children.items c.in_ok-child-in-List.child c.in_ok-children-in-List.ensures.ok c.requires.some parts c.of.ensures c.in_ok-child-in-List.ensures.ok in
+    ap total (c.lengths-in-List.view_is ∙ c.in_ok-lengths-in-List.ensures.ok)
+    ∙ total-lengths (joined_items views)
+    ∙ ap (λ (q : Seen). length q.items) (sym is)
+
+pub finish-requires-clause-kind : goal.finish-requires-clause-kind
+finish-requires-clause-kind n c =
+    let item = c.in-List.item.now in
+    let k = kind_of (out-Field item).ty in
+    let parts = c.deref-in-List-2.ensures.value ∙ c.in_ok-parts-in-List.ensures ∙ c.deref.ensures.value in
+    let is = child-shown k (view_kind c.of.result) c.args.views.now c.deref-in-List-2.result.now c.in_ok-children-in-List.children.items c.in_ok-child-in-List.child c.in_ok-children-in-List.ensures.ok c.requires.some parts c.of.ensures c.in_ok-child-in-List.ensures.ok in
+    sym (kind_of_field-field_of c.in_ok-copy-in-List.field-0)
+    ∙ ap kind_of_field c.in_ok-copy-in-List.ensures
+    ∙ kind_of_field-field_of item
+    ∙ ap (λ (q : Seen). q.kind) (sym is)
+
+pub finish-requires-clause-no_dict : goal.finish-requires-clause-no_dict
+finish-requires-clause-no_dict n c =
+    let k = kind_of (out-Field c.in-List.item.now).ty in
+    let are = c.in_ok-children-in-List.ensures.ok in
+    let parts = c.deref-in-List-2.ensures.value ∙ c.in_ok-parts-in-List.ensures ∙ c.deref.ensures.value in
+    let is = child-shown k (view_kind c.of.result) c.args.views.now c.deref-in-List-2.result.now c.in_ok-children-in-List.children.items c.in_ok-child-in-List.child are c.requires.some parts c.of.ensures c.in_ok-child-in-List.ensures.ok in
+    ap (λ (q : Seen). same_kind q.kind kind.dict) is ∙ (are.inner c.requires.some).no_dict
+
+pub finish-requires-clause-depth : goal.finish-requires-clause-depth
+finish-requires-clause-depth n c =
+    let k = kind_of (out-Field c.in-List.item.now).ty in
+    let are = c.in_ok-children-in-List.ensures.ok in
+    let parts = c.deref-in-List-2.ensures.value ∙ c.in_ok-parts-in-List.ensures ∙ c.deref.ensures.value in
+    let is = child-shown k (view_kind c.of.result) c.args.views.now c.deref-in-List-2.result.now c.in_ok-children-in-List.children.items c.in_ok-child-in-List.child are c.requires.some parts c.of.ensures c.in_ok-child-in-List.ensures.ok in
+    subst (λ (q : Seen). depth q.kind < 8) (sym is) (are.inner c.requires.some).shallow
+
+pub returns-in_ok-finish-in-List-clause-ok : goal.returns-in_ok-finish-in-List-clause-ok
+returns-in_ok-finish-in-List-clause-ok n c =
+    let k = kind_of (out-Field c.in-List.item.now).ty in
+    let views = c.args.views.now in
+    let children = c.in_ok-children-in-List.children.items in
+    let are = c.in_ok-children-in-List.ensures.ok in
+    let parts = c.deref-in-List-2.ensures.value ∙ c.in_ok-parts-in-List.ensures ∙ c.deref.ensures.value in
+    let is = child-shown k (view_kind c.of.result) views c.deref-in-List-2.result.now children c.in_ok-child-in-List.child are c.requires.some parts c.of.ensures c.in_ok-child-in-List.ensures.ok in
+    c.in_ok-finish-in-List.ensures
+    ∙ lists-joined k views children c.lengths-in-List.inside.slots c.in_ok-child-in-List.child are (c.lengths-in-List.view_is ∙ c.in_ok-lengths-in-List.ensures.ok) is
+    ∙ ap (λ t. joined (view_kind t) views) (sym c.in-List.is)

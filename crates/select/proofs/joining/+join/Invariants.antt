@@ -1,0 +1,6 @@
+use Rattle.arrays.specs.Kind.{depth}
+use Rattle.arrays.specs.ViewType.{view_kind}
+use Rattle.select.proofs.joining.+join.Given as goal
+
+abbrev pub decreases-join : goal.decreases-join
+decreases-join l = depth (view_kind l.ty)

@@ -1,0 +1,6 @@
+use Rattle.std.proofs.Common.{◌≡◌, ◌++◌, drop}
+use Rattle.select.specs.Joined.{joined_items}
+use Rattle.select.proofs.joining.bools.join.Given as goal
+
+abbrev pub invariant-loop-view : goal.invariant-loop-view
+invariant-loop-view l = l.builder ++ joined_items (drop l.view-index l.views) ≡ joined_items l.views

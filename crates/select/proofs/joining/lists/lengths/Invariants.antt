@@ -1,0 +1,9 @@
+use Rattle.std.proofs.Common.{◌≡◌, ◌++◌, drop, map}
+use Rattle.std.specs.Prelude.{flat_map}
+use Rattle.arrays.specs.Lengths.{list_length}
+use Rattle.arrays.specs.Seen.{Seen}
+use Rattle.select.specs.Joined.{joined_items}
+use Rattle.select.proofs.joining.lists.lengths.Given as goal
+
+abbrev pub invariant-loop-view : goal.invariant-loop-view
+invariant-loop-view l = l.builder ++ flat_map (λ (s : Seen). map list_length s.items) (drop l.view-index l.views) ≡ map list_length (joined_items l.views)

@@ -1,0 +1,6 @@
+use Rattle.std.proofs.Common.{◌≡◌, ◌++◌, take, map}
+use Rattle.arrays.specs.Lengths.{list_length}
+use Rattle.select.proofs.joining.lists.push_all.Given as goal
+
+abbrev pub invariant-loop-i : goal.invariant-loop-i
+invariant-loop-i l = l.builder ≡ l.fn.builder ++ map list_length (take l.i l.view.items)
