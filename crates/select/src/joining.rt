@@ -13,6 +13,8 @@ mod bools;
 mod dicts;
 mod lists;
 mod numbers;
+#[cfg(test)]
+mod tests;
 mod texts;
 
 use crate::fault::SelectFault;
