@@ -22,8 +22,7 @@ use Rattle.arrays.proofs.ByteLemmas.{get_or-slice}
 use Rattle.arrays.proofs.SchemaLemmas.{position-map}
 use Rattle.arrays.proofs.RowLemmas.{least_none}
 use Rattle.arrowtab.specs.Cause.{IsItemOf}
-use Rattle.arrowtab.specs.Stats.{Adds, slot, slots}
-use Rattle.arrowtab.specs.declared.stats.ColumnStats.{ColumnStats}
+use Rattle.arrowtab.specs.IntColumn.{slot, slots}
 
 -- ---- numbers are of their type
 
@@ -90,13 +89,5 @@ position-slots t bytes validity n = position-map is_null (λ j. not (valid_in va
 
 pub position-slots-all : (t : IntType) (bytes : List ℕ) (n : ℕ) → position is_null (slots t bytes None n) ≡ None
 position-slots-all t bytes n = position-slots t bytes None n ∙ least_none (λ j. not (valid_in None j)) n (λ k below. refl)
-
--- ---- statistics by type
-
-pub Adds-of_type : (old new : ColumnStats) (t : IntType) (w : Width) (b : Bool) (bytes : List ℕ) (validity : Option (List Bool)) (n : ℕ) → t.bits ≡ w → t.signed ≡ b
-    → Adds old new (slots (record { bits = w; signed = b }) bytes validity n) → Adds old new (slots t bytes validity n)
-Adds-of_type old new t w b bytes validity n same_width same_sign adds =
-    let same : ◌≡◌ {A = IntType} t (record { bits = w; signed = b }) = (λ i. record { bits = same_width i; signed = same_sign i }) in
-    subst (λ (u : IntType). Adds old new (slots u bytes validity n)) (sym same) adds
 
 pub ruleset first_nulls = (position-slots, position-slots-all)

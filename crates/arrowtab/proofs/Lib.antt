@@ -1,7 +1,5 @@
 -- What the proofs of this crate share.
 mod Ends
-mod StatsLemmas
-mod StatsLaws
 mod ColumnLemmas
 pub mod ToldLemmas
 mod HistoryLemmas

@@ -7,7 +7,8 @@ use Rattle.arrays.specs.declared.types.Field.{Field, out-Field, fold-Field}
 use Rattle.arrays.specs.declared.types.IntType.{IntType}
 use Rattle.arrays.specs.Kind.{Kind, kind_of, kind_step}
 use Rattle.arrays.specs.Seen.{Seen}
-use Rattle.arrays.specs.Shape.{FieldShape, field_of, fields_of, kind_of_field}
+use Rattle.arrays.specs.Shape as shape
+use Rattle.arrays.specs.Shape.{FieldShape, field, field_of, fields_of, kind_of_field}
 use Rattle.arrays.proofs.ShapeLemmas.{kind_of_field-field_of}
 use Rattle.arrow_json.specs.Integers.{AreIntegers, is_integer}
 use Rattle.arrowtab.proofs.BatchLemmas.{Suits, Suits-lawful, HasColumns-rows_of}
@@ -115,17 +116,19 @@ Suits-entry fields entries i e integers batches below is =
     Suits-lawful fields (arc_value e.batch) integers batch.types batch.lawful
 
 -- column k of a batch
-pub record IsColumn (b : Batch) (k : ℕ) (s : Seen) : Type 0 where
-  pub integer : is_integer s.kind ≡ true
+pub record IsColumn (b : Batch) (k : ℕ) (t : Kind) (s : Seen) : Type 0 where
+  pub kind : s.kind ≡ t
   pub items : column (rows_of b) k ≡ s.items
   pub size : length s.items ≡ b.rows
 
-pub IsColumn-at : (fields : List FieldShape) (b : Batch) (k : ℕ) (s : Seen) (columns : List Seen) → Suits fields b → k < length fields → columns ≡ b.columns → s ≡ get_or columns k s → IsColumn b k s
-IsColumn-at fields b k s columns suits below same is =
+pub IsColumn-at : (fields : List FieldShape) (b : Batch) (k : ℕ) (t : Kind) (s : Seen) (columns : List Seen) → Suits fields b → k < length fields → ((f : FieldShape) → kind_of_field (get_or fields k f) ≡ t)
+    → columns ≡ b.columns → s ≡ get_or columns k s → IsColumn b k t s
+IsColumn-at fields b k t s columns suits below typed same is =
     let at : s ≡ get_or b.columns k s = is ∙ ap (λ (cs : List Seen). get_or cs k s) same in
     let within : k < length b.columns = omega (arith, suits.counts) in
+    let f : FieldShape = field [] false shape.boolean in
     record {
-      integer = subst (λ (x : Seen). is_integer x.kind ≡ true) (sym at) (suits.integers k s within);
+      kind = ap (λ (x : Seen). x.kind) at ∙ suits.kinds k s f within ∙ typed f;
       items = (HasColumns-rows_of fields b suits).each k s within ∙ ap (λ (x : Seen). x.items) (sym at);
       size = ap (λ (x : Seen). length x.items) at ∙ suits.sizes k s within;
     }

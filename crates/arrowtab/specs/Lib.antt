@@ -3,8 +3,6 @@ pub mod Count
 pub mod Memory
 pub mod Sink
 pub mod Source
-pub mod Cells
-pub mod Stats
 pub mod IntColumn
 pub mod History
 pub mod Cause

@@ -10,7 +10,8 @@ use Rattle.arrays.specs.Item.{Item}
 use Rattle.arrays.specs.Shape as shape
 use Rattle.arrays.specs.Shape.{FieldShape, field}
 use Rattle.arrowtab.specs.History.{Table, column, History, rows, of}
-use Rattle.arrowtab.specs.Stats.{nulls_of, sum_of, least_of, greatest_of}
+use Rattle.group.specs.Stats.{nulls_of, total_of}
+use Rattle.group.specs.Numbers.{least_number, greatest_number}
 
 -- ---- lines over plain numbers and texts
 
@@ -53,7 +54,7 @@ column_line name ty count nulls sum least greatest = line (
 
 -- The line of a column with these items. A column of another type than integers has none.
 abbrev pub field_line : FieldShape → List Item → List ℕ
-field_line (field name nullable (shape.int ty)) items = column_line name ty (length items) (nulls_of items) (sum_of items) (least_of items) (greatest_of items)
+field_line (field name nullable (shape.int ty)) items = column_line name ty (length items) (nulls_of items) (total_of items) (least_number items) (greatest_number items)
 field_line f items = []
 
 -- A line for each worker: how many tables it added, and how many rows they have together.

@@ -1,13 +1,11 @@
 //! A column of integers by its parts.
-ghost use Rattle.std.specs.Prelude.{◌≡◌, ◌+◌, ◌*◌, ◌^◌, ◌≤◌, length, position, slice_index_or, not, false, Some};
+ghost use Rattle.std.specs.Prelude.{◌≡◌, ◌*◌, ◌≤◌, length, position, slice_index_or, not, false};
 ghost use Rattle.arrays.specs.Kind.{bytes_of};
 ghost use Rattle.arrays.specs.Fault.{least_row};
 ghost use Rattle.arrays.specs.Kind as kind;
 ghost use Rattle.arrays.specs.Item.{is_null};
 
-use crate::stats::ColumnStats;
-use crate::stats::slots::{is_one, with_slots};
-use arrays::{IntType, View, Width};
+use arrays::{IntType, View};
 use colbits::Bits;
 
 /// A column of integers: its numbers as bytes, and which of them are there. What lies under a null is any
@@ -22,10 +20,9 @@ pub(crate) struct IntColumn<'a> {
 }
 
 impl<'a> IntColumn<'a> {
-    ghost use Rattle.arrowtab.specs.IntColumn.{IsOf, items_of};
+    ghost use Rattle.arrowtab.specs.IntColumn.{IsOf, items_of, slots};
     ghost use Rattle.std.specs.Prelude.{All};
     ghost use Rattle.arrowtab.specs.Cause.{IsItemOf};
-    ghost use Rattle.arrowtab.specs.Stats.{Adds, slots};
 
     /// The parts of a view of integers.
     pub(crate) fn of(view: &View<'a>, ty: IntType) -> IntColumn<'a>
@@ -59,24 +56,6 @@ impl<'a> IntColumn<'a> {
             Some(bits) => first_unset(bits, self.len),
         }
     }
-
-    /// The statistics with the slots of this column more.
-    pub(crate) fn counted_in(&self, stats: ColumnStats) -> ColumnStats
-        requires { stats.rows + length (items_of self.now) ≤ 2 ^ 40 }
-        ensures { Adds stats result (items_of self.now) }
-    {
-        let (numbers, validity, len) = (self.numbers, &self.validity, self.len);
-        match (self.ty.bits, self.ty.signed) {
-            (Width::W8, true) => with_slots::<i8>(stats, numbers, validity, len),
-            (Width::W8, false) => with_slots::<u8>(stats, numbers, validity, len),
-            (Width::W16, true) => with_slots::<i16>(stats, numbers, validity, len),
-            (Width::W16, false) => with_slots::<u16>(stats, numbers, validity, len),
-            (Width::W32, true) => with_slots::<i32>(stats, numbers, validity, len),
-            (Width::W32, false) => with_slots::<u32>(stats, numbers, validity, len),
-            (Width::W64, true) => with_slots::<i64>(stats, numbers, validity, len),
-            (Width::W64, false) => with_slots::<u64>(stats, numbers, validity, len),
-        }
-    }
 }
 
 /// The least of the first `len` bits that isn't there and 1.
@@ -89,4 +68,11 @@ fn first_unset(bits: &Bits<'_>, len: usize) -> Option<usize>
         }
     }
     None
+}
+
+/// Whether bit `j` is there and 1.
+fn is_one(bits: &Bits<'_>, j: usize) -> bool
+    ensures { result ≡ slice_index_or bits.now j false }
+{
+    j < bits.len() && bits.get(j)
 }

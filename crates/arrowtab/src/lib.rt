@@ -14,7 +14,6 @@ mod report;
 mod run_fault;
 pub mod sink;
 pub mod source;
-pub mod stats;
 mod tell;
 #[cfg(test)]
 mod tests;

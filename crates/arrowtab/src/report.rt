@@ -1,21 +1,21 @@
 //! The output of `stats`.
 ghost use Rattle.arrays.specs.Item.{Item};
-ghost use Rattle.std.specs.Prelude.{List, true, ◌≡◌, ◌+◌, ◌++◌, ◌^◌, ◌<◌, ◌≤◌, length, map, All, OnOk, IfOk, string_bytes};
+ghost use Rattle.std.specs.Prelude.{List, true, ◌≡◌, ◌+◌, ◌++◌, ◌^◌, ◌<◌, ◌≤◌, length, map, All, OnOk, IfOk, slice_index_or, string_bytes};
 ghost use Rattle.std.specs.Arc.{arc_value};
 ghost use Rattle.arrays.specs.Batch.{rows_of};
-ghost use Rattle.arrays.specs.Shape.{field_of, fields_of, kind_of_field};
+ghost use Rattle.arrays.specs.Shape.{FieldShape, field_of, kind_of_field};
 ghost use Rattle.arrowtab.specs.Batches.{history_of, IsBatchOf};
 ghost use Rattle.arrowtab.specs.History.{column, of, rows};
 ghost use Rattle.arrow_json.specs.Integers.{AreIntegers, is_integer};
 ghost use Rattle.arrowtab.specs.Shown.{shown, worker_lines, column_lines, field_line};
-ghost use Rattle.arrowtab.specs.Stats.{AreStats};
+ghost use Rattle.arrays.specs.ViewType.{view_kind};
+ghost use Rattle.group.specs.Summary.{AreStats};
 
 use crate::batches::{Batches, Entry};
-use crate::nulls::int_column;
-use crate::stats::ColumnStats;
 use crate::text::{column_line, push_rows_line, push_worker_line};
-use arrays::{DataType, Field};
+use arrays::{DataType, Field, ViewType};
 use colbits::NoMemory;
+use group::{ColumnStats, joined, stats_of};
 use std::alloc::Global;
 
 #[cfg(test)]
@@ -70,8 +70,9 @@ fn push_column_lines(alloc: Global, text: &mut String, batches: &Batches) -> Res
 {
     let fields = batches.schema().fields();
     for k in 0..fields.len() {
-        let stats = column_stats(batches, k);
-        push_field_line(alloc, text, &fields[k], &stats)?;
+        let field = &fields[k];
+        let stats = column_stats(alloc, batches, k, ViewType::of(&field.ty))?;
+        push_field_line(alloc, text, field, &stats)?;
     }
     Ok(())
 }
@@ -84,7 +85,8 @@ fn push_field_line(
     stats: &ColumnStats,
 ) -> Result<(), NoMemory>
     requires { is_integer (kind_of_field (field_of field.now)) ≡ true }
-    ensures { (items : List Item) → AreStats stats.now items → OnOk result (string_bytes text.new
+    ensures { (items : List Item) → AreStats stats.now (kind_of_field (field_of field.now)) items
+        → OnOk result (string_bytes text.new
         ≡ string_bytes text.old ++ field_line (field_of field.now) items) }
 {
     let DataType::Int(ty) = &field.ty else {
@@ -95,15 +97,22 @@ fn push_field_line(
     Ok(())
 }
 
-/// The statistics of a column over all batches.
-fn column_stats(batches: &Batches, k: usize) -> ColumnStats
-    requires { k < length batches.now.fields }
-    ensures { AreStats result (column (rows batches.now.history) k) }
+/// The statistics of a column, of this type, over all batches: those of each batch joined behind those before it.
+fn column_stats(
+    alloc: Global,
+    batches: &Batches,
+    k: usize,
+    ty: ViewType<'_>,
+) -> Result<ColumnStats, NoMemory>
+    requires within { k < length batches.now.fields }
+    requires typed { (f : FieldShape) → kind_of_field (slice_index_or batches.now.fields k f) ≡ view_kind ty }
+    ensures { IfOk result (λ s. AreStats s (view_kind ty.entry) (column (rows batches.now.history) k)) }
 {
     let entries = batches.entries();
-    let mut stats = ColumnStats::empty();
+    let mut stats = ColumnStats::empty(ty);
     for entry in entries {
-        stats = int_column(&entry.batch.columns()[k]).counted_in(stats);
+        let more = stats_of(alloc, &entry.batch.columns()[k].view())?;
+        stats = joined(alloc, &stats, &more)?;
     }
-    stats
+    Ok(stats)
 }

@@ -1,11 +1,16 @@
 //! The lines of `stats`, as text.
-ghost use Rattle.std.specs.Prelude.{◌≡◌, ◌++◌, OnOk, IfOk, string_bytes};
+ghost use Rattle.std.specs.Prelude.{◌≡◌, ◌++◌, ℤ, List, Option, OnOk, IfOk, length, option_map, string_bytes};
+ghost use Rattle.arrays.specs.Item.{Item, int};
+ghost use Rattle.arrays.specs.Kind as kind;
+ghost use Rattle.group.specs.Numbers.{greatest_number, least_number};
+ghost use Rattle.group.specs.Stats.{nulls_of, total_of};
+ghost use Rattle.group.specs.Summary.{AreStats, scalar_item};
 ghost use Rattle.json.specs.Print.{quoted};
 ghost use Rattle.arrowtab.specs.Shown.{type_name, statistic, rows_line, worker_line, column_line};
 
-use crate::stats::ColumnStats;
 use arrays::{IntType, Width};
 use colbits::NoMemory;
+use group::{ColumnStats, Scalar};
 use serde_json::Value;
 use std::alloc::{AllocError, Global};
 
@@ -39,15 +44,16 @@ pub(crate) fn push_worker_line(
     Ok(())
 }
 
-/// The line of a column.
+/// The line of a column of integers with these statistics.
 pub(crate) fn column_line(
     alloc: Global,
     name: &str,
     ty: IntType,
     stats: &ColumnStats,
 ) -> Result<String, NoMemory>
-    ensures { IfOk result (λ text. string_bytes text ≡ column_line name.now ty
-        stats.now.rows stats.now.nulls stats.now.sum stats.now.least stats.now.greatest) }
+    ensures { (items : List Item) → AreStats stats.now (kind.int ty) items
+        → IfOk result (λ text. string_bytes text ≡ column_line name.now ty (length items) (nulls_of items)
+        (total_of items) (least_number items) (greatest_number items)) }
 {
     let mut text = quoted(alloc, name)?;
     text.push_str(" ")?;
@@ -57,11 +63,11 @@ pub(crate) fn column_line(
     text.push_str(" nulls=")?;
     write!(text, "{}", stats.nulls)?;
     text.push_str(" sum=")?;
-    write!(text, "{}", stats.sum)?;
+    push_statistic(&mut text, stats.sum)?;
     text.push_str(" least=")?;
-    push_statistic(&mut text, stats.least)?;
+    push_statistic(&mut text, int_of(&stats.least))?;
     text.push_str(" greatest=")?;
-    push_statistic(&mut text, stats.greatest)?;
+    push_statistic(&mut text, int_of(&stats.greatest))?;
     text.push_str("\n")?;
     Ok(text)
 }
@@ -71,6 +77,16 @@ fn quoted(alloc: Global, name: &str) -> Result<String, AllocError>
     ensures { IfOk result (λ text. string_bytes text ≡ quoted name.now) }
 {
     Value::String(String::from_str(alloc, name)?).to_string(alloc)
+}
+
+/// The number that a value is, none where there is no value.
+fn int_of(value: &Option<Scalar>) -> Option<i128>
+    ensures { (number : Option ℤ) → option_map scalar_item value.now ≡ option_map int number → result ≡ number }
+{
+    match value {
+        Some(Scalar::Int(number)) => Some(*number),
+        _ => None,
+    }
 }
 
 /// Adds a number, or a dash where there is none.

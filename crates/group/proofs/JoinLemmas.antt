@@ -17,8 +17,24 @@ use Rattle.arrays.specs.Kind.{Kind}
 use Rattle.group.specs.Joined.{better, both_sums}
 use Rattle.group.specs.Summary.{AreStats, scalar_item}
 use Rattle.group.specs.declared.stats.ColumnStats.{ColumnStats}
-use Rattle.group.specs.Stats.{is_number, is_truth, is_bytes, lesser, greater, nulls_of, number_of, numbers_of, sum_of, least_of, greatest_of}
+use Rattle.group.specs.Stats.{is_number, is_truth, is_bytes, lesser, greater, nulls_of, number_of, numbers_of, total_of, sum_of, least_of, greatest_of}
 use Rattle.group.proofs.TallyLemmas.{no_least_of_lists, no_greatest_of_lists}
+
+-- ---- the best of values, as items
+
+module _ {X : Type 0} (item : X → Item) (choose : Item → Item → Item) (best : X → X → X) (chooses : (x y : X) → choose (item x) (item y) ≡ item (best x y)) where
+  fold-items : (x : X) (xs : List X) → fold choose (item x) (map item xs) ≡ item (fold best x xs)
+  fold-items x [] = refl
+  fold-items x (y ∷ xs) = ap (λ z. fold choose z (map item xs)) (chooses x y) ∙ fold-items (best x y) xs
+
+  pub reduce-items : (xs : List X) → reduce choose (map item xs) ≡ option_map item (reduce best xs)
+  reduce-items [] = refl
+  reduce-items (x ∷ xs) = ap Some (fold-items x xs)
+
+  better-items : (p q : Option X) → better choose (option_map item p) (option_map item q) ≡ option_map item (better best p q)
+  better-items None q = refl
+  better-items (Some x) None = refl
+  better-items (Some x) (Some y) = ap Some (chooses x y)
 
 -- ---- the lesser of two by a total order
 
@@ -81,26 +97,13 @@ module _ {X : Type 0} (R : X → X → Ordering) (total : IsTotalOrder R) where
     unfolding pick
     chooses-pick x y = chooses x y
 
-    fold-items : (x : X) (xs : List X) → fold choose (item x) (map item xs) ≡ item (fold pick x xs)
-    fold-items x [] = refl
-    fold-items x (y ∷ xs) = ap (λ z. fold choose z (map item xs)) (chooses-pick x y) ∙ fold-items (pick x y) xs
-
-    reduce-items : (xs : List X) → reduce choose (map item xs) ≡ option_map item (reduce pick xs)
-    reduce-items [] = refl
-    reduce-items (x ∷ xs) = ap Some (fold-items x xs)
-
-    better-items : (p q : Option X) → better choose (option_map item p) (option_map item q) ≡ option_map item (better pick p q)
-    better-items None q = refl
-    better-items (Some x) None = refl
-    better-items (Some x) (Some y) = ap Some (chooses-pick x y)
-
     joined-items : (xs ys : List X) → reduce choose (map item xs ++ map item ys) ≡ better choose (reduce choose (map item xs)) (reduce choose (map item ys))
     joined-items xs ys =
         ap (reduce choose) (sym (map-append item xs ys))
-        ∙ reduce-items (xs ++ ys)
+        ∙ reduce-items item choose pick chooses-pick (xs ++ ys)
         ∙ ap (option_map item) (reduce-append xs ys)
-        ∙ sym (better-items (reduce pick xs) (reduce pick ys))
-        ∙ sym (λ j. better choose (reduce-items xs j) (reduce-items ys j))
+        ∙ sym (better-items item choose pick chooses-pick (reduce pick xs) (reduce pick ys))
+        ∙ sym (λ j. better choose (reduce-items item choose pick chooses-pick xs j) (reduce-items item choose pick chooses-pick ys j))
 
     -- the items of a column that pass a test, where they are values of the type
     joined-column : (p : Item → Bool) (values : List Item → List X) → ((xs : List Item) → filter p xs ≡ map item (values xs)) →
@@ -127,7 +130,7 @@ bytes_of_text (boolean b) = None
 bytes_of_text (text t) = Some t
 bytes_of_text (list l) = None
 
-are_numbers : (xs : List Item) → filter is_number xs ≡ map int (filter_map number_of xs)
+pub are_numbers : (xs : List Item) → filter is_number xs ≡ map int (filter_map number_of xs)
 are_numbers [] = refl
 are_numbers (null ∷ xs) = are_numbers xs
 are_numbers (int z ∷ xs) = ap (λ l. int z ∷ l) (are_numbers xs)
@@ -189,9 +192,9 @@ fold-from y z (x ∷ zs) =
     let regrouped : (y +ℤ z) +ℤ x ≡ y +ℤ (z +ℤ x) = omega (arith, ints) in
     ap (λ w. fold ◌+ℤ◌ w zs) regrouped ∙ fold-from y (z +ℤ x) zs
 
-total-append : (xs ys : List Item) → fold ◌+ℤ◌ (pos 0) (numbers_of (xs ++ ys)) ≡ fold ◌+ℤ◌ (pos 0) (numbers_of xs) +ℤ fold ◌+ℤ◌ (pos 0) (numbers_of ys)
+total-append : (xs ys : List Item) → total_of (xs ++ ys) ≡ total_of xs +ℤ total_of ys
 total-append xs ys =
-    let a = fold ◌+ℤ◌ (pos 0) (numbers_of xs) in
+    let a = total_of xs in
     let same : a ≡ a +ℤ pos 0 = omega (arith, ints) in
     ap (fold ◌+ℤ◌ (pos 0)) (filter_map-append number_of xs ys)
     ∙ fold-append ◌+ℤ◌ (pos 0) (numbers_of xs) (numbers_of ys)

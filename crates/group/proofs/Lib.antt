@@ -2,3 +2,4 @@
 pub mod TallyLemmas
 pub mod SumLemmas
 pub mod JoinLemmas
+pub mod NumberLemmas

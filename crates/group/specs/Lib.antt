@@ -1,5 +1,6 @@
 -- What the contracts of this crate speak of.
 pub mod Stats
+pub mod Numbers
 pub mod Tally
 pub mod Summary
 pub mod Joined

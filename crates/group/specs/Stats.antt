@@ -23,9 +23,13 @@ number_of (list l) = None
 abbrev pub numbers_of : List Item → List ℤ
 numbers_of items = filter_map number_of items
 
--- The sum of the numbers of a column of numbers, 0 where none is there. Other columns have none.
+-- The sum of the numbers that are there, 0 where none is.
+abbrev pub total_of : List Item → ℤ
+total_of items = fold ◌+ℤ◌ (pos 0) (numbers_of items)
+
+-- The sum of a column of numbers. Other columns have none.
 abbrev pub sum_of : Kind → List Item → Option ℤ
-sum_of (kind.int t) items = Some (fold ◌+ℤ◌ (pos 0) (numbers_of items))
+sum_of (kind.int t) items = Some (total_of items)
 sum_of kind.boolean items = None
 sum_of kind.utf8 items = None
 sum_of (kind.list k) items = None

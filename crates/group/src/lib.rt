@@ -2,6 +2,7 @@
 #![tactic(auto)]
 
 mod join;
+pub mod laws;
 mod slots;
 pub mod stats;
 mod tally;

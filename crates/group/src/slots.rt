@@ -76,11 +76,11 @@ fn truth_stats(view: &View<'_>) -> ColumnStats
     ensures { AreStats result view.now.kind view.now.items }
 {
     let bits = view.bool_bits();
-    let validity = view.validity();
+    let known = view.validity();
     let slots = view.slots();
     let mut tally = Tally::new();
     for i in 0..slots as usize {
-        if is_valid(&validity, i) {
+        if is_valid(&known, i) {
             tally = tally.with_value(bits.get(i));
         } else {
             tally = tally.with_null();

@@ -3,6 +3,8 @@
 ghost use Rattle.std.specs.Prelude.{◌*◌, ◌^◌, ◌≤◌, ◌≤ℤ◌, neg_ℤ, pos};
 ghost use Rattle.std.specs.Option.{ForSome};
 
+use arrays::ViewType;
+
 /// A value of a column whose values come before or behind one another.
 #[derive(Drop, Debug, PartialEq, Eq)]
 pub enum Scalar {
@@ -26,4 +28,27 @@ pub struct ColumnStats {
     ghost counted: { nulls ≤ rows },
     ghost low: { ForSome sum (λ z. neg_ℤ (pos (2 ^ 64 * rows)) ≤ℤ z) },
     ghost high: { ForSome sum (λ z. z ≤ℤ pos (2 ^ 64 * rows)) },
+}
+
+impl ColumnStats {
+    ghost use Rattle.std.specs.Prelude.{[]};
+    ghost use Rattle.arrays.specs.ViewType.{view_kind};
+    ghost use Rattle.group.specs.Summary.{AreStats};
+
+    /// The statistics of a column of a type without slots.
+    pub fn empty(ty: ViewType<'_>) -> ColumnStats
+        ensures { AreStats result (view_kind ty.entry) [] }
+    {
+        let sum = match ty {
+            ViewType::Int(_) => Some(0),
+            _ => None,
+        };
+        ColumnStats {
+            rows: 0,
+            nulls: 0,
+            sum,
+            least: None,
+            greatest: None,
+        }
+    }
 }

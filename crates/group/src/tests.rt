@@ -70,6 +70,8 @@ fn lists_have_no_least(rt: HostRuntime) -> Result<(), Fail> {
     let lists = lists(rt.alloc())?;
     let stats = stats_of(rt.alloc(), &lists.view())?;
     assert_stats(&rt, &stats, (4, 1), None, None, None);
+    let empty = ColumnStats::empty(lists.view().ty());
+    assert_stats(&rt, &empty, (0, 0), None, None, None);
     Ok(())
 }
 
@@ -78,6 +80,8 @@ fn an_empty_column_has_a_sum(rt: HostRuntime) -> Result<(), Fail> {
     let none = array(rt.alloc(), int(Width::W16, true), 0, &[None, Some(&[])])?;
     let stats = stats_of(rt.alloc(), &none.view())?;
     assert_stats(&rt, &stats, (0, 0), Some(0), None, None);
+    let empty = ColumnStats::empty(none.view().ty());
+    assert_stats(&rt, &empty, (0, 0), Some(0), None, None);
     Ok(())
 }
 

@@ -116,6 +116,17 @@ fn tells_another_type(rt: HostRuntime) -> Result<(), Fail> {
 }
 
 #[test]
+fn prints_a_file_without_batches(rt: HostRuntime) -> Result<(), Fail> {
+    expect(
+        &rt,
+        rt.alloc(),
+        r#"{"schema":{"fields":[{"name":"n","nullable":true,"type":{"name":"int","bitWidth":8,"isSigned":false},"children":[]}]},"batches":[]}"#,
+        "rows 0\nworker 0 calls 0 rows 0\n\"n\" uint8 rows=0 nulls=0 sum=0 least=- greatest=-\n",
+        "",
+    )
+}
+
+#[test]
 fn prints_rows_without_columns(rt: HostRuntime) -> Result<(), Fail> {
     expect(
         &rt,

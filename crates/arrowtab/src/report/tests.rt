@@ -6,10 +6,8 @@ ghost use Rattle.arrays.specs.Number.{IsOfType};
 ghost use Rattle.arrow_json.specs.Integers.{AreIntegers};
 
 use crate::batches::{AdmitError, Batches};
-use crate::nulls::int_column;
 use crate::refusal::{Refusal, refusal_text};
 use crate::report::stats_text;
-use crate::stats::ColumnStats;
 use arrays::{Array, DataType, Field, IntBuilder, IntType, RecordBatch, Schema, Width};
 use std::alloc::Global;
 use std::sync::Arc;
@@ -25,30 +23,14 @@ const INT64: IntType = IntType {
     signed: true,
 };
 
-#[test]
-fn sums_past_64_bits(rt: HostRuntime) -> Result<(), Fail> {
-    let mut builder = IntBuilder::with_capacity(rt.alloc(), UINT64, 2)?;
-    builder.push(Some(18446744073709551615))?;
-    builder.push(Some(18446744073709551615))?;
-    let array = builder.finish()?;
-    assert!(rt; array.len() < 100);
-    let stats = int_column(&array).counted_in(ColumnStats::empty());
-    assert_eq!(rt; stats.sum, 36893488147419103230);
-    assert_eq!(rt; stats.least, Some(18446744073709551615));
-    assert_eq!(rt; stats.greatest, Some(18446744073709551615));
-    assert_eq!(rt; stats.rows, 2);
-    assert_eq!(rt; stats.nulls, 0);
-    Ok(())
-}
-
-// A schema of one column of signed 64-bit numbers.
-fn one_column(alloc: Global, nullable: bool) -> Result<Schema, Fail>
+// A schema of one column of numbers.
+fn one_column(alloc: Global, ty: IntType, nullable: bool) -> Result<Schema, Fail>
     ensures { IfOk result (λ s. AreIntegers s) }
 {
     let field = Field {
         name: String::from_str(alloc, "n")?,
         nullable,
-        ty: DataType::Int(INT64),
+        ty: DataType::Int(ty),
     };
     Ok(Schema::new(vec![in alloc; field]?)?)
 }
@@ -64,7 +46,7 @@ fn three_slots(alloc: Global) -> Result<Array, Fail> {
 
 #[test]
 fn shows_three_rows(rt: HostRuntime) -> Result<(), Fail> {
-    let schema = one_column(rt.alloc(), true)?;
+    let schema = one_column(rt.alloc(), INT64, true)?;
     let columns = vec![in rt.alloc(); three_slots(rt.alloc())?]?;
     let batch = RecordBatch::new(schema.copy(rt.alloc())?, 3, columns)?;
     let batch = Arc::new(rt.alloc(), batch)?;
@@ -78,9 +60,68 @@ fn shows_three_rows(rt: HostRuntime) -> Result<(), Fail> {
     Ok(())
 }
 
+// Adds a batch of one column.
+fn admit(alloc: Global, batches: &mut Batches, column: Array) -> Result<(), Fail> {
+    let schema = batches.schema().copy(alloc)?;
+    let rows = column.view().slots();
+    let columns = vec![in alloc; column]?;
+    let batch = Arc::new(alloc, RecordBatch::new(schema, rows, columns)?)?;
+    batches.admit(0, batch)?;
+    Ok(())
+}
+
+#[test]
+fn sums_past_64_bits(rt: HostRuntime) -> Result<(), Fail> {
+    let mut batches = Batches::new(rt.alloc(), one_column(rt.alloc(), UINT64, false)?);
+    let mut builder = IntBuilder::with_capacity(rt.alloc(), UINT64, 2)?;
+    builder.push(Some(18446744073709551615))?;
+    builder.push(Some(18446744073709551615))?;
+    admit(rt.alloc(), &mut batches, builder.finish()?)?;
+    let text = stats_text(rt.alloc(), 0, &batches)?;
+    assert_eq!(rt;
+        text.as_str(),
+        "rows 2\n\"n\" uint64 rows=2 nulls=0 sum=36893488147419103230 least=18446744073709551615 greatest=18446744073709551615\n"
+    );
+    Ok(())
+}
+
+// The least is of the second batch, the greatest of the first, and the third holds nulls alone.
+#[test]
+fn joins_batches(rt: HostRuntime) -> Result<(), Fail> {
+    let mut batches = Batches::new(rt.alloc(), one_column(rt.alloc(), INT64, true)?);
+    for numbers in [[Some(5), Some(7)], [Some(-3), None], [None, None]] {
+        let mut builder = IntBuilder::with_capacity(rt.alloc(), INT64, 2)?;
+        for number in numbers {
+            builder.push(number)?;
+        }
+        admit(rt.alloc(), &mut batches, builder.finish()?)?;
+    }
+    let text = stats_text(rt.alloc(), 0, &batches)?;
+    assert_eq!(rt;
+        text.as_str(),
+        "rows 6\n\"n\" int64 rows=6 nulls=3 sum=9 least=-3 greatest=7\n"
+    );
+    Ok(())
+}
+
+#[test]
+fn shows_nulls_alone(rt: HostRuntime) -> Result<(), Fail> {
+    let mut batches = Batches::new(rt.alloc(), one_column(rt.alloc(), INT64, true)?);
+    let mut builder = IntBuilder::with_capacity(rt.alloc(), INT64, 2)?;
+    builder.push(None)?;
+    builder.push(None)?;
+    admit(rt.alloc(), &mut batches, builder.finish()?)?;
+    let text = stats_text(rt.alloc(), 0, &batches)?;
+    assert_eq!(rt;
+        text.as_str(),
+        "rows 2\n\"n\" int64 rows=2 nulls=2 sum=0 least=- greatest=-\n"
+    );
+    Ok(())
+}
+
 #[test]
 fn shows_no_rows(rt: HostRuntime) -> Result<(), Fail> {
-    let batches = Batches::new(rt.alloc(), one_column(rt.alloc(), false)?);
+    let batches = Batches::new(rt.alloc(), one_column(rt.alloc(), INT64, false)?);
     let text = stats_text(rt.alloc(), 2, &batches)?;
     assert_eq!(rt;
         text.as_str(),
@@ -91,7 +132,7 @@ fn shows_no_rows(rt: HostRuntime) -> Result<(), Fail> {
 
 #[test]
 fn refuses_a_null_in_a_non_nullable_column(rt: HostRuntime) -> Result<(), Fail> {
-    let schema = one_column(rt.alloc(), false)?;
+    let schema = one_column(rt.alloc(), INT64, false)?;
     let columns = vec![in rt.alloc(); three_slots(rt.alloc())?]?;
     let batch = RecordBatch::new(schema.copy(rt.alloc())?, 3, columns)?;
     let batch = Arc::new(rt.alloc(), batch)?;

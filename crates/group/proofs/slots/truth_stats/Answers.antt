@@ -18,7 +18,7 @@ loop-i-preserved c =
     let items = take i s.items in
     let value = λ (j : ℕ). boolean (slice_index_or bits j false) in
     let within : i < length s.items = omega (arith, c.slots-slots.ensures.count, c.loop-i-test.true) in
-    let valid_is : valid_at s i ≡ c.is_valid.result = ap (λ v. valid_in v i) (sym c.validity-validity.ensures) ∙ sym c.is_valid.ensures in
+    let valid_is : valid_at s i ≡ c.is_valid.result = ap (λ v. valid_in v i) (sym c.validity-known.ensures) ∙ sym c.is_valid.ensures in
     elim c.if-is_valid.branch [
       | then-is_valid w ↦ (
           let e = w.with_value-tally.ensures in

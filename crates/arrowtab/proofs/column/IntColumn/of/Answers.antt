@@ -2,8 +2,7 @@ use Rattle.std.proofs.Common.{◌≡◌, ◌∙◌, All, List, length, ap, sym, 
 use Rattle.arrays.specs.Kind.{Kind, int}
 use Rattle.arrays.specs.Item.{Item}
 use Rattle.arrowtab.specs.Cause.{IsItemOf}
-use Rattle.arrowtab.specs.Stats.{slots}
-use Rattle.arrowtab.specs.IntColumn.{items_of}
+use Rattle.arrowtab.specs.IntColumn.{items_of, slots}
 use Rattle.arrowtab.proofs.ColumnLemmas.{items-slots}
 use Rattle.arrowtab.proofs.column.IntColumn.of.Goals as goal
 

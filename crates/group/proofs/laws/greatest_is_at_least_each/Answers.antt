@@ -1,6 +1,6 @@
 use Rattle.std.specs.Int.{int_max}
-use Rattle.arrowtab.proofs.StatsLaws.{greatest_law, no_best}
-use Rattle.arrowtab.proofs.stats.laws.greatest_is_at_least_each.Goals as goal
+use Rattle.group.proofs.NumberLemmas.{greatest_law, no_best}
+use Rattle.group.proofs.laws.greatest_is_at_least_each.Goals as goal
 
 pub returns-clause-greatest : goal.returns-clause-greatest
 returns-clause-greatest c = greatest_law

@@ -1,6 +1,6 @@
 use Rattle.std.specs.Int.{int_min}
-use Rattle.arrowtab.proofs.StatsLaws.{least_law, no_best}
-use Rattle.arrowtab.proofs.stats.laws.least_is_at_most_each.Goals as goal
+use Rattle.group.proofs.NumberLemmas.{least_law, no_best}
+use Rattle.group.proofs.laws.least_is_at_most_each.Goals as goal
 
 pub returns-clause-least : goal.returns-clause-least
 returns-clause-least c = least_law

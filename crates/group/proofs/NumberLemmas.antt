@@ -1,10 +1,52 @@
--- The least and the greatest number of a column.
-use Rattle.std.proofs.Common.{◌≡◌, ◌⊎◌, inl, inr, zero, suc, ℤ, ◌≤ℤ◌, List, [], ◌∷◌, None, IfSome, All, ap, sym, refl, subst, arith}
+-- The least and the greatest of a column of integers, as numbers.
+use Rattle.std.proofs.Common.{◌≡◌, ◌∙◌, ◌⊎◌, inl, inr, zero, suc, ℤ, ◌≤ℤ◌, List, [], ◌∷◌, None, IfSome, option_map, cond, ◌<ℤ◌, All, ap, sym, refl, subst, arith}
 use Rattle.std.specs.List.{Contains, fold, reduce}
 use Rattle.std.specs.Int.{int_min, int_max}
-use Rattle.std.proofs.lemmas.Int.{fold-int_min_bounds, fold-int_min_reached, fold-int_max_bounds, fold-int_max_reached}
+use Rattle.std.specs.Ordering.{int_cmp, is_gt, MatchOrdering}
+use Rattle.std.specs.Cmp.{int_ranks}
+use Rattle.std.specs.declared.cmp.Ordering.{Ordering}
+use Rattle.std.specs.declared.cmp.Ordering.TheVariants.{Less, Equal, Greater}
+use Rattle.std.proofs.lemmas.Int.{ints, int_min_is, int_max_is, fold-int_min_bounds, fold-int_min_reached, fold-int_max_bounds, fold-int_max_reached}
 use Rattle.arrays.specs.Item.{Item, null, int, boolean, text, list}
-use Rattle.arrowtab.specs.Stats.{IsLeast, IsGreatest, numbers_of, least_of, greatest_of}
+use Rattle.arrays.specs.Kind as kind
+use Rattle.arrays.specs.declared.types.IntType.{IntType}
+use Rattle.group.specs.Numbers.{IsLeast, IsGreatest, least_number, greatest_number}
+use Rattle.group.specs.Stats.{numbers_of, lesser, greater, least_of, greatest_of}
+use Rattle.group.proofs.JoinLemmas.{are_numbers, reduce-items}
+
+-- ---- as values they are the same
+
+lesser_is : (x y : ℤ) → lesser (int x) (int y) ≡ int (int_min x y)
+lesser_is x y = by_rank (int_cmp x y) (int_ranks x y) where
+  by_rank : (o : Ordering) → MatchOrdering o (x <ℤ y) (x ≡ y) (y <ℤ x) → cond (is_gt o) (int y) (int x) ≡ int (int_min x y)
+  by_rank Less h =
+      let same : x ≡ int_min x y = omega (arith, ints, h, int_min_is x y) in
+      ap int same
+  by_rank Equal h =
+      let same : x ≡ int_min x y = omega (arith, ints, h, int_min_is x y) in
+      ap int same
+  by_rank Greater h =
+      let same : y ≡ int_min x y = omega (arith, ints, h, int_min_is x y) in
+      ap int same
+
+greater_is : (x y : ℤ) → greater (int x) (int y) ≡ int (int_max x y)
+greater_is x y = by_rank (int_cmp y x) (int_ranks y x) where
+  by_rank : (o : Ordering) → MatchOrdering o (y <ℤ x) (y ≡ x) (x <ℤ y) → cond (is_gt o) (int y) (int x) ≡ int (int_max x y)
+  by_rank Less h =
+      let same : x ≡ int_max x y = omega (arith, ints, h, int_max_is x y) in
+      ap int same
+  by_rank Equal h =
+      let same : x ≡ int_max x y = omega (arith, ints, h, int_max_is x y) in
+      ap int same
+  by_rank Greater h =
+      let same : y ≡ int_max x y = omega (arith, ints, h, int_max_is x y) in
+      ap int same
+
+pub least_values : (t : IntType) (column : List Item) → least_of (kind.int t) column ≡ option_map int (least_number column)
+least_values t column = ap (reduce lesser) (are_numbers column) ∙ reduce-items int lesser int_min lesser_is (numbers_of column)
+
+pub greatest_values : (t : IntType) (column : List Item) → greatest_of (kind.int t) column ≡ option_map int (greatest_number column)
+greatest_values t column = ap (reduce greater) (are_numbers column) ∙ reduce-items int greater int_max greater_is (numbers_of column)
 
 -- ---- the numbers of a column are its items that are numbers
 
@@ -75,10 +117,10 @@ empty_by : (choose : ℤ → ℤ → ℤ) (column : List Item) (xs : List ℤ) �
 empty_by choose column [] is h = refl
 empty_by choose column (x ∷ xs) is h = absurd (h x (item_in column x (subst (λ ns. Contains ns x) (sym is) (0, omega arith, refl))))
 
-pub least_law : (column : List Item) → IfSome (least_of column) (IsLeast column)
+pub least_law : (column : List Item) → IfSome (least_number column) (IsLeast column)
 least_law column = least_by column (numbers_of column) refl
 
-pub greatest_law : (column : List Item) → IfSome (greatest_of column) (IsGreatest column)
+pub greatest_law : (column : List Item) → IfSome (greatest_number column) (IsGreatest column)
 greatest_law column = greatest_by column (numbers_of column) refl
 
 pub no_best : (choose : ℤ → ℤ → ℤ) (column : List Item) → (reduce choose (numbers_of column) ≡ None → (z : ℤ) → Contains column (int z) → ⊥) × (((z : ℤ) → Contains column (int z) → ⊥) → reduce choose (numbers_of column) ≡ None)
