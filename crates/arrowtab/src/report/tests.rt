@@ -89,13 +89,18 @@ fn sums_past_64_bits(rt: HostRuntime) -> Result<(), Fail> {
 #[test]
 fn joins_batches(rt: HostRuntime) -> Result<(), Fail> {
     let mut batches = Batches::new(rt.alloc(), one_column(rt.alloc(), INT64, true)?);
-    for numbers in [[Some(5), Some(7)], [Some(-3), None], [None, None]] {
-        let mut builder = IntBuilder::with_capacity(rt.alloc(), INT64, 2)?;
-        for number in numbers {
-            builder.push(number)?;
-        }
-        admit(rt.alloc(), &mut batches, builder.finish()?)?;
-    }
+    let mut first = IntBuilder::with_capacity(rt.alloc(), INT64, 2)?;
+    first.push(Some(5))?;
+    first.push(Some(7))?;
+    admit(rt.alloc(), &mut batches, first.finish()?)?;
+    let mut second = IntBuilder::with_capacity(rt.alloc(), INT64, 2)?;
+    second.push(Some(-3))?;
+    second.push(None)?;
+    admit(rt.alloc(), &mut batches, second.finish()?)?;
+    let mut third = IntBuilder::with_capacity(rt.alloc(), INT64, 2)?;
+    third.push(None)?;
+    third.push(None)?;
+    admit(rt.alloc(), &mut batches, third.finish()?)?;
     let text = stats_text(rt.alloc(), 0, &batches)?;
     assert_eq!(rt;
         text.as_str(),
