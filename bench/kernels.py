@@ -1,13 +1,15 @@
 #!/usr/bin/env python3
-"""Measures the kernels and selections beside plain Rust loops with the same checks.
+"""Measures kernels, selections, pools and statistics beside plain Rust loops with the same checks.
 
-    bench/kernels.py [RUNS]
+    bench/kernels.py [RUNS [KERNEL..]]
 
-Builds bench/kernels.rs by `rustc -O` in a folder of its own; `crates/bench_kernels` has to be checked before (`rt check`
-there). The runs alternate. Printed are, for each kernel, the medians of the milliseconds of one call and their
-ratio: what a process takes for many calls less what it takes for one, so that making the columns doesn't count.
+Builds bench/kernels.rs by cargo in a folder of its own; `crates/bench_kernels` has to be built before (`rt run`
+there). Where VENDORED names a folder of vendored crates, cargo takes indexmap from there. The runs alternate. Printed
+are, for each kernel, the medians of the milliseconds of one call and their ratio: what a process takes for many calls
+less what it takes for one, so that making the columns doesn't count.
 """
 import os
+import shutil
 import statistics
 import subprocess
 import sys
@@ -17,7 +19,7 @@ import time
 TOP = os.path.dirname(os.path.dirname(os.path.abspath(__file__)))
 OURS = os.path.join(TOP, "crates", "bench_kernels", "out", "bench_kernels")
 KERNELS = [("add", 8_000_000, 10), ("less", 8_000_000, 10), ("equal", 1_000_000, 20), ("and", 64_000_000, 5), ("filter", 8_000_000, 10), ("take", 8_000_000, 5),
-           ("take-texts", 1_000_000, 10)]
+           ("take-texts", 1_000_000, 10), ("recode-few", 1_000_000, 10), ("recode-many", 1_000_000, 5), ("stats-of", 8_000_000, 10)]
 
 
 def seconds(program, kernel, rows, times):
@@ -33,12 +35,26 @@ def one_call(program, kernel, rows, times):
     return 1000 * (often - once) / times, first
 
 
+def built(folder):
+    """The path of the plain Rust program, built in the folder."""
+    for name in ["Cargo.toml", "kernels.rs"]:
+        shutil.copy(os.path.join(TOP, "bench", name), folder)
+    words = ["cargo", "build", "--release", "--quiet"]
+    vendored = os.environ.get("VENDORED")
+    if vendored:
+        words += ["--offline", "--config", 'source.crates-io.replace-with="vendored"',
+                  "--config", f'source.vendored.directory="{vendored}"']
+    subprocess.run(words, cwd=folder, check=True)
+    return os.path.join(folder, "target", "release", "kernels")
+
+
 def main():
     runs = int(sys.argv[1]) if len(sys.argv) > 1 else 5
     with tempfile.TemporaryDirectory() as folder:
-        peer = os.path.join(folder, "kernels")
-        subprocess.run(["rustc", "--edition", "2021", "-O", "-o", peer, os.path.join(TOP, "bench", "kernels.rs")], check=True)
+        peer = built(folder)
         for kernel, rows, times in KERNELS:
+            if sys.argv[2:] and kernel not in sys.argv[2:]:
+                continue
             pairs = []
             for _ in range(runs):
                 ours, said = one_call(OURS, kernel, rows, times)
@@ -47,7 +63,7 @@ def main():
                 pairs.append((ours, theirs))
             ours = statistics.median(pair[0] for pair in pairs)
             theirs = statistics.median(pair[1] for pair in pairs)
-            print(f"{kernel} of {rows} rows: {ours:.2f} ms beside {theirs:.2f} ms, {ours / theirs:.2f}")
+            print(f"{kernel} of {rows} rows: {ours:.2f} ms beside {theirs:.2f} ms, {ours / theirs:.2f}", flush=True)
 
 
 main()

@@ -1,5 +1,6 @@
 //! The kernels of `bench_kernels` as plain Rust loops with the same checks: `kernels KERNEL ROWS TIMES`.
 
+use indexmap::IndexSet;
 use std::env::args;
 use std::hint::black_box;
 
@@ -89,14 +90,23 @@ fn truths(rows: usize, salt: u32) -> Truths {
     Truths { validity: validity(rows, salt), values: Bitmap(bytes) }
 }
 
-fn texts(rows: usize, salt: u32) -> Texts {
+/// The digits of a number for each row.
+fn digits(rows: usize, salt: u32, number: impl Fn(u32) -> u32) -> Texts {
     let mut offsets = vec![0];
     let mut bytes = String::new();
     for i in 0..rows as u32 {
-        bytes += &(spread(i / 2 + salt % 2) % 1_000_000).to_string();
+        bytes += &number(i).to_string();
         offsets.push(bytes.len() as i32);
     }
     Texts { validity: validity(rows, salt), offsets, bytes }
+}
+
+fn texts(rows: usize, salt: u32) -> Texts {
+    digits(rows, salt, |row| spread(row / 2 + salt % 2) % 1_000_000)
+}
+
+fn repeated_texts(rows: usize, salt: u32, distinct: u32) -> Texts {
+    digits(rows, salt, |row| spread(row.wrapping_add(salt)) % distinct)
 }
 
 /// The sums, or the least row whose sum overflows.
@@ -197,70 +207,111 @@ fn take_texts(a: &Texts, rows: &[u32]) -> Result<Texts, usize> {
     Ok(Texts { validity, offsets, bytes })
 }
 
+/// The places of the texts in a pool of their own, or the row whose text the pool can't have.
+fn recode(a: &Texts) -> Result<ShortNumbers, usize> {
+    let rows = a.offsets.len() - 1;
+    let mut pool = IndexSet::new();
+    let mut bytes = 0;
+    let mut validity = Bitmap(vec![0; rows.div_ceil(8)]);
+    let mut values = Vec::with_capacity(rows);
+    for i in 0..rows {
+        if a.validity.get(i) {
+            let text = a.get(i);
+            let code = match pool.get_index_of(text) {
+                Some(code) => code,
+                None => {
+                    bytes += text.len();
+                    if bytes > i32::MAX as usize {
+                        return Err(i);
+                    }
+                    pool.insert_full(text.to_string()).0
+                }
+            };
+            values.push(code.try_into().map_err(|_| i)?);
+            validity.set(i, true);
+        } else {
+            values.push(0);
+        }
+    }
+    Ok(ShortNumbers { validity, values })
+}
+
+struct Stats {
+    nulls: usize,
+    sum: i128,
+    ends: Option<(i64, i64)>,
+}
+
+fn stats(a: &Numbers) -> Stats {
+    let mut stats = Stats { nulls: 0, sum: 0, ends: None };
+    for (i, number) in a.values.iter().enumerate() {
+        if a.validity.get(i) {
+            stats.sum += i128::from(*number);
+            stats.ends = match stats.ends {
+                Some((least, greatest)) => Some((least.min(*number), greatest.max(*number))),
+                None => Some((*number, *number)),
+            };
+        } else {
+            stats.nulls += 1;
+        }
+    }
+    stats
+}
+
+/// The result of the last of so many calls.
+fn last_of<T>(times: u32, mut work: impl FnMut() -> T) -> T {
+    let mut last = None;
+    for _ in 0..times {
+        last = Some(black_box(work()));
+    }
+    last.expect("some calls")
+}
+
 fn main() {
     let words: Vec<String> = args().collect();
     let rows: usize = words[2].parse().unwrap();
     let times: u32 = words[3].parse().unwrap();
-    let mut nulls = 0;
-    match words[1].as_str() {
-        "add" | "less" => {
+    let nulls = match words[1].as_str() {
+        "add" => {
             let (a, b) = (numbers(rows, 3), numbers(rows, 8));
-            for turn in 0..times {
-                let (a, b) = (black_box(&a), black_box(&b));
-                let validity = match words[1].as_str() {
-                    "add" => add(a, b).unwrap().validity,
-                    _ => black_box(less(a, b)).validity,
-                };
-                if turn + 1 == times {
-                    nulls = validity.zeros(rows);
-                }
-            }
+            last_of(times, || add(black_box(&a), black_box(&b)).unwrap()).validity.zeros(rows)
+        }
+        "less" => {
+            let (a, b) = (numbers(rows, 3), numbers(rows, 8));
+            last_of(times, || less(black_box(&a), black_box(&b))).validity.zeros(rows)
         }
         "equal" => {
             let (a, b) = (texts(rows, 3), texts(rows, 8));
-            for turn in 0..times {
-                let result = black_box(equal(black_box(&a), black_box(&b)));
-                if turn + 1 == times {
-                    nulls = result.validity.zeros(rows);
-                }
-            }
+            last_of(times, || equal(black_box(&a), black_box(&b))).validity.zeros(rows)
         }
         "filter" => {
             let (a, b) = (numbers(rows, 3), truths(rows, 8));
-            for turn in 0..times {
-                let result = black_box(filter(black_box(&a), black_box(&b)));
-                if turn + 1 == times {
-                    nulls = result.validity.zeros(result.values.len());
-                }
-            }
+            let result = last_of(times, || filter(black_box(&a), black_box(&b)));
+            result.validity.zeros(result.values.len())
         }
         "take" => {
             let (a, b) = (short_numbers(rows, 3), places(rows));
-            for turn in 0..times {
-                let result = black_box(take(black_box(&a), black_box(&b))).unwrap();
-                if turn + 1 == times {
-                    nulls = result.validity.zeros(result.values.len());
-                }
-            }
+            last_of(times, || take(black_box(&a), black_box(&b)).unwrap()).validity.zeros(rows)
         }
         "take-texts" => {
             let (a, b) = (texts(rows, 3), places(rows));
-            for turn in 0..times {
-                let result = black_box(take_texts(black_box(&a), black_box(&b))).unwrap();
-                if turn + 1 == times {
-                    nulls = result.validity.zeros(result.offsets.len() - 1);
-                }
-            }
+            last_of(times, || take_texts(black_box(&a), black_box(&b)).unwrap()).validity.zeros(rows)
+        }
+        "recode-few" | "recode-many" => {
+            let a = repeated_texts(rows, 3, if words[1] == "recode-few" { 1_000 } else { 200_000 });
+            last_of(times, || recode(black_box(&a)).unwrap()).validity.zeros(rows)
+        }
+        "stats-of" => {
+            let a = numbers(rows, 3);
+            let stats = last_of(times, || stats(black_box(&a)));
+            let (least, greatest) = stats.ends.unwrap_or((0, 0));
+            println!("{} {} {least} {greatest}", stats.nulls, stats.sum);
+            return;
         }
         _ => {
             let (a, b) = (truths(rows, 3), truths(rows, 8));
-            for turn in 0..times {
-                let result = black_box(and(black_box(&a), black_box(&b), rows));
-                if turn + 1 == times {
-                    nulls = result.validity.zeros(rows);
-                }
-            }
+            last_of(times, || and(black_box(&a), black_box(&b), rows)).validity.zeros(rows)
         }
-    }
+    };
     println!("{nulls}");
 }

@@ -1,16 +1,23 @@
 -- What the measured kernels give.
-use Rattle.std.specs.Prelude.{◌+ℤ◌}
+use Rattle.std.specs.Prelude.{◌+ℤ◌, map}
 use Rattle.arrays.specs.Kind as kind
+use Rattle.arrays.specs.Kind.{int32}
 use Rattle.arrays.specs.Seen.{Seen}
 use Rattle.arrays.specs.Shown.{shown}
 use Rattle.bench_kernels.specs.declared.kernel.Kernel.{Kernel}
-use Rattle.bench_kernels.specs.declared.kernel.Kernel.TheVariants.{Add, Less, Equal, And, Filter, Take, TakeTexts}
+use Rattle.bench_kernels.specs.declared.kernel.Kernel.TheVariants.{Add, Less, Equal, And, Filter, Take, TakeTexts, RecodeFew, RecodeMany}
 use Rattle.kernels.specs.Arithmetic.{results}
 use Rattle.kernels.specs.Kleene.{conjunction}
 use Rattle.kernels.specs.Order.{compared}
 use Rattle.kernels.specs.declared.comparison.CmpOp.TheVariants.{Eq, Lt}
+use Rattle.pool.specs.Codes.{code_item}
+use Rattle.pool.specs.Texts.{firsts, texts_of}
 use Rattle.select.specs.Chosen.{chosen}
 use Rattle.select.specs.Selection.{kept, taken}
+
+-- The array of the places of texts among those that differ.
+abbrev pub codes_of : Seen → Seen
+codes_of a = shown (kind.int int32) (map (code_item (firsts (texts_of a.items))) a.items)
 
 -- The array of a kernel's result on two columns.
 abbrev pub outcome : Kernel → Seen → Seen → Seen
@@ -21,3 +28,5 @@ outcome And a b = shown kind.boolean (conjunction a.items b.items)
 outcome Filter a b = chosen a.kind (λ items. kept items b.items) a
 outcome Take a b = chosen a.kind (λ items. taken items b.items) a
 outcome TakeTexts a b = chosen a.kind (λ items. taken items b.items) a
+outcome RecodeFew a b = codes_of a
+outcome RecodeMany a b = codes_of a

@@ -60,24 +60,58 @@ pub fn truths(alloc: Global, rows: u32, salt: u32) -> Option<Array> {
     column(alloc, DataType::Bool, rows, salt, bytes)
 }
 
-/// Texts of up to six digits, each twentieth of them null.
+/// Texts of up to six digits, each twentieth of them null. Mostly two neighbours are the same.
 pub fn texts(alloc: Global, rows: u32, salt: u32) -> Option<Array> {
-    let mut offsets = Vec::with_capacity(alloc, 4 * rows as usize + 67).ok()?;
-    let mut bytes = Vec::new(alloc);
-    offsets.extend_from_slice(&[0; 4]).ok()?;
+    let mut digits = Digits::new(alloc, rows)?;
     for row in 0..rows {
-        let digits = (spread(row / 2 + salt % 2) % 1_000_000)
-            .to_string(alloc)
-            .ok()?;
-        bytes.extend_from_slice(digits.as_bytes()).ok()?;
-        let end = u32::try_from(bytes.len()).ok()?;
-        offsets.extend_from_slice(&end.to_le_bytes()).ok()?;
+        digits.push(alloc, spread(row / 2 + salt % 2) % 1_000_000)?;
     }
-    let validity = validity(alloc, rows, salt)?;
-    let offsets = Some(Buffer::from_vec(offsets).ok()?);
-    let bytes = Some(Buffer::from_vec(bytes).ok()?);
-    let buffers = vec![in alloc; validity, offsets, bytes].ok()?;
-    checked(alloc, DataType::Utf8, rows, buffers)
+    digits.column(alloc, rows, salt)
+}
+
+/// Texts of which at most so many differ, in no order, each twentieth of them null.
+pub fn repeated_texts(alloc: Global, rows: u32, salt: u32, distinct: u32) -> Option<Array>
+    requires { 0 < distinct }
+{
+    let mut digits = Digits::new(alloc, rows)?;
+    for row in 0..rows {
+        digits.push(alloc, spread(row.wrapping_add(salt)) % distinct)?;
+    }
+    digits.column(alloc, rows, salt)
+}
+
+/// The digits of numbers as texts in the making: where each of them ends, and their bytes.
+#[derive(Drop)]
+struct Digits {
+    offsets: Vec<u8>,
+    bytes: Vec<u8>,
+}
+
+impl Digits {
+    fn new(alloc: Global, rows: u32) -> Option<Digits> {
+        let mut offsets = Vec::with_capacity(alloc, 4 * rows as usize + 67).ok()?;
+        offsets.extend_from_slice(&[0; 4]).ok()?;
+        Some(Digits {
+            offsets,
+            bytes: Vec::new(alloc),
+        })
+    }
+
+    fn push(&mut self, alloc: Global, number: u32) -> Option<()> {
+        let digits = number.to_string(alloc).ok()?;
+        self.bytes.extend_from_slice(digits.as_bytes()).ok()?;
+        let end = u32::try_from(self.bytes.len()).ok()?;
+        self.offsets.extend_from_slice(&end.to_le_bytes()).ok()?;
+        Some(())
+    }
+
+    fn column(self, alloc: Global, rows: u32, salt: u32) -> Option<Array> {
+        let validity = validity(alloc, rows, salt)?;
+        let offsets = Some(Buffer::from_vec(self.offsets).ok()?);
+        let bytes = Some(Buffer::from_vec(self.bytes).ok()?);
+        let buffers = vec![in alloc; validity, offsets, bytes].ok()?;
+        checked(alloc, DataType::Utf8, rows, buffers)
+    }
 }
 
 /// A column of values that lie behind one another, each twentieth of them null.

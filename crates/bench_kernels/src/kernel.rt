@@ -1,10 +1,12 @@
 //! The kernels that are measured.
 
 ghost use Rattle.std.specs.Prelude.{◌≡◌, Some, IfSome, codes};
+ghost use Rattle.bench_kernels.specs.Outcome.{codes_of};
 
-use crate::columns::{numbers, rows, short_numbers, texts, truths};
-use arrays::{Array, View};
+use crate::columns::{numbers, repeated_texts, rows, short_numbers, texts, truths};
+use arrays::{Array, View, ViewType};
 use kernels::{CmpOp, add, compare, kleene_and};
+use pool::{TextPool, recode};
 use select::{filter, take};
 use std::alloc::Global;
 
@@ -25,6 +27,10 @@ pub enum Kernel {
     Take,
     /// `take` of texts.
     TakeTexts,
+    /// `recode` of texts of which a thousand differ, into an empty pool. The second column is of no use.
+    RecodeFew,
+    /// `recode` of texts of which 200,000 differ.
+    RecodeMany,
 }
 
 impl Kernel {
@@ -39,6 +45,8 @@ impl Kernel {
         ensures filter { name.now ≡ codes "filter" → result ≡ Some Kernel.Filter }
         ensures take { name.now ≡ codes "take" → result ≡ Some Kernel.Take }
         ensures take_texts { name.now ≡ codes "take-texts" → result ≡ Some Kernel.TakeTexts }
+        ensures recode_few { name.now ≡ codes "recode-few" → result ≡ Some Kernel.RecodeFew }
+        ensures recode_many { name.now ≡ codes "recode-many" → result ≡ Some Kernel.RecodeMany }
     {
         match name {
             "add" => Some(Kernel::Add),
@@ -48,6 +56,8 @@ impl Kernel {
             "filter" => Some(Kernel::Filter),
             "take" => Some(Kernel::Take),
             "take-texts" => Some(Kernel::TakeTexts),
+            "recode-few" => Some(Kernel::RecodeFew),
+            "recode-many" => Some(Kernel::RecodeMany),
             _ => None,
         }
     }
@@ -75,6 +85,8 @@ impl Kernel {
             Kernel::Filter => numbers(alloc, count, 3),
             Kernel::Take => short_numbers(alloc, count, 3),
             Kernel::TakeTexts => texts(alloc, count, 3),
+            Kernel::RecodeFew => repeated_texts(alloc, count, 3, 1_000),
+            Kernel::RecodeMany => repeated_texts(alloc, count, 3, 200_000),
         }
     }
 
@@ -87,6 +99,8 @@ impl Kernel {
             Kernel::Filter => truths(alloc, count, 8),
             Kernel::Take => rows(alloc, count),
             Kernel::TakeTexts => rows(alloc, count),
+            Kernel::RecodeFew => truths(alloc, 0, 8),
+            Kernel::RecodeMany => truths(alloc, 0, 8),
         }
     }
 
@@ -102,6 +116,22 @@ impl Kernel {
             Kernel::Filter => filter(alloc, a, b).ok(),
             Kernel::Take => take(alloc, a, b).ok(),
             Kernel::TakeTexts => take(alloc, a, b).ok(),
+            Kernel::RecodeFew => recoded(alloc, a),
+            Kernel::RecodeMany => recoded(alloc, a),
         }
+    }
+}
+
+/// The places of texts in a pool of their own, none where they aren't texts or the pool refused.
+fn recoded(alloc: Global, view: &View<'_>) -> Option<Array>
+    ensures { IfSome result (λ r. r ≡ codes_of view.now) }
+{
+    let ViewType::Utf8 = view.ty() else {
+        return None;
+    };
+    let mut pool = TextPool::new(alloc);
+    match recode(alloc, view, &mut pool) {
+        Ok(codes) => Some(codes),
+        Err(_) => None,
     }
 }

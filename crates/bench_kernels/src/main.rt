@@ -1,14 +1,17 @@
 //! `bench_kernels KERNEL ROWS TIMES` makes two columns of so many rows, runs a kernel on them so many times, and
-//! prints how many slots of the last result are null. KERNEL is `add`, `less`, `equal` (of texts), `and`, `filter`, `take`
-//! or `take-texts`.
+//! prints how many slots of the last result are null. KERNEL is `add`, `less`, `equal` (of texts), `and`, `filter`, `take`,
+//! `take-texts`, `recode-few` or `recode-many`. `bench_kernels stats-of ROWS TIMES` prints the statistics of one column.
 //!
 //! Without arguments it runs each kernel once, on few rows.
 #![tactic(auto)]
 
 mod columns;
 mod kernel;
+mod statistics;
 
+use group::Scalar;
 use kernel::Kernel;
+use statistics::stats_after;
 use std::env;
 use std::process::ExitCode;
 
@@ -16,7 +19,7 @@ use std::process::ExitCode;
 const FEW: u32 = 1000;
 
 /// All kernels.
-const EACH: [Kernel; 7] = [
+const EACH: [Kernel; 9] = [
     Kernel::Add,
     Kernel::Less,
     Kernel::Equal,
@@ -24,6 +27,8 @@ const EACH: [Kernel; 7] = [
     Kernel::Filter,
     Kernel::Take,
     Kernel::TakeTexts,
+    Kernel::RecodeFew,
+    Kernel::RecodeMany,
 ];
 
 fn main(rt: HostRuntime) -> ExitCode {
@@ -37,6 +42,9 @@ fn main(rt: HostRuntime) -> ExitCode {
     let (Some(rows), Some(times)) = (number(words.next()), number(words.next())) else {
         return refused(&rt);
     };
+    if name.as_str() == "stats-of" {
+        return tell_stats(&rt, rows, times);
+    }
     match Kernel::of_name(name.as_str()) {
         Some(kernel) => tell(&rt, kernel, rows, times),
         None => refused(&rt),
@@ -55,7 +63,7 @@ fn try_each(rt: &HostRuntime) -> ExitCode {
             return ExitCode::FAILURE;
         }
     }
-    ExitCode::SUCCESS
+    tell_stats(rt, FEW, 1)
 }
 
 // Runs one kernel and prints how many nulls the result has.
@@ -67,6 +75,29 @@ fn tell(rt: &HostRuntime, kernel: Kernel, rows: u32, times: u32) -> ExitCode {
     match println!(rt; "{nulls}") {
         Ok(()) => ExitCode::SUCCESS,
         Err(_) => ExitCode::FAILURE,
+    }
+}
+
+// Gathers statistics so many times and prints the last: how many are null, the sum, the least and the greatest.
+fn tell_stats(rt: &HostRuntime, rows: u32, times: u32) -> ExitCode {
+    let Some(stats) = stats_after(rt.alloc(), rows, times) else {
+        let _ = eprintln!(rt; "bench_kernels: no memory, or never run");
+        return ExitCode::FAILURE;
+    };
+    let nulls = stats.nulls;
+    let sum = stats.sum.unwrap_or(0);
+    let (least, greatest) = (number_of(stats.least), number_of(stats.greatest));
+    match println!(rt; "{nulls} {sum} {least} {greatest}") {
+        Ok(()) => ExitCode::SUCCESS,
+        Err(_) => ExitCode::FAILURE,
+    }
+}
+
+// A number, 0 where there is none.
+fn number_of(scalar: Option<Scalar>) -> i128 {
+    match scalar {
+        Some(Scalar::Int(number)) => number,
+        _ => 0,
     }
 }
 
