@@ -2,9 +2,10 @@
 
 ghost use Rattle.std.specs.Prelude.{◌≡◌, IfOk};
 
+use crate::array::{Array, validate};
 use crate::types::{DataType, Field, IntType, RawArray, Width};
 use crate::view::{View, ViewType};
-use colbits::Buffer;
+use colbits::{Bits, Buffer};
 use std::alloc::Global;
 use std::process::Abort;
 use std::test::Fail;
@@ -22,6 +23,11 @@ pub(crate) const INT16: IntType = IntType {
 pub(crate) const INT32: IntType = IntType {
     bits: Width::W32,
     signed: true,
+};
+
+pub(crate) const UINT32: IntType = IntType {
+    bits: Width::W32,
+    signed: false,
 };
 
 /// The bytes of each position of a layout, none where it holds no buffer.
@@ -48,6 +54,16 @@ pub(crate) fn raw(
         children: Vec::new(alloc),
         dictionary: None,
     })
+}
+
+/// An array without children, checked.
+pub(crate) fn checked(
+    alloc: Global,
+    ty: DataType,
+    length: u64,
+    positions: Positions,
+) -> Result<Array, Fail> {
+    Ok(validate(alloc, raw(alloc, ty, length, positions)?)?)
 }
 
 /// A nullable field that is named `item`.
@@ -84,6 +100,48 @@ pub(crate) fn assert_bools(rt: &impl Abort, view: &View<'_>, bools: &[Option<boo
         assert!(rt; i < view.len());
         assert_eq!(rt; view.bool_at(i), *value, "at slot {i}");
         assert_eq!(rt; view.holds(i), value.is_some(), "at slot {i}");
+    }
+}
+
+/// Asserts that the bits are these.
+pub(crate) fn assert_bits(rt: &impl Abort, bits: &Bits<'_>, expected: &[bool]) {
+    assert_eq!(rt; bits.len(), expected.len());
+    for (i, bit) in expected.iter().enumerate() {
+        assert!(rt; i < bits.len());
+        assert_eq!(rt; bits.get(i), *bit, "at slot {i}");
+    }
+}
+
+/// The numbers of a list, none where it is null.
+pub(crate) type Numbers<'a> = Option<&'a [Option<i128>]>;
+
+/// Asserts that the slots of a view hold these lists of numbers.
+pub(crate) fn assert_lists(rt: &impl Abort, view: &View<'_>, lists: &[Numbers<'_>]) {
+    assert_eq!(rt; view.len(), lists.len());
+    for (i, list) in lists.iter().enumerate() {
+        assert_list(rt, view, i, *list);
+    }
+}
+
+fn assert_list(rt: &impl Abort, view: &View<'_>, i: usize, list: Numbers<'_>) {
+    assert!(rt; i < view.len());
+    let ViewType::List(_) = view.ty() else {
+        panic!(rt; "these are no lists");
+    };
+    assert_eq!(rt; view.holds(i), list.is_some(), "at slot {i}");
+    match (view.list_at(i), list) {
+        (Some(items), Some(numbers)) => assert_numbers(rt, &items, numbers),
+        (None, None) => {}
+        _ => panic!(rt; "one list is null, at slot {i}"),
+    }
+}
+
+/// Asserts that the offsets of a view of texts or lists are these.
+pub(crate) fn assert_offsets(rt: &impl Abort, view: &View<'_>, offsets: &[u8]) {
+    match view.ty() {
+        ViewType::Utf8 => assert_eq!(rt; view.texts().offsets, offsets),
+        ViewType::List(_) => assert_eq!(rt; view.lists().offsets, offsets),
+        _ => panic!(rt; "these have no offsets"),
     }
 }
 

@@ -5,8 +5,8 @@ ghost use Rattle.arrays.specs.Kind.{int32};
 
 use super::{Array, validate};
 use crate::builder::IntBuilder;
-use crate::testing::{INT32, Positions, assert_numbers, assert_texts, item, raw};
-use crate::types::DataType;
+use crate::testing::{INT32, Positions, assert_numbers, assert_texts, checked, item, raw};
+use crate::types::{DataType, RawArray};
 use crate::view::ViewType;
 use crate::words::Words;
 use std::alloc::Global;
@@ -39,7 +39,7 @@ const READ: &[Option<i128>] = &[Some(1), None, Some(2), Some(4), Some(8)];
 #[test]
 fn copies_numbers(rt: HostRuntime) -> Result<(), Fail> {
     let alloc = rt.alloc();
-    let array = validate(alloc, raw(alloc, DataType::Int(INT32), 5, NUMBERS)?)?;
+    let array = checked(alloc, DataType::Int(INT32), 5, NUMBERS)?;
     let copy = copied(&rt, alloc, &array)?;
     assert_numbers(&rt, &array.view(), READ);
     assert_numbers(&rt, &copy.view(), READ);
@@ -67,20 +67,24 @@ fn lists(alloc: Global) -> Result<Array, Fail> {
     Ok(validate(alloc, array)?)
 }
 
+/// A copy of the one child, checked.
+fn child_of(rt: &impl Abort, alloc: Global, children: &[RawArray]) -> Result<Array, Fail> {
+    let [child] = children else {
+        panic!(rt; "there is one child");
+    };
+    Ok(validate(alloc, child.copy(alloc)?)?)
+}
+
 #[test]
 fn copies_lists_in_lists(rt: HostRuntime) -> Result<(), Fail> {
     let alloc = rt.alloc();
     let copy = copied(&rt, alloc, &lists(alloc)?)?;
     assert_eq!(rt; copy.len(), 2);
     assert_eq!(rt; copy.view().null_count(), 1);
-    let [lists] = copy.children.as_slice() else {
-        panic!(rt; "there is one child");
-    };
-    assert_eq!(rt; validate(alloc, lists.copy(alloc)?)?.len(), 3);
-    let [numbers] = lists.children.as_slice() else {
-        panic!(rt; "the child has one child");
-    };
-    assert_numbers(&rt, &validate(alloc, numbers.copy(alloc)?)?.view(), READ);
+    let lists = child_of(&rt, alloc, copy.children.as_slice())?;
+    assert_eq!(rt; lists.len(), 3);
+    let numbers = child_of(&rt, alloc, lists.children.as_slice())?;
+    assert_numbers(&rt, &numbers.view(), READ);
     Ok(())
 }
 
@@ -107,7 +111,7 @@ fn codes(alloc: Global) -> Result<Array, Fail>
 
 /// The codes with the texts as their dictionary.
 fn encoded(rt: &impl Abort, alloc: Global) -> Result<Array, Fail> {
-    let texts = validate(alloc, raw(alloc, DataType::Utf8, 4, TEXTS)?)?;
+    let texts = checked(alloc, DataType::Utf8, 4, TEXTS)?;
     let ViewType::Utf8 = texts.view().ty() else {
         panic!(rt; "these are no texts");
     };

@@ -1,7 +1,7 @@
 ghost use Rattle.std.specs.Prelude.{◌≡◌, length, IfOk};
 ghost use Rattle.arrays.specs.Kind as kind;
 
-use crate::testing::{INT16, INT32, assert_bools, assert_numbers};
+use crate::testing::{INT16, INT32, assert_bits, assert_bools, assert_numbers};
 use crate::{Array, BoolBuilder, IntBuilder, Integer, ValidityBuilder};
 use colbits::{BitmapBuf, Buffer};
 use std::alloc::Global;
@@ -9,15 +9,10 @@ use std::process::Abort;
 use std::test::Fail;
 
 /// Asserts that the bits of a validity are these.
-fn assert_bits(rt: &impl Abort, validity: &Option<BitmapBuf>, expected: &[bool]) {
-    let Some(bitmap) = validity else {
-        panic!(rt; "there is no bitmap");
-    };
-    let bits = bitmap.bits();
-    assert_eq!(rt; bits.len(), expected.len());
-    for (i, bit) in expected.iter().enumerate() {
-        assert!(rt; i < bits.len());
-        assert_eq!(rt; bits.get(i), *bit, "at slot {i}");
+fn assert_kept(rt: &impl Abort, validity: &Option<BitmapBuf>, expected: &[bool]) {
+    match validity {
+        Some(bitmap) => assert_bits(rt, &bitmap.bits(), expected),
+        None => panic!(rt; "there is no bitmap"),
     }
 }
 
@@ -33,7 +28,7 @@ fn tells_validities(rt: HostRuntime) -> Result<(), Fail> {
     valid.push(false)?;
     assert_eq!(rt; valid.len(), 9);
     let expected = [true, true, true, false, true, true, true, true, false];
-    assert_bits(&rt, &valid.finish()?, &expected);
+    assert_kept(&rt, &valid.finish()?, &expected);
     Ok(())
 }
 
@@ -41,7 +36,7 @@ fn tells_validities(rt: HostRuntime) -> Result<(), Fail> {
 fn begins_a_validity_with_a_null(rt: HostRuntime) -> Result<(), Fail> {
     let mut valid = ValidityBuilder::new(rt.alloc());
     valid.push(false)?;
-    assert_bits(&rt, &valid.finish()?, &[false]);
+    assert_kept(&rt, &valid.finish()?, &[false]);
     Ok(())
 }
 
@@ -125,25 +120,20 @@ fn extends_by_slots_without_a_null(rt: HostRuntime) -> Result<(), Fail> {
     Ok(())
 }
 
-#[test]
-fn extends_by_slots_with_nulls(rt: HostRuntime) -> Result<(), Fail> {
-    let more = numbers(rt.alloc(), true)?;
-    let builder = pushed(rt.alloc())?;
-    let array = builder.extended::<i16>(&more.view())?.finish()?;
-    let expected = [Some(5), None, Some(-6), Some(1), None, Some(3), Some(4)];
-    assert_numbers(&rt, &array.view(), &expected);
-    assert_eq!(rt; array.view().null_count(), 2);
-    Ok(())
+/// The pushed numbers and four more, of which one is null if there is a validity.
+fn extended(alloc: Global, has_validity: bool) -> Result<Array, Fail> {
+    let more = numbers(alloc, has_validity)?;
+    Ok(pushed(alloc)?.extended::<i16>(&more.view())?.finish()?)
 }
 
 #[test]
 fn extends_after_a_null(rt: HostRuntime) -> Result<(), Fail> {
-    let more = numbers(rt.alloc(), false)?;
-    let builder = pushed(rt.alloc())?;
-    let array = builder.extended::<i16>(&more.view())?.finish()?;
-    let expected = [Some(5), None, Some(-6), Some(1), Some(-2), Some(3), Some(4)];
-    assert_numbers(&rt, &array.view(), &expected);
-    assert_eq!(rt; array.view().null_count(), 1);
+    for (has_validity, second, nulls) in [(true, None, 2), (false, Some(-2), 1)] {
+        let array = extended(rt.alloc(), has_validity)?;
+        let expected = [Some(5), None, Some(-6), Some(1), second, Some(3), Some(4)];
+        assert_numbers(&rt, &array.view(), &expected);
+        assert_eq!(rt; array.view().null_count(), nulls);
+    }
     Ok(())
 }
 

@@ -126,164 +126,206 @@ fn texts(alloc: Global, bytes: &[u8]) -> Result<RawArray, Fail> {
     Ok(raw)
 }
 
+/// The length, the null count, the validity and the count of bytes of numbers of 16 bits.
+type NumberCase = (u64, Option<u64>, Option<&'static [u8]>, usize);
+
+const NUMBER_CASES: &[(Option<LayoutFault>, &[NumberCase])] = &[
+    // The second bitmap says of one slot that it is null, and of more past the end.
+    (
+        None,
+        &[
+            (2, None, None, 4),
+            (2, Some(1), Some(&[0xfd]), 4),
+            (0, Some(0), None, 0),
+        ],
+    ),
+    // A byte too few for the numbers, then for the bitmap. Short comes before the null count.
+    (
+        Some(BufferTooShort),
+        &[
+            (2, None, None, 3),
+            (9, None, Some(&[0xff]), 18),
+            (2, Some(2), None, 3),
+            (2147483647, None, None, 4),
+        ],
+    ),
+    (
+        Some(NullCountDiffers),
+        &[(2, Some(2), Some(&[0xfd]), 4), (2, Some(1), None, 4)],
+    ),
+    // Too long comes before short.
+    (
+        Some(TooLong),
+        &[(2147483648, None, None, 4), (u64::MAX, None, None, 4)],
+    ),
+];
+
+fn numbers_of(alloc: Global, case: NumberCase) -> Result<RawArray, Fail> {
+    let (length, null_count, validity, bytes) = case;
+    let values = vec![in alloc; 7u8; bytes]?;
+    let ty = NUMBERS.ty(alloc)?;
+    let mut raw = array(alloc, ty, length, validity, values.as_slice())?;
+    raw.null_count = null_count;
+    Ok(raw)
+}
+
 #[test]
 fn tells_faults_of_numbers(rt: HostRuntime) -> Result<(), Fail> {
-    let table = [
-        // The second bitmap says of one slot that it is null, and of more past the end.
-        (
-            None,
-            [
-                (2, None, None, 4),
-                (2, Some(1), Some(0xfd), 4),
-                (0, Some(0), None, 0),
-            ]
-            .as_slice(),
-        ),
-        // A byte too few for the numbers, then for the bitmap. Short comes before the null count.
-        (
-            Some(BufferTooShort),
-            [
-                (2, None, None, 3),
-                (9, None, Some(0xff), 18),
-                (2, Some(2), None, 3),
-                (2147483647, None, None, 4),
-            ]
-            .as_slice(),
-        ),
-        (
-            Some(NullCountDiffers),
-            [(2, Some(2), Some(0xfd), 4), (2, Some(1), None, 4)].as_slice(),
-        ),
-        // Too long comes before short.
-        (
-            Some(TooLong),
-            [(2147483648, None, None, 4), (u64::MAX, None, None, 4)].as_slice(),
-        ),
-    ];
-    for (want, cases) in table {
-        for (length, null_count, validity, bytes) in cases {
-            let bitmap = validity.map(|byte| [byte]);
-            let bitmap = bitmap.as_ref().map(|byte| byte.as_slice());
-            let values = vec![in rt.alloc(); 7u8; *bytes]?;
-            let mut raw = array(
-                rt.alloc(),
-                NUMBERS.ty(rt.alloc())?,
-                *length,
-                bitmap,
-                values.as_slice(),
-            )?;
-            raw.null_count = *null_count;
-            assert_eq!(rt; first_fault(&raw), want, "{length} slots in {bytes} bytes");
+    for (want, cases) in NUMBER_CASES {
+        for case in *cases {
+            let raw = numbers_of(rt.alloc(), *case)?;
+            assert_eq!(rt; first_fault(&raw), *want, "{case:?}");
         }
     }
     Ok(())
 }
 
-/// The length, the byte of the validity, the offsets and the bytes of texts.
-type TextCase<'a> = (u64, u8, &'a [i32], &'a [u8; 2]);
+/// The length, the validity, the offsets and the bytes of texts.
+type TextCase = (u64, &'static [u8; 1], &'static [i32], &'static [u8; 2]);
+
+const TEXT_CASES: &[(Option<LayoutFault>, &[TextCase])] = &[
+    // No slots may have no offsets. Bytes that no slot names, and those of a null, may be no UTF-8.
+    (
+        None,
+        &[
+            (2, &[3], &[0, 1, 2], b"ab"),
+            (0, &[3], &[], b"ab"),
+            (1, &[3], &[1, 2], b"\xffb"),
+            (2, &[2], &[0, 1, 2], b"\xffb"),
+        ],
+    ),
+    // Short comes before negative.
+    (
+        Some(BufferTooShort),
+        &[
+            (1, &[3], &[], b"ab"),
+            (2, &[3], &[0, 1], b"ab"),
+            (2, &[3], &[-1, 1], b"ab"),
+        ],
+    ),
+    // Negative comes before decreasing.
+    (
+        Some(OffsetNegative),
+        &[(2, &[3], &[-1, 1, 2], b"ab"), (1, &[3], &[0, -1], b"ab")],
+    ),
+    // Also under a null, and before past the end.
+    (
+        Some(OffsetDecreases { row: 0 }),
+        &[(2, &[2], &[1, 0, 2], b"ab"), (2, &[3], &[1, 0, 9], b"ab")],
+    ),
+    // The least row.
+    (
+        Some(OffsetDecreases { row: 1 }),
+        &[(3, &[7], &[0, 2, 1, 0], b"ab")],
+    ),
+    // Past the end comes before no UTF-8.
+    (
+        Some(OffsetPastEnd),
+        &[
+            (2, &[3], &[0, 1, 3], b"ab"),
+            (2, &[3], &[0, 1, 3], b"\xff\xff"),
+        ],
+    ),
+    // A character that lies in two slots is in neither.
+    (
+        Some(NotUtf8 { row: 0 }),
+        &[
+            (2, &[3], &[0, 1, 2], b"\xff\xff"),
+            (2, &[3], &[0, 1, 2], b"\xc3\xa9"),
+        ],
+    ),
+    (Some(NotUtf8 { row: 1 }), &[(2, &[3], &[0, 1, 2], b"a\xff")]),
+];
+
+fn texts_of(alloc: Global, case: TextCase) -> Result<RawArray, Fail> {
+    let (length, validity, offsets, bytes) = case;
+    let second = int32s(alloc, offsets)?;
+    let mut raw = array(
+        alloc,
+        DataType::Utf8,
+        length,
+        Some(validity),
+        second.as_slice(),
+    )?;
+    raw.buffers.push(Some(Buffer::from_bytes(alloc, bytes)?))?;
+    Ok(raw)
+}
 
 #[test]
 fn tells_faults_of_texts(rt: HostRuntime) -> Result<(), Fail> {
-    let alloc = rt.alloc();
-    let table: [(Option<LayoutFault>, &[TextCase]); 8] = [
-        // No slots may have no offsets. Bytes that no slot names, and those of a null, may be no UTF-8.
-        (
-            None,
-            &[
-                (2, 3, &[0, 1, 2], b"ab"),
-                (0, 3, &[], b"ab"),
-                (1, 3, &[1, 2], b"\xffb"),
-                (2, 2, &[0, 1, 2], b"\xffb"),
-            ],
-        ),
-        // Short comes before negative.
-        (
-            Some(BufferTooShort),
-            &[
-                (1, 3, &[], b"ab"),
-                (2, 3, &[0, 1], b"ab"),
-                (2, 3, &[-1, 1], b"ab"),
-            ],
-        ),
-        // Negative comes before decreasing.
-        (
-            Some(OffsetNegative),
-            &[(2, 3, &[-1, 1, 2], b"ab"), (1, 3, &[0, -1], b"ab")],
-        ),
-        // Also under a null, and before past the end.
-        (
-            Some(OffsetDecreases { row: 0 }),
-            &[(2, 2, &[1, 0, 2], b"ab"), (2, 3, &[1, 0, 9], b"ab")],
-        ),
-        // The least row.
-        (
-            Some(OffsetDecreases { row: 1 }),
-            &[(3, 7, &[0, 2, 1, 0], b"ab")],
-        ),
-        // Past the end comes before no UTF-8.
-        (
-            Some(OffsetPastEnd),
-            &[(2, 3, &[0, 1, 3], b"ab"), (2, 3, &[0, 1, 3], b"\xff\xff")],
-        ),
-        // A character that lies in two slots is in neither.
-        (
-            Some(NotUtf8 { row: 0 }),
-            &[
-                (2, 3, &[0, 1, 2], b"\xff\xff"),
-                (2, 3, &[0, 1, 2], b"\xc3\xa9"),
-            ],
-        ),
-        (Some(NotUtf8 { row: 1 }), &[(2, 3, &[0, 1, 2], b"a\xff")]),
-    ];
-    for (want, cases) in table {
-        for (length, validity, offsets, bytes) in cases {
-            let second = int32s(alloc, *offsets)?;
-            let bitmap = [*validity];
-            let bitmap = Some(bitmap.as_slice());
-            let mut raw = array(alloc, DataType::Utf8, *length, bitmap, second.as_slice())?;
-            raw.buffers.push(Some(Buffer::from_bytes(alloc, *bytes)?))?;
-            assert_eq!(rt; first_fault(&raw), want, "{offsets:?} in {bytes:?}");
+    for (want, cases) in TEXT_CASES {
+        for case in *cases {
+            let raw = texts_of(rt.alloc(), *case)?;
+            assert_eq!(rt; first_fault(&raw), *want, "{case:?}");
         }
     }
     Ok(())
 }
 
-/// The first fault of a list of two slots with these offsets, and of a dictionary-encoded array with
-/// these indices, over two texts of one byte each.
-fn faults_over_texts(
-    alloc: Global,
-    numbers: &[i32],
-    bytes: &[u8],
-) -> Result<(Option<LayoutFault>, Option<LayoutFault>), Fail> {
-    let second = int32s(alloc, numbers)?;
+/// A list of two slots with these offsets, over two texts of one byte each.
+fn list_over(alloc: Global, offsets: &[i32], bytes: &[u8]) -> Result<RawArray, Fail> {
+    let second = int32s(alloc, offsets)?;
     let ty = TEXTS.in_lists(1).ty(alloc)?;
     let mut list = array(alloc, ty, 2, None, second.as_slice())?;
     list.children.push(texts(alloc, bytes)?)?;
-    let mut indices = array(alloc, DataType::Dict, 2, None, second.as_slice())?;
-    indices.dictionary = Some(Box::new(alloc, texts(alloc, bytes)?)?);
-    Ok((first_fault(&list), first_fault(&indices)))
+    Ok(list)
 }
+
+/// Two slots of these indices into two texts of one byte each.
+fn indices_into(alloc: Global, indices: &[i32], bytes: &[u8]) -> Result<RawArray, Fail> {
+    let second = int32s(alloc, indices)?;
+    let mut raw = array(alloc, DataType::Dict, 2, None, second.as_slice())?;
+    raw.dictionary = Some(Box::new(alloc, texts(alloc, bytes)?)?);
+    Ok(raw)
+}
+
+/// Offsets or indices, bytes of texts, and the faults of a list and of indices.
+type OverTexts = (
+    &'static [i32; 3],
+    &'static [u8; 2],
+    Option<LayoutFault>,
+    Option<LayoutFault>,
+);
+
+const OVER_TEXTS: &[OverTexts] = &[
+    // Two slots have three offsets and two indices.
+    (&[0, 1, 2], b"ab", None, None),
+    (&[0, 1, 1], b"ab", None, None),
+    (
+        &[0, 2, 3],
+        b"ab",
+        Some(OffsetPastEnd),
+        Some(IndexPastDictionary { row: 1 }),
+    ),
+    (
+        &[-1, 1, 1],
+        b"ab",
+        Some(OffsetNegative),
+        Some(IndexPastDictionary { row: 0 }),
+    ),
+    // An array's own fault comes before that of what it holds.
+    (
+        &[0, -1, 1],
+        b"\xffb",
+        Some(OffsetNegative),
+        Some(IndexPastDictionary { row: 1 }),
+    ),
+    (
+        &[0, 1, 1],
+        b"\xffb",
+        Some(NotUtf8 { row: 0 }),
+        Some(NotUtf8 { row: 0 }),
+    ),
+];
 
 #[test]
 fn tells_faults_of_lists_and_dictionaries(rt: HostRuntime) -> Result<(), Fail> {
-    let table = [
-        // Two slots have three offsets and two indices.
-        ([0, 1, 2], b"ab", None, None),
-        ([0, 1, 1], b"ab", None, None),
-        ([0, 2, 3], b"ab", Some(OffsetPastEnd), Some(1)),
-        ([-1, 1, 1], b"ab", Some(OffsetNegative), Some(0)),
-        // An array's own fault comes before that of what it holds.
-        ([0, -1, 1], b"\xffb", Some(OffsetNegative), Some(1)),
-    ];
-    for (numbers, bytes, of_list, row) in table {
-        let (list, indices) = faults_over_texts(rt.alloc(), &numbers, bytes)?;
-        let of_indices = row.map(|row| IndexPastDictionary { row });
-        assert_eq!(rt; list, of_list, "offsets {numbers:?}");
-        assert_eq!(rt; indices, of_indices, "indices {numbers:?}");
+    for (numbers, bytes, of_list, of_indices) in OVER_TEXTS {
+        let list = list_over(rt.alloc(), *numbers, *bytes)?;
+        assert_eq!(rt; first_fault(&list), *of_list, "offsets {numbers:?}");
+        let indices = indices_into(rt.alloc(), *numbers, *bytes)?;
+        assert_eq!(rt; first_fault(&indices), *of_indices, "indices {numbers:?}");
     }
-    let (list, indices) = faults_over_texts(rt.alloc(), &[0, 1, 1], b"\xffb")?;
-    assert_eq!(rt; list, Some(NotUtf8 { row: 0 }));
-    assert_eq!(rt; indices, Some(NotUtf8 { row: 0 }));
     Ok(())
 }
 
@@ -335,9 +377,25 @@ fn empty(alloc: Global, form: Form) -> Result<RawArray, Fail> {
     Ok(raw)
 }
 
+/// An array of no slots, over others.
+fn empty_over(
+    alloc: Global,
+    form: Form,
+    children: &[Form],
+    dictionary: Option<Form>,
+) -> Result<RawArray, Fail> {
+    let mut raw = empty(alloc, form)?;
+    for child in children {
+        raw.children.push(empty(alloc, *child)?)?;
+    }
+    if let Some(entries) = dictionary {
+        raw.dictionary = Some(Box::new(alloc, empty(alloc, entries)?)?);
+    }
+    Ok(raw)
+}
+
 #[test]
 fn tells_children_that_differ(rt: HostRuntime) -> Result<(), Fail> {
-    let alloc = rt.alloc();
     let table: [(Form, &[Form], Option<Form>, bool); 13] = [
         (NUMBERS.in_lists(1), &[NUMBERS], None, false),
         // A list that lacks a child itself.
@@ -355,13 +413,7 @@ fn tells_children_that_differ(rt: HostRuntime) -> Result<(), Fail> {
         (INDICES, &[TEXTS], Some(TEXTS), true),
     ];
     for (form, children, dictionary, differs) in table {
-        let mut raw = empty(alloc, form)?;
-        for child in children {
-            raw.children.push(empty(alloc, *child)?)?;
-        }
-        if let Some(entries) = dictionary {
-            raw.dictionary = Some(Box::new(alloc, empty(alloc, entries)?)?);
-        }
+        let raw = empty_over(rt.alloc(), form, children, dictionary)?;
         let want = differs.then_some(ChildDiffers);
         assert_eq!(rt;
             first_fault(&raw),

@@ -1,12 +1,21 @@
 use crate::testing::{
-    INT8, INT32, Positions, assert_bools, assert_numbers, assert_texts, item, raw,
+    INT8, INT32, Positions, UINT32, assert_bits, assert_bools, assert_lists, assert_numbers,
+    assert_texts, checked, item, raw,
 };
-use crate::{Array, DataType, RawArray, ViewType, validate};
+use crate::{Array, DataType, View, ViewType, validate};
 use std::alloc::Global;
+use std::process::Abort;
 use std::test::Fail;
 
-/// The array of codes over a dictionary of texts.
-fn coded(alloc: Global, mut codes: RawArray, dictionary: RawArray) -> Result<Array, Fail> {
+/// Codes over a dictionary of texts.
+fn coded(
+    alloc: Global,
+    length: u64,
+    codes: Positions,
+    texts: (u64, Positions),
+) -> Result<Array, Fail> {
+    let mut codes = raw(alloc, DataType::Dict, length, codes)?;
+    let dictionary = raw(alloc, DataType::Utf8, texts.0, texts.1)?;
     codes.dictionary = Some(Box::new(alloc, dictionary)?);
     Ok(validate(alloc, codes)?)
 }
@@ -21,23 +30,19 @@ const NUMBERS: Positions = &[
 
 #[test]
 fn slices_numbers(rt: HostRuntime) -> Result<(), Fail> {
-    let array = validate(
-        rt.alloc(),
-        raw(rt.alloc(), DataType::Int(INT32), 6, NUMBERS)?,
-    )?;
+    let array = checked(rt.alloc(), DataType::Int(INT32), 6, NUMBERS)?;
     let whole = array.view();
     assert_eq!(rt; whole.len(), 6);
     let view = whole.slice(3, 3);
     assert_numbers(&rt, &view, &[Some(2), None, Some(3)]);
     assert_eq!(rt; view.null_count(), 1);
-    let Some(bits) = view.validity() else {
-        panic!(rt; "there is a bitmap");
-    };
-    assert_eq!(rt; bits.len(), 3);
-    assert!(rt; bits.get(0));
-    assert!(rt; !bits.get(1));
-    assert!(rt; bits.get(2));
-    assert_eq!(rt; bits.count_ones(), 2);
+    match view.validity() {
+        Some(bits) => {
+            assert_bits(&rt, &bits, &[true, false, true]);
+            assert_eq!(rt; bits.count_ones(), 2);
+        }
+        None => panic!(rt; "there is a bitmap"),
+    }
     Ok(())
 }
 
@@ -45,7 +50,7 @@ fn slices_numbers(rt: HostRuntime) -> Result<(), Fail> {
 fn slices_truth_values(rt: HostRuntime) -> Result<(), Fail> {
     // From the first on: 1, 0, null, 0, 1, 1, null, 0, 1, 1.
     let positions: Positions = &[Some(&[0xbb, 0x03]), Some(&[0x75, 0x03])];
-    let array = validate(rt.alloc(), raw(rt.alloc(), DataType::Bool, 10, positions)?)?;
+    let array = checked(rt.alloc(), DataType::Bool, 10, positions)?;
     let whole = array.view();
     assert_eq!(rt; whole.len(), 10);
     let view = whole.slice(3, 6);
@@ -71,7 +76,7 @@ fn shows_texts(rt: HostRuntime) -> Result<(), Fail> {
         Some(&[0, 0, 0, 0, 3, 0, 0, 0, 5, 0, 0, 0, 5, 0, 0, 0, 9, 0, 0, 0]),
         Some(b"joe\xff\xffmark"),
     ];
-    let array = validate(rt.alloc(), raw(rt.alloc(), DataType::Utf8, 4, positions)?)?;
+    let array = checked(rt.alloc(), DataType::Utf8, 4, positions)?;
     let whole = array.view();
     assert_texts(&rt, &whole, &[Some("joe"), None, None, Some("mark")]);
     assert_eq!(rt; whole.len(), 4);
@@ -82,7 +87,7 @@ fn shows_texts(rt: HostRuntime) -> Result<(), Fail> {
 #[test]
 fn shows_a_text_that_begins_late(rt: HostRuntime) -> Result<(), Fail> {
     let positions: Positions = &[None, Some(&[2, 0, 0, 0, 5, 0, 0, 0]), Some(b"xxjoe")];
-    let array = validate(rt.alloc(), raw(rt.alloc(), DataType::Utf8, 1, positions)?)?;
+    let array = checked(rt.alloc(), DataType::Utf8, 1, positions)?;
     assert_texts(&rt, &array.view(), &[Some("joe")]);
     Ok(())
 }
@@ -106,62 +111,52 @@ fn slices_lists(rt: HostRuntime) -> Result<(), Fail> {
     let array = lists(rt.alloc())?;
     let whole = array.view();
     assert_eq!(rt; whole.len(), 4);
-    let view = whole.slice(1, 3);
-    let ViewType::List(_) = view.ty() else {
-        panic!(rt; "these are no lists");
-    };
-    assert_eq!(rt; view.len(), 3);
-    assert!(rt; view.list_at(0).is_none());
-    assert!(rt; !view.holds(0));
-    let Some(items) = view.list_at(1) else {
-        panic!(rt; "there is a list");
-    };
-    assert_numbers(&rt, &items, &[Some(0), Some(-127), Some(127), Some(50)]);
-    let Some(items) = view.list_at(2) else {
-        panic!(rt; "there is a list");
-    };
-    assert_numbers(&rt, &items, &[]);
+    let numbers = [Some(0), Some(-127), Some(127), Some(50)];
+    assert_lists(&rt, &whole.slice(1, 3), &[None, Some(&numbers), Some(&[])]);
     Ok(())
 }
 
-#[test]
-fn shows_texts_of_a_dictionary(rt: HostRuntime) -> Result<(), Fail> {
-    let texts: Positions = &[
-        Some(&[0x07]),
-        Some(&[0, 0, 0, 0, 1, 0, 0, 0, 2, 0, 0, 0, 3, 0, 0, 0, 3, 0, 0, 0]),
-        Some(b"aba"),
-    ];
-    let numbers: Positions = &[
-        Some(&[0x17]),
-        Some(&[2, 0, 0, 0, 0, 0, 0, 0, 3, 0, 0, 0, 9, 0, 0, 0, 1, 0, 0, 0]),
-    ];
-    let codes = raw(rt.alloc(), DataType::Dict, 5, numbers)?;
-    let array = coded(
-        rt.alloc(),
-        codes,
-        raw(rt.alloc(), DataType::Utf8, 4, texts)?,
-    )?;
-    let view = array.view();
-    assert_texts(&rt, &view, &[Some("a"), Some("a"), None, None, Some("b")]);
-    assert_eq!(rt; view.null_count(), 1);
+/// Asserts what the codes of a dictionary-encoded view are, and what they are codes of.
+fn assert_coded(
+    rt: &impl Abort,
+    view: &View<'_>,
+    codes: &[Option<i128>],
+    entries: &[Option<&str>],
+) {
     let ViewType::Dict = view.ty() else {
         panic!(rt; "these are no codes");
     };
-    assert_numbers(
-        &rt,
-        &view.codes(),
-        &[Some(2), Some(0), Some(3), None, Some(1)],
-    );
-    assert_texts(
-        &rt,
-        &view.entries(),
-        &[Some("a"), Some("b"), Some("a"), None],
-    );
+    assert_numbers(rt, &view.codes(), codes);
+    assert_texts(rt, &view.entries(), entries);
+}
+
+/// The texts `a`, `b` and `a`, and a null.
+const TEXTS: Positions = &[
+    Some(&[0x07]),
+    Some(&[0, 0, 0, 0, 1, 0, 0, 0, 2, 0, 0, 0, 3, 0, 0, 0, 3, 0, 0, 0]),
+    Some(b"aba"),
+];
+
+const ENTRIES: &[Option<&str>] = &[Some("a"), Some("b"), Some("a"), None];
+
+/// The codes 2, 0, 3, null and 1.
+const CODES: Positions = &[
+    Some(&[0x17]),
+    Some(&[2, 0, 0, 0, 0, 0, 0, 0, 3, 0, 0, 0, 9, 0, 0, 0, 1, 0, 0, 0]),
+];
+
+#[test]
+fn shows_texts_of_a_dictionary(rt: HostRuntime) -> Result<(), Fail> {
+    let array = coded(rt.alloc(), 5, CODES, (4, TEXTS))?;
+    let view = array.view();
+    assert_texts(&rt, &view, &[Some("a"), Some("a"), None, None, Some("b")]);
+    assert_eq!(rt; view.null_count(), 1);
+    let codes = [Some(2), Some(0), Some(3), None, Some(1)];
+    assert_coded(&rt, &view, &codes, ENTRIES);
     assert_eq!(rt; view.len(), 5);
     let part = view.slice(3, 2);
     assert_texts(&rt, &part, &[None, Some("b")]);
-    assert_numbers(&rt, &part.codes(), &[None, Some(1)]);
-    assert_eq!(rt; part.entries().len(), 4);
+    assert_coded(&rt, &part, &[None, Some(1)], ENTRIES);
     Ok(())
 }
 
@@ -172,13 +167,47 @@ fn shows_no_entry_of_a_null_code(rt: HostRuntime) -> Result<(), Fail> {
         Some(&[0, 0, 0, 0, 1, 0, 0, 0, 2, 0, 0, 0]),
         Some(b"xy"),
     ];
-    let numbers: Positions = &[Some(&[0x01]), Some(&[0, 0, 0, 0, 5, 0, 0, 0])];
-    let codes = raw(rt.alloc(), DataType::Dict, 2, numbers)?;
-    let array = coded(
-        rt.alloc(),
-        codes,
-        raw(rt.alloc(), DataType::Utf8, 2, texts)?,
-    )?;
+    let codes: Positions = &[Some(&[0x01]), Some(&[0, 0, 0, 0, 5, 0, 0, 0])];
+    let array = coded(rt.alloc(), 2, codes, (2, texts))?;
     assert_texts(&rt, &array.view(), &[Some("x"), None]);
+    Ok(())
+}
+
+/// Types of which no two are the same.
+fn types(alloc: Global) -> Result<Vec<DataType>, Fail> {
+    let bytes = DataType::List(Box::new(alloc, item(alloc, DataType::Int(INT8))?)?);
+    let words = DataType::List(Box::new(alloc, item(alloc, DataType::Utf8)?)?);
+    let (short, long) = (DataType::Int(INT8), DataType::Int(INT32));
+    let unsigned = DataType::Int(UINT32);
+    let types = [
+        short,
+        long,
+        unsigned,
+        DataType::Bool,
+        DataType::Utf8,
+        bytes,
+        words,
+        DataType::Dict,
+    ];
+    Ok(Vec::from_array(alloc, types)?)
+}
+
+/// Asserts that the type is the same as that at this place, and as no other.
+fn assert_same_alone(rt: &impl Abort, types: &[DataType], place: usize, ty: &DataType) {
+    for (i, other) in types.iter().enumerate() {
+        assert_eq!(rt;
+            ViewType::of(ty).is_same(ViewType::of(other)),
+            i == place,
+            "{ty:?}, {other:?}"
+        );
+    }
+}
+
+#[test]
+fn types_are_the_same_as_themselves_alone(rt: HostRuntime) -> Result<(), Fail> {
+    let types = types(rt.alloc())?;
+    for (i, ty) in types.iter().enumerate() {
+        assert_same_alone(&rt, &types, i, ty);
+    }
     Ok(())
 }

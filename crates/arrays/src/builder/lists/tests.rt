@@ -1,13 +1,13 @@
 use super::ListBuilder;
 use crate::builder::fault::BuildFault;
-use crate::testing::{INT16, assert_numbers, item};
+use crate::testing::{INT16, assert_lists, assert_offsets, item};
 use crate::{Array, DataType};
 use colbits::Buffer;
+use std::alloc::Global;
 use std::test::Fail;
 
-#[test]
-fn builds_lists(rt: HostRuntime) -> Result<(), Fail> {
-    let alloc = rt.alloc();
+/// The lists of 1, null, of nothing, and of 2 and 3.
+fn built(alloc: Global) -> Result<Array, Fail> {
     let mut builder = ListBuilder::with_capacity(alloc, 1)?;
     builder.push(Some(1))?;
     builder.push(None)?;
@@ -15,23 +15,18 @@ fn builds_lists(rt: HostRuntime) -> Result<(), Fail> {
     builder.push(Some(2))?;
     let numbers = Buffer::from_bytes(alloc, &[1, 0, 2, 0, 3, 0])?;
     let child = Array::from_numbers(alloc, INT16, 3, None, numbers)?;
-    let array = builder.finish(item(alloc, DataType::Int(INT16))?, child)?;
+    Ok(builder.finish(item(alloc, DataType::Int(INT16))?, child)?)
+}
+
+#[test]
+fn builds_lists(rt: HostRuntime) -> Result<(), Fail> {
+    let array = built(rt.alloc())?;
     let view = array.view();
-    assert_eq!(rt; view.len(), 4);
     assert_eq!(rt; view.null_count(), 1);
-    assert_eq!(rt;
-        view.lists().offsets,
-        [0, 0, 0, 0, 1, 0, 0, 0, 1, 0, 0, 0, 1, 0, 0, 0, 3, 0, 0, 0].as_slice()
-    );
-    let Some(first) = view.list_at(0) else {
-        panic!(rt; "there is a list");
-    };
-    assert_numbers(&rt, &first, &[Some(1)]);
-    assert!(rt; view.list_at(1).is_none());
-    let Some(last) = view.list_at(3) else {
-        panic!(rt; "there is a list");
-    };
-    assert_numbers(&rt, &last, &[Some(2), Some(3)]);
+    let offsets = [0, 0, 0, 0, 1, 0, 0, 0, 1, 0, 0, 0, 1, 0, 0, 0, 3, 0, 0, 0];
+    assert_offsets(&rt, &view, &offsets);
+    let (first, last) = ([Some(1)], [Some(2), Some(3)]);
+    assert_lists(&rt, &view, &[Some(&first), None, Some(&[]), Some(&last)]);
     Ok(())
 }
 
