@@ -64,7 +64,7 @@ fn add_all(alloc: Global, view: &View<'_>, pool: &mut TextPool) -> Result<Array,
             Some(text) => Some(pool.add(text)? as i128),
             None => None,
         };
-        codes.push(code)?;
+        codes.push_as::<i32>(code)?;
     }
     Ok(codes.finish()?)
 }

@@ -26,8 +26,8 @@ pub returns-in_err-add-in-Some-clause-begins : goal.returns-in_err-add-in-Some-c
 returns-in_err-add-in-Some-clause-begins c =
     starts_take c.args.pool.now (texts_of (take c.loop-i.i c.args.view.now.items)) c.add.new.self c.tell_bounds.ensures.once (c.in_err-add-in-Some.ensures.err ∙ c.loop-i.invariant.pool_is)
 
-pub returns-in_err-push-clause-longer : goal.returns-in_err-push-clause-longer
-returns-in_err-push-clause-longer c =
+pub returns-in_err-push_as-clause-longer : goal.returns-in_err-push_as-clause-longer
+returns-in_err-push_as-clause-longer c =
     let old = c.args.pool.now in
     let items = c.args.view.now.items in
     let i = c.loop-i.i in
@@ -38,8 +38,8 @@ returns-in_err-push-clause-longer c =
       | in-None w ↦ longer (w.pool-is ∙ pool-null old items i c.loop-i.pool w.in-None.ensures c.loop-i.invariant.pool_is)
     ]
 
-pub returns-in_err-push-clause-begins : goal.returns-in_err-push-clause-begins
-returns-in_err-push-clause-begins c =
+pub returns-in_err-push_as-clause-begins : goal.returns-in_err-push_as-clause-begins
+returns-in_err-push_as-clause-begins c =
     let old = c.args.pool.now in
     let items = c.args.view.now.items in
     let i = c.loop-i.i in
@@ -60,14 +60,14 @@ loop-i-preserved c =
           let code = w.in_ok-add-in-Some.field-0 in
           let small : code < 2147483647 = w.in_ok-add-in-Some.ensures.small in
           let number : c.match-text_at.code ≡ Some (pos code) = w.code-is ∙ ap (λ z. Some z) (to_z_small code small) in
-          Recoded-text old items i w.in-Some.text.now w.in_ok-add-in-Some.field-0 c.loop-i.pool c.match-text_at.pool c.loop-i.codes c.push.new.self c.loop-i.invariant
+          Recoded-text old items i w.in-Some.text.now w.in_ok-add-in-Some.field-0 c.loop-i.pool c.match-text_at.pool c.loop-i.codes c.push_as.new.self c.loop-i.invariant
           w.in-Some.ensures (w.pool-is ∙ w.in_ok-add-in-Some.ensures.texts)
-          (ap (λ l. place_of l w.in-Some.text.now) w.pool-is ∙ w.in_ok-add-in-Some.ensures.place) c.in_ok-push.ensures.kept
-          (c.in_ok-push.ensures.ok ∙ ap (λ o. c.loop-i.codes.items ++ item_of o ∷ []) number))
+          (ap (λ l. place_of l w.in-Some.text.now) w.pool-is ∙ w.in_ok-add-in-Some.ensures.place) c.in_ok-push_as.ensures.kept
+          (c.in_ok-push_as.ensures.ok ∙ ap (λ o. c.loop-i.codes.items ++ item_of o ∷ []) number))
       | in-None w ↦ (
-          subst (λ p. Recoded old items (i + 1) p c.push.new.self) (sym w.pool-is)
-          (Recoded-null old items i c.loop-i.pool c.loop-i.codes c.push.new.self c.loop-i.invariant w.in-None.ensures c.in_ok-push.ensures.kept
-          (c.in_ok-push.ensures.ok ∙ ap (λ o. c.loop-i.codes.items ++ item_of o ∷ []) w.code-is)))
+          subst (λ p. Recoded old items (i + 1) p c.push_as.new.self) (sym w.pool-is)
+          (Recoded-null old items i c.loop-i.pool c.loop-i.codes c.push_as.new.self c.loop-i.invariant w.in-None.ensures c.in_ok-push_as.ensures.kept
+          (c.in_ok-push_as.ensures.ok ∙ ap (λ o. c.loop-i.codes.items ++ item_of o ∷ []) w.code-is)))
     ]
 
 pub returns-in_err-finish-clause-longer : goal.returns-in_err-finish-clause-longer
