@@ -17,7 +17,8 @@ use Rattle.arrays.specs.Kind.{Kind, int, boolean, utf8, list, dict, bytes_of, sa
 use Rattle.arrays.specs.Seen.{Seen}
 use Rattle.arrays.specs.Shape as shape
 use Rattle.arrays.specs.Shape.{FieldShape, field, kind_of_field}
-use Rattle.arrowtab.specs.Cause.{IsItemOf, IsRowOf, IsTableOf, cause, null_cause, is_table_full, is_book_full, first, when}
+use Rattle.arrays.specs.Typed.{IsItemOf}
+use Rattle.arrowtab.specs.Cause.{IsRowOf, IsTableOf, cause, null_cause, is_table_full, is_book_full, first, when}
 use Rattle.arrow_json.specs.Integers.{AreIntegers, is_integer}
 use Rattle.arrowtab.specs.Columns.{HasColumns, AreIntegerColumns, AreTyped}
 use Rattle.arrowtab.specs.History.{Table, History, rows}

@@ -1,66 +1,21 @@
 -- A column of integers by its parts.
-use Rattle.std.proofs.Common.{◌≡◌, ◌∙◌, ℕ, ◌+◌, ◌*◌, ◌^◌, ◌<◌, pos, List, length, Bool, true, false, not, cond, Option, None, get_or, position, All, sym, refl, subst, arith}
-use mir.Val.{bits}
-use Rattle.std.proofs.Math.Facts.{sfits_to_z}
-use Rattle.std.proofs.lemmas.Int.{ints}
+use Rattle.std.proofs.Common.{◌≡◌, ◌∙◌, ℕ, ◌<◌, List, length, Bool, true, false, not, cond, Option, None, get_or, position, All, refl}
 use Rattle.std.proofs.lemmas.List.Elements.{All-map}
 use Rattle.std.specs.List.{range_with_len}
-use Rattle.std.specs.Int.{from_le_bytes, cast_signed}
-use Rattle.colbits.specs.Slice.{slice}
-use Rattle.arrays.specs.declared.types.Width.{Width}
-use Rattle.arrays.specs.declared.types.Width.TheVariants.{W8, W16, W32, W64}
 use Rattle.arrays.specs.declared.types.IntType.{IntType}
 use Rattle.arrays.specs.Kind as kind
-use Rattle.arrays.specs.Kind.{bits_of, bytes_of}
 use Rattle.arrays.specs.Item.{null, int, is_null}
 use Rattle.arrays.specs.Layout.{number_at}
-use Rattle.arrays.specs.Number.{IsOfType}
 use Rattle.arrays.specs.Seen.{Seen, valid_in}
 use Rattle.arrays.specs.Values.{HasNumbers}
 use Rattle.arrays.specs.Fault.{least_row}
-use Rattle.arrays.proofs.ByteLemmas.{get_or-slice}
 use Rattle.arrays.proofs.SchemaLemmas.{position-map}
+use Rattle.arrays.proofs.TypedLemmas.{number_at-of_type}
 use Rattle.arrays.proofs.RowLemmas.{least_none}
-use Rattle.arrowtab.specs.Cause.{IsItemOf}
+use Rattle.arrays.specs.Typed.{IsItemOf}
 use Rattle.arrowtab.specs.IntColumn.{slot, slots}
 
 -- ---- numbers are of their type
-
-from_le_bytes-small : (w : Width) (bytes : List ℕ) → ((i : ℕ) → i < bytes_of w → get_or bytes i 0 < 256) → from_le_bytes (bits_of w) bytes < 2 ^ bits (bits_of w)
-from_le_bytes-small W8 bytes h =
-    let b0 = h 0 (omega arith) in
-    omega arith
-from_le_bytes-small W16 bytes h =
-    let b0 = h 0 (omega arith) in
-    let b1 = h 1 (omega arith) in
-    omega arith
-from_le_bytes-small W32 bytes h =
-    let b0 = h 0 (omega arith) in
-    let b1 = h 1 (omega arith) in
-    let b2 = h 2 (omega arith) in
-    let b3 = h 3 (omega arith) in
-    omega arith
-from_le_bytes-small W64 bytes h =
-    let b0 = h 0 (omega arith) in
-    let b1 = h 1 (omega arith) in
-    let b2 = h 2 (omega arith) in
-    let b3 = h 3 (omega arith) in
-    let b4 = h 4 (omega arith) in
-    let b5 = h 5 (omega arith) in
-    let b6 = h 6 (omega arith) in
-    let b7 = h 7 (omega arith) in
-    omega arith
-
-of_type : (w : Width) (signed : Bool) (n : ℕ) → n < 2 ^ bits (bits_of w)
-    → IsOfType (record { bits = w; signed = signed }) (cond signed (cast_signed (bits_of w) n) (pos n))
-of_type w true n h = sfits_to_z (record { fits = h })
-of_type w false n h = (omega (arith, ints), omega (arith, ints))
-
-number_at-of_type : (t : IntType) (bytes : List ℕ) (j : ℕ) → ((i : ℕ) → get_or bytes i 0 < 256) → IsOfType t (number_at t bytes j)
-unfolding number_at
-number_at-of_type t bytes j small =
-    of_type t.bits t.signed _ (from_le_bytes-small t.bits (slice bytes (j * bytes_of t.bits) (bytes_of t.bits))
-    (λ i below. subst (λ n. n < 256) (sym (get_or-slice bytes (j * bytes_of t.bits) (bytes_of t.bits) i below)) (small (j * bytes_of t.bits + i))))
 
 slot-typed : (t : IntType) (bytes : List ℕ) (validity : Option (List Bool)) → ((i : ℕ) → get_or bytes i 0 < 256) → (j : ℕ) → IsItemOf (kind.int t) (slot t bytes validity j)
 slot-typed t bytes validity small j =

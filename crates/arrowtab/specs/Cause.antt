@@ -1,11 +1,9 @@
 -- What a table refuses, and the histories of those that refused nothing.
-use Rattle.std.specs.Prelude.{◌≡◌, ◌∷◌, ◌++◌, ℕ, ◌+◌, ◌-◌, ◌^◌, ◌==◌, nat_lt, List, [], length, map, Bool, Option, Some, None, option_map, position, All, if◌then◌else◌, ⊤}
+use Rattle.std.specs.Prelude.{◌≡◌, ◌∷◌, ◌++◌, ℕ, ◌+◌, ◌-◌, ◌^◌, ◌==◌, nat_lt, List, [], length, map, Bool, Option, Some, None, option_map, position, All, if◌then◌else◌}
 use Rattle.std.specs.List.{enumerate_from, AllZip}
-use Rattle.arrays.specs.Item.{Item, Items, null, int, boolean, text, list, none, more, is_null}
-use Rattle.arrays.specs.Kind as kind
-use Rattle.arrays.specs.Kind.{Kind}
-use Rattle.arrays.specs.Number.{IsOfType}
+use Rattle.arrays.specs.Item.{Item, is_null}
 use Rattle.arrays.specs.Shape.{FieldShape, is_nullable, kind_of_field}
+use Rattle.arrays.specs.Typed.{IsItemOf}
 use Rattle.arrowtab.specs.History.{Row, Table, column, History, rows}
 use Rattle.arrowtab.specs.declared.refusal.Refusal.{Refusal}
 use Rattle.arrowtab.specs.declared.refusal.Refusal.TheVariants.{NullInNonNullable, TableFull, BookFull}
@@ -50,21 +48,6 @@ cause schema h t = first (
     ∷ [])
 
 -- ---- legal histories
-
--- The item is null or of the kind: a number in the type's range, a truth value, a text, or a list of such items.
-abbrev mutual
-  pub IsItemOf : Kind → Item → Type 0
-  IsItemOf k null = ⊤
-  IsItemOf (kind.int t) (int z) = IsOfType t z
-  IsItemOf kind.boolean (boolean b) = ⊤
-  IsItemOf kind.utf8 (text bytes) = ⊤
-  IsItemOf kind.dict (text bytes) = ⊤
-  IsItemOf (kind.list k) (list xs) = AreItemsOf k xs
-  IsItemOf k x = ⊥
-
-  pub AreItemsOf : Kind → Items → Type 0
-  AreItemsOf k none = ⊤
-  AreItemsOf k (more x xs) = IsItemOf k x × AreItemsOf k xs
 
 -- The row has one item a field, of the field's kind. ("RecordBatch")
 abbrev pub IsRowOf : List FieldShape → Row → Type 0

@@ -2,7 +2,7 @@
 use Rattle.std.specs.Prelude.{◌≡◌, ℕ, ◌<◌, List, length, slice_index_or, true, All}
 use Rattle.arrays.specs.Seen.{Seen}
 use Rattle.arrow_json.specs.Integers.{is_integer}
-use Rattle.arrowtab.specs.Cause.{IsItemOf}
+use Rattle.arrays.specs.Typed.{IsItemOf}
 use Rattle.arrowtab.specs.History.{Table, column}
 
 -- The columns are those of the table.

@@ -6,7 +6,7 @@ use Rattle.arrays.specs.Kind as kind
 use Rattle.arrays.specs.Layout.{number_at}
 use Rattle.arrays.specs.Item.{Item, null, int}
 use Rattle.arrays.specs.Seen.{Seen, valid_in}
-use Rattle.arrowtab.specs.Cause.{IsItemOf}
+use Rattle.arrays.specs.Typed.{IsItemOf}
 use Rattle.arrowtab.specs.declared.column.IntColumn.{IntColumn}
 
 -- Slot j of little-endian numbers, null where it isn't valid.

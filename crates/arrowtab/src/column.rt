@@ -22,7 +22,7 @@ pub(crate) struct IntColumn<'a> {
 impl<'a> IntColumn<'a> {
     ghost use Rattle.arrowtab.specs.IntColumn.{IsOf, items_of, slots};
     ghost use Rattle.std.specs.Prelude.{All};
-    ghost use Rattle.arrowtab.specs.Cause.{IsItemOf};
+    ghost use Rattle.arrays.specs.Typed.{IsItemOf};
 
     /// The parts of a view of integers.
     pub(crate) fn of(view: &View<'a>, ty: IntType) -> IntColumn<'a>

@@ -2,7 +2,8 @@
 ghost use Rattle.std.specs.Prelude.{◌≡◌, ◌<◌, length, true, IfNone, All};
 ghost use Rattle.arrays.specs.Shape.{field_of, fields_of, is_nullable};
 ghost use Rattle.arrays.specs.declared.types.Field.{out-Field};
-ghost use Rattle.arrowtab.specs.Cause.{IsItemOf, null_cause, null_row};
+ghost use Rattle.arrays.specs.Typed.{IsItemOf};
+ghost use Rattle.arrowtab.specs.Cause.{null_cause, null_row};
 ghost use Rattle.arrow_json.specs.Integers.{is_integer};
 ghost use Rattle.arrowtab.specs.Columns.{AreIntegerColumns, AreTyped, HasColumns};
 ghost use Rattle.arrowtab.specs.IntColumn.{IsOf};

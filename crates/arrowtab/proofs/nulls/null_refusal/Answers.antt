@@ -2,7 +2,7 @@ use Rattle.std.proofs.Common.{◌≡◌, ◌∙◌, ℕ, ◌<◌, All, length, g
 use Rattle.std.proofs.lemmas.List.{get_or-map, length-map, get_or_default}
 use Rattle.arrays.specs.Seen.{Seen}
 use Rattle.arrays.specs.Shape.{field_of, fields_of}
-use Rattle.arrowtab.specs.Cause.{IsItemOf}
+use Rattle.arrays.specs.Typed.{IsItemOf}
 use Rattle.arrowtab.proofs.NullLemmas.{null_cause-from, refused_from-none, refused_from-some, refused_from-end, refused_from}
 use Rattle.arrowtab.proofs.nulls.null_refusal.Goals as goal
 

@@ -3,7 +3,8 @@ use Rattle.std.specs.List.{enumerate_from}
 use Rattle.arrays.specs.Seen.{Seen}
 use Rattle.arrays.specs.Shape.{fields_of}
 use Rattle.arrowtab.specs.History.{Table}
-use Rattle.arrowtab.specs.Cause.{IsItemOf, null_cause, null_in, first}
+use Rattle.arrays.specs.Typed.{IsItemOf}
+use Rattle.arrowtab.specs.Cause.{null_cause, null_in, first}
 use Rattle.arrowtab.specs.Columns.{HasColumns}
 use Rattle.arrowtab.proofs.nulls.null_refusal.Given as goal
 

@@ -1,7 +1,7 @@
 use Rattle.std.proofs.Common.{◌≡◌, ◌∙◌, All, List, length, ap, sym, subst}
 use Rattle.arrays.specs.Kind.{Kind, int}
 use Rattle.arrays.specs.Item.{Item}
-use Rattle.arrowtab.specs.Cause.{IsItemOf}
+use Rattle.arrays.specs.Typed.{IsItemOf}
 use Rattle.arrowtab.specs.IntColumn.{items_of, slots}
 use Rattle.arrowtab.proofs.ColumnLemmas.{items-slots}
 use Rattle.arrowtab.proofs.column.IntColumn.of.Goals as goal
