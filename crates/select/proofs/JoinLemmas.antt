@@ -17,8 +17,8 @@ use Rattle.arrays.specs.Shown.{shown}
 use Rattle.arrays.proofs.ChildLemmas.{same_kinds}
 use Rattle.select.specs.Big.{is_too_big}
 use Rattle.select.specs.Children.{AreChildren, IsChild, IsInner, IsList}
-use Rattle.select.specs.Fault.{IsFull, Told}
-use Rattle.select.specs.Joined.{concat_fault, is_content_too_big, is_joined_too_big, joined, joined_items, kind_of_first}
+use Rattle.select.specs.Fault.{IsFull}
+use Rattle.select.specs.Joined.{concat_fault, is_content_too_big, joined, joined_items, kind_of_first}
 use Rattle.select.specs.declared.fault.SelectFault.{SelectFault}
 use Rattle.select.specs.declared.fault.SelectFault.TheVariants.{TypesDiffer}
 use Rattle.select.proofs.BigLemmas.{past-more}

@@ -1,6 +1,6 @@
 -- Lists of which rows of the child are picked.
-use Rattle.std.proofs.Common.{◌≡◌, ◌∙◌, ℕ, zero, suc, ◌+◌, ◌-◌, ◌<◌, ◌≤◌, ◌||◌, ◌⊎◌, inl, inr, List, [], ◌∷◌, ◌++◌, length, take, drop, map, Bool, true, false, cond, Option, None, Some, option_map, Result, Ok, Err, IfErr, IsErrAnd, ap, sym, refl, arith, subst, get_or, append-nil, zero-add, length-append}
-use Rattle.std.specs.Prelude.{slice_get, All, flat_map, sum_by, unwrap_or}
+use Rattle.std.proofs.Common.{◌≡◌, ◌∙◌, ℕ, zero, suc, ◌+◌, ◌-◌, ◌<◌, ◌≤◌, ◌||◌, inl, inr, List, [], ◌∷◌, ◌++◌, length, take, drop, map, Bool, true, false, cond, Option, None, Some, option_map, Result, Ok, Err, IfErr, IsErrAnd, ap, sym, refl, arith, subst, get_or, append-nil, zero-add, length-append}
+use Rattle.std.specs.Prelude.{slice_get, All, unwrap_or}
 use Rattle.std.specs.List.{range_with_len}
 use Rattle.std.proofs.lemmas.List.{map-append, take_all, take_more, take-map, length-map, get_or-drop, length-drop}
 use Rattle.std.proofs.lemmas.List.Concat.{length-flat_map}
@@ -12,7 +12,7 @@ use Rattle.std.proofs.lemmas.Option.{get_or_from_slice_get}
 use Rattle.colbits.specs.Slice.{slice}
 use Rattle.arrays.specs.Item.{Item, Items, null, int, boolean, text, list, list_of, items_of}
 use Rattle.arrays.specs.Lengths.{cut, inner_items, is_past, items_in, list_length, total}
-use Rattle.arrays.specs.Offsets.{AreOffsets, length_of, of_slot, start_of}
+use Rattle.arrays.specs.Offsets.{of_slot, start_of}
 use Rattle.arrays.specs.Seen.{Seen, valid_in}
 use Rattle.arrays.specs.Values.{HasLists}
 use Rattle.arrays.proofs.OffsetParts.{ends_within}

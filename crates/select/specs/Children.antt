@@ -1,5 +1,5 @@
 -- The rows of the children that lists hold.
-use Rattle.std.specs.Prelude.{◌≡◌, ℕ, ◌<◌, ◌≤◌, List, length, false}
+use Rattle.std.specs.Prelude.{◌≡◌, ◌<◌, ◌≤◌, List, length, false}
 use Rattle.std.specs.List.{All}
 use Rattle.arrays.specs.Item.{Item, null, list}
 use Rattle.arrays.specs.Kind as kind

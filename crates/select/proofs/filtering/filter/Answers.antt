@@ -1,6 +1,5 @@
 use Rattle.std.proofs.Common.{◌≡◌, ◌∙◌, inl, inr, length, ap, arith, sym}
-use Rattle.std.proofs.lemmas.Result.{IfErr-weaker, IfOk-weaker}
-use Rattle.arrays.specs.Kind as kind
+use Rattle.std.proofs.lemmas.Result.{IfErr-weaker}
 use Rattle.select.specs.Big.{is_too_big}
 use Rattle.select.proofs.ChosenLemmas.{chosen-kept}
 use Rattle.select.proofs.SelectionLemmas.{filter_fault-none}

@@ -1,5 +1,4 @@
-use Rattle.std.proofs.Common.{rules, arith, ◌≡◌, ◌∙◌, true, false, ◌&&◌, ◌+◌, Some, ◌<◌, length, ap, sym, subst}
-use Rattle.arrays.specs.Seen.{valid_in}
+use Rattle.std.proofs.Common.{arith, ◌≡◌, ◌∙◌, true, false, ◌+◌, ◌<◌, length, sym, subst}
 use Rattle.select.specs.Selection.{is_true}
 use Rattle.select.proofs.SelectionLemmas.{Filtered, Filtered-false, Filtered-true, is_true-bit}
 use Rattle.select.proofs.filtering.trues_of.Goals as goal

@@ -1,4 +1,4 @@
-use Rattle.std.proofs.Common.{rules, ◌≡◌, ◌∙◌, List, true, ap, subst, sym, length, map, All}
+use Rattle.std.proofs.Common.{◌≡◌, ◌∙◌, List, true, ap, subst, sym, length, map, All}
 use Rattle.std.specs.Arc.{arc_value}
 use Rattle.arrays.specs.Dictionary.{entries_shown, is_code}
 use Rattle.arrays.specs.Item.{Item}
@@ -6,7 +6,7 @@ use Rattle.arrays.specs.Kind as kind
 use Rattle.arrays.specs.Kind.{Kind, int32, kind_of}
 use Rattle.arrays.specs.Lengths.{cut, inner_items, list_length, total}
 use Rattle.arrays.specs.Seen.{Entries, Seen}
-use Rattle.arrays.specs.Shape.{FieldShape, field_of, kind_of_field}
+use Rattle.arrays.specs.Shape.{field_of, kind_of_field}
 use Rattle.arrays.specs.Shown.{shown}
 use Rattle.arrays.proofs.ShapeLemmas.{kind_of_field-field_of}
 use Rattle.select.specs.Chosen.{chosen}

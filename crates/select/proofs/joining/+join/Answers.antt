@@ -1,11 +1,9 @@
-use Rattle.std.proofs.Common.{◌≡◌, ◌∙◌, ◌<◌, List, ap, length, subst, sym}
-use Rattle.arrays.specs.Item.{Item}
+use Rattle.std.proofs.Common.{◌∙◌, ◌<◌, ap, length, subst, sym}
 use Rattle.arrays.specs.Kind as kind
 use Rattle.arrays.specs.Kind.{depth, kind_of, same_kind}
-use Rattle.arrays.specs.Lengths.{inner_items, total}
+use Rattle.arrays.specs.Lengths.{total}
 use Rattle.arrays.specs.Seen.{Seen}
-use Rattle.arrays.specs.Shape.{field_of, kind_of_field}
-use Rattle.arrays.specs.Shown.{shown}
+use Rattle.arrays.specs.Shape.{kind_of_field}
 use Rattle.arrays.specs.ViewType.{view_kind}
 use Rattle.arrays.specs.declared.types.Field.{out-Field}
 use Rattle.arrays.proofs.ShapeLemmas.{kind_of_field-field_of}

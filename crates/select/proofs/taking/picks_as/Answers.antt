@@ -1,4 +1,4 @@
-use Rattle.std.proofs.Common.{◌≡◌, ◌∙◌, ◌<◌, Some, IfErr, ap, inl, length, option_map, subst, sym, arith}
+use Rattle.std.proofs.Common.{◌<◌, ap, inl, length, option_map, arith}
 use Rattle.arrays.specs.Builder.{item_of}
 use Rattle.select.specs.declared.fault.SelectFault.TheVariants.{IndexOutOfRange}
 use Rattle.select.proofs.PickLemmas.{stored-row}

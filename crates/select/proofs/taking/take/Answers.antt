@@ -1,4 +1,4 @@
-use Rattle.std.proofs.Common.{◌≡◌, ◌∙◌, inl, inr, option_map, ap, sym}
+use Rattle.std.proofs.Common.{◌∙◌, inl, inr, option_map, ap, sym}
 use Rattle.std.proofs.lemmas.Result.{IfErr-weaker, IfOk-weaker}
 use Rattle.select.specs.Big.{is_too_big}
 use Rattle.select.specs.Selection.{outside}

@@ -1,7 +1,4 @@
-use Rattle.std.proofs.Common.{◌∙◌, ap}
-use Rattle.arrays.specs.Kind as kind
-use Rattle.arrays.specs.Shown.{shown}
-use Rattle.select.proofs.PickLemmas.{picked-all, pushed}
+use Rattle.select.proofs.PickLemmas.{pushed}
 use Rattle.select.proofs.gather.bools.gather.Goals as goal
 
 pub loop-j-preserved : goal.loop-j-preserved

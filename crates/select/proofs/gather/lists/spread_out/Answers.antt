@@ -1,6 +1,3 @@
-use Rattle.std.proofs.Common.{◌∙◌, ap, subst, sym, length}
-use Rattle.select.specs.Picked.{IsPick}
-use Rattle.select.proofs.PickLemmas.{all-at}
 use Rattle.select.proofs.ListLemmas.{Spreading-more, full_of_all, past-spread}
 use Rattle.select.proofs.gather.lists.spread_out.Goals as goal
 

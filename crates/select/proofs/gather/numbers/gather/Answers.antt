@@ -1,6 +1,6 @@
 use Rattle.std.proofs.Common.{◌∙◌, ap, subst, sym}
 use Rattle.select.specs.Picked.{IsPick}
-use Rattle.select.proofs.PickLemmas.{all-at, item_of-stored, picked-all, pushed}
+use Rattle.select.proofs.PickLemmas.{all-at, item_of-stored, pushed}
 use Rattle.select.proofs.gather.numbers.gather.Goals as goal
 
 pub loop-j-preserved : goal.loop-j-preserved

@@ -1,13 +1,8 @@
-use Rattle.std.proofs.Common.{◌≡◌, ◌∙◌, ◌<◌, Some, ap, arith, length, subst, sym, true}
-use Rattle.std.specs.Prelude.{slice_get}
-use Rattle.std.specs.Option.{ForSome}
-use Rattle.std.proofs.lemmas.Option.{get_or_from_slice_get, slice_get_within}
+use Rattle.std.proofs.Common.{◌≡◌, ◌∙◌, ◌<◌, arith, length, subst, sym, true}
 use Rattle.arrays.specs.Builder.{item_of}
 use Rattle.arrays.specs.Dictionary.{is_code}
-use Rattle.arrays.specs.Item.{null}
 use Rattle.arrays.specs.Kind.{int32}
 use Rattle.arrays.specs.Number.{IsOfType}
-use Rattle.arrays.specs.Seen.{Seen}
 use Rattle.select.specs.Joined.{shifted}
 use Rattle.select.proofs.JoinLemmas.{added-more}
 use Rattle.select.proofs.JoinedCodes.{code-at, encoded-is, shifted-fits}

@@ -4,7 +4,7 @@ use Rattle.arrays.specs.Kind.{kind_of}
 use Rattle.arrays.specs.declared.types.Field.{out-Field}
 use Rattle.select.specs.Big.{is_too_big}
 use Rattle.select.proofs.ChosenLemmas.{list-injective}
-use Rattle.select.proofs.JoinLemmas.{AreChildren-all, AreChildren-more, kind-here, too_big-of_all}
+use Rattle.select.proofs.JoinLemmas.{AreChildren-more, kind-here, too_big-of_all}
 use Rattle.select.proofs.ListLemmas.{full_of_all}
 use Rattle.select.proofs.joining.lists.children.Goals as goal
 

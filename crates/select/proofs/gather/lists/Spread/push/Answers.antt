@@ -1,7 +1,3 @@
-use Rattle.std.proofs.Common.{◌≡◌, ◌∙◌, ◌+◌, ◌||◌, true, ap, sym, length, map}
-use Rattle.std.proofs.lemmas.List.FromFn.{length-map-range_with_len}
-use Rattle.arrays.specs.Lengths.{is_past}
-use Rattle.select.specs.Ranges.{rows_of}
 use Rattle.select.proofs.ListLemmas.{full_of_all, past-left}
 use Rattle.select.proofs.gather.lists.Spread.push.Goals as goal
 
