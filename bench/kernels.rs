@@ -207,6 +207,20 @@ fn take_texts(a: &Texts, rows: &[u32]) -> Result<Texts, usize> {
     Ok(Texts { validity, offsets, bytes })
 }
 
+/// The columns behind one another.
+fn concat(pieces: &[Numbers]) -> Numbers {
+    let rows: usize = pieces.iter().map(|piece| piece.values.len()).sum();
+    let mut validity = Bitmap(vec![0; rows.div_ceil(8)]);
+    let mut values = Vec::with_capacity(rows);
+    for piece in pieces {
+        for i in 0..piece.values.len() {
+            validity.set(values.len() + i, piece.validity.get(i));
+        }
+        values.extend_from_slice(&piece.values);
+    }
+    Numbers { validity, values }
+}
+
 /// The places of the texts in a pool of their own, or the row whose text the pool can't have.
 fn recode(a: &Texts) -> Result<ShortNumbers, usize> {
     let rows = a.offsets.len() - 1;
@@ -296,6 +310,10 @@ fn main() {
         "take-texts" => {
             let (a, b) = (texts(rows, 3), places(rows));
             last_of(times, || take_texts(black_box(&a), black_box(&b)).unwrap()).validity.zeros(rows)
+        }
+        "concat" => {
+            let pieces: Vec<Numbers> = (0..16).map(|salt| numbers(rows / 16, salt)).collect();
+            last_of(times, || concat(black_box(&pieces))).validity.zeros(rows / 16 * 16)
         }
         "recode-few" | "recode-many" => {
             let a = repeated_texts(rows, 3, if words[1] == "recode-few" { 1_000 } else { 200_000 });

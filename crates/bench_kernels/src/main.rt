@@ -1,12 +1,15 @@
 //! `bench_kernels KERNEL ROWS TIMES` makes two columns of so many rows, runs a kernel on them so many times, and
 //! prints how many slots of the last result are null. KERNEL is `add`, `less`, `equal` (of texts), `and`, `filter`, `take`,
-//! `take-texts`, `recode-few` or `recode-many`. `bench_kernels stats-of ROWS TIMES` prints the statistics of one column.
+//! `take-texts`, `recode-few` or `recode-many`. `bench_kernels concat ROWS TIMES` puts
+//! sixteen columns of so many rows together behind one another, and `bench_kernels stats-of ROWS TIMES` prints the
+//! statistics of one column.
 //!
 //! Without arguments it runs each kernel once, on few rows.
 #![tactic(auto)]
 
 mod columns;
 mod kernel;
+mod pieces;
 mod statistics;
 
 use group::Scalar;
@@ -42,12 +45,13 @@ fn main(rt: HostRuntime) -> ExitCode {
     let (Some(rows), Some(times)) = (number(words.next()), number(words.next())) else {
         return refused(&rt);
     };
-    if name.as_str() == "stats-of" {
-        return tell_stats(&rt, rows, times);
-    }
-    match Kernel::of_name(name.as_str()) {
-        Some(kernel) => tell(&rt, kernel, rows, times),
-        None => refused(&rt),
+    match name.as_str() {
+        "stats-of" => tell_stats(&rt, rows, times),
+        "concat" => tell(&rt, pieces::nulls_after(rt.alloc(), rows, times)),
+        name => match Kernel::of_name(name) {
+            Some(kernel) => tell(&rt, kernel.nulls_after(rt.alloc(), rows, times)),
+            None => refused(&rt),
+        },
     }
 }
 
@@ -59,16 +63,19 @@ fn number(word: Option<String>) -> Option<u32> {
 // Runs each kernel once.
 fn try_each(rt: &HostRuntime) -> ExitCode {
     for kernel in EACH {
-        if tell(rt, kernel, FEW, 1) != ExitCode::SUCCESS {
+        if tell(rt, kernel.nulls_after(rt.alloc(), FEW, 1)) != ExitCode::SUCCESS {
             return ExitCode::FAILURE;
         }
+    }
+    if tell(rt, pieces::nulls_after(rt.alloc(), FEW, 1)) != ExitCode::SUCCESS {
+        return ExitCode::FAILURE;
     }
     tell_stats(rt, FEW, 1)
 }
 
-// Runs one kernel and prints how many nulls the result has.
-fn tell(rt: &HostRuntime, kernel: Kernel, rows: u32, times: u32) -> ExitCode {
-    let Some(nulls) = kernel.nulls_after(rt.alloc(), rows, times) else {
+// Prints how many nulls the result has, if there is one.
+fn tell(rt: &HostRuntime, nulls: Option<usize>) -> ExitCode {
+    let Some(nulls) = nulls else {
         let _ = eprintln!(rt; "bench_kernels: no memory");
         return ExitCode::FAILURE;
     };
