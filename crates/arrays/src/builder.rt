@@ -84,6 +84,7 @@ impl IntBuilder {
     }
 
     /// The same for a type that is known to the compiler, so that no slot is asked for its type.
+    #[inline(always)]
     pub fn push_as<T: Integer>(&mut self, number: Option<i128>) -> Result<(), NoMemory>
         requires ty { T.ty ≡ self.old.ty }
         requires of_type { ForSome number (IsOfType self.old.ty) }
@@ -192,6 +193,7 @@ impl IntBuilder {
         mark(&mut self.values, &mut self.valid, before, valid)
     }
 
+    #[inline(always)]
     fn add_as<T: Integer>(&mut self, number: i128, valid: bool) -> Result<(), NoMemory>
         requires ty { T.ty ≡ self.old.ty }
         requires of_type { IsOfType self.old.ty number }

@@ -49,6 +49,7 @@ impl ValidityBuilder {
     }
 
     /// Adds a slot at the end.
+    #[inline(always)]
     pub fn push(&mut self, valid: bool) -> Result<(), NoMemory>
         requires room { length self.old < 2147483647 }
         ensures ok { OnOk result (self.new ≡ self.old ++ valid ∷ []) }
