@@ -43,8 +43,9 @@ impl<'a> View<'a> {
         Some(bits.get(i))
     }
 
-    /// Text `i` of a view of texts that lie in it, none where the slot is null.
-    fn utf8_at(&self, i: usize) -> Option<&'a str>
+    /// Text `i` of a view of texts without a dictionary, none where the slot is null. The view isn't asked for its
+    /// type, as `text_at` asks it.
+    pub fn utf8_at(&self, i: usize) -> Option<&'a str>
         requires utf8 { self.now.kind ≡ kind.utf8 }
         requires within { i < length self.now.items }
         ensures { slice_get self.now.items i ≡ Some (item_of_text (option_copied result)) }

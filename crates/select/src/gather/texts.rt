@@ -36,7 +36,7 @@ fn text_at<'a>(view: &View<'a>, pick: Option<usize>) -> Option<&'a str>
     ensures { item_of_text (option_copied result) ≡ picked_at view.now.items pick }
 {
     match pick {
-        Some(i) => view.text_at(i),
+        Some(i) => view.utf8_at(i),
         None => None,
     }
 }

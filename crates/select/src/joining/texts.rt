@@ -36,7 +36,7 @@ fn push_all(builder: &mut TextBuilder, view: &View<'_>) -> Result<(), SelectFaul
     ensures err { IfErr result (IsFull (is_past (text_bytes (builder.old ++ view.now.items)))) }
 {
     for i in 0..view.len() {
-        builder.push(view.text_at(i))?;
+        builder.push(view.utf8_at(i))?;
     }
     Ok(())
 }
