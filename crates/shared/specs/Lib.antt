@@ -1,0 +1,10 @@
+pub mod History
+pub mod Contents
+pub mod Stored
+pub mod Cause
+pub mod Columns
+pub mod Recoded
+pub mod Counted
+pub mod Lawful
+pub mod Held
+pub mod Ready

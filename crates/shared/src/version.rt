@@ -1,0 +1,120 @@
+//! What a table holds at a moment.
+
+ghost use Rattle.std.specs.Prelude.{◌≡◌, ◌<◌, ◌≤◌, ◌^◌, All, Some, length, map, option_map, slice_get, slice_index_or, []};
+ghost use Rattle.std.specs.Arc.{arc_value};
+ghost use Rattle.std.specs.List.{enumerate_from};
+ghost use Rattle.arrays.specs.Batch.{rows_of};
+ghost use Rattle.arrays.specs.Shape.{FieldShape, kind_of_field};
+ghost use Rattle.group.specs.Summary.{AreStats};
+ghost use Rattle.shared.specs.Cause.{IsLegal};
+ghost use Rattle.shared.specs.Held.{IsHeld, pair_of, show};
+ghost use Rattle.shared.specs.History.{book, column, rows};
+ghost use Rattle.shared.specs.Lawful.{IsStored, dictionaries_of};
+
+use crate::entry::Entry;
+use crate::held::Held;
+use arrays::{RecordBatch, Schema, Words};
+use group::ColumnStats;
+use std::marker::Model;
+use std::sync::Arc;
+
+/// A table at a moment, to be read.
+///
+/// Clauses see its fields as they are stored, what was added and by whom, and the rows of each batch.
+#[derive(Drop)]
+pub struct Version {
+    held: Held,
+}
+
+impl Model for Version {
+    ghost use Rattle.shared.specs.Contents.{Contents, contents_code};
+
+    ghost Value = { Contents };
+
+    ghost coded = { contents_code };
+
+    ghost use Rattle.shared.specs.Held.{IsHeld, show};
+
+    ghost view = { λ v. show v.held };
+
+    ghost invariant = { λ v. IsHeld v.held };
+}
+
+impl Version {
+    /// The version of what a table holds.
+    pub(crate) fn of(held: Held) -> Version
+        requires { IsHeld held }
+        ensures { result ≡ show held }
+    {
+        Version { held }
+    }
+
+    /// The fields as they are stored.
+    pub fn schema(&self) -> &Schema
+        ensures { result.now ≡ self.now.fields }
+    {
+        &self.held.schema
+    }
+
+    /// How many rows there are.
+    pub fn rows(&self) -> u64
+        ensures count { result ≡ length (rows self.now.history) }
+        ensures few { result ≤ 2 ^ 40 }
+        ensures legal { IsLegal self.now.fields self.now.history }
+    {
+        self.held.rows
+    }
+
+    /// The batches, in the order in which they came.
+    pub fn batches(&self) -> &[Arc<RecordBatch>]
+        ensures value { map (λ b. rows_of (arc_value b)) result.now ≡ self.now.batches }
+        ensures lawful { All (λ b. IsStored self.now.fields (arc_value b)) result.now }
+    {
+        &self.held.batches
+    }
+
+    /// The statistics of column `k` of batch `b`.
+    pub fn batch_stats(&self, b: usize, k: usize) -> &ColumnStats
+        requires batch { b < length self.now.batches }
+        requires column { k < length self.now.fields }
+        ensures { (f : FieldShape) → slice_get self.now.fields k ≡ Some f
+            → AreStats result.now (kind_of_field f) (column (slice_index_or self.now.batches b []) k) }
+    {
+        &self.held.batch_stats[b][k]
+    }
+
+    /// The statistics of column `k`.
+    pub fn stats(&self, k: usize) -> &ColumnStats
+        requires { k < length self.now.fields }
+        ensures { (f : FieldShape) → slice_get self.now.fields k ≡ Some f
+            → AreStats result.now (kind_of_field f) (column (rows self.now.history) k) }
+    {
+        &self.held.stats[k]
+    }
+
+    /// The dictionary of column `k`, none where it isn't one of texts: its distinct texts in order of first appearance.
+    pub fn dictionary(&self, k: usize) -> Option<&Words>
+        requires { k < length self.now.fields }
+        ensures { slice_get (dictionaries_of self.now.fields (rows self.now.history)) k ≡ Some (option_map (λ w. w.now) result) }
+    {
+        match &self.held.dictionaries[k] {
+            Some(words) => Some(words),
+            None => None,
+        }
+    }
+
+    /// How many entries the book has: one for each accepted call.
+    pub fn book_len(&self) -> u32
+        ensures { result ≡ length self.now.history }
+    {
+        self.held.book.len() as u32
+    }
+
+    /// Entry `i` of the book.
+    pub fn book_at(&self, i: u32) -> Entry
+        requires { i < length self.now.history }
+        ensures { slice_get (book self.now.history) i ≡ Some (pair_of result) }
+    {
+        self.held.book[i as usize]
+    }
+}
