@@ -1,26 +1,29 @@
--- Tables made of the columns of batches.
-use Rattle.std.proofs.Common.{◌≡◌, ◌∙◌, ℕ, ◌<◌, ◌≤◌, List, [], ◌∷◌, length, get_or, map, Option, Some, None, Bool, true, false, not, cond, eqb, ap, sym, refl, subst, arith, nat_lt, position, option_map}
-use Rattle.std.specs.List.{range_with_len, zip, position_or_len}
-use Rattle.std.proofs.lemmas.List.Sums.{fails_before_first}
+-- The rows of lawful batches.
+use Rattle.std.proofs.Common.{◌≡◌, ◌∙◌, ℕ, zero, suc, ◌<◌, List, [], ◌∷◌, length, map, Bool, true, false, not, cond, eqb, ◌||◌, Option, None, Some, option_map, position, get_or, ap, sym, refl, arith, true≢false, eq-eqb, nat_lt}
+use Rattle.std.specs.Prelude.{nat_lt}
+use Rattle.std.specs.List.{list_any, range_with_len, zip}
+use Rattle.std.proofs.lemmas.Bool.{eqb-true}
 use Rattle.std.proofs.lemmas.List.{get_or-map}
-use Rattle.std.proofs.lemmas.Bool.{eqb-true, ltb-false}
-use Rattle.std.proofs.lemmas.List.FromFn.{fill_by_all}
-use Rattle.std.proofs.lemmas.Slice.Zip.{get_or-zip, length-zip}
+use Rattle.std.proofs.lemmas.List.FromFn.{fill_by_all, length-map-range_with_len}
 use Rattle.arrays.specs.Batch.{Batch, bad_length, batch_fault, differing_length, differing_type, or_else, row_of, rows_of}
+use Rattle.arrays.specs.declared.batch.BatchFault.TheVariants.{ColumnCount, LengthsDiffer, TypeDiffers}
 use Rattle.arrays.specs.Item.{null}
 use Rattle.arrays.specs.Kind.{same_kind}
 use Rattle.arrays.specs.Seen.{Seen}
 use Rattle.arrays.specs.Shape.{FieldShape, kind_of_field}
-use Rattle.arrays.specs.declared.batch.BatchFault.TheVariants.{ColumnCount, LengthsDiffer, TypeDiffers}
-use Rattle.shared.specs.Columns.{HasColumns}
+use Rattle.pool.proofs.PlaceLemmas.{among_found, among_missing}
 use Rattle.shared.specs.History.{column}
-use Rattle.shared.proofs.HeldLemmas.{map-map}
+use Rattle.std.proofs.lemmas.Simd.{map-map}
+use Rattle.shared.specs.Columns.{HasColumns}
 
-map-same : {A B : Type 0} (f g : A → B) → ((x : A) → f x ≡ g x) → (xs : List A) → map f xs ≡ map g xs
+pub map-same : {A B : Type 0} (f g : A → B) → ((x : A) → f x ≡ g x) → (xs : List A) → map f xs ≡ map g xs
 map-same f g h [] = refl
 map-same f g h (x ∷ xs) = ap (λ y. y ∷ map f xs) (h x) ∙ ap (λ ys. g x ∷ ys) (map-same f g h xs)
 
--- a row's item of a column
+pub length-rows_of : (b : Batch) → length (rows_of b) ≡ b.rows
+length-rows_of b = length-map-range_with_len (row_of b.columns) 0 b.rows
+
+-- A row's item of a column.
 row-item : (columns : List Seen) (i k : ℕ) (d : Seen) → k < length columns → get_or (row_of columns i) k null ≡ get_or (get_or columns k d).items i null
 row-item columns i k d below = get_or-map (λ (c : Seen). get_or c.items i null) columns k d null below
 
@@ -31,62 +34,72 @@ column-rows_of b k d below size =
     ∙ map-same _ (λ i. get_or items i null) (λ i. row-item b.columns i k d below) (range_with_len 0 b.rows)
     ∙ sym (fill_by_all (λ i. get_or items i null) items b.rows null size (λ i h. refl))
 
+-- ---- tests that none passes
+
+pub neither : (a b : Bool) → (a || b) ≡ false → (a ≡ false) × (b ≡ false)
+neither false b h = (refl, h)
+neither true b h = absurd (true≢false h)
+
+pub not-false : (b : Bool) → not b ≡ false → b ≡ true
+not-false true h = refl
+not-false false h = absurd (true≢false h)
+
+missing : {X : Type 0} (p : X → Bool) (xs : List X) → list_any p xs ≡ false → position p xs ≡ None
+missing p xs none = go (position p xs) refl where
+  go : (o : Option ℕ) → position p xs ≡ o → o ≡ None
+  go None is = refl
+  go (Some k) is = absurd (true≢false (sym (among_found p xs k is) ∙ none))
+
 -- ---- lawful batches
 
-pub none_at : (m n : ℕ) → cond (nat_lt m n) (Some m) None ≡ None → n ≤ m
-none_at m n h = go (nat_lt m n) refl h where
-  go : (b : Bool) → nat_lt m n ≡ b → cond b (Some m) None ≡ None → n ≤ m
-  go true e p = absurd cc
-  go false e p = ltb-false m n e
+-- Its kind isn't that of the field.
+abbrev pub wrong_kind : Seen × FieldShape → Bool
+wrong_kind p = not (same_kind p.0.kind (kind_of_field p.1))
 
--- where no item passes, each fails
-pub position-none : {A : Type 0} (p : A → Bool) (xs : List A) (k : ℕ) (d : A) → position p xs ≡ None → k < length xs → p (get_or xs k d) ≡ false
-position-none p xs k d none below =
-    let past = none_at (position_or_len p xs) (length xs) none in
-    fails_before_first p xs k d (omega arith)
+pub sizes : (n : ℕ) (columns : List Seen) → list_any (λ (c : Seen). not (eqb (length c.items) n)) columns ≡ false → (k : ℕ) (d : Seen) → k < length columns → length (get_or columns k d).items ≡ n
+sizes n [] none k d below = absurd (omega (arith, below))
+sizes n (c ∷ columns) none zero d below =
+    eqb-true (length c.items) n (not-false (eqb (length c.items) n) (neither (not (eqb (length c.items) n)) (list_any (λ (e : Seen). not (eqb (length e.items) n)) columns) none).0)
+sizes n (c ∷ columns) none (suc k) d below =
+    sizes n columns (neither (not (eqb (length c.items) n)) (list_any (λ (e : Seen). not (eqb (length e.items) n)) columns) none).1 k d (omega (arith, below))
 
--- what holds of a batch of n rows under its fields
-pub record IsWhole (fields : List FieldShape) (n : ℕ) (columns : List Seen) : Type 0 where
-  pub counts : length columns ≡ length fields
-  pub kinds : (k : ℕ) (d : Seen) (e : FieldShape) → k < length columns → same_kind (get_or columns k d).kind (kind_of_field (get_or fields k e)) ≡ true
-  pub sizes : (k : ℕ) (d : Seen) → k < length columns → length (get_or columns k d).items ≡ n
-  pub small : n ≤ 2147483647
-
-no_fault : (b : Bool) (t l : Option ℕ) → cond (not b) (Some ColumnCount) (or_else (option_map (λ c. TypeDiffers c) t) (option_map (λ c. LengthsDiffer c) l)) ≡ None
+no-fault : (b : Bool) (t l : Option ℕ) → cond (not b) (Some ColumnCount) (or_else (option_map (λ c. TypeDiffers c) t) (option_map (λ c. LengthsDiffer c) l)) ≡ None
     → (b ≡ true) × (t ≡ None) × (l ≡ None)
-no_fault true None None h = (refl, refl, refl)
-no_fault true None (Some c) h = absurd cc
-no_fault true (Some c) l h = absurd cc
-no_fault false t l h = absurd cc
+no-fault true None None h = (refl, refl, refl)
+no-fault true None (Some c) h = absurd cc
+no-fault true (Some c) l h = absurd cc
+no-fault false t l h = absurd cc
 
-right_length : (b : Bool) (l : Option ℕ) → cond b (Some 0) l ≡ None → (b ≡ false) × (l ≡ None)
-right_length true l h = absurd cc
-right_length false l h = (refl, h)
+right-length : (b : Bool) (l : Option ℕ) → cond b (Some 0) l ≡ None → (b ≡ false) × (l ≡ None)
+right-length true l h = absurd cc
+right-length false l h = (refl, h)
 
-not_false : (b : Bool) → not b ≡ false → b ≡ true
-not_false true h = refl
-not_false false h = absurd cc
+-- What no fault means.
+pub record Whole (fields : List FieldShape) (n : ℕ) (columns : List Seen) : Type 0 where
+  pub count : length columns ≡ length fields
+  pub kinds : list_any wrong_kind (zip columns fields) ≡ false
+  pub small : nat_lt 2147483647 n ≡ false
+  pub long : list_any (λ (c : Seen). not (eqb (length c.items) n)) columns ≡ false
 
-pub IsWhole-lawful : (fields : List FieldShape) (n : ℕ) (columns : List Seen) → batch_fault fields n columns ≡ None → IsWhole fields n columns
-IsWhole-lawful fields n columns lawful =
-    let parts = no_fault (eqb (length columns) (length fields)) (differing_type fields columns) (bad_length n columns) lawful in
-    let same = eqb-true (length columns) (length fields) parts.0 in
-    let long = right_length (nat_lt 2147483647 n) (differing_length n columns) parts.2 in
+pub whole : (fields : List FieldShape) (n : ℕ) (columns : List Seen) → batch_fault fields n columns ≡ None → Whole fields n columns
+whole fields n columns lawful =
+    let parts = no-fault (eqb (length columns) (length fields)) (differing_type fields columns) (bad_length n columns) lawful in
+    let lengths = right-length (nat_lt 2147483647 n) (differing_length n columns) parts.2 in
     record {
-      counts = same;
-      kinds =
-          λ k d e below.
-          not_false _
-          (subst (λ (p : Seen × FieldShape). not (same_kind p.0.kind (kind_of_field p.1)) ≡ false) (get_or-zip columns fields k (d, e) below (omega (arith, below, same)))
-          (position-none (λ (p : Seen × FieldShape). not (same_kind p.0.kind (kind_of_field p.1))) (zip columns fields) k (d, e) parts.1 (omega (arith, below, same, length-zip columns fields))));
-      sizes =
-          λ k d below.
-          eqb-true _ _ (not_false _ (position-none (λ (c : Seen). not (eqb (length c.items) n)) columns k d long.1 below));
-      small = ltb-false 2147483647 n long.0;
+      count = eqb-true (length columns) (length fields) parts.0;
+      kinds = among_missing wrong_kind (zip columns fields) parts.1;
+      small = lengths.0;
+      long = among_missing (λ (c : Seen). not (eqb (length c.items) n)) columns lengths.1;
     }
 
--- the columns of a lawful batch are those of its rows
+pub faultless : (fields : List FieldShape) (n : ℕ) (columns : List Seen) → Whole fields n columns → batch_fault fields n columns ≡ None
+faultless fields n columns is =
+    ap (λ b. cond (not b) (Some ColumnCount) (or_else (option_map (λ c. TypeDiffers c) (differing_type fields columns)) (option_map (λ c. LengthsDiffer c) (bad_length n columns)))) (eq-eqb (length columns) (length fields) is.count)
+    ∙ ap (λ t. or_else (option_map (λ c. TypeDiffers c) t) (option_map (λ c. LengthsDiffer c) (bad_length n columns))) (missing wrong_kind (zip columns fields) is.kinds)
+    ∙ ap (λ b. option_map (λ c. LengthsDiffer c) (cond b (Some 0) (differing_length n columns))) is.small
+    ∙ ap (λ l. option_map (λ c. LengthsDiffer c) l) (missing (λ (c : Seen). not (eqb (length c.items) n)) columns is.long)
+
+-- The columns of a lawful batch are those of its rows.
 pub HasColumns-rows_of : (b : Batch) → batch_fault b.fields b.rows b.columns ≡ None → HasColumns (rows_of b) b.columns
 HasColumns-rows_of b lawful =
-    let whole = IsWhole-lawful b.fields b.rows b.columns lawful in
-    record { each = λ k d below. column-rows_of b k d below (whole.sizes k d below) }
+    record { each = λ k d below. column-rows_of b k d below (sizes b.rows b.columns (whole b.fields b.rows b.columns lawful).long k d below) }

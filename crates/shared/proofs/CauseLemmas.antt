@@ -17,8 +17,7 @@ use Rattle.shared.specs.History.{History, Table, rows}
 use Rattle.shared.specs.Stored.{is_stored_as, stored_kind}
 use Rattle.shared.specs.declared.refusal.Refusal.{Refusal}
 use Rattle.shared.specs.declared.refusal.Refusal.TheVariants.{BookFull, SchemaDiffers, TableFull}
-use Rattle.shared.proofs.BatchLemmas.{HasColumns-rows_of}
-use Rattle.shared.proofs.PutLemmas.{length-rows_of}
+use Rattle.shared.proofs.BatchLemmas.{HasColumns-rows_of, length-rows_of}
 
 -- ---- fields
 

@@ -97,10 +97,6 @@ dictionary-at h is k o at =
     ∙ slice_get-map (option_map arc_value) h.dictionaries.items k
     ∙ ap (option_map (option_map arc_value)) at
 
-pub map-map : {A B C : Type 0} (g : B → C) (f : A → B) (xs : List A) → map g (map f xs) ≡ map (λ x. g (f x)) xs
-map-map g f [] = Rattle.std.proofs.Common.refl
-map-map g f (x ∷ xs) = ap (λ l. g (f x) ∷ l) (map-map g f xs)
-
 -- what holds of all images
 pub all-of-map : {A B : Type 0} (P : B → Type 0) (f : A → B) (xs : List A) → All P (map f xs) → All (λ x. P (f x)) xs
 all-of-map P f xs all k d below = subst P (get_or-map f xs k d (f d) below) (all k (f d) (omega (arith, below, length-map xs f)))

@@ -1,9 +1,15 @@
 -- What the proofs of this crate share.
 pub mod HistoryLemmas
+pub mod FrontLemmas
 pub mod TableLemmas
 pub mod HeldLemmas
 pub mod PutLemmas
 pub mod CodeLemmas
+pub mod EarlyLemmas
+pub mod SuitLemmas
+pub mod GrownLemmas
+pub mod KeptLemmas
+pub mod BackLemmas
 pub mod ReadyLemmas
 pub mod StateLemmas
 pub mod RecodedLemmas

@@ -2,6 +2,7 @@
 use Rattle.std.proofs.Common.{◌≡◌, ◌∙◌, ℕ, zero, suc, ◌+◌, ◌<◌, ◌≤◌, List, [], ◌∷◌, length, get_or, map, take, drop, Bool, true, false, not, cond, nat_lt, position, Option, Some, None, option_map, ap, sym, refl, add-one, arith, lt-ltb}
 use Rattle.std.specs.List.{enumerate_from, position_or_len}
 use Rattle.std.proofs.Math.Seq.{drop-cons}
+use Rattle.std.proofs.lemmas.Bool.{ltb-false}
 use Rattle.std.proofs.lemmas.List.{drop_all, length-take-le}
 use Rattle.arrays.specs.Item.{Item}
 use Rattle.arrays.specs.Shape.{FieldShape}
@@ -9,7 +10,6 @@ use Rattle.shared.specs.History.{Table, column}
 use Rattle.shared.specs.Cause.{null_cause, null_in, null_row, first}
 use Rattle.shared.specs.declared.refusal.Refusal.{Refusal}
 use Rattle.shared.specs.declared.refusal.Refusal.TheVariants.{NullInNonNullable}
-use Rattle.shared.proofs.BatchLemmas.{none_at}
 
 -- what the fields from place k on refuse
 abbrev pub refused_from : (t : Table) → List FieldShape → ℕ → Option Refusal
@@ -62,6 +62,12 @@ stands p zero [] d before below here = absurd (omega (arith, below))
 stands p zero (x ∷ xs) d before below here = ap (λ b. cond (not b) (1 + position_or_len p xs) 0) here
 stands p (suc i) [] d before below here = absurd (omega (arith, below))
 stands p (suc i) (x ∷ xs) d before below here = later p x xs i (p x) refl before (λ more. stands p i xs d more (omega (arith, below)) here)
+
+none_at : (m n : ℕ) → cond (nat_lt m n) (Some m) None ≡ None → n ≤ m
+none_at m n h = go (nat_lt m n) refl h where
+  go : (b : Bool) → nat_lt m n ≡ b → cond b (Some m) None ≡ None → n ≤ m
+  go true e p = absurd cc
+  go false e p = ltb-false m n e
 
 -- the first that passes is there where none before it does
 pub position-found : {A : Type 0} (p : A → Bool) (xs : List A) (i : ℕ) (d : A) → position p (take i xs) ≡ None → i < length xs → p (get_or xs i d) ≡ true → position p xs ≡ Some i

@@ -5,8 +5,7 @@ use Rattle.std.specs.Arc.{arc_value}
 use Rattle.std.specs.List.{enumerate_from}
 use Rattle.std.proofs.lemmas.Bool.{ltb-false}
 use Rattle.std.proofs.lemmas.List.{map-append}
-use Rattle.std.proofs.lemmas.List.FromFn.{length-map-range_with_len}
-use Rattle.arrays.specs.Batch.{Batch, row_of, rows_of}
+use Rattle.arrays.specs.Batch.{Batch, rows_of}
 use Rattle.arrays.specs.Seen.{Seen}
 use Rattle.arrays.specs.Shape.{FieldShape}
 use Rattle.group.specs.declared.stats.ColumnStats.{ColumnStats}
@@ -20,6 +19,7 @@ use Rattle.shared.specs.declared.admission.Prepared.{Prepared}
 use Rattle.shared.specs.declared.held.Held.{Held}
 use Rattle.shared.specs.declared.refusal.Refusal.{Refusal}
 use Rattle.shared.specs.declared.refusal.Refusal.TheVariants.{BookFull, SchemaDiffers, TableFull}
+use Rattle.shared.proofs.BatchLemmas.{length-rows_of}
 use Rattle.shared.proofs.HeldLemmas.{rows-shown}
 use Rattle.shared.proofs.HistoryLemmas.{IsLegal-push, cut-push, length-cut}
 use Rattle.shared.proofs.TableLemmas.{Lawful-push, table_of-push}
@@ -91,9 +91,6 @@ show-same h g same = λ i. record {
 }
 
 -- ---- one batch more
-
-pub length-rows_of : (b : Batch) → length (rows_of b) ≡ b.rows
-length-rows_of b = length-map-range_with_len (row_of b.columns) 0 b.rows
 
 module _ (h g : Held) (b : Batch) (worker : ℕ) (p : Prepared) (is : IsHeld h) (ready : IsReady h b p) (put : IsPut worker p h g) where
   same_cause : cause (arc_value h.schema) (show h).history (rows_of b) ≡ None

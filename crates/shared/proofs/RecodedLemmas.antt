@@ -5,6 +5,7 @@ use Rattle.std.specs.List.{AllZip, enumerate_from, zip}
 use Rattle.std.specs.Str.{bytes_eq}
 use Rattle.std.proofs.lemmas.Bool.{le-ltb, lt-ltb}
 use Rattle.std.proofs.lemmas.List.{append-nil, drop_all, drop_more, append_assoc, get_or-map, get_or_at, get_or_default, length-drop, length-map, length-take-le, map-append, map_more, set_at, take-append-drop, take_all, take_more}
+use Rattle.std.proofs.lemmas.Simd.{map-map}
 use Rattle.std.proofs.lemmas.Slice.Zip.{get_or-zip, length-zip}
 use Rattle.arrays.specs.Builder.{item_of}
 use Rattle.arrays.specs.Dictionary.{encoded, is_code}
@@ -17,28 +18,26 @@ use Rattle.arrays.specs.Slot.{is_text}
 use Rattle.pool.specs.Codes.{code_item}
 use Rattle.pool.specs.Texts.{firsts, is_once, place_of, texts_of}
 use Rattle.pool.proofs.PlaceLemmas.{position_found}
-use Rattle.pool.proofs.RecodeLemmas.{starts_longer, starts_take}
+use Rattle.pool.proofs.RecodeLemmas.{starts_take}
 use Rattle.shared.specs.Cause.{first, when}
-use Rattle.shared.specs.Recoded.{IsBegun, coded, dictionary_for, full_at, full_cause, grown, is_full, stored_seen}
+use Rattle.shared.specs.Lawful.{Begins}
+use Rattle.shared.specs.Recoded.{coded, dictionary_for, full_at, full_cause, grown, is_full, stored_seen}
 use Rattle.shared.specs.declared.refusal.Refusal.{Refusal}
 use Rattle.shared.specs.declared.refusal.Refusal.TheVariants.{TextsFull}
-use Rattle.shared.proofs.HeldLemmas.{map-map}
+use Rattle.shared.proofs.FrontLemmas.{begins-itself}
 
 -- ---- texts that begin others
 
 -- A pool after a column's texts begins as before.
-pub begun-recoded : (old seen pool : List (List ℕ)) → is_once old ≡ true → pool ≡ firsts (old ++ seen) → IsBegun old pool
-begun-recoded old seen pool once is = record { longer = starts_longer old seen pool once is; front = starts_take old seen pool once is }
-
-pub begun-same : (old : List (List ℕ)) → IsBegun old old
-begun-same old = record { longer = omega arith; front = take_all (length old) old (omega arith) }
+pub begun-recoded : (old seen pool : List (List ℕ)) → is_once old ≡ true → pool ≡ firsts (old ++ seen) → Begins old pool
+begun-recoded old seen pool once is = starts_take old seen pool once is
 
 -- As many texts that begin with the old ones are these.
-same-texts : (old new : List (List ℕ)) → IsBegun old new → length old ≡ length new → old ≡ new
-same-texts old new begun same = sym begun.front ∙ take_all (length old) new (omega (arith, same))
+same-texts : (old new : List (List ℕ)) → Begins old new → length old ≡ length new → old ≡ new
+same-texts old new begun same = sym begun ∙ take_all (length old) new (omega (arith, same))
 
 -- The dictionary of as many texts is the one that there is.
-pub dictionary-same : (words : Seen) (old new : List (List ℕ)) → words ≡ shown kind.utf8 (map text old) → IsBegun old new
+pub dictionary-same : (words : Seen) (old new : List (List ℕ)) → words ≡ shown kind.utf8 (map text old) → Begins old new
     → length words.items ≡ length new → words ≡ shown kind.utf8 (map text new)
 dictionary-same words old new is begun many =
     let count : length old ≡ length new = sym (length-map old (λ t. text t)) ∙ ap (λ (s : Seen). length s.items) (sym is) ∙ many in
@@ -109,13 +108,13 @@ module _ {A Z : Type 0} (f : Z → A) (olds : List A) (inputs : List Z) (same : 
 
 -- ---- pools of columns side by side
 
-pub begun-all : (pools : List (List (List ℕ))) → AllZip IsBegun pools pools
+pub begun-all : (pools : List (List (List ℕ))) → AllZip Begins pools pools
 begun-all [] = tt
-begun-all (p ∷ pools) = (begun-same p, begun-all pools)
+begun-all (p ∷ pools) = (begins-itself p, begun-all pools)
 
 -- A pool that is written begins as it did.
-pub begun-set : (olds now : List (List (List ℕ))) (k : ℕ) (y : List (List ℕ)) → AllZip IsBegun olds now → IsBegun (get_or olds k y) y
-    → AllZip IsBegun olds (set now k y)
+pub begun-set : (olds now : List (List (List ℕ))) (k : ℕ) (y : List (List ℕ)) → AllZip Begins olds now → Begins (get_or olds k y) y
+    → AllZip Begins olds (set now k y)
 begun-set [] [] k y all one = tt
 begun-set [] (p ∷ now) k y all one = absurd all
 begun-set (o ∷ olds) [] k y all one = absurd all
@@ -154,7 +153,7 @@ pub record AreStored (olds : List (List (List ℕ))) (columns : List Seen) (k : 
   pub dictionaries_are : dictionaries ≡ map (λ p. dictionary_for (grown p, p.1)) (take k (zip olds columns))
   pub pools_are : pools ≡ map grown (take k (zip olds columns)) ++ drop k olds
   pub fits : full_among 0 (take k (zip olds columns)) ≡ None
-  pub begun : AllZip IsBegun olds pools
+  pub begun : AllZip Begins olds pools
 
 pub AreStored-none : (olds : List (List (List ℕ))) (columns : List Seen) → AreStored olds columns 0 olds [] []
 AreStored-none olds columns = record { columns_are = refl; dictionaries_are = refl; pools_are = refl; fits = refl; begun = begun-all olds }
@@ -196,13 +195,13 @@ module _ (olds : List (List (List ℕ))) (columns : List Seen) (same : length ol
           ap (full_among 0) pairs-more ∙ full_among-append (take k pairs) ((pool, c) ∷ []) are.fits
           ∙ ap (λ b. first (when b (TextsFull (0 + length (take k pairs))) ∷ [])) few
 
-      pub pools-begun : (next : List (List ℕ)) → IsBegun pool next → AllZip IsBegun olds (set pools k next)
+      pub pools-begun : (next : List (List ℕ)) → Begins pool next → AllZip Begins olds (set pools k next)
       pools-begun next begins =
           begun-set olds pools k next are.begun
-          (subst (λ p. IsBegun p next) (old-at ∙ get_or_default olds k pool next (omega (arith, same, below))) begins)
+          (subst (λ p. Begins p next) (old-at ∙ get_or_default olds k pool next (omega (arith, same, below))) begins)
 
       pub AreStored-more : (next : List (List ℕ)) (column : Seen) (dictionary : Option Seen) → column ≡ stored_seen (pool, c)
-          → dictionary ≡ dictionary_for (grown (pool, c), c) → next ≡ grown (pool, c) → is_full (pool, c) ≡ false → IsBegun pool next
+          → dictionary ≡ dictionary_for (grown (pool, c), c) → next ≡ grown (pool, c) → is_full (pool, c) ≡ false → Begins pool next
           → AreStored olds columns (k + 1) (set pools k next) (stored ++ column ∷ []) (dictionaries ++ dictionary ∷ [])
       AreStored-more next column dictionary column_is dictionary_is next_is few begins = record {
         columns_are = mapped-more stored_seen stored column are.columns_are column_is;

@@ -8,7 +8,8 @@ use Rattle.shared.specs.Ready.{IsReady}
 use Rattle.shared.specs.declared.admission.Prepared.{Prepared}
 use Rattle.shared.specs.declared.held.Held.{Held}
 use Rattle.shared.proofs.HeldLemmas.{count-shown}
-use Rattle.shared.proofs.PutLemmas.{Allowed-none, cause-none, length-rows_of}
+use Rattle.shared.proofs.BatchLemmas.{length-rows_of}
+use Rattle.shared.proofs.PutLemmas.{Allowed-none, cause-none}
 
 -- there is room for the rows of what is ready
 pub ready-few : (h : Held) (b : Batch) (p : Prepared) → IsHeld h → IsReady h b p → h.rows + (arc_value p.batch).rows ≤ 2 ^ 40

@@ -1,5 +1,5 @@
 -- A lawful table with one batch more.
-use Rattle.std.proofs.Common.{◌≡◌, ◌∙◌, inl, inr, ℕ, zero, suc, ◌+◌, ◌<◌, ◌≤◌, ◌^◌, List, [], ◌∷◌, ◌++◌, length, map, take, Option, None, Some, Bool, true, false, cond, ap, sym, refl, subst, arith, length-append}
+use Rattle.std.proofs.Common.{◌≡◌, ◌∙◌, inl, inr, ℕ, ◌+◌, ◌<◌, ◌≤◌, ◌^◌, List, [], ◌∷◌, ◌++◌, length, map, take, Option, None, Some, Bool, true, false, cond, ap, sym, refl, subst, arith, length-append}
 use Rattle.std.specs.Prelude.{slice_index_or, ⊤}
 use Rattle.std.specs.List.{AllZip, enumerate_from}
 use Rattle.std.proofs.Math.Nat.{eq-or-lt_of_le}
@@ -18,8 +18,9 @@ use Rattle.group.specs.declared.stats.ColumnStats.{ColumnStats}
 use Rattle.shared.specs.History.{Table, column}
 use Rattle.pool.specs.Texts.{firsts, texts_of}
 use Rattle.pool.proofs.TextLemmas.{beyond, firsts-append}
-use Rattle.shared.specs.Lawful.{AreStatsOf, EndsWithEntry, IsStored, LawfulTable, NamesFront, counted, dictionaries_of, dictionary_in, table_of, texts_in}
+use Rattle.shared.specs.Lawful.{AreStatsOf, Begins, EndsWithEntry, IsStored, LawfulTable, NamesFront, counted, dictionaries_of, dictionary_in, table_of, texts_in}
 use Rattle.shared.specs.Stored.{is_text_field}
+use Rattle.shared.proofs.FrontLemmas.{begins-longer}
 
 pub table_of-push : (batches : List Batch) (b : Batch) → table_of (batches ++ b ∷ []) ≡ table_of batches ++ rows_of b
 table_of-push batches b = flat_map-append rows_of batches (b ∷ []) ∙ ap (λ t. table_of batches ++ t) (append-nil (rows_of b))
@@ -71,32 +72,20 @@ ends-push batches entries b worker ends counts i within =
 -- ---- dictionaries that grow
 
 -- the first dictionary begins the second
-abbrev pub Begins : Option Seen → Option Seen → Type 0
-Begins None None = ⊤
-Begins None (Some e) = ⊥
-Begins (Some d) None = ⊤
-Begins (Some d) (Some e) = take (length d.items) e.items ≡ d.items
+abbrev pub Grows : Option Seen → Option Seen → Type 0
+Grows None None = ⊤
+Grows None (Some e) = ⊥
+Grows (Some d) None = ⊤
+Grows (Some d) (Some e) = Begins d.items e.items
 
-take-take-le : {A : Type 0} (i j : ℕ) (xs : List A) → i ≤ j → take i (take j xs) ≡ take i xs
-take-take-le zero j xs h = refl
-take-take-le (suc i) zero xs h = absurd (omega (arith, h))
-take-take-le (suc i) (suc j) [] h = refl
-take-take-le (suc i) (suc j) (x ∷ xs) h = ap (λ l. x ∷ l) (take-take-le i j xs (omega (arith, h)))
-
-short-front : {A : Type 0} (xs ys : List A) → take (length xs) ys ≡ xs → length xs ≤ length ys
-short-front [] ys h = omega arith
-short-front (x ∷ xs) [] h = absurd cc
-short-front (x ∷ xs) (y ∷ ys) h = omega (arith, short-front xs ys cc)
-
-front-longer : (c : Seen) (d e : Option Seen) → NamesFront c d → Begins d e → NamesFront c e
+front-longer : (c : Seen) (d e : Option Seen) → NamesFront c d → Grows d e → NamesFront c e
 front-longer c None None names begins = tt
 front-longer c None (Some e) names begins = absurd begins
 front-longer c (Some d) None names begins = tt
 front-longer c (Some d) (Some e) names begins =
-    let xs = c.entries.items in
-    sym (take-take-le (length xs) (length d.items) e.items (short-front xs d.items names)) ∙ ap (λ (l : List Item). take (length xs) l) begins ∙ names
+    begins-longer c.entries.items d.items e.items names begins
 
-fronts-longer : (columns : List Seen) (old new : List (Option Seen)) → AllZip Begins old new → AllZip NamesFront columns old → AllZip NamesFront columns new
+fronts-longer : (columns : List Seen) (old new : List (Option Seen)) → AllZip Grows old new → AllZip NamesFront columns old → AllZip NamesFront columns new
 fronts-longer [] [] [] begins names = tt
 fronts-longer [] [] (e ∷ new) begins names = absurd begins
 fronts-longer [] (d ∷ old) new begins names = absurd names
@@ -104,7 +93,7 @@ fronts-longer (c ∷ columns) [] new begins names = absurd names
 fronts-longer (c ∷ columns) (d ∷ old) [] begins names = absurd begins
 fronts-longer (c ∷ columns) (d ∷ old) (e ∷ new) begins names = (front-longer c d e names.0 begins.0, fronts-longer columns old new begins.1 names.1)
 
-column-append : (t u : Table) (k : ℕ) → column (t ++ u) k ≡ column t k ++ column u k
+pub column-append : (t u : Table) (k : ℕ) → column (t ++ u) k ≡ column t k ++ column u k
 column-append t u k = map-append (λ row. slice_index_or row k null) t u
 
 pub texts_of-append : (xs ys : List Item) → texts_of (xs ++ ys) ≡ texts_of xs ++ texts_of ys
@@ -130,19 +119,19 @@ texts_in-append t u k f =
     ∙ ap (λ l. cond (is_text_field f) (firsts l) []) (texts_of-append (column t k) (column u k))
     ∙ firsts-if (is_text_field f) (texts_of (column t k)) (texts_of (column u k))
 
-begins-if : (b : Bool) (xs ys zs : List (List ℕ)) → ys ≡ xs ++ zs → Begins (cond b (Some (shown kind.utf8 (map text xs))) None) (cond b (Some (shown kind.utf8 (map text ys))) None)
+begins-if : (b : Bool) (xs ys zs : List (List ℕ)) → ys ≡ xs ++ zs → Grows (cond b (Some (shown kind.utf8 (map text xs))) None) (cond b (Some (shown kind.utf8 (map text ys))) None)
 begins-if false xs ys zs more = tt
 begins-if true xs ys zs more =
     ap (λ l. take (length (map text xs)) (map text l)) more ∙ ap (take (length (map text xs))) (map-append text xs zs) ∙ take-append_seam (map text xs) (map text zs)
 
-begin-from : (n : ℕ) (fields : List FieldShape) (t u : Table) → AllZip Begins (map (dictionary_in t) (enumerate_from n fields)) (map (dictionary_in (t ++ u)) (enumerate_from n fields))
+begin-from : (n : ℕ) (fields : List FieldShape) (t u : Table) → AllZip Grows (map (dictionary_in t) (enumerate_from n fields)) (map (dictionary_in (t ++ u)) (enumerate_from n fields))
 begin-from n [] t u = tt
 begin-from n (f ∷ fields) t u = (
   begins-if (is_text_field f) (texts_in t (n, f)) (texts_in (t ++ u) (n, f)) (rest_of (is_text_field f) (texts_of (column t n)) (texts_of (column u n))) (texts_in-append t u n f),
   begin-from (n + 1) fields t u,
 )
 
-dictionaries-begin : (fields : List FieldShape) (t u : Table) → AllZip Begins (dictionaries_of fields t) (dictionaries_of fields (t ++ u))
+dictionaries-begin : (fields : List FieldShape) (t u : Table) → AllZip Grows (dictionaries_of fields t) (dictionaries_of fields (t ++ u))
 unfolding dictionaries_of
 dictionaries-begin fields t u = begin-from 0 fields t u
 
@@ -170,8 +159,8 @@ Lawful-push fields batches pieces stats dictionaries entries is b piece next gro
           All-push (λ (c : Batch). AllZip NamesFront c.columns grown) batches b
           (λ k d below.
           fronts-longer (slice_index_or batches k d).columns dictionaries grown
-          (subst (λ (g : List (Option Seen)). AllZip Begins dictionaries g) (sym texts)
-          (subst (λ (g : List (Option Seen)). AllZip Begins g (dictionaries_of fields (t ++ rows_of b))) (sym is.texts) (dictionaries-begin fields t (rows_of b))))
+          (subst (λ (g : List (Option Seen)). AllZip Grows dictionaries g) (sym texts)
+          (subst (λ (g : List (Option Seen)). AllZip Grows g (dictionaries_of fields (t ++ rows_of b))) (sym is.texts) (dictionaries-begin fields t (rows_of b))))
           (is.fronts k d below))
           front;
       statistics = subst (λ (u : Table). AreStatsOf fields u next) (sym more) of_all;

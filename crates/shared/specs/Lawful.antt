@@ -44,10 +44,18 @@ dictionaries_of fields t = map (dictionary_in t) (enumerate_from 0 fields)
 abbrev pub AreStatsOf : List FieldShape → Table → List ColumnStats → Type 0
 AreStatsOf fields t stats = AllZip (λ e s. AreStats s (kind_of_field e.1) (column t e.0)) (enumerate_from 0 fields) stats
 
+-- The first list begins the second.
+abbrev pub Begins : {A : Type 0} → List A → List A → Type 0
+Begins front whole = take (length front) whole ≡ front
+
 -- The dictionary that the column names begins the other, where there is one.
 abbrev pub NamesFront : Seen → Option Seen → Type 0
 NamesFront c None = ⊤
-NamesFront c (Some d) = take (length c.entries.items) d.items ≡ c.entries.items
+NamesFront c (Some d) = Begins c.entries.items d.items
+
+-- So does each dictionary that a column of the batch names.
+abbrev pub NamesFronts : List FieldShape → Table → Batch → Type 0
+NamesFronts fields t b = AllZip NamesFront b.columns (dictionaries_of fields t)
 
 -- The first i batches end where a number of book entries end.
 pub record EndsWithEntry (batches : List Batch) (book : List (ℕ × ℕ)) (i : ℕ) : Type 0 where

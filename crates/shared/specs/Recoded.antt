@@ -1,5 +1,5 @@
 -- A column of texts recoded after the texts that came before it.
-use Rattle.std.specs.Prelude.{◌≡◌, ◌≤◌, ℕ, ◌&&◌, ◌++◌, List, map, take, length, Bool, Option, Some, None, if◌then◌else◌}
+use Rattle.std.specs.Prelude.{ℕ, ◌&&◌, ◌++◌, List, map, take, length, Bool, Option, Some, None, if◌then◌else◌}
 use Rattle.std.specs.Arc.{arc_value}
 use Rattle.std.specs.List.{enumerate_from, zip}
 use Rattle.std.specs.declared.sync.Arc.{Arc}
@@ -43,11 +43,6 @@ full_at e = when (is_full e.1) (TextsFull e.0)
 
 unfoldable pub full_cause : List (List (List ℕ)) → List Seen → Option Refusal
 full_cause texts columns = first (map full_at (enumerate_from 0 (zip texts columns)))
-
--- The first texts begin the second.
-pub record IsBegun (old new : List (List ℕ)) : Type 0 where
-  pub longer : length old ≤ length new
-  pub front : take (length old) new ≡ old
 
 -- How many texts a dictionary has, 0 where there is none.
 abbrev pub entry_count : Option (Arc Seen Global) → ℕ

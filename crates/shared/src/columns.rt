@@ -8,7 +8,8 @@ ghost use Rattle.arrays.specs.Item.{text};
 ghost use Rattle.arrays.specs.Shown.{shown};
 ghost use Rattle.arrays.specs.Slot.{is_text};
 ghost use Rattle.pool.specs.Texts.{is_too_full};
-ghost use Rattle.shared.specs.Recoded.{IsBegun, coded, dictionary_for, entry_count, full_cause, grown, is_full, shortened, stored_seen};
+ghost use Rattle.shared.specs.Lawful.{Begins};
+ghost use Rattle.shared.specs.Recoded.{coded, dictionary_for, entry_count, full_cause, grown, is_full, shortened, stored_seen};
 
 use crate::refusal::Refusal;
 use arrays::{Array, Words};
@@ -40,7 +41,7 @@ pub(crate) fn stored_columns(
     ensures pools { OnOk result (pools.new.items ≡ map grown (zip pools.old.items columns.now)) }
     ensures fits { OnOk result (full_cause pools.old.items columns.now ≡ None) }
     ensures err { IfErr result (λ e. (e ≡ Refusal.NoMemory) ⊎ (full_cause pools.old.items columns.now ≡ Some e)) }
-    ensures begun { AllZip IsBegun pools.old.items pools.new.items }
+    ensures begun { AllZip Begins pools.old.items pools.new.items }
 {
     let mut stored = Columns {
         columns: Vec::with_capacity(alloc, columns.len())?,
@@ -76,7 +77,7 @@ fn stored_column(
     ensures pool { OnOk result (pool.new ≡ grown (pool.old, column.now)) }
     ensures fits { OnOk result (is_full (pool.old, column.now) ≡ false) }
     ensures err { IfErr result (λ e. ((e ≡ PoolFault.TextsFull) × (is_full (pool.old, column.now) ≡ true)) ⊎ (e ≡ PoolFault.NoMemory)) }
-    ensures begun { IsBegun pool.old pool.new }
+    ensures begun { Begins pool.old pool.new }
 {
     match dictionary {
         Some(words) => {
@@ -101,7 +102,7 @@ fn stored_texts(
     ensures pool { OnOk result (pool.new ≡ grown (pool.old, column.now)) }
     ensures fits { OnOk result (is_full (pool.old, column.now) ≡ false) }
     ensures err { IfErr result (λ e. ((e ≡ PoolFault.TextsFull) × (is_full (pool.old, column.now) ≡ true)) ⊎ (e ≡ PoolFault.NoMemory)) }
-    ensures begun { IsBegun pool.old pool.new }
+    ensures begun { Begins pool.old pool.new }
 {
     pool.tell_bounds();
     let codes = recode(alloc, &column.view(), pool)?;

@@ -1,15 +1,14 @@
 //! What a table holds at a moment.
 
-ghost use Rattle.std.specs.Prelude.{◌≡◌, ◌<◌, ◌≤◌, ◌^◌, All, Some, length, map, option_map, slice_get, slice_index_or, []};
+ghost use Rattle.std.specs.Prelude.{ℕ, ◌≡◌, ◌<◌, ◌≤◌, ◌^◌, All, Some, length, map, option_map, slice_get, slice_index_or, []};
 ghost use Rattle.std.specs.Arc.{arc_value};
-ghost use Rattle.std.specs.List.{enumerate_from};
 ghost use Rattle.arrays.specs.Batch.{rows_of};
 ghost use Rattle.arrays.specs.Shape.{FieldShape, kind_of_field};
 ghost use Rattle.group.specs.Summary.{AreStats};
 ghost use Rattle.shared.specs.Cause.{IsLegal};
 ghost use Rattle.shared.specs.Held.{IsHeld, pair_of, show};
 ghost use Rattle.shared.specs.History.{book, column, rows};
-ghost use Rattle.shared.specs.Lawful.{IsStored, dictionaries_of};
+ghost use Rattle.shared.specs.Lawful.{EndsWithEntry, IsStored, NamesFronts, dictionaries_of};
 
 use crate::entry::Entry;
 use crate::held::Held;
@@ -65,10 +64,13 @@ impl Version {
         self.held.rows
     }
 
-    /// The batches, in the order in which they came.
+    /// The batches, in the order in which they came. Each ends where an entry of the book ends, and a dictionary that one
+    /// of its columns names begins that of the table's column, so that codes mean the same text in both.
     pub fn batches(&self) -> &[Arc<RecordBatch>]
         ensures value { map (λ b. rows_of (arc_value b)) result.now ≡ self.now.batches }
         ensures lawful { All (λ b. IsStored self.now.fields (arc_value b)) result.now }
+        ensures ends { (i : ℕ) → i ≤ length result.now → EndsWithEntry (map arc_value result.now) (book self.now.history) i }
+        ensures fronts { All (λ b. NamesFronts self.now.fields (rows self.now.history) (arc_value b)) result.now }
     {
         &self.held.batches
     }

@@ -4,7 +4,7 @@ use Rattle.std.specs.declared.alloc.Global.{Global}
 use Rattle.std.specs.declared.sync.Arc.{Arc}
 use Rattle.arrays.specs.Seen.{Seen}
 use Rattle.shared.specs.Recoded.{entry_count, shortened}
-use Rattle.shared.proofs.ReadyLemmas.{back-count, back-same, back-within}
+use Rattle.shared.proofs.BackLemmas.{back-count, back-same, back-within}
 use Rattle.shared.proofs.admission.prepare.Goals as goal
 
 pub cut_back-requires-clause-count : goal.cut_back-requires-clause-count

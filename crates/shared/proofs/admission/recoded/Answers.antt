@@ -12,7 +12,8 @@ use Rattle.shared.specs.Cause.{batch_cause}
 use Rattle.shared.specs.Counted.{AreJoined, AreTheirs}
 use Rattle.shared.specs.Held.{show}
 use Rattle.shared.specs.Recoded.{full_cause, stored_seen}
-use Rattle.shared.proofs.ReadyLemmas.{IsFew, some-none, told, full-batch, pools-count, pools-dictionaries, pools-grown, ready, stats-count, stats-few, stored-lawful}
+use Rattle.shared.proofs.KeptLemmas.{IsFew}
+use Rattle.shared.proofs.ReadyLemmas.{some-none, told, full-batch, pools-count, pools-dictionaries, pools-grown, ready, stats-count, stats-few, stored-lawful}
 use Rattle.shared.proofs.admission.recoded.Goals as goal
 
 pub stored_columns-requires-clause-count : goal.stored_columns-requires-clause-count

@@ -5,7 +5,7 @@ use Rattle.std.specs.declared.vec.Vec.{Vec}
 use Rattle.group.specs.declared.stats.ColumnStats.{ColumnStats}
 use Rattle.shared.specs.Held.{pair_of}
 use Rattle.shared.specs.declared.entry.Entry.{Entry}
-use Rattle.shared.proofs.HeldLemmas.{map-map}
+use Rattle.std.proofs.lemmas.Simd.{map-map}
 use Rattle.shared.proofs.held.again.Goals as goal
 
 pub returns : goal.returns
