@@ -1,0 +1,4 @@
+mod growths;
+mod refusals;
+mod statistics;
+mod texts;
