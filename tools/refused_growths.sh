@@ -9,7 +9,7 @@ n=${1:-1}
 count=0
 while :; do
     said=$(rt try --test --fail-alloc "$n" -- growths 2>&1) || { echo "$said"; echo "growth $n was refused: FAILED"; exit 1; }
-    echo "$said" | grep -q '^refused$' || break
+    echo "$said" | grep -q '^ *refused$' || break
     n=$((n + ${2:-1}))
     count=$((count + 1))
 done
