@@ -9,7 +9,7 @@ use Rattle.arrays.specs.File.{File}
 use Rattle.arrays.specs.Item.{Item, null}
 use Rattle.arrays.specs.Seen.{Seen}
 use Rattle.arrowtab.specs.Held.{alone, IsRefused, Shows, Stops}
-use Rattle.arrowtab.specs.History.{Table}
+use Rattle.shared.specs.History.{Table}
 use Rattle.arrow_json.specs.JsonBatch.{table_of}
 use Rattle.arrow_json.specs.JsonFile.{Reads, file_of}
 use Rattle.arrow_json.specs.JsonTable as read
@@ -17,7 +17,7 @@ use Rattle.arrowtab.specs.Loaded.{IsLoaded, added_by}
 use Rattle.arrowtab.specs.Plan.{planned}
 use Rattle.arrowtab.specs.Run.{Answers, Refuses, batches_of}
 use Rattle.arrowtab.specs.Explained.{ExplainsBytes}
-use Rattle.arrowtab.specs.declared.refusal.Refusal.{Refusal}
+use Rattle.shared.specs.declared.refusal.Refusal.{Refusal}
 use Rattle.arrowtab.specs.declared.run_fault.RunFault.{RunFault}
 use Rattle.arrowtab.specs.declared.run_fault.RunFault.TheVariants.{CannotRead, NoMemory, Refused}
 use Rattle.arrowtab.specs.declared.run_fault.RunFault.TheVariants as run_fault

@@ -2,10 +2,10 @@
 use Rattle.std.specs.Prelude.{◌≡◌, ◌∷◌, ◌++◌, ℕ, List, map, length, Some, ⊤}
 use Rattle.arrays.specs.Batch.{Batch, rows_of}
 use Rattle.arrays.specs.Shape.{FieldShape}
-use Rattle.arrowtab.specs.History.{Table, History}
-use Rattle.arrowtab.specs.Cause.{cause, IsLegal}
+use Rattle.shared.specs.History.{Table, History}
+use Rattle.shared.specs.Cause.{cause, IsLegal}
 use Rattle.arrowtab.specs.Shown.{shown}
-use Rattle.arrowtab.specs.declared.refusal.Refusal.{Refusal}
+use Rattle.shared.specs.declared.refusal.Refusal.{Refusal}
 use Rattle.arrowtab.specs.declared.run_fault.RunFault.{RunFault}
 use Rattle.arrowtab.specs.declared.run_fault.RunFault.TheVariants.{CannotRead, NoMemory, File, Refused}
 

@@ -3,12 +3,6 @@ pub mod Count
 pub mod Memory
 pub mod Sink
 pub mod Source
-pub mod IntColumn
-pub mod History
-pub mod Cause
-pub mod Columns
-pub mod Admitted
-pub mod Batches
 pub mod Plan
 pub mod RefusalText
 pub mod Shown

@@ -4,7 +4,7 @@ use Rattle.std.specs.Fmt.{decimal}
 use Rattle.arrowtab.specs.Shown.{line}
 use Rattle.arrowtab.specs.RefusalText.{refusal_text}
 use Rattle.arrow_json.specs.JsonFaultText.{fault_text}
-use Rattle.arrowtab.specs.declared.refusal.Refusal.{Refusal}
+use Rattle.shared.specs.declared.refusal.Refusal.{Refusal}
 use Rattle.arrow_json.specs.declared.path.Step.{Step}
 use Rattle.arrow_json.specs.declared.fault.JsonFaultKind.{JsonFaultKind}
 

@@ -1,10 +1,10 @@
 -- Which histories come of the files' batches.
 use Rattle.std.specs.Prelude.{◌≡◌, ◌≢◌, ◌<◌, ◌++◌, ◌∷◌, ℕ, List, map, length, Some, All}
 use Rattle.arrays.specs.Shape.{FieldShape}
-use Rattle.arrowtab.specs.History.{Table, History, of}
+use Rattle.shared.specs.History.{Table, History, of}
 use Rattle.arrowtab.specs.Plan.{planned}
-use Rattle.arrowtab.specs.Cause.{IsLegal, cause}
-use Rattle.arrowtab.specs.declared.refusal.Refusal.{Refusal}
+use Rattle.shared.specs.Cause.{IsLegal, cause}
+use Rattle.shared.specs.declared.refusal.Refusal.{Refusal}
 
 -- The tables that a worker added, in order.
 abbrev pub added_by : History → ℕ → List Table

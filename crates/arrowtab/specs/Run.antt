@@ -2,14 +2,14 @@
 use Rattle.std.specs.Prelude.{◌≡◌, ◌<◌, ◌∷◌, ℕ, List, [], map, Option, IfSome}
 use Rattle.std.specs.Io.KnownBytes.{Appends, Keeps}
 use Rattle.arrowtab.specs.Sink.{AppendsFront}
-use Rattle.arrowtab.specs.History.{Table, History}
-use Rattle.arrowtab.specs.Cause.{IsLegal}
+use Rattle.shared.specs.History.{Table, History}
+use Rattle.shared.specs.Cause.{IsLegal}
 use Rattle.arrowtab.specs.Shown.{shown}
 use Rattle.arrowtab.specs.Lines.{unread_line, file_line, refusal_line, memory_line, output_line}
 use Rattle.arrowtab.specs.Loaded.{IsLoaded, IsStopped}
 use Rattle.arrow_json.specs.JsonFile.{Reads, BytesFault}
 use Rattle.arrow_json.specs.JsonTable.{FileData, rows_of}
-use Rattle.arrowtab.specs.declared.refusal.Refusal.{Refusal}
+use Rattle.shared.specs.declared.refusal.Refusal.{Refusal}
 use Rattle.arrow_json.specs.declared.path.Step.{Step}
 use Rattle.arrow_json.specs.declared.fault.JsonFaultKind.{JsonFaultKind}
 

@@ -9,7 +9,7 @@ use Rattle.arrays.specs.declared.types.Width.TheVariants.{W8, W16, W32, W64}
 use Rattle.arrays.specs.Item.{Item}
 use Rattle.arrays.specs.Shape as shape
 use Rattle.arrays.specs.Shape.{FieldShape, field}
-use Rattle.arrowtab.specs.History.{Table, column, History, rows, of}
+use Rattle.shared.specs.History.{Table, column, History, rows, of}
 use Rattle.group.specs.Stats.{nulls_of, total_of}
 use Rattle.group.specs.Numbers.{least_number, greatest_number}
 

@@ -47,9 +47,7 @@ fn answer_file(alloc: Global, file: File) -> Result<String, RunFault>
     ensures ok { IfOk result (λ text. Shows file.fields file.batches (string_bytes text)) }
     ensures err { IfErr result (Stops file.fields file.batches) }
 {
-    let held = load(alloc, file)?;
-    match stats_text(alloc, 1, &held) {
-        Ok(text) => Ok(text),
-        Err(_) => Err(RunFault::NoMemory),
-    }
+    let table = load(alloc, file)?;
+    let version = table.version()?;
+    Ok(stats_text(alloc, 1, &version)?)
 }

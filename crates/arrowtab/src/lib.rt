@@ -2,13 +2,10 @@
 #![tactic(auto)]
 
 mod answer;
-mod batches;
-mod column;
 mod invocation;
 pub mod job;
 mod load;
 pub mod memory;
-mod nulls;
 pub mod refusal;
 mod report;
 mod run_fault;

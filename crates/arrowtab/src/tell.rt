@@ -3,11 +3,12 @@ ghost use Rattle.std.specs.Prelude.{◌≡◌, ◌^◌, ◌-◌, ◌<◌, IfOk, 
 ghost use Rattle.arrowtab.specs.Lines.{unread_line, file_line, refusal_line, memory_line, output_line};
 ghost use Rattle.arrowtab.specs.Told.{TookLine, fault_line};
 
-use crate::refusal::{Refusal, refusal_text};
+use crate::refusal::refusal_text;
 use crate::run_fault::RunFault;
 use crate::sink::{Sink, write_whole};
 use arrow_json::{JsonFault, fault_text};
 use colbits::NoMemory;
+use shared::Refusal;
 use std::alloc::Global;
 
 /// The line that is written where memory ran out. It takes none itself.

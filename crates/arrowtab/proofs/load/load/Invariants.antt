@@ -7,5 +7,5 @@ use Rattle.arrowtab.proofs.load.load.Given as goal
 abbrev pub invariant-loop-batch : goal.invariant-loop-batch
 invariant-loop-batch l = (map arc_value (l.yielded ++ into_iter_items l.batch-iterator) ≡ l.fn.file.batches)
     × (into_iter_len l.batch-iterator ≡ length (into_iter_items l.batch-iterator))
-    × (l.held.fields ≡ l.fn.file.fields)
-    × (l.held.history ≡ alone (map arc_value l.yielded))
+    × (l.table.fields ≡ l.fn.file.fields)
+    × (l.table.history ≡ alone (map arc_value l.yielded))

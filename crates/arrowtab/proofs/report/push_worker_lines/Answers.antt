@@ -1,12 +1,11 @@
 use Rattle.std.proofs.Common.{◌∙◌, ◌++◌, string_bytes, ap, sym}
-use Rattle.arrowtab.specs.Batches.{history_of}
 use Rattle.arrowtab.specs.Shown.{worker_lines, worker_line}
 use Rattle.arrowtab.proofs.ReportLemmas.{worker_lines-more, one_line_more}
 use Rattle.arrowtab.proofs.report.push_worker_lines.Goals as goal
 
 pub loop-worker-preserved : goal.loop-worker-preserved
 loop-worker-preserved c =
-    let h = history_of c.args.entries.now in
+    let h = c.args.version.now.history in
     let w = c.loop-worker.worker in
     let share = c.share-calls in
     let line = ap (λ n. worker_line w n share.result.1) share.ensures.calls ∙ ap (worker_line w _) share.ensures.rows in

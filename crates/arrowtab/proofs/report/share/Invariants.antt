@@ -1,13 +1,12 @@
 use Rattle.std.proofs.Common.{◌≡◌, ◌*◌, ◌≤◌, length, take}
-use Rattle.arrowtab.specs.Batches.{history_of}
-use Rattle.arrowtab.specs.History.{of, rows}
+use Rattle.shared.specs.History.{of, rows}
 use Rattle.arrowtab.proofs.report.share.Given as goal
 
 -- the worker's share of the entries so far
-abbrev pub invariant-loop-entry : goal.invariant-loop-entry
-invariant-loop-entry l = record {
-  calls : l.calls ≡ length (of (history_of (take l.entry-index l.entries)) l.worker);
-  rows : l.rows ≡ length (rows (of (history_of (take l.entry-index l.entries)) l.worker));
-  few : l.calls ≤ l.entry-index;
-  small : l.rows ≤ 4294967295 * l.entry-index;
+abbrev pub invariant-loop-place : goal.invariant-loop-place
+invariant-loop-place l = record {
+  calls : l.calls ≡ length (of (take l.place l.version.history) l.worker);
+  rows : l.rows ≡ length (rows (of (take l.place l.version.history) l.worker));
+  few : l.calls ≤ l.place;
+  small : l.rows ≤ 4294967295 * l.place;
 }
