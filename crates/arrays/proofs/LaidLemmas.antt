@@ -1,5 +1,5 @@
 -- Offsets that grow slot by slot, and what arrays of them show.
-use Rattle.std.proofs.Common.{◌≡◌, ◌∙◌, ℕ, ◌+◌, ◌-◌, ◌*◌, ◌<◌, ◌≤◌, pos, List, [], ◌∷◌, ◌++◌, map, Bool, true, false, not, length, drop, cond, get_or, Option, Some, None, is_some, unwrap_or, option_map, lt-ltb, le-ltb, to_z, ap, sym, subst, refl, arith, length-append, zero-add}
+use Rattle.std.proofs.Common.{◌≡◌, ◌∙◌, ℕ, ◌+◌, ◌-◌, ◌*◌, ◌<◌, ◌≤◌, pos, List, [], ◌∷◌, ◌++◌, map, Bool, true, false, not, length, drop, cond, get_or, Option, Some, None, is_some, unwrap_or, option_map, nat_lt, ltb-true, ltb-false, lt-ltb, le-ltb, to_z, ap, sym, subst, refl, arith, length-append, zero-add}
 use borrow.Author.Count.{below_more}
 use Rattle.std.specs.Int.{w128}
 use Rattle.std.specs.List.{range_with_len, All}
@@ -183,6 +183,30 @@ pub past_by : (valid : List Bool) (offsets : List ℕ) (most : ℕ) (old : List 
 past_by valid offsets most old slot view_is is past =
     let old_total : total old ≡ most = ap total (sym view_is) ∙ total-fresh valid offsets most is in
     lt-ltb 2147483647 (total (old ++ slot ∷ [])) (omega (arith, past, old_total, total-push old slot))
+
+-- a slot that they hold
+pub within_by : (valid : List Bool) (offsets : List ℕ) (most : ℕ) (old : List (Option ℕ)) (slot : Option ℕ) → lengths_where valid offsets ≡ old → AreFresh valid offsets most
+    → most + unwrap_or slot 0 ≤ 2147483647 → is_past (total (old ++ slot ∷ [])) ≡ false
+within_by valid offsets most old slot view_is is within =
+    let old_total : total old ≡ most = ap total (sym view_is) ∙ total-fresh valid offsets most is in
+    le-ltb 2147483647 (total (old ++ slot ∷ [])) (omega (arith, within, old_total, total-push old slot))
+
+same_bools : (x y : Bool) → (x ≡ true → y ≡ true) → (x ≡ false → y ≡ false) → x ≡ y
+same_bools true y h k = sym (h refl)
+same_bools false y h k = sym (k refl)
+
+same_test : (m n sum : ℕ) → m ≤ 2147483647 → sum ≡ m + n → nat_lt (2147483647 - m) n ≡ is_past sum
+same_test m n sum short is =
+    same_bools (nat_lt (2147483647 - m) n) (is_past sum)
+    (λ h. lt-ltb 2147483647 sum (omega (arith, short, is, ltb-true (2147483647 - m) n h)))
+    (λ h. le-ltb 2147483647 sum (omega (arith, short, is, ltb-false (2147483647 - m) n h)))
+
+-- whether they hold it
+pub full_for : (valid : List Bool) (offsets : List ℕ) (most : ℕ) (old : List (Option ℕ)) (more : ℕ) → lengths_where valid offsets ≡ old → AreFresh valid offsets most
+    → most ≤ 2147483647 → nat_lt (2147483647 - most) more ≡ is_past (total (old ++ Some more ∷ []))
+full_for valid offsets most old more view_is is short =
+    let old_total : total old ≡ most = ap total (sym view_is) ∙ total-fresh valid offsets most is in
+    same_test most more (total (old ++ Some more ∷ [])) short (omega (arith, old_total, total-push old (Some more)))
 
 -- ---- no slots
 

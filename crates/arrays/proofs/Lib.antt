@@ -16,6 +16,7 @@ pub mod PartLemmas
 pub mod OffsetParts
 pub mod ChildLemmas
 pub mod DictionaryViews
+pub mod NumberLemmas
 pub mod OffsetLemmas
 pub mod DictionaryLemmas
 pub mod CopyLemmas

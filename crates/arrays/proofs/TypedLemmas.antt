@@ -1,9 +1,10 @@
 -- Items are of their column's kind.
-use Rattle.std.proofs.Common.{◌≡◌, ℕ, zero, suc, ◌+◌, ◌*◌, ◌^◌, ◌<◌, pos, negsuc, List, [], ◌∷◌, length, Bool, true, false, cond, get_or, All, sym, subst, arith, map}
+use Rattle.std.proofs.Common.{◌≡◌, ℕ, zero, suc, ◌+◌, ◌*◌, ◌^◌, ◌<◌, pos, negsuc, List, [], ◌∷◌, length, Bool, true, false, cond, get_or, All, sym, refl, subst, arith, map, zero-add}
 use mir.Val.{bits}
 use Rattle.std.proofs.Math.Facts.{sfits_to_z}
 use Rattle.std.proofs.lemmas.Int.{ints}
 use Rattle.std.proofs.lemmas.List.Elements.{All-drop, All-map, All-take}
+use Rattle.std.proofs.lemmas.List.FromFn.{get_or-range_with_len, length-range_with_len}
 use Rattle.std.specs.List.{range_with_len}
 use Rattle.std.specs.Int.{from_le_bytes, cast_signed}
 use Rattle.std.specs.Prelude.{slice_index_or}
@@ -63,18 +64,22 @@ number_at-of_type t bytes j small =
 
 -- ---- slots
 
-slot-typed : (k : Kind) (x : Item) (b : Bool) → IsItemOf k x → IsItemOf k (cond b x null)
-slot-typed k x true of = of
+slot-typed : (k : Kind) (x : Item) (b : Bool) → (b ≡ true → IsItemOf k x) → IsItemOf k (cond b x null)
+slot-typed k x true of = of refl
 slot-typed k x false of = null-typed k
   where
     null-typed : (k : Kind) → IsItemOf k null
     null-typed k = tt
 
-pub values-typed : (k : Kind) (value : ℕ → Item) (s : Seen) → s.items ≡ valid_values value s → ((j : ℕ) → IsItemOf k (value j)) → All (IsItemOf k) s.items
+-- what lies under a null need not be of the kind
+pub values-typed : (k : Kind) (value : ℕ → Item) (s : Seen) → s.items ≡ valid_values value s
+    → ((j : ℕ) → j < length s.items → valid_at s j ≡ true → IsItemOf k (value j)) → All (IsItemOf k) s.items
 values-typed k value s is of =
     subst (All (IsItemOf k)) (sym is)
     (All-map (IsItemOf k) (λ j. cond (valid_at s j) (value j) null) (range_with_len 0 (length s.items))
-    (λ i d below. slot-typed k (value (get_or (range_with_len 0 (length s.items)) i d)) (valid_at s (get_or (range_with_len 0 (length s.items)) i d)) (of (get_or (range_with_len 0 (length s.items)) i d))))
+    (λ i d below. let within : i < length s.items = omega (arith, below, length-range_with_len 0 (length s.items)) in
+    subst (λ j. IsItemOf k (cond (valid_at s j) (value j) null)) (sym (get_or-range_with_len 0 (length s.items) i d within))
+    (slot-typed k (value (0 + i)) (valid_at s (0 + i)) (subst (λ j. valid_at s j ≡ true → IsItemOf k (value j)) (sym (zero-add i)) (of i within)))))
 
 -- ---- lists
 
@@ -89,7 +94,7 @@ list-typed k offsets items j all = list_of-typed k (of_slot offsets items j) (Al
 
 entry-typed : (x : Item) → IsItemOf kind.utf8 x → IsItemOf kind.dict x
 entry-typed null of = tt
-entry-typed (text t) of = tt
+entry-typed (text t) of = of
 entry-typed (int z) of = of
 entry-typed (boolean b) of = of
 entry-typed (list xs) of = of

@@ -1,6 +1,8 @@
 -- How much the items of a column hold together, and columns cut by such lengths.
-use Rattle.std.specs.Prelude.{ℕ, List, [], ◌∷◌, ◌++◌, length, take, drop, sum_by, flat_map, Option, Some, None, Bool, nat_lt, unwrap_or}
+use Rattle.std.specs.Prelude.{◌≡◌, ◌⊎◌, ℕ, List, [], ◌∷◌, ◌++◌, length, take, drop, sum_by, flat_map, Option, Some, None, Bool, true, false, nat_lt, unwrap_or}
 use Rattle.arrays.specs.Item.{Item, null, text, list, items_of, list_of}
+use Rattle.arrays.specs.declared.builder.fault.BuildFault.{BuildFault}
+use Rattle.arrays.specs.declared.builder.fault.BuildFault.TheVariants.{NoMemory, OffsetsFull}
 
 -- How many bytes a text has.
 abbrev pub text_length : Item → ℕ
@@ -38,3 +40,7 @@ cut (Some n ∷ lengths) items = list (list_of (take n items)) ∷ cut lengths (
 -- More than 32-bit offsets count.
 abbrev pub is_past : ℕ → Bool
 is_past n = nat_lt 2147483647 n
+
+-- Why a slot is refused: with it the offsets would be past what they count, or, where they aren't, a growth was refused.
+abbrev pub IsBuildFault : Bool → BuildFault → Type 0
+IsBuildFault past told = ((told ≡ OffsetsFull) × (past ≡ true)) ⊎ ((told ≡ NoMemory) × (past ≡ false))

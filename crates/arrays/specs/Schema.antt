@@ -1,6 +1,6 @@
 -- What a schema refuses.
-use Rattle.std.specs.Prelude.{List, Bool, nat_lt, Option, Some, None, option_map, position}
-use Rattle.arrays.specs.Kind.{depth, has_dict_in_list}
+use Rattle.std.specs.Prelude.{List, Bool, nat_lt, not, ◌&&◌, Option, Some, None, option_map, position}
+use Rattle.arrays.specs.Kind.{Kind, depth, has_dict_in_list}
 use Rattle.arrays.specs.Shape.{FieldShape, kind_of_field}
 use Rattle.arrays.specs.declared.schema.SchemaFault.{SchemaFault}
 use Rattle.arrays.specs.declared.schema.SchemaFault.TheVariants.{TooDeep, DictInList}
@@ -12,6 +12,10 @@ is_deep f = nat_lt 8 (depth (kind_of_field f))
 -- A dictionary inside a list.
 abbrev pub holds_dict : FieldShape → Bool
 holds_dict f = has_dict_in_list (kind_of_field f)
+
+-- The same of a type that isn't too deep.
+abbrev pub is_shallow_with_dict : Kind → Bool
+is_shallow_with_dict k = not (nat_lt 8 (depth k)) && has_dict_in_list k
 
 abbrev pub or_else : Option SchemaFault → Option SchemaFault → Option SchemaFault
 or_else (Some fault) other = Some fault

@@ -1,6 +1,6 @@
 -- What a slot holds, as an item: null for none.
 use Rattle.std.specs.Prelude.{ℕ, List, Bool, true, false, not, Option, Some, None, slice_index_or}
-use Rattle.arrays.specs.Kind.{Kind, utf8, list, dict}
+use Rattle.arrays.specs.Kind.{Kind, int, utf8, list, dict}
 use Rattle.arrays.specs.Item as item
 use Rattle.arrays.specs.Item.{Item, null, is_null, list_of}
 use Rattle.arrays.specs.Seen.{Seen}
@@ -22,6 +22,11 @@ item_of_list (Some s) = item.list (list_of s.items)
 -- Whether slot i holds an item: of a dictionary-encoded column, its code may be valid and name an entry that is null.
 abbrev pub holds_at : Seen → ℕ → Bool
 holds_at s i = not (is_null (slice_index_or s.items i null))
+
+-- Whether the items are numbers.
+abbrev pub is_int : Kind → Bool
+is_int (int ty) = true
+is_int k = false
 
 -- Whether the items are texts.
 abbrev pub is_text : Kind → Bool

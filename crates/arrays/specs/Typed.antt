@@ -1,18 +1,18 @@
 -- The items of each kind.
-use Rattle.std.specs.Prelude.{⊤}
+use Rattle.std.specs.Prelude.{IsUtf8, ⊤}
 use Rattle.arrays.specs.Item.{Item, Items, null, int, boolean, text, list, none, more}
 use Rattle.arrays.specs.Kind as kind
 use Rattle.arrays.specs.Kind.{Kind}
 use Rattle.arrays.specs.Number.{IsOfType}
 
--- The item is null or of the kind: a number in the type's range, a truth value, a text, or a list of such items.
+-- The item is null or of the kind: a number in the type's range, a truth value, a text in UTF-8, or a list of such items.
 abbrev mutual
   pub IsItemOf : Kind → Item → Type 0
   IsItemOf k null = ⊤
   IsItemOf (kind.int t) (int z) = IsOfType t z
   IsItemOf kind.boolean (boolean b) = ⊤
-  IsItemOf kind.utf8 (text bytes) = ⊤
-  IsItemOf kind.dict (text bytes) = ⊤
+  IsItemOf kind.utf8 (text bytes) = IsUtf8 bytes
+  IsItemOf kind.dict (text bytes) = IsUtf8 bytes
   IsItemOf (kind.list k) (list xs) = AreItemsOf k xs
   IsItemOf k x = ⊥
 

@@ -12,6 +12,7 @@ mod tests;
 
 use crate::copies;
 use crate::fault::LayoutFault;
+use crate::release::release;
 use crate::types::{DataType, RawArray};
 use crate::validator::first_fault;
 use crate::view::{View, ViewType};
@@ -58,7 +59,10 @@ pub fn validate(alloc: Global, raw: RawArray) -> Result<Array, LayoutFault>
     ensures err { IfErr result (λ e. (fault raw ≡ Some e) ⊎ ((e ≡ LayoutFault.NoMemory) × (fault raw ≡ None))) }
 {
     match first_fault(&raw) {
-        Some(fault) => Err(fault),
+        Some(fault) => {
+            release(raw);
+            Err(fault)
+        }
         None => match Array::from_lawful(alloc, raw) {
             Ok(array) => Ok(array),
             Err(NoMemory) => Err(LayoutFault::NoMemory),

@@ -11,6 +11,7 @@ pub mod file;
 pub mod integer;
 mod number;
 mod numbers;
+mod release;
 pub mod schema;
 #[cfg(test)]
 mod testing;

@@ -1,8 +1,8 @@
 ghost use Rattle.std.specs.Prelude.{◌≡◌, List, Some, None, IfOk, IfErr, position, nat_lt, length, ◌==◌};
-ghost use Rattle.arrays.specs.Kind.{kind_of, depth, has_dict_in_list};
+ghost use Rattle.arrays.specs.Kind.{kind_of, depth};
 ghost use Rattle.arrays.specs.Shape.{fields_of};
 ghost use Rattle.arrays.specs.declared.types.Field.{out-Field};
-ghost use Rattle.arrays.specs.Schema.{schema_fault};
+ghost use Rattle.arrays.specs.Schema.{is_shallow_with_dict, schema_fault};
 
 use crate::types::{Field, has_dict_in_list, is_too_deep};
 use colbits::NoMemory;
@@ -84,7 +84,8 @@ impl Schema {
 
     /// The fields.
     pub fn fields(&self) -> &[Field]
-        ensures { fields_of result.now ≡ self.now }
+        ensures value { fields_of result.now ≡ self.now }
+        ensures lawful { schema_fault self.now ≡ None }
     {
         &self.fields
     }
@@ -122,9 +123,11 @@ fn first_deep(fields: &[Field]) -> Option<usize>
     fields.iter().position(|f| is_too_deep(&f.ty))
 }
 
-/// The least column with a dictionary inside a list. It is called where none is too deep.
+/// The least column with a dictionary inside a list. It doesn't look into a field that is too deep.
 fn first_with_dict(fields: &[Field]) -> Option<usize>
-    ensures { result ≡ position (λ f. has_dict_in_list (kind_of (out-Field f).ty)) fields.now }
+    ensures { result ≡ position (λ f. is_shallow_with_dict (kind_of (out-Field f).ty)) fields.now }
 {
-    fields.iter().position(|f| has_dict_in_list(&f.ty))
+    fields
+        .iter()
+        .position(|f| !is_too_deep(&f.ty) && has_dict_in_list(&f.ty))
 }

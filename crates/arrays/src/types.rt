@@ -1,4 +1,4 @@
-ghost use Rattle.std.specs.Prelude.{◌≡◌, nat_lt, option_map, IfOk};
+ghost use Rattle.std.specs.Prelude.{◌≡◌, ◌≤◌, nat_lt, option_map, IfOk};
 ghost use Rattle.arrays.specs.Shape.{field_of, shape_of};
 ghost use Rattle.arrays.specs.Kind.{kind_of, depth, item_kind, ends_in_dict, has_dict_in_list};
 
@@ -42,7 +42,7 @@ pub struct IntType {
 /// Two types are the *same* if kinds, widths, signs and item types are; the names and nullability of
 /// list items aren't compared.
 #[cycle(types)]
-#[derive(Debug, Drop)]
+#[derive(Debug)]
 pub enum DataType {
     Int(IntType),
     Bool,
@@ -71,6 +71,23 @@ pub struct RawArray {
     pub buffers: Vec<Option<Buffer>>,
     pub children: Vec<RawArray>,
     pub dictionary: Option<Box<RawArray>>,
+}
+
+/// A type is taken apart list by list in a loop: one from a stranger may have more lists in one another than the
+/// stack has room for.
+impl Drop for DataType {
+    fn drop(mut self) {
+        loop {
+            match self {
+                DataType::List(item) => {
+                    let Field { name, nullable: _, ty } = Box::into_inner(item);
+                    drop(name);
+                    self = ty;
+                }
+                DataType::Int(_) | DataType::Bool | DataType::Utf8 | DataType::Dict => return,
+            }
+        }
+    }
 }
 
 impl Field {
@@ -132,6 +149,7 @@ pub(crate) fn is_too_deep(ty: &DataType) -> bool
 
 /// Whether the type is a dictionary or a list of such. It goes down as many levels as the type has.
 fn ends_in_dict(ty: &DataType) -> bool
+    requires { depth (kind_of ty.now) ≤ 8 }
     ensures { result ≡ ends_in_dict (kind_of ty.now) }
 {
     match ty {
@@ -143,6 +161,7 @@ fn ends_in_dict(ty: &DataType) -> bool
 
 /// Whether a dictionary stands inside a list.
 pub(crate) fn has_dict_in_list(ty: &DataType) -> bool
+    requires { depth (kind_of ty.now) ≤ 8 }
     ensures { result ≡ has_dict_in_list (kind_of ty.now) }
 {
     match ty {

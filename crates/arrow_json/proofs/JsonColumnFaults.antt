@@ -92,8 +92,9 @@ column_flags t n d f h = tells_as (FlagsFault n d) (ColumnFault t n d) f (λ k p
 pub column_values : (t : IntType) (n : ℕ) (d : Data) (f : JsonFault) → Tells (MemberFault member.Data (ListFault n) d) f → Tells (ColumnFault t n d) f
 column_values t n d f h = tells_as (MemberFault member.Data (ListFault n) d) (ColumnFault t n d) f (λ k p w. bad_values k p w) h
 
-pub column_slots : (t : IntType) (n : ℕ) (d : Data) (f : JsonFault) (flags : Option Items) (values : Items) → Tells (SlotsFault t flags values) f
-    → flags_of (member_of member.Validity d) ≡ Some flags → option_and_then as_array (member_of member.Data d) ≡ Some values → Tells (ColumnFault t n d) f
-column_slots t n d f flags values h at_flags at_values = tells_as (SlotsFault t flags values) (ColumnFault t n d) f (λ k p w. bad_slots flags values k p at_flags at_values w) h
+pub column_slots : (t : IntType) (n : ℕ) (d : Data) (f : JsonFault) (flags : Option Items) (vs : List Value) → Tells (SlotsFault t flags (items_view vs)) f
+    → flags_of (member_of member.Validity d) ≡ Some flags → option_and_then as_array (member_of member.Data d) ≡ Some (items_view vs) → length vs ≡ n → Tells (ColumnFault t n d) f
+column_slots t n d f flags vs h at_flags at_values whole =
+    tells_as (SlotsFault t flags (items_view vs)) (ColumnFault t n d) f (λ k p w. bad_slots flags (items_view vs) k p at_flags at_values (items_len-items_view vs ∙ whole) w) h
 
 pub ruleset column_told = (column_object, column_count, column_flags, column_values, column_slots)

@@ -1,7 +1,7 @@
 -- Why a fault that is told stands: one lemma for each way in which it came about.
 use Rattle.std.proofs.Common.{◌≡◌, ◌≢◌, inl, inr, ◌∙◌, ℕ, ◌<◌, length, get_or, List, [], ◌∷◌, Option, Some, None, option_and_then, false, codes, sym, ap, subst}
-use Rattle.serde_json.specs.Data.{Data, Items}
-use Rattle.serde_json.specs.Find.{get_item, as_array, as_bool, as_number, as_object, as_str}
+use Rattle.serde_json.specs.Data.{Data, Items, Num}
+use Rattle.serde_json.specs.Find.{get_item, as_array, as_bool, as_null, as_number, as_object, as_str}
 use Rattle.serde_json.proofs.Views.{items_len-items_view, get_item_within}
 use Rattle.serde_json.specs.View.{view, items_view}
 use Rattle.serde_json.specs.declared.value.Value.{Value}
@@ -15,8 +15,8 @@ use Rattle.arrow_json.specs.declared.fault.JsonFaultKind.TheVariants.{MissingMem
 use Rattle.arrow_json.specs.JsonFault.{no_memory, IsFault, IsUnder, Tells, stands, wants}
 use Rattle.arrow_json.specs.JsonMember.{member_of, IsObject, Unlike, unlike, Missing, missing, MemberFault, absent, wrong, EachFault, item}
 use Rattle.arrow_json.specs.JsonNumber.{width_of}
-use Rattle.arrow_json.specs.JsonSchema.{type_name, is_without, is_childless}
-use Rattle.arrow_json.specs.JsonSchemaFault.{TypeFault, no_type_object, bad_type_name, other_type, bad_width, other_width, bad_sign, FieldFault, no_field_object, bad_field_name, bad_nullable, bad_type, encoded, has_children, SchemaFault, no_schema_object, bad_fields, bad_field}
+use Rattle.arrow_json.specs.JsonSchema.{type_name, is_childless}
+use Rattle.arrow_json.specs.JsonSchemaFault.{TypeFault, no_type_object, bad_type_name, other_type, bad_width, other_width, bad_sign, FieldFault, no_field_object, bad_field_name, bad_nullable, bad_type, no_dictionary_object, encoded, has_children, SchemaFault, no_schema_object, bad_fields, bad_field}
 
 abbrev Faults : Type 1
 Faults = JsonFaultKind → List Step → Type 0
@@ -64,9 +64,9 @@ type_other_name d f bytes at other is = tells_at (TypeFault d) UnsupportedType [
 pub type_width : (d : Data) (f : JsonFault) → Tells (MemberFault member.BitWidth (Unlike as_number) d) f → type_name d ≡ Some (codes "int") → Tells (TypeFault d) f
 type_width d f t int = tells_as (MemberFault member.BitWidth (Unlike as_number) d) (TypeFault d) f (λ k p h. bad_width k p int h) t
 
-pub type_other_width : (d : Data) (f : JsonFault) → type_name d ≡ Some (codes "int") → option_and_then width_of (option_and_then as_number (member_of member.BitWidth d)) ≡ None
-    → IsFault UnsupportedType [] f → Tells (TypeFault d) f
-type_other_width d f int other is = tells_at (TypeFault d) UnsupportedType [] f (other_width int other) is
+pub type_other_width : (d : Data) (f : JsonFault) (width : Num) → type_name d ≡ Some (codes "int") → option_and_then as_number (member_of member.BitWidth d) ≡ Some width
+    → width_of width ≡ None → IsFault UnsupportedType [] f → Tells (TypeFault d) f
+type_other_width d f width int at other is = tells_at (TypeFault d) UnsupportedType [] f (other_width width int at other) is
 
 pub type_sign : (d : Data) (f : JsonFault) → Tells (MemberFault member.IsSigned (Unlike as_bool) d) f → type_name d ≡ Some (codes "int") → Tells (TypeFault d) f
 type_sign d f t int = tells_as (MemberFault member.IsSigned (Unlike as_bool) d) (TypeFault d) f (λ k p h. bad_sign k p int h) t
@@ -89,8 +89,12 @@ pub field_type_told : (d e : Data) (f g : JsonFault) → Tells (TypeFault e) f �
 field_type_told d e f g t at up =
     tells_under (TypeFault e) (FieldFault d) (step.Member member.DataType) f g (λ k p h. bad_type k (step.Member member.DataType ∷ p) (wrong e k p at h)) t up
 
-pub field_encoded : (d : Data) (f : JsonFault) → is_without (member_of member.Dictionary d) ≡ false → IsFault UnsupportedType (step.Member member.DataType ∷ []) f → Tells (FieldFault d) f
-field_encoded d f h is = tells_at (FieldFault d) UnsupportedType (step.Member member.DataType ∷ []) f (encoded h) is
+pub field_encoded : (d e : Data) (f : JsonFault) → member_of member.Dictionary d ≡ Some e → IsObject e → IsFault UnsupportedType (step.Member member.DataType ∷ []) f → Tells (FieldFault d) f
+field_encoded d e f at object is = tells_at (FieldFault d) UnsupportedType (step.Member member.DataType ∷ []) f (encoded e at object) is
+
+pub field_no_dictionary : (d e : Data) (f g : JsonFault) → Tells (Unlike as_object e) f → member_of member.Dictionary d ≡ Some e → as_null e ≡ None
+    → IsUnder (step.Member member.Dictionary) f g → Tells (FieldFault d) g
+field_no_dictionary d e f g t at some up = tells_under (Unlike as_object e) (FieldFault d) (step.Member member.Dictionary) f g (λ k p h. no_dictionary_object e k p at some h) t up
 
 pub field_children : (d : Data) (f : JsonFault) → is_childless (member_of member.Children d) ≡ false → IsFault WrongMember (step.Member member.Children ∷ []) f → Tells (FieldFault d) f
 field_children d f h is = tells_at (FieldFault d) WrongMember (step.Member member.Children ∷ []) f (has_children h) is
@@ -124,6 +128,6 @@ pub ruleset schema_told = (tells_item_at, schema_object, schema_fields, schema_f
 
 pub ruleset type_told = (type_object, type_name_told, type_other_name, type_width, type_other_width, type_sign)
 
-pub ruleset field_told = (field_object, field_name_told, field_nullable_told, field_no_type, field_type_told, field_encoded, field_children, tells_wants)
+pub ruleset field_told = (field_object, field_name_told, field_nullable_told, field_no_type, field_type_told, field_encoded, field_no_dictionary, field_children, tells_wants)
 
 pub ruleset told = (tells_unlike, tells_missing, tells_absent, tells_unlike_member)

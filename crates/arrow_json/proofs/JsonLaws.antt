@@ -1,5 +1,6 @@
 -- Where a fault stands, nothing is read.
 use Rattle.std.proofs.Common.{◌≡◌, ◌∙◌, ℕ, zero, suc, ◌<◌, Bool, true, List, [], ◌∷◌, length, Option, Some, None, option_map, option_and_then, codes, refl, sym, ap, subst, arith}
+use Rattle.std.proofs.lemmas.Bool.{false≢true}
 use Rattle.std.specs.List.{slice_get}
 use Rattle.arrays.specs.declared.types.IntType.{IntType}
 use Rattle.arrays.specs.Kind as kind
@@ -16,10 +17,10 @@ use Rattle.arrow_json.specs.declared.path.Member.TheVariants as member
 use Rattle.arrow_json.specs.declared.path.Step.{Step}
 use Rattle.arrow_json.specs.declared.fault.JsonFaultKind.{JsonFaultKind}
 use Rattle.arrow_json.specs.JsonMember as at
-use Rattle.arrow_json.specs.JsonMember.{member_of, Unlike, unlike, Missing, missing, MemberFault, absent, wrong, ListFault, no_array, length_differs, EachFault, ReadsEach}
+use Rattle.arrow_json.specs.JsonMember.{IsObject, member_of, Unlike, unlike, Missing, missing, MemberFault, absent, wrong, ListFault, no_array, length_differs, EachFault, ReadsEach}
 use Rattle.arrow_json.specs.JsonNumber.{count_of, flag_of, width_of, integer_of}
 use Rattle.arrow_json.specs.JsonSchema.{ReadsInt, ReadsShape, ReadsField, HasField, ReadsSchema}
-use Rattle.arrow_json.specs.JsonSchemaFault.{TypeFault, no_type_object, bad_type_name, other_type, bad_width, other_width, bad_sign, FieldFault, no_field_object, bad_field_name, bad_nullable, bad_type, encoded, has_children, SchemaFault, no_schema_object, bad_fields, bad_field}
+use Rattle.arrow_json.specs.JsonSchemaFault.{TypeFault, no_type_object, bad_type_name, other_type, bad_width, other_width, bad_sign, FieldFault, no_field_object, bad_field_name, bad_nullable, bad_type, no_dictionary_object, encoded, has_children, SchemaFault, no_schema_object, bad_fields, bad_field}
 use Rattle.arrow_json.specs.JsonColumn.{flags_of, HasFlags, valid_at, slot_of, ReadsInts}
 use Rattle.arrow_json.specs.JsonColumnFault.{CountFault, no_count, other_count, FlagsFault, no_flags, SlotFault, no_flag, no_integer, SlotsFault, bad_valid, bad_slot, ColumnFault, no_column_object, bad_count, bad_flags, bad_values, bad_slots}
 use Rattle.arrow_json.specs.JsonTable.{Table, FileData}
@@ -72,7 +73,7 @@ type_law d t k p h (other_type bytes found other) =
 type_law d t k p h (bad_width k' p' name f) =
     let i = inner width_of (option_and_then as_number (member_of member.BitWidth d)) t.bits h.width in
     no_member as_number member.BitWidth d i.0 _ _ i.1 f
-type_law d t k p h (other_width name none) = cc (none, h.width)
+type_law d t k p h (other_width width name at none) = cc (at, none, h.width)
 type_law d t k p h (bad_sign k' p' name f) = no_member as_bool member.IsSigned d _ _ _ h.sign f
 
 shape_law : (d : Data) (s : Shape) (k : JsonFaultKind) (p : List Step) → ReadsShape d s → TypeFault d k p → ⊥
@@ -90,12 +91,22 @@ under_law m W d e k p found law (wrong g k' p' at w) =
     let same : g ≡ e = cc (found, at) in
     law k' p' (subst (λ x. W x k' p') same w)
 
+-- an object isn't null
+no_null : (e : Data) → IsObject e → as_null e ≡ None
+no_null data'.null h = absurd (false≢true h)
+no_null (data'.boolean b) h = refl
+no_null (data'.number n) h = refl
+no_null (data'.string s) h = refl
+no_null (data'.array ds) h = refl
+no_null (data'.object ms) h = refl
+
 has_law : (d : Data) (bytes : List ℕ) (b : Bool) (s : Shape) (k : JsonFaultKind) (p : List Step) → HasField d bytes b s → FieldFault d k p → ⊥
 has_law d bytes b s k p h (no_field_object k' p' u) = no_object as_str member.Name d _ h.name (not_unlike as_object d _ _ u)
 has_law d bytes b s k p h (bad_field_name k' p' f) = no_member as_str member.Name d _ _ _ h.name f
 has_law d bytes b s k p h (bad_nullable k' p' f) = no_member as_bool member.Nullable d _ _ _ h.nullable f
 has_law d bytes b s k p h (bad_type k' p' f) = under_law member.DataType TypeFault d h.ty.0 _ _ h.ty.1 (λ k p w. shape_law h.ty.0 s k p h.ty.2 w) f
-has_law d bytes b s k p h (encoded e) = cc (e, h.plain)
+has_law d bytes b s k p h (no_dictionary_object e k' p' at some u) = cc (at, some, h.plain)
+has_law d bytes b s k p h (encoded e at object) = cc (at, no_null e object, h.plain)
 has_law d bytes b s k p h (has_children e) = cc (e, h.childless)
 
 field_law : (d : Data) (f : FieldShape) (k : JsonFaultKind) (p : List Step) → ReadsField d f → FieldFault d k p → ⊥
@@ -191,7 +202,7 @@ ints_law t n d items k p h (bad_flags k' p' f) = flags_law n d h.flags _ _ h.val
 ints_law t n d items k p h (bad_values k' p' f) =
     let i = inner as_array (member_of member.Data d) h.values h.listed in
     under_law member.Data (ListFault n) d i.0 _ _ i.1 (λ k p w. list_law n i.0 h.values k p i.2 h.whole w) f
-ints_law t n d items k p h (bad_slots flags values k' p' at_flags at_values f) =
+ints_law t n d items k p h (bad_slots flags values k' p' at_flags at_values whole f) =
     let a : flags ≡ h.flags = cc (at_flags, h.validity) in
     let b : values ≡ h.values = cc (at_values, h.listed) in
     slots_law t n d items k' p' h (subst (λ x. SlotsFault t x h.values k' p') a (subst (λ y. SlotsFault t flags y k' p') b f))

@@ -2,6 +2,7 @@
 use Rattle.std.specs.Prelude.{◌≡◌, ◌≢◌, ℕ, List, [], ◌∷◌, true, Option, Some, None, option_and_then}
 use Rattle.arrays.specs.declared.types.IntType.{IntType}
 use Rattle.serde_json.specs.Data.{Data, Items}
+use Rattle.serde_json.specs.Events.{items_len}
 use Rattle.serde_json.specs.Find.{get_item, as_array, as_null, as_object}
 use Rattle.arrow_json.specs.JsonNumber.{integer_of, count_of, flag_of}
 use Rattle.arrow_json.specs.JsonMember.{member_of, Unlike, MemberFault, ListFault}
@@ -38,5 +39,6 @@ pub data ColumnFault (t : IntType) (n : ℕ) (d : Data) : JsonFaultKind → List
   bad_count : (kind : JsonFaultKind) (path : List Step) → CountFault n d kind path → ColumnFault t n d kind path
   bad_flags : (kind : JsonFaultKind) (path : List Step) → FlagsFault n d kind path → ColumnFault t n d kind path
   bad_values : (kind : JsonFaultKind) (path : List Step) → MemberFault member.Data (ListFault n) d kind path → ColumnFault t n d kind path
+  -- a slot of the n that are there
   bad_slots : (flags : Option Items) (values : Items) (kind : JsonFaultKind) (path : List Step) → flags_of (member_of member.Validity d) ≡ Some flags
-      → option_and_then as_array (member_of member.Data d) ≡ Some values → SlotsFault t flags values kind path → ColumnFault t n d kind path
+      → option_and_then as_array (member_of member.Data d) ≡ Some values → items_len values ≡ n → SlotsFault t flags values kind path → ColumnFault t n d kind path

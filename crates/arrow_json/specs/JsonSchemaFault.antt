@@ -1,10 +1,10 @@
 -- What can be wrong with a schema.
 use Rattle.std.specs.Prelude.{◌≡◌, ◌≢◌, ℕ, List, [], ◌∷◌, codes, false, Some, None, option_and_then}
-use Rattle.serde_json.specs.Data.{Data, Items}
-use Rattle.serde_json.specs.Find.{as_bool, as_number, as_str, as_array, as_object}
+use Rattle.serde_json.specs.Data.{Data, Items, Num}
+use Rattle.serde_json.specs.Find.{as_bool, as_null, as_number, as_str, as_array, as_object}
 use Rattle.arrow_json.specs.JsonNumber.{width_of}
-use Rattle.arrow_json.specs.JsonMember.{member_of, Unlike, MemberFault, EachFault}
-use Rattle.arrow_json.specs.JsonSchema.{type_name, is_without, is_childless}
+use Rattle.arrow_json.specs.JsonMember.{IsObject, member_of, Unlike, MemberFault, EachFault}
+use Rattle.arrow_json.specs.JsonSchema.{type_name, is_childless}
 use Rattle.arrow_json.specs.declared.path.Member.TheVariants as member
 use Rattle.arrow_json.specs.declared.path.Step.{Step}
 use Rattle.arrow_json.specs.declared.path.Step.TheVariants as step
@@ -17,7 +17,7 @@ pub data TypeFault (d : Data) : JsonFaultKind → List Step → Type 0 where
   -- only integers are read
   other_type : (bytes : List ℕ) → type_name d ≡ Some bytes → bytes ≢ codes "int" → TypeFault d UnsupportedType []
   bad_width : (kind : JsonFaultKind) (path : List Step) → type_name d ≡ Some (codes "int") → MemberFault member.BitWidth (Unlike as_number) d kind path → TypeFault d kind path
-  other_width : type_name d ≡ Some (codes "int") → option_and_then width_of (option_and_then as_number (member_of member.BitWidth d)) ≡ None
+  other_width : (width : Num) → type_name d ≡ Some (codes "int") → option_and_then as_number (member_of member.BitWidth d) ≡ Some width → width_of width ≡ None
       → TypeFault d UnsupportedType []
   bad_sign : (kind : JsonFaultKind) (path : List Step) → type_name d ≡ Some (codes "int") → MemberFault member.IsSigned (Unlike as_bool) d kind path → TypeFault d kind path
 
@@ -26,8 +26,10 @@ pub data FieldFault (d : Data) : JsonFaultKind → List Step → Type 0 where
   bad_field_name : (kind : JsonFaultKind) (path : List Step) → MemberFault member.Name (Unlike as_str) d kind path → FieldFault d kind path
   bad_nullable : (kind : JsonFaultKind) (path : List Step) → MemberFault member.Nullable (Unlike as_bool) d kind path → FieldFault d kind path
   bad_type : (kind : JsonFaultKind) (path : List Step) → MemberFault member.DataType TypeFault d kind path → FieldFault d kind path
+  no_dictionary_object : (e : Data) (kind : JsonFaultKind) (path : List Step) → member_of member.Dictionary d ≡ Some e → as_null e ≡ None → Unlike as_object e kind path
+      → FieldFault d kind (step.Member member.Dictionary ∷ path)
   -- only texts may be dictionary-encoded, and texts aren't read
-  encoded : is_without (member_of member.Dictionary d) ≡ false → FieldFault d UnsupportedType (step.Member member.DataType ∷ [])
+  encoded : (e : Data) → member_of member.Dictionary d ≡ Some e → IsObject e → FieldFault d UnsupportedType (step.Member member.DataType ∷ [])
   -- an integer has no children
   has_children : is_childless (member_of member.Children d) ≡ false → FieldFault d WrongMember (step.Member member.Children ∷ [])
 

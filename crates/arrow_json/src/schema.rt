@@ -60,13 +60,26 @@ fn field_type(alloc: Global, field: &Value) -> Result<IntType, JsonFault>
     }
 }
 
-/// Whether the member is absent or null.
-fn is_without(object: &Value, member: Member) -> bool
-    ensures { result ≡ is_without (member_of member (view object.now)) }
+/// That a field has no dictionary: it is absent or null. Only texts may have one, and texts aren't read.
+#[tactic(auto, using(crate::proofs::JsonFaults::field_told))]
+fn check_dictionary(alloc: Global, field: &Value) -> Result<(), JsonFault>
+    requires { IsObject (view field.now) }
+    ensures ok { OnOk result (is_without (member_of member.Dictionary (view field.now)) ≡ true) }
+    ensures err { IfErr result (Tells (FieldFault (view field.now))) }
 {
-    match object.get(member.name()) {
-        Some(found) => found.is_null(),
-        None => true,
+    let Some(found) = field.get(Member::Dictionary.name()) else {
+        return Ok(());
+    };
+    if found.is_null() {
+        return Ok(());
+    }
+    match check_object(alloc, found) {
+        Ok(()) => Err(JsonFault::at(
+            alloc,
+            JsonFaultKind::UnsupportedType,
+            &[Step::Member(Member::DataType)],
+        )),
+        Err(fault) => Err(fault.under(alloc, Step::Member(Member::Dictionary))),
     }
 }
 
@@ -94,13 +107,7 @@ pub(crate) fn read_field(alloc: Global, field: &Value) -> Result<Field, JsonFaul
     let name = text_member(alloc, field, Member::Name)?;
     let nullable = truth_member(alloc, field, Member::Nullable)?;
     let ty = field_type(alloc, field)?;
-    if !is_without(field, Member::Dictionary) {
-        return Err(JsonFault::at(
-            alloc,
-            JsonFaultKind::UnsupportedType,
-            &[Step::Member(Member::DataType)],
-        ));
-    }
+    check_dictionary(alloc, field)?;
     if !is_childless(field) {
         return Err(JsonFault::at(
             alloc,

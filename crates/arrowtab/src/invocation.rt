@@ -30,8 +30,9 @@ pub fn run<S: Source, O: Sink, E: Sink>(
     requires err_room { E.failures err.old < 2 ^ 64 - 1 }
     ensures status { result < 2 }
 
-    // Status 0: all of the output was written.
+    // Status 0: all of the output was written, and nothing was told.
     ensures done { result ≡ 0 → Wrote (first_input S.remaining sources.old) (O.taken out.old) (O.taken out.new) }
+    ensures silent { result ≡ 0 → err.new ≡ err.old }
 
     // Status 1: none of it was, or a beginning of it where the output failed ..
     ensures quiet { result ≡ 1 → WroteFront (first_input S.remaining sources.old)

@@ -1,8 +1,10 @@
 -- Texts in order of coming, each once.
-use Rattle.std.specs.Prelude.{ℕ, Bool, true, not, ◌||◌, ◌&&◌, nat_lt, List, [], ◌∷◌, ◌++◌, length, filter, filter_map, sum_by, position, Option, Some, None, if◌then◌else◌}
+use Rattle.std.specs.Prelude.{◌≡◌, ◌⊎◌, ℕ, Bool, true, false, not, ◌||◌, ◌&&◌, nat_lt, List, [], ◌∷◌, ◌++◌, length, filter, filter_map, sum_by, position, Option, Some, None, if◌then◌else◌}
 use Rattle.std.specs.List.{list_any}
 use Rattle.std.specs.Str.{bytes_eq}
 use Rattle.arrays.specs.Item.{Item, text}
+use Rattle.pool.specs.declared.fault.PoolFault.{PoolFault}
+use Rattle.pool.specs.declared.fault.PoolFault.TheVariants.{NoMemory, TextsFull}
 
 -- The bytes of a text, none of an item that is no text.
 abbrev pub text_of : Item → Option (List ℕ)
@@ -42,3 +44,7 @@ is_too_full ts = nat_lt 2147483647 (length ts) || nat_lt 2147483647 (byte_count 
 -- The place of the text among these.
 abbrev pub place_of : List (List ℕ) → List ℕ → Option ℕ
 place_of ts t = position (bytes_eq t) ts
+
+-- Why a text isn't put in: with it the pool would be too full, or, where it wouldn't, a growth was refused.
+abbrev pub IsPoolFault : Bool → PoolFault → Type 0
+IsPoolFault full told = ((told ≡ TextsFull) × (full ≡ true)) ⊎ ((told ≡ NoMemory) × (full ≡ false))

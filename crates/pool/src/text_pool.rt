@@ -4,7 +4,7 @@ ghost use Rattle.std.specs.Option.{option_map};
 ghost use Rattle.arrays.specs.Item as item;
 ghost use Rattle.arrays.specs.Kind as kind;
 ghost use Rattle.arrays.specs.Shown.{shown};
-ghost use Rattle.pool.specs.Texts.{is_among, is_once, is_too_full, place_of, with_text};
+ghost use Rattle.pool.specs.Texts.{IsPoolFault, is_among, is_once, is_too_full, place_of, with_text};
 
 use crate::fault::PoolFault;
 use arrays::{Array, BuildFault, TextBuilder};
@@ -135,7 +135,7 @@ impl TextPool {
         ensures place { IfOk result (λ code. place_of self.new text.now ≡ Some code) }
         ensures small { IfOk result (λ code. code < 2147483647) }
         ensures err { OnErr result (self.new ≡ self.old) }
-        ensures fault { IfErr result (λ e. ((e ≡ PoolFault.TextsFull) × (is_too_full (with_text self.old text.now) ≡ true)) ⊎ (e ≡ PoolFault.NoMemory)) }
+        ensures fault { IfErr result (IsPoolFault (is_too_full (with_text self.old text.now))) }
     {
         match self.code_of(text) {
             Some(code) => Ok(code),
@@ -150,7 +150,7 @@ impl TextPool {
         ensures place { IfOk result (λ code. code ≡ length self.old) }
         ensures small { IfOk result (λ code. code < 2147483647) }
         ensures err { OnErr result (self.new ≡ self.old) }
-        ensures fault { IfErr result (λ e. ((e ≡ PoolFault.TextsFull) × (is_too_full (self.old ++ text.now ∷ []) ≡ true)) ⊎ (e ≡ PoolFault.NoMemory)) }
+        ensures fault { IfErr result (IsPoolFault (is_too_full (self.old ++ text.now ∷ []))) }
     {
         let code = self.len();
         if code >= MOST || text.len() > MOST - self.bytes {

@@ -5,7 +5,7 @@ use Rattle.std.proofs.lemmas.Bool.{ltb-true, lt-ltb}
 use Rattle.std.proofs.lemmas.List.{take-map}
 use Rattle.std.proofs.lemmas.List.Sums.{sum_by-take-le}
 use Rattle.arrays.specs.Item.{Item}
-use Rattle.arrays.specs.Lengths.{is_past, text_bytes, text_length}
+use Rattle.arrays.specs.Lengths.{IsBuildFault, is_past, text_bytes, text_length}
 use Rattle.arrays.specs.declared.builder.fault.BuildFault.{BuildFault}
 use Rattle.arrays.specs.declared.builder.fault.BuildFault.TheVariants as build
 use Rattle.select.specs.declared.fault.SelectFault.{SelectFault}
@@ -27,6 +27,6 @@ past-picked items picks j pick old x at is of past =
 
 -- a builder's fault, told of all
 pub told_of_all : {T : Type 0} (r : Result T SelectFault) (b : BuildFault) (one all : Bool) → IsErrAnd r (λ e. e ≡ of_build b)
-    → ((b ≡ build.OffsetsFull) × (one ≡ true)) ⊎ (b ≡ build.NoMemory) → (one ≡ true → all ≡ true) → IfErr r (IsFull all)
+    → IsBuildFault one b → (one ≡ true → all ≡ true) → IfErr r (IsFull all)
 told_of_all (Ok v) b one all same told grows = tt
-told_of_all (Err e) b one all same told grows = elim told [ inl h ↦ inl (same ∙ ap of_build h.0, grows h.1) | inr h ↦ inr (same ∙ ap of_build h) ]
+told_of_all (Err e) b one all same told grows = elim told [ inl h ↦ inl (same ∙ ap of_build h.0, grows h.1) | inr h ↦ inr (same ∙ ap of_build h.0) ]

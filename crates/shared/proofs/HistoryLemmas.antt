@@ -1,6 +1,7 @@
 -- Histories that grow, and histories cut out of a table.
 use Rattle.std.proofs.Common.{◌≡◌, ◌∙◌, ◌⊎◌, inl, inr, ℕ, suc, ◌+◌, ◌≤◌, List, [], ◌∷◌, ◌++◌, length, take, drop, None, ap, sym, refl, subst, arith, length-append, append_assoc}
 use Rattle.std.proofs.lemmas.List.{append-nil, drop-append-le, length-drop, take-append-le, take-append-drop, take_all}
+use Rattle.std.proofs.Math.Seq.{drop-append_seam, take-append_seam}
 use Rattle.std.proofs.lemmas.List.Elements.{All-push}
 use Rattle.std.proofs.lemmas.List.Sums.{sum_by-cons}
 use Rattle.arrays.specs.Shape.{FieldShape}
@@ -81,3 +82,10 @@ book-cut (e ∷ rest) t counts =
   where
     length-take-le : (n : ℕ) (t : Table) → n ≤ length t → length (take n t) ≡ n
     length-take-le n t within = omega (arith, within, ap length (take-append-drop n t), length-append (take n t) (drop n t), length-drop n t)
+
+pub cut-book : (h : History) → cut (book h) (rows h) ≡ h
+cut-book [] = refl
+cut-book (e ∷ h) =
+    ap (λ (t : Table). (e.0, t) ∷ cut (book h) (drop (length e.1) (e.1 ++ rows h))) (take-append_seam e.1 (rows h))
+    ∙ ap (λ (t : Table). e ∷ cut (book h) t) (drop-append_seam e.1 (rows h))
+    ∙ ap (λ (g : History). e ∷ g) (cut-book h)

@@ -92,7 +92,7 @@ suits-batch fields b alike lawful typed =
 
 typed-stored : (k : Kind) (x : Item) → IsItemOf k x → IsItemOf (stored_kind k) x
 typed-stored kind.utf8 null is = tt
-typed-stored kind.utf8 (text t) is = tt
+typed-stored kind.utf8 (text t) is = is
 typed-stored kind.utf8 (int z) is = absurd is
 typed-stored kind.utf8 (boolean b) is = absurd is
 typed-stored kind.utf8 (list l) is = absurd is

@@ -49,6 +49,7 @@ ends-push batches entries b worker ends counts i within =
         let at = ends i le in
         record {
           entries = at.entries;
+          each = at.each;
           within = omega (arith, at.within, length-append entries ((worker, length (rows_of b)) ∷ []));
           same =
               ap (λ (l : List Batch). length (table_of l)) (take-append-le i batches (b ∷ []) le)
@@ -57,8 +58,9 @@ ends-push batches entries b worker ends counts i within =
         }
 
     last : length batches < i → EndsWithEntry (batches ++ b ∷ []) (entries ++ (worker, length (rows_of b)) ∷ []) i
-    last gt = record {
+    last gt = let before = ends (length batches) (omega arith) in record {
       entries = length entries + 1;
+      each = omega (arith, within, length-append batches (b ∷ []), before.each, before.within);
       within = omega (arith, length-append entries ((worker, length (rows_of b)) ∷ []));
       same =
           ap (λ (l : List Batch). length (table_of l)) (take_all i (batches ++ b ∷ []) (omega (arith, gt, length-append batches (b ∷ []))))

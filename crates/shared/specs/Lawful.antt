@@ -57,9 +57,10 @@ NamesFront c (Some d) = Begins c.entries.items d.items
 abbrev pub NamesFronts : List FieldShape → Table → Batch → Type 0
 NamesFronts fields t b = AllZip NamesFront b.columns (dictionaries_of fields t)
 
--- The first i batches end where a number of book entries end.
+-- The first i batches end where a number of book entries end, at least one for each.
 pub record EndsWithEntry (batches : List Batch) (book : List (ℕ × ℕ)) (i : ℕ) : Type 0 where
   pub entries : ℕ
+  pub each : i ≤ entries
   pub within : entries ≤ length book
   pub same : length (table_of (take i batches)) ≡ counted (take entries book)
 

@@ -10,7 +10,6 @@ ghost use Rattle.shared.specs.Held.{IsHeld, batches_of, show};
 ghost use Rattle.shared.specs.Lawful.{Begins, table_of};
 ghost use Rattle.shared.specs.Ready.{AreTexts, IsReady};
 
-use crate::cause::early_refusal;
 use crate::columns::{Columns, cut_back, stored_columns};
 use crate::held::Held;
 use crate::refusal::Refusal;
@@ -31,7 +30,7 @@ pub(crate) struct Prepared {
 }
 
 /// Makes a batch ready. Nothing that the table shows changes: its pools have the new texts, and have them no more where
-/// the batch is refused.
+/// the batch is refused. Nothing but its texts and the memory can stand against it here.
 pub(crate) fn prepare(
     alloc: Global,
     held: &Held,
@@ -40,15 +39,13 @@ pub(crate) fn prepare(
 ) -> Result<Prepared, Refusal>
     requires held { IsHeld held.now }
     requires pools { AreTexts held.now (table_of (batches_of held.now)) pools.old.items }
+    requires allowed { early_cause (arc_value held.now.schema) (show held.now).history batch.now ≡ None }
     ensures ok { IfOk result (λ p. IsReady held.now batch.now p) }
     ensures pools { OnOk result (AreTexts held.now (table_of (batches_of held.now) ++ rows_of batch.now) pools.new.items) }
     ensures err { IfErr result (λ e. (e ≡ Refusal.NoMemory)
         ⊎ (batch_cause (arc_value held.now.schema) (show held.now).history batch.now ≡ Some e)) }
     ensures kept { OnErr result (pools.new.items ≡ pools.old.items) }
 {
-    if let Some(refusal) = early_refusal(held, batch) {
-        return Err(refusal);
-    }
     match recoded(alloc, held, pools, batch) {
         Ok(prepared) => Ok(prepared),
         Err(refusal) => {

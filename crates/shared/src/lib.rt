@@ -7,6 +7,7 @@ mod columns;
 mod empty;
 pub mod entry;
 mod held;
+pub mod laws;
 mod nulls;
 pub mod refusal;
 pub mod state;

@@ -2,11 +2,12 @@
 
 ghost use Rattle.std.specs.Prelude.{◌≡◌, ◌⊎◌, [], IfErr, IfOk, None, OnErr, OnOk, Some, length};
 ghost use Rattle.std.specs.Arc.{arc_value};
-ghost use Rattle.shared.specs.Cause.{batch_cause};
+ghost use Rattle.shared.specs.Cause.{batch_cause, early_cause};
 ghost use Rattle.shared.specs.Contents.{Contents, admitted};
 ghost use Rattle.shared.specs.Stored.{stored_fields};
 
 use crate::admission::prepare;
+use crate::cause::early_refusal;
 use crate::empty::{no_texts, nothing};
 use crate::held::{Held, again, put_in, reserve};
 use crate::refusal::Refusal;
@@ -57,14 +58,19 @@ impl TableState {
     }
 
     /// Adds a batch of a worker at the end, and gives the number of its entry in the book, from 0. A batch without rows
-    /// is admitted too. After a refusal the table is as it was.
+    /// is admitted too. After a refusal the table is as it was. Want of memory is told only where nothing else stands that
+    /// can be told without any: the fields, a null, a full table or a full book.
     pub fn admit(&mut self, worker: u32, batch: &RecordBatch) -> Result<u32, Refusal>
         ensures number { IfOk result (λ n. n ≡ length self.old.history) }
         ensures allowed { OnOk result (batch_cause self.old.fields self.old.history batch.now ≡ None) }
         ensures added { OnOk result (self.new ≡ admitted self.old worker batch.now) }
-        ensures err { IfErr result (λ e. (e ≡ Refusal.NoMemory) ⊎ (batch_cause self.old.fields self.old.history batch.now ≡ Some e)) }
+        ensures err { IfErr result (λ e. ((e ≡ Refusal.NoMemory) × (early_cause self.old.fields self.old.history batch.now ≡ None))
+            ⊎ (batch_cause self.old.fields self.old.history batch.now ≡ Some e)) }
         ensures kept { OnErr result (self.new ≡ self.old) }
     {
+        if let Some(refusal) = early_refusal(&self.held, batch) {
+            return Err(refusal);
+        }
         let number = self.held.book.len() as u32;
         reserve(&mut self.held)?;
         let new = prepare(self.alloc, &self.held, &mut self.pools, batch)?;

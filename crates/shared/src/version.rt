@@ -8,7 +8,7 @@ ghost use Rattle.group.specs.Summary.{AreStats};
 ghost use Rattle.shared.specs.Cause.{IsLegal};
 ghost use Rattle.shared.specs.Held.{IsHeld, pair_of, show};
 ghost use Rattle.shared.specs.History.{book, column, rows};
-ghost use Rattle.shared.specs.Lawful.{EndsWithEntry, IsStored, NamesFronts, dictionaries_of};
+ghost use Rattle.shared.specs.Lawful.{EndsWithEntry, IsStored, NamesFronts, dictionaries_of, table_of};
 
 use crate::entry::Entry;
 use crate::held::Held;
@@ -64,11 +64,12 @@ impl Version {
         self.held.rows
     }
 
-    /// The batches, in the order in which they came. Each ends where an entry of the book ends, and a dictionary that one
+    /// The batches, in the order in which they came: their rows, one batch after the other, are those of the table. Each ends where an entry of the book ends, and a dictionary that one
     /// of its columns names begins that of the table's column, so that codes mean the same text in both.
     pub fn batches(&self) -> &[Arc<RecordBatch>]
         ensures value { map (λ b. rows_of (arc_value b)) result.now ≡ self.now.batches }
         ensures lawful { All (λ b. IsStored self.now.fields (arc_value b)) result.now }
+        ensures rows { table_of (map arc_value result.now) ≡ rows self.now.history }
         ensures ends { (i : ℕ) → i ≤ length result.now → EndsWithEntry (map arc_value result.now) (book self.now.history) i }
         ensures fronts { All (λ b. NamesFronts self.now.fields (rows self.now.history) (arc_value b)) result.now }
     {

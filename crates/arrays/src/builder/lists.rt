@@ -1,9 +1,9 @@
 //! A column of lists in the making.
 
-ghost use Rattle.std.specs.Prelude.{◌≡◌, ◌<◌, ◌≤◌, ◌⊎◌, ℕ, Option, [], ◌∷◌, ◌++◌, false, true, length, IfErr, IfOk, OnErr, OnOk};
+ghost use Rattle.std.specs.Prelude.{◌≡◌, ◌<◌, ◌≤◌, ℕ, Option, [], ◌∷◌, ◌++◌, false, length, IfErr, IfOk, OnErr, OnOk};
 ghost use Rattle.arrays.specs.Kind as kind;
 ghost use Rattle.arrays.specs.Kind.{depth, dict, kind_of, same_kind};
-ghost use Rattle.arrays.specs.Lengths.{cut, is_past, total};
+ghost use Rattle.arrays.specs.Lengths.{IsBuildFault, cut, is_past, total};
 ghost use Rattle.arrays.specs.Shown.{shown};
 
 #[cfg(test)]
@@ -50,8 +50,7 @@ impl ListBuilder {
         requires room { length self.old < 2147483647 }
         ensures ok { OnOk result (self.new ≡ self.old ++ items ∷ []) }
         ensures err { OnErr result (self.new ≡ self.old) }
-        ensures fault { IfErr result (λ e. ((e ≡ BuildFault.OffsetsFull) × (is_past (total (self.old ++ items ∷ [])) ≡ true))
-            ⊎ (e ≡ BuildFault.NoMemory)) }
+        ensures fault { IfErr result (IsBuildFault (is_past (total (self.old ++ items ∷ [])))) }
     {
         self.slots.push(items)
     }

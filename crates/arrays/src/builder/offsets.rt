@@ -1,8 +1,8 @@
 //! The offsets of texts or lists in the making.
 
-ghost use Rattle.std.specs.Prelude.{◌≡◌, ◌<◌, ◌≤◌, ◌⊎◌, [], ◌∷◌, ◌++◌, true, length, IfErr, IfOk, OnErr, OnOk};
+ghost use Rattle.std.specs.Prelude.{◌≡◌, ◌<◌, ◌≤◌, Some, [], ◌∷◌, ◌++◌, length, IfErr, IfOk, OnErr, OnOk};
 ghost use Rattle.arrays.specs.Growing.{AreLaid};
-ghost use Rattle.arrays.specs.Lengths.{is_past, total};
+ghost use Rattle.arrays.specs.Lengths.{IsBuildFault, is_past, total};
 
 use super::fault::BuildFault;
 use super::validity::ValidityBuilder;
@@ -50,13 +50,19 @@ impl OffsetsBuilder {
         })
     }
 
+    /// Whether the offsets can't count one slot more of this length.
+    pub(crate) fn is_full_for(&self, more: usize) -> bool
+        ensures { result ≡ is_past (total (self.now ++ Some more ∷ [])) }
+    {
+        more > MOST - self.total
+    }
+
     /// Adds a slot at the end: its length, or null.
     pub(crate) fn push(&mut self, slot: Option<usize>) -> Result<(), BuildFault>
         requires room { length self.old < 2147483647 }
         ensures ok { OnOk result (self.new ≡ self.old ++ slot ∷ []) }
         ensures err { OnErr result (self.new ≡ self.old) }
-        ensures fault { IfErr result (λ e. ((e ≡ BuildFault.OffsetsFull) × (is_past (total (self.old ++ slot ∷ [])) ≡ true))
-            ⊎ (e ≡ BuildFault.NoMemory)) }
+        ensures fault { IfErr result (IsBuildFault (is_past (total (self.old ++ slot ∷ [])))) }
     {
         let more = slot.unwrap_or(0);
         if more > MOST - self.total {

@@ -1,10 +1,10 @@
 //! A column of texts in the making.
 
-ghost use Rattle.std.specs.Prelude.{◌≡◌, ◌<◌, ◌≤◌, ◌⊎◌, [], ◌∷◌, ◌++◌, true, length, IfErr, IfOk, OnErr, OnOk};
+ghost use Rattle.std.specs.Prelude.{◌≡◌, ◌<◌, ◌≤◌, [], ◌∷◌, ◌++◌, length, IfErr, IfOk, OnErr, OnOk};
 ghost use Rattle.std.specs.Option.{option_copied};
 ghost use Rattle.arrays.specs.Item as item;
 ghost use Rattle.arrays.specs.Kind as kind;
-ghost use Rattle.arrays.specs.Lengths.{is_past, text_bytes};
+ghost use Rattle.arrays.specs.Lengths.{IsBuildFault, is_past, text_bytes};
 ghost use Rattle.arrays.specs.Shown.{shown};
 ghost use Rattle.arrays.specs.Slot.{item_of_text};
 
@@ -59,9 +59,8 @@ impl TextBuilder {
         requires room { length self.old < 2147483647 }
         ensures ok { OnOk result (self.new ≡ self.old ++ item_of_text (option_copied text.entry) ∷ []) }
         ensures err { OnErr result (self.new ≡ self.old) }
-        ensures fault { IfErr result (λ e. ((e ≡ BuildFault.OffsetsFull)
-            × (is_past (text_bytes (self.old ++ item_of_text (option_copied text.entry) ∷ [])) ≡ true))
-            ⊎ (e ≡ BuildFault.NoMemory)) }
+        ensures fault { IfErr result
+            (IsBuildFault (is_past (text_bytes (self.old ++ item_of_text (option_copied text.entry) ∷ [])))) }
     {
         match text {
             Some(text) => self.push_text(text),
@@ -77,9 +76,11 @@ impl TextBuilder {
         requires room { length self.old < 2147483647 }
         ensures ok { OnOk result (self.new ≡ self.old ++ item.text text.now ∷ []) }
         ensures err { OnErr result (self.new ≡ self.old) }
-        ensures fault { IfErr result (λ e. ((e ≡ BuildFault.OffsetsFull)
-            × (is_past (text_bytes (self.old ++ item.text text.now ∷ [])) ≡ true)) ⊎ (e ≡ BuildFault.NoMemory)) }
+        ensures fault { IfErr result (IsBuildFault (is_past (text_bytes (self.old ++ item.text text.now ∷ [])))) }
     {
+        if self.slots.is_full_for(text.len()) {
+            return Err(BuildFault::OffsetsFull);
+        }
         let before = self.bytes.len();
         self.bytes.extend_from_slice(text.as_bytes())?;
         match self.slots.push(Some(text.len())) {

@@ -8,7 +8,7 @@ ghost use Rattle.arrays.specs.Kind as kind;
 ghost use Rattle.arrays.specs.Kind.{int32};
 ghost use Rattle.arrays.specs.Layout.{number_at};
 ghost use Rattle.arrays.specs.Offsets.{of_slot, start_of};
-ghost use Rattle.arrays.specs.Slot.{holds_at, is_list, is_text, item_of_bool, item_of_list, item_of_text};
+ghost use Rattle.arrays.specs.Slot.{holds_at, is_int, is_list, is_text, item_of_bool, item_of_list, item_of_text};
 
 use crate::numbers::{natural_at, number_at};
 use crate::types::IntType;
@@ -17,7 +17,20 @@ use std::str::from_utf8_unchecked;
 
 impl<'a> View<'a> {
     /// Number `i` of an integer view, none where the slot is null.
-    pub fn int_at(&self, ty: IntType, i: usize) -> Option<i128>
+    pub fn int_at(&self, i: usize) -> Option<i128>
+        requires int { is_int self.now.kind ≡ true }
+        requires within { i < length self.now.items }
+        ensures { slice_get self.now.items i ≡ Some (item_of result) }
+    {
+        match self.ty {
+            ViewType::Int(ty) => self.int_as(ty, i),
+            _ => unreachable!(),
+        }
+    }
+
+    /// Number `i` of a view of integers of this type, none where the slot is null. The view isn't asked for its type,
+    /// as `int_at` asks it.
+    pub fn int_as(&self, ty: IntType, i: usize) -> Option<i128>
         requires int { self.now.kind ≡ kind.int ty }
         requires within { i < length self.now.items }
         ensures { slice_get self.now.items i ≡ Some (item_of result) }

@@ -10,7 +10,7 @@ use crate::types::IntType;
 use crate::view::{View, ViewType};
 
 impl<'a> View<'a> {
-    /// Says that each item is null or of the view's kind. Nothing is looked at, and nothing changes.
+    /// Says that each item is null or of the view's kind, a text in UTF-8. Nothing is looked at, and nothing changes.
     pub fn tell_items(&self)
         ensures { All (IsItemOf self.now.kind) self.now.items }
     {

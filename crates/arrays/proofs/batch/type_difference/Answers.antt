@@ -7,4 +7,4 @@ pub returns : goal.returns
 returns c =
     c.first_type_difference.ensures
     ∙ sym (differing_type-fields c.fields.result.now c.args.columns.now)
-    ∙ ap (λ fields. differing_type fields c.args.columns.now) c.fields.ensures
+    ∙ ap (λ fields. differing_type fields c.args.columns.now) c.fields.ensures.value

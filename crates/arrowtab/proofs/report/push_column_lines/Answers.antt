@@ -11,7 +11,7 @@ use Rattle.arrowtab.proofs.report.push_column_lines.Goals as goal
 pub stats-stats-requires : goal.stats-stats-requires
 stats-stats-requires c =
     let given = c.fields-fields.result.now in
-    let same = c.fields-fields.ensures ∙ c.schema.ensures in
+    let same = c.fields-fields.ensures.value ∙ c.schema.ensures in
     omega (arith, ap length same, length-map given field_of)
 
 pub loop-k-preserved : goal.loop-k-preserved
@@ -21,7 +21,7 @@ loop-k-preserved c =
     let t = rows c.args.version.now.history in
     let k = c.loop-k.k in
     let f = c.index-fields-k.result in
-    let same = c.fields-fields.ensures ∙ c.schema.ensures in
+    let same = c.fields-fields.ensures.value ∙ c.schema.ensures in
     let at = field-at given fields k f same (omega arith) c.index-fields-k.is in
     let within : k < length fields = omega (arith, ap length same, length-map given field_of) in
     let read : slice_get fields k ≡ Some (field_of f) = slice_get-get_or fields k (field_of f) within ∙ ap (λ (x : FieldShape). Some x) at in

@@ -1,4 +1,4 @@
-use Rattle.std.proofs.Common.{◌≡◌, ◌∙◌, ◌+◌, ◌++◌, ◌∷◌, [], ◌<◌, pos, take, Some, refl, sym, ap, subst}
+use Rattle.std.proofs.Common.{inl, inr, ◌≡◌, ◌∙◌, ◌+◌, ◌++◌, ◌∷◌, [], ◌<◌, pos, take, Some, refl, sym, ap, subst}
 use Rattle.arrays.specs.Builder.{item_of}
 use Rattle.pool.specs.Texts.{firsts, texts_of, with_text, place_of}
 use Rattle.pool.proofs.RecodeLemmas.{Recoded, Recoded-none, Recoded-text, Recoded-null, pool-text, pool-null, full_in_all, told_of_all, to_z_small, starts_take, starts_longer}
@@ -15,7 +15,7 @@ returns-in_err-add-in-Some-clause-err c =
     let items = c.args.view.now.items in
     let t = c.in-Some.text.now in
     told_of_all c.from_residual-in_err-add-in-Some.result c.in_err-add-in-Some.field-0.0 (with_text c.loop-i.pool t) (firsts (old ++ texts_of items))
-    c.from_residual-in_err-add-in-Some.ensures.1 c.in_err-add-in-Some.ensures.fault
+    c.from_residual-in_err-add-in-Some.ensures.1 (elim c.in_err-add-in-Some.ensures.fault [ inl h ↦ inl h | inr h ↦ inr h.0 ])
     (full_in_all old items c.loop-i.i t c.loop-i.pool c.in-Some.ensures c.loop-i.invariant.pool_is)
 
 pub returns-in_err-add-in-Some-clause-longer : goal.returns-in_err-add-in-Some-clause-longer

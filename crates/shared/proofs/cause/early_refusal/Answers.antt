@@ -16,7 +16,7 @@ returns-in-Some-null_refusal c =
     let b = c.args.batch.now in
     let column = column-told fields c.deref.result.now c.schema.result.now b None c.deref.ensures c.schema.ensures (sym c.in_default.is ∙ c.schema_difference.ensures) in
     let nulls =
-    nulls-told fields (fields_of c.fields.result.now) b c.columns.result.now c.null_refusal.result c.columns.ensures.lawful (c.fields.ensures ∙ c.deref-2.ensures) c.columns.ensures.value
+    nulls-told fields (fields_of c.fields.result.now) b c.columns.result.now c.null_refusal.result c.columns.ensures.lawful (c.fields.ensures.value ∙ c.deref-2.ensures) c.columns.ensures.value
     c.null_refusal.ensures in
     early-by fields h b None (Some c.in-Some-null_refusal.refusal) (is_table_full h (rows_of b)) (is_book_full h) column (sym c.in-Some-null_refusal.is ∙ nulls) refl refl
 
@@ -28,7 +28,7 @@ returns-then-held-from-gt-MOST_ROWS c =
     let b = c.args.batch.now in
     let column = column-told fields c.deref.result.now c.schema.result.now b None c.deref.ensures c.schema.ensures (sym c.in_default.is ∙ c.schema_difference.ensures) in
     let nulls =
-    nulls-told fields (fields_of c.fields.result.now) b c.columns.result.now c.null_refusal.result c.columns.ensures.lawful (c.fields.ensures ∙ c.deref-2.ensures) c.columns.ensures.value
+    nulls-told fields (fields_of c.fields.result.now) b c.columns.result.now c.null_refusal.result c.columns.ensures.lawful (c.fields.ensures.value ∙ c.deref-2.ensures) c.columns.ensures.value
     c.null_refusal.ensures in
     early-by fields h b None None true (is_book_full h) column (sym c.in_default-null_refusal.is ∙ nulls)
     (table-full h b (omega (arith, count-shown held c.requires, c.rows.ensures, c.from.ensures, c.if-held-from-gt-MOST_ROWS.true))) refl
@@ -41,7 +41,7 @@ returns-then-len-eq-MOST_ENTRIES c =
     let b = c.args.batch.now in
     let column = column-told fields c.deref.result.now c.schema.result.now b None c.deref.ensures c.schema.ensures (sym c.in_default.is ∙ c.schema_difference.ensures) in
     let nulls =
-    nulls-told fields (fields_of c.fields.result.now) b c.columns.result.now c.null_refusal.result c.columns.ensures.lawful (c.fields.ensures ∙ c.deref-2.ensures) c.columns.ensures.value
+    nulls-told fields (fields_of c.fields.result.now) b c.columns.result.now c.null_refusal.result c.columns.ensures.lawful (c.fields.ensures.value ∙ c.deref-2.ensures) c.columns.ensures.value
     c.null_refusal.ensures in
     early-by fields h b None None false true column (sym c.in_default-null_refusal.is ∙ nulls)
     (table-free h b (omega (arith, count-shown held c.requires, c.rows.ensures, c.from.ensures, c.if-held-from-gt-MOST_ROWS.false)))
@@ -55,7 +55,7 @@ returns c =
     let b = c.args.batch.now in
     let column = column-told fields c.deref.result.now c.schema.result.now b None c.deref.ensures c.schema.ensures (sym c.in_default.is ∙ c.schema_difference.ensures) in
     let nulls =
-    nulls-told fields (fields_of c.fields.result.now) b c.columns.result.now c.null_refusal.result c.columns.ensures.lawful (c.fields.ensures ∙ c.deref-2.ensures) c.columns.ensures.value
+    nulls-told fields (fields_of c.fields.result.now) b c.columns.result.now c.null_refusal.result c.columns.ensures.lawful (c.fields.ensures.value ∙ c.deref-2.ensures) c.columns.ensures.value
     c.null_refusal.ensures in
     early-by fields h b None None false false column (sym c.in_default-null_refusal.is ∙ nulls)
     (table-free h b (omega (arith, count-shown held c.requires, c.rows.ensures, c.from.ensures, c.if-held-from-gt-MOST_ROWS.false)))

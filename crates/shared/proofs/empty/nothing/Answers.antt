@@ -13,5 +13,5 @@ returns-clause-held c =
     let kept = c.in_ok-new.ensures.ok in
     held-empty _ c.new-2.ensures.items c.new-3.ensures.items c.new-5.ensures.items refl
     (subst (λ (v : Vec ColumnStats Global). AreStatsOf (arc_value c.in_ok-new.field-0) [] v.items) (sym c.in_ok-new-2.ensures.ok)
-    (subst (λ (f : List FieldShape). AreStatsOf f [] c.in_ok-stats.stats.items) (c.fields.ensures ∙ sym kept) c.in_ok-stats.ensures))
-    (c.in_ok-dictionaries.ensures ∙ ap (λ (f : List FieldShape). dictionaries_of f []) (c.fields-2.ensures ∙ sym kept))
+    (subst (λ (f : List FieldShape). AreStatsOf f [] c.in_ok-stats.stats.items) (c.fields.ensures.value ∙ sym kept) c.in_ok-stats.ensures))
+    (c.in_ok-dictionaries.ensures ∙ ap (λ (f : List FieldShape). dictionaries_of f []) (c.fields-2.ensures.value ∙ sym kept))

@@ -9,4 +9,4 @@ pub unreachable-requires : goal.unreachable-requires
 unreachable-requires c =
     let lawful : schema_fault c.args.schema ≡ None = ap schema_fault (sym c.schema.view_is) ∙ c.schema.invariant in
     no_fault (schema_fault (fields_of c.in_ok-stored_all.field-0.items)) c.in-Err.field-0
-    (ap schema_fault (c.in_ok-stored_all.ensures ∙ ap stored_fields c.fields.ensures) ∙ schema_fault-stored c.args.schema ∙ lawful) c.in-Err.ensures.err
+    (ap schema_fault (c.in_ok-stored_all.ensures ∙ ap stored_fields c.fields.ensures.value) ∙ schema_fault-stored c.args.schema ∙ lawful) c.in-Err.ensures.err

@@ -16,13 +16,13 @@ pub returns-in-Int : goal.returns-in-Int
 returns-in-Int t c =
     let s = c.args.self.now in
     subst (λ (k : Kind). All (IsItemOf k) s.items) c.in-Int.ensures
-    (values-typed (kind.int c.in-Int.ty) (λ j. int (number_at c.in-Int.ty c.numbers.result.now j)) s c.numbers.ensures.numbers c.tell_range.ensures)
+    (values-typed (kind.int c.in-Int.ty) (λ j. int (number_at c.in-Int.ty c.numbers.result.now j)) s c.numbers.ensures.numbers (λ j below valid. c.tell_range.ensures j))
 
 pub returns-in-Bool : goal.returns-in-Bool
 returns-in-Bool t c =
     let s = c.args.self.now in
     subst (λ (k : Kind). All (IsItemOf k) s.items) c.in-Bool.ensures
-    (values-typed kind.boolean (λ j. boolean (slice_index_or c.bool_bits.result j false)) s c.bool_bits.ensures.values (λ j. tt))
+    (values-typed kind.boolean (λ j. boolean (slice_index_or c.bool_bits.result j false)) s c.bool_bits.ensures.values (λ j below valid. tt))
 
 pub returns-in-List : goal.returns-in-List
 returns-in-List t c =
@@ -30,7 +30,7 @@ returns-in-List t c =
     let lists = c.lists.result in
     subst (λ (k : Kind). All (IsItemOf k) s.items) (sym c.lists.ensures.value.kind)
     (values-typed (kind.list lists.child.kind) (λ j. list (list_of (of_slot lists.offsets.now lists.child.items j))) s c.lists.ensures.value.lists
-    (λ j. list-typed lists.child.kind lists.offsets.now lists.child.items j c.tell_items.ensures))
+    (λ j below valid. list-typed lists.child.kind lists.offsets.now lists.child.items j c.tell_items.ensures))
 
 pub returns-in-Dict : goal.returns-in-Dict
 returns-in-Dict t c =

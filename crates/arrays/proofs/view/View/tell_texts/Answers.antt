@@ -6,4 +6,4 @@ use Rattle.arrays.proofs.TypedLemmas.{values-typed}
 use Rattle.arrays.proofs.view.View.tell_texts.Goals as goal
 
 pub returns : goal.returns
-returns c = values-typed kind.utf8 (λ j. text (of_slot c.texts.result.offsets.now c.texts.result.bytes.now j)) c.args.self.now c.texts.ensures.texts (λ j. tt)
+returns c = values-typed kind.utf8 (λ j. text (of_slot c.texts.result.offsets.now c.texts.result.bytes.now j)) c.args.self.now c.texts.ensures.texts c.texts.ensures.utf8

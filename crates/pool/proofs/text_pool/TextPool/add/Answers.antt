@@ -1,7 +1,6 @@
 use Rattle.std.proofs.Common.{◌≡◌, ◌++◌, ◌∷◌, ◌⊎◌, [], Some, OnOk, IfErr, true, sym, ap, subst, if◌then◌else◌}
 use Rattle.std.specs.Str.{bytes_eq}
-use Rattle.pool.specs.declared.fault.PoolFault.TheVariants.{TextsFull, NoMemory}
-use Rattle.pool.specs.Texts.{place_of, is_too_full}
+use Rattle.pool.specs.Texts.{IsPoolFault, place_of, is_too_full}
 use Rattle.pool.proofs.PlaceLemmas.{among_found, among_missing, with_text-new, placed}
 use Rattle.pool.proofs.text_pool.TextPool.add.Goals as goal
 
@@ -28,5 +27,5 @@ returns-in-None-clause-place c =
 pub returns-in-None-clause-fault : goal.returns-in-None-clause-fault
 returns-in-None-clause-fault c =
     let new = among_missing (bytes_eq c.args.text.now) c.args.self.now (sym c.in-None.ensures.place) in
-    subst (λ l. IfErr c.add_new.result (λ e. ((e ≡ TextsFull) × (is_too_full l ≡ true)) ⊎ (e ≡ NoMemory)))
+    subst (λ l. IfErr c.add_new.result (IsPoolFault (is_too_full l)))
     (sym (with_text-new c.args.self.now c.args.text.now new)) c.add_new.ensures.fault

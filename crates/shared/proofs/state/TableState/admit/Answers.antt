@@ -1,9 +1,18 @@
-use Rattle.std.proofs.Common.{◌∙◌, ap, arith, length}
+use Rattle.std.proofs.Common.{◌≡◌, ◌∙◌, None, ap, arith, length, subst, sym}
+use Rattle.arrays.specs.Batch.{Batch}
+use Rattle.shared.specs.Cause.{early_cause}
 use Rattle.shared.specs.Contents.{Contents, admitted}
 use Rattle.shared.proofs.HeldLemmas.{length-book}
 use Rattle.shared.proofs.PutLemmas.{Held-same, put-held, put-shows, put-texts, show-same}
 use Rattle.shared.proofs.StateLemmas.{ready-few}
 use Rattle.shared.proofs.state.TableState.admit.Goals as goal
+
+abbrev Early : Contents → Batch → Type 0
+Early s b = early_cause s.fields s.history b ≡ None
+
+pub prepare-requires-clause-allowed : goal.prepare-requires-clause-allowed
+prepare-requires-clause-allowed c =
+    subst (λ (s : Contents). Early s c.args.batch.now) (sym (show-same c.self.inside.held c.reserve.new.held c.reserve.ensures.same)) (sym c.in_default.ensures)
 
 pub put_in-requires-clause-few : goal.put_in-requires-clause-few
 put_in-requires-clause-few c =

@@ -11,7 +11,7 @@ use Rattle.arrays.specs.Shape.{FieldShape}
 use Rattle.shared.specs.Contents.{Contents}
 use Rattle.shared.specs.Held.{batches_of, book_of, dictionaries_in}
 use Rattle.shared.specs.History.{book, rows}
-use Rattle.shared.specs.Lawful.{EndsWithEntry, IsStored, NamesFront, NamesFronts, dictionaries_of}
+use Rattle.shared.specs.Lawful.{EndsWithEntry, IsStored, NamesFront, NamesFronts, dictionaries_of, table_of}
 use Rattle.shared.proofs.HeldLemmas.{all-of-map, book-shown, rows-shown}
 use Rattle.shared.proofs.version.Version.batches.Goals as goal
 
@@ -30,6 +30,12 @@ returns-clause-lawful c =
     subst (λ (l : List (Arc Batch Global)). Rattle.std.proofs.Common.All (λ b. IsStored c.args.self.now.fields (arc_value b)) l) (sym c.deref.ensures.value)
     (subst (λ (f : List FieldShape). Rattle.std.proofs.Common.All (λ (b : Arc Batch Global). IsStored f (arc_value b)) held.batches.items) (ap (λ (s : Contents). s.fields) c.self.view_is)
     (all-of-map (IsStored (arc_value held.schema)) (λ (b : Arc Batch Global). arc_value b) held.batches.items c.self.invariant.lawful.stored))
+
+pub returns-clause-rows : goal.returns-clause-rows
+returns-clause-rows c =
+    ap (λ (l : List Shared). table_of (map (λ (b : Shared). arc_value b) l)) c.deref.ensures.value
+    ∙ sym (rows-shown c.self.inside.held c.self.invariant)
+    ∙ ap (λ (s : Contents). rows s.history) c.self.view_is
 
 pub returns-clause-ends : goal.returns-clause-ends
 returns-clause-ends c i within =

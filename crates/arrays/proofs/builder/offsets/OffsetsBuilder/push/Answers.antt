@@ -1,7 +1,8 @@
-use Rattle.std.proofs.Common.{◌≡◌, ◌∙◌, ◌+◌, ◌<◌, ◌≤◌, ◌++◌, ap, arith, inl, length, refl}
+use Rattle.std.proofs.Common.{◌≡◌, ◌∙◌, ◌+◌, ◌<◌, ◌≤◌, ◌++◌, ap, arith, inl, inr, length, refl}
+use Rattle.std.proofs.lemmas.Result.{err_from_is_err_and}
 use Rattle.arrays.specs.Kind.{int32}
 use Rattle.arrays.specs.Number.{bytes_of_number}
-use Rattle.arrays.proofs.LaidLemmas.{grown, past_by, length-lengths_where, wide}
+use Rattle.arrays.proofs.LaidLemmas.{grown, past_by, within_by, length-lengths_where, wide}
 use Rattle.arrays.proofs.builder.offsets.OffsetsBuilder.push.Goals as goal
 
 pub returns-then-more-self-clause-fault : goal.returns-then-more-self-clause-fault
@@ -27,3 +28,14 @@ returns-in-Ok-clause-ok c =
     let short : s.total + c.unwrap_or-more.result ≤ 2147483647 = omega (arith, c.self.invariant.short) in
     (grown s.valid c.push-2.new.self s.offsets.items c.push.new.numbers.items s.total c.unwrap_or-more.result c.is_some.result c.args.self.now c.args.slot
     c.self.view_is c.self.invariant c.is_some.ensures c.unwrap_or-more.ensures short (c.in_ok-push.ensures.ok ∙ ap (λ z. s.offsets.items ++ bytes_of_number int32 z) (wide (s.total + c.unwrap_or-more.result) short)) c.in-Ok.ensures.ok).one_more
+
+pub returns-in_err-push-clause-fault : goal.returns-in_err-push-clause-fault
+returns-in_err-push-clause-fault c =
+    let s = c.self.inside in
+    let p = err_from_is_err_and c.from_residual.result c.from_residual.ensures.1 in
+    rw (p.1, p.2) (inr (refl, within_by s.valid s.offsets.items s.total c.args.self.now c.args.slot c.self.view_is c.self.invariant (omega (arith, c.self.invariant.short, c.unwrap_or-more.ensures, c.if-more-self.false))))
+
+pub returns-in-Err-clause-fault : goal.returns-in-Err-clause-fault
+returns-in-Err-clause-fault c =
+    let s = c.self.inside in
+    inr (c.into.ensures, within_by s.valid s.offsets.items s.total c.args.self.now c.args.slot c.self.view_is c.self.invariant (omega (arith, c.self.invariant.short, c.unwrap_or-more.ensures, c.if-more-self.false)))

@@ -1,10 +1,9 @@
 use Rattle.std.proofs.Common.{◌∙◌, ◌⊎◌, ◌≡◌, ◌++◌, ◌∷◌, [], None, Some, ap, arith, length, refl, subst, sym, true}
 use Rattle.arrays.specs.Item.{null}
-use Rattle.arrays.specs.Lengths.{is_past, text_bytes}
+use Rattle.arrays.specs.Lengths.{IsBuildFault, is_past, text_bytes}
 use Rattle.std.proofs.lemmas.Result.{err_from_is_err_and}
 use Rattle.std.specs.Option.{option_copied}
 use Rattle.arrays.specs.Slot.{item_of_text}
-use Rattle.arrays.specs.declared.builder.fault.BuildFault.TheVariants.{NoMemory, OffsetsFull}
 use Rattle.arrays.proofs.CutLemmas.{bytes_with, length-texts, null_more}
 use Rattle.arrays.proofs.builder.texts.TextBuilder.push.Goals as goal
 
@@ -19,7 +18,7 @@ returns-in_err-push-in-None-clause-fault c =
     let e = c.in_err-push-in-None.field-0.0 in
     let p = err_from_is_err_and c.from_residual.result c.from_residual.ensures.1 in
     rw (p.1, p.2)
-    (subst (λ n. ((e ≡ OffsetsFull) × (is_past n ≡ true)) ⊎ (e ≡ NoMemory))
+    (subst (λ n. IsBuildFault (is_past n) e)
     (bytes_with s.slots s.bytes.items c.args.self.now None null c.self.view_is c.self.invariant refl
     ∙ ap (λ x. text_bytes (c.args.self.now ++ item_of_text (option_copied x) ∷ [])) (sym c.in-None.is))
     c.in_err-push-in-None.ensures.fault)

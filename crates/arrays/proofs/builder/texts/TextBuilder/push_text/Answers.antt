@@ -1,7 +1,7 @@
-use Rattle.std.proofs.Common.{◌∙◌, ◌⊎◌, ◌≡◌, ◌++◌, ◌∷◌, [], Some, ap, arith, length, refl, subst, sym, true}
+use Rattle.std.proofs.Common.{◌∙◌, ◌⊎◌, ◌≡◌, ◌++◌, ◌∷◌, [], Some, ap, arith, inl, inr, length, refl, rules, subst, sym, true}
+use Rattle.std.proofs.lemmas.Result.{err_from_is_err_and}
 use Rattle.arrays.specs.Item.{text}
-use Rattle.arrays.specs.Lengths.{is_past}
-use Rattle.arrays.specs.declared.builder.fault.BuildFault.TheVariants.{NoMemory, OffsetsFull}
+use Rattle.arrays.specs.Lengths.{IsBuildFault, is_past}
 use Rattle.arrays.proofs.CutLemmas.{bytes_with, length-texts, text_more}
 use Rattle.arrays.proofs.builder.texts.TextBuilder.push_text.Goals as goal
 
@@ -25,6 +25,21 @@ returns-in-Ok-clause-ok c =
 pub returns-in-Err-clause-fault : goal.returns-in-Err-clause-fault
 returns-in-Err-clause-fault c =
     let s = c.self.inside in
-    subst (λ n. ((c.in-Err.fault ≡ OffsetsFull) × (is_past n ≡ true)) ⊎ (c.in-Err.fault ≡ NoMemory))
+    subst (λ n. IsBuildFault (is_past n) c.in-Err.fault)
     (bytes_with s.slots s.bytes.items c.args.self.now (Some (length c.args.text.now)) (text c.args.text.now) c.self.view_is c.self.invariant refl)
     c.in-Err.ensures.fault
+
+pub returns-then-is_full_for-clause-fault : goal.returns-then-is_full_for-clause-fault
+returns-then-is_full_for-clause-fault c =
+    let s = c.self.inside in
+    inl (refl,
+      sym (ap is_past (bytes_with s.slots s.bytes.items c.args.self.now (Some (length c.args.text.now)) (text c.args.text.now) c.self.view_is c.self.invariant refl))
+      ∙ search (rules, c.is_full_for.ensures, c.if-is_full_for.true))
+
+pub returns-in_err-extend_from_slice-clause-fault : goal.returns-in_err-extend_from_slice-clause-fault
+returns-in_err-extend_from_slice-clause-fault c =
+    let s = c.self.inside in
+    let p = err_from_is_err_and c.from_residual.result c.from_residual.ensures.1 in
+    rw (p.1, p.2) (inr (refl,
+      sym (ap is_past (bytes_with s.slots s.bytes.items c.args.self.now (Some (length c.args.text.now)) (text c.args.text.now) c.self.view_is c.self.invariant refl))
+      ∙ search (rules, c.is_full_for.ensures, c.if-is_full_for.false)))

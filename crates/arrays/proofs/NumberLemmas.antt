@@ -1,0 +1,30 @@
+-- The kind of a view of numbers, by its type.
+use Rattle.std.proofs.Common.{◌≡◌, ◌∙◌, true, false, ap, sym, refl}
+use Rattle.std.proofs.lemmas.Bool.{false≢true}
+use Rattle.arrays.specs.declared.types.IntType.{IntType}
+use Rattle.arrays.specs.declared.view.ViewType.{ViewType}
+use Rattle.arrays.specs.declared.view.ViewType.TheVariants as type
+use Rattle.arrays.specs.declared.view.View.TheInside.{Inside}
+use Rattle.arrays.specs.Kind as kind
+use Rattle.arrays.specs.Seen.{Seen}
+use Rattle.arrays.specs.Slot.{is_int}
+use Rattle.arrays.specs.View.{show_view}
+use Rattle.arrays.specs.ViewType.{view_kind}
+use Rattle.arrays.proofs.PartLemmas.{kind_shown}
+
+pub int_kind : (v : Inside) (s : Seen) (int : IntType) → show_view v ≡ s → v.ty ≡ type.Int int → s.kind ≡ kind.int int
+int_kind v s int shows is = sym (kind_shown v s shows) ∙ ap view_kind is
+
+int_type : (ty : ViewType) → ((int : IntType) → ty ≡ type.Int int → ⊥) → is_int (view_kind ty) ≡ false
+int_type (type.Int t) h = absurd (h t refl)
+int_type type.Bool h = refl
+int_type type.Utf8 h = refl
+int_type (type.List item) h = refl
+int_type type.Dict h = refl
+
+-- a view of numbers has a type of numbers
+pub some_int : (v : Inside) (s : Seen) → show_view v ≡ s → ((int : IntType) → v.ty ≡ type.Int int → ⊥) → is_int s.kind ≡ true → ⊥
+some_int v s shows h int =
+    let no : is_int s.kind ≡ false = sym (ap is_int (kind_shown v s shows)) ∙ int_type v.ty h in
+    false≢true (sym no ∙ int)
+
