@@ -44,7 +44,7 @@ gt_less Equal e = absurd cc
 gt_less Greater e = refl
 
 module _ {X : Type 0} (R : X → X → Ordering) (total : IsTotalOrder R) where
-  pick : X → X → X
+  unfoldable pub pick : X → X → X
   pick x y = cond (is_gt (R x y)) y x
 
   beyond : (x y z : X) → is_gt (R x y) ≡ true → is_gt (R y z) ≡ true → is_gt (R x z) ≡ true
@@ -53,11 +53,11 @@ module _ {X : Type 0} (R : X → X → Ordering) (total : IsTotalOrder R) where
       let below = total.antisymm z y ∙ gt_less (R y z) f in
       ap is_gt (total.antisymm x z ∙ ap ordering_reverse (total.trans z y x below down))
 
-  picks-second : (x y : X) → is_gt (R x y) ≡ true → pick x y ≡ y
+  pub picks-second : (x y : X) → is_gt (R x y) ≡ true → pick x y ≡ y
   unfolding pick
   picks-second x y e = ap (λ b. cond b y x) e
 
-  picks-first : (x y : X) → is_gt (R x y) ≡ false → pick x y ≡ x
+  pub picks-first : (x y : X) → is_gt (R x y) ≡ false → pick x y ≡ x
   unfolding pick
   picks-first x y e = ap (λ b. cond b y x) e
 
@@ -116,14 +116,14 @@ module _ {X : Type 0} (R : X → X → Ordering) (total : IsTotalOrder R) where
 
 -- ---- the values of a column
 
-truth_of : Item → Option Bool
+pub truth_of : Item → Option Bool
 truth_of null = None
 truth_of (int z) = None
 truth_of (boolean b) = Some b
 truth_of (text t) = None
 truth_of (list l) = None
 
-bytes_of_text : Item → Option (List ℕ)
+pub bytes_of_text : Item → Option (List ℕ)
 bytes_of_text null = None
 bytes_of_text (int z) = None
 bytes_of_text (boolean b) = None
@@ -138,7 +138,7 @@ are_numbers (boolean b ∷ xs) = are_numbers xs
 are_numbers (text t ∷ xs) = are_numbers xs
 are_numbers (list l ∷ xs) = are_numbers xs
 
-are_truths : (xs : List Item) → filter is_truth xs ≡ map boolean (filter_map truth_of xs)
+pub are_truths : (xs : List Item) → filter is_truth xs ≡ map boolean (filter_map truth_of xs)
 unfolding truth_of
 are_truths [] = refl
 are_truths (null ∷ xs) = are_truths xs
@@ -147,7 +147,7 @@ are_truths (boolean b ∷ xs) = ap (λ l. boolean b ∷ l) (are_truths xs)
 are_truths (text t ∷ xs) = are_truths xs
 are_truths (list l ∷ xs) = are_truths xs
 
-are_bytes : (xs : List Item) → filter is_bytes xs ≡ map text (filter_map bytes_of_text xs)
+pub are_bytes : (xs : List Item) → filter is_bytes xs ≡ map text (filter_map bytes_of_text xs)
 unfolding bytes_of_text
 are_bytes [] = refl
 are_bytes (null ∷ xs) = are_bytes xs
@@ -157,7 +157,7 @@ are_bytes (text t ∷ xs) = ap (λ l. text t ∷ l) (are_bytes xs)
 are_bytes (list l ∷ xs) = are_bytes xs
 
 -- an item of one of two values
-cond-item : {X : Type 0} (item : X → Item) (b : Bool) (x y : X) → cond b (item y) (item x) ≡ item (cond b y x)
+pub cond-item : {X : Type 0} (item : X → Item) (b : Bool) (x y : X) → cond b (item y) (item x) ≡ item (cond b y x)
 cond-item item true x y = refl
 cond-item item false x y = refl
 

@@ -3,3 +3,4 @@ pub mod TallyLemmas
 pub mod SumLemmas
 pub mod JoinLemmas
 pub mod NumberLemmas
+pub mod BoundLemmas

@@ -4,3 +4,4 @@ pub mod Numbers
 pub mod Tally
 pub mod Summary
 pub mod Joined
+pub mod Bounds

@@ -12,7 +12,7 @@ returns-in_default c =
     let b = c.args.batch.now in
     let kept = c.in-Err.ensures.kept in
     let stands : batch_cause old.fields old.history b ≡ Some c.in-Err.refusal =
-    elim c.in-Err.ensures.err [ inl e ↦ absurd (c.in_default.not-NoMemory e) | inr s ↦ s ] in
+    elim c.in-Err.ensures.err [ inl e ↦ absurd (c.in_default.not-NoMemory e.0) | inr s ↦ s ] in
     let caused = ap (λ (s : Contents). cause s.fields s.history (rows_of b)) kept ∙ sym (batch_cause-rows old.fields old.history b c.requires.integers c.requires.same) ∙ stands in
     record {
       fields = ap (λ (s : Contents). s.fields) kept;

@@ -75,6 +75,6 @@ returns-in_ok-clone-in-Dict-clause-ok n c =
     let codes : c.codes.result.items ≡ s.codes = ap (λ (q : Seen). q.items) c.codes.ensures.value in
     let shows : entries_shown (arc_value c.in_ok-clone-in-Dict.field-0) ≡ s.entries = ap entries_shown c.in_ok-clone-in-Dict.ensures.cases ∙ c.dictionary.ensures in
     let made = c.in_ok-codes-in-Dict.ensures ∙ ap (λ l. shown (kind.int int32) (picked l picks)) codes in
-    c.dict-in-Dict.ensures
+    c.dict.ensures
     ∙ encoded-picked s (arc_value c.in_ok-clone-in-Dict.field-0) c.in_ok-codes-in-Dict.codes picks c.codes.ensures.items shows made
     ∙ ap (λ k. chosen k (λ items. picked items picks) s) c.in-Dict.ensures

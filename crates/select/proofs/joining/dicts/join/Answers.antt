@@ -25,4 +25,4 @@ returns-clause-ok c =
     let shared = arc_value c.in_ok-new.field-0 in
     let words : shared ≡ shown kind.utf8 (joined_entries views) =
     c.in_ok-new.ensures.ok ∙ c.of.ensures ∙ c.in_ok-dictionary.ensures.ok ∙ ap (λ l. shown kind.utf8 (joined_items l)) c.deref-2.ensures.value ∙ ap (shown kind.utf8) c.in_ok-entries.ensures.items in
-    c.dict-2.ensures ∙ joined-encoded views c.in_ok-codes.codes shared c.in_ok-codes.ensures.encoded c.in_ok-codes.ensures.codes words
+    c.dict.ensures ∙ joined-encoded views c.in_ok-codes.codes shared c.in_ok-codes.ensures.encoded c.in_ok-codes.ensures.codes words
