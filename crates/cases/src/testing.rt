@@ -1,0 +1,214 @@
+//! What tests make arrays of, and compare views with.
+
+ghost use Rattle.std.specs.Prelude.{◌≡◌, IfOk};
+
+use arrays::{Array, DataType, Field, IntType, RawArray, View, ViewType, Width, validate};
+use colbits::{BitmapBuf, Bits, Buffer, Places};
+use std::alloc::Global;
+use std::process::Abort;
+use std::test::Fail;
+
+pub(crate) const INT8: IntType = IntType {
+    bits: Width::W8,
+    signed: true,
+};
+
+pub(crate) const INT16: IntType = IntType {
+    bits: Width::W16,
+    signed: true,
+};
+
+pub(crate) const INT32: IntType = IntType {
+    bits: Width::W32,
+    signed: true,
+};
+
+pub(crate) const UINT32: IntType = IntType {
+    bits: Width::W32,
+    signed: false,
+};
+
+/// The bytes of each position of a layout, none where it holds no buffer.
+pub(crate) type Positions = &'static [Option<&'static [u8]>];
+
+/// A raw array without children, whose null count isn't stated.
+pub(crate) fn raw(
+    alloc: Global,
+    ty: DataType,
+    length: u64,
+    positions: Positions,
+) -> Result<RawArray, Fail> {
+    let mut buffers = Vec::new(alloc);
+    for position in positions {
+        buffers.push(match position {
+            Some(bytes) => Some(Buffer::from_bytes(alloc, *bytes)?),
+            None => None,
+        })?;
+    }
+    Ok(RawArray {
+        ty,
+        length,
+        null_count: None,
+        buffers,
+        children: Vec::new(alloc),
+        dictionary: None,
+    })
+}
+
+/// An array without children, checked.
+pub(crate) fn checked(
+    alloc: Global,
+    ty: DataType,
+    length: u64,
+    positions: Positions,
+) -> Result<Array, Fail> {
+    Ok(validate(alloc, raw(alloc, ty, length, positions)?)?)
+}
+
+pub(crate) fn field(alloc: Global, name: &str, nullable: bool, ty: DataType) -> Result<Field, Fail>
+    ensures { IfOk result (λ f. f.ty ≡ ty) }
+{
+    Ok(Field {
+        name: String::from_str(alloc, name)?,
+        nullable,
+        ty,
+    })
+}
+
+/// So many lists in one another, over a type. Their items are nullable, and named `item`.
+pub(crate) fn lists_of(alloc: Global, lists: usize, ty: DataType) -> Result<DataType, Fail> {
+    let mut outer = ty;
+    for _list in 0..lists {
+        let item = field(alloc, "item", true, outer)?;
+        outer = DataType::List(Box::new(alloc, item)?);
+    }
+    Ok(outer)
+}
+
+/// So many places, all 1 but the one, if it is among them.
+#[derive(Drop)]
+pub(crate) struct AllBut {
+    pub(crate) place: usize,
+    pub(crate) len: usize,
+}
+
+impl Places for AllBut {
+    ghost use Rattle.std.specs.Prelude.{◌==◌, not};
+
+    ghost at = { λ p i. not (i == p.place) };
+
+    ghost count = { λ p. p.len };
+
+    fn len(&self) -> usize {
+        self.len
+    }
+
+    fn at(&self, i: usize) -> bool {
+        i != self.place
+    }
+}
+
+/// Asserts that the slots of a view hold these numbers.
+pub(crate) fn assert_numbers(rt: &impl Abort, view: &View<'_>, numbers: &[Option<i128>]) {
+    assert_eq!(rt; view.len(), numbers.len());
+    let ViewType::Int(ty) = view.ty() else {
+        panic!(rt; "these are no numbers");
+    };
+    for (i, number) in numbers.iter().enumerate() {
+        assert!(rt; i < view.len());
+        let shown = (view.int_at(ty, i), view.holds(i));
+        assert_eq!(rt; shown, (*number, number.is_some()), "at slot {i}");
+    }
+}
+
+/// Asserts that the slots of a view hold these truth values.
+pub(crate) fn assert_bools(rt: &impl Abort, view: &View<'_>, bools: &[Option<bool>]) {
+    assert_eq!(rt; view.len(), bools.len());
+    let ViewType::Bool = view.ty() else {
+        panic!(rt; "these are no truth values");
+    };
+    for (i, value) in bools.iter().enumerate() {
+        assert!(rt; i < view.len());
+        let shown = (view.bool_at(i), view.holds(i));
+        assert_eq!(rt; shown, (*value, value.is_some()), "at slot {i}");
+    }
+}
+
+/// Asserts that the bits are these.
+pub(crate) fn assert_bits(rt: &impl Abort, bits: &Bits<'_>, expected: &[bool]) {
+    assert_eq!(rt; bits.len(), expected.len());
+    for (i, bit) in expected.iter().enumerate() {
+        assert!(rt; i < bits.len());
+        assert_eq!(rt; bits.get(i), *bit, "at slot {i}");
+    }
+}
+
+/// The numbers of a list, none where it is null.
+pub(crate) type Numbers<'a> = Option<&'a [Option<i128>]>;
+
+/// Asserts that the slots of a view hold these lists of numbers.
+pub(crate) fn assert_lists(rt: &impl Abort, view: &View<'_>, lists: &[Numbers<'_>]) {
+    assert_eq!(rt; view.len(), lists.len());
+    for (i, list) in lists.iter().enumerate() {
+        assert_list(rt, view, i, *list);
+    }
+}
+
+fn assert_list(rt: &impl Abort, view: &View<'_>, i: usize, list: Numbers<'_>) {
+    assert!(rt; i < view.len());
+    let ViewType::List(_) = view.ty() else {
+        panic!(rt; "these are no lists");
+    };
+    assert_eq!(rt; view.holds(i), list.is_some(), "at slot {i}");
+    match (view.list_at(i), list) {
+        (Some(items), Some(numbers)) => assert_numbers(rt, &items, numbers),
+        (None, None) => {}
+        _ => panic!(rt; "one list is null, at slot {i}"),
+    }
+}
+
+/// Asserts that the offsets of a view of texts or lists are these.
+pub(crate) fn assert_offsets(rt: &impl Abort, view: &View<'_>, offsets: &[u8]) {
+    match view.ty() {
+        ViewType::Utf8 => assert_eq!(rt; view.texts().offsets, offsets),
+        ViewType::List(_) => assert_eq!(rt; view.lists().offsets, offsets),
+        _ => panic!(rt; "these have no offsets"),
+    }
+}
+
+/// Asserts that the slots of a view hold these texts, in a dictionary or not.
+pub(crate) fn assert_texts(rt: &impl Abort, view: &View<'_>, texts: &[Option<&str>]) {
+    assert_eq!(rt; view.len(), texts.len());
+    for (i, text) in texts.iter().enumerate() {
+        assert_text(rt, view, i, *text);
+    }
+}
+
+fn assert_text(rt: &impl Abort, view: &View<'_>, i: usize, text: Option<&str>) {
+    assert!(rt; i < view.len());
+    let shown = match view.ty() {
+        ViewType::Utf8 => view.text_at(i),
+        ViewType::Dict => view.text_at(i),
+        _ => panic!(rt; "these are no texts"),
+    };
+    assert_eq!(rt; shown, text, "at slot {i}");
+    assert_eq!(rt; view.holds(i), text.is_some(), "at slot {i}");
+}
+
+/// Asserts the name of the items of lists, and whether they may be null.
+pub(crate) fn assert_item(rt: &impl Abort, view: &View<'_>, name: &str, nullable: bool) {
+    let ViewType::List(item) = view.ty() else {
+        panic!(rt; "these are no lists");
+    };
+    assert_eq!(rt; item.name.as_str(), name);
+    assert_eq!(rt; item.nullable, nullable);
+}
+
+/// Asserts that a validity is kept with these bits, or that none is.
+pub(crate) fn assert_kept(rt: &impl Abort, validity: &Option<BitmapBuf>, bits: Option<&[bool]>) {
+    match (validity, bits) {
+        (Some(bitmap), Some(bits)) => assert_bits(rt, &bitmap.bits(), bits),
+        (None, None) => {}
+        _ => panic!(rt; "a validity is there or wanted"),
+    }
+}
