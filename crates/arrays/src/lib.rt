@@ -12,10 +12,6 @@ pub mod integer;
 mod number;
 mod numbers;
 pub mod schema;
-#[cfg(test)]
-mod testing;
-#[cfg(test)]
-mod tests;
 pub mod types;
 mod validator;
 pub mod validity;
