@@ -5,7 +5,6 @@ pub mod ListLemmas
 pub mod BuilderLemmas
 pub mod MadeLemmas
 pub mod ListArrays
-pub mod LiteralOffsets
 pub mod ViewLemmas
 pub mod ByteLemmas
 pub mod RowLemmas

@@ -7,8 +7,6 @@ ghost use Rattle.arrays.specs.Kind.{int32, kind_of};
 ghost use Rattle.arrays.specs.Reading.{fault, read_parts, reading};
 
 mod made;
-#[cfg(test)]
-mod tests;
 
 use crate::copies;
 use crate::fault::LayoutFault;

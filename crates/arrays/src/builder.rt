@@ -9,8 +9,6 @@ pub mod bools;
 pub mod fault;
 pub mod lists;
 mod offsets;
-#[cfg(test)]
-mod tests;
 pub mod texts;
 pub mod validity;
 

@@ -13,10 +13,6 @@ mod number;
 mod numbers;
 mod release;
 pub mod schema;
-#[cfg(test)]
-mod testing;
-#[cfg(test)]
-mod tests;
 pub mod types;
 mod validator;
 pub mod validity;

@@ -11,9 +11,6 @@ use crate::fault::LayoutFault;
 use crate::types::{DataType, RawArray, is_too_deep};
 use colbits::Buffer;
 
-#[cfg(test)]
-mod tests;
-
 /// The greatest length of an array.
 const MOST_SLOTS: u64 = 2147483647;
 

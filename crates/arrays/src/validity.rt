@@ -6,9 +6,6 @@ ghost use Rattle.arrays.specs.Packed.{IsBufferOf};
 ghost use Rattle.arrays.specs.Seen.{valid_in};
 ghost use Rattle.arrays.specs.Shown.{kept};
 
-#[cfg(test)]
-mod tests;
-
 use colbits::{BitmapBuf, Bits, Buffer, NoMemory, Places};
 use std::alloc::Global;
 

@@ -10,8 +10,6 @@ ghost use Rattle.arrays.specs.ViewType.{view_kind};
 mod dictionary;
 mod items;
 mod parts;
-#[cfg(test)]
-mod tests;
 mod typed;
 
 use crate::check;

@@ -6,8 +6,6 @@ pub mod bits;
 pub mod buffer;
 pub mod memory;
 pub mod places;
-#[cfg(test)]
-mod tests;
 
 pub use bitmap::BitmapBuf;
 pub use bits::Bits;

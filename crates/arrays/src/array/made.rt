@@ -6,9 +6,6 @@ ghost use Rattle.arrays.specs.Offsets.{AreOffsets};
 ghost use Rattle.arrays.specs.Reading.{reading};
 ghost use Rattle.arrays.specs.Checked.{checked};
 
-#[cfg(test)]
-mod tests;
-
 use super::Array;
 use crate::types::{DataType, Field, IntType, RawArray};
 use colbits::{Buffer, NoMemory};

@@ -6,9 +6,6 @@ ghost use Rattle.arrays.specs.Kind.{depth, dict, kind_of, same_kind};
 ghost use Rattle.arrays.specs.Lengths.{IsBuildFault, cut, is_past, total};
 ghost use Rattle.arrays.specs.Shown.{shown};
 
-#[cfg(test)]
-mod tests;
-
 use super::fault::BuildFault;
 use super::offsets::OffsetsBuilder;
 use crate::array::Array;

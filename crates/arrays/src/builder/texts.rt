@@ -8,9 +8,6 @@ ghost use Rattle.arrays.specs.Lengths.{IsBuildFault, is_past, text_bytes};
 ghost use Rattle.arrays.specs.Shown.{shown};
 ghost use Rattle.arrays.specs.Slot.{item_of_text};
 
-#[cfg(test)]
-mod tests;
-
 use super::fault::BuildFault;
 use super::offsets::OffsetsBuilder;
 use crate::array::Array;

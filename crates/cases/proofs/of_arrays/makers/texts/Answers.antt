@@ -5,8 +5,8 @@ use Rattle.colbits.specs.Bit.{bit}
 use Rattle.arrays.specs.Layout.{number_at, is_valid_in}
 use Rattle.arrays.specs.Made.{AreTexts}
 use Rattle.arrays.specs.Offsets.{AreOffsets, of_slot}
-use Rattle.arrays.proofs.LiteralOffsets.{AreOffsets-literal, offsets}
-use Rattle.arrays.proofs.array.made.tests.texts.Goals as goal
+use Rattle.cases.proofs.LiteralOffsets.{AreOffsets-literal, offsets}
+use Rattle.cases.proofs.of_arrays.makers.texts.Goals as goal
 
 letter : IsAscii (97 ∷ [])
 letter zero = omega arith

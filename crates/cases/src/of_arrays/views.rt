@@ -1,24 +1,13 @@
+//! Tests of views and of their types.
+
 use crate::testing::{
     INT8, INT32, Positions, UINT32, assert_bits, assert_bools, assert_lists, assert_numbers,
-    assert_texts, checked, item, raw,
+    assert_texts, checked, lists_of, raw,
 };
-use crate::{Array, DataType, View, ViewType, validate};
+use arrays::{Array, DataType, View, ViewType, validate};
 use std::alloc::Global;
 use std::process::Abort;
 use std::test::Fail;
-
-/// Codes over a dictionary of texts.
-fn coded(
-    alloc: Global,
-    length: u64,
-    codes: Positions,
-    texts: (u64, Positions),
-) -> Result<Array, Fail> {
-    let mut codes = raw(alloc, DataType::Dict, length, codes)?;
-    let dictionary = raw(alloc, DataType::Utf8, texts.0, texts.1)?;
-    codes.dictionary = Some(Box::new(alloc, dictionary)?);
-    Ok(validate(alloc, codes)?)
-}
 
 /// The numbers 0, 1, null, 2, null and 3.
 const NUMBERS: Positions = &[
@@ -53,67 +42,65 @@ fn slices_truth_values(rt: HostRuntime) -> Result<(), Fail> {
     let array = checked(rt.alloc(), DataType::Bool, 10, positions)?;
     let whole = array.view();
     assert_eq!(rt; whole.len(), 10);
-    let view = whole.slice(3, 6);
-    assert_bools(
-        &rt,
-        &view,
-        &[
-            Some(false),
-            Some(true),
-            Some(true),
-            None,
-            Some(false),
-            Some(true),
-        ],
-    );
+    let (yes, no) = (Some(true), Some(false));
+    assert_bools(&rt, &whole.slice(3, 6), &[no, yes, yes, None, no, yes]);
     Ok(())
 }
 
+/// The texts `joe`, two nulls, and `mark`.
+const NAMES: Positions = &[
+    Some(&[0x09]),
+    Some(&[0, 0, 0, 0, 3, 0, 0, 0, 5, 0, 0, 0, 5, 0, 0, 0, 9, 0, 0, 0]),
+    Some(b"joe\xff\xffmark"),
+];
+
+/// The text `joe`, which doesn't begin at the first byte.
+const LATE: Positions = &[None, Some(&[2, 0, 0, 0, 5, 0, 0, 0]), Some(b"xxjoe")];
+
 #[test]
-fn shows_texts(rt: HostRuntime) -> Result<(), Fail> {
-    let positions: Positions = &[
-        Some(&[0x09]),
-        Some(&[0, 0, 0, 0, 3, 0, 0, 0, 5, 0, 0, 0, 5, 0, 0, 0, 9, 0, 0, 0]),
-        Some(b"joe\xff\xffmark"),
-    ];
-    let array = checked(rt.alloc(), DataType::Utf8, 4, positions)?;
+fn slices_texts(rt: HostRuntime) -> Result<(), Fail> {
+    let array = checked(rt.alloc(), DataType::Utf8, 4, NAMES)?;
     let whole = array.view();
     assert_texts(&rt, &whole, &[Some("joe"), None, None, Some("mark")]);
     assert_eq!(rt; whole.len(), 4);
     assert_texts(&rt, &whole.slice(2, 2), &[None, Some("mark")]);
+    let late = checked(rt.alloc(), DataType::Utf8, 1, LATE)?;
+    assert_texts(&rt, &late.view(), &[Some("joe")]);
     Ok(())
-}
-
-#[test]
-fn shows_a_text_that_begins_late(rt: HostRuntime) -> Result<(), Fail> {
-    let positions: Positions = &[None, Some(&[2, 0, 0, 0, 5, 0, 0, 0]), Some(b"xxjoe")];
-    let array = checked(rt.alloc(), DataType::Utf8, 1, positions)?;
-    assert_texts(&rt, &array.view(), &[Some("joe")]);
-    Ok(())
-}
-
-/// The lists 12, -7, 25; null; 0, -127, 127, 50; and one without items.
-fn lists(alloc: Global) -> Result<Array, Fail> {
-    let items: Positions = &[None, Some(&[12, 249, 25, 0, 129, 127, 50])];
-    let child = raw(alloc, DataType::Int(INT8), 7, items)?;
-    let item = item(alloc, DataType::Int(INT8))?;
-    let positions: Positions = &[
-        Some(&[0x0d]),
-        Some(&[0, 0, 0, 0, 3, 0, 0, 0, 3, 0, 0, 0, 7, 0, 0, 0, 7, 0, 0, 0]),
-    ];
-    let mut lists = raw(alloc, DataType::List(Box::new(alloc, item)?), 4, positions)?;
-    lists.children.push(child)?;
-    Ok(validate(alloc, lists)?)
 }
 
 #[test]
 fn slices_lists(rt: HostRuntime) -> Result<(), Fail> {
-    let array = lists(rt.alloc())?;
+    let alloc = rt.alloc();
+    // The lists 12, -7, 25; null; 0, -127, 127, 50; and one without items.
+    let items: Positions = &[None, Some(&[12, 249, 25, 0, 129, 127, 50])];
+    let positions: Positions = &[
+        Some(&[0x0d]),
+        Some(&[0, 0, 0, 0, 3, 0, 0, 0, 3, 0, 0, 0, 7, 0, 0, 0, 7, 0, 0, 0]),
+    ];
+    let ty = lists_of(alloc, 1, DataType::Int(INT8))?;
+    let mut lists = raw(alloc, ty, 4, positions)?;
+    let child = raw(alloc, DataType::Int(INT8), 7, items)?;
+    lists.children.push(child)?;
+    let array = validate(alloc, lists)?;
     let whole = array.view();
     assert_eq!(rt; whole.len(), 4);
     let numbers = [Some(0), Some(-127), Some(127), Some(50)];
     assert_lists(&rt, &whole.slice(1, 3), &[None, Some(&numbers), Some(&[])]);
     Ok(())
+}
+
+/// Codes over a dictionary of texts.
+fn coded(
+    alloc: Global,
+    length: u64,
+    codes: Positions,
+    texts: (u64, Positions),
+) -> Result<Array, Fail> {
+    let mut codes = raw(alloc, DataType::Dict, length, codes)?;
+    let dictionary = raw(alloc, DataType::Utf8, texts.0, texts.1)?;
+    codes.dictionary = Some(Box::new(alloc, dictionary)?);
+    Ok(validate(alloc, codes)?)
 }
 
 /// Asserts what the codes of a dictionary-encoded view are, and what they are codes of.
@@ -145,6 +132,16 @@ const CODES: Positions = &[
     Some(&[2, 0, 0, 0, 0, 0, 0, 0, 3, 0, 0, 0, 9, 0, 0, 0, 1, 0, 0, 0]),
 ];
 
+/// The texts `x` and `y`.
+const LETTERS: Positions = &[
+    None,
+    Some(&[0, 0, 0, 0, 1, 0, 0, 0, 2, 0, 0, 0]),
+    Some(b"xy"),
+];
+
+/// The code 0, and a null over one that names no entry.
+const PAST: Positions = &[Some(&[0x01]), Some(&[0, 0, 0, 0, 5, 0, 0, 0])];
+
 #[test]
 fn shows_texts_of_a_dictionary(rt: HostRuntime) -> Result<(), Fail> {
     let array = coded(rt.alloc(), 5, CODES, (4, TEXTS))?;
@@ -157,57 +154,28 @@ fn shows_texts_of_a_dictionary(rt: HostRuntime) -> Result<(), Fail> {
     let part = view.slice(3, 2);
     assert_texts(&rt, &part, &[None, Some("b")]);
     assert_coded(&rt, &part, &[None, Some(1)], ENTRIES);
+    let past = coded(rt.alloc(), 2, PAST, (2, LETTERS))?;
+    assert_texts(&rt, &past.view(), &[Some("x"), None]);
     Ok(())
-}
-
-#[test]
-fn shows_no_entry_of_a_null_code(rt: HostRuntime) -> Result<(), Fail> {
-    let texts: Positions = &[
-        None,
-        Some(&[0, 0, 0, 0, 1, 0, 0, 0, 2, 0, 0, 0]),
-        Some(b"xy"),
-    ];
-    let codes: Positions = &[Some(&[0x01]), Some(&[0, 0, 0, 0, 5, 0, 0, 0])];
-    let array = coded(rt.alloc(), 2, codes, (2, texts))?;
-    assert_texts(&rt, &array.view(), &[Some("x"), None]);
-    Ok(())
-}
-
-/// Types of which no two are the same.
-fn types(alloc: Global) -> Result<Vec<DataType>, Fail> {
-    let bytes = DataType::List(Box::new(alloc, item(alloc, DataType::Int(INT8))?)?);
-    let words = DataType::List(Box::new(alloc, item(alloc, DataType::Utf8)?)?);
-    let (short, long) = (DataType::Int(INT8), DataType::Int(INT32));
-    let unsigned = DataType::Int(UINT32);
-    let types = [
-        short,
-        long,
-        unsigned,
-        DataType::Bool,
-        DataType::Utf8,
-        bytes,
-        words,
-        DataType::Dict,
-    ];
-    Ok(Vec::from_array(alloc, types)?)
-}
-
-/// Asserts that the type is the same as that at this place, and as no other.
-fn assert_same_alone(rt: &impl Abort, types: &[DataType], place: usize, ty: &DataType) {
-    for (i, other) in types.iter().enumerate() {
-        assert_eq!(rt;
-            ViewType::of(ty).is_same(ViewType::of(other)),
-            i == place,
-            "{ty:?}, {other:?}"
-        );
-    }
 }
 
 #[test]
 fn types_are_the_same_as_themselves_alone(rt: HostRuntime) -> Result<(), Fail> {
-    let types = types(rt.alloc())?;
+    let types = [
+        DataType::Int(INT8),
+        DataType::Int(INT32),
+        DataType::Int(UINT32),
+        DataType::Bool,
+        DataType::Utf8,
+        lists_of(rt.alloc(), 1, DataType::Int(INT8))?,
+        lists_of(rt.alloc(), 1, DataType::Utf8)?,
+        DataType::Dict,
+    ];
     for (i, ty) in types.iter().enumerate() {
-        assert_same_alone(&rt, &types, i, ty);
+        for (j, other) in types.iter().enumerate() {
+            let is_same = ViewType::of(ty).is_same(ViewType::of(other));
+            assert_eq!(rt; is_same, i == j, "{ty:?}, {other:?}");
+        }
     }
     Ok(())
 }

@@ -2,10 +2,8 @@
 
 ghost use Rattle.std.specs.Prelude.{◌≡◌, IfOk};
 
-use crate::array::{Array, validate};
-use crate::types::{DataType, Field, IntType, RawArray, Width};
-use crate::view::{View, ViewType};
-use colbits::{Bits, Buffer};
+use arrays::{Array, DataType, Field, IntType, RawArray, View, ViewType, Width, validate};
+use colbits::{BitmapBuf, Bits, Buffer, Places};
 use std::alloc::Global;
 use std::process::Abort;
 use std::test::Fail;
@@ -33,6 +31,7 @@ pub(crate) const UINT32: IntType = IntType {
 /// The bytes of each position of a layout, none where it holds no buffer.
 pub(crate) type Positions = &'static [Option<&'static [u8]>];
 
+/// A raw array without children, whose null count isn't stated.
 pub(crate) fn raw(
     alloc: Global,
     ty: DataType,
@@ -66,15 +65,47 @@ pub(crate) fn checked(
     Ok(validate(alloc, raw(alloc, ty, length, positions)?)?)
 }
 
-/// A nullable field that is named `item`.
-pub(crate) fn item(alloc: Global, ty: DataType) -> Result<Field, Fail>
+pub(crate) fn field(alloc: Global, name: &str, nullable: bool, ty: DataType) -> Result<Field, Fail>
     ensures { IfOk result (λ f. f.ty ≡ ty) }
 {
     Ok(Field {
-        name: String::from_str(alloc, "item")?,
-        nullable: true,
+        name: String::from_str(alloc, name)?,
+        nullable,
         ty,
     })
+}
+
+/// So many lists in one another, over a type. Their items are nullable, and named `item`.
+pub(crate) fn lists_of(alloc: Global, lists: usize, ty: DataType) -> Result<DataType, Fail> {
+    let mut outer = ty;
+    for _list in 0..lists {
+        let item = field(alloc, "item", true, outer)?;
+        outer = DataType::List(Box::new(alloc, item)?);
+    }
+    Ok(outer)
+}
+
+/// So many places, all 1 but the one, if it is among them.
+#[derive(Drop)]
+pub(crate) struct AllBut {
+    pub(crate) place: usize,
+    pub(crate) len: usize,
+}
+
+impl Places for AllBut {
+    ghost use Rattle.std.specs.Prelude.{◌==◌, not};
+
+    ghost at = { λ p i. not (i == p.place) };
+
+    ghost count = { λ p. p.len };
+
+    fn len(&self) -> usize {
+        self.len
+    }
+
+    fn at(&self, i: usize) -> bool {
+        i != self.place
+    }
 }
 
 /// Asserts that the slots of a view hold these numbers.
@@ -85,8 +116,8 @@ pub(crate) fn assert_numbers(rt: &impl Abort, view: &View<'_>, numbers: &[Option
     };
     for (i, number) in numbers.iter().enumerate() {
         assert!(rt; i < view.len());
-        assert_eq!(rt; view.int_at(ty, i), *number, "at slot {i}");
-        assert_eq!(rt; view.holds(i), number.is_some(), "at slot {i}");
+        let shown = (view.int_at(ty, i), view.holds(i));
+        assert_eq!(rt; shown, (*number, number.is_some()), "at slot {i}");
     }
 }
 
@@ -98,8 +129,8 @@ pub(crate) fn assert_bools(rt: &impl Abort, view: &View<'_>, bools: &[Option<boo
     };
     for (i, value) in bools.iter().enumerate() {
         assert!(rt; i < view.len());
-        assert_eq!(rt; view.bool_at(i), *value, "at slot {i}");
-        assert_eq!(rt; view.holds(i), value.is_some(), "at slot {i}");
+        let shown = (view.bool_at(i), view.holds(i));
+        assert_eq!(rt; shown, (*value, value.is_some()), "at slot {i}");
     }
 }
 
@@ -162,4 +193,22 @@ fn assert_text(rt: &impl Abort, view: &View<'_>, i: usize, text: Option<&str>) {
     };
     assert_eq!(rt; shown, text, "at slot {i}");
     assert_eq!(rt; view.holds(i), text.is_some(), "at slot {i}");
+}
+
+/// Asserts the name of the items of lists, and whether they may be null.
+pub(crate) fn assert_item(rt: &impl Abort, view: &View<'_>, name: &str, nullable: bool) {
+    let ViewType::List(item) = view.ty() else {
+        panic!(rt; "these are no lists");
+    };
+    assert_eq!(rt; item.name.as_str(), name);
+    assert_eq!(rt; item.nullable, nullable);
+}
+
+/// Asserts that a validity is kept with these bits, or that none is.
+pub(crate) fn assert_kept(rt: &impl Abort, validity: &Option<BitmapBuf>, bits: Option<&[bool]>) {
+    match (validity, bits) {
+        (Some(bitmap), Some(bits)) => assert_bits(rt, &bitmap.bits(), bits),
+        (None, None) => {}
+        _ => panic!(rt; "a validity is there or wanted"),
+    }
 }

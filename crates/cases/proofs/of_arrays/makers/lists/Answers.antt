@@ -1,8 +1,8 @@
 use Rattle.std.proofs.Common.{◌≡◌, length, ap, sym, subst}
 use Rattle.arrays.specs.Seen.{Seen}
 use Rattle.arrays.specs.Offsets.{AreOffsets}
-use Rattle.arrays.proofs.LiteralOffsets.{AreOffsets-literal, offsets}
-use Rattle.arrays.proofs.array.made.tests.lists.Goals as goal
+use Rattle.cases.proofs.LiteralOffsets.{AreOffsets-literal, offsets}
+use Rattle.cases.proofs.of_arrays.makers.lists.Goals as goal
 
 pub from_list-requires-clause-offsets : goal.from_list-requires-clause-offsets
 from_list-requires-clause-offsets c =

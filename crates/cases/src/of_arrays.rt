@@ -1,0 +1,8 @@
+//! Tests of arrays, from their parts up to record batches.
+
+mod builders;
+mod faults;
+mod layouts;
+mod makers;
+mod schemas;
+mod views;
