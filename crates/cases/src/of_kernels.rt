@@ -19,6 +19,7 @@ const INT64S: Flat = Flat::Int(INT64);
 
 const UINT64S: Flat = Flat::Int(UINT64);
 
+/// What is done to columns.
 #[derive(Clone, Copy)]
 enum Kernel {
     Add,
@@ -112,6 +113,7 @@ const WIDER: Parts = (Flat::Int(INT16), 3, &[None, Some(&[1, 0, 2, 0, 3, 0])]);
 /// 127, null, -128.
 const LARGE: Parts = (INT8S, 3, &[Some(&[0x05]), Some(&[127, 0, 128])]);
 
+/// The least number of 64 bits.
 const LEAST: Parts = (INT64S, 1, &[None, Some(&[0, 0, 0, 0, 0, 0, 0, 128])]);
 
 /// True and false.

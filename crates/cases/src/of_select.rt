@@ -80,6 +80,7 @@ enum Choice {
     Filter,
 }
 
+/// The rows that a choice gives.
 fn chosen(
     alloc: Global,
     choice: Choice,

@@ -223,6 +223,7 @@ pub(crate) fn assert_lists(rt: &impl Abort, view: &View<'_>, lists: &[Numbers<'_
     }
 }
 
+/// Asserts that slot `i` of a view holds this list of numbers.
 fn assert_list(rt: &impl Abort, view: &View<'_>, i: usize, list: Numbers<'_>) {
     assert!(rt; i < view.len());
     let ViewType::List(_) = view.ty() else {
@@ -253,6 +254,7 @@ pub(crate) fn assert_texts(rt: &impl Abort, view: &View<'_>, texts: &[Option<&st
     }
 }
 
+/// Asserts that slot `i` of a view holds this text.
 fn assert_text(rt: &impl Abort, view: &View<'_>, i: usize, text: Option<&str>) {
     assert!(rt; i < view.len());
     let shown = match view.ty() {

@@ -4,10 +4,16 @@ use crate::testing::{
     assert_fault, assert_lists, assert_numbers, assert_texts, assert_validity_only_where_null,
     built, coded, lists, raw, slots_of,
 };
-use arrays::{DataType, ViewType, validate};
+use arrays::{Array, DataType, View, ViewType, validate};
 use colbits::Buffer;
 use select::{SelectFault, concat};
+use std::alloc::Global;
 use std::test::Fail;
+
+/// One view after the other.
+fn concat_both<'a>(alloc: Global, first: View<'a>, second: View<'a>) -> Result<Array, SelectFault> {
+    concat(alloc, &[first, second])
+}
 
 #[test]
 fn joins_numbers_and_truths_from_any_slot(rt: HostRuntime) -> Result<(), Fail> {
@@ -70,7 +76,7 @@ const ACCENTED: Parts = (
 fn joins_texts_from_any_slot(rt: HostRuntime) -> Result<(), Fail> {
     let names = built(rt.alloc(), NAMES)?;
     let accented = built(rt.alloc(), ACCENTED)?;
-    let joined = concat(rt.alloc(), &[names.view(), accented.view()])?;
+    let joined = concat_both(rt.alloc(), names.view(), accented.view())?;
     assert!(rt; joined.view().ty().is_same(ViewType::Utf8));
     let expected = [Some("joe"), None, None, Some("mark"), Some("é")];
     assert_texts(&rt, &joined.view(), &expected);
@@ -169,7 +175,7 @@ fn views_of_several_types_are_refused(rt: HostRuntime) -> Result<(), Fail> {
         (naturals.view(), ints.view()),
         (lists.view(), deeper.view()),
     ] {
-        let answer = concat(rt.alloc(), &[first, second]);
+        let answer = concat_both(rt.alloc(), first, second);
         assert_fault(&rt, answer, SelectFault::TypesDiffer);
     }
     Ok(())
