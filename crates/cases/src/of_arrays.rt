@@ -1,7 +1,6 @@
 //! Tests of arrays, from their parts up to record batches.
 
 mod builders;
-mod faults;
 mod layouts;
 mod makers;
 mod schemas;

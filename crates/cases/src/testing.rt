@@ -5,6 +5,7 @@ ghost use Rattle.std.specs.Prelude.{◌≡◌, IfOk};
 use arrays::{Array, DataType, Field, IntType, RawArray, View, ViewType, Width, validate};
 use colbits::{BitmapBuf, Bits, Buffer, Places};
 use std::alloc::Global;
+use std::fmt::Debug;
 use std::process::Abort;
 use std::test::Fail;
 
@@ -23,15 +24,35 @@ pub(crate) const INT32: IntType = IntType {
     signed: true,
 };
 
+pub(crate) const UINT16: IntType = IntType {
+    bits: Width::W16,
+    signed: false,
+};
+
 pub(crate) const UINT32: IntType = IntType {
     bits: Width::W32,
+    signed: false,
+};
+
+pub(crate) const UINT8: IntType = IntType {
+    bits: Width::W8,
+    signed: false,
+};
+
+pub(crate) const INT64: IntType = IntType {
+    bits: Width::W64,
+    signed: true,
+};
+
+pub(crate) const UINT64: IntType = IntType {
+    bits: Width::W64,
     signed: false,
 };
 
 /// The bytes of each position of a layout, none where it holds no buffer.
 pub(crate) type Positions = &'static [Option<&'static [u8]>];
 
-/// A raw array without children, whose null count isn't stated.
+/// The parts of an array without children.
 pub(crate) fn raw(
     alloc: Global,
     ty: DataType,
@@ -65,12 +86,77 @@ pub(crate) fn checked(
     Ok(validate(alloc, raw(alloc, ty, length, positions)?)?)
 }
 
+/// A type without children and without a dictionary.
+#[derive(Clone, Copy)]
+pub(crate) enum Flat {
+    Int(IntType),
+    Bool,
+    Utf8,
+}
+
+/// An array of a flat type: the type, the length and the bytes of each position.
+pub(crate) type Parts = (Flat, u64, Positions);
+
+/// The array of these parts.
+pub(crate) fn built(alloc: Global, parts: Parts) -> Result<Array, Fail> {
+    let (flat, length, positions) = parts;
+    let ty = match flat {
+        Flat::Int(int) => DataType::Int(int),
+        Flat::Bool => DataType::Bool,
+        Flat::Utf8 => DataType::Utf8,
+    };
+    checked(alloc, ty, length, positions)
+}
+
+/// So many slots of an array, from one on.
+pub(crate) fn slots_of<'a>(
+    rt: &impl Abort,
+    array: &'a Array,
+    start: usize,
+    len: usize,
+) -> View<'a> {
+    let view = array.view();
+    assert!(rt; start <= view.len());
+    assert!(rt; len <= view.len() - start);
+    view.slice(start, len)
+}
+
+/// Five codes into a dictionary of four entries, of which the third is the first again and the last is null:
+/// a, a, null by its entry, null, b.
+pub(crate) fn coded(alloc: Global) -> Result<Array, Fail> {
+    let codes: Positions = &[
+        Some(&[0x17]),
+        Some(&[2, 0, 0, 0, 0, 0, 0, 0, 3, 0, 0, 0, 9, 0, 0, 0, 1, 0, 0, 0]),
+    ];
+    let entries: Positions = &[
+        Some(&[0x07]),
+        Some(&[0, 0, 0, 0, 1, 0, 0, 0, 2, 0, 0, 0, 3, 0, 0, 0, 3, 0, 0, 0]),
+        Some(b"aba"),
+    ];
+    let mut column = raw(alloc, DataType::Dict, 5, codes)?;
+    let dictionary = raw(alloc, DataType::Utf8, 4, entries)?;
+    column.dictionary = Some(Box::new(alloc, dictionary)?);
+    Ok(validate(alloc, column)?)
+}
+
+/// A field.
 pub(crate) fn field(alloc: Global, name: &str, nullable: bool, ty: DataType) -> Result<Field, Fail>
     ensures { IfOk result (λ f. f.ty ≡ ty) }
 {
     Ok(Field {
         name: String::from_str(alloc, name)?,
         nullable,
+        ty,
+    })
+}
+
+/// A nullable field that is named `item`.
+pub(crate) fn item(alloc: Global, ty: DataType) -> Result<Field, Fail>
+    ensures { IfOk result (λ f. f.ty ≡ ty) }
+{
+    Ok(Field {
+        name: String::from_str(alloc, "item")?,
+        nullable: true,
         ty,
     })
 }
@@ -108,15 +194,46 @@ impl Places for AllBut {
     }
 }
 
+/// The lists 12, -7, 25; null; 0, -127, 127, 50; and one without items. The items are of INT8.
+pub(crate) fn raw_lists(alloc: Global, item: Field) -> Result<RawArray, Fail> {
+    let items: Positions = &[None, Some(&[12, 249, 25, 0, 129, 127, 50])];
+    let child = raw(alloc, DataType::Int(INT8), 7, items)?;
+    let positions: Positions = &[
+        Some(&[0x0d]),
+        Some(&[0, 0, 0, 0, 3, 0, 0, 0, 3, 0, 0, 0, 7, 0, 0, 0, 7, 0, 0, 0]),
+    ];
+    let mut lists = raw(alloc, DataType::List(Box::new(alloc, item)?), 4, positions)?;
+    lists.children.push(child)?;
+    Ok(lists)
+}
+
+/// The lists as an array.
+pub(crate) fn lists(alloc: Global) -> Result<Array, Fail> {
+    let item = item(alloc, DataType::Int(INT8))?;
+    Ok(validate(alloc, raw_lists(alloc, item)?)?)
+}
+
+/// Asserts that no array was given, for this reason.
+pub(crate) fn assert_fault<E: Debug + Drop + PartialEq>(
+    rt: &impl Abort,
+    answer: Result<Array, E>,
+    fault: E,
+) {
+    let Err(told) = answer else {
+        panic!(rt; "it was not refused");
+    };
+    assert_eq!(rt; told, fault);
+}
+
 /// Asserts that the slots of a view hold these numbers.
 pub(crate) fn assert_numbers(rt: &impl Abort, view: &View<'_>, numbers: &[Option<i128>]) {
     assert_eq!(rt; view.len(), numbers.len());
-    let ViewType::Int(ty) = view.ty() else {
+    let ViewType::Int(_) = view.ty() else {
         panic!(rt; "these are no numbers");
     };
     for (i, number) in numbers.iter().enumerate() {
         assert!(rt; i < view.len());
-        let shown = (view.int_at(ty, i), view.holds(i));
+        let shown = (view.int_at(i), view.holds(i));
         assert_eq!(rt; shown, (*number, number.is_some()), "at slot {i}");
     }
 }
@@ -143,6 +260,11 @@ pub(crate) fn assert_bits(rt: &impl Abort, bits: &Bits<'_>, expected: &[bool]) {
     }
 }
 
+/// Asserts that there is a bitmap only where a slot is null.
+pub(crate) fn assert_validity_only_where_null(rt: &impl Abort, view: &View<'_>) {
+    assert_eq!(rt; view.validity().is_some(), view.null_count() > 0);
+}
+
 /// The numbers of a list, none where it is null.
 pub(crate) type Numbers<'a> = Option<&'a [Option<i128>]>;
 
@@ -154,6 +276,7 @@ pub(crate) fn assert_lists(rt: &impl Abort, view: &View<'_>, lists: &[Numbers<'_
     }
 }
 
+/// Asserts that slot `i` of a view holds this list of numbers.
 fn assert_list(rt: &impl Abort, view: &View<'_>, i: usize, list: Numbers<'_>) {
     assert!(rt; i < view.len());
     let ViewType::List(_) = view.ty() else {
@@ -184,6 +307,7 @@ pub(crate) fn assert_texts(rt: &impl Abort, view: &View<'_>, texts: &[Option<&st
     }
 }
 
+/// Asserts that slot `i` of a view holds this text.
 fn assert_text(rt: &impl Abort, view: &View<'_>, i: usize, text: Option<&str>) {
     assert!(rt; i < view.len());
     let shown = match view.ty() {

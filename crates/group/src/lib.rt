@@ -6,10 +6,6 @@ pub mod laws;
 mod slots;
 pub mod stats;
 mod tally;
-#[cfg(test)]
-mod testing;
-#[cfg(test)]
-mod tests;
 
 pub use join::joined;
 pub use slots::stats_of;

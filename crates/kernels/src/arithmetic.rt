@@ -12,9 +12,6 @@ ghost use Rattle.kernels.specs.Computed.{AreResults, StopsAt, result_at};
 ghost use Rattle.kernels.specs.Fault.{Told};
 ghost use Rattle.arrays.specs.Shown.{shown};
 
-#[cfg(test)]
-mod tests;
-
 use crate::fault::KernelFault;
 use crate::validity::both_valid;
 use arrays::validity::{buffer_of, is_valid};

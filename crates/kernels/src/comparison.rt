@@ -10,8 +10,6 @@ ghost use Rattle.arrays.specs.Shown.{shown};
 ghost use Rattle.kernels.specs.Wanted.{decisions, wants};
 
 mod pairs;
-#[cfg(test)]
-mod tests;
 mod wanted;
 
 use crate::fault::KernelFault;

@@ -8,9 +8,6 @@ ghost use Rattle.kernels.specs.Kleene.{conjunction, disjunction, negation, truth
 ghost use Rattle.kernels.specs.Known.{are_both, is_either, knows_false, knows_true, stored_truth, tells_and, tells_or, truth_in};
 ghost use Rattle.arrays.specs.Shown.{shown};
 
-#[cfg(test)]
-mod tests;
-
 use crate::fault::KernelFault;
 use crate::truths::{Truths, array_of};
 use arrays::validity::is_valid;

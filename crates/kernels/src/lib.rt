@@ -6,8 +6,6 @@ pub mod comparison;
 pub mod fault;
 pub mod kleene;
 pub mod nulls;
-#[cfg(test)]
-mod testing;
 mod truths;
 mod validity;
 

@@ -6,9 +6,6 @@ ghost use Rattle.arrays.specs.Slot.{holds_at};
 ghost use Rattle.kernels.specs.Nulls.{nulls};
 ghost use Rattle.arrays.specs.Shown.{shown};
 
-#[cfg(test)]
-mod tests;
-
 use crate::fault::KernelFault;
 use crate::truths::{Truths, array_of};
 use arrays::{Array, View};

@@ -3,10 +3,6 @@
 
 pub mod fault;
 pub mod recoding;
-#[cfg(test)]
-mod testing;
-#[cfg(test)]
-mod tests;
 pub mod text_pool;
 pub mod unifying;
 

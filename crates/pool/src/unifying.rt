@@ -8,9 +8,6 @@ ghost use Rattle.arrays.specs.Slot.{is_text};
 ghost use Rattle.pool.specs.Texts.{is_too_full};
 ghost use Rattle.pool.specs.Unified.{all_texts, codes_among};
 
-#[cfg(test)]
-mod tests;
-
 use crate::fault::PoolFault;
 use crate::recoding::recode;
 use crate::text_pool::TextPool;

@@ -11,9 +11,6 @@ ghost use Rattle.select.specs.Fault.{Told};
 ghost use Rattle.select.specs.Picked.{IsPick, picked};
 ghost use Rattle.select.specs.Selection.{filter_fault, is_true, kept};
 
-#[cfg(test)]
-mod tests;
-
 use crate::fault::SelectFault;
 use crate::gather::gather;
 use crate::picks::Picks;

@@ -13,8 +13,6 @@ mod bools;
 mod dicts;
 mod lists;
 mod numbers;
-#[cfg(test)]
-mod tests;
 mod texts;
 
 use crate::fault::SelectFault;

@@ -7,8 +7,6 @@ mod gather;
 mod joining;
 mod picks;
 pub mod taking;
-#[cfg(test)]
-mod testing;
 
 pub use fault::SelectFault;
 pub use filtering::filter;

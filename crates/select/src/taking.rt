@@ -12,9 +12,6 @@ ghost use Rattle.select.specs.Fault.{Told};
 ghost use Rattle.select.specs.Picked.{IsPick, picked, picked_at};
 ghost use Rattle.select.specs.Selection.{indices_fault, outside, take_fault, taken};
 
-#[cfg(test)]
-mod tests;
-
 use crate::fault::SelectFault;
 use crate::gather::{Numbers, gather};
 use crate::picks::Picks;

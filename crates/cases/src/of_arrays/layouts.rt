@@ -1,6 +1,7 @@
 //! Tests of the faults of parts, and of their order.
 
 mod alone;
+mod deep;
 mod over;
 
 use crate::testing::{INT32, assert_numbers, lists_of, raw};

@@ -13,6 +13,7 @@ fn tells_faults_of_schemas(rt: HostRuntime) -> Result<(), Fail> {
     for (lists, ty, fault) in [
         (8, DataType::Bool, None),
         (9, DataType::Bool, Some(TooDeep { column: 0 })),
+        (1_000_000, DataType::Dict, Some(TooDeep { column: 0 })),
         (1, DataType::Dict, Some(DictInList { column: 0 })),
     ] {
         let ty = lists_of(alloc, lists, ty)?;

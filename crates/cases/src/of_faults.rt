@@ -1,10 +1,26 @@
 //! How faults are printed.
 
 use arrays::{BatchFault, BuildFault, LayoutFault, SchemaFault};
+use kernels::KernelFault;
+use pool::PoolFault;
+use select::SelectFault;
 use std::alloc::Global;
 use std::fmt::Display;
 use std::process::Abort;
 use std::test::Fail;
+
+/// Asserts that each of these faults is printed as the text beside it.
+fn assert_printed<E: Display>(
+    rt: &impl Abort,
+    alloc: Global,
+    faults: &[(E, &str)],
+) -> Result<(), Fail> {
+    for (fault, text) in faults {
+        let printed = format!(in alloc; "{fault}")?;
+        assert_eq!(rt; printed.as_str(), *text);
+    }
+    Ok(())
+}
 
 const LAYOUT_FAULTS: &[(LayoutFault, &str)] = &[
     (LayoutFault::MissingBuffer, "V1 MissingBuffer"),
@@ -53,22 +69,37 @@ const BUILD_FAULTS: &[(BuildFault, &str)] = &[
     (BuildFault::NoMemory, "no memory"),
 ];
 
-/// Asserts how each fault is printed.
-fn assert_printed<F: Display>(
-    rt: &impl Abort,
-    alloc: Global,
-    faults: &[(F, &str)],
-) -> Result<(), Fail> {
-    for (fault, text) in faults {
-        assert_eq!(rt; format!(in alloc; "{fault}")?.as_str(), *text);
-    }
-    Ok(())
-}
+const KERNEL_FAULTS: &[(KernelFault, &str)] = &[
+    (KernelFault::TypesDiffer, "K1 TypesDiffer"),
+    (KernelFault::LengthsDiffer, "K2 LengthsDiffer"),
+    (KernelFault::Overflow { row: 7 }, "K3 Overflow row=7"),
+    (KernelFault::NoMemory, "K4 NoMemory"),
+];
+
+const SELECT_FAULTS: &[(SelectFault, &str)] = &[
+    (
+        SelectFault::IndexOutOfRange { row: 12 },
+        "S1 IndexOutOfRange row=12",
+    ),
+    (SelectFault::LengthsDiffer, "S2 LengthsDiffer"),
+    (SelectFault::TypesDiffer, "S3 TypesDiffer"),
+    (SelectFault::OffsetsFull, "S4 OffsetsFull"),
+    (SelectFault::WrongKind, "S5 WrongKind"),
+    (SelectFault::NoMemory, "S6 NoMemory"),
+];
+
+const POOL_FAULTS: &[(PoolFault, &str)] = &[
+    (PoolFault::TextsFull, "P1 TextsFull"),
+    (PoolFault::NoMemory, "P2 NoMemory"),
+];
 
 #[test]
 fn prints_each_fault(rt: HostRuntime) -> Result<(), Fail> {
     assert_printed(&rt, rt.alloc(), LAYOUT_FAULTS)?;
     assert_printed(&rt, rt.alloc(), SCHEMA_FAULTS)?;
     assert_printed(&rt, rt.alloc(), BATCH_FAULTS)?;
-    assert_printed(&rt, rt.alloc(), BUILD_FAULTS)
+    assert_printed(&rt, rt.alloc(), BUILD_FAULTS)?;
+    assert_printed(&rt, rt.alloc(), KERNEL_FAULTS)?;
+    assert_printed(&rt, rt.alloc(), SELECT_FAULTS)?;
+    assert_printed(&rt, rt.alloc(), POOL_FAULTS)
 }
