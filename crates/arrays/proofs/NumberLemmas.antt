@@ -27,4 +27,3 @@ pub some_int : (v : Inside) (s : Seen) → show_view v ≡ s → ((int : IntType
 some_int v s shows h int =
     let no : is_int s.kind ≡ false = sym (ap is_int (kind_shown v s shows)) ∙ int_type v.ty h in
     false≢true (sym no ∙ int)
-

@@ -80,7 +80,11 @@ impl Drop for DataType {
         loop {
             match self {
                 DataType::List(item) => {
-                    let Field { name, nullable: _, ty } = Box::into_inner(item);
+                    let Field {
+                        name,
+                        nullable: _,
+                        ty,
+                    } = Box::into_inner(item);
                     drop(name);
                     self = ty;
                 }

@@ -32,14 +32,18 @@ returns-in-Err-clause-fault c =
 pub returns-then-is_full_for-clause-fault : goal.returns-then-is_full_for-clause-fault
 returns-then-is_full_for-clause-fault c =
     let s = c.self.inside in
-    inl (refl,
+    inl (
+      refl,
       sym (ap is_past (bytes_with s.slots s.bytes.items c.args.self.now (Some (length c.args.text.now)) (text c.args.text.now) c.self.view_is c.self.invariant refl))
-      ∙ search (rules, c.is_full_for.ensures, c.if-is_full_for.true))
+          ∙ search (rules, c.is_full_for.ensures, c.if-is_full_for.true),
+    )
 
 pub returns-in_err-extend_from_slice-clause-fault : goal.returns-in_err-extend_from_slice-clause-fault
 returns-in_err-extend_from_slice-clause-fault c =
     let s = c.self.inside in
     let p = err_from_is_err_and c.from_residual.result c.from_residual.ensures.1 in
-    rw (p.1, p.2) (inr (refl,
+    rw (p.1, p.2) (inr (
+      refl,
       sym (ap is_past (bytes_with s.slots s.bytes.items c.args.self.now (Some (length c.args.text.now)) (text c.args.text.now) c.self.view_is c.self.invariant refl))
-      ∙ search (rules, c.is_full_for.ensures, c.if-is_full_for.false)))
+          ∙ search (rules, c.is_full_for.ensures, c.if-is_full_for.false),
+    ))
