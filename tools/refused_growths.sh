@@ -1,16 +1,32 @@
 #!/bin/sh
-# Refuses growths of memory in the tests of crates/shared that are made for it, one in each run, until none is refused.
+# Refuses each growth of memory in the calls that crates/growths makes, one in each run, and tells how many there were.
 #
-#     tools/refused_growths.sh [FIRST [STEP]]
+#     tools/refused_growths.sh [NUMBER]
 #
-# It begins with growth FIRST (1) and takes each STEP-th (1), so that several can work at once.
-cd "$(dirname "$0")/../crates/shared" || exit 2
-n=${1:-1}
-count=0
-while :; do
-    said=$(rt try --test --fail-alloc "$n" -- growths 2>&1) || { echo "$said"; echo "growth $n was refused: FAILED"; exit 1; }
-    echo "$said" | grep -q '^ *refused$' || break
-    n=$((n + ${2:-1}))
-    count=$((count + 1))
+# In each run growth NUMBER (200) is refused. A run makes as many growths before the calls as its input says, from none to
+# NUMBER: so each growth of the calls is refused in one run, where the calls make fewer than NUMBER together.
+cd "$(dirname "$0")/../crates/growths" || exit 2
+number=${1:-200}
+folder=$(mktemp -d) || exit 2
+trap 'rm -rf "$folder"' EXIT
+mkdir "$folder/cases"
+for count in $(seq -w 0 "$number"); do
+    echo "$count" > "$folder/cases/$count"
 done
-echo "$count growths were refused, one in each run, and none changed anything; growth $n isn't made"
+said="$folder/said"
+if ! rt try --cases "$folder/cases" --fail-alloc "$number" > "$said" 2>&1; then
+    cat "$said"
+    echo "FAILED"
+    exit 1
+fi
+if grep '^case=' "$said" | grep -v ' run=ended status=0 '; then
+    echo "FAILED: the call that was refused in each of these runs left a trace, or came to another answer"
+    exit 1
+fi
+refused=$(grep -c '^refused: ' "$said")
+before=$(grep -c '^refused before the calls$' "$said")
+if [ "$refused" -eq 0 ] || [ "$before" -eq 0 ] || [ $((refused + before)) -gt "$number" ]; then
+    echo "FAILED: $refused growths of the calls were refused, and not known to be all: take a larger NUMBER"
+    exit 1
+fi
+echo "$refused growths were refused, one in each run, and none left a trace; the calls make no other"

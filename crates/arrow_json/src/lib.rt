@@ -10,8 +10,6 @@ mod member;
 mod number;
 pub mod path;
 mod schema;
-#[cfg(test)]
-mod tests;
 
 pub use fault::{JsonFault, JsonFaultKind, fault_text};
 pub use file::read_file;

@@ -59,6 +59,3 @@ pub fn run<S: Source, O: Sink, E: Sink>(
         }
     }
 }
-
-#[cfg(test)]
-mod tests;

@@ -12,8 +12,6 @@ mod run_fault;
 pub mod sink;
 pub mod source;
 mod tell;
-#[cfg(test)]
-mod tests;
 mod text;
 
 pub use arrow_json::{JsonFault, JsonFaultKind, Member, Path, Step, fault_text};

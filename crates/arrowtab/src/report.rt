@@ -14,9 +14,6 @@ use group::ColumnStats;
 use shared::Version;
 use std::alloc::Global;
 
-#[cfg(test)]
-mod tests;
-
 /// What `stats` prints for so many workers and a version of the table that they loaded.
 pub(crate) fn stats_text(alloc: Global, workers: u32, version: &Version) -> Result<String, NoMemory>
     ensures legal { OnOk result (IsLegal version.now.fields version.now.history) }

@@ -13,10 +13,6 @@ pub mod refusal;
 pub mod state;
 mod stats;
 mod stored;
-#[cfg(test)]
-mod testing;
-#[cfg(test)]
-mod tests;
 pub mod version;
 
 pub use entry::Entry;

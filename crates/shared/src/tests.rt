@@ -1,4 +1,0 @@
-mod growths;
-mod refusals;
-mod statistics;
-mod texts;

@@ -1,0 +1,202 @@
+//! Files of JSON: what is told of those that can't be read.
+
+mod values;
+
+use arrow_json::{fault_text, read_file};
+use std::alloc::Global;
+use std::process::Abort;
+use std::test::Fail;
+
+/// Asserts what is told of a file, `read` where nothing is wrong.
+pub(crate) fn expect(rt: &impl Abort, alloc: Global, text: &str, wanted: &str) -> Result<(), Fail> {
+    let bytes = Vec::from_slice(alloc, text.as_bytes())?;
+    let told = match read_file(alloc, bytes) {
+        Ok(_) => String::from_str(alloc, "read")?,
+        Err(fault) => fault_text(alloc, &fault)?,
+    };
+    assert_eq!(rt; told.as_str(), wanted, "for {text}");
+    Ok(())
+}
+
+/// Files, and what is told of them.
+const FILES: [(&str, &str); 12] = [
+    ("{", "J1 NotJson"),
+    ("[]", "J3 WrongMember"),
+    ("{}", "J2 MissingMember at /schema"),
+    (r#"{"schema":3}"#, "J3 WrongMember at /schema"),
+    (r#"{"schema":{}}"#, "J2 MissingMember at /schema/fields"),
+    (
+        r#"{"schema":{"fields":{}}}"#,
+        "J3 WrongMember at /schema/fields",
+    ),
+    (
+        r#"{"schema":{"fields":[]}}"#,
+        "J2 MissingMember at /batches",
+    ),
+    (
+        r#"{"schema":{"fields":[]},"batches":0}"#,
+        "J3 WrongMember at /batches",
+    ),
+    (
+        r#"{"schema":{"fields":[],"metadata":4},"batches":[],"dictionaries":4}"#,
+        "read",
+    ),
+    (
+        r#"{"schema":{"fields":[]},"batches":[{"count":7,"columns":[]}]}"#,
+        "read",
+    ),
+    (
+        r#"{"schema":{"fields":[]},"batches":[{"count":2147483647,"columns":[{}]}]}"#,
+        "J7 CountDiffers at /batches/0/columns",
+    ),
+    (
+        r#"{"schema":{"fields":[]},"batches":[{"count":0,"columns":[]},{"count":2147483648,"columns":[]}]}"#,
+        "J3 WrongMember at /batches/1/count",
+    ),
+];
+
+#[test]
+fn tells_the_faults_of_a_file(rt: HostRuntime) -> Result<(), Fail> {
+    for (text, wanted) in FILES {
+        expect(&rt, rt.alloc(), text, wanted)?;
+    }
+    let bytes = Vec::from_slice(rt.alloc(), &[34, 255, 34])?;
+    match read_file(rt.alloc(), bytes) {
+        Ok(_) => panic!(&rt; "no UTF-8 was read"),
+        Err(fault) => assert_eq!(&rt; fault_text(rt.alloc(), &fault)?.as_str(), "J1 NotJson"),
+    }
+    Ok(())
+}
+
+/// A file of one field with these members, and no batch.
+const FILE_OF_FIELD: &str = r#"{"schema":{"fields":[{"name":"n"MEMBERS}]},"batches":[]}"#;
+
+/// The members of a field, and what is told of the file.
+const FIELDS: [(&str, &str); 13] = [
+    (
+        r#","nullable":true,"type":{"name":"int","bitWidth":8,"isSigned":true}"#,
+        "read",
+    ),
+    (
+        r#","nullable":true,"type":{"name":"int","bitWidth":64,"isSigned":false},"children":null,"dictionary":null"#,
+        "read",
+    ),
+    (
+        r#","type":{}"#,
+        "J2 MissingMember at /schema/fields/0/nullable",
+    ),
+    (
+        r#","nullable":1"#,
+        "J3 WrongMember at /schema/fields/0/nullable",
+    ),
+    (
+        r#","nullable":true"#,
+        "J2 MissingMember at /schema/fields/0/type",
+    ),
+    (
+        r#","nullable":true,"type":"int""#,
+        "J3 WrongMember at /schema/fields/0/type",
+    ),
+    (
+        r#","nullable":true,"type":{"name":4}"#,
+        "J3 WrongMember at /schema/fields/0/type/name",
+    ),
+    (
+        r#","nullable":true,"type":{"name":"date"}"#,
+        "J4 UnsupportedType at /schema/fields/0/type",
+    ),
+    (
+        r#","nullable":true,"type":{"name":"int","bitWidth":24,"isSigned":true}"#,
+        "J4 UnsupportedType at /schema/fields/0/type",
+    ),
+    (
+        r#","nullable":true,"type":{"name":"int","bitWidth":"8","isSigned":true}"#,
+        "J3 WrongMember at /schema/fields/0/type/bitWidth",
+    ),
+    (
+        r#","nullable":true,"type":{"name":"int","bitWidth":8}"#,
+        "J2 MissingMember at /schema/fields/0/type/isSigned",
+    ),
+    (
+        r#","nullable":true,"type":{"name":"int","bitWidth":8,"isSigned":true},"children":[0]"#,
+        "J3 WrongMember at /schema/fields/0/children",
+    ),
+    (
+        r#","nullable":true,"type":{"name":"int","bitWidth":8,"isSigned":true},"dictionary":{}"#,
+        "J4 UnsupportedType at /schema/fields/0/type",
+    ),
+];
+
+#[test]
+fn tells_the_faults_of_a_field(rt: HostRuntime) -> Result<(), Fail> {
+    for (members, wanted) in FIELDS {
+        let text = FILE_OF_FIELD.replace(rt.alloc(), "MEMBERS", members)?;
+        expect(&rt, rt.alloc(), text.as_str(), wanted)?;
+    }
+    Ok(())
+}
+
+/// A file of one field of such an integer type, and of one batch of two slots with these members.
+pub(crate) const FILE_OF_COLUMN: &str =
+    r#"{"schema":{"fields":[{"name":"n","nullable":true,"type":{"name":"int",TYPE},"children":[]}]},"batches":[{"count":2,"columns":[{"name":"n","count":2,MEMBERS}]}]}"#;
+
+/// The members of a column of signed numbers of eight bits, and what is told of the file.
+const COLUMNS: [(&str, &str); 14] = [
+    (r#""DATA":[-128,127]"#, "read"),
+    (r#""VALIDITY":null,"DATA":[1,2]"#, "read"),
+    (r#""VALIDITY":[true,0],"DATA":[1,{}]"#, "read"),
+    (
+        r#""VALIDITY":[1,1]"#,
+        "J2 MissingMember at /batches/0/columns/0/DATA",
+    ),
+    (
+        r#""DATA":"12""#,
+        "J3 WrongMember at /batches/0/columns/0/DATA",
+    ),
+    (
+        r#""DATA":[1]"#,
+        "J7 CountDiffers at /batches/0/columns/0/DATA",
+    ),
+    (
+        r#""VALIDITY":[1],"DATA":[1,2]"#,
+        "J7 CountDiffers at /batches/0/columns/0/VALIDITY",
+    ),
+    (
+        r#""VALIDITY":1,"DATA":[1,2]"#,
+        "J3 WrongMember at /batches/0/columns/0/VALIDITY",
+    ),
+    (
+        r#""VALIDITY":[1,2],"DATA":[1,2]"#,
+        "J3 WrongMember at /batches/0/columns/0/VALIDITY/1",
+    ),
+    (
+        r#""VALIDITY":[1,1.0],"DATA":[1,2]"#,
+        "J3 WrongMember at /batches/0/columns/0/VALIDITY/1",
+    ),
+    (
+        r#""DATA":[1,128]"#,
+        "J5 BadNumber at /batches/0/columns/0/DATA/1",
+    ),
+    (
+        r#""count":3,"DATA":[1,2]"#,
+        "J7 CountDiffers at /batches/0/columns/0/count",
+    ),
+    (
+        r#""count":"2","DATA":[1,2]"#,
+        "J3 WrongMember at /batches/0/columns/0/count",
+    ),
+    (
+        r#""count":2147483647,"DATA":[1,2]"#,
+        "J7 CountDiffers at /batches/0/columns/0/count",
+    ),
+];
+
+#[test]
+fn tells_the_faults_of_a_column(rt: HostRuntime) -> Result<(), Fail> {
+    let file = FILE_OF_COLUMN.replace(rt.alloc(), "TYPE", r#""bitWidth":8,"isSigned":true"#)?;
+    for (members, wanted) in COLUMNS {
+        let text = file.as_str().replace(rt.alloc(), "MEMBERS", members)?;
+        expect(&rt, rt.alloc(), text.as_str(), wanted)?;
+    }
+    Ok(())
+}

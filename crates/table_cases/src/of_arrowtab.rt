@@ -1,0 +1,4 @@
+//! The program over memory.
+
+mod ends;
+mod runs;

@@ -1,0 +1,244 @@
+//! Runs over memory: the status, what went to the output, and the line of the fault.
+ghost use Rattle.std.specs.Prelude.{◌≡◌, ◌^◌, ◌-◌, ◌<◌, IfOk, length};
+
+use arrowtab::memory::{MemorySink, MemorySource, Plan};
+use arrowtab::{Command, Job, run};
+use std::alloc::{AllocError, Global};
+use std::process::Abort;
+use std::test::Fail;
+
+/// A file of the three numbers 9223372036854775807, null and -1.
+const FILE: &str =
+    r#"{"schema":{"fields":[{"name":"n","nullable":true,"type":{"name":"int","bitWidth":64,"isSigned":true},"children":[]}]},"batches":[{"count":3,"columns":[{"name":"n","count":3,"VALIDITY":[1,0,1],"DATA":["9223372036854775807","x",-1]}]}]}"#;
+
+const OUTPUT: &str =
+    "rows 3\nworker 0 calls 1 rows 3\n\"n\" int64 rows=3 nulls=1 sum=9223372036854775806 least=-1 greatest=9223372036854775807\n";
+
+/// What a run came to.
+#[derive(Drop)]
+struct Outcome {
+    status: u8,
+    out: MemorySink,
+    err: MemorySink,
+}
+
+/// The job `stats A`.
+fn job(alloc: Global) -> Result<Job, AllocError>
+    ensures name { IfOk result (λ j. length j.names.items ≡ 1) }
+    ensures workers { IfOk result (λ j. j.workers ≡ 1) }
+{
+    let name = String::from_str(alloc, "A")?;
+    Ok(Job {
+        command: Command::Stats,
+        names: vec![in alloc; name]?,
+        workers: 1,
+    })
+}
+
+/// Runs `stats A` from this source to this output.
+fn ran(alloc: Global, source: MemorySource, out: MemorySink) -> Result<Outcome, AllocError>
+    requires source { source.failures < 2 ^ 64 - 1 }
+    requires out { out.failures < 2 ^ 64 - 1 }
+{
+    let job = job(alloc)?;
+    let mut sources = [source];
+    let mut out = out;
+    let mut err = MemorySink::new(alloc);
+    let status = run(alloc, &job, &mut sources, &mut out, &mut err);
+    Ok(Outcome { status, out, err })
+}
+
+/// Runs `stats A` over a text, and asserts what it writes, and the line of its fault.
+fn expect(
+    rt: &impl Abort,
+    alloc: Global,
+    text: &str,
+    output: &str,
+    line: &str,
+) -> Result<(), Fail> {
+    let source = MemorySource::new(Vec::from_slice(alloc, text.as_bytes())?);
+    let came = ran(alloc, source, MemorySink::new(alloc))?;
+    assert_eq!(rt; came.err.taken(), line.as_bytes(), "for {text}");
+    assert_eq!(rt; came.out.taken(), output.as_bytes(), "for {text}");
+    assert_eq!(rt; came.status, u8::from(!line.is_empty()), "for {text}");
+    Ok(())
+}
+
+/// A file of a field, and of batches.
+const TEMPLATE: &str = r#"{"schema":{"fields":[FIELD]},"batches":[BATCHES]}"#;
+
+/// Fields, batches, and what is printed of their file.
+const PRINTED: [(&str, &str, &str); 6] = [
+    // No batch.
+    (
+        r#"{"name":"n","nullable":true,"type":{"name":"int","bitWidth":8,"isSigned":false},"children":[]}"#,
+        "",
+        "rows 0\nworker 0 calls 0 rows 0\n\"n\" uint8 rows=0 nulls=0 sum=0 least=- greatest=-\n",
+    ),
+    (
+        r#"{"name":"n","nullable":false,"type":{"name":"int","bitWidth":64,"isSigned":true},"children":[]}"#,
+        "",
+        "rows 0\nworker 0 calls 0 rows 0\n\"n\" int64 rows=0 nulls=0 sum=0 least=- greatest=-\n",
+    ),
+    // Rows without columns.
+    (
+        "",
+        r#"{"count":2147483647,"columns":[]}"#,
+        "rows 2147483647\nworker 0 calls 1 rows 2147483647\n",
+    ),
+    // A sum past 64 bits.
+    (
+        r#"{"name":"n","nullable":false,"type":{"name":"int","bitWidth":64,"isSigned":false},"children":[]}"#,
+        r#"{"count":2,"columns":[{"name":"n","count":2,"DATA":["18446744073709551615","18446744073709551615"]}]}"#,
+        "rows 2\nworker 0 calls 1 rows 2\n\"n\" uint64 rows=2 nulls=0 sum=36893488147419103230 least=18446744073709551615 greatest=18446744073709551615\n",
+    ),
+    // Nulls alone.
+    (
+        r#"{"name":"n","nullable":true,"type":{"name":"int","bitWidth":64,"isSigned":true},"children":[]}"#,
+        r#"{"count":2,"columns":[{"name":"n","count":2,"VALIDITY":[0,0],"DATA":[0,0]}]}"#,
+        "rows 2\nworker 0 calls 1 rows 2\n\"n\" int64 rows=2 nulls=2 sum=0 least=- greatest=-\n",
+    ),
+    // The least is of the second batch, the greatest of the first, and the third holds nulls alone.
+    (
+        r#"{"name":"n","nullable":true,"type":{"name":"int","bitWidth":64,"isSigned":true},"children":[]}"#,
+        r#"{"count":2,"columns":[{"name":"n","count":2,"DATA":[5,7]}]},{"count":2,"columns":[{"name":"n","count":2,"VALIDITY":[1,0],"DATA":[-3,0]}]},{"count":2,"columns":[{"name":"n","count":2,"VALIDITY":[0,0],"DATA":[0,0]}]}"#,
+        "rows 6\nworker 0 calls 3 rows 6\n\"n\" int64 rows=6 nulls=3 sum=9 least=-3 greatest=7\n",
+    ),
+];
+
+#[test]
+fn prints_the_statistics(rt: HostRuntime) -> Result<(), Fail> {
+    expect(&rt, rt.alloc(), FILE, OUTPUT, "")?;
+    for (field, batches, output) in PRINTED {
+        let text = TEMPLATE.replace(rt.alloc(), "FIELD", field)?;
+        let text = text.as_str().replace(rt.alloc(), "BATCHES", batches)?;
+        expect(&rt, rt.alloc(), text.as_str(), output, "")?;
+    }
+    Ok(())
+}
+
+/// What stands in the file, what is put for it, and the line of the fault.
+const CHANGED: [(&str, &str, &str); 4] = [
+    (
+        "807\"",
+        "808\"",
+        "arrowtab: A: J5 BadNumber at /batches/0/columns/0/DATA/0\n",
+    ),
+    (
+        "\"nullable\":true",
+        "\"nullable\":false",
+        "arrowtab: A: batch 0: A2 NullInNonNullable column=0 row=1\n",
+    ),
+    (
+        "\"int\",\"bitWidth\":64,\"isSigned\":true",
+        "\"date\"",
+        "arrowtab: A: J4 UnsupportedType at /schema/fields/0/type\n",
+    ),
+    (
+        "\"count\":3",
+        "\"count\":2147483647",
+        "arrowtab: A: J7 CountDiffers at /batches/0/columns/0/VALIDITY\n",
+    ),
+];
+
+#[test]
+fn tells_the_fault(rt: HostRuntime) -> Result<(), Fail> {
+    for (found, put, line) in CHANGED {
+        let text = FILE.replace(rt.alloc(), found, put)?;
+        expect(&rt, rt.alloc(), text.as_str(), "", line)?;
+    }
+    expect(
+        &rt,
+        rt.alloc(),
+        r#"{"schema":{"fields":[]},"batches":[{"count":2147483647,"columns":[{}]}]}"#,
+        "",
+        "arrowtab: A: J7 CountDiffers at /batches/0/columns\n",
+    )
+}
+
+#[test]
+fn tells_each_cut(rt: HostRuntime) -> Result<(), Fail> {
+    for size in 0..FILE.len() {
+        let bytes = Vec::from_slice(rt.alloc(), &FILE.as_bytes()[..size])?;
+        let source = MemorySource::new(bytes);
+        let came = ran(rt.alloc(), source, MemorySink::new(rt.alloc()))?;
+        let line = b"arrowtab: A: J1 NotJson\n";
+        assert_eq!(rt; came.err.taken(), line.as_slice(), "at {size}");
+        assert!(rt; came.out.taken().is_empty(), "at {size}");
+        assert_eq!(rt; came.status, 1, "at {size}");
+    }
+    Ok(())
+}
+
+#[test]
+fn tells_each_failed_end(rt: HostRuntime) -> Result<(), Fail> {
+    let unread: &[u8] = b"arrowtab: A: cannot be read\n";
+    let unwritten: &[u8] = b"arrowtab: output failed\n";
+    for (read, write, line) in [
+        (Plan::At(0), Plan::Never, unread),
+        (Plan::At(1), Plan::Never, unread),
+        (Plan::At(2), Plan::Never, unread),
+        (Plan::At(3), Plan::Never, unread),
+        (Plan::Never, Plan::At(0), unwritten),
+        (Plan::Never, Plan::At(1), unwritten),
+        (Plan::Never, Plan::At(2), unwritten),
+    ] {
+        let bytes = Vec::from_slice(rt.alloc(), FILE.as_bytes())?;
+        let source = MemorySource::new(bytes).in_pieces(100).failing(read);
+        let out = MemorySink::new(rt.alloc()).in_pieces(50).failing(write);
+        let came = ran(rt.alloc(), source, out)?;
+        assert_eq!(rt; came.err.taken(), line, "at {read:?} and {write:?}");
+        let written = came.out.taken();
+        assert!(rt; OUTPUT.as_bytes().starts_with(written), "at {write:?}");
+        assert!(rt; write != Plan::Never || written.is_empty(), "at {read:?}");
+        assert_eq!(rt; came.status, 1, "at {read:?} and {write:?}");
+    }
+    Ok(())
+}
+
+/// A text, `middle` so often in it, and another at the end.
+fn repeated(
+    alloc: Global,
+    front: &str,
+    middle: &str,
+    times: usize,
+    back: &str,
+) -> Result<String, AllocError> {
+    let mut text = String::from_str(alloc, front)?;
+    for _time in 0..times {
+        text.push_str(middle)?;
+    }
+    text.push_str(back)?;
+    Ok(text)
+}
+
+#[test]
+fn reads_127_levels(rt: HostRuntime) -> Result<(), Fail> {
+    for (depth, line) in [
+        (127, "arrowtab: A: J3 WrongMember\n"),
+        (128, "arrowtab: A: J1 NotJson\n"),
+    ] {
+        let begun = repeated(rt.alloc(), "", "[", depth, "")?;
+        let text = repeated(rt.alloc(), begun.as_str(), "]", depth, "")?;
+        expect(&rt, rt.alloc(), text.as_str(), "", line)?;
+    }
+    Ok(())
+}
+
+#[test]
+fn refuses_the_513th_large_batch(rt: HostRuntime) -> Result<(), Fail> {
+    let text = repeated(
+        rt.alloc(),
+        r#"{"schema":{"fields":[]},"batches":["#,
+        r#"{"count":2147483647,"columns":[]},"#,
+        512,
+        r#"{"count":2147483647,"columns":[]}]}"#,
+    )?;
+    expect(
+        &rt,
+        rt.alloc(),
+        text.as_str(),
+        "",
+        "arrowtab: A: batch 512: A3 TableFull\n",
+    )
+}
