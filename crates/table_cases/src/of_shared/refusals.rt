@@ -7,6 +7,7 @@ use arrays::{RecordBatch, Width};
 use arrowtab::refusal::refusal_text;
 use shared::Refusal;
 use std::alloc::Global;
+use std::process::Abort;
 use std::test::Fail;
 
 /// A text of one byte beside a number of one byte, where no null may be.
@@ -58,34 +59,60 @@ fn numbers_and_texts(alloc: Global, bits: Width, bytes: &[u8]) -> Result<RecordB
     batch(alloc, 2, vec![in alloc; numbers, a_and_b(alloc)?]?)
 }
 
-#[test]
-fn the_least_column_is_told(rt: HostRuntime) -> Result<(), Fail> {
-    let alloc = rt.alloc();
-    let (zeros, three) = (zeros(alloc)?, three_numbers(alloc)?);
-    let long = numbers_and_texts(alloc, Width::W64, &[1; 16])?;
-    let short = numbers_and_texts(alloc, Width::W32, &[1; 8])?;
-    let lone = numbers(alloc, Width::W64, true, 1, &[None, Some(&[1; 8])])?;
-    let lone = batch(alloc, 1, vec![in alloc; lone]?)?;
-    let late = Refusal::NullInNonNullable { column: 1, row: 3 };
-    let early = Refusal::NullInNonNullable { column: 0, row: 1 };
-    for (fields, batch, fault) in [
-        (&zeros, &zeros, late),
-        (&three, &three, early),
-        (&long, &short, Refusal::SchemaDiffers { column: 0 }),
-        (&long, &lone, Refusal::SchemaDiffers { column: 1 }),
-    ] {
-        let mut table = table_for(alloc, fields)?;
-        assert_eq!(rt; table.admit(0, batch), Err(fault));
-        assert_eq!(rt; table.version()?.book_len(), 0);
-    }
+/// Asserts that an empty table for batches of these fields refuses the batch so, and stays empty.
+fn expect_refused(
+    rt: &impl Abort,
+    alloc: Global,
+    fields: &RecordBatch,
+    batch: &RecordBatch,
+    refusal: Refusal,
+) -> Result<(), Fail> {
+    let mut table = table_for(alloc, fields)?;
+    assert_eq!(rt; table.admit(0, batch), Err(refusal));
+    assert_eq!(rt; table.version()?.book_len(), 0);
+    Ok(())
+}
 
-    // Texts may have a dictionary, and the first column differs all the same.
-    let five = numbers(alloc, Width::W64, true, 5, &[None, Some(&[1; 40])])?;
-    let five = batch(alloc, 5, vec![in alloc; five, letters(alloc)?]?)?;
-    let mut table = table_for(alloc, &long)?;
-    assert_eq!(rt; table.admit(0, &five), Ok(0));
-    let fault = Refusal::SchemaDiffers { column: 0 };
-    assert_eq!(rt; table.admit(0, &short), Err(fault));
+#[test]
+fn the_least_column_with_a_null_is_told(rt: HostRuntime) -> Result<(), Fail> {
+    let zeros = zeros(rt.alloc())?;
+    let refusal = Refusal::NullInNonNullable { column: 1, row: 3 };
+    expect_refused(&rt, rt.alloc(), &zeros, &zeros, refusal)?;
+    let three = three_numbers(rt.alloc())?;
+    let refusal = Refusal::NullInNonNullable { column: 0, row: 1 };
+    expect_refused(&rt, rt.alloc(), &three, &three, refusal)
+}
+
+/// A number alone.
+fn one_number(alloc: Global) -> Result<RecordBatch, Fail> {
+    let number = numbers(alloc, Width::W64, true, 1, &[None, Some(&[1; 8])])?;
+    batch(alloc, 1, vec![in alloc; number]?)
+}
+
+#[test]
+fn the_least_column_of_another_type_is_told(rt: HostRuntime) -> Result<(), Fail> {
+    let long = numbers_and_texts(rt.alloc(), Width::W64, &[1; 16])?;
+    let short = numbers_and_texts(rt.alloc(), Width::W32, &[1; 8])?;
+    let differs = Refusal::SchemaDiffers { column: 0 };
+    expect_refused(&rt, rt.alloc(), &long, &short, differs)?;
+    let lacks = Refusal::SchemaDiffers { column: 1 };
+    expect_refused(&rt, rt.alloc(), &long, &one_number(rt.alloc())?, lacks)
+}
+
+/// Numbers beside texts with a dictionary.
+fn numbers_and_letters(alloc: Global) -> Result<RecordBatch, Fail> {
+    let numbers = numbers(alloc, Width::W64, true, 5, &[None, Some(&[1; 40])])?;
+    batch(alloc, 5, vec![in alloc; numbers, letters(alloc)?]?)
+}
+
+#[test]
+fn texts_with_a_dictionary_differ_in_no_type(rt: HostRuntime) -> Result<(), Fail> {
+    let long = numbers_and_texts(rt.alloc(), Width::W64, &[1; 16])?;
+    let mut table = table_for(rt.alloc(), &long)?;
+    assert_eq!(rt; table.admit(0, &numbers_and_letters(rt.alloc())?), Ok(0));
+    let short = numbers_and_texts(rt.alloc(), Width::W32, &[1; 8])?;
+    let differs = Refusal::SchemaDiffers { column: 0 };
+    assert_eq!(rt; table.admit(0, &short), Err(differs));
     Ok(())
 }
 

@@ -5,59 +5,69 @@ use crate::testing::{
     letters, table_for, texts,
 };
 use group::Scalar;
+use shared::Version;
+use std::alloc::Global;
+use std::sync::Arc;
 use std::test::Fail;
 
-#[test]
-fn texts_come_once_in_order_of_first_appearance(rt: HostRuntime) -> Result<(), Fail> {
-    let alloc = rt.alloc();
+/// The statistics of texts from a to b.
+fn from_a_to_b(alloc: Global, rows: u64, nulls: u64) -> Result<Statistics, Fail> {
+    let least = String::from_str(alloc, "a")?;
+    let greatest = String::from_str(alloc, "b")?;
+    Ok(Statistics {
+        rows,
+        nulls,
+        sum: None,
+        least: Some(Scalar::Text(least)),
+        greatest: Some(Scalar::Text(greatest)),
+    })
+}
+
+/// A table of b and null, to which worker 1 has added a and b.
+fn two_batches(alloc: Global) -> Result<Arc<Version>, Fail> {
     let offsets = b"\0\0\0\0\x01\0\0\0\x01\0\0\0";
     let b_and_null = texts(alloc, 2, &[Some(&[0x01]), Some(offsets), Some(b"b")])?;
     let first = batch(alloc, 2, vec![in alloc; b_and_null]?)?;
-    let second = batch(alloc, 2, vec![in alloc; a_and_b(alloc)?]?)?;
     let mut table = table_for(alloc, &first)?;
-    assert_eq!(rt; table.admit(0, &first), Ok(0));
-    assert_eq!(rt; table.admit(1, &second), Ok(1));
-    let version = table.version()?;
+    table.admit(0, &first)?;
+    let second = batch(alloc, 2, vec![in alloc; a_and_b(alloc)?]?)?;
+    table.admit(1, &second)?;
+    Ok(table.version()?)
+}
+
+#[test]
+fn texts_come_once_in_order_of_first_appearance(rt: HostRuntime) -> Result<(), Fail> {
+    // They are compared by their bytes, and not by their codes.
+    let wanted = from_a_to_b(rt.alloc(), 4, 1)?;
+    let version = two_batches(rt.alloc())?;
+    assert_statistics(&rt, &version, wanted);
     assert_dictionary(&rt, &version, &["b", "a"]);
     assert_codes(&rt, &version, 0, &[Some(0), None]);
     assert_codes(&rt, &version, 1, &[Some(1), Some(0)]);
     assert_book(&rt, &version, &[(0, 2), (1, 2)], 4);
+    Ok(())
+}
 
-    // They are compared by their bytes, and not by their codes.
-    let wanted = Statistics {
-        rows: 4,
-        nulls: 1,
-        sum: None,
-        least: Some(Scalar::Text(String::from_str(alloc, "a")?)),
-        greatest: Some(Scalar::Text(String::from_str(alloc, "b")?)),
-    };
+#[test]
+fn null_entries_count_as_nulls(rt: HostRuntime) -> Result<(), Fail> {
+    let wanted = from_a_to_b(rt.alloc(), 5, 2)?;
+    let coded = batch(rt.alloc(), 5, vec![in rt.alloc(); letters(rt.alloc())?]?)?;
+    let mut table = table_for(rt.alloc(), &coded)?;
+    assert_eq!(rt; table.admit(0, &coded), Ok(0));
+    let version = table.version()?;
     assert_statistics(&rt, &version, wanted);
+    assert_dictionary(&rt, &version, &["a", "b"]);
+    assert_codes(&rt, &version, 0, &[Some(0), Some(0), None, None, Some(1)]);
     Ok(())
 }
 
 #[test]
 fn texts_may_come_with_a_dictionary(rt: HostRuntime) -> Result<(), Fail> {
-    let alloc = rt.alloc();
-    let plain = batch(alloc, 2, vec![in alloc; a_and_b(alloc)?]?)?;
-    let coded = batch(alloc, 5, vec![in alloc; letters(alloc)?]?)?;
-    for fields in [&plain, &coded] {
-        let mut table = table_for(alloc, fields)?;
-        assert_eq!(rt; table.admit(0, &coded), Ok(0));
-        let version = table.version()?;
-        assert_dictionary(&rt, &version, &["a", "b"]);
-        assert_codes(&rt, &version, 0, &[Some(0), Some(0), None, None, Some(1)]);
-
-        // Null entries count as nulls.
-        let wanted = Statistics {
-            rows: 5,
-            nulls: 2,
-            sum: None,
-            least: Some(Scalar::Text(String::from_str(alloc, "a")?)),
-            greatest: Some(Scalar::Text(String::from_str(alloc, "b")?)),
-        };
-        assert_statistics(&rt, &version, wanted);
-        assert_eq!(rt; table.admit(0, &plain), Ok(1));
-        assert_dictionary(&rt, &*table.version()?, &["a", "b"]);
-    }
+    let plain = batch(rt.alloc(), 2, vec![in rt.alloc(); a_and_b(rt.alloc())?]?)?;
+    let coded = batch(rt.alloc(), 5, vec![in rt.alloc(); letters(rt.alloc())?]?)?;
+    let mut table = table_for(rt.alloc(), &plain)?;
+    assert_eq!(rt; table.admit(0, &coded), Ok(0));
+    assert_eq!(rt; table.admit(0, &plain), Ok(1));
+    assert_dictionary(&rt, &*table.version()?, &["a", "b"]);
     Ok(())
 }
