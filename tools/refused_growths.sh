@@ -3,8 +3,8 @@
 #
 #     tools/refused_growths.sh [NUMBER]
 #
-# In each run growth NUMBER (200) is refused. A run makes as many growths before the calls as its input says, from none to
-# NUMBER: so each growth of the calls is refused in one run, where the calls make fewer than NUMBER together.
+# In each run growth NUMBER (200) is refused. A run makes as many growths before the calls as its input says, from none
+# to NUMBER: so each growth of the calls is refused in one run, where the calls make fewer than NUMBER together.
 cd "$(dirname "$0")/../crates/growths" || exit 2
 number=${1:-200}
 folder=$(mktemp -d) || exit 2

@@ -55,7 +55,7 @@ const B_AND_NULL: Parts = (
     2,
     &[
         Some(&[0x01]),
-        Some(&[0, 0, 0, 0, 1, 0, 0, 0, 1, 0, 0, 0]),
+        Some(b"\0\0\0\0\x01\0\0\0\x01\0\0\0"),
         Some(b"b"),
     ],
 );
@@ -64,11 +64,7 @@ const B_AND_NULL: Parts = (
 const A_AND_B: Parts = (
     Flat::Utf8,
     2,
-    &[
-        None,
-        Some(&[0, 0, 0, 0, 1, 0, 0, 0, 2, 0, 0, 0]),
-        Some(b"ab"),
-    ],
+    &[None, Some(b"\0\0\0\0\x01\0\0\0\x02\0\0\0"), Some(b"ab")],
 );
 
 #[test]

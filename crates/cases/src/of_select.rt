@@ -26,7 +26,7 @@ const NAMES: Parts = (
     4,
     &[
         Some(&[0x09]),
-        Some(&[0, 0, 0, 0, 3, 0, 0, 0, 5, 0, 0, 0, 5, 0, 0, 0, 9, 0, 0, 0]),
+        Some(b"\0\0\0\0\x03\0\0\0\x05\0\0\0\x05\0\0\0\x09\0\0\0"),
         Some(b"joe\xff\xffmark"),
     ],
 );
@@ -38,7 +38,7 @@ fn lists_of_lists(alloc: Global) -> Result<Array, Fail> {
     let outer = Box::new(alloc, item(alloc, DataType::List(inner))?)?;
     let positions: Positions = &[
         Some(&[0x05]),
-        Some(&[0, 0, 0, 0, 2, 0, 0, 0, 2, 0, 0, 0, 4, 0, 0, 0]),
+        Some(b"\0\0\0\0\x02\0\0\0\x02\0\0\0\x04\0\0\0"),
     ];
     let mut lists = raw(alloc, DataType::List(outer), 3, positions)?;
     lists.children.push(child)?;
@@ -153,9 +153,7 @@ const HUGE: Parts = (
     2,
     &[
         None,
-        Some(&[
-            1, 0, 0, 0, 0, 0, 0, 0, 255, 255, 255, 255, 255, 255, 255, 255,
-        ]),
+        Some(b"\x01\0\0\0\0\0\0\0\xff\xff\xff\xff\xff\xff\xff\xff"),
     ],
 );
 

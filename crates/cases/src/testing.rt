@@ -126,11 +126,11 @@ pub(crate) fn slots_of<'a>(
 pub(crate) fn coded(alloc: Global) -> Result<Array, Fail> {
     let codes: Positions = &[
         Some(&[0x17]),
-        Some(&[2, 0, 0, 0, 0, 0, 0, 0, 3, 0, 0, 0, 9, 0, 0, 0, 1, 0, 0, 0]),
+        Some(b"\x02\0\0\0\0\0\0\0\x03\0\0\0\x09\0\0\0\x01\0\0\0"),
     ];
     let entries: Positions = &[
         Some(&[0x07]),
-        Some(&[0, 0, 0, 0, 1, 0, 0, 0, 2, 0, 0, 0, 3, 0, 0, 0, 3, 0, 0, 0]),
+        Some(b"\0\0\0\0\x01\0\0\0\x02\0\0\0\x03\0\0\0\x03\0\0\0"),
         Some(b"aba"),
     ];
     let mut column = raw(alloc, DataType::Dict, 5, codes)?;
@@ -200,7 +200,7 @@ pub(crate) fn raw_lists(alloc: Global, item: Field) -> Result<RawArray, Fail> {
     let child = raw(alloc, DataType::Int(INT8), 7, items)?;
     let positions: Positions = &[
         Some(&[0x0d]),
-        Some(&[0, 0, 0, 0, 3, 0, 0, 0, 3, 0, 0, 0, 7, 0, 0, 0, 7, 0, 0, 0]),
+        Some(b"\0\0\0\0\x03\0\0\0\x03\0\0\0\x07\0\0\0\x07\0\0\0"),
     ];
     let mut lists = raw(alloc, DataType::List(Box::new(alloc, item)?), 4, positions)?;
     lists.children.push(child)?;

@@ -1,8 +1,8 @@
 //! `growths` makes calls that want memory. Where a growth was refused, a call has to tell want of memory and to change
 //! nothing, and comes to its answer when it is made again. It prints what came of each call.
 //!
-//! The number on its input says how many growths it makes before the calls: where one growth of a run is refused, always
-//! by the same number, that decides which one of the calls it is (`tools/refused_growths.sh`).
+//! The number on its input says how many growths it makes before the calls: where one growth of a run is refused, the
+//! same one in each run, that decides which growth of the calls it is (`tools/refused_growths.sh`).
 #![tactic(auto)]
 
 mod of_shared;

@@ -81,10 +81,8 @@ fn adds_the_bytes_of_numbers(rt: HostRuntime) -> Result<(), Fail> {
     <u32 as Integer>::push(&mut bytes, 0x0102_0304)?;
     <i64 as Integer>::push(&mut bytes, -4)?;
     <u64 as Integer>::push(&mut bytes, 0x0102_0304_0506_0708)?;
-    let expected: &[u8] = &[
-        0xff, 0xfe, 0xfe, 0xff, 0x02, 0x01, 0xfd, 0xff, 0xff, 0xff, 4, 3, 2, 1, 0xfc, 0xff, 0xff,
-        0xff, 0xff, 0xff, 0xff, 0xff, 8, 7, 6, 5, 4, 3, 2, 1,
-    ];
+    let expected: &[u8] =
+        b"\xff\xfe\xfe\xff\x02\x01\xfd\xff\xff\xff\x04\x03\x02\x01\xfc\xff\xff\xff\xff\xff\xff\xff\x08\x07\x06\x05\x04\x03\x02\x01";
     assert!(rt; *bytes == *expected);
     Ok(())
 }

@@ -12,9 +12,7 @@ use std::test::Fail;
 /// The numbers 0, 1, null, 2, null and 3.
 const NUMBERS: Positions = &[
     Some(&[0x2b]),
-    Some(&[
-        0, 0, 0, 0, 1, 0, 0, 0, 0, 0, 0, 0, 2, 0, 0, 0, 0, 0, 0, 0, 3, 0, 0, 0,
-    ]),
+    Some(b"\0\0\0\0\x01\0\0\0\0\0\0\0\x02\0\0\0\0\0\0\0\x03\0\0\0"),
 ];
 
 #[test]
@@ -50,7 +48,7 @@ fn slices_truth_values(rt: HostRuntime) -> Result<(), Fail> {
 /// The texts `joe`, two nulls, and `mark`.
 const NAMES: Positions = &[
     Some(&[0x09]),
-    Some(&[0, 0, 0, 0, 3, 0, 0, 0, 5, 0, 0, 0, 5, 0, 0, 0, 9, 0, 0, 0]),
+    Some(b"\0\0\0\0\x03\0\0\0\x05\0\0\0\x05\0\0\0\x09\0\0\0"),
     Some(b"joe\xff\xffmark"),
 ];
 
@@ -76,7 +74,7 @@ fn slices_lists(rt: HostRuntime) -> Result<(), Fail> {
     let items: Positions = &[None, Some(&[12, 249, 25, 0, 129, 127, 50])];
     let positions: Positions = &[
         Some(&[0x0d]),
-        Some(&[0, 0, 0, 0, 3, 0, 0, 0, 3, 0, 0, 0, 7, 0, 0, 0, 7, 0, 0, 0]),
+        Some(b"\0\0\0\0\x03\0\0\0\x03\0\0\0\x07\0\0\0\x07\0\0\0"),
     ];
     let ty = lists_of(alloc, 1, DataType::Int(INT8))?;
     let mut lists = raw(alloc, ty, 4, positions)?;
@@ -120,7 +118,7 @@ fn assert_coded(
 /// The texts `a`, `b` and `a`, and a null.
 const TEXTS: Positions = &[
     Some(&[0x07]),
-    Some(&[0, 0, 0, 0, 1, 0, 0, 0, 2, 0, 0, 0, 3, 0, 0, 0, 3, 0, 0, 0]),
+    Some(b"\0\0\0\0\x01\0\0\0\x02\0\0\0\x03\0\0\0\x03\0\0\0"),
     Some(b"aba"),
 ];
 
@@ -129,15 +127,11 @@ const ENTRIES: &[Option<&str>] = &[Some("a"), Some("b"), Some("a"), None];
 /// The codes 2, 0, 3, null and 1.
 const CODES: Positions = &[
     Some(&[0x17]),
-    Some(&[2, 0, 0, 0, 0, 0, 0, 0, 3, 0, 0, 0, 9, 0, 0, 0, 1, 0, 0, 0]),
+    Some(b"\x02\0\0\0\0\0\0\0\x03\0\0\0\x09\0\0\0\x01\0\0\0"),
 ];
 
 /// The texts `x` and `y`.
-const LETTERS: Positions = &[
-    None,
-    Some(&[0, 0, 0, 0, 1, 0, 0, 0, 2, 0, 0, 0]),
-    Some(b"xy"),
-];
+const LETTERS: Positions = &[None, Some(b"\0\0\0\0\x01\0\0\0\x02\0\0\0"), Some(b"xy")];
 
 /// The code 0, and a null over one that names no entry.
 const PAST: Positions = &[Some(&[0x01]), Some(&[0, 0, 0, 0, 5, 0, 0, 0])];

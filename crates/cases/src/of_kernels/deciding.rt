@@ -24,18 +24,10 @@ const FROM_2: Positions = &[Some(&[0x0b]), Some(&[2, 3, 9, 5])];
 type Decided = (Flat, Positions, Positions, Kernel, &'static [Option<bool>]);
 
 /// The texts a and b.
-const A_B: Positions = &[
-    None,
-    Some(&[0, 0, 0, 0, 1, 0, 0, 0, 2, 0, 0, 0]),
-    Some(b"ab"),
-];
+const A_B: Positions = &[None, Some(b"\0\0\0\0\x01\0\0\0\x02\0\0\0"), Some(b"ab")];
 
 /// The texts ab and ab.
-const AB_AB: Positions = &[
-    None,
-    Some(&[0, 0, 0, 0, 2, 0, 0, 0, 4, 0, 0, 0]),
-    Some(b"abab"),
-];
+const AB_AB: Positions = &[None, Some(b"\0\0\0\0\x02\0\0\0\x04\0\0\0"), Some(b"abab")];
 
 const ONE: Positions = &[None, Some(&[1, 0, 0, 0, 0, 0, 0, 0])];
 
@@ -134,9 +126,7 @@ fn parts_of_columns_are_columns(rt: HostRuntime) -> Result<(), Fail> {
 /// The texts a, b, a, a, null.
 const PLAIN: Positions = &[
     Some(&[0x0f]),
-    Some(&[
-        0, 0, 0, 0, 1, 0, 0, 0, 2, 0, 0, 0, 3, 0, 0, 0, 4, 0, 0, 0, 4, 0, 0, 0,
-    ]),
+    Some(b"\0\0\0\0\x01\0\0\0\x02\0\0\0\x03\0\0\0\x04\0\0\0\x04\0\0\0"),
     Some(b"abaa"),
 ];
 

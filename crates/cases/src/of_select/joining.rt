@@ -110,12 +110,7 @@ fn joins_lists_without_what_lies_before_them(rt: HostRuntime) -> Result<(), Fail
     // A view alone is copied.
     let joined = concat(rt.alloc(), &[slots_of(&rt, &lists, 1, 2)])?;
     assert_lists(&rt, &joined.view(), &[None, Some(third)]);
-    assert_items(
-        &rt,
-        &joined.view(),
-        &[0, 0, 0, 0, 0, 0, 0, 0, 4, 0, 0, 0],
-        4,
-    );
+    assert_items(&rt, &joined.view(), b"\0\0\0\0\0\0\0\0\x04\0\0\0", 4);
     Ok(())
 }
 

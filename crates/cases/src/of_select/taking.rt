@@ -56,7 +56,7 @@ fn takes_lists_of_lists(rt: HostRuntime) -> Result<(), Fail> {
     let indices = built(rt.alloc(), (Flat::Int(INT8), 2, &[None, Some(&[1, 0])]))?;
     let rows = take(rt.alloc(), &lists.view(), &indices.view())?;
     let view = rows.view();
-    assert_items(&rt, &view, &[0, 0, 0, 0, 0, 0, 0, 0, 2, 0, 0, 0], 2);
+    assert_items(&rt, &view, b"\0\0\0\0\0\0\0\0\x02\0\0\0", 2);
     let ViewType::List(_) = view.ty() else {
         panic!(rt; "these are no lists");
     };
@@ -67,7 +67,7 @@ fn takes_lists_of_lists(rt: HostRuntime) -> Result<(), Fail> {
     };
     let first: &[Option<i128>] = &[Some(12), Some(-7), Some(25)];
     assert_lists(&rt, &inner, &[Some(first), None]);
-    assert_items(&rt, &inner, &[0, 0, 0, 0, 3, 0, 0, 0, 3, 0, 0, 0], 3);
+    assert_items(&rt, &inner, b"\0\0\0\0\x03\0\0\0\x03\0\0\0", 3);
     Ok(())
 }
 
@@ -84,9 +84,7 @@ const FIVE_NAMES: Parts = (
     5,
     &[
         Some(&[0x1d]),
-        Some(&[
-            0, 0, 0, 0, 3, 0, 0, 0, 5, 0, 0, 0, 5, 0, 0, 0, 9, 0, 0, 0, 11, 0, 0, 0,
-        ]),
+        Some(b"\0\0\0\0\x03\0\0\0\x05\0\0\0\x05\0\0\0\x09\0\0\0\x0b\0\0\0"),
         Some(b"joe\xff\xffmark\xc3\xa9"),
     ],
 );
