@@ -7,21 +7,21 @@ use Rattle.std.proofs.lemmas.List.FromFn.{map-range_with_len_more, length-map-ra
 use Rattle.std.proofs.lemmas.List.{append_assoc, append-nil, get_or_append_left, get_or-append-add, get_or-replicate, length-replicate}
 use Rattle.std.proofs.lemmas.Nat.{row_fits}
 use Rattle.std.proofs.Math.Seq.{get_or-append_seam, take-append_seam}
-use Rattle.arrays.specs.declared.types.IntType.{IntType}
-use Rattle.arrays.specs.Kind as kind
-use Rattle.arrays.specs.Kind.{bytes_of}
-use Rattle.arrays.specs.Item.{Item, null, int}
-use Rattle.arrays.specs.Layout.{number_at}
-use Rattle.arrays.specs.Number.{IsOfType, bytes_of_number}
+use Rattle.types.specs.declared.int_type.IntType.{IntType}
+use Rattle.types.specs.Kind as kind
+use Rattle.types.specs.Kind.{bytes_of}
+use Rattle.layout.specs.Item.{Item, null, int}
+use Rattle.types.specs.Number.{number_at, IsOfType, bytes_of_number}
 use Rattle.arrays.specs.Column.{Column}
 use Rattle.arrays.specs.Made.{show_numbers}
 use Rattle.arrays.specs.Packed.{IsBufferOf}
-use Rattle.arrays.specs.Seen.{Seen, valid_at, valid_in}
+use Rattle.layout.specs.Seen.{Seen, valid_at, valid_in}
 use Rattle.arrays.specs.Shown.{kept, shown}
 use Rattle.arrays.specs.Values.{HasNumbers}
-use Rattle.arrays.specs.Builder.{built, item_at, item_of, numbers_where, IsBuilt}
+use Rattle.arrays.specs.Builder.{built, item_at, numbers_where, IsBuilt}
+use Rattle.arrays.specs.Slot.{item_of}
 use Rattle.arrays.proofs.ListLemmas.{map-range-below, map-range-joined}
-use Rattle.arrays.proofs.EncodingLemmas.{length-bytes_of_number, number_at-append-front, number_at-append-end, number_at-append-past}
+use Rattle.types.proofs.EncodingLemmas.{length-bytes_of_number, number_at-append-front, number_at-append-end, number_at-append-past}
 use Rattle.arrays.proofs.FinishedLemmas.{slots_shown}
 
 -- one row more

@@ -5,10 +5,10 @@ use Rattle.std.proofs.lemmas.List.{drop-append-le, take-append-le, drop-drop, ni
 use Rattle.std.proofs.lemmas.List.Elements.{All-append}
 use Rattle.std.proofs.lemmas.List.Sums.{sum_by-cons, sum_by_push}
 use Rattle.std.proofs.Math.Seq.{take-length}
-use Rattle.arrays.specs.Item.{Item, null, text, list, list_of}
+use Rattle.layout.specs.Item.{Item, null, text, list, list_of}
 use Rattle.arrays.specs.Growing.{cut_texts, AreTextsOf, IsText}
 use Rattle.arrays.specs.Lengths.{cut, total, text_length, text_bytes}
-use Rattle.arrays.specs.Offsets.{length_of, of_slot, start_of}
+use Rattle.layout.specs.Offsets.{length_of, of_slot, start_of}
 
 -- ---- how long slots are together
 

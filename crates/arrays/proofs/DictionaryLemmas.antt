@@ -3,24 +3,26 @@ use Rattle.std.proofs.Common.{◌≡◌, ◌∙◌, ℕ, ◌+◌, List, [], ◌�
 use Rattle.std.specs.List.{All, range_with_len}
 use Rattle.std.proofs.lemmas.Simd.{map-map}
 use Rattle.std.proofs.lemmas.List.FromFn.{get_or-map-range_with_len}
-use Rattle.arrays.specs.Item.{Item, null, int}
-use Rattle.arrays.specs.Kind as kind
-use Rattle.arrays.specs.Kind.{Kind, int32, kind_of, kind_step, same_kind}
-use Rattle.arrays.specs.declared.types.DataType.{DataType, fold_out-DataType, map-DataType}
-use Rattle.arrays.specs.declared.types.DataType.TheVariants.{Dict, outs-Dict}
-use Rattle.arrays.specs.declared.types.Field.{Field, fold-Field}
-use Rattle.arrays.specs.Layout.{Buffers, column, codes, code_at, is_valid, natural, validity_of}
-use Rattle.arrays.specs.Fault.{first, is_no_code, is_negative, least_row}
+use Rattle.layout.specs.Item.{Item, null, int}
+use Rattle.types.specs.Kind as kind
+use Rattle.types.specs.Kind.{Kind, int32, kind_of, kind_step, same_kind}
+use Rattle.types.specs.declared.data_type.DataType.{DataType, fold_out-DataType, map-DataType}
+use Rattle.types.specs.declared.data_type.DataType.TheVariants.{Dict, outs-Dict}
+use Rattle.types.specs.declared.data_type.Field.{Field, fold-Field}
+use Rattle.layout.specs.Layout.{Buffers, column, codes, code_at, is_valid, validity_of}
+use Rattle.types.specs.Number.{natural, is_negative}
+use Rattle.types.specs.First.{first}
+use Rattle.layout.specs.Fault.{is_no_code, least_row}
 use Rattle.arrays.specs.Dictionary.{encoded, is_code, looked_up}
-use Rattle.arrays.specs.Seen.{Seen}
-use Rattle.arrays.specs.Reading.{Reading, held, read_parts}
-use Rattle.arrays.specs.Checked.{checked}
-use Rattle.arrays.proofs.FirstFaultLemmas.{IsWhole, own_fault-whole}
-use Rattle.arrays.proofs.LawfulLemmas.{texts_of, either_false, none_held, no_dictionary}
+use Rattle.layout.specs.Seen.{Seen}
+use Rattle.layout.specs.Reading.{Reading, held, read_parts}
+use Rattle.layout.specs.Checked.{checked}
+use Rattle.layout.proofs.FirstFaultLemmas.{IsWhole, own_fault-whole}
+use Rattle.layout.proofs.LawfulLemmas.{texts_of, either_false, none_held, no_dictionary}
 use Rattle.arrays.proofs.ListLemmas.{map-range-below}
-use Rattle.arrays.proofs.RowLemmas.{least_none}
+use Rattle.layout.proofs.RowLemmas.{least_none}
 use Rattle.arrays.proofs.SlotLemmas.{whole}
-use Rattle.arrays.proofs.ViewLemmas.{seen-kind, length-column}
+use Rattle.layout.proofs.SeenLemmas.{seen-kind, length-column}
 
 -- ---- texts
 

@@ -4,22 +4,24 @@ use Rattle.std.specs.List.{range_with_len}
 use Rattle.std.specs.Arc.{arc_value}
 use Rattle.std.specs.Option.{IsSome}
 use Rattle.std.proofs.Math.Seq.{take-nil}
-use Rattle.std.proofs.lemmas.Bool.{false≢true}
+use Rattle.std.proofs.lemmas.Bool.{and_parts, false≢true}
 use Rattle.std.proofs.lemmas.Bool.Decides.{nat_tests}
 use Rattle.std.proofs.lemmas.List.{drop-map, length-map, take-map}
 use Rattle.std.proofs.lemmas.List.Elements.{All-from_get_or}
 use Rattle.std.proofs.lemmas.List.FromFn.{get_or-map-range_with_len, length-map-range_with_len}
 use Rattle.std.proofs.lemmas.Option.{slice_get-map, get_or_from_slice_get}
 use Rattle.colbits.specs.Slice.{slice}
-use Rattle.arrays.specs.Item.{Item, null, int}
-use Rattle.arrays.specs.Kind as kind
-use Rattle.arrays.specs.Kind.{Kind, int32, same_kind}
-use Rattle.arrays.specs.Layout.{Buffers, is_valid, column, codes, code_at, natural, number_at}
-use Rattle.arrays.specs.Fault.{Held, first, own_fault, do_parts_differ, is_negative, is_no_code, entry_count}
-use Rattle.arrays.specs.Seen.{Seen, part, valid_at}
+use Rattle.layout.specs.Item.{Item, null, int}
+use Rattle.types.specs.Kind as kind
+use Rattle.types.specs.Kind.{Kind, int32, same_kind}
+use Rattle.layout.specs.Layout.{Buffers, is_valid, column, codes, code_at}
+use Rattle.types.specs.Number.{natural, number_at, is_negative}
+use Rattle.types.specs.First.{first}
+use Rattle.layout.specs.Fault.{Held, own_fault, do_parts_differ, is_no_code, entry_count}
+use Rattle.layout.specs.Seen.{Seen, part, valid_at}
 use Rattle.arrays.specs.Values.{HasNumbers}
-use Rattle.arrays.specs.Reading.{Reading, read_parts, reading, held, child_fault, entries_of}
-use Rattle.arrays.specs.Checked.{checked}
+use Rattle.layout.specs.Reading.{Reading, read_parts, reading, held, child_fault, entries_of}
+use Rattle.layout.specs.Checked.{checked}
 use Rattle.arrays.specs.Dictionary.{looked_up, is_code, encoded, codes_of, dictionary_of, entries_shown, texts_alone}
 use Rattle.arrays.specs.View.{read_view, show_view}
 use Rattle.arrays.specs.Slot.{is_text}
@@ -27,11 +29,11 @@ use Rattle.arrays.specs.ViewType.{view_kind}
 use Rattle.arrays.specs.declared.view.ViewType.{ViewType}
 use Rattle.arrays.specs.declared.view.ViewType.TheVariants as type
 use Rattle.arrays.specs.declared.view.View.TheInside.{Inside}
-use Rattle.arrays.proofs.FirstFaultLemmas.{IsWhole, own_fault-whole}
-use Rattle.arrays.proofs.OffsetLemmas.{fails-least_none}
+use Rattle.layout.proofs.FirstFaultLemmas.{IsWhole, own_fault-whole}
+use Rattle.layout.proofs.OffsetLemmas.{fails-least_none}
 use Rattle.arrays.proofs.PartLemmas.{kind_shown, valid_slot, null_slot}
 use Rattle.arrays.proofs.SlotLemmas.{slice-column, whole}
-use Rattle.arrays.proofs.LawfulLemmas.{either_false, none_held}
+use Rattle.layout.proofs.LawfulLemmas.{either_false, none_held}
 
 -- ---- the codes are a lawful array of their own
 
@@ -198,14 +200,10 @@ pub record NamesEntry (z : ℤ) (n : ℕ) : Type 0 where
   pub number : z ≡ pos (natural z)
   pub below : natural z < n
 
-both_true : (a b : Bool) → (a && b) ≡ true → (a ≡ true) × (b ≡ true)
-both_true true b h = (refl, h)
-both_true false b h = cc
-
 names_entry : (z : ℤ) (n : ℕ) → is_code n (int z) ≡ true → NamesEntry z n
 names_entry (pos k) n h =
     let natural_first : nat_lt k 0 ≡ false = le-ltb k 0 (omega arith) in
-    record { counted = natural_first; number = refl; below = ltb-true k n (both_true (not (nat_lt k 0)) (nat_lt k n) h).1 }
+    record { counted = natural_first; number = refl; below = ltb-true k n (and_parts (not (nat_lt k 0)) (nat_lt k n) h).1 }
 names_entry (negsuc k) n h = cc
 
 -- the code of a valid slot

@@ -7,13 +7,13 @@ use Rattle.std.proofs.lemmas.List.FromFn.{map-range_with_len_more}
 use Rattle.std.proofs.Math.Seq.{get_or-append_seam}
 use Rattle.colbits.specs.Bit.{bits}
 use Rattle.colbits.proofs.BitLemmas.{listed}
-use Rattle.arrays.specs.Fault.{is_validity_short}
-use Rattle.arrays.specs.Item.{Item, null, is_null}
-use Rattle.arrays.specs.Kind.{Kind}
-use Rattle.arrays.specs.Layout.{is_valid_in}
+use Rattle.layout.specs.Fault.{is_validity_short}
+use Rattle.layout.specs.Item.{Item, null, is_null}
+use Rattle.types.specs.Kind.{Kind}
+use Rattle.layout.specs.Layout.{is_valid_in}
 use Rattle.arrays.specs.Made.{show_slots}
 use Rattle.arrays.specs.Packed.{IsBufferOf}
-use Rattle.arrays.specs.Seen.{Seen, no_entries}
+use Rattle.layout.specs.Seen.{Seen, no_entries}
 use Rattle.arrays.specs.Shown.{kept, shown}
 use Rattle.arrays.proofs.ListLemmas.{map-range-below}
 use Rattle.arrays.proofs.ValidityLemmas.{IsKept, kept_buffer}

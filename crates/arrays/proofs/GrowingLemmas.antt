@@ -8,8 +8,8 @@ use Rattle.colbits.specs.Bit.{bit, bits}
 use Rattle.colbits.specs.Bitmap.{IsBitmapOf}
 use Rattle.colbits.proofs.BitLemmas.{get_or-bits}
 use Rattle.arrays.specs.Growing.{bools_where}
-use Rattle.arrays.specs.Item.{Item, null, boolean}
-use Rattle.arrays.specs.Kind as kind
+use Rattle.layout.specs.Item.{Item, null, boolean}
+use Rattle.types.specs.Kind as kind
 use Rattle.arrays.specs.Made.{show_bits}
 use Rattle.arrays.specs.Packed.{IsBufferOf}
 use Rattle.arrays.specs.Shown.{kept, shown}

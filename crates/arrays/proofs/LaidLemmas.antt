@@ -9,21 +9,20 @@ use Rattle.std.proofs.lemmas.List.Elements.{All-get_or}
 use Rattle.std.proofs.lemmas.List.FromFn.{fill_by_all, get_or-map-range_with_len, map-range_with_len_more, length-map-range_with_len}
 use Rattle.std.proofs.lemmas.Simd.{map-map}
 use Rattle.std.proofs.Math.Seq.{get_or-append_seam}
-use Rattle.arrays.specs.Item.{Item, null, text, list, list_of, is_null}
-use Rattle.arrays.specs.Kind as kind
-use Rattle.arrays.specs.Kind.{Kind, int32}
-use Rattle.arrays.specs.Layout.{is_valid_in, natural, number_at}
-use Rattle.arrays.specs.Fault.{is_negative}
+use Rattle.layout.specs.Item.{Item, null, text, list, list_of, is_null}
+use Rattle.types.specs.Kind as kind
+use Rattle.types.specs.Kind.{Kind, int32}
+use Rattle.layout.specs.Layout.{is_valid_in}
+use Rattle.types.specs.Number.{natural, number_at, is_negative, IsOfType, bytes_of_number}
 use Rattle.arrays.specs.Growing.{cut_texts, lengths_where, AreFresh, AreLaid, AreTextsOf, IsText}
 use Rattle.arrays.specs.Lengths.{cut, is_past, total}
 use Rattle.arrays.specs.Made.{AreTexts, show_lists, show_slots, show_texts}
-use Rattle.arrays.specs.Number.{IsOfType, bytes_of_number}
-use Rattle.arrays.specs.Offsets.{AreOffsets, length_of, of_slot, start_of}
+use Rattle.layout.specs.Offsets.{AreOffsets, length_of, of_slot, start_of}
 use Rattle.arrays.specs.Packed.{IsBufferOf}
-use Rattle.arrays.specs.Seen.{Seen, no_entries}
+use Rattle.layout.specs.Seen.{Seen, no_entries}
 use Rattle.arrays.specs.Shown.{kept, shown}
 use Rattle.arrays.proofs.CutLemmas.{cut_by, cut-from, lists_cut, slot_length, Rises, texts_cut, total-from, total-push}
-use Rattle.arrays.proofs.EncodingLemmas.{length-bytes_of_number, number_at-append-front, number_at-append-end}
+use Rattle.types.proofs.EncodingLemmas.{length-bytes_of_number, number_at-append-front, number_at-append-end}
 use Rattle.arrays.proofs.ListLemmas.{map-range-below}
 use Rattle.arrays.proofs.ValidityLemmas.{IsKept, kept_buffer}
 

@@ -1,22 +1,23 @@
 -- A list column over a child, made of parts that are known to be lawful.
 use Rattle.std.proofs.Common.{◌≡◌, ◌∙◌, ℕ, suc, ◌<◌, ◌≤◌, List, [], ◌∷◌, map, Bool, true, false, not, cond, length, Option, Some, None, option_map, ap, sym, refl, arith, le-ltb, eq-eqb}
-use Rattle.arrays.specs.declared.types.RawArray.{RawArray}
+use Rattle.layout.specs.declared.raw.RawArray.{RawArray}
 use Rattle.std.specs.Arc.{arc_value}
-use Rattle.arrays.specs.Kind as kind
-use Rattle.arrays.specs.Kind.{Kind, bytes_of, depth, kind_of, same_int, same_kind}
-use Rattle.arrays.specs.Seen.{Seen}
-use Rattle.arrays.specs.Checked.{checked}
+use Rattle.types.specs.Kind as kind
+use Rattle.types.specs.Kind.{Kind, bytes_of, depth, kind_of, same_int, same_kind}
+use Rattle.layout.specs.Seen.{Seen}
+use Rattle.layout.specs.Checked.{checked}
 use Rattle.arrays.specs.Array.{read_array, show_array}
-use Rattle.arrays.specs.Reading.{Reading, read_parts, reading, held}
-use Rattle.arrays.specs.Fault.{Held, do_parts_differ, first, is_validity_short, own_fault}
-use Rattle.arrays.specs.Offsets.{AreOffsets, start_of}
+use Rattle.layout.specs.Reading.{Reading, read_parts, reading, held}
+use Rattle.types.specs.First.{first}
+use Rattle.layout.specs.Fault.{Held, do_parts_differ, is_validity_short, own_fault}
+use Rattle.layout.specs.Offsets.{AreOffsets, start_of}
 use Rattle.arrays.specs.Made.{show_lists}
 use Rattle.arrays.specs.declared.array.Array.TheInside.{Inside}
-use Rattle.arrays.specs.Layout.{Buffers, column}
-use Rattle.arrays.proofs.FirstFaultLemmas.{own_fault-whole}
+use Rattle.layout.specs.Layout.{Buffers, column}
+use Rattle.layout.proofs.FirstFaultLemmas.{own_fault-whole}
 use Rattle.arrays.proofs.MadeLemmas.{offsets_pass}
-use Rattle.arrays.proofs.ViewLemmas.{seen-kind}
-use Rattle.arrays.proofs.LawfulLemmas.{either_false, no_dictionary, parts_agree, reading-again}
+use Rattle.layout.proofs.SeenLemmas.{seen-kind}
+use Rattle.layout.proofs.LawfulLemmas.{either_false, no_dictionary, parts_agree, reading-again}
 
 -- ---- the parts of an array that has no dictionary
 

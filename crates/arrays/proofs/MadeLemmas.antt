@@ -3,17 +3,19 @@ use Rattle.std.proofs.Common.{◌≡◌, ◌∙◌, ℕ, ◌+◌, ◌*◌, ◌�
 use Rattle.std.specs.List.{list_any, range_with_len}
 use Rattle.std.specs.Str.{is_utf8}
 use Rattle.std.proofs.lemmas.Str.{is_utf8-from_IsUtf8}
-use Rattle.arrays.specs.declared.types.IntType.{IntType}
-use Rattle.arrays.specs.Kind as kind
-use Rattle.arrays.specs.declared.types.RawArray.{RawArray}
-use Rattle.arrays.specs.Kind.{Kind, bytes_of, int32}
-use Rattle.arrays.specs.Layout.{Buffers, column, natural, number_at, is_valid_in}
-use Rattle.arrays.specs.Fault.{own_fault, first, is_validity_short, is_negative, are_offsets_short, least_row}
+use Rattle.types.specs.declared.int_type.IntType.{IntType}
+use Rattle.types.specs.Kind as kind
+use Rattle.layout.specs.declared.raw.RawArray.{RawArray}
+use Rattle.types.specs.Kind.{Kind, bytes_of, int32}
+use Rattle.layout.specs.Layout.{Buffers, column, is_valid_in}
+use Rattle.types.specs.Number.{natural, number_at, is_negative}
+use Rattle.types.specs.First.{first}
+use Rattle.layout.specs.Fault.{own_fault, is_validity_short, are_offsets_short, least_row}
 use Rattle.arrays.specs.Made.{AreTexts, show_bits, show_numbers, show_texts}
-use Rattle.arrays.specs.Offsets.{AreOffsets, of_slot, start_of}
-use Rattle.arrays.specs.Reading.{read_parts, reading}
-use Rattle.arrays.proofs.FirstFaultLemmas.{own_fault-whole}
-use Rattle.arrays.proofs.RowLemmas.{any_none, least_none}
+use Rattle.layout.specs.Offsets.{AreOffsets, of_slot, start_of}
+use Rattle.layout.specs.Reading.{read_parts, reading}
+use Rattle.layout.proofs.FirstFaultLemmas.{own_fault-whole}
+use Rattle.layout.proofs.RowLemmas.{any_none, least_none}
 
 -- parts without a child, as they were handed in
 pub read_same : (k l : Kind) (m n : ℕ) (buffers parts : Buffers) (children : List RawArray) → k ≡ l → m ≡ n → buffers ≡ parts → children ≡ []

@@ -1,12 +1,12 @@
 -- The kind of a view of numbers, by its type.
 use Rattle.std.proofs.Common.{◌≡◌, ◌∙◌, true, false, ap, sym, refl}
 use Rattle.std.proofs.lemmas.Bool.{false≢true}
-use Rattle.arrays.specs.declared.types.IntType.{IntType}
+use Rattle.types.specs.declared.int_type.IntType.{IntType}
 use Rattle.arrays.specs.declared.view.ViewType.{ViewType}
 use Rattle.arrays.specs.declared.view.ViewType.TheVariants as type
 use Rattle.arrays.specs.declared.view.View.TheInside.{Inside}
-use Rattle.arrays.specs.Kind as kind
-use Rattle.arrays.specs.Seen.{Seen}
+use Rattle.types.specs.Kind as kind
+use Rattle.layout.specs.Seen.{Seen}
 use Rattle.arrays.specs.Slot.{is_int}
 use Rattle.arrays.specs.View.{show_view}
 use Rattle.arrays.specs.ViewType.{view_kind}

@@ -4,17 +4,18 @@ use Rattle.std.specs.List.{list_any, range_with_len}
 use Rattle.std.proofs.lemmas.Bool.{false≢true}
 use Rattle.std.proofs.lemmas.Bool.Decides.{nat_tests}
 use Rattle.colbits.specs.Slice.{slice}
-use Rattle.arrays.specs.Kind as kind
-use Rattle.arrays.specs.Kind.{Kind, int32}
-use Rattle.arrays.specs.Layout.{Buffers, bytes_at, offset_at, number_at, natural}
-use Rattle.arrays.specs.Fault.{Held, are_offsets_short, is_negative, child_length}
-use Rattle.arrays.specs.Held.{HasOffsets}
-use Rattle.arrays.specs.Offsets.{AreOffsets, offsets_from, start_of, length_of}
-use Rattle.arrays.proofs.FirstFaultLemmas.{IsWhole}
-use Rattle.arrays.proofs.OffsetLemmas.{rises_by, start-rises, text_ends, list_ends}
-use Rattle.arrays.proofs.RowLemmas.{any_found}
+use Rattle.types.specs.Kind as kind
+use Rattle.types.specs.Kind.{Kind, int32}
+use Rattle.layout.specs.Layout.{Buffers, bytes_at, offset_at}
+use Rattle.types.specs.Number.{number_at, natural, is_negative}
+use Rattle.layout.specs.Fault.{Held, are_offsets_short, child_length}
+use Rattle.layout.specs.Held.{HasOffsets}
+use Rattle.layout.specs.Offsets.{AreOffsets, offsets_from, start_of, length_of}
+use Rattle.layout.proofs.FirstFaultLemmas.{IsWhole}
+use Rattle.layout.proofs.OffsetLemmas.{rises_by, start-rises, text_ends, list_ends}
+use Rattle.layout.proofs.RowLemmas.{any_found}
 use Rattle.arrays.proofs.SlotLemmas.{number_at-slice}
-use Rattle.arrays.proofs.ViewLemmas.{length-slice}
+use Rattle.layout.proofs.SeenLemmas.{length-slice}
 
 -- ---- the offsets of a lawful array
 

@@ -9,31 +9,33 @@ use Rattle.std.proofs.lemmas.Option.{slice_get-get_or, get_or_from_slice_get}
 use Rattle.colbits.specs.Bit.{bits}
 use Rattle.colbits.specs.Slice.{slice}
 use Rattle.colbits.proofs.BitLemmas.{get_or-bits, length-bits}
-use Rattle.arrays.specs.declared.types.RawArray.{RawArray, out-RawArray}
-use Rattle.arrays.specs.Item.{Item, null, is_null, boolean, text, list, list_of}
-use Rattle.arrays.specs.Kind as kind
-use Rattle.arrays.specs.Kind.{Kind, kind_of, same_kind}
-use Rattle.arrays.specs.Layout.{Buffers, bytes_at, held_at, is_valid, column, value_at, start_at, length_at}
-use Rattle.arrays.specs.declared.fault.LayoutFault.{LayoutFault}
-use Rattle.arrays.specs.Fault.{first, own_fault, bytes_for, child_length, is_no_child, bad_text_row, is_no_text}
-use Rattle.arrays.specs.Held.{HasOffsets}
-use Rattle.arrays.specs.Seen.{Seen, part, valid_in, valid_at}
-use Rattle.arrays.specs.Reading.{Reading, read_parts, reading, held, fault, child_fault, dictionary_fault, child_items, entries_of}
-use Rattle.arrays.specs.Checked.{checked}
-use Rattle.arrays.specs.Offsets.{AreOffsets, offsets_from, start_of, length_of}
+use Rattle.layout.specs.declared.raw.RawArray.{RawArray, out-RawArray}
+use Rattle.layout.specs.Item.{Item, null, is_null, boolean, text, list, list_of}
+use Rattle.types.specs.Kind as kind
+use Rattle.types.specs.Kind.{Kind, kind_of, same_kind}
+use Rattle.layout.specs.Layout.{Buffers, bytes_at, held_at, is_valid, column, value_at, start_at, length_at}
+use Rattle.layout.specs.declared.fault.LayoutFault.{LayoutFault}
+use Rattle.types.specs.First.{first}
+use Rattle.layout.specs.Fault.{own_fault, bytes_for, child_length, is_no_child, bad_text_row, is_no_text}
+use Rattle.layout.specs.Held.{HasOffsets}
+use Rattle.layout.specs.Seen.{Seen, part, valid_in, valid_at}
+use Rattle.layout.specs.Reading.{Reading, read_parts, reading, held, fault, child_fault, dictionary_fault, child_items, entries_of}
+use Rattle.layout.specs.Checked.{checked}
+use Rattle.layout.specs.Offsets.{AreOffsets, offsets_from, start_of, length_of}
 use Rattle.arrays.specs.Values.{HasBits, HasTexts, HasLists, valid_values}
 use Rattle.arrays.specs.Slot.{is_list, holds_at}
 use Rattle.arrays.specs.View.{read_view, show_view}
 use Rattle.arrays.specs.ViewType.{view_kind}
 use Rattle.arrays.specs.declared.view.View.TheInside.{Inside}
-use Rattle.arrays.proofs.FirstFaultLemmas.{IsWhole, reading-raw}
-use Rattle.arrays.proofs.ChildLemmas.{only_child}
+use Rattle.layout.proofs.FirstFaultLemmas.{IsWhole, reading-raw}
+use Rattle.layout.proofs.ChildLemmas.{only_child}
 use Rattle.arrays.proofs.ListLemmas.{map-range-below}
-use Rattle.arrays.proofs.OffsetLemmas.{fails-least_none}
+use Rattle.layout.proofs.OffsetLemmas.{fails-least_none}
 use Rattle.arrays.proofs.OffsetParts.{rising-texts, rising-lists, has_offsets_part, start_part, length_part, AreOffsets-part}
 use Rattle.arrays.proofs.SlotLemmas.{seen-validity, slice-column, validity-part, valid-part, valid-view, whole}
-use Rattle.arrays.proofs.ViewLemmas.{length-items, length-slice, length-show_view, kind-show_view, seen-kind}
-use Rattle.arrays.proofs.LawfulLemmas.{either_false}
+use Rattle.layout.proofs.SeenLemmas.{length-items, length-slice, seen-kind}
+use Rattle.arrays.proofs.ViewLemmas.{length-show_view, kind-show_view}
+use Rattle.layout.proofs.LawfulLemmas.{either_false}
 
 -- ---- the items of part of an array, by the value of each slot
 

@@ -10,23 +10,24 @@ use Rattle.std.specs.Arc.{arc_value}
 use Rattle.colbits.specs.Bit.{bits}
 use Rattle.colbits.specs.Slice.{slice}
 use Rattle.colbits.proofs.BitLemmas.{get_or-bits, slice-bits, drop-map-range, map-range-same}
-use Rattle.arrays.specs.declared.types.IntType.{IntType}
-use Rattle.arrays.specs.Item.{Item, null, int}
-use Rattle.arrays.specs.Kind as kind
-use Rattle.arrays.specs.Kind.{Kind, bits_of, bytes_of}
-use Rattle.arrays.specs.Layout.{Buffers, held_at, bytes_at, is_valid, is_valid_in, validity_of, number_at, column, value_at}
-use Rattle.arrays.specs.Seen.{Seen, part, valid_in, valid_at, nulls_in}
-use Rattle.arrays.specs.Fault.{is_validity_short, bytes_for}
-use Rattle.arrays.specs.Reading.{Reading, read_parts, reading, held, child_items}
-use Rattle.arrays.specs.Checked.{checked}
+use Rattle.types.specs.declared.int_type.IntType.{IntType}
+use Rattle.layout.specs.Item.{Item, null, int}
+use Rattle.types.specs.Kind as kind
+use Rattle.types.specs.Kind.{Kind, bits_of, bytes_of}
+use Rattle.layout.specs.Layout.{Buffers, held_at, bytes_at, is_valid, is_valid_in, validity_of, column, value_at}
+use Rattle.types.specs.Number.{number_at}
+use Rattle.layout.specs.Seen.{Seen, part, valid_in, valid_at, nulls_in}
+use Rattle.layout.specs.Fault.{is_validity_short, bytes_for}
+use Rattle.layout.specs.Reading.{Reading, read_parts, reading, held, child_items}
+use Rattle.layout.specs.Checked.{checked}
 use Rattle.arrays.specs.ViewType.{view_kind}
 use Rattle.arrays.specs.View.{read_view, show_view}
 use Rattle.arrays.specs.declared.view.View.TheInside.{Inside}
 use Rattle.arrays.specs.Values.{HasNumbers}
-use Rattle.arrays.proofs.FirstFaultLemmas.{IsWhole, own_fault-none}
-use Rattle.arrays.proofs.LawfulLemmas.{first-parts}
+use Rattle.layout.proofs.FirstFaultLemmas.{IsWhole, own_fault-none}
+use Rattle.layout.proofs.LawfulLemmas.{first-parts}
 use Rattle.arrays.proofs.ListLemmas.{map-range-below}
-use Rattle.arrays.proofs.ViewLemmas.{slice-slice, length-slice, length-items}
+use Rattle.layout.proofs.SeenLemmas.{slice-slice, length-slice, length-items}
 
 -- where no fault stands, each test has passed
 pub whole : (k : Kind) (n : ℕ) (stated : Option ℕ) (buffers : Buffers) (children : List Reading) (dictionary : Option Reading)

@@ -9,20 +9,19 @@ use Rattle.std.specs.List.{range_with_len}
 use Rattle.std.specs.Int.{from_le_bytes, cast_signed}
 use Rattle.std.specs.Prelude.{slice_index_or}
 use Rattle.colbits.specs.Slice.{slice}
-use Rattle.arrays.specs.declared.types.Width.{Width}
-use Rattle.arrays.specs.declared.types.Width.TheVariants.{W8, W16, W32, W64}
-use Rattle.arrays.specs.declared.types.IntType.{IntType}
+use Rattle.types.specs.declared.int_type.Width.{Width}
+use Rattle.types.specs.declared.int_type.Width.TheVariants.{W8, W16, W32, W64}
+use Rattle.types.specs.declared.int_type.IntType.{IntType}
 use Rattle.arrays.specs.Dictionary.{looked_up}
-use Rattle.arrays.specs.Kind as kind
-use Rattle.arrays.specs.Kind.{Kind, bits_of, bytes_of}
-use Rattle.arrays.specs.Item.{Item, null, int, boolean, text, list, list_of}
-use Rattle.arrays.specs.Layout.{natural, number_at}
-use Rattle.arrays.specs.Number.{IsOfType}
-use Rattle.arrays.specs.Offsets.{of_slot}
-use Rattle.arrays.specs.Seen.{Seen, valid_at}
+use Rattle.types.specs.Kind as kind
+use Rattle.types.specs.Kind.{Kind, bits_of, bytes_of}
+use Rattle.layout.specs.Item.{Item, null, int, boolean, text, list, list_of}
+use Rattle.types.specs.Number.{natural, number_at, IsOfType}
+use Rattle.layout.specs.Offsets.{of_slot}
+use Rattle.layout.specs.Seen.{Seen, valid_at}
 use Rattle.arrays.specs.Typed.{AreItemsOf, IsItemOf}
 use Rattle.arrays.specs.Values.{valid_values}
-use Rattle.arrays.proofs.ByteLemmas.{get_or-slice}
+use Rattle.types.proofs.ByteLemmas.{get_or-slice}
 
 -- ---- numbers
 

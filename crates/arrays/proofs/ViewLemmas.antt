@@ -1,75 +1,12 @@
 -- What a view shows of its array.
-use Rattle.std.proofs.Common.{◌≡◌, ◌∙◌, ℕ, ◌+◌, ◌-◌, ◌≤◌, List, map, Bool, length, take, drop, Option, Some, None, option_map, IfSome, [], ◌∷◌, true, false, ltb-false, ap, refl, arith, length-take, length-drop}
-use Rattle.std.proofs.lemmas.List.{drop-take, drop-drop, take-take, take_all}
-use Rattle.std.proofs.lemmas.List.FromFn.{length-map-range_with_len}
+use Rattle.std.proofs.Common.{◌≡◌, ℕ, ◌+◌, ◌≤◌, map, length, None, option_map, arith}
 use Rattle.std.specs.Arc.{arc_value}
-use Rattle.colbits.specs.Bit.{bits}
-use Rattle.colbits.specs.Slice.{slice}
-use Rattle.colbits.proofs.BitLemmas.{length-bits}
-use Rattle.arrays.specs.Item.{Item}
-use Rattle.arrays.specs.Kind as kind
-use Rattle.arrays.specs.Kind.{Kind, int32}
-use Rattle.arrays.specs.Layout.{Buffers, column, codes, validity_of, held_at}
-use Rattle.arrays.specs.declared.fault.LayoutFault.{LayoutFault}
-use Rattle.arrays.specs.declared.fault.LayoutFault.TheVariants.{TooLong}
-use Rattle.arrays.specs.Fault.{Held, first, when, own_fault}
-use Rattle.arrays.specs.Seen.{Seen, part}
-use Rattle.arrays.specs.Reading.{Reading, read_parts, reading, held}
-use Rattle.arrays.specs.Checked.{checked}
+use Rattle.layout.specs.Reading.{reading}
+use Rattle.layout.specs.Checked.{checked}
 use Rattle.arrays.specs.View.{read_view, show_view}
 use Rattle.arrays.specs.ViewType.{view_kind}
 use Rattle.arrays.specs.declared.view.View.TheInside.{Inside}
-
-pub length-column : (k : Kind) (n : ℕ) (buffers : Buffers) (child entries : List Item) → length (column k n buffers child entries) ≡ n
-unfolding column
-length-column k n buffers child entries = length-map-range_with_len _ 0 n
-
--- an array shows its kind, and an item for each slot
-pub seen-kind : (k : Kind) (n : ℕ) (stated : Option ℕ) (buffers : Buffers) (children : List Reading) (dictionary : Option Reading)
-    → (read_parts k n stated buffers children dictionary).seen.kind ≡ k
-unfolding read_parts
-seen-kind (kind.int t) n stated buffers children dictionary = refl
-seen-kind kind.boolean n stated buffers children dictionary = refl
-seen-kind kind.utf8 n stated buffers children dictionary = refl
-seen-kind (kind.list k) n stated buffers children dictionary = refl
-seen-kind kind.dict n stated buffers children dictionary = refl
-
-pub length-items : (k : Kind) (n : ℕ) (stated : Option ℕ) (buffers : Buffers) (children : List Reading) (dictionary : Option Reading)
-    → length (read_parts k n stated buffers children dictionary).seen.items ≡ n
-unfolding read_parts
-length-items (kind.int t) n stated buffers children dictionary = length-column _ n buffers _ _
-length-items kind.boolean n stated buffers children dictionary = length-column _ n buffers _ _
-length-items kind.utf8 n stated buffers children dictionary = length-column _ n buffers _ _
-length-items (kind.list k) n stated buffers children dictionary = length-column _ n buffers _ _
-length-items kind.dict n stated buffers children dictionary = length-column _ n buffers _ _
-
--- ---- slices
-
-pub length-slice : {A : Type 0} (xs : List A) (start n : ℕ) → start + n ≤ length xs → length (slice xs start n) ≡ n
-length-slice xs start n h = length-take n (drop start xs) ∙ (omega (arith, length-drop start xs))
-
--- a slice of a slice
-pub slice-slice : {A : Type 0} (xs : List A) (start n begin m : ℕ) → begin + m ≤ n → slice (slice xs start n) begin m ≡ slice xs (start + begin) m
-slice-slice xs start n begin m h =
-    let whole : n ≡ begin + (n - begin) = omega arith in
-    let few : m ≤ n - begin = omega arith in
-    ap (λ k. take m (drop begin (take k (drop start xs)))) whole
-    ∙ ap (take m) (drop-take begin (n - begin) (drop start xs))
-    ∙ take-take m (n - begin) (drop begin (drop start xs)) few
-    ∙ ap (take m) (drop-drop begin start xs)
-
-option-slice-slice : (v : Option (List Bool)) (start n begin m : ℕ) → begin + m ≤ n
-    → option_map (λ x. slice x begin m) (option_map (λ x. slice x start n) v) ≡ option_map (λ x. slice x (start + begin) m) v
-option-slice-slice None start n begin m h = refl
-option-slice-slice (Some v) start n begin m h = ap (λ x. Some x) (slice-slice v start n begin m h)
-
-pub part-part : (s : Seen) (start n begin m : ℕ) → begin + m ≤ n → part begin m (part start n s) ≡ part (start + begin) m s
-part-part s start n begin m h =
-    ap (λ v. record { kind = s.kind; validity = v; items = slice (slice s.items start n) begin m; codes = slice (slice s.codes start n) begin m; entries = s.entries }) (option-slice-slice s.validity start n begin m h)
-    ∙ ap (λ xs. record { kind = s.kind; validity = option_map (λ x. slice x (start + begin) m) s.validity; items = xs; codes = slice (slice s.codes start n) begin m; entries = s.entries }) (slice-slice s.items start n begin m h)
-    ∙ ap (λ xs. record { kind = s.kind; validity = option_map (λ x. slice x (start + begin) m) s.validity; items = slice s.items (start + begin) m; codes = xs; entries = s.entries }) (slice-slice s.codes start n begin m h)
-
--- ---- a view
+use Rattle.layout.proofs.SeenLemmas.{length-slice, length-items, seen-kind}
 
 pub length-show_view : (v : Inside) → v.start + v.len ≤ v.total → length (show_view v).items ≡ v.len
 length-show_view v h =
@@ -77,59 +14,3 @@ length-show_view v h =
 
 pub kind-show_view : (v : Inside) → (show_view v).kind ≡ view_kind v.ty
 kind-show_view v = seen-kind (view_kind v.ty) v.total None v.buffers.now (map reading v.children.now) (option_map checked (option_map (λ w. arc_value w.now) v.words))
-
--- all of the slots
-pub take-length-all : {A : Type 0} (xs : List A) (n : ℕ) → length xs ≡ n → slice xs 0 n ≡ xs
-take-length-all xs n h = take_all n xs (omega (arith, h))
-
-option-slice-all : (v : Option (List Bool)) (n : ℕ) → IfSome v (λ x. length x ≡ n) → option_map (λ x. slice x 0 n) v ≡ v
-option-slice-all None n h = refl
-option-slice-all (Some v) n h = ap (λ x. Some x) (take-length-all v n h)
-
--- what an array shows has its slots, in each part
-pub record Fits (n : ℕ) (s : Seen) : Type 0 where
-  pub items : length s.items ≡ n
-  pub validity : IfSome s.validity (λ v. length v ≡ n)
-  pub codes : length s.codes ≤ n
-
-pub part-all : (n : ℕ) (s : Seen) → Fits n s → part 0 n s ≡ s
-part-all n s fits =
-    ap (λ v. record { kind = s.kind; validity = v; items = slice s.items 0 n; codes = slice s.codes 0 n; entries = s.entries }) (option-slice-all s.validity n fits.validity)
-    ∙ ap (λ xs. record { kind = s.kind; validity = s.validity; items = xs; codes = slice s.codes 0 n; entries = s.entries }) (take-length-all s.items n fits.items)
-    ∙ ap (λ xs. record { kind = s.kind; validity = s.validity; items = s.items; codes = xs; entries = s.entries }) (take_all n s.codes fits.codes)
-
-validity-fits : (n : ℕ) (buffers : Buffers) → IfSome (validity_of n buffers) (λ v. length v ≡ n)
-validity-fits n buffers = held-fits n (held_at buffers 0) where
-  held-fits : (n : ℕ) (held : Option (List ℕ)) → IfSome (option_map (λ bytes. bits bytes 0 n) held) (λ v. length v ≡ n)
-  held-fits n None = tt
-  held-fits n (Some bytes) = length-bits bytes 0 n
-
-pub Fits-seen : (k : Kind) (n : ℕ) (stated : Option ℕ) (buffers : Buffers) (children : List Reading) (dictionary : Option Reading)
-    → Fits n (read_parts k n stated buffers children dictionary).seen
-unfolding read_parts codes
-Fits-seen (kind.int t) n stated buffers children dictionary = record { items = length-column _ n buffers _ _; validity = validity-fits n buffers; codes = omega arith }
-Fits-seen kind.boolean n stated buffers children dictionary = record { items = length-column _ n buffers _ _; validity = validity-fits n buffers; codes = omega arith }
-Fits-seen kind.utf8 n stated buffers children dictionary = record { items = length-column _ n buffers _ _; validity = validity-fits n buffers; codes = omega arith }
-Fits-seen (kind.list k) n stated buffers children dictionary = record { items = length-column _ n buffers _ _; validity = validity-fits n buffers; codes = omega arith }
-Fits-seen kind.dict n stated buffers children dictionary = record { items = length-column _ n buffers _ _; validity = validity-fits n buffers; codes = omega (arith, length-column (kind.int int32) n buffers [] []) }
-
--- ---- how long a lawful array is
-
-first-head : (o : Option LayoutFault) (rest : List (Option LayoutFault)) → first (o ∷ rest) ≡ None → o ≡ None
-first-head None rest h = refl
-first-head (Some fault) rest h = h
-
-when-none : (test : Bool) (fault : LayoutFault) → when test fault ≡ None → test ≡ false
-when-none true fault h = absurd (cc)
-when-none false fault h = refl
-
-own_fault-short : (k : Kind) (n : ℕ) (stated : Option ℕ) (buffers : Buffers) (children : List Held) (dictionary : Option Held)
-    → own_fault k n stated buffers children dictionary ≡ None → n ≤ 2147483647
-unfolding own_fault
-own_fault-short k n stated buffers children dictionary h = ltb-false 2147483647 n (when-none _ TooLong (first-head _ _ h))
-
-pub short-of_lawful : (k : Kind) (n : ℕ) (stated : Option ℕ) (buffers : Buffers) (children : List Reading) (dictionary : Option Reading)
-    → (read_parts k n stated buffers children dictionary).fault ≡ None → n ≤ 2147483647
-unfolding read_parts
-short-of_lawful k n stated buffers children dictionary h =
-    own_fault-short k n stated buffers (map held children) (option_map held dictionary) (first-head _ _ h)

@@ -1,10 +1,10 @@
 -- An array whose parts were checked.
 use Rattle.std.specs.Prelude.{option_map}
 use Rattle.std.specs.Arc.{arc_value}
-use Rattle.arrays.specs.Kind.{kind_of}
-use Rattle.arrays.specs.Seen.{Seen}
-use Rattle.arrays.specs.Reading.{Reading}
-use Rattle.arrays.specs.Checked.{read_checked}
+use Rattle.types.specs.Kind.{kind_of}
+use Rattle.layout.specs.Seen.{Seen}
+use Rattle.layout.specs.Reading.{Reading}
+use Rattle.layout.specs.Checked.{read_checked}
 use Rattle.arrays.specs.declared.array.Array.TheInside.{Inside}
 
 abbrev pub read_array : Inside → Reading

@@ -1,12 +1,12 @@
 -- A column of numbers in the making.
-use Rattle.std.specs.Prelude.{◌≡◌, ℕ, ◌*◌, ◌≤◌, ℤ, List, Bool, false, map, length, Option, Some, None, slice_index_or, if◌then◌else◌}
+use Rattle.std.specs.Prelude.{◌≡◌, ℕ, ◌*◌, ◌≤◌, List, Bool, false, map, length, Option, slice_index_or, if◌then◌else◌}
 use Rattle.std.specs.List.{range_with_len}
-use Rattle.arrays.specs.declared.types.IntType.{IntType}
-use Rattle.arrays.specs.Kind.{bytes_of}
-use Rattle.arrays.specs.Layout.{number_at}
-use Rattle.arrays.specs.Item.{Item, null, int}
+use Rattle.types.specs.declared.int_type.IntType.{IntType}
+use Rattle.types.specs.Kind.{bytes_of}
+use Rattle.types.specs.Number.{number_at}
+use Rattle.layout.specs.Item.{Item, null, int}
 use Rattle.arrays.specs.Column.{Column}
-use Rattle.arrays.specs.Seen.{valid_in}
+use Rattle.layout.specs.Seen.{valid_in}
 use Rattle.arrays.specs.declared.builder.IntBuilder.TheInside.{Inside}
 
 -- A number where the slot is valid.
@@ -27,8 +27,3 @@ numbers_where validity t values n = map (λ j. if valid_in validity j then int (
 pub record IsBuilt (t : IntType) (values : List ℕ) (valid : List Bool) : Type 0 where
   pub whole : length values ≡ length valid * bytes_of t.bits
   pub short : length valid ≤ 2147483647
-
--- The item of a number or none.
-abbrev pub item_of : Option ℤ → Item
-item_of None = null
-item_of (Some z) = int z

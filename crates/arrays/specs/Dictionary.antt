@@ -1,11 +1,10 @@
 -- Dictionary-encoded columns (Arrow columnar format, "Dictionary-encoded layout").
 use Rattle.std.specs.Prelude.{ℕ, ◌&&◌, pos, int_lt, List, [], map, Bool, true, false, not, slice_index_or}
-use Rattle.arrays.specs.Item.{Item, null, int}
-use Rattle.arrays.specs.Kind as kind
-use Rattle.arrays.specs.Kind.{int32}
-use Rattle.arrays.specs.Layout.{natural}
-use Rattle.arrays.specs.Fault.{is_negative}
-use Rattle.arrays.specs.Seen.{Seen, Entries, no_entries}
+use Rattle.layout.specs.Item.{Item, null, int}
+use Rattle.types.specs.Kind as kind
+use Rattle.types.specs.Kind.{int32}
+use Rattle.types.specs.Number.{natural, is_negative}
+use Rattle.layout.specs.Seen.{Seen, Entries, no_entries}
 
 -- The entry that a code names, null where the code is null.
 abbrev pub looked_up : List Item → Item → Item

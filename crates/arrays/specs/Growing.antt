@@ -3,11 +3,11 @@ use Rattle.std.specs.Prelude.{◌≡◌, ℕ, ◌+◌, ◌*◌, ◌<◌, ◌≤�
 use Rattle.std.specs.List.{range_with_len, All}
 use Rattle.std.specs.Str.{IsUtf8}
 use Rattle.colbits.specs.Bit.{bits}
-use Rattle.arrays.specs.Fault.{is_validity_short}
-use Rattle.arrays.specs.Item.{Item, null, boolean, text}
-use Rattle.arrays.specs.Layout.{is_valid_in}
+use Rattle.layout.specs.Fault.{is_validity_short}
+use Rattle.layout.specs.Item.{Item, null, boolean, text}
+use Rattle.layout.specs.Layout.{is_valid_in}
 use Rattle.arrays.specs.Lengths.{total}
-use Rattle.arrays.specs.Offsets.{AreOffsets, length_of, start_of}
+use Rattle.layout.specs.Offsets.{AreOffsets, length_of, start_of}
 use Rattle.arrays.specs.Shown.{kept}
 
 -- A truth value for each valid slot, else null.

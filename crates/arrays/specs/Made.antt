@@ -3,13 +3,14 @@ use Rattle.std.specs.Prelude.{◌≡◌, ℕ, ◌<◌, List, [], map, true, Opti
 use Rattle.std.specs.List.{range_with_len}
 use Rattle.std.specs.Str.{IsUtf8}
 use Rattle.colbits.specs.Bit.{bit, bits}
-use Rattle.arrays.specs.declared.types.IntType.{IntType}
-use Rattle.arrays.specs.Item.{Item, null, int, boolean, text, list, list_of}
-use Rattle.arrays.specs.Kind as kind
-use Rattle.arrays.specs.Kind.{Kind}
-use Rattle.arrays.specs.Layout.{is_valid_in, number_at}
-use Rattle.arrays.specs.Offsets.{of_slot}
-use Rattle.arrays.specs.Seen.{Seen, no_entries}
+use Rattle.types.specs.declared.int_type.IntType.{IntType}
+use Rattle.layout.specs.Item.{Item, null, int, boolean, text, list, list_of}
+use Rattle.types.specs.Kind as kind
+use Rattle.types.specs.Kind.{Kind}
+use Rattle.layout.specs.Layout.{is_valid_in}
+use Rattle.types.specs.Number.{number_at}
+use Rattle.layout.specs.Offsets.{of_slot}
+use Rattle.layout.specs.Seen.{Seen, no_entries}
 
 -- A column of n slots: slot j holds value j where its bit of the validity is 1 or there is no validity, else null.
 abbrev pub show_slots : Kind → ℕ → Option (List ℕ) → (ℕ → Item) → Seen

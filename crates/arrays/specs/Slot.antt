@@ -1,9 +1,14 @@
 -- What a slot holds, as an item: null for none.
-use Rattle.std.specs.Prelude.{ℕ, List, Bool, true, false, not, Option, Some, None, slice_index_or}
-use Rattle.arrays.specs.Kind.{Kind, int, utf8, list, dict}
-use Rattle.arrays.specs.Item as item
-use Rattle.arrays.specs.Item.{Item, null, is_null, list_of}
-use Rattle.arrays.specs.Seen.{Seen}
+use Rattle.std.specs.Prelude.{ℕ, ℤ, List, Bool, true, false, not, Option, Some, None, slice_index_or}
+use Rattle.types.specs.Kind.{Kind, int, utf8, list, dict}
+use Rattle.layout.specs.Item as item
+use Rattle.layout.specs.Item.{Item, null, is_null, list_of}
+use Rattle.layout.specs.Seen.{Seen}
+
+-- A number.
+abbrev pub item_of : Option ℤ → Item
+item_of None = null
+item_of (Some z) = item.int z
 
 abbrev pub item_of_bool : Option Bool → Item
 item_of_bool None = null

@@ -2,13 +2,13 @@
 use Rattle.std.specs.Prelude.{◌≡◌, ℕ, ◌*◌, ◌<◌, List, Bool, true, false, map, length, if◌then◌else◌, slice_index_or}
 use Rattle.std.specs.List.{range_with_len}
 use Rattle.std.specs.Str.{IsUtf8}
-use Rattle.arrays.specs.declared.types.IntType.{IntType}
-use Rattle.arrays.specs.Kind as kind
-use Rattle.arrays.specs.Kind.{bytes_of}
-use Rattle.arrays.specs.Layout.{number_at}
-use Rattle.arrays.specs.Item.{Item, null, int, boolean, text, list, list_of}
-use Rattle.arrays.specs.Seen.{Seen, valid_at}
-use Rattle.arrays.specs.Offsets.{AreOffsets, of_slot}
+use Rattle.types.specs.declared.int_type.IntType.{IntType}
+use Rattle.types.specs.Kind as kind
+use Rattle.types.specs.Kind.{bytes_of}
+use Rattle.types.specs.Number.{number_at}
+use Rattle.layout.specs.Item.{Item, null, int, boolean, text, list, list_of}
+use Rattle.layout.specs.Seen.{Seen, valid_at}
+use Rattle.layout.specs.Offsets.{AreOffsets, of_slot}
 
 -- The items are these values where the slot is valid, else null.
 abbrev pub valid_values : (ℕ → Item) → Seen → List Item

@@ -2,9 +2,9 @@
 use Rattle.std.specs.Prelude.{option_map}
 use Rattle.std.specs.Arc.{arc_value}
 use Rattle.arrays.specs.ViewType.{view_kind}
-use Rattle.arrays.specs.Seen.{Seen, part}
-use Rattle.arrays.specs.Reading.{Reading}
-use Rattle.arrays.specs.Checked.{read_checked}
+use Rattle.layout.specs.Seen.{Seen, part}
+use Rattle.layout.specs.Reading.{Reading}
+use Rattle.layout.specs.Checked.{read_checked}
 use Rattle.arrays.specs.declared.view.View.TheInside.{Inside}
 
 -- The whole array that the view is of.

@@ -1,7 +1,7 @@
 -- The type of a view.
-use Rattle.arrays.specs.Kind as kind
-use Rattle.arrays.specs.Kind.{Kind, kind_of}
-use Rattle.arrays.specs.declared.types.Field.{out-Field}
+use Rattle.types.specs.Kind as kind
+use Rattle.types.specs.Kind.{Kind, kind_of}
+use Rattle.types.specs.declared.data_type.Field.{out-Field}
 use Rattle.arrays.specs.declared.view.ViewType.{ViewType}
 use Rattle.arrays.specs.declared.view.ViewType.TheVariants.{Int, Bool, Utf8, List, Dict}
 

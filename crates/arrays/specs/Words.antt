@@ -1,8 +1,8 @@
 -- A dictionary's texts, which hold no other array.
 use Rattle.std.specs.Prelude.{[], None}
-use Rattle.arrays.specs.Kind.{utf8}
-use Rattle.arrays.specs.Reading.{Reading, read_parts}
-use Rattle.arrays.specs.Seen.{Seen}
+use Rattle.types.specs.Kind.{utf8}
+use Rattle.layout.specs.Reading.{Reading, read_parts}
+use Rattle.layout.specs.Seen.{Seen}
 use Rattle.arrays.specs.declared.words.Words.TheInside.{Inside}
 
 -- The texts as an array of their own.

@@ -1,24 +1,21 @@
-ghost use Rattle.std.specs.Prelude.{◌≡◌, [], length, true, Some, IfOk, IfErr, None, ◌==◌, ◌⊎◌};
+ghost use Rattle.std.specs.Prelude.{◌≡◌, [], length, true, Some, IfOk, IfErr, None, option_map, ◌==◌, ◌⊎◌};
 ghost use Rattle.std.specs.List.{All};
 ghost use Rattle.std.specs.Arc.{arc_value};
 ghost use Rattle.arrays.specs.Dictionary.{encoded, is_code};
-ghost use Rattle.arrays.specs.Kind as kind;
-ghost use Rattle.arrays.specs.Kind.{int32, kind_of};
-ghost use Rattle.arrays.specs.Reading.{fault, read_parts, reading};
+ghost use Rattle.types.specs.Kind as kind;
+ghost use Rattle.types.specs.Kind.{int32, kind_of};
+ghost use Rattle.layout.specs.Reading.{fault, read_parts, reading};
 
 mod made;
 
-use crate::copies;
-use crate::fault::LayoutFault;
-use crate::release::release;
-use crate::types::{DataType, RawArray};
-use crate::validator::first_fault;
 use crate::view::{View, ViewType};
 use crate::words::Words;
 use colbits::{Buffer, NoMemory};
+use layout::{LayoutFault, RawArray, copies, first_fault, release};
 use std::alloc::Global;
 use std::marker::Model;
 use std::sync::Arc;
+use types::DataType;
 
 /// A lawful Arrow array: its parts were checked, and cannot change.
 ///
@@ -34,8 +31,8 @@ pub struct Array {
 
 impl Model for Array {
     ghost use Rattle.std.specs.Prelude.{◌≡◌, None};
-    ghost use Rattle.arrays.specs.Seen.{Seen};
-    ghost use Rattle.arrays.specs.Code.{seen_code};
+    ghost use Rattle.layout.specs.Seen.{Seen};
+    ghost use Rattle.layout.specs.Code.{seen_code};
 
     ghost Value = { Seen };
 
@@ -175,7 +172,17 @@ impl Array {
             length: self.length,
             buffers: copies::buffers(alloc, &self.buffers)?,
             children: copies::children(alloc, &self.children)?,
-            words: copies::shared(&self.words)?,
+            words: shared(&self.words)?,
         })
+    }
+}
+
+/// The same dictionary once more: its texts are shared.
+fn shared(words: &Option<Arc<Words>>) -> Result<Option<Arc<Words>>, NoMemory>
+    ensures { IfOk result (λ w. option_map arc_value w ≡ option_map arc_value words.now) }
+{
+    match words {
+        Some(words) => Ok(Some(words.clone()?)),
+        None => Ok(None),
     }
 }

@@ -1,15 +1,13 @@
 ghost use Rattle.std.specs.Prelude.{◌≡◌, Some, None, IfOk, IfErr, not, position};
 ghost use Rattle.std.specs.List.{zip};
-ghost use Rattle.arrays.specs.Kind.{kind_of, same_kind};
-ghost use Rattle.arrays.specs.declared.types.Field.{out-Field};
+ghost use Rattle.types.specs.Kind.{kind_of, same_kind};
+ghost use Rattle.types.specs.declared.data_type.Field.{out-Field};
 ghost use Rattle.arrays.specs.Batch.{bad_length, batch_fault, differing_length, differing_type};
 
 use crate::array::Array;
-use crate::check::is_same;
-use crate::schema::Schema;
-use crate::types::Field;
 use std::marker::Model;
 use thiserror::Error;
+use types::{Field, Schema, is_same};
 
 /// Why columns are no record batch.
 #[derive(Clone, Copy, Debug, PartialEq, Eq, Error)]
@@ -36,7 +34,7 @@ pub struct RecordBatch {
 impl Model for RecordBatch {
     ghost use Rattle.std.specs.Prelude.{◌≡◌, None};
     ghost use Rattle.arrays.specs.Batch.{Batch, batch_fault};
-    ghost use Rattle.arrays.specs.Code.{batch_code};
+    ghost use Rattle.arrays.specs.Batch.{batch_code};
 
     ghost Value = { Batch };
 

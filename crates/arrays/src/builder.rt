@@ -1,8 +1,8 @@
 ghost use Rattle.std.specs.Prelude.{◌≡◌, ◌+◌, ◌*◌, ◌<◌, ◌≤◌, [], ◌∷◌, ◌++◌, length, take, None, IfOk, OnOk, OnErr, if◌then◌else◌};
 ghost use Rattle.std.specs.Option.{ForSome};
-ghost use Rattle.arrays.specs.Number.{IsOfType};
-ghost use Rattle.arrays.specs.Kind as kind;
-ghost use Rattle.arrays.specs.Kind.{bytes_of};
+ghost use Rattle.types.specs.Number.{IsOfType};
+ghost use Rattle.types.specs.Kind as kind;
+ghost use Rattle.types.specs.Kind.{bytes_of};
 ghost use Rattle.arrays.specs.Shown.{shown};
 
 pub mod bools;
@@ -13,14 +13,12 @@ pub mod texts;
 pub mod validity;
 
 use crate::array::Array;
-use crate::integer::Integer;
-use crate::number::push_number;
-use crate::types::IntType;
 use crate::validity::{buffer_of, is_valid};
 use crate::view::View;
 use colbits::{Bits, Buffer, NoMemory};
 use std::alloc::Global;
 use std::marker::Model;
+use types::{IntType, Integer, push_number};
 use validity::ValidityBuilder;
 
 /// A column of integers in the making.
@@ -33,7 +31,7 @@ pub struct IntBuilder {
 }
 
 impl Model for IntBuilder {
-    ghost use Rattle.arrays.specs.Code.{column_code};
+    ghost use Rattle.arrays.specs.Column.{column_code};
     ghost use Rattle.arrays.specs.Column.{Column};
 
     ghost Value = { Column };
@@ -48,8 +46,9 @@ impl Model for IntBuilder {
 }
 
 impl IntBuilder {
-    ghost use Rattle.arrays.specs.Item.{int, null};
-    ghost use Rattle.arrays.specs.Builder.{item_of, numbers_where};
+    ghost use Rattle.layout.specs.Item.{int, null};
+    ghost use Rattle.arrays.specs.Slot.{item_of};
+    ghost use Rattle.arrays.specs.Builder.{numbers_where};
 
     /// An empty column of the type, with room for so many slots.
     pub fn with_capacity(alloc: Global, ty: IntType, slots: usize) -> Result<IntBuilder, NoMemory>

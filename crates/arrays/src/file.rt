@@ -3,9 +3,9 @@ ghost use Rattle.std.specs.Arc.{arc_value};
 ghost use Rattle.arrays.specs.File.{File, AreBatchesOf};
 
 use crate::batch::RecordBatch;
-use crate::schema::Schema;
 use std::marker::Model;
 use std::sync::Arc;
+use types::Schema;
 
 /// A schema and batches of its types, as a file holds them.
 #[derive(Drop)]
@@ -18,7 +18,7 @@ impl Model for File {
     ghost use Rattle.std.specs.Prelude.{map};
     ghost use Rattle.std.specs.Arc.{arc_value};
     ghost use Rattle.arrays.specs.File.{File, AreBatchesOf};
-    ghost use Rattle.arrays.specs.Code.{file_code};
+    ghost use Rattle.arrays.specs.File.{file_code};
 
     ghost Value = { File };
 

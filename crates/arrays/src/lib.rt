@@ -1,20 +1,11 @@
-//! Arrow arrays, checked once: types, the layout validator, views and record batches.
+//! Arrow arrays, checked once: views, builders and record batches. The types of columns and the parts of an array come
+//! from `types` and `layout`, and are passed on.
 #![tactic(auto)]
 
 pub mod array;
 pub mod batch;
 pub mod builder;
-mod check;
-mod copies;
-pub mod fault;
 pub mod file;
-pub mod integer;
-mod number;
-mod numbers;
-mod release;
-pub mod schema;
-pub mod types;
-mod validator;
 pub mod validity;
 pub mod view;
 pub mod words;
@@ -27,10 +18,8 @@ pub use builder::fault::BuildFault;
 pub use builder::lists::ListBuilder;
 pub use builder::texts::TextBuilder;
 pub use builder::validity::ValidityBuilder;
-pub use fault::LayoutFault;
 pub use file::File;
-pub use integer::Integer;
-pub use schema::{Schema, SchemaFault};
-pub use types::{DataType, Field, IntType, RawArray, Width};
+pub use layout::{LayoutFault, RawArray};
+pub use types::{DataType, Field, IntType, Integer, Schema, SchemaFault, Width};
 pub use view::{Lists, Texts, View, ViewType};
 pub use words::Words;

@@ -3,7 +3,7 @@
 ghost use Rattle.std.specs.Prelude.{◌≡◌, map, IfOk};
 ghost use Rattle.std.specs.List.{range_with_len};
 ghost use Rattle.arrays.specs.Packed.{IsBufferOf};
-ghost use Rattle.arrays.specs.Seen.{valid_in};
+ghost use Rattle.layout.specs.Seen.{valid_in};
 ghost use Rattle.arrays.specs.Shown.{kept};
 
 use colbits::{BitmapBuf, Bits, Buffer, NoMemory, Places};

@@ -1,9 +1,9 @@
 ghost use Rattle.std.specs.Prelude.{◌≡◌, ◌+◌, ◌<◌, ◌≤◌, None, false, length, option_map};
 ghost use Rattle.std.specs.Arc.{arc_value};
-ghost use Rattle.arrays.specs.Checked.{read_checked};
-ghost use Rattle.arrays.specs.Kind as kind;
-ghost use Rattle.arrays.specs.Kind.{kind_of, same_kind};
-ghost use Rattle.arrays.specs.Seen.{null_count_of, part, valid_at};
+ghost use Rattle.layout.specs.Checked.{read_checked};
+ghost use Rattle.types.specs.Kind as kind;
+ghost use Rattle.types.specs.Kind.{kind_of, same_kind};
+ghost use Rattle.layout.specs.Seen.{null_count_of, part, valid_at};
 ghost use Rattle.arrays.specs.Slot.{holds_at};
 ghost use Rattle.arrays.specs.ViewType.{view_kind};
 
@@ -12,13 +12,13 @@ mod items;
 mod parts;
 mod typed;
 
-use crate::check;
-use crate::types::{DataType, Field, IntType, RawArray};
 use crate::words::Words;
 use colbits::{Bits, Buffer};
+use layout::{RawArray, buffers};
 pub use parts::{Lists, Texts};
 use std::marker::Model;
 use std::sync::Arc;
+use types::{DataType, Field, IntType, is_same};
 
 /// The type of a view, with the item's field of a list.
 #[derive(Clone, Copy)]
@@ -52,7 +52,7 @@ impl<'a> ViewType<'a> {
             (ViewType::Int(a), ViewType::Int(b)) => a == b,
             (ViewType::Bool, ViewType::Bool) => true,
             (ViewType::Utf8, ViewType::Utf8) => true,
-            (ViewType::List(a), ViewType::List(b)) => check::is_same(&a.ty, &b.ty),
+            (ViewType::List(a), ViewType::List(b)) => is_same(&a.ty, &b.ty),
             (ViewType::Dict, ViewType::Dict) => true,
             _ => false,
         }
@@ -75,8 +75,8 @@ pub struct View<'a> {
 
 impl<'a> Model for View<'a> {
     ghost use Rattle.std.specs.Prelude.{◌≡◌, ◌+◌, ◌≤◌, None};
-    ghost use Rattle.arrays.specs.Seen.{Seen};
-    ghost use Rattle.arrays.specs.Code.{seen_code};
+    ghost use Rattle.layout.specs.Seen.{Seen};
+    ghost use Rattle.layout.specs.Code.{seen_code};
 
     ghost Value = { Seen };
 
@@ -163,14 +163,14 @@ impl<'a> View<'a> {
         // Where no dictionary is named, a valid slot holds an item.
         ensures item { same_kind self.now.kind kind.dict ≡ false → result ≡ holds_at self.now i }
     {
-        check::is_valid(self.buffers, self.start + i)
+        buffers::is_valid(self.buffers, self.start + i)
     }
 
     /// The validity of the slots, none where the bitmap is absent and all are valid.
     pub fn validity(&self) -> Option<Bits<'a>>
         ensures { result ≡ self.now.validity }
     {
-        match check::held_at(self.buffers, 0) {
+        match buffers::held_at(self.buffers, 0) {
             Some(bytes) => Some(Bits::new(bytes, self.start, self.len)),
             None => None,
         }

@@ -1,14 +1,14 @@
 ghost use Rattle.std.specs.Prelude.{◌≡◌, None, IfOk, option_map};
 ghost use Rattle.std.specs.Option.{ForSome};
 ghost use Rattle.std.specs.Arc.{arc_value};
-ghost use Rattle.arrays.specs.Kind as kind;
+ghost use Rattle.types.specs.Kind as kind;
 ghost use Rattle.arrays.specs.Dictionary.{entries_shown, texts_alone};
-ghost use Rattle.arrays.specs.Reading.{fault, reading};
+ghost use Rattle.layout.specs.Reading.{fault, reading};
 
 use crate::array::Array;
-use crate::types::RawArray;
 use crate::view::{View, ViewType};
 use colbits::{Buffer, NoMemory};
+use layout::RawArray;
 use std::alloc::Global;
 use std::marker::Model;
 use std::sync::Arc;
@@ -23,8 +23,8 @@ pub struct Words {
 
 impl Model for Words {
     ghost use Rattle.std.specs.Prelude.{◌≡◌, None};
-    ghost use Rattle.arrays.specs.Seen.{Seen};
-    ghost use Rattle.arrays.specs.Code.{seen_code};
+    ghost use Rattle.layout.specs.Seen.{Seen};
+    ghost use Rattle.layout.specs.Code.{seen_code};
 
     ghost Value = { Seen };
 

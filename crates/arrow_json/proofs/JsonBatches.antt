@@ -2,10 +2,10 @@
 use Rattle.std.proofs.Common.{◌≡◌, ◌∙◌, ℕ, ◌+◌, ◌<◌, List, [], ◌∷◌, ◌++◌, length, get_or, true, Some, option_map, option_and_then, refl, sym, ap, subst, arith, length-append, below_more}
 use Rattle.std.specs.List.{slice_get}
 use Rattle.std.proofs.lemmas.Option.{slice_get-map, slice_get_within, slice_get_read, get_or_from_slice_get}
-use Rattle.arrays.specs.Kind.{kind_of}
+use Rattle.arrays.specs.Kind.{kind_of, Kind}
 use Rattle.arrays.specs.Shape.{FieldShape, field_of, fields_of, kind_of_field}
-use Rattle.arrays.specs.declared.types.Field.{Field, out-Field}
-use Rattle.arrays.proofs.ShapeLemmas.{kind_of_field-field_of}
+use Rattle.types.specs.declared.data_type.Field.{Field, out-Field}
+use Rattle.types.proofs.ShapeLemmas.{kind_of_field-field_of}
 use Rattle.serde_json.specs.Find.{get_item, as_array, as_object}
 use Rattle.serde_json.specs.View.{view, items_view}
 use Rattle.serde_json.specs.declared.value.Value.{Value}
@@ -15,9 +15,8 @@ use Rattle.arrow_json.specs.JsonMember.{member_of, Unlike, MemberFault, ListFaul
 use Rattle.arrow_json.specs.JsonNumber.{count_of}
 use Rattle.arrow_json.proofs.JsonItems.{slice_get-front, slice_get-last}
 use Rattle.arrow_json.proofs.JsonColumnFaults.{at_index}
-use Rattle.arrays.specs.declared.types.IntType.{IntType}
+use Rattle.types.specs.declared.int_type.IntType.{IntType}
 use Rattle.arrays.specs.Kind as kind
-use Rattle.arrays.specs.Kind.{Kind}
 use Rattle.arrays.specs.Item.{Item}
 use Rattle.arrays.specs.Seen.{Seen}
 use Rattle.serde_json.specs.Data.{Data, Items}

@@ -15,7 +15,7 @@ use Rattle.arrow_json.specs.declared.fault.JsonFaultKind.TheVariants.{WrongMembe
 use Rattle.arrow_json.specs.JsonFault.{IsFault, IsUnder, Tells}
 use Rattle.arrow_json.specs.JsonMember.{member_of, Unlike, MemberFault, wrong, ListFault, no_array, length_differs}
 use Rattle.arrow_json.specs.JsonNumber.{count_of, flag_of, integer_of}
-use Rattle.arrays.specs.declared.types.IntType.{IntType}
+use Rattle.types.specs.declared.int_type.IntType.{IntType}
 use Rattle.arrow_json.specs.JsonColumnFault.{CountFault, no_count, other_count, FlagsFault, no_flags, SlotFault, no_flag, no_integer, SlotsFault, bad_valid, bad_slot, ColumnFault, no_column_object, bad_count, bad_flags, bad_values, bad_slots}
 use Rattle.arrow_json.specs.JsonColumn.{flags_of}
 use Rattle.arrow_json.proofs.JsonFaults.{tells_at, tells_as, tells_under, tells_absent, tells_wants}

@@ -6,10 +6,10 @@ use Rattle.std.specs.List.{list_all}
 use Rattle.std.specs.Char.{is_ascii_digit, digit_value}
 use Rattle.std.specs.Str.Parse.{digits_value, digits_value_after}
 use Rattle.arrow_json.specs.JsonNumber.{numeral, below, is_numeral, fits, fitting, narrow}
-use Rattle.arrays.specs.declared.types.IntType.{IntType}
+use Rattle.types.specs.declared.int_type.IntType.{IntType}
 use Rattle.arrays.specs.Number.{IsOfType}
-use Rattle.arrays.specs.declared.types.Width.{Width}
-use Rattle.arrays.specs.declared.types.Width.TheVariants.{W8, W16, W32, W64}
+use Rattle.types.specs.declared.int_type.Width.{Width}
+use Rattle.types.specs.declared.int_type.Width.TheVariants.{W8, W16, W32, W64}
 use Rattle.std.proofs.lemmas.Int.{ints}
 
 -- more digits make no number smaller

@@ -6,10 +6,10 @@ use Rattle.std.proofs.lemmas.Option.{slice_get-map, slice_get_within}
 use Rattle.std.proofs.lemmas.Bool.Decides.{nat_tests}
 use Rattle.arrays.specs.Kind as kind
 use Rattle.arrays.specs.Kind.{Kind, same_kind, same_int}
-use Rattle.arrays.specs.declared.types.Width.{Width}
-use Rattle.arrays.specs.declared.types.Width.TheVariants.{W8, W16, W32, W64}
+use Rattle.types.specs.declared.int_type.Width.{Width}
+use Rattle.types.specs.declared.int_type.Width.TheVariants.{W8, W16, W32, W64}
 use Rattle.arrays.specs.Shape.{FieldShape, fields_of, kind_of_field}
-use Rattle.arrays.specs.declared.types.Field.{Field}
+use Rattle.types.specs.declared.data_type.Field.{Field}
 use Rattle.arrays.specs.Seen.{Seen}
 use Rattle.arrays.specs.Batch.{Batch, batch_fault, differing_type, differing_length}
 use Rattle.serde_json.specs.Data.{Data, Items}

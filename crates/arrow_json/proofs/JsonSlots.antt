@@ -1,7 +1,7 @@
 -- The slots of a column read one after another.
 use Rattle.std.proofs.Common.{◌≡◌, ◌∙◌, ℕ, ◌+◌, ◌<◌, ℤ, List, [], ◌∷◌, ◌++◌, length, get_or, Option, Some, None, true, option_map, option_and_then, Result, Ok, Err, IfOk, sym, ap, subst, arith, length-append, below_more}
 use Rattle.std.specs.List.{slice_get}
-use Rattle.arrays.specs.declared.types.IntType.{IntType}
+use Rattle.types.specs.declared.int_type.IntType.{IntType}
 use Rattle.arrays.specs.Item as column
 use Rattle.arrays.specs.Item.{Item}
 use Rattle.arrays.specs.Column.{Column}

@@ -1,6 +1,6 @@
 -- Integer kinds, and fields of them.
 use Rattle.std.specs.Prelude.{◌≡◌, List, Bool, true, Option, Some, None, is_some, All}
-use Rattle.arrays.specs.declared.types.IntType.{IntType}
+use Rattle.types.specs.declared.int_type.IntType.{IntType}
 use Rattle.arrays.specs.Kind as kind
 use Rattle.arrays.specs.Kind.{Kind}
 use Rattle.arrays.specs.Shape.{FieldShape, kind_of_field}

@@ -1,6 +1,6 @@
 -- The columns of a file. (Arrow integration testing, "JSON test data format", RecordBatch and FieldData)
 use Rattle.std.specs.Prelude.{◌≡◌, ℕ, ◌<◌, List, length, slice_get, Bool, true, false, Option, Some, None, option_map, option_and_then}
-use Rattle.arrays.specs.declared.types.IntType.{IntType}
+use Rattle.types.specs.declared.int_type.IntType.{IntType}
 use Rattle.arrays.specs.Item as column
 use Rattle.arrays.specs.Item.{Item}
 use Rattle.serde_json.specs.Data.{Data, null, boolean, number, string, array, object, Items}

@@ -1,7 +1,7 @@
 ghost use Rattle.std.specs.Prelude.{◌≡◌, ◌<◌, ◌^◌, length, true, Some, IfOk, IfErr};
 ghost use Rattle.arrays.specs.Kind.{kind_of};
 ghost use Rattle.arrays.specs.Shape.{fields_of};
-ghost use Rattle.arrays.specs.declared.types.Field.{out-Field};
+ghost use Rattle.types.specs.declared.data_type.Field.{out-Field};
 ghost use Rattle.serde_json.specs.View.{view, items_view};
 ghost use Rattle.arrow_json.specs.Integers.{AreIntegers, int_of, is_integer};
 ghost use Rattle.arrow_json.specs.JsonBatch.{HoldsColumn, HoldsColumns, ReadsBatch, table_of};

@@ -1,6 +1,6 @@
 ghost use Rattle.std.specs.Prelude.{◌≡◌, ◌<◌, ◌^◌, ◌∷◌, ◌++◌, [], length, Option, Some, None, IfOk, IfErr, IfSome, OnOk, option_map, option_and_then};
 ghost use Rattle.std.specs.Option.{ForSome};
-ghost use Rattle.arrays.specs.Builder.{item_of};
+ghost use Rattle.arrays.specs.Slot.{item_of};
 ghost use Rattle.arrays.specs.Kind as kind;
 ghost use Rattle.arrays.specs.Number.{IsOfType};
 ghost use Rattle.serde_json.specs.Find.{as_array};

@@ -3,13 +3,12 @@ use Rattle.std.proofs.Common.{Result, Ok, Err, IfOk, IfErr, ◌≡◌, ◌∙◌
 use Rattle.std.proofs.lemmas.List.{map-append, length-map}
 use Rattle.std.proofs.lemmas.Simd.{map-map}
 use Rattle.std.specs.List.{range_with_len}
-use Rattle.arrays.specs.Batch.{Batch}
+use Rattle.arrays.specs.Batch.{Batch, Table}
 use Rattle.arrays.specs.Batch as batch
 use Rattle.arrays.specs.File.{File}
 use Rattle.arrays.specs.Item.{Item, null}
 use Rattle.arrays.specs.Seen.{Seen}
 use Rattle.arrowtab.specs.Held.{alone, IsRefused, Shows, Stops}
-use Rattle.shared.specs.History.{Table}
 use Rattle.arrow_json.specs.JsonBatch.{table_of}
 use Rattle.arrow_json.specs.JsonFile.{Reads, file_of}
 use Rattle.arrow_json.specs.JsonTable as read

@@ -9,14 +9,15 @@ use Rattle.std.specs.declared.sync.Arc.{Arc}
 use Rattle.arrays.specs.Batch.{Batch, rows_of}
 use Rattle.arrays.specs.Kind.{same_int}
 use Rattle.arrays.specs.Shape.{FieldShape, boolean, dict, field, int, kind_of_field, list, utf8}
-use Rattle.arrays.specs.declared.types.Width.{Width}
-use Rattle.arrays.specs.declared.types.Width.TheVariants.{W8, W16, W32, W64}
+use Rattle.types.specs.declared.int_type.Width.{Width}
+use Rattle.types.specs.declared.int_type.Width.TheVariants.{W8, W16, W32, W64}
 use Rattle.arrowtab.specs.Held.{Stops, StopsTable, alone}
 use Rattle.arrowtab.specs.declared.run_fault.RunFault.{RunFault}
 use Rattle.arrowtab.specs.declared.run_fault.RunFault.TheVariants.{CannotRead, File, NoMemory, Refused}
 use Rattle.arrow_json.specs.Integers.{AreIntegers, is_integer}
 use Rattle.arrow_json.proofs.JsonInts.{position-none}
-use Rattle.shared.specs.Cause.{IsLegal, batch_cause, cause, difference, differs, first}
+use Rattle.arrays.specs.First.{first}
+use Rattle.shared.specs.Cause.{IsLegal, batch_cause, cause, difference, differs}
 use Rattle.shared.specs.Contents.{Contents}
 use Rattle.shared.specs.History.{History}
 use Rattle.shared.specs.Stored.{stored_field, stored_fields}

@@ -9,12 +9,13 @@ use Rattle.std.proofs.lemmas.List.FromFn.{map-range_with_len_more}
 use Rattle.std.proofs.lemmas.Option.{slice_get-get_or, slice_get-map}
 use Rattle.arrays.specs.Item.{Item}
 use Rattle.arrays.specs.Shape.{FieldShape, Shape, field, field_of, field_step, fields_of, shape_of, shape_step}
-use Rattle.arrays.specs.declared.types.DataType.{DataType, DataType-F, out-DataType, fold_out-DataType, map-DataType}
-use Rattle.arrays.specs.declared.types.DataType.TheVariants.{Int, Bool as Bool', Utf8, List', Dict, outs-Bool, outs-Utf8, outs-List', outs-Dict}
-use Rattle.arrays.specs.declared.types.Field.{Field, fold_out-Field, out-Field}
-use Rattle.arrays.specs.declared.types.IntType.{IntType}
+use Rattle.types.specs.declared.data_type.DataType.{DataType, DataType-F, out-DataType, fold_out-DataType, map-DataType}
+use Rattle.types.specs.declared.data_type.DataType.TheVariants.{Int, Bool as Bool', Utf8, List', Dict, outs-Bool, outs-Utf8, outs-List', outs-Dict}
+use Rattle.types.specs.declared.data_type.Field.{Field, fold_out-Field, out-Field}
+use Rattle.types.specs.declared.int_type.IntType.{IntType}
 use Rattle.arrowtab.specs.Shown.{worker_lines, worker_line, column_lines, field_line}
-use Rattle.shared.specs.History.{Table, History, book, rows, of, column}
+use Rattle.arrays.specs.Batch.{Table, column}
+use Rattle.shared.specs.History.{History, book, rows, of}
 use Rattle.shared.proofs.HistoryLemmas.{rows-push}
 
 -- ---- the shares of a history, pair by pair

@@ -1,8 +1,8 @@
 -- What was loaded of one file, by worker 0, and what stopped it.
 use Rattle.std.specs.Prelude.{◌≡◌, ◌∷◌, ◌++◌, ℕ, List, map, length, Some, ⊤}
-use Rattle.arrays.specs.Batch.{Batch, rows_of}
+use Rattle.arrays.specs.Batch.{Batch, rows_of, Table}
 use Rattle.arrays.specs.Shape.{FieldShape}
-use Rattle.shared.specs.History.{Table, History}
+use Rattle.shared.specs.History.{History}
 use Rattle.shared.specs.Cause.{cause, IsLegal}
 use Rattle.arrowtab.specs.Shown.{shown}
 use Rattle.shared.specs.declared.refusal.Refusal.{Refusal}

@@ -1,7 +1,8 @@
 -- Which histories come of the files' batches.
 use Rattle.std.specs.Prelude.{◌≡◌, ◌≢◌, ◌<◌, ◌++◌, ◌∷◌, ℕ, List, map, length, Some, All}
 use Rattle.arrays.specs.Shape.{FieldShape}
-use Rattle.shared.specs.History.{Table, History, of}
+use Rattle.arrays.specs.Batch.{Table}
+use Rattle.shared.specs.History.{History, of}
 use Rattle.arrowtab.specs.Plan.{planned}
 use Rattle.shared.specs.Cause.{IsLegal, cause}
 use Rattle.shared.specs.declared.refusal.Refusal.{Refusal}

@@ -1,7 +1,7 @@
 -- Which worker takes which files.
 use Rattle.std.specs.Prelude.{ℕ, ◌%◌, ◌==◌, List, filter}
 use Rattle.std.specs.List.{enumerate_from, flat_map}
-use Rattle.shared.specs.History.{Table}
+use Rattle.arrays.specs.Batch.{Table}
 
 -- The batches, in order, of the files whose number leaves this remainder by the number of workers.
 abbrev pub planned : List (List Table) → ℕ → ℕ → List Table

@@ -2,7 +2,8 @@
 use Rattle.std.specs.Prelude.{◌≡◌, ◌<◌, ◌∷◌, ℕ, List, [], map, Option, IfSome}
 use Rattle.std.specs.Io.KnownBytes.{Appends, Keeps}
 use Rattle.arrowtab.specs.Sink.{AppendsFront}
-use Rattle.shared.specs.History.{Table, History}
+use Rattle.arrays.specs.Batch.{Table}
+use Rattle.shared.specs.History.{History}
 use Rattle.shared.specs.Cause.{IsLegal}
 use Rattle.arrowtab.specs.Shown.{shown}
 use Rattle.arrowtab.specs.Lines.{unread_line, file_line, refusal_line, memory_line, output_line}

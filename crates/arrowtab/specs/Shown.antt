@@ -3,13 +3,14 @@ use Rattle.std.specs.Prelude.{ℕ, ℤ, List, [], ◌∷◌, ◌++◌, length, B
 use Rattle.std.specs.List.{enumerate_from, range_with_len, flat_map}
 use Rattle.std.specs.Fmt.{decimal, signed_decimal}
 use Rattle.json.specs.Print.{quoted}
-use Rattle.arrays.specs.declared.types.IntType.{IntType}
-use Rattle.arrays.specs.declared.types.Width.{Width}
-use Rattle.arrays.specs.declared.types.Width.TheVariants.{W8, W16, W32, W64}
+use Rattle.types.specs.declared.int_type.IntType.{IntType}
+use Rattle.types.specs.declared.int_type.Width.{Width}
+use Rattle.types.specs.declared.int_type.Width.TheVariants.{W8, W16, W32, W64}
 use Rattle.arrays.specs.Item.{Item}
 use Rattle.arrays.specs.Shape as shape
 use Rattle.arrays.specs.Shape.{FieldShape, field}
-use Rattle.shared.specs.History.{Table, column, History, rows, of}
+use Rattle.arrays.specs.Batch.{Table, column}
+use Rattle.shared.specs.History.{History, rows, of}
 use Rattle.group.specs.Stats.{nulls_of, total_of}
 use Rattle.group.specs.Numbers.{least_number, greatest_number}
 

@@ -1,11 +1,10 @@
 //! The batches of a file, admitted one after the other.
 ghost use Rattle.std.specs.Prelude.{◌≡◌, ◌++◌, ◌∷◌, [], Some, IfOk, IfErr, OnOk};
-ghost use Rattle.arrays.specs.Batch.{rows_of};
+ghost use Rattle.arrays.specs.Batch.{rows_of, Table};
 ghost use Rattle.arrow_json.specs.Integers.{AreIntegers};
 ghost use Rattle.arrow_json.specs.JsonFile.{AreUnder};
 ghost use Rattle.arrowtab.specs.Held.{alone, Stops, StopsTable};
 ghost use Rattle.shared.specs.Cause.{cause};
-ghost use Rattle.shared.specs.History.{Table};
 
 use crate::run_fault::RunFault;
 use arrays::{File, RecordBatch, Schema};

@@ -1,8 +1,7 @@
 -- The offsets 0, 1, 3 and 3, as the tests write them.
 use Rattle.std.proofs.Common.{◌≡◌, ℕ, zero, suc, ◌+◌, ◌<◌, ◌≤◌, List, [], ◌∷◌, false, refl, arith}
 use Rattle.arrays.specs.Kind.{int32}
-use Rattle.arrays.specs.Layout.{number_at}
-use Rattle.arrays.specs.Fault.{is_negative}
+use Rattle.arrays.specs.Number.{number_at, is_negative}
 use Rattle.arrays.specs.Offsets.{AreOffsets, start_of}
 
 abbrev pub offsets : List ℕ

@@ -8,12 +8,12 @@ use Rattle.std.proofs.lemmas.List.FromFn.{get_or-map-range_with_len}
 use Rattle.arrays.proofs.ListLemmas.{map-range-below}
 use Rattle.arrays.specs.Item as item
 use Rattle.arrays.specs.Item.{Item, null, int, text, is_null}
-use Rattle.arrays.specs.Layout.{number_at}
+use Rattle.arrays.specs.Number.{number_at}
 use Rattle.arrays.specs.Offsets.{of_slot}
 use Rattle.arrays.specs.Seen.{Seen, valid_at, valid_in}
 use Rattle.arrays.specs.Slot.{holds_at}
 use Rattle.arrays.specs.Values.{HasBits, HasNumbers, HasTexts, valid_values}
-use Rattle.arrays.specs.declared.types.IntType.{IntType}
+use Rattle.types.specs.declared.int_type.IntType.{IntType}
 use Rattle.kernels.specs.Lift.{item_at, lifted}
 use Rattle.kernels.specs.Order.{compared, meets, order}
 use Rattle.kernels.specs.Truth.{truth_at}

@@ -5,13 +5,12 @@ use Rattle.std.specs.Int.{w128}
 use Rattle.std.proofs.lemmas.Bool.{ltb-true}
 use Rattle.std.proofs.lemmas.Int.{ints}
 use Rattle.std.proofs.lemmas.Nat.{row_fits}
-use Rattle.arrays.specs.declared.types.Width.{Width}
-use Rattle.arrays.specs.declared.types.Width.TheVariants.{W8, W16, W32, W64}
-use Rattle.arrays.specs.declared.types.IntType.{IntType}
+use Rattle.types.specs.declared.int_type.Width.{Width}
+use Rattle.types.specs.declared.int_type.Width.TheVariants.{W8, W16, W32, W64}
+use Rattle.types.specs.declared.int_type.IntType.{IntType}
 use Rattle.arrays.specs.Kind.{bytes_of}
-use Rattle.arrays.specs.Layout.{number_at}
-use Rattle.arrays.specs.Number.{IsOfType, is_of_type, bytes_of_number}
-use Rattle.arrays.proofs.EncodingLemmas.{length-bytes_of_number, number_at-append-front, number_at-append-end}
+use Rattle.arrays.specs.Number.{number_at, IsOfType, is_of_type, bytes_of_number}
+use Rattle.types.proofs.EncodingLemmas.{length-bytes_of_number, number_at-append-front, number_at-append-end}
 use Rattle.kernels.specs.Computed.{AreResults}
 
 -- ---- the test of a number

@@ -4,27 +4,28 @@ use Rattle.std.specs.List.{range_with_len}
 use Rattle.std.proofs.lemmas.Bool.Decides.{nat_tests}
 use Rattle.std.proofs.lemmas.Simd.{map-map}
 use Rattle.std.proofs.lemmas.List.FromFn.{get_or-map-range_with_len}
+use Rattle.std.specs.Option.{option_or}
 use Rattle.colbits.specs.Bit.{bits}
-use Rattle.arrays.specs.declared.types.Width.{Width}
-use Rattle.arrays.specs.declared.types.Width.TheVariants.{W8, W16, W32, W64}
-use Rattle.arrays.specs.declared.types.IntType.{IntType}
+use Rattle.types.specs.declared.int_type.Width.{Width}
+use Rattle.types.specs.declared.int_type.Width.TheVariants.{W8, W16, W32, W64}
+use Rattle.types.specs.declared.int_type.IntType.{IntType}
 use Rattle.arrays.specs.Item.{Item, null, int, is_null}
 use Rattle.arrays.specs.Kind as kind
 use Rattle.arrays.specs.Kind.{Kind, same_int}
-use Rattle.arrays.specs.Layout.{number_at, is_valid_in}
+use Rattle.arrays.specs.Number.{number_at, is_of_type}
+use Rattle.arrays.specs.Layout.{is_valid_in}
 use Rattle.arrays.specs.Fault.{least_row}
 use Rattle.arrays.specs.Made.{show_numbers}
-use Rattle.arrays.specs.Number.{is_of_type}
 use Rattle.arrays.specs.Seen.{Seen, valid_at, valid_in, no_entries}
 use Rattle.arrays.specs.Values.{HasNumbers}
 use Rattle.arrays.proofs.ListLemmas.{map-range-below}
-use Rattle.arrays.proofs.RowLemmas.{least_found, least_none}
-use Rattle.arrays.proofs.SchemaLemmas.{position-map}
+use Rattle.layout.proofs.RowLemmas.{least_found, least_none}
+use Rattle.types.proofs.SchemaLemmas.{position-map}
 use Rattle.kernels.specs.Lift.{item_at, lifted}
 use Rattle.arrays.specs.Packed.{IsBufferOf}
 use Rattle.arrays.specs.Shown.{kept, shown}
 use Rattle.kernels.specs.Valid.{valid_in_both, both_valid}
-use Rattle.kernels.specs.Fault.{Told, or_else, shape_fault}
+use Rattle.kernels.specs.Fault.{Told, shape_fault}
 use Rattle.kernels.specs.Arithmetic.{exact, results, is_outside, first_bad, are_one_int, operands_fault, arithmetic_fault}
 use Rattle.kernels.specs.Computed.{result_at, AreOfType, AreResults, IsLeastOutside, StopsAt}
 use Rattle.arrays.proofs.ValidityLemmas.{valid-kept-places, kept_buffer}
@@ -137,7 +138,7 @@ pub record AreOperands (t : IntType) (xs ys : List ℕ) (a b : Seen) : Type 0 wh
 fault_at : (f : ℤ → ℤ → ℤ) (t : IntType) (xs ys : List ℕ) (a b : Seen) (row : Option ℕ) → AreOperands t xs ys a b → first_bad f (kind.int t) a.items b.items ≡ row
     → arithmetic_fault f a b ≡ option_map (λ row. Overflow row) row
 fault_at f t xs ys a b row are is =
-    ap (λ s. or_else s (option_map (λ row. Overflow row) (first_bad f a.kind a.items b.items))) (operands_fit t a b are.kind_a are.kind_b are.lengths)
+    ap (λ s. option_or s (option_map (λ row. Overflow row) (first_bad f a.kind a.items b.items))) (operands_fit t a b are.kind_a are.kind_b are.lengths)
     ∙ ap (λ k. option_map (λ row. Overflow row) (first_bad f k a.items b.items)) are.kind_a
     ∙ ap (option_map (λ row. Overflow row)) is
 

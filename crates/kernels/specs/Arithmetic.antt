@@ -1,13 +1,14 @@
 -- Checked arithmetic on columns of one integer type.
 use Rattle.std.specs.Prelude.{ℕ, ℤ, List, Bool, false, not, Option, None, option_map, position}
+use Rattle.std.specs.Option.{option_or}
 use Rattle.arrays.specs.Item.{Item, null, int}
 use Rattle.arrays.specs.Kind as kind
 use Rattle.arrays.specs.Kind.{Kind, same_int}
 use Rattle.arrays.specs.Number.{is_of_type}
 use Rattle.arrays.specs.Seen.{Seen}
-use Rattle.arrays.specs.declared.types.IntType.{IntType}
+use Rattle.types.specs.declared.int_type.IntType.{IntType}
 use Rattle.kernels.specs.Lift.{lift}
-use Rattle.kernels.specs.Fault.{shape_fault, or_else}
+use Rattle.kernels.specs.Fault.{shape_fault}
 use Rattle.kernels.specs.declared.fault.KernelFault.{KernelFault}
 use Rattle.kernels.specs.declared.fault.KernelFault.TheVariants.{Overflow}
 
@@ -41,4 +42,4 @@ operands_fault a b = shape_fault (are_one_int a.kind b.kind) a b
 
 -- The first fault of all: types, lengths, the least row.
 abbrev pub arithmetic_fault : (ℤ → ℤ → ℤ) → Seen → Seen → Option KernelFault
-arithmetic_fault f a b = or_else (operands_fault a b) (option_map (λ row. Overflow row) (first_bad f a.kind a.items b.items))
+arithmetic_fault f a b = option_or (operands_fault a b) (option_map (λ row. Overflow row) (first_bad f a.kind a.items b.items))

@@ -1,9 +1,8 @@
 -- Numbers of one type that are computed slot by slot.
 use Rattle.std.specs.Prelude.{◌≡◌, ℕ, ◌*◌, ◌<◌, ℤ, List, Bool, true, false, length}
-use Rattle.arrays.specs.declared.types.IntType.{IntType}
+use Rattle.types.specs.declared.int_type.IntType.{IntType}
 use Rattle.arrays.specs.Kind.{bytes_of}
-use Rattle.arrays.specs.Layout.{number_at}
-use Rattle.arrays.specs.Number.{is_of_type}
+use Rattle.arrays.specs.Number.{number_at, is_of_type}
 use Rattle.kernels.specs.declared.fault.KernelFault.{KernelFault}
 use Rattle.kernels.specs.declared.fault.KernelFault.TheVariants.{Overflow, NoMemory}
 

@@ -12,10 +12,6 @@ shape_fault suit a b = if not suit then Some TypesDiffer else if not (length a.i
 abbrev pub type_fault : Bool → Option KernelFault
 type_fault suit = if suit then None else Some TypesDiffer
 
-abbrev pub or_else : Option KernelFault → Option KernelFault → Option KernelFault
-or_else (Some fault) other = Some fault
-or_else None other = other
-
 -- What is told: the first fault that stands, or want of memory, which comes only where types and lengths are as they should be.
 abbrev pub Told : Option KernelFault → Option KernelFault → KernelFault → Type 0
 Told shape all told = (all ≡ Some told) ⊎ ((told ≡ NoMemory) × (shape ≡ None))

@@ -56,7 +56,7 @@ pub fn mul(alloc: Global, a: &View<'_>, b: &View<'_>) -> Result<Array, KernelFau
 trait Operation {
     ghost use Rattle.std.specs.Prelude.{◌≡◌, ◌^◌, ◌≤ℤ◌, ℤ, neg_ℤ, pos, false, IfNone, IfSome};
     ghost use Rattle.arrays.specs.Number.{is_of_type};
-    ghost use Rattle.arrays.specs.declared.types.IntType.{IntType};
+    ghost use Rattle.types.specs.declared.int_type.IntType.{IntType};
 
     // The exact result, of any size.
     ghost exact: { ℤ → ℤ → ℤ };

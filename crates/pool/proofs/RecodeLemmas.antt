@@ -12,7 +12,7 @@ use Rattle.std.proofs.lemmas.List.Elements.{filter_map-append}
 use Rattle.std.proofs.lemmas.Option.{slice_get_within, get_or_from_slice_get}
 use Rattle.arrays.specs.Item.{Item, null, text}
 use Rattle.arrays.specs.Column.{Column}
-use Rattle.arrays.specs.Builder.{item_of}
+use Rattle.arrays.specs.Slot.{item_of}
 use Rattle.arrays.specs.Kind.{int32}
 use Rattle.std.specs.Str.{bytes_eq}
 use Rattle.pool.specs.Texts.{text_of, texts_of, firsts, is_once, with_text, is_too_full, place_of}

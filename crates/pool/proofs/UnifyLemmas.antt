@@ -10,13 +10,12 @@ use Rattle.std.proofs.lemmas.List.{append-nil, map-append, take-append-drop, tak
 use Rattle.std.proofs.lemmas.List.Elements.{filter_map-append}
 use Rattle.std.proofs.lemmas.List.Folds.{fold-map, list_any-append}
 use Rattle.std.proofs.lemmas.Option.{slice_get_within, get_or_from_slice_get, slice_get-get_or}
-use Rattle.arrays.specs.Builder.{item_of}
+use Rattle.arrays.specs.Slot.{item_of, item_of_text}
 use Rattle.arrays.specs.Item.{Item, null, text}
 use Rattle.arrays.specs.Kind.{int, int32}
 use Rattle.arrays.specs.Lengths.{is_past, text_bytes, text_length}
 use Rattle.arrays.specs.Seen.{Seen}
 use Rattle.arrays.specs.Shown.{shown}
-use Rattle.arrays.specs.Slot.{item_of_text}
 use Rattle.pool.specs.Codes.{code_item}
 use Rattle.pool.specs.Texts.{text_of, texts_of, firsts, is_among, is_once, is_too_full, byte_count}
 use Rattle.pool.specs.Unified.{joined, all_texts, codes_among}

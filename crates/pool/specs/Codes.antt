@@ -1,6 +1,6 @@
 -- The codes of items among texts.
 use Rattle.std.specs.Prelude.{ℕ, pos, List, option_map}
-use Rattle.arrays.specs.Builder.{item_of}
+use Rattle.arrays.specs.Slot.{item_of}
 use Rattle.arrays.specs.Item.{Item, text, null}
 use Rattle.pool.specs.Texts.{place_of}
 

@@ -14,7 +14,7 @@ use Rattle.arrays.specs.Kind.{Kind, depth, same_kind}
 use Rattle.arrays.specs.Lengths.{cut, inner_items, is_past, items_in, list_length, text_bytes, text_length, total}
 use Rattle.arrays.specs.Seen.{Seen}
 use Rattle.arrays.specs.Shown.{shown}
-use Rattle.arrays.proofs.ChildLemmas.{same_kinds}
+use Rattle.layout.proofs.ChildLemmas.{same_kinds}
 use Rattle.select.specs.Big.{is_too_big}
 use Rattle.select.specs.Children.{AreChildren, IsChild, IsInner, IsList}
 use Rattle.select.specs.Fault.{IsFull}

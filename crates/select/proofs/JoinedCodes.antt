@@ -2,11 +2,11 @@
 use Rattle.std.proofs.Common.{◌≡◌, ◌∙◌, ℕ, suc, ◌+◌, ◌<◌, ◌≤◌, ◌&&◌, ℤ, pos, negsuc, List, [], ◌∷◌, ◌++◌, length, drop, map, Bool, true, false, not, Option, None, Some, ap, sym, refl, arith, subst, get_or, append_assoc, append-nil, length-append}
 use Rattle.std.specs.Prelude.{All, nat_lt, slice_get}
 use Rattle.std.specs.Option.{ForSome}
-use Rattle.std.proofs.lemmas.Bool.{ltb-true, lt-ltb, le-ltb}
+use Rattle.std.proofs.lemmas.Bool.{and_parts, ltb-true, lt-ltb, le-ltb}
 use Rattle.std.proofs.lemmas.Int.{ints}
 use Rattle.std.proofs.lemmas.List.{drop_all, drop_more, get_or-append-add, length-map, map-append}
 use Rattle.std.proofs.lemmas.List.Elements.{All-append}
-use Rattle.arrays.specs.Builder.{item_of}
+use Rattle.arrays.specs.Slot.{item_of}
 use Rattle.arrays.specs.Dictionary.{codes_of, dictionary_of, encoded, is_code, looked_up}
 use Rattle.arrays.specs.Item.{Item, null, int, boolean, text, list}
 use Rattle.arrays.specs.Kind.{int32}
@@ -17,12 +17,8 @@ use Rattle.arrays.specs.Kind as kind
 use Rattle.select.specs.Joined.{IsEncoded, joined, joined_codes, joined_entries, joined_items, shifted}
 use Rattle.select.proofs.ListLemmas.{get_or-map-any}
 
-both_true : (a b : Bool) → (a && b) ≡ true → (a ≡ true) × (b ≡ true)
-both_true true b h = (refl, h)
-both_true false b h = cc
-
 code-below : (n m : ℕ) → is_code n (int (pos m)) ≡ true → m < n
-code-below n m h = ltb-true m n (both_true (not (nat_lt m 0)) (nat_lt m n) h).1
+code-below n m h = ltb-true m n (and_parts (not (nat_lt m 0)) (nat_lt m n) h).1
 
 below-code : (n m : ℕ) → m < n → is_code n (int (pos m)) ≡ true
 below-code n m below =

@@ -3,10 +3,10 @@ use Rattle.std.proofs.Common.{◌≡◌, ◌∙◌, ℕ, ◌+◌, ◌<◌, ◌�
 use Rattle.std.specs.Prelude.{slice_get, All}
 use Rattle.std.proofs.lemmas.List.{map-append, take_more, take_all}
 use Rattle.std.proofs.lemmas.Option.{slice_get_within, slice_get-get_or, get_or_from_slice_get}
-use Rattle.arrays.specs.declared.types.IntType.{IntType}
-use Rattle.arrays.specs.Builder.{item_of}
+use Rattle.types.specs.declared.int_type.IntType.{IntType}
+use Rattle.arrays.specs.Slot.{item_of}
 use Rattle.arrays.specs.Item.{Item, null, int}
-use Rattle.arrays.specs.Layout.{number_at}
+use Rattle.arrays.specs.Number.{number_at}
 use Rattle.arrays.specs.Seen.{Seen, valid_at}
 use Rattle.arrays.specs.Values.{HasNumbers}
 use Rattle.arrays.proofs.PartLemmas.{item_slot}

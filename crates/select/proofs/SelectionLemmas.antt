@@ -8,7 +8,7 @@ use Rattle.std.proofs.lemmas.List.{map-append, take_all, length-take-le}
 use Rattle.std.proofs.lemmas.List.Elements.{All-append, filter-append}
 use Rattle.std.proofs.lemmas.List.Sums.{position_or_len_is}
 use Rattle.std.proofs.lemmas.Option.{slice_get_within, slice_get-get_or, get_or_from_slice_get}
-use Rattle.arrays.specs.declared.types.IntType.{IntType}
+use Rattle.types.specs.declared.int_type.IntType.{IntType}
 use Rattle.arrays.specs.Kind as kind
 use Rattle.arrays.specs.Kind.{same_kind}
 use Rattle.arrays.specs.Item as item

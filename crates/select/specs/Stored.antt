@@ -1,7 +1,7 @@
 -- Numbers as they lie in a column.
 use Rattle.std.specs.Prelude.{ℕ, ℤ, List, Bool, Option, Some, None, if◌then◌else◌}
-use Rattle.arrays.specs.declared.types.IntType.{IntType}
-use Rattle.arrays.specs.Layout.{number_at}
+use Rattle.types.specs.declared.int_type.IntType.{IntType}
+use Rattle.arrays.specs.Number.{number_at}
 use Rattle.arrays.specs.Seen.{valid_in}
 
 -- The number of the picked slot, none where it isn't valid or no slot is picked.

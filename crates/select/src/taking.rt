@@ -2,7 +2,7 @@
 
 ghost use Rattle.std.specs.Prelude.{◌≡◌, ◌⊎◌, ◌≤◌, None, Some, List, false, true, option_map, length, IfErr, IfOk};
 ghost use Rattle.std.specs.List.{All};
-ghost use Rattle.arrays.specs.Builder.{item_of};
+ghost use Rattle.arrays.specs.Slot.{item_of};
 ghost use Rattle.arrays.specs.Dictionary.{is_code, looked_up};
 ghost use Rattle.arrays.specs.Item.{Item};
 ghost use Rattle.arrays.specs.Kind as kind;

@@ -14,7 +14,7 @@ use Rattle.arrays.specs.Shape.{FieldShape}
 use Rattle.arrays.specs.Shown.{shown}
 use Rattle.pool.specs.Texts.{firsts, texts_of}
 use Rattle.shared.specs.Held.{IsHeld, batches_of}
-use Rattle.shared.specs.History.{Table, column}
+use Rattle.arrays.specs.Batch.{Table, column}
 use Rattle.shared.specs.Lawful.{Begins, dictionaries_of, dictionary_in, table_of, texts_in}
 use Rattle.shared.specs.Ready.{AreTexts}
 use Rattle.shared.specs.Recoded.{entry_count, shortened}

@@ -5,15 +5,15 @@ use Rattle.std.specs.List.{list_any, range_with_len, zip}
 use Rattle.std.proofs.lemmas.Bool.{eqb-true}
 use Rattle.std.proofs.lemmas.List.{get_or-map}
 use Rattle.std.proofs.lemmas.List.FromFn.{fill_by_all, length-map-range_with_len}
-use Rattle.arrays.specs.Batch.{Batch, bad_length, batch_fault, differing_length, differing_type, or_else, row_of, rows_of}
+use Rattle.arrays.specs.Batch.{Batch, bad_length, batch_fault, differing_length, differing_type, row_of, rows_of, column}
 use Rattle.arrays.specs.declared.batch.BatchFault.TheVariants.{ColumnCount, LengthsDiffer, TypeDiffers}
 use Rattle.arrays.specs.Item.{null}
 use Rattle.arrays.specs.Kind.{same_kind}
 use Rattle.arrays.specs.Seen.{Seen}
 use Rattle.arrays.specs.Shape.{FieldShape, kind_of_field}
 use Rattle.pool.proofs.PlaceLemmas.{among_found, among_missing}
-use Rattle.shared.specs.History.{column}
 use Rattle.std.proofs.lemmas.Simd.{map-map}
+use Rattle.std.specs.Option.{option_or}
 use Rattle.shared.specs.Columns.{HasColumns}
 
 pub map-same : {A B : Type 0} (f g : A → B) → ((x : A) → f x ≡ g x) → (xs : List A) → map f xs ≡ map g xs
@@ -63,7 +63,7 @@ sizes n (c ∷ columns) none zero d below =
 sizes n (c ∷ columns) none (suc k) d below =
     sizes n columns (neither (not (eqb (length c.items) n)) (list_any (λ (e : Seen). not (eqb (length e.items) n)) columns) none).1 k d (omega (arith, below))
 
-no-fault : (b : Bool) (t l : Option ℕ) → cond (not b) (Some ColumnCount) (or_else (option_map (λ c. TypeDiffers c) t) (option_map (λ c. LengthsDiffer c) l)) ≡ None
+no-fault : (b : Bool) (t l : Option ℕ) → cond (not b) (Some ColumnCount) (option_or (option_map (λ c. TypeDiffers c) t) (option_map (λ c. LengthsDiffer c) l)) ≡ None
     → (b ≡ true) × (t ≡ None) × (l ≡ None)
 no-fault true None None h = (refl, refl, refl)
 no-fault true None (Some c) h = absurd cc
@@ -94,8 +94,8 @@ whole fields n columns lawful =
 
 pub faultless : (fields : List FieldShape) (n : ℕ) (columns : List Seen) → Whole fields n columns → batch_fault fields n columns ≡ None
 faultless fields n columns is =
-    ap (λ b. cond (not b) (Some ColumnCount) (or_else (option_map (λ c. TypeDiffers c) (differing_type fields columns)) (option_map (λ c. LengthsDiffer c) (bad_length n columns)))) (eq-eqb (length columns) (length fields) is.count)
-    ∙ ap (λ t. or_else (option_map (λ c. TypeDiffers c) t) (option_map (λ c. LengthsDiffer c) (bad_length n columns))) (missing wrong_kind (zip columns fields) is.kinds)
+    ap (λ b. cond (not b) (Some ColumnCount) (option_or (option_map (λ c. TypeDiffers c) (differing_type fields columns)) (option_map (λ c. LengthsDiffer c) (bad_length n columns)))) (eq-eqb (length columns) (length fields) is.count)
+    ∙ ap (λ t. option_or (option_map (λ c. TypeDiffers c) t) (option_map (λ c. LengthsDiffer c) (bad_length n columns))) (missing wrong_kind (zip columns fields) is.kinds)
     ∙ ap (λ b. option_map (λ c. LengthsDiffer c) (cond b (Some 0) (differing_length n columns))) is.small
     ∙ ap (λ l. option_map (λ c. LengthsDiffer c) l) (missing (λ (c : Seen). not (eqb (length c.items) n)) columns is.long)
 

@@ -4,16 +4,17 @@ use Rattle.std.specs.Prelude.{string_bytes}
 use Rattle.std.specs.List.{zip}
 use Rattle.std.specs.Str.{bytes_eq}
 use Rattle.std.proofs.lemmas.Bool.{eqb-true, ne_eqb}
-use Rattle.arrays.specs.Batch.{Batch, batch_fault, rows_of}
+use Rattle.arrays.specs.Batch.{Batch, batch_fault, rows_of, Table}
 use Rattle.arrays.specs.Kind.{kind_of, same_kind}
 use Rattle.arrays.specs.Seen.{Seen}
 use Rattle.arrays.specs.Shape.{FieldShape, Shape, field_of, field_step, fields_of, kind_of_field, name_of, shape_step}
-use Rattle.arrays.specs.declared.types.Field.{Field, fold_out-Field, out-Field}
-use Rattle.arrays.proofs.SchemaLemmas.{position-map}
-use Rattle.arrays.proofs.ShapeLemmas.{kind_of_field-field_of}
-use Rattle.shared.specs.Cause.{difference, differs, early_cause, first, is_book_full, is_table_full, null_cause, when}
+use Rattle.types.specs.declared.data_type.Field.{Field, fold_out-Field, out-Field}
+use Rattle.types.proofs.SchemaLemmas.{position-map}
+use Rattle.types.proofs.ShapeLemmas.{kind_of_field-field_of}
+use Rattle.arrays.specs.First.{first, when}
+use Rattle.shared.specs.Cause.{difference, differs, early_cause, is_book_full, is_table_full, null_cause}
 use Rattle.shared.specs.Columns.{HasColumns}
-use Rattle.shared.specs.History.{History, Table, rows}
+use Rattle.shared.specs.History.{History, rows}
 use Rattle.shared.specs.Stored.{is_stored_as, stored_kind}
 use Rattle.shared.specs.declared.refusal.Refusal.{Refusal}
 use Rattle.shared.specs.declared.refusal.Refusal.TheVariants.{BookFull, SchemaDiffers, TableFull}

@@ -3,7 +3,8 @@ use Rattle.std.proofs.Common.{◌≡◌, ℕ, ◌+◌, ◌≤◌, ◌^◌, List,
 use Rattle.std.proofs.lemmas.Bool.{ltb-false}
 use Rattle.arrays.specs.Batch.{Batch, rows_of}
 use Rattle.arrays.specs.Shape.{FieldShape}
-use Rattle.shared.specs.Cause.{batch_cause, difference, early_cause, first, is_book_full, is_table_full, null_cause, texts_cause, when}
+use Rattle.arrays.specs.First.{first, when}
+use Rattle.shared.specs.Cause.{batch_cause, difference, early_cause, is_book_full, is_table_full, null_cause, texts_cause}
 use Rattle.shared.specs.History.{History, rows}
 use Rattle.shared.specs.declared.refusal.Refusal.{Refusal}
 use Rattle.shared.specs.declared.refusal.Refusal.TheVariants.{BookFull, SchemaDiffers, TableFull}

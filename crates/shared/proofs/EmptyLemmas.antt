@@ -6,19 +6,19 @@ use Rattle.std.specs.declared.alloc.Global.{Global}
 use Rattle.std.specs.declared.sync.Arc.{Arc}
 use Rattle.std.specs.declared.vec.Vec.{Vec}
 use Rattle.std.proofs.lemmas.List.{length-map, map-append, take_all, take_more}
-use Rattle.arrays.specs.Batch.{Batch, rows_of}
+use Rattle.arrays.specs.Batch.{Batch, rows_of, Table, column}
 use Rattle.arrays.specs.Item.{text}
 use Rattle.arrays.specs.Kind as kind
 use Rattle.arrays.specs.Seen.{Seen}
 use Rattle.arrays.specs.Shape.{FieldShape, field_of, fields_of, kind_of_field}
 use Rattle.arrays.specs.Shown.{shown}
-use Rattle.arrays.specs.declared.types.Field.{Field}
+use Rattle.types.specs.declared.data_type.Field.{Field}
 use Rattle.group.specs.Summary.{AreStats}
 use Rattle.group.specs.declared.stats.ColumnStats.{ColumnStats}
 use Rattle.shared.specs.Cause.{IsLegal}
 use Rattle.shared.specs.Contents.{Contents}
 use Rattle.shared.specs.Held.{IsHeld, batches_of, book_of, dictionaries_in, pair_of, pieces_of, show}
-use Rattle.shared.specs.History.{History, Table, column, cut}
+use Rattle.shared.specs.History.{History, cut}
 use Rattle.shared.specs.Lawful.{AreStatsOf, LawfulTable, counted, dictionaries_of, dictionary_in, table_of, texts_in}
 use Rattle.shared.specs.Ready.{AreTexts}
 use Rattle.shared.specs.Stored.{is_text_field, stored_field, stored_fields}

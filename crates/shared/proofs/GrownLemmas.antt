@@ -9,8 +9,10 @@ use Rattle.arrays.specs.Shape.{FieldShape}
 use Rattle.arrays.specs.Shown.{shown}
 use Rattle.arrays.specs.Slot.{is_text}
 use Rattle.pool.specs.Texts.{firsts, is_too_full, texts_of}
-use Rattle.shared.specs.Cause.{first, full_in, texts_cause, when}
-use Rattle.shared.specs.History.{History, Table, column, rows}
+use Rattle.arrays.specs.First.{first, when}
+use Rattle.shared.specs.Cause.{full_in, texts_cause}
+use Rattle.arrays.specs.Batch.{Table, column}
+use Rattle.shared.specs.History.{History, rows}
 use Rattle.shared.specs.Lawful.{dictionary_in, texts_in}
 use Rattle.shared.specs.Recoded.{dictionary_for, full_at, full_cause, grown, is_full}
 use Rattle.shared.specs.Stored.{is_text_field, stored_kind}

@@ -7,14 +7,14 @@ use Rattle.std.specs.declared.sync.Arc.{Arc}
 use Rattle.std.specs.declared.alloc.Global.{Global}
 use Rattle.std.specs.declared.vec.Vec.{Vec}
 use Rattle.std.proofs.lemmas.Option.{same_Some, slice_get-map}
-use Rattle.arrays.specs.Batch.{Batch, rows_of}
+use Rattle.arrays.specs.Batch.{Batch, rows_of, Table, column}
 use Rattle.arrays.specs.Seen.{Seen}
 use Rattle.arrays.specs.Shape.{FieldShape, kind_of_field}
 use Rattle.group.specs.Summary.{AreStats}
 use Rattle.group.specs.declared.stats.ColumnStats.{ColumnStats}
 use Rattle.std.proofs.lemmas.List.{get_or-map, length-map}
 use Rattle.shared.specs.Held.{IsHeld, batches_of, book_of, pair_of, pieces_of, show}
-use Rattle.shared.specs.History.{Table, book, column, rows}
+use Rattle.shared.specs.History.{book, rows}
 use Rattle.shared.specs.Lawful.{AreStatsOf, dictionaries_of, table_of}
 use Rattle.shared.specs.declared.held.Held.{Held}
 use Rattle.shared.proofs.HistoryLemmas.{book-cut, length-cut, rows-cut}

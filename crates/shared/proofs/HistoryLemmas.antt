@@ -6,7 +6,8 @@ use Rattle.std.proofs.lemmas.List.Elements.{All-push}
 use Rattle.std.proofs.lemmas.List.Sums.{sum_by-cons}
 use Rattle.arrays.specs.Shape.{FieldShape}
 use Rattle.shared.specs.Cause.{IsLegal, IsTableOf, cause}
-use Rattle.shared.specs.History.{History, Table, book, cut, rows}
+use Rattle.arrays.specs.Batch.{Table}
+use Rattle.shared.specs.History.{History, book, cut, rows}
 use Rattle.shared.specs.Lawful.{counted}
 
 -- ---- one more pair

@@ -3,7 +3,7 @@ use Rattle.std.proofs.Common.{◌≡◌, ◌∙◌, ℕ, suc, ◌+◌, ◌≤◌
 use Rattle.std.specs.Prelude.{slice_index_or}
 use Rattle.std.specs.List.{AllZip, enumerate_from, list_any, range_with_len, zip}
 use Rattle.std.proofs.lemmas.List.{length-map, take_all}
-use Rattle.arrays.specs.Batch.{Batch, batch_fault, row_of, rows_of}
+use Rattle.arrays.specs.Batch.{Batch, batch_fault, row_of, rows_of, Table, column}
 use Rattle.arrays.specs.Item.{Item, null, text}
 use Rattle.arrays.specs.Kind as kind
 use Rattle.arrays.specs.Kind.{Kind, bytes_of, same_kind}
@@ -15,7 +15,6 @@ use Rattle.group.specs.Summary.{AreStats}
 use Rattle.group.specs.declared.stats.ColumnStats.{ColumnStats}
 use Rattle.pool.specs.Texts.{firsts, texts_of}
 use Rattle.shared.specs.Counted.{AreJoined, AreTheirs}
-use Rattle.shared.specs.History.{Table, column}
 use Rattle.shared.specs.Lawful.{NamesFront, texts_in}
 use Rattle.shared.specs.Recoded.{coded, dictionary_for, grown, stored_seen}
 use Rattle.shared.specs.Stored.{stored_kind}

@@ -6,8 +6,9 @@ use Rattle.std.proofs.lemmas.Bool.{ltb-false}
 use Rattle.std.proofs.lemmas.List.{drop_all, length-take-le}
 use Rattle.arrays.specs.Item.{Item}
 use Rattle.arrays.specs.Shape.{FieldShape}
-use Rattle.shared.specs.History.{Table, column}
-use Rattle.shared.specs.Cause.{null_cause, null_in, null_row, first}
+use Rattle.arrays.specs.Batch.{Table, column}
+use Rattle.arrays.specs.First.{first}
+use Rattle.shared.specs.Cause.{null_cause, null_in, null_row}
 use Rattle.shared.specs.declared.refusal.Refusal.{Refusal}
 use Rattle.shared.specs.declared.refusal.Refusal.TheVariants.{NullInNonNullable}
 

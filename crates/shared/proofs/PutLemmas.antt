@@ -5,17 +5,18 @@ use Rattle.std.specs.Arc.{arc_value}
 use Rattle.std.specs.List.{enumerate_from}
 use Rattle.std.proofs.lemmas.Bool.{ltb-false}
 use Rattle.std.proofs.lemmas.List.{map-append}
-use Rattle.arrays.specs.Batch.{Batch, rows_of}
+use Rattle.arrays.specs.Batch.{Batch, rows_of, Table}
 use Rattle.arrays.specs.Seen.{Seen}
 use Rattle.arrays.specs.Shape.{FieldShape}
 use Rattle.group.specs.declared.stats.ColumnStats.{ColumnStats}
-use Rattle.shared.specs.Cause.{IsLegal, batch_cause, cause, difference, first, is_book_full, is_table_full, null_cause, texts_cause, when}
+use Rattle.arrays.specs.First.{first, when}
+use Rattle.shared.specs.Cause.{IsLegal, batch_cause, cause, difference, is_book_full, is_table_full, null_cause, texts_cause}
 use Rattle.shared.specs.Contents.{Contents, admitted}
 use Rattle.shared.specs.Held.{IsHeld, IsPut, IsSame, batches_of, book_of, dictionaries_in, pieces_of, show}
-use Rattle.shared.specs.History.{History, Table, cut, rows}
+use Rattle.shared.specs.History.{History, cut, rows}
 use Rattle.shared.specs.Lawful.{LawfulTable, counted, dictionaries_of, table_of, texts_in}
 use Rattle.shared.specs.Ready.{AreTexts, IsReady}
-use Rattle.shared.specs.declared.admission.Prepared.{Prepared}
+use Rattle.shared.specs.declared.held.Prepared.{Prepared}
 use Rattle.shared.specs.declared.held.Held.{Held}
 use Rattle.shared.specs.declared.refusal.Refusal.{Refusal}
 use Rattle.shared.specs.declared.refusal.Refusal.TheVariants.{BookFull, SchemaDiffers, TableFull}

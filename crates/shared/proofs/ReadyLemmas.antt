@@ -3,18 +3,17 @@ use Rattle.std.proofs.Common.{◌≡◌, ◌∙◌, ℕ, List, ◌++◌, length,
 use Rattle.std.specs.Prelude.{Result, Ok, Err, IfErr, IsErrAnd, ◌⊎◌}
 use Rattle.std.specs.Arc.{arc_value}
 use Rattle.std.specs.List.{AllZip, enumerate_from, zip}
-use Rattle.arrays.specs.Batch.{Batch, batch_fault, rows_of}
+use Rattle.arrays.specs.Batch.{Batch, batch_fault, rows_of, Table}
 use Rattle.arrays.specs.Seen.{Seen}
 use Rattle.arrays.specs.Shape.{FieldShape}
 use Rattle.group.specs.declared.stats.ColumnStats.{ColumnStats}
 use Rattle.shared.specs.Cause.{batch_cause, difference, early_cause, null_cause}
 use Rattle.shared.specs.Counted.{AreJoined, AreTheirs}
 use Rattle.shared.specs.Held.{IsHeld, batches_of, show}
-use Rattle.shared.specs.History.{Table}
 use Rattle.shared.specs.Lawful.{AreStatsOf, NamesFront, dictionaries_of, table_of, texts_in}
 use Rattle.shared.specs.Ready.{AreTexts, IsReady}
 use Rattle.shared.specs.Recoded.{dictionary_for, full_cause, grown, stored_seen}
-use Rattle.shared.specs.declared.admission.Prepared.{Prepared}
+use Rattle.shared.specs.declared.held.Prepared.{Prepared}
 use Rattle.shared.specs.declared.held.Held.{Held}
 use Rattle.shared.specs.declared.refusal.Refusal.{Refusal}
 use Rattle.shared.specs.declared.refusal.Refusal.TheVariants.{NoMemory}

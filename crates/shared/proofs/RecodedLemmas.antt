@@ -7,19 +7,18 @@ use Rattle.std.proofs.lemmas.Bool.{le-ltb, lt-ltb}
 use Rattle.std.proofs.lemmas.List.{append-nil, drop_all, drop_more, append_assoc, get_or-map, get_or_at, get_or_default, length-drop, length-map, length-take-le, map-append, map_more, set_at, take-append-drop, take_all, take_more}
 use Rattle.std.proofs.lemmas.Simd.{map-map}
 use Rattle.std.proofs.lemmas.Slice.Zip.{get_or-zip, length-zip}
-use Rattle.arrays.specs.Builder.{item_of}
+use Rattle.arrays.specs.Slot.{item_of, is_text}
 use Rattle.arrays.specs.Dictionary.{encoded, is_code}
 use Rattle.arrays.specs.Item.{Item, boolean, int, list, null, text}
 use Rattle.arrays.specs.Kind as kind
 use Rattle.arrays.specs.Kind.{int32}
 use Rattle.arrays.specs.Seen.{Seen}
 use Rattle.arrays.specs.Shown.{shown}
-use Rattle.arrays.specs.Slot.{is_text}
 use Rattle.pool.specs.Codes.{code_item}
 use Rattle.pool.specs.Texts.{firsts, is_once, place_of, texts_of}
 use Rattle.pool.proofs.PlaceLemmas.{position_found}
 use Rattle.pool.proofs.RecodeLemmas.{starts_take}
-use Rattle.shared.specs.Cause.{first, when}
+use Rattle.arrays.specs.First.{first, when}
 use Rattle.shared.specs.Lawful.{Begins}
 use Rattle.shared.specs.Recoded.{coded, dictionary_for, full_at, full_cause, grown, is_full, stored_seen}
 use Rattle.shared.specs.declared.refusal.Refusal.{Refusal}

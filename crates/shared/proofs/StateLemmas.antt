@@ -1,11 +1,10 @@
 -- A table that a batch is ready for.
 use Rattle.std.proofs.Common.{◌+◌, ◌≤◌, ◌^◌, length, ap, arith}
 use Rattle.std.specs.Arc.{arc_value}
-use Rattle.arrays.specs.Batch.{Batch, rows_of}
+use Rattle.arrays.specs.Batch.{Batch, rows_of, Table}
 use Rattle.shared.specs.Held.{IsHeld, show}
-use Rattle.shared.specs.History.{Table}
 use Rattle.shared.specs.Ready.{IsReady}
-use Rattle.shared.specs.declared.admission.Prepared.{Prepared}
+use Rattle.shared.specs.declared.held.Prepared.{Prepared}
 use Rattle.shared.specs.declared.held.Held.{Held}
 use Rattle.shared.proofs.HeldLemmas.{count-shown}
 use Rattle.shared.proofs.BatchLemmas.{length-rows_of}

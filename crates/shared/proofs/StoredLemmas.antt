@@ -1,10 +1,11 @@
 -- A schema as a table stores it.
 use Rattle.std.proofs.Common.{◌≡◌, ◌∙◌, List, Option, None, Some, option_map, position, ap, refl}
-use Rattle.arrays.specs.Schema.{holds_dict, is_deep, or_else, schema_fault}
+use Rattle.std.specs.Option.{option_or}
+use Rattle.arrays.specs.Schema.{holds_dict, is_deep, schema_fault}
 use Rattle.arrays.specs.Shape.{FieldShape, boolean, dict, field, int, list, utf8}
-use Rattle.arrays.specs.declared.schema.SchemaFault.{SchemaFault}
-use Rattle.arrays.specs.declared.schema.SchemaFault.TheVariants.{DictInList, TooDeep}
-use Rattle.arrays.proofs.SchemaLemmas.{position-map}
+use Rattle.types.specs.declared.schema.SchemaFault.{SchemaFault}
+use Rattle.types.specs.declared.schema.SchemaFault.TheVariants.{DictInList, TooDeep}
+use Rattle.types.proofs.SchemaLemmas.{position-map}
 use Rattle.shared.specs.Stored.{stored_field, stored_fields}
 
 same_deep : (f : FieldShape) → is_deep (stored_field f) ≡ is_deep f
@@ -24,8 +25,8 @@ same_dict (field name nullable dict) = refl
 -- no list gets deeper, and none gets a dictionary
 pub schema_fault-stored : (fields : List FieldShape) → schema_fault (stored_fields fields) ≡ schema_fault fields
 schema_fault-stored fields =
-    ap (λ p. or_else (option_map (λ c. TooDeep c) p) (option_map (λ c. DictInList c) (position holds_dict (stored_fields fields)))) (position-map is_deep is_deep stored_field same_deep fields)
-    ∙ ap (λ p. or_else (option_map (λ c. TooDeep c) (position is_deep fields)) (option_map (λ c. DictInList c) p)) (position-map holds_dict holds_dict stored_field same_dict fields)
+    ap (λ p. option_or (option_map (λ c. TooDeep c) p) (option_map (λ c. DictInList c) (position holds_dict (stored_fields fields)))) (position-map is_deep is_deep stored_field same_deep fields)
+    ∙ ap (λ p. option_or (option_map (λ c. TooDeep c) (position is_deep fields)) (option_map (λ c. DictInList c) p)) (position-map holds_dict holds_dict stored_field same_dict fields)
 
 pub no_fault : (o : Option SchemaFault) (e : SchemaFault) → o ≡ None → o ≡ Some e → ⊥
 no_fault None e none some = absurd cc

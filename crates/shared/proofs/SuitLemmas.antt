@@ -4,17 +4,17 @@ use Rattle.std.specs.List.{AllZip, enumerate_from, list_any, range_with_len, zip
 use Rattle.std.specs.Str.{bytes_eq}
 use Rattle.std.proofs.lemmas.Bool.{eqb-true}
 use Rattle.std.proofs.lemmas.List.Elements.{All-map}
-use Rattle.arrays.specs.Batch.{Batch, batch_fault, row_of, rows_of}
+use Rattle.arrays.specs.Batch.{Batch, batch_fault, row_of, rows_of, Table, column}
 use Rattle.arrays.specs.Item.{Item, boolean, int, list, null, text}
 use Rattle.arrays.specs.Kind as kind
 use Rattle.arrays.specs.Kind.{Kind, bytes_of, same_kind}
 use Rattle.arrays.specs.Seen.{Seen}
 use Rattle.arrays.specs.Shape.{FieldShape, kind_of_field, name_of}
 use Rattle.arrays.specs.Typed.{IsItemOf}
-use Rattle.arrays.proofs.ChildLemmas.{same_kinds}
+use Rattle.layout.proofs.ChildLemmas.{same_kinds}
 use Rattle.pool.proofs.PlaceLemmas.{among_missing}
-use Rattle.shared.specs.Cause.{IsRowOf, IsTableOf, difference, differs, first}
-use Rattle.shared.specs.History.{Table, column}
+use Rattle.arrays.specs.First.{first}
+use Rattle.shared.specs.Cause.{IsRowOf, IsTableOf, difference, differs}
 use Rattle.shared.specs.Stored.{stored_kind}
 use Rattle.shared.proofs.BatchLemmas.{HasColumns-rows_of, neither, not-false, whole, wrong_kind}
 

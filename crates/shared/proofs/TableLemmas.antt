@@ -8,14 +8,13 @@ use Rattle.std.proofs.lemmas.List.{append-nil, map-append, take-append-le, take_
 use Rattle.std.proofs.lemmas.List.Elements.{All-push}
 use Rattle.std.proofs.lemmas.List.Sums.{sum_by-append}
 use Rattle.std.proofs.lemmas.Grind.{flat_map-append}
-use Rattle.arrays.specs.Batch.{Batch, rows_of}
+use Rattle.arrays.specs.Batch.{Batch, rows_of, Table, column}
 use Rattle.arrays.specs.Item.{Item, boolean, int, list, null, text}
 use Rattle.arrays.specs.Kind as kind
 use Rattle.arrays.specs.Seen.{Seen}
 use Rattle.arrays.specs.Shape.{FieldShape}
 use Rattle.arrays.specs.Shown.{shown}
 use Rattle.group.specs.declared.stats.ColumnStats.{ColumnStats}
-use Rattle.shared.specs.History.{Table, column}
 use Rattle.pool.specs.Texts.{firsts, texts_of}
 use Rattle.pool.proofs.TextLemmas.{beyond, firsts-append}
 use Rattle.shared.specs.Lawful.{AreStatsOf, Begins, EndsWithEntry, IsStored, LawfulTable, NamesFront, counted, dictionaries_of, dictionary_in, table_of, texts_in}

@@ -2,27 +2,19 @@
 use Rattle.std.specs.Prelude.{◌≡◌, ◌∷◌, ◌++◌, ◌&&◌, ◌||◌, ℕ, ◌+◌, ◌-◌, ◌^◌, ◌==◌, nat_lt, List, [], length, map, not, Bool, Option, Some, None, option_map, position, All, if◌then◌else◌}
 use Rattle.std.specs.List.{enumerate_from, AllZip, zip}
 use Rattle.std.specs.Str.{bytes_eq}
-use Rattle.arrays.specs.Batch.{Batch, rows_of}
+use Rattle.arrays.specs.First.{first, when}
+use Rattle.arrays.specs.Batch.{Batch, rows_of, Row, Table, column}
 use Rattle.arrays.specs.Item.{Item, is_null}
 use Rattle.arrays.specs.Kind.{same_kind}
 use Rattle.arrays.specs.Shape.{FieldShape, is_nullable, kind_of_field, name_of}
 use Rattle.arrays.specs.Typed.{IsItemOf}
 use Rattle.pool.specs.Texts.{firsts, is_too_full, texts_of}
-use Rattle.shared.specs.History.{Row, Table, column, History, rows}
+use Rattle.shared.specs.History.{History, rows}
 use Rattle.shared.specs.Stored.{is_text_field, stored_kind}
 use Rattle.shared.specs.declared.refusal.Refusal.{Refusal}
 use Rattle.shared.specs.declared.refusal.Refusal.TheVariants.{SchemaDiffers, NullInNonNullable, TableFull, BookFull, TextsFull}
 
 -- ---- refusals
-
--- The first that is there.
-abbrev pub first : {A : Type 0} → List (Option A) → Option A
-first [] = None
-first (None ∷ rest) = first rest
-first (Some x ∷ rest) = Some x
-
-abbrev pub when : Bool → Refusal → Option Refusal
-when test refusal = if test then Some refusal else None
 
 -- The name or the stored type of the second field isn't that of the first.
 abbrev pub differs : FieldShape × FieldShape → Bool

@@ -1,7 +1,7 @@
 -- The columns of a table, side by side.
 use Rattle.std.specs.Prelude.{◌≡◌, ℕ, ◌<◌, List, length, slice_index_or}
 use Rattle.arrays.specs.Seen.{Seen}
-use Rattle.shared.specs.History.{Table, column}
+use Rattle.arrays.specs.Batch.{Table, column}
 
 -- The columns are those of the table.
 pub record HasColumns (t : Table) (columns : List Seen) : Type 0 where

@@ -1,10 +1,11 @@
 -- What a table shows of itself.
 use Rattle.std.specs.Prelude.{ℕ, List, refl, [], ◌∷◌, ◌++◌}
 use Rattle.std.specs.Coded.{Coded, code_by, coded_ℕ, coded_list, coded×}
-use Rattle.arrays.specs.Batch.{Batch, rows_of}
-use Rattle.arrays.specs.Code.{field_code, item_code}
+use Rattle.arrays.specs.Batch.{Batch, rows_of, Table}
+use Rattle.types.specs.Code.{field_code}
+use Rattle.layout.specs.Code.{item_code}
 use Rattle.arrays.specs.Shape.{FieldShape}
-use Rattle.shared.specs.History.{History, Table}
+use Rattle.shared.specs.History.{History}
 
 -- The fields as they are stored, what was added and by whom, and the rows of each batch.
 pub record Contents : Type 0 where

@@ -11,7 +11,7 @@ use Rattle.shared.specs.Cause.{IsLegal}
 use Rattle.shared.specs.Contents.{Contents}
 use Rattle.shared.specs.History.{cut}
 use Rattle.shared.specs.Lawful.{LawfulTable, counted, table_of}
-use Rattle.shared.specs.declared.admission.Prepared.{Prepared}
+use Rattle.shared.specs.declared.held.Prepared.{Prepared}
 use Rattle.shared.specs.declared.entry.Entry.{Entry}
 use Rattle.shared.specs.declared.held.Held.{Held}
 

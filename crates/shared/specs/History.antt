@@ -1,18 +1,7 @@
 -- What a table holds: rows, and who added which of them.
-use Rattle.std.specs.Prelude.{ℕ, ◌==◌, List, [], ◌∷◌, map, filter, length, take, drop, slice_index_or}
+use Rattle.std.specs.Prelude.{ℕ, ◌==◌, List, [], ◌∷◌, map, filter, length, take, drop}
 use Rattle.std.specs.List.{flat_map}
-use Rattle.arrays.specs.Item.{Item, null}
-
--- A row is a list of items, one a field. A table is a list of rows.
-abbrev pub Row : Type 0
-Row = List Item
-
-abbrev pub Table : Type 0
-Table = List Row
-
--- Item k of each row.
-abbrev pub column : Table → ℕ → List Item
-column t k = map (λ row. slice_index_or row k null) t
+use Rattle.arrays.specs.Batch.{Table}
 
 -- A history is a list of pairs: a worker, and the table that it added.
 abbrev pub History : Type 0

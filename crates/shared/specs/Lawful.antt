@@ -1,7 +1,7 @@
 -- A table all of whose parts agree.
 use Rattle.std.specs.Prelude.{◌≡◌, ℕ, ◌≤◌, ◌<◌, ◌^◌, List, [], map, flat_map, length, sum_by, take, All, Option, Some, None, ⊤, if◌then◌else◌}
 use Rattle.std.specs.List.{AllZip, enumerate_from}
-use Rattle.arrays.specs.Batch.{Batch, batch_fault, rows_of}
+use Rattle.arrays.specs.Batch.{Batch, batch_fault, rows_of, Table, column}
 use Rattle.arrays.specs.Item.{text}
 use Rattle.arrays.specs.Kind as kind
 use Rattle.arrays.specs.Seen.{Seen}
@@ -11,7 +11,6 @@ use Rattle.group.specs.Summary.{AreStats}
 use Rattle.group.specs.declared.stats.ColumnStats.{ColumnStats}
 use Rattle.pool.specs.Texts.{firsts, texts_of}
 use Rattle.shared.specs.Cause.{null_cause}
-use Rattle.shared.specs.History.{Table, column}
 use Rattle.shared.specs.Stored.{is_text_field}
 
 -- The rows of all batches.

@@ -2,12 +2,11 @@
 use Rattle.std.specs.Prelude.{◌≡◌, ◌++◌, ℕ, List, map, None, option_map}
 use Rattle.std.specs.Arc.{arc_value}
 use Rattle.std.specs.List.{AllZip, enumerate_from}
-use Rattle.arrays.specs.Batch.{Batch, rows_of}
+use Rattle.arrays.specs.Batch.{Batch, rows_of, Table}
 use Rattle.shared.specs.Cause.{IsTableOf, batch_cause}
 use Rattle.shared.specs.Held.{batches_of, show}
-use Rattle.shared.specs.History.{Table}
 use Rattle.shared.specs.Lawful.{AreStatsOf, IsStored, NamesFront, dictionaries_of, table_of, texts_in}
-use Rattle.shared.specs.declared.admission.Prepared.{Prepared}
+use Rattle.shared.specs.declared.held.Prepared.{Prepared}
 use Rattle.shared.specs.declared.held.Held.{Held}
 
 -- The pools have the texts of the table's columns, and no others.

@@ -13,7 +13,7 @@ use Rattle.arrays.specs.Shown.{shown}
 use Rattle.arrays.specs.Slot.{is_text}
 use Rattle.pool.specs.Codes.{code_item}
 use Rattle.pool.specs.Texts.{firsts, is_too_full, texts_of}
-use Rattle.shared.specs.Cause.{first, when}
+use Rattle.arrays.specs.First.{first, when}
 use Rattle.shared.specs.declared.refusal.Refusal.{Refusal}
 use Rattle.shared.specs.declared.refusal.Refusal.TheVariants.{TextsFull}
 

@@ -2,7 +2,7 @@
 use Rattle.std.specs.Prelude.{List, map, Bool}
 use Rattle.arrays.specs.Kind as kind
 use Rattle.arrays.specs.Kind.{Kind, kind_of, same_kind}
-use Rattle.arrays.specs.declared.types.DataType.{DataType}
+use Rattle.types.specs.declared.data_type.DataType.{DataType}
 use Rattle.arrays.specs.Shape.{FieldShape, Shape, boolean, dict, field, int, kind_of_field, list, utf8}
 
 abbrev pub stored_shape : Shape → Shape

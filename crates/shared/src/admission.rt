@@ -11,23 +11,13 @@ ghost use Rattle.shared.specs.Lawful.{Begins, table_of};
 ghost use Rattle.shared.specs.Ready.{AreTexts, IsReady};
 
 use crate::columns::{Columns, cut_back, stored_columns};
-use crate::held::Held;
+use crate::held::{Held, Prepared};
 use crate::refusal::Refusal;
 use crate::stats::{joined_all, stats_of_all};
-use arrays::{Array, RecordBatch, Words};
-use group::ColumnStats;
+use arrays::{Array, RecordBatch};
 use pool::TextPool;
 use std::alloc::Global;
 use std::sync::Arc;
-
-/// A batch as it is stored, and what the table holds with it: all that is new.
-#[derive(Drop)]
-pub(crate) struct Prepared {
-    pub(crate) batch: Arc<RecordBatch>,
-    pub(crate) batch_stats: Arc<Vec<ColumnStats>>,
-    pub(crate) stats: Arc<Vec<ColumnStats>>,
-    pub(crate) dictionaries: Vec<Option<Arc<Words>>>,
-}
 
 /// Makes a batch ready. Nothing that the table shows changes: its pools have the new texts, and have them no more where
 /// the batch is refused. Nothing but its texts and the memory can stand against it here.

@@ -4,7 +4,8 @@ ghost use Rattle.std.specs.Prelude.{◌≡◌, ◌+◌, ◌^◌, ◌≤◌, IfOk
 ghost use Rattle.std.specs.Arc.{arc_value};
 ghost use Rattle.shared.specs.Held.{HasRoom, IsPut, IsSame};
 
-use crate::admission::Prepared;
+mod empty;
+
 use crate::entry::Entry;
 use arrays::{RecordBatch, Schema, Words};
 use colbits::NoMemory;
@@ -28,79 +29,90 @@ pub(crate) struct Held {
     pub(crate) book: Vec<Entry>,
 }
 
-/// Makes room for one batch more, so that putting it in can't fail.
-pub(crate) fn reserve(held: &mut Held) -> Result<(), NoMemory>
-    ensures room { OnOk result (HasRoom held.new) }
-    ensures same { IsSame held.old held.new }
-{
-    held.batches.reserve(1)?;
-    held.batch_stats.reserve(1)?;
-    held.book.reserve(1)?;
-    Ok(())
+/// A batch as it is stored, and what the table holds with it: all that is new.
+#[derive(Drop)]
+pub(crate) struct Prepared {
+    pub(crate) batch: Arc<RecordBatch>,
+    pub(crate) batch_stats: Arc<Vec<ColumnStats>>,
+    pub(crate) stats: Arc<Vec<ColumnStats>>,
+    pub(crate) dictionaries: Vec<Option<Arc<Words>>>,
 }
 
-/// Puts a prepared batch of a worker in. No memory is taken.
-pub(crate) fn put_in(held: &mut Held, worker: u32, new: Prepared)
-    requires room { HasRoom held.old }
-    requires few { held.old.rows + (arc_value new.batch).rows ≤ 2 ^ 40 }
-    ensures { IsPut worker new held.old held.new }
-{
-    let Prepared {
-        batch,
-        batch_stats,
-        stats,
-        dictionaries,
-    } = new;
-    let rows = batch.rows();
-    held.batches.push_reserved(batch);
-    held.batch_stats.push_reserved(batch_stats);
-    held.book.push_reserved(Entry { worker, rows });
-    held.stats = stats;
-    held.dictionaries = dictionaries;
-    held.rows += u64::from(rows);
-}
+impl Held {
+    /// Makes room for one batch more, so that putting it in can't fail.
+    pub(crate) fn reserve(&mut self) -> Result<(), NoMemory>
+        ensures room { OnOk result (HasRoom self.new) }
+        ensures same { IsSame self.old self.new }
+    {
+        self.batches.reserve(1)?;
+        self.batch_stats.reserve(1)?;
+        self.book.reserve(1)?;
+        Ok(())
+    }
 
-/// The same parts again: no column, no statistic and no text is copied.
-pub(crate) fn again(alloc: Global, held: &Held) -> Result<Held, NoMemory>
-    ensures { IfOk result (λ h. IsSame held.now h) }
-{
-    let mut book = Vec::with_capacity(alloc, held.book.len())?;
-    book.extend_from_slice(&held.book)?;
-    Ok(Held {
-        schema: held.schema.clone()?,
-        rows: held.rows,
-        batches: all_again(alloc, &held.batches)?,
-        batch_stats: all_again(alloc, &held.batch_stats)?,
-        stats: held.stats.clone()?,
-        dictionaries: dictionaries_again(alloc, &held.dictionaries)?,
-        book,
-    })
+    /// Puts a prepared batch of a worker in. No memory is taken.
+    pub(crate) fn put_in(&mut self, worker: u32, new: Prepared)
+        requires room { HasRoom self.old }
+        requires few { self.old.rows + (arc_value new.batch).rows ≤ 2 ^ 40 }
+        ensures { IsPut worker new self.old self.new }
+    {
+        let Prepared {
+            batch,
+            batch_stats,
+            stats,
+            dictionaries,
+        } = new;
+        let rows = batch.rows();
+        self.batches.push_reserved(batch);
+        self.batch_stats.push_reserved(batch_stats);
+        self.book.push_reserved(Entry { worker, rows });
+        self.stats = stats;
+        self.dictionaries = dictionaries;
+        self.rows += u64::from(rows);
+    }
+
+    /// The same parts, shared: no column, no statistic and no text is copied.
+    pub(crate) fn share(&self, alloc: Global) -> Result<Held, NoMemory>
+        ensures { IfOk result (λ h. IsSame self.now h) }
+    {
+        let mut book = Vec::with_capacity(alloc, self.book.len())?;
+        book.extend_from_slice(&self.book)?;
+        Ok(Held {
+            schema: self.schema.clone()?,
+            rows: self.rows,
+            batches: all_shared(alloc, &self.batches)?,
+            batch_stats: all_shared(alloc, &self.batch_stats)?,
+            stats: self.stats.clone()?,
+            dictionaries: dictionaries_shared(alloc, &self.dictionaries)?,
+            book,
+        })
+    }
 }
 
 /// The same values, shared.
-fn all_again<T: Drop>(alloc: Global, shared: &[Arc<T>]) -> Result<Vec<Arc<T>>, NoMemory>
-    ensures { IfOk result (λ v. map arc_value v.items ≡ map arc_value shared.now) }
+fn all_shared<T: Drop>(alloc: Global, values: &[Arc<T>]) -> Result<Vec<Arc<T>>, NoMemory>
+    ensures { IfOk result (λ v. map arc_value v.items ≡ map arc_value values.now) }
 {
-    let mut again = Vec::with_capacity(alloc, shared.len())?;
-    for value in shared {
-        again.push(value.clone()?)?;
+    let mut all = Vec::with_capacity(alloc, values.len())?;
+    for value in values {
+        all.push(value.clone()?)?;
     }
-    Ok(again)
+    Ok(all)
 }
 
 /// The same dictionaries, shared.
-fn dictionaries_again(
+fn dictionaries_shared(
     alloc: Global,
     dictionaries: &[Option<Arc<Words>>],
 ) -> Result<Vec<Option<Arc<Words>>>, NoMemory>
     ensures { IfOk result (λ v. map (option_map arc_value) v.items ≡ map (option_map arc_value) dictionaries.now) }
 {
-    let mut again = Vec::with_capacity(alloc, dictionaries.len())?;
+    let mut all = Vec::with_capacity(alloc, dictionaries.len())?;
     for dictionary in dictionaries {
-        again.push(match dictionary {
+        all.push(match dictionary {
             Some(words) => Some(words.clone()?),
             None => None,
         })?;
     }
-    Ok(again)
+    Ok(all)
 }

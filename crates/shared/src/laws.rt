@@ -1,7 +1,8 @@
 //! What holds of all histories.
 
 ghost use Rattle.std.specs.Prelude.{◌≡◌, ℕ, List, length};
-ghost use Rattle.shared.specs.History.{History, Table, book, cut, rows};
+ghost use Rattle.arrays.specs.Batch.{Table};
+ghost use Rattle.shared.specs.History.{History, book, cut, rows};
 ghost use Rattle.shared.specs.Lawful.{counted};
 
 /// The history that a book cuts out of a table has this book and these rows, where the book counts as many.

@@ -4,7 +4,6 @@
 mod admission;
 mod cause;
 mod columns;
-mod empty;
 pub mod entry;
 mod held;
 pub mod laws;

@@ -6,7 +6,7 @@ ghost use Rattle.arrays.specs.Seen.{Seen};
 ghost use Rattle.arrays.specs.Shape.{field_of, fields_of};
 ghost use Rattle.shared.specs.Cause.{null_cause, null_row};
 ghost use Rattle.shared.specs.Columns.{HasColumns};
-ghost use Rattle.shared.specs.History.{Table};
+ghost use Rattle.arrays.specs.Batch.{Table};
 
 use crate::refusal::Refusal;
 use arrays::{Array, Field, View};

@@ -1,6 +1,6 @@
 //! A table that grows, batch by batch.
 
-ghost use Rattle.std.specs.Prelude.{◌≡◌, ◌⊎◌, [], IfErr, IfOk, None, OnErr, OnOk, Some, length};
+ghost use Rattle.std.specs.Prelude.{◌≡◌, ◌⊎◌, [], IfErr, IfOk, None, OnErr, OnOk, Some, length, replicate};
 ghost use Rattle.std.specs.Arc.{arc_value};
 ghost use Rattle.shared.specs.Cause.{batch_cause, early_cause};
 ghost use Rattle.shared.specs.Contents.{Contents, admitted};
@@ -8,8 +8,7 @@ ghost use Rattle.shared.specs.Stored.{stored_fields};
 
 use crate::admission::prepare;
 use crate::cause::early_refusal;
-use crate::empty::{no_texts, nothing};
-use crate::held::{Held, again, put_in, reserve};
+use crate::held::Held;
 use crate::refusal::Refusal;
 use crate::version::Version;
 use arrays::{RecordBatch, Schema};
@@ -52,7 +51,7 @@ impl TableState {
         ensures { IfOk result (λ t. t ≡ record { fields = stored_fields schema; history = []; batches = [] }) }
     {
         let count = schema.len();
-        let held = nothing(alloc, schema)?;
+        let held = Held::empty(alloc, schema)?;
         let pools = no_texts(alloc, count)?;
         Ok(TableState { alloc, held, pools })
     }
@@ -72,9 +71,9 @@ impl TableState {
             return Err(refusal);
         }
         let number = self.held.book.len() as u32;
-        reserve(&mut self.held)?;
+        self.held.reserve()?;
         let new = prepare(self.alloc, &self.held, &mut self.pools, batch)?;
-        put_in(&mut self.held, worker, new);
+        self.held.put_in(worker, new);
         Ok(number)
     }
 
@@ -82,7 +81,18 @@ impl TableState {
     pub fn version(&self) -> Result<Arc<Version>, NoMemory>
         ensures { IfOk result (λ v. arc_value v ≡ self.now) }
     {
-        let version = Version::of(again(self.alloc, &self.held)?);
+        let version = Version::of(self.held.share(self.alloc)?);
         Ok(Arc::new(self.alloc, version)?)
     }
+}
+
+/// So many pools without texts.
+fn no_texts(alloc: Global, count: usize) -> Result<Vec<TextPool>, NoMemory>
+    ensures { IfOk result (λ v. v.items ≡ replicate count []) }
+{
+    let mut pools = Vec::with_capacity(alloc, count)?;
+    for _column in 0..count {
+        pools.push(TextPool::new(alloc))?;
+    }
+    Ok(pools)
 }

@@ -2,12 +2,12 @@
 
 ghost use Rattle.std.specs.Prelude.{ℕ, ◌≡◌, ◌<◌, ◌≤◌, ◌^◌, All, Some, length, map, option_map, slice_get, slice_index_or, []};
 ghost use Rattle.std.specs.Arc.{arc_value};
-ghost use Rattle.arrays.specs.Batch.{rows_of};
+ghost use Rattle.arrays.specs.Batch.{rows_of, column};
 ghost use Rattle.arrays.specs.Shape.{FieldShape, kind_of_field};
 ghost use Rattle.group.specs.Summary.{AreStats};
 ghost use Rattle.shared.specs.Cause.{IsLegal};
 ghost use Rattle.shared.specs.Held.{IsHeld, pair_of, show};
-ghost use Rattle.shared.specs.History.{book, column, rows};
+ghost use Rattle.shared.specs.History.{book, rows};
 ghost use Rattle.shared.specs.Lawful.{EndsWithEntry, IsStored, NamesFronts, dictionaries_of, table_of};
 
 use crate::entry::Entry;

@@ -1,15 +1,16 @@
 ghost use Rattle.std.specs.Prelude.{◌≡◌, ◌*◌, ◌<◌, ◌≤◌, length, false, Some, IfOk};
-ghost use Rattle.arrays.specs.Kind.{bytes_of, depth, dict, kind_of, same_kind};
-ghost use Rattle.arrays.specs.Fault.{is_validity_short};
+ghost use Rattle.types.specs.Kind.{bytes_of, depth, dict, kind_of, same_kind};
+ghost use Rattle.layout.specs.Fault.{is_validity_short};
 ghost use Rattle.arrays.specs.Made.{AreTexts, show_bits, show_lists, show_numbers, show_texts};
-ghost use Rattle.arrays.specs.Offsets.{AreOffsets};
-ghost use Rattle.arrays.specs.Reading.{reading};
-ghost use Rattle.arrays.specs.Checked.{checked};
+ghost use Rattle.layout.specs.Offsets.{AreOffsets};
+ghost use Rattle.layout.specs.Reading.{reading};
+ghost use Rattle.layout.specs.Checked.{checked};
 
 use super::Array;
-use crate::types::{DataType, Field, IntType, RawArray};
 use colbits::{Buffer, NoMemory};
+use layout::RawArray;
 use std::alloc::Global;
+use types::{DataType, Field, IntType};
 
 // Arrays of parts that are known to be lawful: nothing is checked.
 impl Array {

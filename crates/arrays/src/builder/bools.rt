@@ -1,7 +1,7 @@
 //! A column of truth values in the making.
 
 ghost use Rattle.std.specs.Prelude.{◌≡◌, ◌<◌, [], ◌∷◌, ◌++◌, length, IfOk, OnErr, OnOk};
-ghost use Rattle.arrays.specs.Kind as kind;
+ghost use Rattle.types.specs.Kind as kind;
 ghost use Rattle.arrays.specs.Shown.{shown};
 ghost use Rattle.arrays.specs.Slot.{item_of_bool};
 
@@ -22,8 +22,8 @@ pub struct BoolBuilder {
 
 impl Model for BoolBuilder {
     ghost use Rattle.std.specs.Prelude.{◌≡◌, List, length};
-    ghost use Rattle.arrays.specs.Item.{Item};
-    ghost use Rattle.arrays.specs.Code.{items_code};
+    ghost use Rattle.layout.specs.Item.{Item};
+    ghost use Rattle.layout.specs.Code.{items_code};
     ghost use Rattle.arrays.specs.Growing.{bools_where};
 
     ghost Value = { List Item };

@@ -1,18 +1,18 @@
 //! A column of lists in the making.
 
 ghost use Rattle.std.specs.Prelude.{◌≡◌, ◌<◌, ◌≤◌, ℕ, Option, [], ◌∷◌, ◌++◌, false, length, IfErr, IfOk, OnErr, OnOk};
-ghost use Rattle.arrays.specs.Kind as kind;
-ghost use Rattle.arrays.specs.Kind.{depth, dict, kind_of, same_kind};
+ghost use Rattle.types.specs.Kind as kind;
+ghost use Rattle.types.specs.Kind.{depth, dict, kind_of, same_kind};
 ghost use Rattle.arrays.specs.Lengths.{IsBuildFault, cut, is_past, total};
 ghost use Rattle.arrays.specs.Shown.{shown};
 
 use super::fault::BuildFault;
 use super::offsets::OffsetsBuilder;
 use crate::array::Array;
-use crate::types::Field;
 use colbits::NoMemory;
 use std::alloc::Global;
 use std::marker::Model;
+use types::Field;
 
 /// A column of lists in the making, of which the lengths are told: their offsets begin at 0, and a null has no
 /// items. The items come as an array at the end.

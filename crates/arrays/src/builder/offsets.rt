@@ -6,11 +6,11 @@ ghost use Rattle.arrays.specs.Lengths.{IsBuildFault, is_past, total};
 
 use super::fault::BuildFault;
 use super::validity::ValidityBuilder;
-use crate::integer::Integer;
 use crate::validity::buffer_of;
 use colbits::{Buffer, NoMemory};
 use std::alloc::Global;
 use std::marker::Model;
+use types::Integer;
 
 /// The most bytes or items that 32-bit offsets count.
 pub(crate) const MOST: usize = 2147483647;

@@ -2,8 +2,8 @@
 
 ghost use Rattle.std.specs.Prelude.{◌≡◌, ◌<◌, ◌≤◌, [], ◌∷◌, ◌++◌, length, IfErr, IfOk, OnErr, OnOk};
 ghost use Rattle.std.specs.Option.{option_copied};
-ghost use Rattle.arrays.specs.Item as item;
-ghost use Rattle.arrays.specs.Kind as kind;
+ghost use Rattle.layout.specs.Item as item;
+ghost use Rattle.types.specs.Kind as kind;
 ghost use Rattle.arrays.specs.Lengths.{IsBuildFault, is_past, text_bytes};
 ghost use Rattle.arrays.specs.Shown.{shown};
 ghost use Rattle.arrays.specs.Slot.{item_of_text};
@@ -25,8 +25,8 @@ pub struct TextBuilder {
 
 impl Model for TextBuilder {
     ghost use Rattle.std.specs.Prelude.{List};
-    ghost use Rattle.arrays.specs.Item.{Item};
-    ghost use Rattle.arrays.specs.Code.{items_code};
+    ghost use Rattle.layout.specs.Item.{Item};
+    ghost use Rattle.layout.specs.Code.{items_code};
     ghost use Rattle.arrays.specs.Growing.{AreTextsOf, cut_texts};
 
     ghost Value = { List Item };

@@ -2,15 +2,14 @@
 
 ghost use Rattle.std.specs.Prelude.{◌≡◌, ◌<◌, Some, All, true, length, slice_get, option_map, pos, IfSome};
 ghost use Rattle.std.specs.Arc.{arc_value};
-ghost use Rattle.arrays.specs.Builder.{item_of};
+ghost use Rattle.arrays.specs.Slot.{item_of};
 ghost use Rattle.arrays.specs.Dictionary.{codes_of, dictionary_of, encoded, entries_shown, is_code, looked_up};
-ghost use Rattle.arrays.specs.Kind as kind;
+ghost use Rattle.types.specs.Kind as kind;
 
-use crate::numbers::natural_at;
-use crate::types::{IntType, Width};
 use crate::view::{View, ViewType};
 use crate::words::Words;
 use std::sync::Arc;
+use types::{IntType, Width, natural_at};
 
 /// The type of codes.
 const INT32: IntType = IntType {

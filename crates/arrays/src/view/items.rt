@@ -2,18 +2,15 @@
 
 ghost use Rattle.std.specs.Prelude.{◌≡◌, ◌+◌, ◌*◌, ◌<◌, ◌≤◌, IfSome, IsUtf8, Some, false, length, slice_get, true};
 ghost use Rattle.std.specs.Option.{option_copied};
-ghost use Rattle.arrays.specs.Builder.{item_of};
-ghost use Rattle.arrays.specs.Fault.{is_negative};
-ghost use Rattle.arrays.specs.Kind as kind;
-ghost use Rattle.arrays.specs.Kind.{int32};
-ghost use Rattle.arrays.specs.Layout.{number_at};
-ghost use Rattle.arrays.specs.Offsets.{of_slot, start_of};
-ghost use Rattle.arrays.specs.Slot.{holds_at, is_int, is_list, is_text, item_of_bool, item_of_list, item_of_text};
+ghost use Rattle.arrays.specs.Slot.{item_of, holds_at, is_int, is_list, is_text, item_of_bool, item_of_list, item_of_text};
+ghost use Rattle.types.specs.Number.{is_negative, number_at};
+ghost use Rattle.types.specs.Kind as kind;
+ghost use Rattle.types.specs.Kind.{int32};
+ghost use Rattle.layout.specs.Offsets.{of_slot, start_of};
 
-use crate::numbers::{natural_at, number_at};
-use crate::types::IntType;
 use crate::view::{Texts, View, ViewType};
 use std::str::from_utf8_unchecked;
+use types::{IntType, natural_at, number_at};
 
 impl<'a> View<'a> {
     /// Number `i` of an integer view, none where the slot is null.

@@ -2,19 +2,19 @@
 
 ghost use Rattle.std.specs.Prelude.{◌≡◌, ◌+◌, ◌<◌, ◌≤◌, None, false, length, true};
 ghost use Rattle.colbits.specs.Slice.{slice};
-ghost use Rattle.arrays.specs.Held.{HasOffsets};
-ghost use Rattle.arrays.specs.Kind as kind;
-ghost use Rattle.arrays.specs.Kind.{depth, kind_of, same_kind};
-ghost use Rattle.arrays.specs.Offsets.{offsets_from};
-ghost use Rattle.arrays.specs.Reading.{fault, reading};
+ghost use Rattle.layout.specs.Held.{HasOffsets};
+ghost use Rattle.types.specs.Kind as kind;
+ghost use Rattle.types.specs.Kind.{depth, kind_of, same_kind};
+ghost use Rattle.layout.specs.Offsets.{offsets_from};
+ghost use Rattle.layout.specs.Reading.{fault, reading};
 ghost use Rattle.arrays.specs.Slot.{is_list};
 ghost use Rattle.arrays.specs.Values.{HasBits, HasLists, HasNumbers, HasTexts};
-ghost use Rattle.arrays.specs.declared.types.RawArray.{out-RawArray};
+ghost use Rattle.layout.specs.declared.raw.RawArray.{out-RawArray};
 
-use crate::check;
-use crate::types::{IntType, RawArray};
 use crate::view::{View, ViewType};
 use colbits::Bits;
+use layout::{RawArray, buffers};
+use types::IntType;
 
 /// Texts that lie behind one another in bytes.
 #[derive(Clone, Copy)]
@@ -42,7 +42,7 @@ impl<'a> View<'a> {
         ensures { HasNumbers ty result.now self.now }
     {
         let width = ty.bits.bytes();
-        let bytes = check::bytes_at(self.buffers, 1);
+        let bytes = buffers::bytes_at(self.buffers, 1);
         part(bytes, self.start * width, self.len * width)
     }
 
@@ -51,7 +51,7 @@ impl<'a> View<'a> {
         requires { self.now.kind ≡ kind.boolean }
         ensures { HasBits result self.now }
     {
-        Bits::new(check::bytes_at(self.buffers, 1), self.start, self.len)
+        Bits::new(buffers::bytes_at(self.buffers, 1), self.start, self.len)
     }
 
     /// The offsets and bytes of a view of texts. What lies under a null are any bytes.
@@ -59,10 +59,10 @@ impl<'a> View<'a> {
         requires { self.now.kind ≡ kind.utf8 }
         ensures { HasTexts result.offsets.now result.bytes.now self.now }
     {
-        let offsets = check::bytes_at(self.buffers, 1);
+        let offsets = buffers::bytes_at(self.buffers, 1);
         Texts {
             offsets: offsets_from(offsets, self.start, self.len),
-            bytes: check::bytes_at(self.buffers, 2),
+            bytes: buffers::bytes_at(self.buffers, 2),
         }
     }
 
@@ -75,7 +75,7 @@ impl<'a> View<'a> {
         ensures no_dict { same_kind result.child.kind kind.dict ≡ false }
         ensures depth { depth result.child.kind < 8 }
     {
-        let offsets = check::bytes_at(self.buffers, 1);
+        let offsets = buffers::bytes_at(self.buffers, 1);
         let children = self.children;
         Lists {
             offsets: offsets_from(offsets, self.start, self.len),

@@ -1,13 +1,12 @@
 //! What every view knows of its items.
 
 ghost use Rattle.std.specs.Prelude.{All, ◌≡◌, ℕ};
-ghost use Rattle.arrays.specs.Kind as kind;
-ghost use Rattle.arrays.specs.Layout.{number_at};
-ghost use Rattle.arrays.specs.Number.{IsOfType};
+ghost use Rattle.types.specs.Kind as kind;
+ghost use Rattle.types.specs.Number.{number_at, IsOfType};
 ghost use Rattle.arrays.specs.Typed.{IsItemOf};
 
-use crate::types::IntType;
 use crate::view::{View, ViewType};
+use types::IntType;
 
 impl<'a> View<'a> {
     /// Says that each item is null or of the view's kind, a text in UTF-8. Nothing is looked at, and nothing changes.

@@ -4,10 +4,9 @@ ghost use Rattle.std.specs.Prelude.{◌≡◌, ◌+◌, ◌<◌, ◌≤◌, ◌*
 ghost use Rattle.std.specs.Cmp.Lexicographic.{slice_cmp};
 ghost use Rattle.std.specs.Ordering.{bool_cmp, int_cmp, nat_cmp};
 ghost use Rattle.std.specs.declared.cmp.Ordering.{Ordering};
-ghost use Rattle.arrays.specs.Fault.{is_negative};
+ghost use Rattle.arrays.specs.Number.{is_negative, natural, number_at};
 ghost use Rattle.arrays.specs.Kind as kind;
 ghost use Rattle.arrays.specs.Kind.{bytes_of, int32};
-ghost use Rattle.arrays.specs.Layout.{natural, number_at};
 ghost use Rattle.arrays.specs.Offsets.{of_slot, start_of};
 ghost use Rattle.arrays.specs.Seen.{valid_in};
 ghost use Rattle.arrays.specs.Slot.{holds_at, is_text};

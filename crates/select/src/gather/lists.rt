@@ -2,9 +2,8 @@
 
 ghost use Rattle.std.specs.Prelude.{◌≡◌, ◌+◌, ◌*◌, ◌<◌, ◌≤◌, ◌++◌, ◌||◌, ◌∷◌, [], false, map, length, option_map, IfErr, IfOk, OnOk};
 ghost use Rattle.std.specs.List.{All};
-ghost use Rattle.arrays.specs.Fault.{is_negative};
+ghost use Rattle.arrays.specs.Number.{is_negative, number_at};
 ghost use Rattle.arrays.specs.Kind.{int32};
-ghost use Rattle.arrays.specs.Layout.{number_at};
 ghost use Rattle.arrays.specs.Lengths.{inner_items, is_past, list_length, total};
 ghost use Rattle.arrays.specs.Offsets.{start_of};
 ghost use Rattle.arrays.specs.Values.{HasLists};

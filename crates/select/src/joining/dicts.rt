@@ -3,7 +3,7 @@
 ghost use Rattle.std.specs.Prelude.{◌≡◌, ◌+◌, ◌++◌, ◌<◌, ◌≤◌, ◌||◌, IfErr, IfOk, OnOk, length, map, slice_index_or, true};
 ghost use Rattle.std.specs.List.{All};
 ghost use Rattle.std.specs.Option.{ForSome};
-ghost use Rattle.arrays.specs.Builder.{item_of};
+ghost use Rattle.arrays.specs.Slot.{item_of};
 ghost use Rattle.arrays.specs.Item.{null};
 ghost use Rattle.arrays.specs.Kind as kind;
 ghost use Rattle.arrays.specs.Kind.{int32};

@@ -8,7 +8,7 @@ ghost use Rattle.arrays.specs.Lengths.{inner_items, is_past, list_length, total}
 ghost use Rattle.arrays.specs.Item.{null};
 ghost use Rattle.arrays.specs.Seen.{Seen};
 ghost use Rattle.arrays.specs.Slot.{is_list};
-ghost use Rattle.arrays.specs.declared.types.Field.{out-Field};
+ghost use Rattle.types.specs.declared.data_type.Field.{out-Field};
 ghost use Rattle.select.specs.Big.{is_too_big};
 ghost use Rattle.select.specs.Children.{AreChildren, IsChild};
 ghost use Rattle.select.specs.Fault.{IsFull};

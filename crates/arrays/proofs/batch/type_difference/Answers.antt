@@ -1,6 +1,6 @@
 use Rattle.std.proofs.Common.{◌∙◌, ap, sym}
 use Rattle.arrays.specs.Batch.{differing_type}
-use Rattle.arrays.proofs.SchemaLemmas.{differing_type-fields}
+use Rattle.arrays.proofs.BatchLemmas.{differing_type-fields}
 use Rattle.arrays.proofs.batch.type_difference.Goals as goal
 
 pub returns : goal.returns

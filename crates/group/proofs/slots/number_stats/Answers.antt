@@ -3,7 +3,7 @@ use Rattle.std.specs.Int.{w128}
 use Rattle.std.proofs.lemmas.Int.{ints, to_z-of_z}
 use Rattle.arrays.specs.Item.{int, null}
 use Rattle.arrays.specs.Kind as kind
-use Rattle.arrays.specs.Layout.{number_at}
+use Rattle.arrays.specs.Number.{number_at}
 use Rattle.arrays.specs.Seen.{valid_at, valid_in}
 use Rattle.arrays.specs.Values.{HasNumbers}
 use Rattle.group.specs.Stats.{lesser, greater}

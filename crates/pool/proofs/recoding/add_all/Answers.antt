@@ -1,5 +1,5 @@
 use Rattle.std.proofs.Common.{inl, inr, ◌≡◌, ◌∙◌, ◌+◌, ◌++◌, ◌∷◌, [], ◌<◌, pos, take, Some, refl, sym, ap, subst}
-use Rattle.arrays.specs.Builder.{item_of}
+use Rattle.arrays.specs.Slot.{item_of}
 use Rattle.pool.specs.Texts.{firsts, texts_of, with_text, place_of}
 use Rattle.pool.proofs.RecodeLemmas.{Recoded, Recoded-none, Recoded-text, Recoded-null, pool-text, pool-null, full_in_all, told_of_all, to_z_small, starts_take, starts_longer}
 use Rattle.pool.proofs.recoding.add_all.Goals as goal

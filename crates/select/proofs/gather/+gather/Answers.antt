@@ -8,7 +8,7 @@ use Rattle.arrays.specs.Lengths.{cut, inner_items, list_length, total}
 use Rattle.arrays.specs.Seen.{Entries, Seen}
 use Rattle.arrays.specs.Shape.{field_of, kind_of_field}
 use Rattle.arrays.specs.Shown.{shown}
-use Rattle.arrays.proofs.ShapeLemmas.{kind_of_field-field_of}
+use Rattle.types.proofs.ShapeLemmas.{kind_of_field-field_of}
 use Rattle.select.specs.Chosen.{chosen}
 use Rattle.select.specs.Picked.{picked, IsPick}
 use Rattle.select.proofs.ChosenLemmas.{codes-picked, encoded-picked, items-chosen, kind-chosen, length-codes, list-injective}

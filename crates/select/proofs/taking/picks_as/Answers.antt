@@ -1,5 +1,5 @@
 use Rattle.std.proofs.Common.{◌<◌, ap, inl, length, option_map, arith}
-use Rattle.arrays.specs.Builder.{item_of}
+use Rattle.arrays.specs.Slot.{item_of}
 use Rattle.select.specs.declared.fault.SelectFault.TheVariants.{IndexOutOfRange}
 use Rattle.select.proofs.PickLemmas.{stored-row}
 use Rattle.select.proofs.SelectionLemmas.{Taken-all, Taken-inside, Taken-more, Taken-outside}

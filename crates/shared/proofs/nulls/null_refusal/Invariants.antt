@@ -1,9 +1,10 @@
 use Rattle.std.proofs.Common.{◌≡◌, map, drop}
 use Rattle.std.specs.List.{enumerate_from}
 use Rattle.arrays.specs.Shape.{fields_of}
-use Rattle.shared.specs.Cause.{first, null_cause, null_in}
+use Rattle.arrays.specs.First.{first}
+use Rattle.shared.specs.Cause.{null_cause, null_in}
 use Rattle.shared.specs.Columns.{HasColumns}
-use Rattle.shared.specs.History.{Table}
+use Rattle.arrays.specs.Batch.{Table}
 use Rattle.shared.proofs.nulls.null_refusal.Given as goal
 
 -- the fields so far have no null that they may not hold

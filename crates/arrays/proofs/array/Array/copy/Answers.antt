@@ -1,7 +1,7 @@
 use Rattle.std.proofs.Common.{◌∙◌, map, option_map, ap}
 use Rattle.std.specs.Arc.{arc_value}
-use Rattle.arrays.specs.Reading.{Reading, reading}
-use Rattle.arrays.proofs.CopyLemmas.{read_checked-copy}
+use Rattle.layout.specs.Reading.{Reading, reading}
+use Rattle.layout.proofs.CopyLemmas.{read_checked-copy}
 use Rattle.arrays.proofs.array.Array.copy.Goals as goal
 
 pub invariant_of-result : goal.invariant_of-result

@@ -1,10 +1,10 @@
 use Rattle.std.proofs.Common.{◌≡◌, ◌∙◌, map, None, Some, option_map, ap, sym}
 use Rattle.std.specs.Arc.{arc_value}
-use Rattle.arrays.specs.Kind.{Kind, kind_of}
-use Rattle.arrays.specs.Kind as kind
-use Rattle.arrays.specs.Seen.{Seen}
-use Rattle.arrays.specs.Reading.{reading, read_parts}
-use Rattle.arrays.specs.Checked.{checked}
+use Rattle.types.specs.Kind.{Kind, kind_of}
+use Rattle.types.specs.Kind as kind
+use Rattle.layout.specs.Seen.{Seen}
+use Rattle.layout.specs.Reading.{reading, read_parts}
+use Rattle.layout.specs.Checked.{checked}
 use Rattle.arrays.proofs.DictionaryLemmas.{kind_of-Dict, MakesDict-array}
 use Rattle.arrays.proofs.array.Array.dict.Goals as goal
 

@@ -1,7 +1,7 @@
 use Rattle.std.proofs.Common.{◌∙◌, ap}
-use Rattle.arrays.specs.Kind as kind
-use Rattle.arrays.specs.Reading.{Reading}
-use Rattle.arrays.proofs.ShapeLemmas.{kind_of-Bool}
+use Rattle.types.specs.Kind as kind
+use Rattle.layout.specs.Reading.{Reading}
+use Rattle.types.proofs.ShapeLemmas.{kind_of-Bool}
 use Rattle.arrays.proofs.MadeLemmas.{read_bits, read_same, show_read_bits}
 use Rattle.arrays.proofs.array.Array.from_bits.Goals as goal
 

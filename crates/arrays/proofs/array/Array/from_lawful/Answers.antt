@@ -1,6 +1,6 @@
 use Rattle.std.proofs.Common.{option_map}
 use Rattle.std.specs.Arc.{arc_value}
-use Rattle.arrays.proofs.LawfulLemmas.{dictionary_raw, MakesArray-raw}
+use Rattle.layout.proofs.LawfulLemmas.{dictionary_raw, MakesArray-raw}
 use Rattle.arrays.proofs.array.Array.from_lawful.Goals as goal
 
 pub shared-requires : goal.shared-requires

@@ -1,9 +1,9 @@
 use Rattle.std.proofs.Common.{◌∙◌, ap}
-use Rattle.arrays.specs.declared.types.Field.{Field}
-use Rattle.arrays.specs.Kind as kind
-use Rattle.arrays.specs.Kind.{kind_of}
-use Rattle.arrays.specs.Reading.{Reading}
-use Rattle.arrays.proofs.ShapeLemmas.{kind_of-List}
+use Rattle.types.specs.declared.data_type.Field.{Field}
+use Rattle.types.specs.Kind as kind
+use Rattle.types.specs.Kind.{kind_of}
+use Rattle.layout.specs.Reading.{Reading}
+use Rattle.types.proofs.ShapeLemmas.{kind_of-List}
 use Rattle.arrays.proofs.ListArrays.{read_lists, read_over, show_read_lists}
 use Rattle.arrays.proofs.array.Array.from_list.Goals as goal
 

@@ -1,7 +1,7 @@
 use Rattle.std.proofs.Common.{◌∙◌, ap}
-use Rattle.arrays.specs.Kind as kind
-use Rattle.arrays.specs.Reading.{Reading}
-use Rattle.arrays.proofs.ShapeLemmas.{kind_of-Utf8}
+use Rattle.types.specs.Kind as kind
+use Rattle.layout.specs.Reading.{Reading}
+use Rattle.types.proofs.ShapeLemmas.{kind_of-Utf8}
 use Rattle.arrays.proofs.MadeLemmas.{read_same, read_texts, show_read_texts}
 use Rattle.arrays.proofs.array.Array.from_texts.Goals as goal
 

@@ -1,9 +1,9 @@
 use Rattle.std.proofs.Common.{◌∙◌, None, ap}
-use Rattle.arrays.specs.Kind as kind
-use Rattle.arrays.specs.Kind.{same_kind}
-use Rattle.arrays.specs.Seen.{Seen}
-use Rattle.arrays.specs.Checked.{checked}
-use Rattle.arrays.proofs.FirstFaultLemmas.{reading-roll}
+use Rattle.types.specs.Kind as kind
+use Rattle.types.specs.Kind.{same_kind}
+use Rattle.layout.specs.Seen.{Seen}
+use Rattle.layout.specs.Checked.{checked}
+use Rattle.layout.proofs.FirstFaultLemmas.{reading-roll}
 use Rattle.arrays.proofs.ListArrays.{read-wordless}
 use Rattle.arrays.proofs.array.Array.into_raw.Goals as goal
 

@@ -1,8 +1,8 @@
 use Rattle.std.proofs.Common.{map, option_map}
 use Rattle.std.specs.Arc.{arc_value}
-use Rattle.arrays.specs.Kind.{kind_of}
-use Rattle.arrays.specs.Reading.{reading}
-use Rattle.arrays.specs.Checked.{checked}
+use Rattle.types.specs.Kind.{kind_of}
+use Rattle.layout.specs.Reading.{reading}
+use Rattle.layout.specs.Checked.{checked}
 use Rattle.arrays.proofs.DictionaryLemmas.{IsTexts-array}
 use Rattle.arrays.proofs.array.Array.into_texts.Goals as goal
 

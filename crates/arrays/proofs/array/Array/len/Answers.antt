@@ -1,10 +1,10 @@
 use Rattle.std.proofs.Common.{◌∙◌, map, length, None, option_map, ap, sym}
 use Rattle.std.specs.Arc.{arc_value}
-use Rattle.arrays.specs.Kind.{kind_of}
-use Rattle.arrays.specs.Seen.{Seen}
-use Rattle.arrays.specs.Reading.{reading}
-use Rattle.arrays.specs.Checked.{checked}
-use Rattle.arrays.proofs.ViewLemmas.{length-items}
+use Rattle.types.specs.Kind.{kind_of}
+use Rattle.layout.specs.Seen.{Seen}
+use Rattle.layout.specs.Reading.{reading}
+use Rattle.layout.specs.Checked.{checked}
+use Rattle.layout.proofs.SeenLemmas.{length-items}
 use Rattle.arrays.proofs.array.Array.len.Goals as goal
 
 pub returns : goal.returns

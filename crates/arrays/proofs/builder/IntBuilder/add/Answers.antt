@@ -2,7 +2,7 @@ use Rattle.std.proofs.Common.{◌∙◌, ap, arith, length, sym, subst}
 use Rattle.std.specs.Int.{w128}
 use Rattle.std.proofs.lemmas.Int.{to_z-of_z}
 use Rattle.arrays.specs.Column.{Column}
-use Rattle.arrays.specs.Number.{IsOfType}
+use Rattle.types.specs.Number.{IsOfType}
 use Rattle.arrays.proofs.BuilderLemmas.{length-built, tried}
 use Rattle.arrays.proofs.builder.IntBuilder.add.Goals as goal
 

@@ -2,10 +2,11 @@ use Rattle.std.proofs.Common.{◌≡◌, ◌∙◌, ◌++◌, ap, arith, cond, l
 use Rattle.std.specs.Int.{w128}
 use Rattle.std.proofs.lemmas.Int.{to_z-of_z}
 use Rattle.std.proofs.lemmas.List.{append-nil}
-use Rattle.arrays.specs.Builder.{item_of, numbers_where}
-use Rattle.arrays.specs.Item.{int, null}
-use Rattle.arrays.specs.Layout.{number_at}
-use Rattle.arrays.specs.Seen.{valid_in}
+use Rattle.arrays.specs.Slot.{item_of}
+use Rattle.arrays.specs.Builder.{numbers_where}
+use Rattle.layout.specs.Item.{int, null}
+use Rattle.types.specs.Number.{number_at}
+use Rattle.layout.specs.Seen.{valid_in}
 use Rattle.arrays.proofs.BuilderLemmas.{FitsSigned-bounded, item_of-null, item_of-valid, length-numbers_where, numbers_where-none, slot_more}
 use Rattle.arrays.proofs.builder.IntBuilder.extended_by_slot.Goals as goal
 use Rattle.arrays.proofs.builder.IntBuilder.extended_by_slot.Goals.{then-is_valid, else-is_valid}

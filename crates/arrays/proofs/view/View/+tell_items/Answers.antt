@@ -1,13 +1,12 @@
 use Rattle.std.proofs.Common.{◌≡◌, All, List, ap, length, map, subst, sym}
 use Rattle.arrays.specs.Dictionary.{looked_up}
-use Rattle.arrays.specs.Item.{Item, boolean, int}
-use Rattle.arrays.specs.Kind as kind
-use Rattle.arrays.specs.Kind.{Kind}
-use Rattle.arrays.specs.Layout.{number_at}
-use Rattle.arrays.specs.Offsets.{of_slot}
-use Rattle.arrays.specs.Item.{list, list_of}
+use Rattle.layout.specs.Item.{Item, boolean, int, list, list_of}
+use Rattle.types.specs.Kind as kind
+use Rattle.types.specs.Kind.{Kind}
+use Rattle.types.specs.Number.{number_at}
+use Rattle.layout.specs.Offsets.{of_slot}
 use Rattle.std.specs.Prelude.{slice_index_or, false}
-use Rattle.arrays.specs.Seen.{Seen}
+use Rattle.layout.specs.Seen.{Seen}
 use Rattle.arrays.specs.Typed.{IsItemOf}
 use Rattle.arrays.proofs.TypedLemmas.{codes-typed, list-typed, values-typed}
 use Rattle.arrays.proofs.view.View.+tell_items.Goals as goal

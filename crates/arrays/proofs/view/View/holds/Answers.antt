@@ -1,9 +1,9 @@
 use Rattle.std.proofs.Common.{◌≡◌, ◌∙◌, false, not, ap, sym, get_or}
 use Rattle.std.proofs.lemmas.Option.{get_or_from_slice_get}
-use Rattle.arrays.specs.Item.{null, is_null}
-use Rattle.arrays.specs.Kind as kind
-use Rattle.arrays.specs.Kind.{same_kind}
-use Rattle.arrays.specs.Seen.{Seen}
+use Rattle.layout.specs.Item.{null, is_null}
+use Rattle.types.specs.Kind as kind
+use Rattle.types.specs.Kind.{same_kind}
+use Rattle.layout.specs.Seen.{Seen}
 use Rattle.arrays.specs.Slot.{holds_at}
 use Rattle.arrays.proofs.DictionaryViews.{dict_kind, plain_kind}
 use Rattle.arrays.proofs.view.View.holds.Goals as goal

@@ -1,5 +1,5 @@
 use Rattle.std.proofs.Common.{◌<◌, ◌∙◌, length, ap, sym, arith}
-use Rattle.arrays.specs.Seen.{Seen, valid_at}
+use Rattle.layout.specs.Seen.{Seen, valid_at}
 use Rattle.arrays.proofs.ViewLemmas.{length-show_view}
 use Rattle.arrays.proofs.PartLemmas.{holds_plain}
 use Rattle.arrays.proofs.SlotLemmas.{valid-view}

@@ -1,8 +1,8 @@
 use Rattle.std.proofs.Common.{◌≡◌, ◌∙◌, ◌+◌, ◌-◌, ◌≤◌, Some, true, false, rules, ap, sym, length, arith}
 use Rattle.colbits.specs.Slice.{slice}
-use Rattle.arrays.specs.Item.{list, list_of}
-use Rattle.arrays.specs.Seen.{Seen, valid_at}
-use Rattle.arrays.specs.Offsets.{start_of}
+use Rattle.layout.specs.Item.{list, list_of}
+use Rattle.layout.specs.Seen.{Seen, valid_at}
+use Rattle.layout.specs.Offsets.{start_of}
 use Rattle.arrays.proofs.OffsetParts.{ends_within}
 use Rattle.arrays.proofs.PartLemmas.{null_slot, valid_slot}
 use Rattle.arrays.proofs.view.View.list_at.Goals as goal

@@ -1,12 +1,12 @@
 use Rattle.std.proofs.Common.{◌≡◌, ◌+◌, ◌<◌, ◌∙◌, None, false, ap, sym, subst}
-use Rattle.arrays.specs.declared.types.RawArray.{RawArray, out-RawArray}
-use Rattle.arrays.specs.Held.{HasOffsets}
-use Rattle.arrays.specs.Kind as kind
-use Rattle.arrays.specs.Kind.{kind_of, same_kind}
-use Rattle.arrays.specs.Layout.{bytes_at}
-use Rattle.arrays.specs.Offsets.{offsets_from}
-use Rattle.arrays.specs.Reading.{fault, reading}
-use Rattle.arrays.specs.Seen.{Seen}
+use Rattle.layout.specs.declared.raw.RawArray.{RawArray, out-RawArray}
+use Rattle.layout.specs.Held.{HasOffsets}
+use Rattle.types.specs.Kind as kind
+use Rattle.types.specs.Kind.{kind_of, same_kind}
+use Rattle.layout.specs.Layout.{bytes_at}
+use Rattle.layout.specs.Offsets.{offsets_from}
+use Rattle.layout.specs.Reading.{fault, reading}
+use Rattle.layout.specs.Seen.{Seen}
 use Rattle.arrays.specs.Values.{HasLists}
 use Rattle.arrays.proofs.PartLemmas.{child_of_view, lists_of_view}
 use Rattle.arrays.proofs.view.View.lists.Goals as goal

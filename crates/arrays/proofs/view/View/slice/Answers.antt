@@ -1,7 +1,8 @@
 use Rattle.std.proofs.Common.{◌∙◌, ap, sym, length, arith}
-use Rattle.arrays.specs.Seen.{Seen, part}
+use Rattle.layout.specs.Seen.{Seen, part}
 use Rattle.arrays.specs.View.{read_view}
-use Rattle.arrays.proofs.ViewLemmas.{length-show_view, part-part}
+use Rattle.arrays.proofs.ViewLemmas.{length-show_view}
+use Rattle.layout.proofs.SeenLemmas.{part-part}
 use Rattle.arrays.proofs.view.View.slice.Goals as goal
 
 pub overflow_add-result : goal.overflow_add-result

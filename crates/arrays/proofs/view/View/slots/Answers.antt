@@ -1,5 +1,5 @@
 use Rattle.std.proofs.Common.{◌∙◌, ap, sym, length}
-use Rattle.arrays.specs.Seen.{Seen}
+use Rattle.layout.specs.Seen.{Seen}
 use Rattle.arrays.proofs.ViewLemmas.{length-show_view}
 use Rattle.arrays.proofs.view.View.slots.Goals as goal
 

@@ -1,7 +1,7 @@
 use Rattle.std.proofs.Common.{ℕ}
-use Rattle.arrays.specs.Item.{text}
-use Rattle.arrays.specs.Kind as kind
-use Rattle.arrays.specs.Offsets.{of_slot}
+use Rattle.layout.specs.Item.{text}
+use Rattle.types.specs.Kind as kind
+use Rattle.layout.specs.Offsets.{of_slot}
 use Rattle.arrays.proofs.TypedLemmas.{values-typed}
 use Rattle.arrays.proofs.view.View.tell_texts.Goals as goal
 

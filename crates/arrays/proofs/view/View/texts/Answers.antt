@@ -1,7 +1,7 @@
 use Rattle.std.proofs.Common.{◌+◌, ◌∙◌, ap, sym, subst}
-use Rattle.arrays.specs.Held.{HasOffsets}
-use Rattle.arrays.specs.Layout.{bytes_at}
-use Rattle.arrays.specs.Offsets.{offsets_from}
+use Rattle.layout.specs.Held.{HasOffsets}
+use Rattle.layout.specs.Layout.{bytes_at}
+use Rattle.layout.specs.Offsets.{offsets_from}
 use Rattle.arrays.specs.Values.{HasTexts}
 use Rattle.arrays.proofs.PartLemmas.{texts_of_view}
 use Rattle.arrays.proofs.view.View.texts.Goals as goal

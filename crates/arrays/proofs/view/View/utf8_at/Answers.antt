@@ -1,6 +1,6 @@
 use Rattle.std.proofs.Common.{◌≡◌, ◌∙◌, ◌+◌, ◌≤◌, Some, true, false, length, rules, ap, sym, arith}
-use Rattle.arrays.specs.Item.{text}
-use Rattle.arrays.specs.Seen.{valid_at}
+use Rattle.layout.specs.Item.{text}
+use Rattle.layout.specs.Seen.{valid_at}
 use Rattle.arrays.proofs.OffsetParts.{ends_within}
 use Rattle.arrays.proofs.PartLemmas.{null_slot, valid_slot}
 use Rattle.arrays.proofs.view.View.utf8_at.Goals as goal

@@ -1,6 +1,6 @@
 use Rattle.std.proofs.Common.{◌∙◌, Some, option_map, ap, sym, arith}
 use Rattle.colbits.specs.Bit.{bits}
-use Rattle.arrays.specs.Seen.{Seen}
+use Rattle.layout.specs.Seen.{Seen}
 use Rattle.arrays.proofs.SlotLemmas.{bits-view, validity-view}
 use Rattle.arrays.proofs.view.View.validity.Goals as goal
 

@@ -1,9 +1,9 @@
 use Rattle.std.proofs.Common.{map, None, option_map, arith}
 use Rattle.std.specs.Arc.{arc_value}
-use Rattle.arrays.specs.Reading.{reading}
-use Rattle.arrays.specs.Checked.{read_checked, checked}
+use Rattle.layout.specs.Reading.{reading}
+use Rattle.layout.specs.Checked.{read_checked, checked}
 use Rattle.arrays.specs.ViewType.{view_kind}
-use Rattle.arrays.proofs.ViewLemmas.{part-all, Fits-seen, short-of_lawful}
+use Rattle.layout.proofs.SeenLemmas.{part-all, Fits-seen, short-of_lawful}
 use Rattle.arrays.proofs.view.View.whole.Goals as goal
 
 pub invariant_of-result : goal.invariant_of-result

@@ -1,10 +1,10 @@
 use Rattle.std.proofs.Common.{◌≡◌, ◌∙◌, None, ap}
-use Rattle.arrays.specs.Kind.{kind_of}
-use Rattle.arrays.specs.Reading.{Reading}
-use Rattle.arrays.specs.Checked.{read_checked}
+use Rattle.types.specs.Kind.{kind_of}
+use Rattle.layout.specs.Reading.{Reading}
+use Rattle.layout.specs.Checked.{read_checked}
 use Rattle.arrays.specs.ViewType.{view_kind}
-use Rattle.arrays.specs.declared.types.RawArray.{out-RawArray}
-use Rattle.arrays.proofs.ChildLemmas.{MakesArray-plain}
+use Rattle.layout.specs.declared.raw.RawArray.{out-RawArray}
+use Rattle.layout.proofs.ChildLemmas.{MakesArray-plain}
 use Rattle.arrays.proofs.view.parts.child_view.Goals as goal
 
 pub whole-requires : goal.whole-requires

@@ -1,4 +1,4 @@
-use Rattle.arrays.proofs.LawfulLemmas.{AreTexts-raw}
+use Rattle.layout.proofs.LawfulLemmas.{AreTexts-raw}
 use Rattle.arrays.proofs.words.Words.from_raw.Goals as goal
 
 pub invariant_of-result : goal.invariant_of-result

@@ -1,7 +1,7 @@
 use Rattle.std.proofs.Common.{◌∙◌, [], None, ap, sym}
-use Rattle.arrays.specs.Kind as kind
-use Rattle.arrays.specs.Seen.{Seen}
-use Rattle.arrays.proofs.ViewLemmas.{seen-kind}
+use Rattle.types.specs.Kind as kind
+use Rattle.layout.specs.Seen.{Seen}
+use Rattle.layout.proofs.SeenLemmas.{seen-kind}
 use Rattle.arrays.proofs.words.Words.tell_kind.Goals as goal
 
 pub returns : goal.returns

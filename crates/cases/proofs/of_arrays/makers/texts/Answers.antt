@@ -2,7 +2,8 @@ use Rattle.std.proofs.Common.{◌≡◌, ℕ, zero, suc, ◌<◌, [], ◌∷◌,
 use Rattle.std.specs.Str.{IsAscii}
 use Rattle.std.proofs.lemmas.Str.{IsUtf8-from_ascii, IsUtf8-nil}
 use Rattle.colbits.specs.Bit.{bit}
-use Rattle.arrays.specs.Layout.{number_at, is_valid_in}
+use Rattle.arrays.specs.Number.{number_at}
+use Rattle.arrays.specs.Layout.{is_valid_in}
 use Rattle.arrays.specs.Made.{AreTexts}
 use Rattle.arrays.specs.Offsets.{AreOffsets, of_slot}
 use Rattle.cases.proofs.LiteralOffsets.{AreOffsets-literal, offsets}

@@ -1,5 +1,5 @@
 use Rattle.std.proofs.Common.{◌≡◌, ◌∙◌, ◌<◌, arith, length, subst, sym, true}
-use Rattle.arrays.specs.Builder.{item_of}
+use Rattle.arrays.specs.Slot.{item_of}
 use Rattle.arrays.specs.Dictionary.{is_code}
 use Rattle.arrays.specs.Kind.{int32}
 use Rattle.arrays.specs.Number.{IsOfType}

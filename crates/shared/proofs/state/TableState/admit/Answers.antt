@@ -12,17 +12,17 @@ Early s b = early_cause s.fields s.history b ≡ None
 
 pub prepare-requires-clause-allowed : goal.prepare-requires-clause-allowed
 prepare-requires-clause-allowed c =
-    subst (λ (s : Contents). Early s c.args.batch.now) (sym (show-same c.self.inside.held c.reserve.new.held c.reserve.ensures.same)) (sym c.in_default.ensures)
+    subst (λ (s : Contents). Early s c.args.batch.now) (sym (show-same c.self.inside.held c.reserve.new.self c.reserve.ensures.same)) (sym c.in_default.ensures)
 
 pub put_in-requires-clause-few : goal.put_in-requires-clause-few
 put_in-requires-clause-few c =
-    ready-few c.reserve.new.held c.args.batch.now c.in_ok-new.new (Held-same c.self.inside.held c.reserve.new.held c.reserve.ensures.same c.self.invariant.0) c.in_ok-new.ensures.ok
+    ready-few c.reserve.new.self c.args.batch.now c.in_ok-new.new (Held-same c.self.inside.held c.reserve.new.self c.reserve.ensures.same c.self.invariant.0) c.in_ok-new.ensures.ok
 
 pub invariant_of-self-2 : goal.invariant_of-self-2
 invariant_of-self-2 c =
-    let is = Held-same c.self.inside.held c.reserve.new.held c.reserve.ensures.same c.self.invariant.0 in (
-      put-held c.reserve.new.held c.put_in.new.held c.args.batch.now c.args.worker c.in_ok-new.new is c.in_ok-new.ensures.ok c.put_in.ensures,
-      put-texts c.reserve.new.held c.put_in.new.held c.args.batch.now c.args.worker c.in_ok-new.new is c.in_ok-new.ensures.ok c.put_in.ensures c.prepare.new.pools.items c.in_ok-new.ensures.pools,
+    let is = Held-same c.self.inside.held c.reserve.new.self c.reserve.ensures.same c.self.invariant.0 in (
+      put-held c.reserve.new.self c.put_in.new.self c.args.batch.now c.args.worker c.in_ok-new.new is c.in_ok-new.ensures.ok c.put_in.ensures,
+      put-texts c.reserve.new.self c.put_in.new.self c.args.batch.now c.args.worker c.in_ok-new.new is c.in_ok-new.ensures.ok c.put_in.ensures c.prepare.new.pools.items c.in_ok-new.ensures.pools,
     )
 
 pub returns-clause-number : goal.returns-clause-number
@@ -31,6 +31,6 @@ returns-clause-number c =
 
 pub returns-clause-added : goal.returns-clause-added
 returns-clause-added c =
-    let is = Held-same c.self.inside.held c.reserve.new.held c.reserve.ensures.same c.self.invariant.0 in
-    put-shows c.reserve.new.held c.put_in.new.held c.args.batch.now c.args.worker c.in_ok-new.new is c.in_ok-new.ensures.ok c.put_in.ensures
-    ∙ ap (λ (s : Contents). admitted s c.args.worker c.args.batch.now) (show-same c.self.inside.held c.reserve.new.held c.reserve.ensures.same ∙ c.self.view_is)
+    let is = Held-same c.self.inside.held c.reserve.new.self c.reserve.ensures.same c.self.invariant.0 in
+    put-shows c.reserve.new.self c.put_in.new.self c.args.batch.now c.args.worker c.in_ok-new.new is c.in_ok-new.ensures.ok c.put_in.ensures
+    ∙ ap (λ (s : Contents). admitted s c.args.worker c.args.batch.now) (show-same c.self.inside.held c.reserve.new.self c.reserve.ensures.same ∙ c.self.view_is)

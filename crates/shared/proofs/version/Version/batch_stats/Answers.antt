@@ -6,7 +6,7 @@ use Rattle.std.specs.declared.vec.Vec.{Vec}
 use Rattle.std.proofs.lemmas.Option.{slice_get-get_or, slice_get_read}
 use Rattle.group.specs.declared.stats.ColumnStats.{ColumnStats}
 use Rattle.shared.specs.Contents.{Contents}
-use Rattle.shared.specs.History.{Table}
+use Rattle.arrays.specs.Batch.{Table}
 use Rattle.shared.proofs.HeldLemmas.{length-pieces, length-stats, piece-at, stats-at}
 use Rattle.shared.proofs.version.Version.batch_stats.Goals as goal
 

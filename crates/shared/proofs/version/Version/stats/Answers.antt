@@ -9,7 +9,8 @@ use Rattle.group.specs.Summary.{AreStats}
 use Rattle.group.specs.declared.stats.ColumnStats.{ColumnStats}
 use Rattle.shared.specs.Contents.{Contents}
 use Rattle.shared.specs.Held.{batches_of}
-use Rattle.shared.specs.History.{Table, column, rows}
+use Rattle.arrays.specs.Batch.{Table, column}
+use Rattle.shared.specs.History.{rows}
 use Rattle.shared.specs.Lawful.{table_of}
 use Rattle.shared.proofs.HeldLemmas.{length-stats, rows-shown, stats-at}
 use Rattle.shared.proofs.version.Version.stats.Goals as goal

@@ -1,6 +1,6 @@
 use Rattle.std.proofs.Common.{◌∙◌, ap}
 use Rattle.std.proofs.lemmas.Result.{IfOk-weaker}
-use Rattle.arrays.specs.Kind as kind
+use Rattle.types.specs.Kind as kind
 use Rattle.arrays.specs.Shown.{shown}
 use Rattle.arrays.proofs.GrowingLemmas.{bools-shown}
 use Rattle.arrays.proofs.builder.bools.BoolBuilder.finish.Goals as goal

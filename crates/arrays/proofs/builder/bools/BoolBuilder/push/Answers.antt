@@ -1,6 +1,6 @@
 use Rattle.std.proofs.Common.{◌∙◌, ◌++◌, ◌∷◌, [], false, length, ap, arith, cond, unwrap_or}
 use Rattle.arrays.specs.Growing.{bools_where}
-use Rattle.arrays.specs.Item.{null, boolean}
+use Rattle.layout.specs.Item.{null, boolean}
 use Rattle.arrays.proofs.GrowingLemmas.{length-bools_where, bools_where-push, bool_slot}
 use Rattle.arrays.proofs.builder.bools.BoolBuilder.push.Goals as goal
 

@@ -1,7 +1,7 @@
 use Rattle.std.proofs.Common.{◌≡◌, ◌∙◌, ◌+◌, ◌<◌, ◌≤◌, ◌++◌, ap, arith, inl, inr, length, refl}
 use Rattle.std.proofs.lemmas.Result.{err_from_is_err_and}
-use Rattle.arrays.specs.Kind.{int32}
-use Rattle.arrays.specs.Number.{bytes_of_number}
+use Rattle.types.specs.Kind.{int32}
+use Rattle.types.specs.Number.{bytes_of_number}
 use Rattle.arrays.proofs.LaidLemmas.{grown, past_by, within_by, length-lengths_where, wide}
 use Rattle.arrays.proofs.builder.offsets.OffsetsBuilder.push.Goals as goal
 

@@ -1,7 +1,7 @@
 use Rattle.std.proofs.Common.{◌∙◌, ap, subst, sym}
 use Rattle.std.proofs.lemmas.Result.{IfOk-weaker}
 use Rattle.arrays.specs.Growing.{cut_texts}
-use Rattle.arrays.specs.Kind as kind
+use Rattle.types.specs.Kind as kind
 use Rattle.arrays.specs.Made.{AreTexts}
 use Rattle.arrays.specs.Shown.{shown}
 use Rattle.arrays.proofs.LaidLemmas.{shown-texts, texts-laid}

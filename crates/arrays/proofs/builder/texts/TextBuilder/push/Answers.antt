@@ -1,5 +1,5 @@
 use Rattle.std.proofs.Common.{◌∙◌, ◌⊎◌, ◌≡◌, ◌++◌, ◌∷◌, [], None, Some, ap, arith, length, refl, subst, sym, true}
-use Rattle.arrays.specs.Item.{null}
+use Rattle.layout.specs.Item.{null}
 use Rattle.arrays.specs.Lengths.{IsBuildFault, is_past, text_bytes}
 use Rattle.std.proofs.lemmas.Result.{err_from_is_err_and}
 use Rattle.std.specs.Option.{option_copied}

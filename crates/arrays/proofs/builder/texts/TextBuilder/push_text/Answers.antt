@@ -1,6 +1,6 @@
 use Rattle.std.proofs.Common.{◌∙◌, ◌⊎◌, ◌≡◌, ◌++◌, ◌∷◌, [], Some, ap, arith, inl, inr, length, refl, rules, subst, sym, true}
 use Rattle.std.proofs.lemmas.Result.{err_from_is_err_and}
-use Rattle.arrays.specs.Item.{text}
+use Rattle.layout.specs.Item.{text}
 use Rattle.arrays.specs.Lengths.{IsBuildFault, is_past}
 use Rattle.arrays.proofs.CutLemmas.{bytes_with, length-texts, text_more}
 use Rattle.arrays.proofs.builder.texts.TextBuilder.push_text.Goals as goal

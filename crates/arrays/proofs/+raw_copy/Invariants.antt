@@ -1,7 +1,0 @@
-use Rattle.std.proofs.Common.{◌≡◌, map, take}
-use Rattle.arrays.specs.Reading.{reading}
-use Rattle.arrays.proofs.+raw_copy.Given as goal
-
--- the children so far have their copies
-abbrev pub invariant-copies::children-loop-child : goal.invariant-copies::children-loop-child
-invariant-copies::children-loop-child l = map reading l.copied.items ≡ map reading (take l.child-index l.children)

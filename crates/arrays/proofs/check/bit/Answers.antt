@@ -1,9 +1,0 @@
-use Rattle.std.proofs.Common.{◌∙◌, sym, le-ltb}
-use Rattle.arrays.proofs.ByteLemmas.{bit-read, bit-past}
-use Rattle.arrays.proofs.check.bit.Goals as goal
-
-pub returns-then-k-bytes : goal.returns-then-k-bytes
-returns-then-k-bytes c = bit-read c.args.bytes.now c.args.k
-
-pub returns-else-k-bytes : goal.returns-else-k-bytes
-returns-else-k-bytes c = le-ltb _ _ c.if-k-bytes.false ∙ sym (bit-past c.args.bytes.now c.args.k c.if-k-bytes.false)

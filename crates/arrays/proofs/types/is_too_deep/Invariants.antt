@@ -1,7 +1,0 @@
-use Rattle.std.proofs.Common.{◌≡◌, ◌+◌}
-use Rattle.arrays.specs.Kind.{kind_of, depth}
-use Rattle.arrays.proofs.types.is_too_deep.Given as goal
-
--- so many lists are behind
-abbrev pub invariant-loop-level : goal.invariant-loop-level
-invariant-loop-level l = depth (kind_of l.ty) ≡ l._level + depth (kind_of l.inner)

@@ -1,0 +1,87 @@
+-- What holds of each slot of an array that has no fault of its own.
+use Rattle.std.proofs.Common.{◌≡◌, ◌∙◌, ℕ, zero, suc, ◌+◌, ◌-◌, ◌<◌, ◌≤◌, ℤ, pos, negsuc, int_lt, List, length, Bool, true, false, not, cond, nat_lt, Some, None, ap, refl, arith}
+use Rattle.std.proofs.lemmas.Bool.{ltb-false}
+use Rattle.std.specs.List.{position_or_len, range_with_len}
+use Rattle.std.proofs.lemmas.List.FromFn.{length-range_with_len}
+use Rattle.types.specs.Kind as kind
+use Rattle.types.specs.Kind.{Kind}
+use Rattle.layout.specs.Layout.{Buffers, bytes_at, offset_at, start_at}
+use Rattle.types.specs.Number.{natural}
+use Rattle.layout.specs.Fault.{Held, least_row, has_offsets, decreasing_row, is_past_end, child_length}
+
+-- ---- each row fails where none is told
+
+first_step : (test : ℕ → Bool) (a : ℕ) (b : Bool) (rest : ℕ) (n : ℕ) → suc n ≤ cond (not b) (1 + rest) 0 → (b ≡ false) × (n ≤ rest)
+first_step test a true rest n h = absurd (omega arith)
+first_step test a false rest n h = (refl, omega arith)
+
+fails_before : (test : ℕ → Bool) (a n : ℕ) → n ≤ position_or_len test (range_with_len a n) → (k : ℕ) → k < n → test (a + k) ≡ false
+fails_before test a zero h k below = absurd (omega arith)
+fails_before test a (suc n) h zero below =
+    ap test (omega arith) ∙ (first_step test a (test a) (position_or_len test (range_with_len (a + 1) n)) n h).0
+fails_before test a (suc n) h (suc k) below =
+    let rest = (first_step test a (test a) (position_or_len test (range_with_len (a + 1) n)) n h).1 in
+    ap test (omega arith) ∙ fails_before test (a + 1) n rest k (omega arith)
+
+none_within : (b : Bool) (place : ℕ) → cond b (Some place) None ≡ None → b ≡ false
+none_within true place h = cc
+none_within false place h = refl
+
+-- where no row is the least that passes, each fails
+pub fails-least_none : (test : ℕ → Bool) (n : ℕ) → least_row test n ≡ None → (k : ℕ) → k < n → test k ≡ false
+fails-least_none test n h k below =
+    let place = position_or_len test (range_with_len 0 n) in
+    let past : nat_lt place (length (range_with_len 0 n)) ≡ false = none_within (nat_lt place (length (range_with_len 0 n))) place h in
+    let long : n ≤ place = omega (arith, ltb-false place (length (range_with_len 0 n)) past, length-range_with_len 0 n) in
+    ap test (omega arith) ∙ fails_before test 0 n long k below
+
+-- ---- offsets rise
+
+natural-rises : (x y : ℤ) → int_lt y x ≡ false → natural x ≤ natural y
+natural-rises (pos a) (pos b) h = ltb-false b a h
+natural-rises (pos a) (negsuc b) h = cc
+natural-rises (negsuc a) (pos b) h = omega arith
+natural-rises (negsuc a) (negsuc b) h = omega arith
+
+-- a slot begins where the one before it ends, or after
+pub start-rises : (k : Kind) (n : ℕ) (buffers : Buffers) → has_offsets k ≡ true → decreasing_row k n buffers ≡ None
+    → (j : ℕ) → j < n → start_at buffers j ≤ start_at buffers (j + 1)
+start-rises kind.utf8 n buffers has none j below =
+    natural-rises (offset_at buffers j) (offset_at buffers (j + 1)) (fails-least_none (λ i. int_lt (offset_at buffers (i + 1)) (offset_at buffers i)) n none j below)
+start-rises (kind.list k) n buffers has none j below =
+    natural-rises (offset_at buffers j) (offset_at buffers (j + 1)) (fails-least_none (λ i. int_lt (offset_at buffers (i + 1)) (offset_at buffers i)) n none j below)
+start-rises (kind.int t) n buffers has none j below = cc
+start-rises kind.boolean n buffers has none j below = cc
+start-rises kind.dict n buffers has none j below = cc
+
+pub rises_by : (starts : ℕ → ℕ) (n : ℕ) → ((j : ℕ) → j < n → starts j ≤ starts (j + 1)) → (d j : ℕ) → j + d ≤ n → starts j ≤ starts (j + d)
+rises_by starts n h zero j within =
+    let same : starts j ≡ starts (j + 0) = ap starts (omega arith) in
+    omega arith
+rises_by starts n h (suc d) j within =
+    let here = h j (omega arith) in
+    let there = rises_by starts n h d (j + 1) (omega arith) in
+    let same : starts (j + 1 + d) ≡ starts (j + suc d) = ap starts (omega arith) in
+    omega arith
+
+-- each slot ends before the last one does
+pub start-le-last : (k : Kind) (n : ℕ) (buffers : Buffers) → has_offsets k ≡ true → decreasing_row k n buffers ≡ None
+    → (j : ℕ) → j ≤ n → start_at buffers j ≤ start_at buffers n
+start-le-last k n buffers has none j within =
+    let rise = rises_by (start_at buffers) n (start-rises k n buffers has none) (n - j) j (omega arith) in
+    let same : start_at buffers (j + (n - j)) ≡ start_at buffers n = ap (start_at buffers) (omega arith) in
+    omega arith
+
+-- the texts end within the bytes
+pub text_ends : (n : ℕ) (buffers : Buffers) (children : List Held) → decreasing_row kind.utf8 n buffers ≡ None → is_past_end kind.utf8 n buffers children ≡ false
+    → (j : ℕ) → j ≤ n → start_at buffers j ≤ length (bytes_at buffers 2)
+text_ends n buffers children none within j below =
+    let last = ltb-false (length (bytes_at buffers 2)) (start_at buffers n) within in
+    omega (arith, start-le-last kind.utf8 n buffers refl none j below)
+
+-- the lists end within the child
+pub list_ends : (k : Kind) (n : ℕ) (buffers : Buffers) (children : List Held) → decreasing_row (kind.list k) n buffers ≡ None → is_past_end (kind.list k) n buffers children ≡ false
+    → (j : ℕ) → j ≤ n → start_at buffers j ≤ child_length children
+list_ends k n buffers children none within j below =
+    let last = ltb-false (child_length children) (start_at buffers n) within in
+    omega (arith, start-le-last (kind.list k) n buffers refl none j below)

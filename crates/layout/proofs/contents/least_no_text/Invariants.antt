@@ -1,0 +1,6 @@
+use Rattle.std.proofs.Common.{◌≡◌, ℕ, ◌<◌, false}
+use Rattle.layout.specs.Fault.{is_no_text}
+use Rattle.layout.proofs.contents.least_no_text.Given as goal
+
+abbrev pub invariant-loop-j : goal.invariant-loop-j
+invariant-loop-j l = (k : ℕ) → k < l.j → is_no_text l.buffers k ≡ false

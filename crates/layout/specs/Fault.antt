@@ -1,0 +1,147 @@
+-- The faults of an array's parts, in their order.
+use Rattle.std.specs.Prelude.{ℕ, ◌+◌, ◌-◌, ◌*◌, ◌/◌, ◌&&◌, ◌||◌, ◌==◌, pos, int_lt, List, [], ◌∷◌, ◌++◌, take, drop, length, Bool, true, false, not, nat_lt, if◌then◌else◌, Option, Some, None, option_map, is_none, position, count_by}
+use Rattle.std.specs.List.{range_with_len, list_any}
+use Rattle.std.specs.Str.{is_utf8}
+use Rattle.types.specs.First.{first, when}
+use Rattle.colbits.specs.Slice.{slice}
+use Rattle.types.specs.Kind.{Kind, int, boolean, utf8, list, dict, bytes_of, depth, same_kind}
+use Rattle.types.specs.Number.{is_negative}
+use Rattle.layout.specs.Layout.{Buffers, held_at, bytes_at, is_valid, offset_at, start_at, length_at, code_at}
+use Rattle.layout.specs.declared.fault.LayoutFault.{LayoutFault}
+use Rattle.layout.specs.declared.fault.LayoutFault.TheVariants.{MissingBuffer, ExtraBuffer, BufferTooShort, OffsetNegative, OffsetDecreases, OffsetPastEnd, NullCountDiffers, NotUtf8, IndexPastDictionary, ChildDiffers, TooLong, TooDeep}
+
+-- What an array knows of its child and of its dictionary.
+pub record Held : Type 0 where
+  pub kind : Kind
+  pub length : ℕ
+
+-- ---- buffers
+
+-- How many positions the layout has.
+abbrev pub positions : Kind → ℕ
+positions utf8 = 3
+positions k = 2
+
+-- A position is missing, or holds none and isn't the validity.
+abbrev pub is_missing : Kind → Buffers → Bool
+is_missing k buffers = nat_lt (length buffers) (positions k) || list_any is_none (take (positions k - 1) (drop 1 buffers))
+
+-- How many bytes hold n bits.
+abbrev pub bytes_for : ℕ → ℕ
+bytes_for n = (n + 7) / 8
+
+-- The offsets of n slots are one more, save that none may stand for the one offset 0.
+abbrev pub are_offsets_short : ℕ → List ℕ → Bool
+are_offsets_short n offsets = nat_lt (length offsets) (4 * (n + 1)) && not ((n == 0) && (length offsets == 0))
+
+-- The bytes behind the validity are fewer than n slots need.
+abbrev pub is_data_short : Kind → ℕ → Buffers → Bool
+is_data_short (int t) n buffers = nat_lt (length (bytes_at buffers 1)) (n * bytes_of t.bits)
+is_data_short boolean n buffers = nat_lt (length (bytes_at buffers 1)) (bytes_for n)
+is_data_short utf8 n buffers = are_offsets_short n (bytes_at buffers 1)
+is_data_short (list k) n buffers = are_offsets_short n (bytes_at buffers 1)
+is_data_short dict n buffers = nat_lt (length (bytes_at buffers 1)) (n * 4)
+
+abbrev pub is_validity_short : ℕ → Option (List ℕ) → Bool
+is_validity_short n None = false
+is_validity_short n (Some bytes) = nat_lt (length bytes) (bytes_for n)
+
+-- ---- children and dictionary
+
+abbrev pub is_no_child : Kind → List Held → Bool
+is_no_child k [] = true
+is_no_child k (c ∷ []) = not (same_kind k c.kind) || same_kind k dict
+is_no_child k (c ∷ d ∷ cs) = true
+
+abbrev pub is_no_dictionary : Option Held → Bool
+is_no_dictionary None = true
+is_no_dictionary (Some d) = not (same_kind d.kind utf8)
+
+abbrev pub do_parts_differ : Kind → List Held → Option Held → Bool
+do_parts_differ (list k) children dictionary = is_no_child k children || not (is_none dictionary)
+do_parts_differ dict children dictionary = not (length children == 0) || is_no_dictionary dictionary
+do_parts_differ k children dictionary = not (length children == 0) || not (is_none dictionary)
+
+-- ---- offsets
+
+-- Whether the kind has offsets.
+abbrev pub has_offsets : Kind → Bool
+has_offsets utf8 = true
+has_offsets (list k) = true
+has_offsets k = false
+
+abbrev pub has_negative_offset : Kind → ℕ → Buffers → Bool
+has_negative_offset k n buffers = has_offsets k && list_any (λ j. is_negative (offset_at buffers j)) (range_with_len 0 (n + 1))
+
+-- The least of n rows that passes.
+abbrev pub least_row : (ℕ → Bool) → ℕ → Option ℕ
+least_row test n = position test (range_with_len 0 n)
+
+abbrev pub decreasing_row : Kind → ℕ → Buffers → Option ℕ
+decreasing_row k n buffers = if has_offsets k then least_row (λ j. int_lt (offset_at buffers (j + 1)) (offset_at buffers j)) n else None
+
+abbrev pub child_length : List Held → ℕ
+child_length [] = 0
+child_length (c ∷ cs) = c.length
+
+abbrev pub is_past_end : Kind → ℕ → Buffers → List Held → Bool
+is_past_end utf8 n buffers children = nat_lt (length (bytes_at buffers 2)) (start_at buffers n)
+is_past_end (list k) n buffers children = nat_lt (child_length children) (start_at buffers n)
+is_past_end k n buffers children = false
+
+-- ---- nulls, texts, codes
+
+-- How many of n slots aren't valid.
+abbrev pub null_count : ℕ → Buffers → ℕ
+null_count n buffers = count_by (λ j. not (is_valid buffers j)) (range_with_len 0 n)
+
+abbrev pub does_count_differ : Option ℕ → ℕ → Buffers → Bool
+does_count_differ None n buffers = false
+does_count_differ (Some stated) n buffers = not (stated == null_count n buffers)
+
+abbrev pub is_no_text : Buffers → ℕ → Bool
+is_no_text buffers j = is_valid buffers j && not (is_utf8 (slice (bytes_at buffers 2) (start_at buffers j) (length_at buffers j)))
+
+abbrev pub bad_text_row : Kind → ℕ → Buffers → Option ℕ
+bad_text_row utf8 n buffers = least_row (is_no_text buffers) n
+bad_text_row k n buffers = None
+
+abbrev pub entry_count : Option Held → ℕ
+entry_count None = 0
+entry_count (Some d) = d.length
+
+abbrev pub is_no_code : Buffers → ℕ → ℕ → Bool
+is_no_code buffers entries j = is_valid buffers j && (is_negative (code_at buffers j) || not (int_lt (code_at buffers j) (pos entries)))
+
+abbrev pub bad_code_row : Kind → ℕ → Buffers → Option Held → Option ℕ
+bad_code_row dict n buffers dictionary = least_row (is_no_code buffers (entry_count dictionary)) n
+bad_code_row k n buffers dictionary = None
+
+-- ---- the first fault
+
+-- The tests that come first: of lengths and shapes.
+abbrev pub shape_faults : Kind → ℕ → Buffers → List Held → Option Held → List (Option LayoutFault)
+shape_faults k n buffers children dictionary =
+    when (nat_lt 2147483647 n) TooLong
+    ∷ when (nat_lt 8 (depth k)) TooDeep
+    ∷ when (is_missing k buffers) MissingBuffer
+    ∷ when (nat_lt (positions k) (length buffers)) ExtraBuffer
+    ∷ when (do_parts_differ k children dictionary) ChildDiffers
+    ∷ when (is_validity_short n (held_at buffers 0) || is_data_short k n buffers) BufferTooShort
+    ∷ []
+
+-- The tests after them: of what the buffers hold.
+abbrev pub content_faults : Kind → ℕ → Option ℕ → Buffers → List Held → Option Held → List (Option LayoutFault)
+content_faults k n stated buffers children dictionary =
+    when (has_negative_offset k n buffers) OffsetNegative
+    ∷ option_map (λ row. OffsetDecreases row) (decreasing_row k n buffers)
+    ∷ when (is_past_end k n buffers children) OffsetPastEnd
+    ∷ when (does_count_differ stated n buffers) NullCountDiffers
+    ∷ option_map (λ row. NotUtf8 row) (bad_text_row k n buffers)
+    ∷ option_map (λ row. IndexPastDictionary row) (bad_code_row k n buffers dictionary)
+    ∷ []
+
+-- The first fault of an array itself, of n slots, with a stated null count or none.
+unfoldable pub own_fault : Kind → ℕ → Option ℕ → Buffers → List Held → Option Held → Option LayoutFault
+own_fault k n stated buffers children dictionary =
+    first (shape_faults k n buffers children dictionary ++ content_faults k n stated buffers children dictionary)

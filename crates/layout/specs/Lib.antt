@@ -1,0 +1,11 @@
+pub use Rattle.colbits.specs.Bit
+pub use Rattle.colbits.specs.Slice
+pub mod Item
+pub mod Layout
+pub mod Seen
+pub mod Fault
+pub mod Reading
+pub mod Checked
+pub mod Offsets
+pub mod Held
+pub mod Code

@@ -1,0 +1,85 @@
+//! Access to the buffers of an array, by position and slot.
+
+ghost use Rattle.std.specs.Prelude.{◌≡◌, ◌+◌, ◌*◌, ◌<◌, ◌≤◌};
+ghost use Rattle.std.specs.Option.{option_copied};
+ghost use Rattle.colbits.specs.Bit.{bit};
+ghost use Rattle.colbits.specs.Slice.{slice};
+ghost use Rattle.layout.specs.Held.{HasOffsets};
+ghost use Rattle.layout.specs.Layout.{bytes_at, held_at, is_valid, offset_at, start_at, length_at};
+
+use colbits::Buffer;
+use types::int32_at;
+
+/// The bytes of the buffer at a position of the layout, if it has one.
+pub fn held_at(buffers: &[Option<Buffer>], position: usize) -> Option<&[u8]>
+    ensures { option_copied result ≡ held_at buffers.now position }
+{
+    let buffer = buffers.get(position)?.as_ref()?;
+    Some(buffer.bytes())
+}
+
+/// The bytes at a position of the layout, none where there is no buffer.
+pub fn bytes_at(buffers: &[Option<Buffer>], position: usize) -> &[u8]
+    ensures { result.now ≡ bytes_at buffers.now position }
+{
+    held_at(buffers, position).unwrap_or(&[])
+}
+
+/// Bit `k` of the bytes, 0 where there are too few.
+pub(crate) fn bit(bytes: &[u8], k: usize) -> bool
+    ensures { result ≡ bit bytes.now k }
+{
+    k / 8 < bytes.len() && (bytes[k / 8] >> (k % 8)) & 1 == 1
+}
+
+/// Whether slot `j` is valid: its bit is 1, or there is no bitmap.
+pub fn is_valid(buffers: &[Option<Buffer>], j: usize) -> bool
+    ensures { result ≡ is_valid buffers.now j }
+{
+    match held_at(buffers, 0) {
+        Some(validity) => bit(validity, j),
+        None => true,
+    }
+}
+
+/// Offset `j` of a text or list array: 0 where there are no bytes at all.
+pub(crate) fn offset_at(buffers: &[Option<Buffer>], j: usize) -> i32
+    requires { HasOffsets j (bytes_at buffers.now 1) }
+    ensures { result ≡ offset_at buffers.now j }
+{
+    let offsets = bytes_at(buffers, 1);
+    if offsets.is_empty() {
+        0
+    } else {
+        int32_at(offsets, j)
+    }
+}
+
+/// Where slot `j` of a text or list array begins, 0 for a negative offset.
+pub(crate) fn start_at(buffers: &[Option<Buffer>], j: usize) -> usize
+    requires { HasOffsets j (bytes_at buffers.now 1) }
+    ensures { result ≡ start_at buffers.now j }
+{
+    let offset = offset_at(buffers, j);
+    if offset < 0 { 0 } else { offset as usize }
+}
+
+/// The `len` bytes from `start` on, fewer where the bytes end before.
+fn part(bytes: &[u8], start: usize, len: usize) -> &[u8]
+    ensures { result.now ≡ slice bytes.now start len }
+{
+    let rest = &bytes[start.min(bytes.len())..];
+    &rest[..len.min(rest.len())]
+}
+
+/// The bytes of slot `j` of a text array.
+pub(crate) fn text_at(buffers: &[Option<Buffer>], j: usize) -> &[u8]
+    requires enough { HasOffsets (j + 1) (bytes_at buffers.now 1) }
+    requires short { j < 2147483648 }
+    ensures { result.now
+        ≡ slice (bytes_at buffers.now 2) (start_at buffers.now j) (length_at buffers.now j) }
+{
+    let start = start_at(buffers, j);
+    let end = start_at(buffers, j + 1);
+    part(bytes_at(buffers, 2), start, end.saturating_sub(start))
+}

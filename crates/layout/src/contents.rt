@@ -1,0 +1,220 @@
+//! The tests of what the buffers hold, one function a fault: each gives what its definition says, where
+//! the buffers are long enough.
+
+ghost use Rattle.std.specs.Prelude.{◌≡◌, ◌+◌, ◌*◌, ◌<◌, ◌≤◌, false, not, length, int_lt};
+ghost use Rattle.std.specs.List.{count_by, list_any, range_with_len};
+ghost use Rattle.colbits.specs.Bit.{bit};
+ghost use Rattle.layout.specs.Held.{HasOffsets, held_children, held_dictionary};
+ghost use Rattle.types.specs.Kind.{kind_of};
+ghost use Rattle.layout.specs.Fault.{bad_code_row, bad_text_row, decreasing_row, does_count_differ, has_negative_offset, has_offsets, is_data_short, is_no_code, is_no_text, is_past_end, least_row, null_count};
+ghost use Rattle.types.specs.Number.{is_negative};
+ghost use Rattle.layout.specs.Layout.{bytes_at, offset_at};
+
+use crate::buffers::{bit, bytes_at, held_at, is_valid, offset_at, start_at, text_at};
+use crate::raw::RawArray;
+use crate::shapes::{child_length, entry_count};
+use colbits::Buffer;
+use types::{DataType, int32_at};
+
+/// Whether offset `j` is below 0.
+fn is_negative(buffers: &[Option<Buffer>], j: usize) -> bool
+    requires { HasOffsets j (bytes_at buffers.now 1) }
+    ensures { result ≡ is_negative (offset_at buffers.now j) }
+{
+    offset_at(buffers, j) < 0
+}
+
+/// Whether the offset after slot `j`'s is below it.
+fn is_decreasing(buffers: &[Option<Buffer>], j: usize) -> bool
+    requires enough { HasOffsets (j + 1) (bytes_at buffers.now 1) }
+    requires short { j < 2147483648 }
+    ensures { result ≡ int_lt (offset_at buffers.now (j + 1)) (offset_at buffers.now j) }
+{
+    offset_at(buffers, j + 1) < offset_at(buffers, j)
+}
+
+/// Whether some offset of `n` slots is below 0.
+fn is_some_negative(buffers: &[Option<Buffer>], n: usize) -> bool
+    requires enough { HasOffsets n (bytes_at buffers.now 1) }
+    requires short { n < 2147483648 }
+    ensures { result ≡ list_any (λ j. is_negative (offset_at buffers.now j)) (range_with_len 0 (n + 1)) }
+{
+    for j in 0..n + 1 {
+        if is_negative(buffers, j) {
+            return true;
+        }
+    }
+    false
+}
+
+/// The least slot that ends before it begins.
+fn least_decreasing(buffers: &[Option<Buffer>], n: usize) -> Option<usize>
+    requires enough { HasOffsets n (bytes_at buffers.now 1) }
+    requires short { n < 2147483648 }
+    ensures { result
+        ≡ least_row (λ j. int_lt (offset_at buffers.now (j + 1)) (offset_at buffers.now j)) n }
+{
+    for j in 0..n {
+        if is_decreasing(buffers, j) {
+            return Some(j);
+        }
+    }
+    None
+}
+
+/// How many of the first `n` bits are 0.
+fn zero_bits(bytes: &[u8], n: usize) -> usize
+    ensures { result ≡ count_by (λ j. not (bit bytes.now j)) (range_with_len 0 n) }
+{
+    let mut zeros = 0;
+    for j in 0..n {
+        if !bit(bytes, j) {
+            zeros += 1;
+        }
+    }
+    zeros
+}
+
+/// How many of `n` slots aren't valid: none where there is no bitmap.
+fn null_count(buffers: &[Option<Buffer>], n: usize) -> usize
+    ensures { result ≡ null_count n buffers.now }
+{
+    match held_at(buffers, 0) {
+        Some(validity) => zero_bits(validity, n),
+        None => 0,
+    }
+}
+
+/// Whether slot `j` is valid and its bytes aren't UTF-8.
+fn is_no_text(buffers: &[Option<Buffer>], j: usize) -> bool
+    requires enough { HasOffsets (j + 1) (bytes_at buffers.now 1) }
+    requires short { j < 2147483648 }
+    ensures { result ≡ is_no_text buffers.now j }
+{
+    is_valid(buffers, j) && !simdutf8::is_utf8(text_at(buffers, j))
+}
+
+/// The least of `n` slots that is no text.
+fn least_no_text(buffers: &[Option<Buffer>], n: usize) -> Option<usize>
+    requires enough { HasOffsets n (bytes_at buffers.now 1) }
+    requires short { n < 2147483648 }
+    ensures { result ≡ least_row (is_no_text buffers.now) n }
+{
+    for j in 0..n {
+        if is_no_text(buffers, j) {
+            return Some(j);
+        }
+    }
+    None
+}
+
+/// Whether slot `j` is valid and its index is negative or not below the number of entries.
+fn is_no_code(buffers: &[Option<Buffer>], entries: u64, j: usize) -> bool
+    requires { 4 * j + 4 ≤ length (bytes_at buffers.now 1) }
+    ensures { result ≡ is_no_code buffers.now entries j }
+{
+    if !is_valid(buffers, j) {
+        return false;
+    }
+    let code = int32_at(bytes_at(buffers, 1), j);
+    code < 0 || code as u64 >= entries
+}
+
+/// The least of `n` slots whose index names no entry.
+fn least_no_code(buffers: &[Option<Buffer>], entries: u64, n: usize) -> Option<usize>
+    requires { n * 4 ≤ length (bytes_at buffers.now 1) }
+    ensures { result ≡ least_row (is_no_code buffers.now entries) n }
+{
+    for j in 0..n {
+        if is_no_code(buffers, entries, j) {
+            return Some(j);
+        }
+    }
+    None
+}
+
+/// Whether arrays of the type have offsets.
+fn has_offsets(ty: &DataType) -> bool
+    ensures { result ≡ has_offsets (kind_of ty.now) }
+{
+    matches!(ty, DataType::Utf8 | DataType::List(_))
+}
+
+/// Whether some offset is below 0.
+pub(crate) fn has_negative_offset(ty: &DataType, n: usize, buffers: &[Option<Buffer>]) -> bool
+    requires short { n < 2147483648 }
+    requires enough { is_data_short (kind_of ty.now) n buffers.now ≡ false }
+    ensures { result ≡ has_negative_offset (kind_of ty.now) n buffers.now }
+{
+    has_offsets(ty) && is_some_negative(buffers, n)
+}
+
+/// The least slot that ends before it begins.
+pub(crate) fn decreasing_row(ty: &DataType, n: usize, buffers: &[Option<Buffer>]) -> Option<usize>
+    requires short { n < 2147483648 }
+    requires enough { is_data_short (kind_of ty.now) n buffers.now ≡ false }
+    ensures { result ≡ decreasing_row (kind_of ty.now) n buffers.now }
+{
+    if has_offsets(ty) {
+        least_decreasing(buffers, n)
+    } else {
+        None
+    }
+}
+
+/// Whether the last offset is past the bytes, or past the child's length.
+pub(crate) fn is_past_end(
+    ty: &DataType,
+    n: usize,
+    buffers: &[Option<Buffer>],
+    children: &[RawArray],
+) -> bool
+    requires short { n < 2147483648 }
+    requires enough { is_data_short (kind_of ty.now) n buffers.now ≡ false }
+    ensures { result ≡ is_past_end (kind_of ty.now) n buffers.now (held_children children.now) }
+{
+    match ty {
+        DataType::Utf8 => bytes_at(buffers, 2).len() < start_at(buffers, n),
+        DataType::List(_) => child_length(children) < start_at(buffers, n) as u64,
+        _ => false,
+    }
+}
+
+/// Whether a null count is stated and isn't the number of slots that aren't valid.
+pub(crate) fn does_count_differ(stated: Option<u64>, n: usize, buffers: &[Option<Buffer>]) -> bool
+    ensures { result ≡ does_count_differ stated n buffers.now }
+{
+    match stated {
+        Some(stated) => stated != null_count(buffers, n) as u64,
+        None => false,
+    }
+}
+
+/// The least valid slot whose bytes aren't UTF-8.
+pub(crate) fn bad_text_row(ty: &DataType, n: usize, buffers: &[Option<Buffer>]) -> Option<usize>
+    requires short { n < 2147483648 }
+    requires enough { is_data_short (kind_of ty.now) n buffers.now ≡ false }
+    ensures { result ≡ bad_text_row (kind_of ty.now) n buffers.now }
+{
+    match ty {
+        DataType::Utf8 => least_no_text(buffers, n),
+        _ => None,
+    }
+}
+
+/// The least valid slot whose index names no entry of the dictionary.
+pub(crate) fn bad_code_row(
+    ty: &DataType,
+    n: usize,
+    buffers: &[Option<Buffer>],
+    dictionary: &Option<Box<RawArray>>,
+) -> Option<usize>
+    requires { is_data_short (kind_of ty.now) n buffers.now ≡ false }
+    ensures { result
+        ≡ bad_code_row (kind_of ty.now) n buffers.now (held_dictionary dictionary.now) }
+{
+    match ty {
+        DataType::Dict => least_no_code(buffers, entry_count(dictionary), n),
+        _ => None,
+    }
+}

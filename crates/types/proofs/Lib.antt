@@ -1,0 +1,5 @@
+pub mod ShapeLemmas
+pub mod SchemaLemmas
+pub mod EncodingLemmas
+pub mod ByteLemmas
+pub mod IntegerLemmas

@@ -1,0 +1,6 @@
+pub mod Kind
+pub mod Shape
+pub mod First
+pub mod Schema
+pub mod Number
+pub mod Code

@@ -1,0 +1,35 @@
+//! Integer types.
+
+ghost use Rattle.std.specs.Prelude.{◌≡◌};
+
+/// How many bits an integer has.
+#[derive(Clone, Copy, Debug, PartialEq, Eq)]
+pub enum Width {
+    W8,
+    W16,
+    W32,
+    W64,
+}
+
+impl Width {
+    ghost use Rattle.types.specs.Kind.{bytes_of};
+
+    /// How many bytes a number of this width takes.
+    pub fn bytes(self) -> usize
+        ensures { result ≡ bytes_of self }
+    {
+        match self {
+            Width::W8 => 1,
+            Width::W16 => 2,
+            Width::W32 => 4,
+            Width::W64 => 8,
+        }
+    }
+}
+
+/// An integer type: its width, and whether it is two's complement.
+#[derive(Clone, Copy, Debug, PartialEq, Eq)]
+pub struct IntType {
+    pub bits: Width,
+    pub signed: bool,
+}

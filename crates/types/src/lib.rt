@@ -1,0 +1,17 @@
+//! Types and fields, schemas, integer types and how a number lies in bytes. Users name `arrays`, which passes on the
+//! types; the free functions are for the crates of arrays alone.
+#![tactic(auto)]
+
+pub mod data_type;
+pub mod depth;
+pub mod int_type;
+pub mod integer;
+pub mod numbers;
+pub mod schema;
+
+pub use data_type::{DataType, Field, is_same};
+pub use depth::is_too_deep;
+pub use int_type::{IntType, Width};
+pub use integer::Integer;
+pub use numbers::{int32_at, natural_at, number_at, push_number};
+pub use schema::{Schema, SchemaFault};
