@@ -1,5 +1,5 @@
 -- The values of a view, as they lie in its buffers.
-use Rattle.std.proofs.Common.{◌≡◌, ◌∙◌, ℕ, ◌+◌, ◌*◌, ◌<◌, ◌≤◌, ◌&&◌, ◌||◌, List, [], ◌∷◌, map, slice_index_or, slice_get, get_or, Bool, true, false, not, length, cond, Some, None, Option, option_map, IsUtf8, ap, sym, refl, subst, arith, zero-add, ltb-false}
+use Rattle.std.proofs.Common.{◌≡◌, ◌∙◌, ℕ, ◌+◌, ◌*◌, ◌<◌, ◌≤◌, ◌&&◌, List, [], ◌∷◌, map, slice_index_or, slice_get, get_or, Bool, true, false, not, length, cond, Some, None, Option, option_map, IsUtf8, ap, sym, refl, subst, arith, zero-add, ltb-false}
 use Rattle.std.specs.List.{range_with_len}
 use Rattle.std.specs.Arc.{arc_value}
 use Rattle.std.specs.Str.{is_utf8}
@@ -33,7 +33,7 @@ use Rattle.arrays.proofs.ListLemmas.{map-range-below}
 use Rattle.layout.proofs.OffsetLemmas.{fails-least_none}
 use Rattle.arrays.proofs.OffsetParts.{rising-texts, rising-lists, has_offsets_part, start_part, length_part, AreOffsets-part}
 use Rattle.arrays.proofs.SlotLemmas.{seen-validity, slice-column, validity-part, valid-part, valid-view, whole}
-use Rattle.layout.proofs.SeenLemmas.{length-items, length-slice, seen-kind}
+use Rattle.layout.proofs.SeenLemmas.{length-items, length-slice, seen-kind, short-of_lawful}
 use Rattle.arrays.proofs.ViewLemmas.{length-show_view, kind-show_view}
 use Rattle.layout.proofs.LawfulLemmas.{either_false}
 
@@ -172,6 +172,13 @@ texts_of_view v s shows kind_is lawful within =
       });
     }
 
+-- the same of what was read
+pub texts_read : (v : Inside) (s : Seen) (from offsets bytes : List ℕ) → show_view v ≡ s → s.kind ≡ kind.utf8 → (read_view v).fault ≡ None → v.start + v.len ≤ v.total
+    → from ≡ bytes_at v.buffers.now 1 → offsets ≡ offsets_from from v.start v.len → bytes ≡ bytes_at v.buffers.now 2 → HasTexts offsets bytes s
+texts_read v s from offsets bytes shows kind_is lawful within from_is offsets_is bytes_is =
+    subst (λ o. HasTexts o bytes s) (sym (offsets_is ∙ ap (λ b. offsets_from b v.start v.len) from_is))
+    (subst (λ b. HasTexts (offsets_from (bytes_at v.buffers.now 1) v.start v.len) b s) (sym bytes_is) (texts_of_view v s shows kind_is lawful within).texts)
+
 -- ---- lists
 
 list_kind : (k : Kind) → is_list k ≡ true → (j : Kind) × (k ≡ kind.list j)
@@ -205,6 +212,7 @@ pub record ViewLists (v : Inside) (s : Seen) (raw : RawArray) : Type 0 where
   pub plain : same_kind (kind_of (out-RawArray raw).ty) kind.dict ≡ false
   pub no_dict : same_kind (reading raw).seen.kind kind.dict ≡ false
   pub depth : kind.depth (reading raw).seen.kind < 8
+  pub short : length (reading raw).seen.items ≤ 2147483647
   pub lists : HasLists (offsets_from (bytes_at v.buffers.now 1) v.start v.len) (reading raw).seen s
 
 seen-reading : (raw : RawArray) → ((reading raw).seen.kind ≡ (reading raw).kind) × (length (reading raw).seen.items ≡ (reading raw).length)
@@ -217,6 +225,17 @@ seen-reading raw =
       ap (λ (q : Reading). q.seen.kind) is ∙ seen-kind (kind_of r.ty) r.length r.null_count r.buffers.items children dictionary ∙ sym (ap (λ (q : Reading). q.kind) is),
       ap (λ (q : Reading). length q.seen.items) is ∙ length-items (kind_of r.ty) r.length r.null_count r.buffers.items children dictionary ∙ sym (ap (λ (q : Reading). q.length) is),
     )
+
+-- a lawful array has few items
+seen-short : (raw : RawArray) → fault raw ≡ None → length (reading raw).seen.items ≤ 2147483647
+seen-short raw lawful =
+    let r = out-RawArray raw in
+    let children = map reading r.children.items in
+    let dictionary = option_map (λ b. reading b.value) r.dictionary in
+    let is = reading-raw raw in
+    let short = short-of_lawful (kind_of r.ty) r.length r.null_count r.buffers.items children dictionary (sym (ap (λ (q : Reading). q.fault) is) ∙ lawful) in
+    let items = length-items (kind_of r.ty) r.length r.null_count r.buffers.items children dictionary in
+    omega (arith, short, ap (λ (q : Reading). length q.seen.items) is, items)
 
 pub lists_of_view : (v : Inside) (s : Seen) (d : RawArray) → show_view v ≡ s → is_list s.kind ≡ true → (read_view v).fault ≡ None → v.start + v.len ≤ v.total → ViewLists v s (slice_index_or v.children.now 0 d)
 lists_of_view v s d shows listed lawful within =
@@ -246,12 +265,21 @@ lists_of_view v s d shows listed lawful within =
       plain = child.plain;
       no_dict = ap (λ k. same_kind k kind.dict) seen.0 ∙ child.no_dict;
       depth = omega (arith, few, ap kind.depth seen_kind);
+      short = seen-short raw child.lawful;
       lists = record {
         kind = of.1 ∙ ap kind.list (sym child.kind_is ∙ sym seen.0);
         bounds = subst (λ n. AreOffsets n offsets (length (reading raw).seen.items)) (sym slots ∙ ap (λ (q : Seen). length q.items) shows) (subst (AreOffsets v.len offsets) most bounds);
         lists = subst (λ (q : Seen). q.items ≡ valid_values (λ j. list (list_of (slice (reading raw).seen.items (start_of offsets j) (length_of offsets j)))) q) shows (items-view v _ within (λ j h. value_is v (kind.list of.0) is j ∙ ap (λ xs. list (list_of xs)) (same j h)));
       };
     }
+
+-- the same of what was read
+pub lists_read : (v : Inside) (s child : Seen) (raw d : RawArray) (from offsets : List ℕ) → show_view v ≡ s → is_list s.kind ≡ true → (read_view v).fault ≡ None → v.start + v.len ≤ v.total
+    → from ≡ bytes_at v.buffers.now 1 → offsets ≡ offsets_from from v.start v.len → raw ≡ slice_index_or v.children.now 0 d → child ≡ (reading raw).seen → HasLists offsets child s
+lists_read v s child raw d from offsets shows listed lawful within from_is offsets_is raw_is child_is =
+    subst (λ o. HasLists o child s) (sym (offsets_is ∙ ap (λ b. offsets_from b v.start v.len) from_is))
+    (subst (λ q. HasLists (offsets_from (bytes_at v.buffers.now 1) v.start v.len) q s) (sym (child_is ∙ ap (λ (r : RawArray). (reading r).seen) raw_is))
+    (lists_of_view v s d shows listed lawful within).lists)
 
 -- ---- the item of one slot
 

@@ -17,7 +17,7 @@ use crate::truths::{Truths, array_of};
 use crate::validity::BothValid;
 use arrays::{Array, IntType, Integer, View, ViewType, Width};
 use colbits::NoMemory;
-use pairs::{Bools, Numbers, Pairs, Plain, Texts, Utf8s};
+use pairs::{Bools, Numbers, Pairs, Shown, Utf8s};
 use std::alloc::Global;
 use std::marker::PhantomData;
 use wanted::Wanted;
@@ -155,7 +155,7 @@ fn compare_texts(alloc: Global, op: CmpOp, a: &View<'_>, b: &View<'_>) -> Result
 {
     match (a.ty(), b.ty()) {
         (ViewType::Utf8, ViewType::Utf8) => compare_utf8s(alloc, op, a, b),
-        _ => decided(alloc, op, &Texts { a, b }),
+        _ => decided(alloc, op, &Shown { a, b }),
     }
 }
 
@@ -167,8 +167,8 @@ fn compare_utf8s(alloc: Global, op: CmpOp, a: &View<'_>, b: &View<'_>) -> Result
     ensures { IfOk result (λ r. r ≡ shown kind.boolean (compared op a.now.items b.now.items)) }
 {
     let pairs = Utf8s {
-        a: Plain::of(a),
-        b: Plain::of(b),
+        a: a.texts(),
+        b: b.texts(),
         valid: BothValid::of(a, b),
     };
     decided(alloc, op, &pairs)

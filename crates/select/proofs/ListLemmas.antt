@@ -1,5 +1,5 @@
 -- Lists of which rows of the child are picked.
-use Rattle.std.proofs.Common.{◌≡◌, ◌∙◌, ℕ, zero, suc, ◌+◌, ◌-◌, ◌<◌, ◌≤◌, ◌||◌, inl, inr, List, [], ◌∷◌, ◌++◌, length, take, drop, map, Bool, true, false, cond, Option, None, Some, option_map, Result, Ok, Err, IfErr, IsErrAnd, ap, sym, refl, arith, subst, get_or, append-nil, zero-add, length-append}
+use Rattle.std.proofs.Common.{◌≡◌, ◌∙◌, ℕ, zero, suc, ◌+◌, ◌<◌, ◌≤◌, ◌||◌, inl, inr, List, [], ◌∷◌, ◌++◌, length, take, drop, map, Bool, true, false, cond, Option, None, Some, option_map, Result, Ok, Err, IfErr, IsErrAnd, ap, sym, refl, arith, subst, get_or, append-nil, zero-add, length-append}
 use Rattle.std.specs.Prelude.{slice_get, All, unwrap_or}
 use Rattle.std.specs.List.{range_with_len}
 use Rattle.std.proofs.lemmas.List.{map-append, take_all, take_more, take-map, length-map, get_or-drop, length-drop}
@@ -12,10 +12,9 @@ use Rattle.std.proofs.lemmas.Option.{get_or_from_slice_get}
 use Rattle.colbits.specs.Slice.{slice}
 use Rattle.arrays.specs.Item.{Item, Items, null, int, boolean, text, list, list_of, items_of}
 use Rattle.arrays.specs.Lengths.{cut, inner_items, is_past, items_in, list_length, total}
-use Rattle.arrays.specs.Offsets.{of_slot, start_of}
+use Rattle.arrays.specs.Offsets.{length_of, of_slot, start_of}
 use Rattle.arrays.specs.Seen.{Seen, valid_in}
 use Rattle.arrays.specs.Values.{HasLists}
-use Rattle.arrays.proofs.OffsetParts.{ends_within}
 use Rattle.arrays.proofs.PartLemmas.{item_slot, null_slot, valid_slot}
 use Rattle.select.specs.declared.fault.SelectFault.{SelectFault}
 use Rattle.select.specs.Children.{IsList}
@@ -27,22 +26,15 @@ use Rattle.select.proofs.BigLemmas.{past-more}
 
 -- ---- one list
 
-pub range-item : (offsets : List ℕ) (child s : Seen) (i start end : ℕ) → HasLists offsets child s → i < length s.items → valid_in s.validity i ≡ true
-    → start ≡ start_of offsets i → end ≡ start_of offsets (i + 1) → list (list_of (slice child.items start (end - start))) ≡ picked_at s.items (Some i)
-range-item offsets child s i start end has below valid start_is end_is =
-    ap (λ a. list (list_of (slice child.items a (end - a)))) start_is
-    ∙ ap (λ b. list (list_of (slice child.items (start_of offsets i) (b - start_of offsets i)))) end_is
+pub range-item : (offsets : List ℕ) (child s : Seen) (i start count : ℕ) → HasLists offsets child s → i < length s.items → valid_in s.validity i ≡ true
+    → start ≡ start_of offsets i → count ≡ length_of offsets i → list (list_of (slice child.items start count)) ≡ picked_at s.items (Some i)
+range-item offsets child s i start count has below valid start_is count_is =
+    ap (λ a. list (list_of (slice child.items a count))) start_is
+    ∙ ap (λ n. list (list_of (slice child.items (start_of offsets i) n))) count_is
     ∙ sym (get_or_from_slice_get s.items i (list (list_of (of_slot offsets child.items i))) null (valid_slot _ s i has.lists below valid))
 
 pub range-none : (offsets : List ℕ) (child s : Seen) (i : ℕ) → HasLists offsets child s → i < length s.items → valid_in s.validity i ≡ false → null ≡ picked_at s.items (Some i)
 range-none offsets child s i has below invalid = sym (get_or_from_slice_get s.items i null null (null_slot _ s i has.lists below invalid))
-
-pub range-within : (offsets : List ℕ) (child s : Seen) (i start end : ℕ) → HasLists offsets child s → i < length s.items
-    → start ≡ start_of offsets i → end ≡ start_of offsets (i + 1) → start + (end - start) ≤ length child.items
-range-within offsets child s i start end has below start_is end_is =
-    let ends = ends_within (length s.items) offsets (length child.items) has.bounds (i + 1) (omega (arith, below)) in
-    let rises = has.bounds.rising i below in
-    omega (arith, ends, rises, start_is, end_is)
 
 -- ---- the items of a list
 

@@ -19,6 +19,7 @@ pub fn int32_at(bytes: &[u8], j: usize) -> i32
 }
 
 /// Number `j` of a buffer of offsets or indices, which isn't negative.
+#[inline(always)]
 pub fn natural_at(bytes: &[u8], j: usize) -> usize
     requires there { 4 * j + 4 ≤ length bytes.now }
     requires counted { is_negative (number_at int32 bytes.now j) ≡ false }

@@ -1,16 +1,13 @@
 //! The item of one slot.
 
-ghost use Rattle.std.specs.Prelude.{◌≡◌, ◌+◌, ◌*◌, ◌<◌, ◌≤◌, IfSome, IsUtf8, Some, false, length, slice_get, true};
+ghost use Rattle.std.specs.Prelude.{◌≡◌, ◌<◌, IfSome, Some, length, slice_get, true};
 ghost use Rattle.std.specs.Option.{option_copied};
 ghost use Rattle.arrays.specs.Slot.{item_of, holds_at, is_int, is_list, is_text, item_of_bool, item_of_list, item_of_text};
-ghost use Rattle.types.specs.Number.{is_negative, number_at};
 ghost use Rattle.types.specs.Kind as kind;
-ghost use Rattle.types.specs.Kind.{int32};
-ghost use Rattle.layout.specs.Offsets.{of_slot, start_of};
 
-use crate::view::{Texts, View, ViewType};
+use crate::view::{View, ViewType};
 use std::str::from_utf8_unchecked;
-use types::{IntType, natural_at, number_at};
+use types::{IntType, number_at};
 
 impl<'a> View<'a> {
     /// Number `i` of an integer view, none where the slot is null.
@@ -64,7 +61,8 @@ impl<'a> View<'a> {
         if !self.is_valid(i) {
             return None;
         }
-        Some(texts.get(i))
+        let text = texts.get(i);
+        Some(unsafe { from_utf8_unchecked(text) })
     }
 
     /// Text `i` of a view of texts, dictionary-encoded or not, none where there is no item.
@@ -116,27 +114,7 @@ impl<'a> View<'a> {
         if !self.is_valid(i) {
             return None;
         }
-        let start = natural_at(lists.offsets, i);
-        let end = natural_at(lists.offsets, i + 1);
-        Some(lists.child.slice(start, end - start))
-    }
-}
-
-impl<'a> Texts<'a> {
-    /// Text `i`, which was checked.
-    fn get(self, i: usize) -> &'a str
-        requires start { i * 4 + 4 ≤ length self.offsets.now }
-        requires end { (i + 1) * 4 + 4 ≤ length self.offsets.now }
-        requires counted { is_negative (number_at int32 self.offsets.now i) ≡ false }
-        requires counted_end { is_negative (number_at int32 self.offsets.now (i + 1)) ≡ false }
-        requires rising { start_of self.offsets.now i ≤ start_of self.offsets.now (i + 1) }
-        requires within { start_of self.offsets.now (i + 1) ≤ length self.bytes.now }
-        requires utf8 { IsUtf8 (of_slot self.offsets.now self.bytes.now i) }
-        ensures { result.now ≡ of_slot self.entry.offsets.now self.entry.bytes.now i }
-    {
-        let start = natural_at(self.offsets, i);
-        let end = natural_at(self.offsets, i + 1);
-        let bytes = &self.bytes[start..end];
-        unsafe { from_utf8_unchecked(bytes) }
+        let (start, len) = lists.range(i);
+        Some(lists.child.slice(start, len))
     }
 }

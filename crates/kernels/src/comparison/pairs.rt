@@ -1,16 +1,14 @@
 //! Two items at each place: numbers, truth values or texts.
 
-ghost use Rattle.std.specs.Prelude.{◌≡◌, ◌+◌, ◌<◌, ◌≤◌, ◌*◌, ◌&&◌, ℕ, Bool, true, false, length, slice_index_or, is_none, IsTrue};
+ghost use Rattle.std.specs.Prelude.{◌≡◌, ◌<◌, ◌≤◌, ◌*◌, ◌&&◌, ℕ, Bool, true, false, length, slice_index_or, is_none, IsTrue};
 ghost use Rattle.std.specs.Cmp.Lexicographic.{slice_cmp};
 ghost use Rattle.std.specs.Ordering.{bool_cmp, int_cmp, nat_cmp};
 ghost use Rattle.std.specs.declared.cmp.Ordering.{Ordering};
-ghost use Rattle.arrays.specs.Number.{is_negative, natural, number_at};
-ghost use Rattle.arrays.specs.Kind as kind;
-ghost use Rattle.arrays.specs.Kind.{bytes_of, int32};
-ghost use Rattle.arrays.specs.Offsets.{of_slot, start_of};
+ghost use Rattle.arrays.specs.Number.{number_at};
+ghost use Rattle.arrays.specs.Kind.{bytes_of};
+ghost use Rattle.arrays.specs.Offsets.{of_slot};
 ghost use Rattle.arrays.specs.Seen.{valid_in};
 ghost use Rattle.arrays.specs.Slot.{holds_at, is_text};
-ghost use Rattle.arrays.specs.Values.{HasTexts};
 ghost use Rattle.kernels.specs.Lift.{item_at};
 ghost use Rattle.kernels.specs.Order.{order};
 ghost use Rattle.kernels.specs.Wanted.{wants};
@@ -18,7 +16,7 @@ ghost use Rattle.kernels.specs.Wanted.{wants};
 use super::wanted::Wanted;
 use crate::validity::BothValid;
 use arrays::validity::is_valid;
-use arrays::{Integer, View};
+use arrays::{Integer, Texts, View};
 use colbits::Bits;
 use std::marker::PhantomData;
 
@@ -139,62 +137,11 @@ impl<'a, 'b> Pairs for Bools<'a, 'b> {
     }
 }
 
-/// Texts that lie behind one another in bytes, one for each slot.
-#[derive(Drop)]
-pub(crate) struct Plain<'a> {
-    pub(crate) offsets: &'a [u8],
-    pub(crate) bytes: &'a [u8],
-    pub(crate) slots: u32,
-    ghost size: { 4 * (slots + 1) ≤ length offsets.now },
-    ghost counted: { (j : ℕ) → j ≤ slots → is_negative (number_at int32 offsets.now j) ≡ false },
-    ghost rising: { (j : ℕ) → j < slots → start_of offsets.now j ≤ start_of offsets.now (j + 1) },
-    ghost ends: { (j : ℕ) → j ≤ slots → start_of offsets.now j ≤ length bytes.now },
-    ghost short: { slots ≤ 2147483647 },
-}
-
-impl<'a> Plain<'a> {
-    /// Those of a column.
-    pub(crate) fn of(view: &View<'a>) -> Plain<'a>
-        requires { view.now.kind ≡ kind.utf8 }
-        ensures texts { HasTexts result.offsets.now result.bytes.now view.now }
-        ensures slots { result.slots ≡ length view.now.items }
-    {
-        let texts = view.texts();
-        Plain {
-            offsets: texts.offsets,
-            bytes: texts.bytes,
-            slots: view.slots(),
-        }
-    }
-
-    /// The bytes of text `i`.
-    #[inline(always)]
-    fn get(&self, i: usize) -> &'a [u8]
-        requires { i < self.now.slots }
-        ensures { result.now ≡ of_slot self.now.offsets.now self.now.bytes.now i }
-    {
-        let start = natural_at(self.offsets, i);
-        let end = natural_at(self.offsets, i + 1);
-        &self.bytes[start..end]
-    }
-}
-
-/// Offset `j`, which isn't negative.
-#[inline(always)]
-fn natural_at(offsets: &[u8], j: usize) -> usize
-    requires there { j * 4 + 4 ≤ length offsets.now }
-    requires counted { is_negative (number_at int32 offsets.now j) ≡ false }
-    ensures { result ≡ natural (number_at int32 offsets.now j) }
-{
-    let offset = <i32 as Integer>::at(offsets, j);
-    offset as usize
-}
-
 /// Texts of which neither column is dictionary-encoded.
 #[derive(Drop)]
 pub(crate) struct Utf8s<'a, 'b> {
-    pub(crate) a: Plain<'a>,
-    pub(crate) b: Plain<'b>,
+    pub(crate) a: Texts<'a>,
+    pub(crate) b: Texts<'b>,
     pub(crate) valid: BothValid<'a, 'b>,
     ghost lengths: { a.slots ≡ b.slots },
 }
@@ -227,7 +174,7 @@ impl<'a, 'b> Pairs for Utf8s<'a, 'b> {
 
 /// Texts, dictionary-encoded or not.
 #[derive(Drop)]
-pub(crate) struct Texts<'a, 'b, 'c, 'd> {
+pub(crate) struct Shown<'a, 'b, 'c, 'd> {
     pub(crate) a: &'c View<'a>,
     pub(crate) b: &'d View<'b>,
     ghost a_is: { is_text a.now.kind ≡ true },
@@ -235,7 +182,7 @@ pub(crate) struct Texts<'a, 'b, 'c, 'd> {
     ghost lengths: { length a.now.items ≡ length b.now.items },
 }
 
-impl<'a, 'b, 'c, 'd> Pairs for Texts<'a, 'b, 'c, 'd> {
+impl<'a, 'b, 'c, 'd> Pairs for Shown<'a, 'b, 'c, 'd> {
     ghost count = { λ p. length p.a.now.items };
 
     ghost both = { λ p i. holds_at p.a.now i && holds_at p.b.now i };

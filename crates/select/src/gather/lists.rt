@@ -1,11 +1,8 @@
 //! Picked lists: how long they are, and the rows of the child that they hold.
 
-ghost use Rattle.std.specs.Prelude.{◌≡◌, ◌+◌, ◌*◌, ◌<◌, ◌≤◌, ◌++◌, ◌||◌, ◌∷◌, [], false, map, length, option_map, IfErr, IfOk, OnOk};
+ghost use Rattle.std.specs.Prelude.{◌≡◌, ◌+◌, ◌<◌, ◌++◌, ◌||◌, ◌∷◌, [], map, length, option_map, IfErr, IfOk, OnOk};
 ghost use Rattle.std.specs.List.{All};
-ghost use Rattle.arrays.specs.Number.{is_negative, number_at};
-ghost use Rattle.arrays.specs.Kind.{int32};
 ghost use Rattle.arrays.specs.Lengths.{inner_items, is_past, list_length, total};
-ghost use Rattle.arrays.specs.Offsets.{start_of};
 ghost use Rattle.arrays.specs.Values.{HasLists};
 ghost use Rattle.select.specs.Fault.{IsFull};
 ghost use Rattle.select.specs.Picked.{IsPick, picked, picked_at};
@@ -14,7 +11,7 @@ ghost use Rattle.select.specs.Ranges.{IsRange, ranged, rows_of};
 use crate::fault::SelectFault;
 use crate::picks::Picks;
 use arrays::validity::is_valid;
-use arrays::{Integer, ListBuilder, Lists, View};
+use arrays::{ListBuilder, Lists, View};
 use colbits::Bits;
 use std::alloc::Global;
 
@@ -33,6 +30,7 @@ pub(crate) fn spread_out(
     picks: &Picks,
 ) -> Result<Spread, SelectFault>
     requires lists { HasLists lists.now.offsets.now lists.now.child view.now }
+    requires slots { lists.now.slots ≡ length view.now.items }
     requires within { All (IsPick (length view.now.items)) picks.now }
     ensures lengths { IfOk result (λ s. s.lengths ≡ map list_length (picked view.now.items picks.now)) }
     ensures rows { IfOk result (λ s. picked lists.now.child.items s.rows ≡ inner_items (picked view.now.items picks.now)) }
@@ -80,6 +78,7 @@ fn range_at(
     pick: Option<usize>,
 ) -> Option<(usize, usize)>
     requires lists { HasLists lists.now.offsets.now lists.now.child view.now }
+    requires slots { lists.now.slots ≡ length view.now.items }
     requires valid { validity.now ≡ view.now.validity }
     requires pick { IsPick (length view.now.items) pick }
     ensures item { ranged lists.now.child.items result ≡ picked_at view.now.items pick }
@@ -87,22 +86,7 @@ fn range_at(
     ensures small { IsRange 2147483647 result }
 {
     match pick {
-        Some(i) if is_valid(validity, i) => {
-            let start = offset_at(lists.offsets, i);
-            let end = offset_at(lists.offsets, i + 1);
-            Some((start, end - start))
-        }
+        Some(i) if is_valid(validity, i) => Some(lists.range(i)),
         _ => None,
     }
-}
-
-/// Offset `j`, which isn't negative.
-fn offset_at(offsets: &[u8], j: usize) -> usize
-    requires there { 4 * (j + 1) ≤ length offsets.now }
-    requires counted { is_negative (number_at int32 offsets.now j) ≡ false }
-    ensures value { result ≡ start_of offsets.now j }
-    ensures small { result ≤ 2147483647 }
-{
-    let offset = <i32 as Integer>::at(offsets, j);
-    offset as usize
 }

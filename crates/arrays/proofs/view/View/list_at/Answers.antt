@@ -1,9 +1,8 @@
-use Rattle.std.proofs.Common.{◌≡◌, ◌∙◌, ◌+◌, ◌-◌, ◌≤◌, Some, true, false, rules, ap, sym, length, arith}
+use Rattle.std.proofs.Common.{◌≡◌, ◌∙◌, Some, true, false, rules, ap, sym}
 use Rattle.colbits.specs.Slice.{slice}
 use Rattle.layout.specs.Item.{list, list_of}
 use Rattle.layout.specs.Seen.{Seen, valid_at}
 use Rattle.layout.specs.Offsets.{start_of}
-use Rattle.arrays.proofs.OffsetParts.{ends_within}
 use Rattle.arrays.proofs.PartLemmas.{null_slot, valid_slot}
 use Rattle.arrays.proofs.view.View.list_at.Goals as goal
 
@@ -13,16 +12,6 @@ returns-then-not-is_valid-clause-items c =
     let null : valid_at s c.args.i ≡ false = search rules in
     null_slot _ s c.args.i c.lists-lists.ensures.value.lists c.requires.within null
 
-pub slice-requires : goal.slice-requires
-slice-requires c =
-    let s = c.args.self.now in
-    let offsets = c.lists-lists.result.offsets.now in
-    let bounds = c.lists-lists.ensures.value.bounds in
-    let below : c.args.i + 1 ≤ length s.items = omega (arith, c.requires.within) in
-    let end = ends_within (length s.items) offsets (length c.lists-lists.result.child.items) bounds (c.args.i + 1) below in
-    let rises = bounds.rising c.args.i c.requires.within in
-    omega (arith, end, rises, c.natural_at-start.ensures, c.natural_at-end.ensures)
-
 pub returns-clause-items : goal.returns-clause-items
 returns-clause-items c =
     let s = c.args.self.now in
@@ -30,6 +19,6 @@ returns-clause-items c =
     let offsets = c.lists-lists.result.offsets.now in
     let valid : valid_at s c.args.i ≡ true = search rules in
     valid_slot _ s c.args.i c.lists-lists.ensures.value.lists c.requires.within valid
-    ∙ ap (λ n. Some (list (list_of (slice child.items (start_of offsets c.args.i) (n - start_of offsets c.args.i))))) (sym c.natural_at-end.ensures)
-    ∙ ap (λ a. Some (list (list_of (slice child.items a (c.natural_at-end.result - a))))) (sym c.natural_at-start.ensures)
+    ∙ ap (λ n. Some (list (list_of (slice child.items (start_of offsets c.args.i) n)))) (sym c.range-start.ensures.count)
+    ∙ ap (λ a. Some (list (list_of (slice child.items a c.range-start.result.1)))) (sym c.range-start.ensures.start)
     ∙ ap (λ (q : Seen). Some (list (list_of q.items))) (sym c.slice.ensures)

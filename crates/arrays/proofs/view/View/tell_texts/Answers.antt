@@ -1,4 +1,3 @@
-use Rattle.std.proofs.Common.{ℕ}
 use Rattle.layout.specs.Item.{text}
 use Rattle.types.specs.Kind as kind
 use Rattle.layout.specs.Offsets.{of_slot}
@@ -6,4 +5,4 @@ use Rattle.arrays.proofs.TypedLemmas.{values-typed}
 use Rattle.arrays.proofs.view.View.tell_texts.Goals as goal
 
 pub returns : goal.returns
-returns c = values-typed kind.utf8 (λ j. text (of_slot c.texts.result.offsets.now c.texts.result.bytes.now j)) c.args.self.now c.texts.ensures.texts c.texts.ensures.utf8
+returns c = values-typed kind.utf8 (λ j. text (of_slot c.texts.result.offsets.now c.texts.result.bytes.now j)) c.args.self.now c.texts.ensures.texts.texts c.texts.ensures.texts.utf8

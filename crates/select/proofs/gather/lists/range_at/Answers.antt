@@ -1,7 +1,7 @@
 use Rattle.std.proofs.Common.{rules, arith, ◌≡◌, ◌∙◌, true, false, Some, ap, sym, subst}
 use Rattle.arrays.specs.Seen.{valid_in}
 use Rattle.select.specs.Picked.{IsPick, picked_at}
-use Rattle.select.proofs.ListLemmas.{range-item, range-none, range-within}
+use Rattle.select.proofs.ListLemmas.{range-item, range-none}
 use Rattle.select.proofs.gather.lists.range_at.Goals as goal
 
 pub returns-in-Some-clause-item : goal.returns-in-Some-clause-item
@@ -10,15 +10,8 @@ returns-in-Some-clause-item c =
     let lists = c.args.lists.now in
     let below = subst (IsPick (Rattle.std.proofs.Common.length s.items)) c.in-Some.is c.requires.pick in
     let valid : valid_in s.validity c.in-Some.i ≡ true = search rules in
-    range-item lists.offsets.now lists.child s c.in-Some.i c.offset_at-start.result c.offset_at-end.result c.requires.lists below valid c.offset_at-start.ensures.value c.offset_at-end.ensures.value
+    range-item lists.offsets.now lists.child s c.in-Some.i c.range.result.0 c.range.result.1 c.requires.lists below valid c.range.ensures.start c.range.ensures.count
     ∙ ap (picked_at s.items) (sym c.in-Some.is)
-
-pub returns-in-Some-clause-within : goal.returns-in-Some-clause-within
-returns-in-Some-clause-within c =
-    let s = c.args.view.now in
-    let lists = c.args.lists.now in
-    let below = subst (IsPick (Rattle.std.proofs.Common.length s.items)) c.in-Some.is c.requires.pick in
-    range-within lists.offsets.now lists.child s c.in-Some.i c.offset_at-start.result c.offset_at-end.result c.requires.lists below c.offset_at-start.ensures.value c.offset_at-end.ensures.value
 
 pub returns-in_default-clause-item : goal.returns-in_default-clause-item
 returns-in_default-clause-item c =
