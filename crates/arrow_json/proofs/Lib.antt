@@ -7,5 +7,6 @@ pub mod JsonColumnFaults
 pub mod JsonSlots
 pub mod JsonBatches
 pub mod JsonRecordBatches
+pub mod JsonResults
 pub mod JsonFiles
 pub mod JsonLaws

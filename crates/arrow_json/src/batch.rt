@@ -40,10 +40,7 @@ fn read_array(alloc: Global, field: &Field, rows: u32, column: &Value) -> Result
         unreachable!();
     };
     let builder = read_column(alloc, ty, rows, column)?;
-    match builder.finish() {
-        Ok(array) => Ok(array),
-        Err(_) => Err(JsonFault::no_memory(alloc)),
-    }
+    builder.finish().map_err(|_| JsonFault::no_memory(alloc))
 }
 
 /// The columns of a batch, one for each field.
@@ -64,10 +61,8 @@ fn read_columns(
 {
     let mut columns = Vec::new(alloc);
     for index in 0..fields.len() {
-        let column = match read_array(alloc, &fields[index], rows, &values[index]) {
-            Ok(column) => column,
-            Err(fault) => return Err(fault.under(alloc, Step::Item(index))),
-        };
+        let read = read_array(alloc, &fields[index], rows, &values[index]);
+        let column = read.map_err(|fault| fault.under(alloc, Step::Item(index)))?;
         push(alloc, &mut columns, column)?;
     }
     Ok(columns)
@@ -88,10 +83,8 @@ pub(crate) fn read_batch(
     check_object(alloc, batch)?;
     let rows = count_member(alloc, batch, Member::Count)?;
     let values = list_member(alloc, batch, Member::Columns, schema.len())?;
-    let columns = match read_columns(alloc, schema.fields(), rows, values) {
-        Ok(columns) => columns,
-        Err(fault) => return Err(fault.under(alloc, Step::Member(Member::Columns))),
-    };
+    let read = read_columns(alloc, schema.fields(), rows, values);
+    let columns = read.map_err(|fault| fault.under(alloc, Step::Member(Member::Columns)))?;
     match RecordBatch::new(schema, rows, columns) {
         Ok(batch) => Ok(batch),
         Err(_) => unreachable!(),

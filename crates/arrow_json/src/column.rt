@@ -78,10 +78,7 @@ pub(crate) fn list_member<'v>(
     ensures err { IfErr result (Tells (MemberFault member (ListFault len) (view object.now))) }
 {
     let found = required(alloc, object, member)?;
-    match list_of(alloc, found, len) {
-        Ok(items) => Ok(items),
-        Err(fault) => Err(fault.under(alloc, Step::Member(member))),
-    }
+    list_of(alloc, found, len).map_err(|fault| fault.under(alloc, Step::Member(member)))
 }
 
 /// The flags of a column, none where all its slots are valid.
@@ -98,10 +95,9 @@ fn flags<'v>(alloc: Global, column: &'v Value, count: u32) -> Result<Option<&'v 
     if found.is_null() {
         return Ok(None);
     }
-    match list_of(alloc, found, count as usize) {
-        Ok(flags) => Ok(Some(flags)),
-        Err(fault) => Err(fault.under(alloc, Step::Member(Member::Validity))),
-    }
+    let flags = list_of(alloc, found, count as usize);
+    let flags = flags.map_err(|fault| fault.under(alloc, Step::Member(Member::Validity)))?;
+    Ok(Some(flags))
 }
 
 /// The fault of a valid slot whose value is no integer of its type.
@@ -155,10 +151,7 @@ fn push_slot(alloc: Global, builder: &mut IntBuilder, slot: Option<i128>) -> Res
     ensures ok { OnOk result (builder.new.items ≡ builder.old.items ++ item_of slot ∷ []) }
     ensures err { IfErr result (λ fault. fault ≡ no_memory) }
 {
-    match builder.push(slot) {
-        Ok(()) => Ok(()),
-        Err(_) => Err(JsonFault::no_memory(alloc)),
-    }
+    builder.push(slot).map_err(|_| JsonFault::no_memory(alloc))
 }
 
 /// An empty column with room for so many slots.
@@ -167,10 +160,7 @@ fn new_builder(alloc: Global, ty: IntType, slots: usize) -> Result<IntBuilder, J
     ensures ok { IfOk result (λ b. (b.ty ≡ ty) × (b.items ≡ [])) }
     ensures err { IfErr result (λ fault. fault ≡ no_memory) }
 {
-    match IntBuilder::with_capacity(alloc, ty, slots) {
-        Ok(builder) => Ok(builder),
-        Err(_) => Err(JsonFault::no_memory(alloc)),
-    }
+    IntBuilder::with_capacity(alloc, ty, slots).map_err(|_| JsonFault::no_memory(alloc))
 }
 
 /// The slots where all are valid.

@@ -28,10 +28,8 @@ fn read_under(alloc: Global, schema: &Schema, batch: &Value) -> Result<RecordBat
     ensures ok { IfOk result (λ b. ReadsBatch schema.now (view batch.now) (table_of b)) }
     ensures err { IfErr result (Tells (BatchFault schema.now (view batch.now))) }
 {
-    match schema.copy(alloc) {
-        Ok(copy) => read_batch(alloc, copy, batch),
-        Err(_) => Err(JsonFault::no_memory(alloc)),
-    }
+    let copy = schema.copy(alloc).map_err(|_| JsonFault::no_memory(alloc))?;
+    read_batch(alloc, copy, batch)
 }
 
 /// The same, to be shared.
@@ -43,10 +41,7 @@ fn read_shared(alloc: Global, schema: &Schema, batch: &Value) -> Result<Arc<Reco
     ensures err { IfErr result (Tells (BatchFault schema.now (view batch.now))) }
 {
     let batch = read_under(alloc, schema, batch)?;
-    match Arc::new(alloc, batch) {
-        Ok(batch) => Ok(batch),
-        Err(_) => Err(JsonFault::no_memory(alloc)),
-    }
+    Arc::new(alloc, batch).map_err(|_| JsonFault::no_memory(alloc))
 }
 
 /// The batches of a file under its schema.
@@ -64,10 +59,8 @@ fn read_batches(
 {
     let mut batches = Vec::new(alloc);
     for (index, value) in values.iter().enumerate() {
-        let batch = match read_shared(alloc, schema, value) {
-            Ok(batch) => batch,
-            Err(fault) => return Err(fault.under(alloc, Step::Item(index))),
-        };
+        let read = read_shared(alloc, schema, value);
+        let batch = read.map_err(|fault| fault.under(alloc, Step::Item(index)))?;
         push(alloc, &mut batches, batch)?;
     }
     Ok(batches)
@@ -81,10 +74,7 @@ fn file_schema(alloc: Global, document: &Value) -> Result<Schema, JsonFault>
     ensures err { IfErr result (Tells (FileFault (view document.now))) }
 {
     let schema = required(alloc, document, Member::Schema)?;
-    match read_schema(alloc, schema) {
-        Ok(schema) => Ok(schema),
-        Err(fault) => Err(fault.under(alloc, Step::Member(Member::Schema))),
-    }
+    read_schema(alloc, schema).map_err(|fault| fault.under(alloc, Step::Member(Member::Schema)))
 }
 
 /// The file of a document.
@@ -97,10 +87,9 @@ fn read_document(alloc: Global, document: &Value) -> Result<File, JsonFault>
     check_object(alloc, document)?;
     let schema = file_schema(alloc, document)?;
     let values = array_member(alloc, document, Member::Batches)?;
-    match read_batches(alloc, &schema, values) {
-        Ok(batches) => Ok(File::new(schema, batches)),
-        Err(fault) => Err(fault.under(alloc, Step::Member(Member::Batches))),
-    }
+    let read = read_batches(alloc, &schema, values);
+    let batches = read.map_err(|fault| fault.under(alloc, Step::Member(Member::Batches)))?;
+    Ok(File::new(schema, batches))
 }
 
 /// The document that the bytes spell. They are let go of here, before anything is made of it.
@@ -110,14 +99,11 @@ fn parse(alloc: Global, bytes: Vec<u8>) -> Result<Value, JsonFault>
     ensures document { IfOk result (λ document. read bytes.items ≡ Some (view document)) }
     ensures err { IfErr result (Tells (BytesFault bytes.items)) }
 {
-    match Value::from_slice(alloc, &bytes) {
-        Ok(document) => Ok(document),
-        Err(error) => if error.is_memory() {
-            Err(JsonFault::no_memory(alloc))
-        } else {
-            Err(JsonFault::at(alloc, JsonFaultKind::NotJson, &[]))
-        },
-    }
+    Value::from_slice(alloc, &bytes).map_err(|error| if error.is_memory() {
+        JsonFault::no_memory(alloc)
+    } else {
+        JsonFault::at(alloc, JsonFaultKind::NotJson, &[])
+    })
 }
 
 /// Reads a file: its schema, and its batches under it.

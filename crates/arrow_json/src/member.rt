@@ -139,8 +139,5 @@ pub(crate) fn push<T: Drop>(alloc: Global, items: &mut Vec<T>, item: T) -> Resul
     ensures ok { OnOk result (items.new.items ≡ items.old.items ++ item ∷ []) }
     ensures err { IfErr result (λ fault. fault ≡ no_memory) }
 {
-    match items.push(item) {
-        Ok(()) => Ok(()),
-        Err(_) => Err(JsonFault::no_memory(alloc)),
-    }
+    items.push(item).map_err(|_| JsonFault::no_memory(alloc))
 }

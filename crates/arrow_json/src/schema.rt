@@ -54,10 +54,7 @@ fn field_type(alloc: Global, field: &Value) -> Result<IntType, JsonFault>
     ensures err { IfErr result (Tells (FieldFault (view field.now))) }
 {
     let object = required(alloc, field, Member::DataType)?;
-    match read_type(alloc, object) {
-        Ok(ty) => Ok(ty),
-        Err(fault) => Err(fault.under(alloc, Step::Member(Member::DataType))),
-    }
+    read_type(alloc, object).map_err(|fault| fault.under(alloc, Step::Member(Member::DataType)))
 }
 
 /// That a field has no dictionary: it is absent or null. Only texts may have one, and texts aren't read.
@@ -73,18 +70,17 @@ fn check_dictionary(alloc: Global, field: &Value) -> Result<(), JsonFault>
     if found.is_null() {
         return Ok(());
     }
-    match check_object(alloc, found) {
-        Ok(()) => Err(JsonFault::at(
-            alloc,
-            JsonFaultKind::UnsupportedType,
-            &[Step::Member(Member::DataType)],
-        )),
-        Err(fault) => Err(fault.under(alloc, Step::Member(Member::Dictionary))),
-    }
+    let object = check_object(alloc, found);
+    object.map_err(|fault| fault.under(alloc, Step::Member(Member::Dictionary)))?;
+    Err(JsonFault::at(
+        alloc,
+        JsonFaultKind::UnsupportedType,
+        &[Step::Member(Member::DataType)],
+    ))
 }
 
-#[tactic(auto, using(crate::proofs::JsonFaults::lengths))]
 /// Whether the field has no children: they are absent, null or empty.
+#[tactic(auto, using(crate::proofs::JsonFaults::lengths))]
 fn is_childless(field: &Value) -> bool
     ensures { result ≡ is_childless (member_of member.Children (view field.now)) }
 {
@@ -115,9 +111,7 @@ pub(crate) fn read_field(alloc: Global, field: &Value) -> Result<Field, JsonFaul
             &[Step::Member(Member::Children)],
         ));
     }
-    let Ok(name) = String::from_str(alloc, name) else {
-        return Err(JsonFault::no_memory(alloc));
-    };
+    let name = String::from_str(alloc, name).map_err(|_| JsonFault::no_memory(alloc))?;
     Ok(Field {
         name,
         nullable,
@@ -134,10 +128,8 @@ fn read_fields(alloc: Global, values: &[Value]) -> Result<Vec<Field>, JsonFault>
 {
     let mut fields = Vec::new(alloc);
     for (index, value) in values.iter().enumerate() {
-        let field = match read_field(alloc, value) {
-            Ok(field) => field,
-            Err(fault) => return Err(fault.under(alloc, Step::Item(index))),
-        };
+        let read = read_field(alloc, value);
+        let field = read.map_err(|fault| fault.under(alloc, Step::Item(index)))?;
         push(alloc, &mut fields, field)?;
     }
     Ok(fields)
@@ -151,10 +143,8 @@ pub(crate) fn read_schema(alloc: Global, schema: &Value) -> Result<Schema, JsonF
 {
     check_object(alloc, schema)?;
     let values = array_member(alloc, schema, Member::Fields)?;
-    let fields = match read_fields(alloc, values) {
-        Ok(fields) => fields,
-        Err(fault) => return Err(fault.under(alloc, Step::Member(Member::Fields))),
-    };
+    let read = read_fields(alloc, values);
+    let fields = read.map_err(|fault| fault.under(alloc, Step::Member(Member::Fields)))?;
     match Schema::new(fields) {
         Ok(schema) => Ok(schema),
         Err(_) => unreachable!(),

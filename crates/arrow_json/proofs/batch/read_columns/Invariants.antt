@@ -5,4 +5,4 @@ use Rattle.arrow_json.proofs.batch.read_columns.Given as goal
 
 -- the columns so far are read
 abbrev pub invariant-loop-index : goal.invariant-loop-index
-invariant-loop-index l = HoldsColumns (fields_of l.fields) l.rows (items_view l.values) l.index l.columns.items
+invariant-loop-index l = HoldsColumns (fields_of l.fields) l.rows (items_view l.values) l.index-counter l.columns.items

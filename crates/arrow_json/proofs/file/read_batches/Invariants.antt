@@ -9,4 +9,4 @@ use Rattle.arrow_json.proofs.file.read_batches.Given as goal
 -- the batches so far are read
 abbrev pub invariant-loop-index : goal.invariant-loop-index
 invariant-loop-index l =
-    ReadsFirst (ReadsBatch l.schema) (items_view l.values) l.index (map table_of (map arc_value l.batches.items)) × AreUnder l.schema (map arc_value l.batches.items)
+    ReadsFirst (ReadsBatch l.schema) (items_view l.values) l.index-counter (map table_of (map arc_value l.batches.items)) × AreUnder l.schema (map arc_value l.batches.items)

@@ -1,17 +1,25 @@
-use Rattle.std.proofs.Common.{arith}
+use Rattle.std.proofs.Common.{◌≡◌, Ok, arith, rules}
+use Rattle.std.specs.Result.{MatchResult, IsErrAnd}
+use Rattle.arrow_json.specs.JsonFault.{IsUnder}
+use Rattle.arrow_json.specs.declared.path.Step.TheVariants as step
 use Rattle.arrow_json.specs.JsonSchema.{ReadsField}
 use Rattle.arrow_json.specs.JsonSchemaFault.{FieldFault}
 use Rattle.arrow_json.proofs.JsonFaults.{tells_item_at}
 use Rattle.arrow_json.proofs.JsonItems.{each_pushed, each_done, fields_of-push}
+use Rattle.arrow_json.proofs.JsonResults.{value_kept, error_made}
 use Rattle.arrow_json.proofs.schema.read_fields.Goals as goal
 
-pub returns-in-Err-clause-err : goal.returns-in-Err-clause-err
-returns-in-Err-clause-err c =
-    tells_item_at FieldFault _ _ _ _ _ c.in-Err.ensures.err (omega arith) c.index-values-index.is c.under.ensures
+pub returns-in_err-field-clause-err : goal.returns-in_err-field-clause-err
+returns-in_err-field-clause-err c =
+    let cases : MatchResult c.read_field-read.result (λ y. c.map_err.result ≡ Ok y) (λ e. IsErrAnd c.map_err.result (IsUnder (step.Item c.loop-index.index-counter) e)) = search rules in
+    error_made _ _ _ _ _ _ _ cases c.in_err-field.was c.read_field-read.ensures.err c.from_residual.ensures.1
+    (λ _ told under. tells_item_at FieldFault _ _ _ _ _ told (omega arith) c.index-values-index.is under)
 
 pub loop-index-preserved : goal.loop-index-preserved
 loop-index-preserved c =
-    rw (c.in_ok-push.ensures.ok, fields_of-push) (each_pushed ReadsField _ _ _ _ _ c.loop-index.invariant (omega arith) c.index-values-index.is c.in-Ok.ensures.ok)
+    let cases = c.map_err.ensures.cases in
+    let field = value_kept _ _ c.read_field-read.result c.map_err.result c.in_ok-field.field cases c.in_ok-field.was c.read_field-read.ensures.ok in
+    rw (c.in_ok-push.ensures.ok, fields_of-push) (each_pushed ReadsField _ _ _ _ _ c.loop-index.invariant (omega arith) c.index-values-index.is field)
 
 pub returns-clause-ok : goal.returns-clause-ok
 returns-clause-ok c = each_done _ _ _ _ c.loop-index.invariant (omega arith)

@@ -6,4 +6,4 @@ use Rattle.arrow_json.proofs.schema.read_fields.Given as goal
 
 -- the fields so far are read
 abbrev pub invariant-loop-index : goal.invariant-loop-index
-invariant-loop-index l = ReadsFirst ReadsField (items_view l.values) l.index (fields_of l.fields.items)
+invariant-loop-index l = ReadsFirst ReadsField (items_view l.values) l.index-counter (fields_of l.fields.items)
