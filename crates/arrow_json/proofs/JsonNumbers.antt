@@ -5,9 +5,9 @@ use Rattle.std.proofs.lemmas.Bool.Decides.{nat_tests}
 use Rattle.std.specs.List.{list_all}
 use Rattle.std.specs.Char.{is_ascii_digit, digit_value}
 use Rattle.std.specs.Str.Parse.{digits_value, digits_value_after}
-use Rattle.arrow_json.specs.JsonNumber.{numeral, below, is_numeral, fits, fitting, narrow}
+use Rattle.arrow_json.specs.JsonNumber.{numeral, below, is_numeral, fitting, narrow}
 use Rattle.types.specs.declared.int_type.IntType.{IntType}
-use Rattle.arrays.specs.Number.{IsOfType}
+use Rattle.arrays.specs.Number.{IsOfType, is_of_type}
 use Rattle.types.specs.declared.int_type.Width.{Width}
 use Rattle.types.specs.declared.int_type.Width.TheVariants.{W8, W16, W32, W64}
 use Rattle.std.proofs.lemmas.Int.{ints}
@@ -46,7 +46,7 @@ some_from_all ds i n past some all left small =
 
 -- ---- the range of a type
 
-pub within_type : (w : Width) (s : Bool) (z : ℤ) → fits (record { bits = w; signed = s }) z ≡ true → IsOfType (record { bits = w; signed = s }) z
+pub within_type : (w : Width) (s : Bool) (z : ℤ) → is_of_type (record { bits = w; signed = s }) z ≡ true → IsOfType (record { bits = w; signed = s }) z
 within_type W8 true (pos n) h = grind (arith, ints)
 within_type W8 true (negsuc n) h = grind (arith, ints)
 within_type W8 false (pos n) h = grind (arith, ints)
@@ -65,7 +65,7 @@ within_type W64 false (pos n) h = grind (arith, ints)
 within_type W64 false (negsuc n) h = grind (arith, ints)
 
 -- a number of the type is far from 2 ^ 64
-pub narrow_type : (w : Width) (s : Bool) (z : ℤ) → 2 ^ 64 ≤ nat_abs z → fits (record { bits = w; signed = s }) z ≡ false
+pub narrow_type : (w : Width) (s : Bool) (z : ℤ) → 2 ^ 64 ≤ nat_abs z → is_of_type (record { bits = w; signed = s }) z ≡ false
 narrow_type W8 true (pos n) h = grind (arith, ints)
 narrow_type W8 true (negsuc n) h = grind (arith, ints)
 narrow_type W8 false (pos n) h = grind (arith, ints)
@@ -101,7 +101,7 @@ none_from_narrow t o e = ap (option_and_then (fitting t)) e ∙ fitting-narrow t
 pub fitting_from_narrow : (t : IntType) (o : Option ℤ) (z : ℤ) → Some z ≡ option_and_then narrow o → fitting t z ≡ option_and_then (fitting t) o
 fitting_from_narrow t o z e = ap (option_and_then (fitting t)) e ∙ fitting-narrow t o
 
-pub IsOfType-fits : (t : IntType) (z : ℤ) → fits t z ≡ true → IsOfType t z
-IsOfType-fits t z h = within_type t.bits t.signed z h
+pub IsOfType-from_test : (t : IntType) (z : ℤ) → is_of_type t z ≡ true → IsOfType t z
+IsOfType-from_test t z h = within_type t.bits t.signed z h
 
-pub ruleset ranges = (none_from_narrow, fitting_from_narrow, IsOfType-fits)
+pub ruleset ranges = (none_from_narrow, fitting_from_narrow, IsOfType-from_test)

@@ -27,20 +27,19 @@ slots_pushed t flags values n items x h at = record {
       (ap (slice_get (items ++ x ∷ [])) (sym h.len) ∙ (slice_get-last items x ∙ sym at));
 }
 
--- the type of the bounds is the column's
-pub valid_pushed : (t b : IntType) (vs : List Value) (n : ℕ) (items : List Item) (v : Value) (z : ℤ) → b ≡ t → ReadsSlots t None (items_view vs) n items → n < length vs → v ≡ get_or vs n v
-    → Some z ≡ integer_of b (view v) → ReadsSlots t None (items_view vs) (n + 1) (items ++ column.int z ∷ [])
-valid_pushed t b vs n items v z same h within is spelled =
+-- the loop's step, without flags and with them
+pub valid_pushed : (t : IntType) (vs : List Value) (n : ℕ) (items : List Item) (v : Value) (z : ℤ) → ReadsSlots t None (items_view vs) n items → n < length vs → v ≡ get_or vs n v
+    → Some z ≡ integer_of t (view v) → ReadsSlots t None (items_view vs) (n + 1) (items ++ column.int z ∷ [])
+valid_pushed t vs n items v z h within is spelled =
     slots_pushed t None (items_view vs) n items (column.int z) h
-    (ap (slot_of t (Some true)) (at_index vs n v within is) ∙ ap (option_map column.int) (ap (λ s. integer_of s (view v)) (sym same) ∙ sym spelled))
+    (ap (slot_of t (Some true)) (at_index vs n v within is) ∙ ap (option_map column.int) (sym spelled))
 
-pub flagged_pushed : (t b : IntType) (fs vs : List Value) (n : ℕ) (items : List Item) (f v : Value) (x : Item) → b ≡ t → ReadsSlots t (Some (items_view fs)) (items_view vs) n items
-    → n < length fs → f ≡ get_or fs n f → n < length vs → v ≡ get_or vs n v → slot_of b (flag_of (view f)) (Some (view v)) ≡ Some x
+pub flagged_pushed : (t : IntType) (fs vs : List Value) (n : ℕ) (items : List Item) (f v : Value) (x : Item) → ReadsSlots t (Some (items_view fs)) (items_view vs) n items
+    → n < length fs → f ≡ get_or fs n f → n < length vs → v ≡ get_or vs n v → slot_of t (flag_of (view f)) (Some (view v)) ≡ Some x
     → ReadsSlots t (Some (items_view fs)) (items_view vs) (n + 1) (items ++ x ∷ [])
-flagged_pushed t b fs vs n items f v x same h at_flag is_flag at_value is_value slot =
-    let read : slot_of t (flag_of (view f)) (Some (view v)) ≡ Some x = subst (λ s. slot_of s (flag_of (view f)) (Some (view v)) ≡ Some x) same slot in
+flagged_pushed t fs vs n items f v x h at_flag is_flag at_value is_value slot =
     slots_pushed t (Some (items_view fs)) (items_view vs) n items x h
-    (rw (at_index fs n f at_flag is_flag, at_index vs n v at_value is_value) read)
+    (rw (at_index fs n f at_flag is_flag, at_index vs n v at_value is_value) slot)
 
 -- ---- whole columns
 

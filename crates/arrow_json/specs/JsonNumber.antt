@@ -1,30 +1,16 @@
 -- Integers, counts and flags of a document. (Arrow integration testing, "JSON test data format")
-use Rattle.std.specs.Prelude.{ℕ, ◌-◌, ◌*◌, ◌^◌, ◌==◌, ◌&&◌, ℤ, pos, neg_ℤ, nat_abs, int_le, nat_lt, List, length, drop, slice_index, Bool, true, false, if◌then◌else◌, Option, Some, None, option_map, option_and_then}
+use Rattle.std.specs.Prelude.{ℕ, ◌^◌, ◌==◌, ◌&&◌, ℤ, pos, neg_ℤ, nat_abs, nat_lt, List, length, drop, slice_index, Bool, true, false, if◌then◌else◌, Option, Some, None, option_map, option_and_then}
 use Rattle.std.specs.List.{list_all}
 use Rattle.std.specs.Char.{is_ascii_digit}
 use Rattle.std.specs.Str.Parse.{digits_value}
 use Rattle.types.specs.declared.int_type.IntType.{IntType}
 use Rattle.types.specs.declared.int_type.Width.{Width}
 use Rattle.types.specs.declared.int_type.Width.TheVariants.{W8, W16, W32, W64}
-use Rattle.arrays.specs.Kind.{bytes_of}
+use Rattle.arrays.specs.Number.{is_of_type}
 use Rattle.serde_json.specs.Data.{Num, Data, null, boolean, number, string, array, object}
 use Rattle.serde_json.specs.Find.{as_number, as_integer, as_u64}
 
--- ---- an integer type's numbers
-
-abbrev pub bit_count : Width → ℕ
-bit_count w = 8 * bytes_of w
-
-abbrev pub least : IntType → ℤ
-least t = if t.signed then neg_ℤ (pos (2 ^ (bit_count t.bits - 1))) else pos 0
-
-abbrev pub greatest : IntType → ℤ
-greatest t = if t.signed then pos (2 ^ (bit_count t.bits - 1) - 1) else pos (2 ^ bit_count t.bits - 1)
-
-abbrev pub fits : IntType → ℤ → Bool
-fits t z = int_le (least t) z && int_le z (greatest t)
-
--- ---- their spellings
+-- ---- the spellings of integers
 
 -- One or more decimal digits, and nothing else.
 abbrev pub is_numeral : List ℕ → Bool
@@ -47,7 +33,7 @@ whole_of (array ds) = None
 whole_of (object ms) = None
 
 abbrev pub fitting : IntType → ℤ → Option ℤ
-fitting t z = if fits t z then Some z else None
+fitting t z = if is_of_type t z then Some z else None
 
 -- The integer of the type that a value spells.
 abbrev pub integer_of : IntType → Data → Option ℤ

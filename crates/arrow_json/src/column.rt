@@ -16,7 +16,7 @@ ghost use Rattle.arrow_json.specs.declared.fault.JsonFaultKind.TheVariants.{BadN
 
 use crate::fault::{JsonFault, JsonFaultKind};
 use crate::member::{check_object, count_member, required};
-use crate::number::{Bounds, flag};
+use crate::number::{flag, integer};
 use crate::path::{Member, Step};
 use arrays::{IntBuilder, IntType};
 use serde_json::Value;
@@ -117,19 +117,19 @@ fn bad_number(alloc: Global, index: usize) -> JsonFault
 #[tactic(auto, using(crate::proofs::JsonColumnFaults::slot_told))]
 fn slot(
     alloc: Global,
-    bounds: &Bounds,
+    ty: IntType,
     index: usize,
     flagged: &Value,
     value: &Value,
 ) -> Result<Option<i128>, JsonFault>
     ensures ok { IfOk result (λ s.
-        slot_of bounds.now.ty (flag_of (view flagged.now)) (Some (view value.now)) ≡ Some (item_of s)) }
-    ensures of_type { IfOk result (λ s. ForSome s (IsOfType bounds.now.ty)) }
+        slot_of ty (flag_of (view flagged.now)) (Some (view value.now)) ≡ Some (item_of s)) }
+    ensures of_type { IfOk result (λ s. ForSome s (IsOfType ty)) }
     ensures err { IfErr result
-        (Tells (SlotFault bounds.now.ty index (view flagged.now) (view value.now))) }
+        (Tells (SlotFault ty index (view flagged.now) (view value.now))) }
 {
     match flag(flagged) {
-        Some(true) => match bounds.integer(value) {
+        Some(true) => match integer(ty, value) {
             Some(number) => Ok(Some(number)),
             None => Err(bad_number(alloc, index)),
         },
@@ -172,10 +172,9 @@ fn valid_slots(alloc: Global, ty: IntType, values: &[Value]) -> Result<IntBuilde
         ReadsSlots ty None (items_view values.now) (length values.now) b.items) }
     ensures err { IfErr result (Tells (SlotsFault ty None (items_view values.now))) }
 {
-    let bounds = Bounds::new(ty);
     let mut builder = new_builder(alloc, ty, values.len())?;
     for (index, value) in values.iter().enumerate() {
-        match bounds.integer(value) {
+        match integer(ty, value) {
             Some(number) => push_slot(alloc, &mut builder, Some(number))?,
             None => return Err(bad_number(alloc, index)),
         }
@@ -199,10 +198,9 @@ fn flagged_slots(
     ensures err { IfErr result
         (Tells (SlotsFault ty (Some (items_view flags.now)) (items_view values.now))) }
 {
-    let bounds = Bounds::new(ty);
     let mut builder = new_builder(alloc, ty, values.len())?;
     for index in 0..values.len() {
-        let slot = slot(alloc, &bounds, index, &flags[index], &values[index])?;
+        let slot = slot(alloc, ty, index, &flags[index], &values[index])?;
         push_slot(alloc, &mut builder, slot)?;
     }
     Ok(builder)

@@ -1,69 +1,49 @@
 ghost use Rattle.std.specs.Prelude.{◌≡◌, ◌<◌, ◌^◌, option_and_then, IfSome};
+ghost use Rattle.arrays.specs.Number.{IsOfType, is_of_type};
 ghost use Rattle.serde_json.specs.View.{view, number_view};
-ghost use Rattle.arrow_json.specs.JsonNumber.{least, greatest, spelled, narrow, numeral, below, count_of, flag_of, width_of};
+ghost use Rattle.arrow_json.specs.JsonNumber.{integer_of, fitting, spelled, narrow, numeral, below, count_of, flag_of, width_of};
 
-use arrays::{IntType, Width};
+use arrays::{IntType, Integer, Width};
 use serde_json::{Number, Value};
 
-/// An integer type with its least and its greatest number.
-#[derive(Clone, Copy)]
-pub(crate) struct Bounds {
-    pub(crate) ty: IntType,
-    low: i128,
-    high: i128,
-    ghost low_is: { low ≡ least ty },
-    ghost high_is: { high ≡ greatest ty },
-}
-
-impl Bounds {
-    ghost use Rattle.arrays.specs.Number.{IsOfType};
-    ghost use Rattle.arrow_json.specs.JsonNumber.{integer_of, fitting};
-
-    pub(crate) fn new(ty: IntType) -> Bounds
-        ensures { result.ty ≡ ty }
-    {
-        let (low, high) = limits(ty);
-        Bounds { ty, low, high }
-    }
-
-    /// The integer of the type that the value spells, as a number or as a text.
-    #[tactic(auto, using(crate::proofs::JsonNumbers::ranges))]
-    pub(crate) fn integer(&self, value: &Value) -> Option<i128>
-        ensures value { result ≡ integer_of self.now.ty (view value.now) }
-        ensures of_type { IfSome result (IsOfType self.now.ty) }
-    {
-        match value.as_str() {
-            Some(text) => self.fitting(text_integer(text)?),
-            None => self.fitting(value.as_number()?.as_i128()?),
-        }
-    }
-
-    #[tactic(auto, using(crate::proofs::JsonNumbers::ranges))]
-    fn fitting(&self, number: i128) -> Option<i128>
-        ensures value { result ≡ fitting self.now.ty number }
-        ensures of_type { IfSome result (IsOfType self.now.ty) }
-    {
-        if self.low <= number && number <= self.high {
-            Some(number)
-        } else {
-            None
-        }
+/// The integer of the type that the value spells, as a number or as a text.
+#[tactic(auto, using(crate::proofs::JsonNumbers::ranges))]
+pub(crate) fn integer(ty: IntType, value: &Value) -> Option<i128>
+    ensures value { result ≡ integer_of ty (view value.now) }
+    ensures of_type { IfSome result (IsOfType ty) }
+{
+    match value.as_str() {
+        Some(text) => fitting(ty, text_integer(text)?),
+        None => fitting(ty, value.as_number()?.as_i128()?),
     }
 }
 
-fn limits(ty: IntType) -> (i128, i128)
-    ensures low { result.0 ≡ least ty }
-    ensures high { result.1 ≡ greatest ty }
+/// The number, if it is in the type's range.
+#[tactic(auto, using(crate::proofs::JsonNumbers::ranges))]
+fn fitting(ty: IntType, number: i128) -> Option<i128>
+    ensures value { result ≡ fitting ty number }
+    ensures of_type { IfSome result (IsOfType ty) }
+{
+    if holds(ty, number) {
+        Some(number)
+    } else {
+        None
+    }
+}
+
+/// Whether the number is in the type's range.
+fn holds(ty: IntType, number: i128) -> bool
+    ensures { result ≡ is_of_type ty number }
 {
     match (ty.bits, ty.signed) {
-        (Width::W8, true) => (-0x80, 0x7f),
-        (Width::W8, false) => (0, 0xff),
-        (Width::W16, true) => (-0x8000, 0x7fff),
-        (Width::W16, false) => (0, 0xffff),
-        (Width::W32, true) => (-0x8000_0000, 0x7fff_ffff),
-        (Width::W32, false) => (0, 0xffff_ffff),
-        (Width::W64, true) => (-0x8000_0000_0000_0000, 0x7fff_ffff_ffff_ffff),
-        (Width::W64, false) => (0, 0xffff_ffff_ffff_ffff),
+        (Width::W8, true) => i8::holds(number),
+        (Width::W8, false) => u8::holds(number),
+        (Width::W16, true) => i16::holds(number),
+        (Width::W16, false) => u16::holds(number),
+        (Width::W32, true) => i32::holds(number),
+        (Width::W32, false) => u32::holds(number),
+        (Width::W64, true) => i64::holds(number),
+        (Width::W64, false) => u64::holds(number),
     }
 }
 

@@ -9,5 +9,5 @@ pub loop-index-preserved : goal.loop-index-preserved
 loop-index-preserved c =
     let fits : FitsSigned w128 c.in-Some.number = search rules in (
       c.push_slot.ensures.kept ∙ c.loop-index.invariant.0,
-      rw (c.in_ok-push_slot-in-Some.ensures.ok, to_z-of_z) (valid_pushed _ _ _ _ _ _ _ c.new-bounds.ensures c.loop-index.invariant.1 (omega arith) c.index-values-index.is c.in-Some.ensures.value),
+      rw (c.in_ok-push_slot-in-Some.ensures.ok, to_z-of_z) (valid_pushed _ _ _ _ _ _ c.loop-index.invariant.1 (omega arith) c.index-values-index.is c.in-Some.ensures.value),
     )
