@@ -58,10 +58,7 @@ pub fn validate(alloc: Global, raw: RawArray) -> Result<Array, LayoutFault>
             release(raw);
             Err(fault)
         }
-        None => match Array::from_lawful(alloc, raw) {
-            Ok(array) => Ok(array),
-            Err(NoMemory) => Err(LayoutFault::NoMemory),
-        },
+        None => Array::from_lawful(alloc, raw).map_err(|_| LayoutFault::NoMemory),
     }
 }
 
