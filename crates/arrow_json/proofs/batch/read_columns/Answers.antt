@@ -8,8 +8,7 @@ use Rattle.arrow_json.proofs.batch.read_columns.Goals as goal
 
 pub loop-index-preserved : goal.loop-index-preserved
 loop-index-preserved c =
-    let cases = c.map_err.ensures.cases in
-    let column = value_kept _ _ c.read_array-read.result c.map_err.result c.in_ok-column.column cases c.in_ok-column.was c.read_array-read.ensures.ok in
+    let column = value_kept _ _ c.read_array-read.result c.map_err.result c.in_ok-column.column c.map_err.ensures.cases c.in_ok-column.was c.read_array-read.ensures.ok in
     rw c.in_ok-push.ensures.ok (columns_pushed _ _ _ _ _ _ _ _ c.loop-index.invariant (omega arith) c.index-fields-index.is (omega (arith, c.requires.whole)) c.index-values-index.is column)
 
 pub returns-in_err-column-clause-err : goal.returns-in_err-column-clause-err

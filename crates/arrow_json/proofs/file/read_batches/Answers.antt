@@ -11,9 +11,8 @@ use Rattle.arrow_json.proofs.file.read_batches.Goals as goal
 
 pub loop-index-preserved : goal.loop-index-preserved
 loop-index-preserved c =
-    let cases = c.map_err.ensures.cases in
-    let reads = value_kept _ _ c.read_shared-read.result c.map_err.result c.in_ok-batch.batch cases c.in_ok-batch.was c.read_shared-read.ensures.ok in
-    let fields = value_kept _ _ c.read_shared-read.result c.map_err.result c.in_ok-batch.batch cases c.in_ok-batch.was c.read_shared-read.ensures.fields in
+    let reads = value_kept _ _ c.read_shared-read.result c.map_err.result c.in_ok-batch.batch c.map_err.ensures.cases c.in_ok-batch.was c.read_shared-read.ensures.ok in
+    let fields = value_kept _ _ c.read_shared-read.result c.map_err.result c.in_ok-batch.batch c.map_err.ensures.cases c.in_ok-batch.was c.read_shared-read.ensures.fields in
     let grown = ap (map arc_value) c.in_ok-push.ensures.ok ∙ map-append arc_value c.loop-index.batches.items (c.in_ok-batch.batch ∷ []) in (
       rw grown (batch_pushed _ _ _ _ _ _ c.loop-index.invariant.0 (omega arith) c.index-values-index.is reads),
       AreUnder-push _ _ _ _ c.loop-index.invariant.1 fields grown,

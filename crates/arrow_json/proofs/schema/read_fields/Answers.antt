@@ -17,8 +17,7 @@ returns-in_err-field-clause-err c =
 
 pub loop-index-preserved : goal.loop-index-preserved
 loop-index-preserved c =
-    let cases = c.map_err.ensures.cases in
-    let field = value_kept _ _ c.read_field-read.result c.map_err.result c.in_ok-field.field cases c.in_ok-field.was c.read_field-read.ensures.ok in
+    let field = value_kept _ _ c.read_field-read.result c.map_err.result c.in_ok-field.field c.map_err.ensures.cases c.in_ok-field.was c.read_field-read.ensures.ok in
     rw (c.in_ok-push.ensures.ok, fields_of-push) (each_pushed ReadsField _ _ _ _ _ c.loop-index.invariant (omega arith) c.index-values-index.is field)
 
 pub returns-clause-ok : goal.returns-clause-ok
