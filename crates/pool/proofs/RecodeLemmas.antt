@@ -1,5 +1,5 @@
 -- A column recoded slot by slot.
-use Rattle.std.proofs.Common.{◌≡◌, ◌∙◌, ℕ, ◌+◌, ◌<◌, ◌≤◌, pos, true, List, [], ◌∷◌, ◌++◌, length, take, drop, map, Some, option_map, refl, sym, ap, arith, length-append, append_assoc}
+use Rattle.std.proofs.Common.{◌≡◌, ◌∙◌, ℕ, ◌+◌, ◌<◌, ◌≤◌, pos, true, false, List, [], ◌∷◌, ◌++◌, length, take, drop, map, Some, option_map, refl, sym, ap, arith, length-append, append_assoc}
 use Rattle.std.specs.Prelude.{slice_get, Result, Ok, Err, IfErr, IsErrAnd, ◌⊎◌}
 use Rattle.std.proofs.Common.{inl, inr, to_z, ◌^◌, lit≤}
 use Rattle.std.proofs.lemmas.Int.{to_z_pos}
@@ -23,6 +23,7 @@ use Rattle.pool.proofs.PlaceLemmas.{position-append}
 -- What the texts of the first slots leave in the pool, and their codes among the texts of all.
 pub record Recoded (old : List (List ℕ)) (items : List Item) (i : ℕ) (pool : List (List ℕ)) (column : Column) : Type 0 where
   pub pool_is : pool ≡ firsts (old ++ texts_of (take i items))
+  pub fits : is_too_full pool ≡ false
   pub codes_are : column.items ≡ map (code_item (firsts (old ++ texts_of items))) (take i items)
   pub of_type : column.ty ≡ int32
 
@@ -63,22 +64,24 @@ module _ (old : List (List ℕ)) (items : List Item) where
       pushed ∙ ap (λ l. l ++ code ∷ []) are ∙ ap (λ c. map f (take i items) ++ c ∷ []) (sym is)
       ∙ sym (map-append f (take i items) (x ∷ [])) ∙ ap (map f) (sym (take-item i x at))
 
-  pub Recoded-none : (column : Column) (i : ℕ) → i ≡ 0 → is_once old ≡ true → column.ty ≡ int32 → column.items ≡ [] → Recoded old items i old column
-  Recoded-none column i start once ty none = record {
+  pub Recoded-none : (column : Column) (i : ℕ) → i ≡ 0 → is_once old ≡ true → is_too_full old ≡ false → column.ty ≡ int32 → column.items ≡ [] → Recoded old items i old column
+  Recoded-none column i start once fits ty none = record {
     pool_is = sym (ap (λ i. firsts (old ++ texts_of (take i items))) start ∙ ap firsts (append-nil old) ∙ firsts-once old once);
+    fits = fits;
     codes_are = none ∙ sym (ap (λ i. map (code_item (firsts (old ++ texts_of items))) (take i items)) start);
     of_type = ty;
   }
 
   pub Recoded-text : (i : ℕ) (t : List ℕ) (code : ℕ) (pool wider : List (List ℕ)) (before after : Column) → Recoded old items i pool before
-      → slice_get items i ≡ Some (text t) → wider ≡ with_text pool t → place_of wider t ≡ Some code
+      → slice_get items i ≡ Some (text t) → wider ≡ with_text pool t → is_too_full wider ≡ false → place_of wider t ≡ Some code
       → after.ty ≡ before.ty → after.items ≡ before.items ++ item_of (Some (pos code)) ∷ [] → Recoded old items (i + 1) wider after
-  Recoded-text i t code pool wider before after is at added place ty pushed =
+  Recoded-text i t code pool wider before after is at added fits place ty pushed =
       let now : wider ≡ firsts (old ++ texts_of (take (i + 1) items)) = added ∙ pool-text i t pool at is.pool_is in
       let end : firsts (old ++ texts_of items) ≡ wider ++ rest_from (i + 1) = grown (i + 1) ∙ ap (λ l. l ++ rest_from (i + 1)) (sym now) in
       let there : place_of (firsts (old ++ texts_of items)) t ≡ Some code = ap (λ l. place_of l t) end ∙ position-append (bytes_eq t) wider (rest_from (i + 1)) code place in
       record {
         pool_is = now;
+        fits = fits;
         codes_are = codes-item i (text t) (item_of (Some (pos code))) before.items after.items at (ap (λ o. item_of (option_map pos o)) there) is.codes_are pushed;
         of_type = ty ∙ is.of_type;
       }
@@ -87,6 +90,7 @@ module _ (old : List (List ℕ)) (items : List Item) where
       → slice_get items i ≡ Some null → after.ty ≡ before.ty → after.items ≡ before.items ++ null ∷ [] → Recoded old items (i + 1) pool after
   Recoded-null i pool before after is at ty pushed = record {
     pool_is = pool-null i pool at is.pool_is;
+    fits = is.fits;
     codes_are = codes-item i null null before.items after.items at refl is.codes_are pushed;
     of_type = ty ∙ is.of_type;
   }

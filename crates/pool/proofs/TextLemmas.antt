@@ -97,6 +97,29 @@ firsts-once (t ∷ ts) once =
     let p = both (not (is_among ts t)) (is_once ts) once in
     ap (λ l. t ∷ l) (ap (but t) (firsts-once ts p.1) ∙ but-absent t ts (not-true (is_among ts t) p.0))
 
+absent-but : (t : List ℕ) (us : List (List ℕ)) → is_among (but t us) t ≡ false
+absent-but t [] = refl
+absent-but t (u ∷ us) =
+    either (bytes_eq u t)
+    (λ same. ap (λ b. is_among (cond (not b) (u ∷ but t us) (but t us)) t) same ∙ absent-but t us)
+    (λ other. ap (λ b. is_among (cond (not b) (u ∷ but t us) (but t us)) t) other
+    ∙ ap (λ b. b || is_among (but t us) t) (nat_list_eq_equiv.symm t u ∙ other) ∙ absent-but t us)
+
+once-but : (t : List ℕ) (us : List (List ℕ)) → is_once us ≡ true → is_once (but t us) ≡ true
+once-but t [] once = refl
+once-but t (u ∷ us) once =
+    let p = both (not (is_among us u)) (is_once us) once in
+    either (bytes_eq u t)
+    (λ same. ap (λ b. is_once (cond (not b) (u ∷ but t us) (but t us))) same ∙ once-but t us p.1)
+    (λ other. ap (λ b. is_once (cond (not b) (u ∷ but t us) (but t us))) other
+    ∙ ap (λ b. not b && is_once (but t us)) (is_among-but t u us other ∙ not-true (is_among us u) p.0) ∙ once-but t us p.1)
+
+-- Of the firsts none comes twice.
+pub is_once-firsts : (ts : List (List ℕ)) → is_once (firsts ts) ≡ true
+is_once-firsts [] = refl
+is_once-firsts (t ∷ ts) =
+    ap (λ b. not b && is_once (but t (firsts ts))) (absent-but t (firsts ts)) ∙ once-but t (firsts ts) (is_once-firsts ts)
+
 pub is_once-push : (ts : List (List ℕ)) (t : List ℕ) → is_once ts ≡ true → is_among ts t ≡ false → is_once (ts ++ t ∷ []) ≡ true
 is_once-push [] t once apart = refl
 is_once-push (u ∷ ts) t once apart =

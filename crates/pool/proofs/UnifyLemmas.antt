@@ -17,10 +17,10 @@ use Rattle.arrays.specs.Lengths.{is_past, text_bytes, text_length}
 use Rattle.arrays.specs.Seen.{Seen}
 use Rattle.arrays.specs.Shown.{shown}
 use Rattle.pool.specs.Codes.{code_item}
-use Rattle.pool.specs.Texts.{text_of, texts_of, firsts, is_among, is_once, is_too_full, byte_count}
+use Rattle.pool.specs.Texts.{text_of, texts_of, firsts, is_among, is_too_full, byte_count}
 use Rattle.pool.specs.Unified.{joined, all_texts, codes_among}
 use Rattle.pool.proofs.PlaceLemmas.{position-append, among_place}
-use Rattle.pool.proofs.TextLemmas.{beyond, firsts-append, firsts-once, is_among-firsts, is_too_full-append, is_too_full-take, fits_from}
+use Rattle.pool.proofs.TextLemmas.{beyond, firsts-append, firsts-once, is_once-firsts, is_among-firsts, is_too_full-append, is_too_full-take, fits_from}
 
 or-right : (a b : Bool) → b ≡ true → (a || b) ≡ true
 or-right true b h = refl
@@ -48,14 +48,15 @@ beyond-firsts ts (u ∷ us) =
     ap (λ b. cond (not b) (u ∷ beyond (firsts ts) us) (beyond (firsts ts) us)) (is_among-firsts ts u)
     ∙ ap (λ l. cond (not (is_among ts u)) (u ∷ l) l) (beyond-firsts ts us)
 
-firsts-joined : (ts us : List (List ℕ)) → is_once (firsts ts) ≡ true → firsts (firsts ts ++ us) ≡ firsts (ts ++ us)
-firsts-joined ts us once =
-    firsts-append (firsts ts) us ∙ ap (λ l. l ++ beyond (firsts ts) (firsts us)) (firsts-once (firsts ts) once)
+firsts-joined : (ts us : List (List ℕ)) → firsts (firsts ts ++ us) ≡ firsts (ts ++ us)
+firsts-joined ts us =
+    firsts-append (firsts ts) us ∙ ap (λ l. l ++ beyond (firsts ts) (firsts us)) (firsts-once (firsts ts) (is_once-firsts ts))
     ∙ ap (λ l. firsts ts ++ l) (beyond-firsts ts (firsts us)) ∙ sym (firsts-append ts us)
 
 -- The pool after some columns, and their codes among the texts of all.
 pub record Unified (views : List Seen) (i : ℕ) (pool : List (List ℕ)) (codes : List Seen) : Type 0 where
   pub pool_is : pool ≡ all_texts (take i views)
+  pub fits : is_too_full pool ≡ false
   pub codes_are : codes ≡ map (codes_among (all_texts views)) (take i views)
 
 module _ (views : List Seen) where
@@ -80,10 +81,10 @@ module _ (views : List Seen) where
       ∙ ap texts_of (flat_map-append (λ (w : Seen). w.items) (take i views) (v ∷ []) ∙ ap (λ l. joined (take i views) ++ l) (append-nil v.items))
       ∙ filter_map-append text_of (joined (take i views)) v.items
 
-  pub pool-view : (i : ℕ) (v : Seen) (pool : List (List ℕ)) → slice_get views i ≡ Some v → pool ≡ all_texts (take i views) → is_once pool ≡ true
+  pub pool-view : (i : ℕ) (v : Seen) (pool : List (List ℕ)) → slice_get views i ≡ Some v → pool ≡ all_texts (take i views)
       → firsts (pool ++ texts_of v.items) ≡ all_texts (take (i + 1) views)
-  pool-view i v pool at is once =
-      ap (λ l. firsts (l ++ texts_of v.items)) is ∙ firsts-joined (texts_of (joined (take i views))) (texts_of v.items) (ap is_once (sym is) ∙ once)
+  pool-view i v pool at is =
+      ap (λ l. firsts (l ++ texts_of v.items)) is ∙ firsts-joined (texts_of (joined (take i views))) (texts_of v.items)
       ∙ ap firsts (sym (texts-view i v at))
 
   codes-view : (i : ℕ) (v : Seen) → slice_get views i ≡ Some v
@@ -97,24 +98,25 @@ module _ (views : List Seen) where
       ∙ ap (λ l. codes_among l v) (sym (grown (i + 1)))
 
   pub Unified-view : (i : ℕ) (v a : Seen) (pool wider : List (List ℕ)) (codes more : List Seen) → Unified views i pool codes
-      → slice_get views i ≡ Some v → is_once pool ≡ true → wider ≡ firsts (pool ++ texts_of v.items)
+      → slice_get views i ≡ Some v → is_too_full wider ≡ false → wider ≡ firsts (pool ++ texts_of v.items)
       → a ≡ codes_among wider v → more ≡ codes ++ a ∷ [] → Unified views (i + 1) wider more
-  Unified-view i v a pool wider codes more is at once widened made pushed =
-      let now : wider ≡ all_texts (take (i + 1) views) = widened ∙ pool-view i v pool at is.pool_is once in
+  Unified-view i v a pool wider codes more is at fits widened made pushed =
+      let now : wider ≡ all_texts (take (i + 1) views) = widened ∙ pool-view i v pool at is.pool_is in
       let f = codes_among (all_texts views) in
       record {
         pool_is = now;
+        fits = fits;
         codes_are = pushed ∙ ap (λ l. l ++ a ∷ []) is.codes_are
             ∙ ap (λ b. map f (take i views) ++ b ∷ []) (made ∙ ap (λ l. codes_among l v) now ∙ codes-view i v at)
             ∙ sym (map-append f (take i views) (v ∷ [])) ∙ ap (map f) (sym (take-view i v at));
       }
 
   -- Texts that are too many with one column more are so among all.
-  pub full_in_views : (i : ℕ) (v : Seen) (pool : List (List ℕ)) → slice_get views i ≡ Some v → pool ≡ all_texts (take i views) → is_once pool ≡ true
+  pub full_in_views : (i : ℕ) (v : Seen) (pool : List (List ℕ)) → slice_get views i ≡ Some v → pool ≡ all_texts (take i views)
       → is_too_full (firsts (pool ++ texts_of v.items)) ≡ true → is_too_full (all_texts views) ≡ true
-  full_in_views i v pool at is once full =
+  full_in_views i v pool at is full =
       ap is_too_full (grown (i + 1)) ∙ is_too_full-append (all_texts (take (i + 1) views)) (rest_from (i + 1))
-      (ap is_too_full (sym (pool-view i v pool at is once)) ∙ full)
+      (ap is_too_full (sym (pool-view i v pool at is)) ∙ full)
 
 -- One text more in the dictionary.
 pub text_added : (ts : List (List ℕ)) (i : ℕ) (o : Option (List ℕ)) (before after : List Item) → i < length ts → o ≡ slice_get ts i

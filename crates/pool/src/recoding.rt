@@ -6,7 +6,7 @@ ghost use Rattle.arrays.specs.Kind.{int32};
 ghost use Rattle.arrays.specs.Shown.{shown};
 ghost use Rattle.arrays.specs.Slot.{is_text};
 ghost use Rattle.pool.specs.Codes.{code_item};
-ghost use Rattle.pool.specs.Texts.{firsts, texts_of, is_too_full};
+ghost use Rattle.pool.specs.Texts.{firsts, texts_of, is_once, is_too_full};
 
 use crate::fault::PoolFault;
 use crate::text_pool::TextPool;
@@ -27,26 +27,23 @@ pub fn recode(alloc: Global, view: &View<'_>, pool: &mut TextPool) -> Result<Arr
     ensures kept { OnErr result (pool.new ≡ pool.old) }
 {
     let len = pool.len();
-    match add_all(alloc, view, pool) {
-        Ok(codes) => {
-            pool.tell_bounds();
-            Ok(codes)
-        }
-        Err(fault) => {
-            pool.cut_back(len);
-            Err(fault)
-        }
+    let codes = add_all(alloc, view, pool);
+    if codes.is_err() {
+        pool.cut_back(len);
     }
+    codes
 }
 
 /// The same, but the pool keeps what was added where it fails.
 fn add_all(alloc: Global, view: &View<'_>, pool: &mut TextPool) -> Result<Array, PoolFault>
-    requires { is_text view.now.kind ≡ true }
+    requires text { is_text view.now.kind ≡ true }
+    requires once { is_once pool.old ≡ true }
+    requires fits { is_too_full pool.old ≡ false }
     ensures texts { OnOk result (pool.new ≡ firsts (pool.old ++ texts_of view.now.items)) }
+    ensures fits { OnOk result (is_too_full (firsts (pool.old ++ texts_of view.now.items)) ≡ false) }
     ensures kind { IfOk result (λ a. a.kind ≡ kind.int int32) }
-    ensures codes { IfOk result (λ a. a.items ≡ map (code_item (firsts (pool.old ++ texts_of view.now.items))) view.now.items) }
-    ensures whole { IfOk result (λ a. a ≡ shown (kind.int int32)
-        (map (code_item (firsts (pool.old ++ texts_of view.now.items))) view.now.items)) }
+    ensures codes { IfOk result (λ a. a.items ≡ map (code_item pool.new) view.now.items) }
+    ensures whole { IfOk result (λ a. a ≡ shown (kind.int int32) (map (code_item pool.new) view.now.items)) }
     ensures err { IfErr result (λ e. ((e ≡ PoolFault.TextsFull)
         × (is_too_full (firsts (pool.old ++ texts_of view.now.items)) ≡ true)) ⊎ (e ≡ PoolFault.NoMemory)) }
     ensures longer { length pool.old ≤ length pool.new }
@@ -56,7 +53,6 @@ fn add_all(alloc: Global, view: &View<'_>, pool: &mut TextPool) -> Result<Array,
         bits: Width::W32,
         signed: true,
     };
-    pool.tell_bounds();
     let slots = view.slots() as usize;
     let mut codes = IntBuilder::with_capacity(alloc, ty, slots)?;
     for i in 0..slots {

@@ -52,9 +52,11 @@ impl TextPool {
         }
     }
 
-    /// How many texts there are.
+    /// How many texts there are. No text comes twice, and all fit a column.
     pub fn len(&self) -> usize
-        ensures { result ≡ length self.now }
+        ensures count { result ≡ length self.now }
+        ensures once { is_once self.now ≡ true }
+        ensures fits { is_too_full self.now ≡ false }
     {
         self.texts.len()
     }
@@ -101,7 +103,6 @@ impl TextPool {
     pub fn to_array(&self, alloc: Global) -> Result<Array, NoMemory>
         ensures { IfOk result (λ d. d ≡ shown kind.utf8 (map item.text self.now)) }
     {
-        self.tell_bounds();
         let len = self.len();
         let mut texts = TextBuilder::with_capacity(alloc, len, self.byte_len())?;
         for code in 0..len {
@@ -121,19 +122,13 @@ impl TextPool {
         self.bytes
     }
 
-    /// Says that no text comes twice, and that all fit a column.
-    pub fn tell_bounds(&self)
-        ensures once { is_once self.now ≡ true }
-        ensures fits { is_too_full self.now ≡ false }
-    {
-        let _ = &self.bytes;
-    }
-
     /// The place of a text, which is put at the end where it is new. The pool stays where it can't have it.
     pub(crate) fn add(&mut self, text: &str) -> Result<u32, PoolFault>
+        requires { is_too_full self.old ≡ false }
         ensures texts { OnOk result (self.new ≡ with_text self.old text.now) }
         ensures place { IfOk result (λ code. place_of self.new text.now ≡ Some code) }
         ensures small { IfOk result (λ code. code < 2147483647) }
+        ensures fits { is_too_full self.new ≡ false }
         ensures err { OnErr result (self.new ≡ self.old) }
         ensures fault { IfErr result (IsPoolFault (is_too_full (with_text self.old text.now))) }
     {
@@ -149,6 +144,7 @@ impl TextPool {
         ensures texts { OnOk result (self.new ≡ self.old ++ text.now ∷ []) }
         ensures place { IfOk result (λ code. code ≡ length self.old) }
         ensures small { IfOk result (λ code. code < 2147483647) }
+        ensures fits { is_too_full self.new ≡ false }
         ensures err { OnErr result (self.new ≡ self.old) }
         ensures fault { IfErr result (IsPoolFault (is_too_full (self.old ++ text.now ∷ []))) }
     {

@@ -25,7 +25,6 @@ pub fn unify(alloc: Global, views: &[View<'_>]) -> Result<(Array, Vec<Array>), P
         ⊎ (e ≡ PoolFault.NoMemory)) }
 {
     let (pool, codes) = recode_all(alloc, views)?;
-    pool.tell_bounds();
     let dictionary = pool.to_array(alloc)?;
     Ok((dictionary, codes))
 }
@@ -34,6 +33,7 @@ pub fn unify(alloc: Global, views: &[View<'_>]) -> Result<(Array, Vec<Array>), P
 fn recode_all(alloc: Global, views: &[View<'_>]) -> Result<(TextPool, Vec<Array>), PoolFault>
     requires { All (λ v. is_text v.kind ≡ true) views.now }
     ensures texts { IfOk result (λ r. r.0 ≡ all_texts views.now) }
+    ensures fits { OnOk result (is_too_full (all_texts views.now) ≡ false) }
     ensures codes { IfOk result (λ r. r.1.items ≡ map (codes_among (all_texts views.now)) views.now) }
     ensures err { IfErr result (λ e. ((e ≡ PoolFault.TextsFull) × (is_too_full (all_texts views.now) ≡ true))
         ⊎ (e ≡ PoolFault.NoMemory)) }
@@ -41,7 +41,6 @@ fn recode_all(alloc: Global, views: &[View<'_>]) -> Result<(TextPool, Vec<Array>
     let mut pool = TextPool::new(alloc);
     let mut codes = Vec::with_capacity(alloc, views.len())?;
     for view in views {
-        pool.tell_bounds();
         let column = recode(alloc, view, &mut pool)?;
         codes.push(column)?;
     }

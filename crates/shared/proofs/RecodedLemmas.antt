@@ -36,11 +36,10 @@ same-texts : (old new : List (List ℕ)) → Begins old new → length old ≡ l
 same-texts old new begun same = sym begun ∙ take_all (length old) new (omega (arith, same))
 
 -- The dictionary of as many texts is the one that there is.
-pub dictionary-same : (words : Seen) (old new : List (List ℕ)) → words ≡ shown kind.utf8 (map text old) → Begins old new
-    → length words.items ≡ length new → words ≡ shown kind.utf8 (map text new)
-dictionary-same words old new is begun many =
-    let count : length old ≡ length new = sym (length-map old (λ t. text t)) ∙ ap (λ (s : Seen). length s.items) (sym is) ∙ many in
-    is ∙ ap (λ (l : List (List ℕ)). shown kind.utf8 (map text l)) (same-texts old new begun count)
+pub dictionary-same : (words : Seen) (known : ℕ) (old new : List (List ℕ)) → words ≡ shown kind.utf8 (map text old) → Begins old new
+    → known ≡ length old → known ≡ length new → words ≡ shown kind.utf8 (map text new)
+dictionary-same words known old new is begun had many =
+    is ∙ ap (λ (l : List (List ℕ)). shown kind.utf8 (map text l)) (same-texts old new begun (sym had ∙ many))
 
 -- ---- codes
 

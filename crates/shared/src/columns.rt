@@ -104,19 +104,24 @@ fn stored_texts(
     ensures err { IfErr result (λ e. ((e ≡ PoolFault.TextsFull) × (is_full (pool.old, column.now) ≡ true)) ⊎ (e ≡ PoolFault.NoMemory)) }
     ensures begun { Begins pool.old pool.new }
 {
-    pool.tell_bounds();
+    let known = pool.len();
     let codes = recode(alloc, &column.view(), pool)?;
-    let words = newest(alloc, words, pool)?;
+    let words = newest(alloc, words, known, pool)?;
     let dictionary = words.clone()?;
     Ok((Array::dict(codes, dictionary), words))
 }
 
-/// The dictionary of a pool: the one that there is, unless the pool has more texts.
-fn newest(alloc: Global, words: &Arc<Words>, pool: &TextPool) -> Result<Arc<Words>, NoMemory>
-    requires { length (arc_value words.now).items ≡ length pool.now → arc_value words.now ≡ shown kind.utf8 (map text pool.now) }
+/// The dictionary of a pool: the one that there is, of the first `known` texts, unless the pool has more.
+fn newest(
+    alloc: Global,
+    words: &Arc<Words>,
+    known: usize,
+    pool: &TextPool,
+) -> Result<Arc<Words>, NoMemory>
+    requires { known ≡ length pool.now → arc_value words.now ≡ shown kind.utf8 (map text pool.now) }
     ensures { IfOk result (λ w. arc_value w ≡ shown kind.utf8 (map text pool.now)) }
 {
-    if words.view().len() == pool.len() {
+    if pool.len() == known {
         Ok(words.clone()?)
     } else {
         let texts = pool.to_array(alloc)?;

@@ -1,13 +1,13 @@
 use Rattle.std.proofs.Common.{inl, inr, ◌≡◌, ◌∙◌, ◌+◌, ◌++◌, ◌∷◌, [], ◌<◌, pos, take, Some, refl, sym, ap, subst}
 use Rattle.arrays.specs.Slot.{item_of}
-use Rattle.pool.specs.Texts.{firsts, texts_of, with_text, place_of}
+use Rattle.pool.specs.Texts.{firsts, texts_of, with_text, place_of, is_too_full}
 use Rattle.pool.proofs.RecodeLemmas.{Recoded, Recoded-none, Recoded-text, Recoded-null, pool-text, pool-null, full_in_all, told_of_all, to_z_small, starts_take, starts_longer}
 use Rattle.pool.proofs.recoding.add_all.Goals as goal
 use Rattle.pool.proofs.recoding.add_all.Goals.{in-Some+in_ok-add-in-Some, in-None}
 
 pub loop-i-init : goal.loop-i-init
 loop-i-init c =
-    Recoded-none c.args.pool.now c.args.view.now.items c.in_ok-codes.codes 0 refl c.tell_bounds.ensures.once c.in_ok-codes.ensures.0 c.in_ok-codes.ensures.1
+    Recoded-none c.args.pool.now c.args.view.now.items c.in_ok-codes.codes 0 refl c.requires.once c.requires.fits c.in_ok-codes.ensures.0 c.in_ok-codes.ensures.1
 
 pub returns-in_err-add-in-Some-clause-err : goal.returns-in_err-add-in-Some-clause-err
 returns-in_err-add-in-Some-clause-err c =
@@ -20,18 +20,18 @@ returns-in_err-add-in-Some-clause-err c =
 
 pub returns-in_err-add-in-Some-clause-longer : goal.returns-in_err-add-in-Some-clause-longer
 returns-in_err-add-in-Some-clause-longer c =
-    starts_longer c.args.pool.now (texts_of (take c.loop-i.i c.args.view.now.items)) c.add.new.self c.tell_bounds.ensures.once (c.in_err-add-in-Some.ensures.err ∙ c.loop-i.invariant.pool_is)
+    starts_longer c.args.pool.now (texts_of (take c.loop-i.i c.args.view.now.items)) c.add.new.self c.requires.once (c.in_err-add-in-Some.ensures.err ∙ c.loop-i.invariant.pool_is)
 
 pub returns-in_err-add-in-Some-clause-begins : goal.returns-in_err-add-in-Some-clause-begins
 returns-in_err-add-in-Some-clause-begins c =
-    starts_take c.args.pool.now (texts_of (take c.loop-i.i c.args.view.now.items)) c.add.new.self c.tell_bounds.ensures.once (c.in_err-add-in-Some.ensures.err ∙ c.loop-i.invariant.pool_is)
+    starts_take c.args.pool.now (texts_of (take c.loop-i.i c.args.view.now.items)) c.add.new.self c.requires.once (c.in_err-add-in-Some.ensures.err ∙ c.loop-i.invariant.pool_is)
 
 pub returns-in_err-push_as-clause-longer : goal.returns-in_err-push_as-clause-longer
 returns-in_err-push_as-clause-longer c =
     let old = c.args.pool.now in
     let items = c.args.view.now.items in
     let i = c.loop-i.i in
-    let longer = starts_longer old (texts_of (take (i + 1) items)) c.match-text_at.pool c.tell_bounds.ensures.once in
+    let longer = starts_longer old (texts_of (take (i + 1) items)) c.match-text_at.pool c.requires.once in
     elim c.match-text_at.branch [
       | in-Some+in_ok-add-in-Some w ↦ longer (w.pool-is ∙ w.in_ok-add-in-Some.ensures.texts
           ∙ pool-text old items i w.in-Some.text.now c.loop-i.pool w.in-Some.ensures c.loop-i.invariant.pool_is)
@@ -43,7 +43,7 @@ returns-in_err-push_as-clause-begins c =
     let old = c.args.pool.now in
     let items = c.args.view.now.items in
     let i = c.loop-i.i in
-    let begins = starts_take old (texts_of (take (i + 1) items)) c.match-text_at.pool c.tell_bounds.ensures.once in
+    let begins = starts_take old (texts_of (take (i + 1) items)) c.match-text_at.pool c.requires.once in
     elim c.match-text_at.branch [
       | in-Some+in_ok-add-in-Some w ↦ begins (w.pool-is ∙ w.in_ok-add-in-Some.ensures.texts
           ∙ pool-text old items i w.in-Some.text.now c.loop-i.pool w.in-Some.ensures c.loop-i.invariant.pool_is)
@@ -61,7 +61,7 @@ loop-i-preserved c =
           let small : code < 2147483647 = w.in_ok-add-in-Some.ensures.small in
           let number : c.match-text_at.code ≡ Some (pos code) = w.code-is ∙ ap (λ z. Some z) (to_z_small code small) in
           Recoded-text old items i w.in-Some.text.now w.in_ok-add-in-Some.field-0 c.loop-i.pool c.match-text_at.pool c.loop-i.codes c.push_as.new.self c.loop-i.invariant
-          w.in-Some.ensures (w.pool-is ∙ w.in_ok-add-in-Some.ensures.texts)
+          w.in-Some.ensures (w.pool-is ∙ w.in_ok-add-in-Some.ensures.texts) (ap is_too_full w.pool-is ∙ w.in_ok-add-in-Some.ensures.fits)
           (ap (λ l. place_of l w.in-Some.text.now) w.pool-is ∙ w.in_ok-add-in-Some.ensures.place) c.in_ok-push_as.ensures.kept
           (c.in_ok-push_as.ensures.ok ∙ ap (λ o. c.loop-i.codes.items ++ item_of o ∷ []) number))
       | in-None w ↦ (
@@ -72,16 +72,16 @@ loop-i-preserved c =
 
 pub returns-in_err-finish-clause-longer : goal.returns-in_err-finish-clause-longer
 returns-in_err-finish-clause-longer c =
-    starts_longer c.args.pool.now (texts_of (take c.loop-i.i c.args.view.now.items)) c.loop-i.pool c.tell_bounds.ensures.once c.loop-i.invariant.pool_is
+    starts_longer c.args.pool.now (texts_of (take c.loop-i.i c.args.view.now.items)) c.loop-i.pool c.requires.once c.loop-i.invariant.pool_is
 
 pub returns-in_err-finish-clause-begins : goal.returns-in_err-finish-clause-begins
 returns-in_err-finish-clause-begins c =
-    starts_take c.args.pool.now (texts_of (take c.loop-i.i c.args.view.now.items)) c.loop-i.pool c.tell_bounds.ensures.once c.loop-i.invariant.pool_is
+    starts_take c.args.pool.now (texts_of (take c.loop-i.i c.args.view.now.items)) c.loop-i.pool c.requires.once c.loop-i.invariant.pool_is
 
 pub returns-clause-longer : goal.returns-clause-longer
 returns-clause-longer c =
-    starts_longer c.args.pool.now (texts_of (take c.loop-i.i c.args.view.now.items)) c.loop-i.pool c.tell_bounds.ensures.once c.loop-i.invariant.pool_is
+    starts_longer c.args.pool.now (texts_of (take c.loop-i.i c.args.view.now.items)) c.loop-i.pool c.requires.once c.loop-i.invariant.pool_is
 
 pub returns-clause-begins : goal.returns-clause-begins
 returns-clause-begins c =
-    starts_take c.args.pool.now (texts_of (take c.loop-i.i c.args.view.now.items)) c.loop-i.pool c.tell_bounds.ensures.once c.loop-i.invariant.pool_is
+    starts_take c.args.pool.now (texts_of (take c.loop-i.i c.args.view.now.items)) c.loop-i.pool c.requires.once c.loop-i.invariant.pool_is

@@ -1,6 +1,6 @@
-use Rattle.std.proofs.Common.{◌++◌, length, refl}
+use Rattle.std.proofs.Common.{◌++◌, ◌∙◌, length, refl, ap}
 use Rattle.std.proofs.lemmas.Option.{slice_get_read}
-use Rattle.pool.specs.Texts.{firsts, texts_of}
+use Rattle.pool.specs.Texts.{firsts, texts_of, is_too_full}
 use Rattle.pool.specs.Unified.{all_texts}
 use Rattle.pool.proofs.RecodeLemmas.{told_of_all}
 use Rattle.pool.proofs.UnifyLemmas.{Unified-view, full_in_views}
@@ -15,7 +15,7 @@ returns-in_err-column-clause-err c =
     let at = slice_get_read views (length views) i v refl c.loop-view-test.true c.view-item.is in
     told_of_all c.from_residual-in_err-column.result c.in_err-column.field-0.0 (firsts (pool ++ texts_of v.items)) (all_texts views)
     c.from_residual-in_err-column.ensures.1 c.in_err-column.ensures.err
-    (full_in_views views i v pool at c.loop-view.invariant.pool_is c.tell_bounds.ensures.once)
+    (full_in_views views i v pool at c.loop-view.invariant.pool_is)
 
 pub loop-view-preserved : goal.loop-view-preserved
 loop-view-preserved c =
@@ -24,4 +24,4 @@ loop-view-preserved c =
     let v = c.view-item.result in
     let at = slice_get_read views (length views) i v refl c.loop-view-test.true c.view-item.is in
     Unified-view views i v c.in_ok-column.column c.loop-view.pool c.recode.new.pool c.loop-view.codes.items c.push.new.self.items c.loop-view.invariant
-    at c.tell_bounds.ensures.once c.in_ok-column.ensures.texts c.in_ok-column.ensures.whole c.in_ok-push.ensures.items
+    at (ap is_too_full c.in_ok-column.ensures.texts ∙ c.in_ok-column.ensures.fits) c.in_ok-column.ensures.texts c.in_ok-column.ensures.whole c.in_ok-push.ensures.items

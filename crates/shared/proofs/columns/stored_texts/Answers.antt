@@ -14,16 +14,17 @@ use Rattle.shared.proofs.columns.stored_texts.Goals as goal
 
 pub newest-requires : goal.newest-requires
 newest-requires c =
-    dictionary-same (arc_value c.args.words.now) c.args.pool.now c.recode.new.pool c.requires.words
-    (begun-recoded c.args.pool.now (texts_of c.view.result.items) c.recode.new.pool c.tell_bounds.ensures.once c.in_ok-codes.ensures.texts)
+    dictionary-same (arc_value c.args.words.now) c.len-known.result c.args.pool.now c.recode.new.pool c.requires.words
+    (begun-recoded c.args.pool.now (texts_of c.view.result.items) c.recode.new.pool c.len-known.ensures.once c.in_ok-codes.ensures.texts)
+    c.len-known.ensures.count
 
 pub returns-in_err-words-clause-begun : goal.returns-in_err-words-clause-begun
 returns-in_err-words-clause-begun c =
-    begun-recoded c.args.pool.now (texts_of c.view.result.items) c.recode.new.pool c.tell_bounds.ensures.once c.in_ok-codes.ensures.texts
+    begun-recoded c.args.pool.now (texts_of c.view.result.items) c.recode.new.pool c.len-known.ensures.once c.in_ok-codes.ensures.texts
 
 pub returns-in_err-dictionary-clause-begun : goal.returns-in_err-dictionary-clause-begun
 returns-in_err-dictionary-clause-begun c =
-    begun-recoded c.args.pool.now (texts_of c.view.result.items) c.recode.new.pool c.tell_bounds.ensures.once c.in_ok-codes.ensures.texts
+    begun-recoded c.args.pool.now (texts_of c.view.result.items) c.recode.new.pool c.len-known.ensures.once c.in_ok-codes.ensures.texts
 
 pub dict-requires-clause-codes : goal.dict-requires-clause-codes
 dict-requires-clause-codes c =
@@ -43,4 +44,4 @@ returns-clause-column c =
 
 pub returns-clause-begun : goal.returns-clause-begun
 returns-clause-begun c =
-    begun-recoded c.args.pool.now (texts_of c.view.result.items) c.recode.new.pool c.tell_bounds.ensures.once c.in_ok-codes.ensures.texts
+    begun-recoded c.args.pool.now (texts_of c.view.result.items) c.recode.new.pool c.len-known.ensures.once c.in_ok-codes.ensures.texts

@@ -1,4 +1,4 @@
-use Rattle.std.proofs.Common.{◌≡◌, ◌++◌, ◌∷◌, ◌⊎◌, [], Some, OnOk, IfErr, true, sym, ap, subst, if◌then◌else◌}
+use Rattle.std.proofs.Common.{◌≡◌, ◌++◌, ◌∷◌, [], Some, OnOk, IfErr, sym, ap, subst, if◌then◌else◌}
 use Rattle.std.specs.Str.{bytes_eq}
 use Rattle.pool.specs.Texts.{IsPoolFault, place_of, is_too_full}
 use Rattle.pool.proofs.PlaceLemmas.{among_found, among_missing, with_text-new, placed}

@@ -14,7 +14,7 @@ invariant_of-self-2 c =
     let apart : is_among (map string_bytes keys) t ≡ false = ap (λ ts. is_among ts t) c.self.view_is ∙ c.requires in
     let new = inserted keys c.insert.new.self.keys c.in_ok-copy.copy t c.in_ok-insert.ensures.keys c.in_ok-copy.ensures.ok apart in
     let small : c.len-code.result < 2147483647 = c.if-code-ge-MOST.false in
-    let few : length (map string_bytes keys) < 2147483647 = omega (arith, small, c.len-code.ensures, ap (λ (l : List (List ℕ)). length l) c.self.view_is) in
+    let few : length (map string_bytes keys) < 2147483647 = omega (arith, small, c.len-code.ensures.count, ap (λ (l : List (List ℕ)). length l) c.self.view_is) in
     let short : length t ≤ 2147483647 - bytes = c.if-text-self.false in
     subst (λ ts. IsPool ts (bytes + length t)) (sym new) (IsPool-push (map string_bytes keys) bytes t c.self.invariant apart few short)
 
@@ -36,6 +36,6 @@ fits_still shown ts bytes t is pool apart few short =
 
 pub returns-in_err-copy-clause-fault : goal.returns-in_err-copy-clause-fault
 returns-in_err-copy-clause-fault c =
-    let few : length c.args.self.now < 2147483647 = omega (arith, c.if-code-ge-MOST.false, c.len-code.ensures) in
+    let few : length c.args.self.now < 2147483647 = omega (arith, c.if-code-ge-MOST.false, c.len-code.ensures.count) in
     let p = err_from_is_err_and c.from_residual.result c.from_residual.ensures.1 in
     rw (p.1, p.2) (inr (refl, fits_still c.args.self.now _ c.self.inside.bytes c.args.text.now c.self.view_is c.self.invariant c.requires few c.if-text-self.false))

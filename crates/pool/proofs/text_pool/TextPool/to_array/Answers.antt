@@ -5,11 +5,11 @@ use Rattle.pool.proofs.text_pool.TextPool.to_array.Goals as goal
 
 pub unreachable-requires : goal.unreachable-requires
 unreachable-requires c =
-    let below : c.loop-code.code < length c.args.self.now = omega (arith, c.loop-code-test.true, c.len-len.ensures) in
-    let fits = text_fits c.args.self.now c.loop-code.code (option_copied c.text_of-text.result) c.loop-code.texts below c.text_of-text.ensures c.loop-code.invariant c.tell_bounds.ensures.fits in
+    let below : c.loop-code.code < length c.args.self.now = omega (arith, c.loop-code-test.true, c.len-len.ensures.count) in
+    let fits = text_fits c.args.self.now c.loop-code.code (option_copied c.text_of-text.result) c.loop-code.texts below c.text_of-text.ensures c.loop-code.invariant c.len-len.ensures.fits in
     elim c.in-Err-OffsetsFull.ensures.fault [ inl h ↦ true≢false (sym h.1 ∙ fits) | inr h ↦ let no = h.0 in cc ]
 
 pub loop-code-preserved : goal.loop-code-preserved
 loop-code-preserved c =
-    let below : c.loop-code.code < length c.args.self.now = omega (arith, c.loop-code-test.true, c.len-len.ensures) in
+    let below : c.loop-code.code < length c.args.self.now = omega (arith, c.loop-code-test.true, c.len-len.ensures.count) in
     text_added c.args.self.now c.loop-code.code (option_copied c.text_of-text.result) c.loop-code.texts c.push.new.self below c.text_of-text.ensures c.loop-code.invariant c.in-Ok.ensures.ok
