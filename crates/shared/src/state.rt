@@ -2,7 +2,7 @@
 
 ghost use Rattle.std.specs.Prelude.{◌≡◌, ◌⊎◌, [], IfErr, IfOk, None, OnErr, OnOk, Some, length, replicate};
 ghost use Rattle.std.specs.Arc.{arc_value};
-ghost use Rattle.shared.specs.Cause.{batch_cause, early_cause};
+ghost use Rattle.shared.specs.Cause.{IsLegal, batch_cause, early_cause};
 ghost use Rattle.shared.specs.Contents.{Contents, admitted};
 ghost use Rattle.shared.specs.Stored.{stored_fields};
 
@@ -58,7 +58,7 @@ impl TableState {
 
     /// Adds a batch of a worker at the end, and gives the number of its entry in the book, from 0. A batch without rows
     /// is admitted too. After a refusal the table is as it was. Want of memory is told only where nothing else stands that
-    /// can be told without any: the fields, a null, a full table or a full book.
+    /// can be told without any: the fields, a null, a full table or a full book. What was added is always a legal history.
     pub fn admit(&mut self, worker: u32, batch: &RecordBatch) -> Result<u32, Refusal>
         ensures number { IfOk result (λ n. n ≡ length self.old.history) }
         ensures allowed { OnOk result (batch_cause self.old.fields self.old.history batch.now ≡ None) }
@@ -66,6 +66,7 @@ impl TableState {
         ensures err { IfErr result (λ e. ((e ≡ Refusal.NoMemory) × (early_cause self.old.fields self.old.history batch.now ≡ None))
             ⊎ (batch_cause self.old.fields self.old.history batch.now ≡ Some e)) }
         ensures kept { OnErr result (self.new ≡ self.old) }
+        ensures legal { IsLegal self.new.fields self.new.history }
     {
         if let Some(refusal) = early_refusal(&self.held, batch) {
             return Err(refusal);

@@ -34,3 +34,8 @@ returns-clause-added c =
     let is = Held-same c.self.inside.held c.reserve.new.self c.reserve.ensures.same c.self.invariant.0 in
     put-shows c.reserve.new.self c.put_in.new.self c.args.batch.now c.args.worker c.in_ok-new.new is c.in_ok-new.ensures.ok c.put_in.ensures
     ∙ ap (λ (s : Contents). admitted s c.args.worker c.args.batch.now) (show-same c.self.inside.held c.reserve.new.self c.reserve.ensures.same ∙ c.self.view_is)
+
+pub returns-clause-legal : goal.returns-clause-legal
+returns-clause-legal c =
+    let is = Held-same c.self.inside.held c.reserve.new.self c.reserve.ensures.same c.self.invariant.0 in
+    (put-held c.reserve.new.self c.put_in.new.self c.args.batch.now c.args.worker c.in_ok-new.new is c.in_ok-new.ensures.ok c.put_in.ensures).legal
