@@ -1,10 +1,9 @@
 //! The batches of a file, admitted one after the other.
-ghost use Rattle.std.specs.Prelude.{◌≡◌, ◌++◌, ◌∷◌, [], Some, IfOk, IfErr, OnOk};
-ghost use Rattle.arrays.specs.Batch.{rows_of, Table};
+ghost use Rattle.std.specs.Prelude.{◌≡◌, ◌++◌, ◌∷◌, [], length, IfOk, IfErr, OnOk};
+ghost use Rattle.arrays.specs.Batch.{rows_of};
 ghost use Rattle.arrow_json.specs.Integers.{AreIntegers};
 ghost use Rattle.arrow_json.specs.JsonFile.{AreUnder};
 ghost use Rattle.arrowtab.specs.Held.{alone, Stops, StopsTable};
-ghost use Rattle.shared.specs.Cause.{cause};
 
 use crate::run_fault::RunFault;
 use arrays::{File, RecordBatch, Schema};
@@ -21,8 +20,8 @@ pub(crate) fn load(alloc: Global, file: File) -> Result<TableState, RunFault>
 {
     let (schema, batches) = file.into_parts();
     let mut table = empty_table(alloc, schema)?;
-    for batch in batches {
-        add(&mut table, &batch)?;
+    for (number, batch) in batches.into_iter().enumerate() {
+        add(&mut table, number, &batch)?;
     }
     Ok(table)
 }
@@ -36,8 +35,9 @@ fn empty_table(alloc: Global, schema: Schema) -> Result<TableState, NoMemory>
     TableState::new(alloc, schema)
 }
 
-/// Adds a batch of the table's fields as worker 0.
-fn add(table: &mut TableState, batch: &RecordBatch) -> Result<(), RunFault>
+/// Adds a batch of the table's fields as worker 0. A refusal is told by the number of those before it.
+fn add(table: &mut TableState, number: usize, batch: &RecordBatch) -> Result<(), RunFault>
+    requires number { number ≡ length table.old.history }
     requires integers { AreIntegers table.old.fields }
     requires same { batch.now.fields ≡ table.old.fields }
     ensures fields { table.new.fields ≡ table.old.fields }
@@ -48,23 +48,10 @@ fn add(table: &mut TableState, batch: &RecordBatch) -> Result<(), RunFault>
         Ok(_) => Ok(()),
         Err(refusal) => match refusal {
             Refusal::NoMemory => Err(RunFault::NoMemory),
-            _ => Err(refused(table, refusal)),
+            _ => Err(RunFault::Refused {
+                batch: number,
+                refusal,
+            }),
         },
-    }
-}
-
-/// The refusal of the batch that would have been next, told by the number of those before it.
-fn refused(table: &TableState, refusal: Refusal) -> RunFault
-    ensures { (t : Table) → cause table.now.fields table.now.history t ≡ Some refusal
-        → StopsTable table.now.fields table.now.history t result }
-{
-    let Ok(version) = table.version() else {
-        return RunFault::NoMemory;
-    };
-    // What a version has rows of is a legal history.
-    let _rows = version.rows();
-    RunFault::Refused {
-        batch: version.book_len() as usize,
-        refusal,
     }
 }
