@@ -13,7 +13,7 @@ use Rattle.types.specs.Kind.{bytes_of}
 use Rattle.layout.specs.Item.{Item, null, int}
 use Rattle.types.specs.Number.{number_at, IsOfType, bytes_of_number}
 use Rattle.arrays.specs.Column.{Column}
-use Rattle.arrays.specs.Made.{show_numbers}
+use Rattle.arrays.specs.FromParts.{show_numbers}
 use Rattle.arrays.specs.Packed.{IsBufferOf}
 use Rattle.layout.specs.Seen.{Seen, valid_at, valid_in}
 use Rattle.arrays.specs.Shown.{kept, shown}

@@ -15,7 +15,7 @@ use Rattle.types.specs.First.{first}
 use Rattle.layout.specs.Fault.{is_no_code, least_row}
 use Rattle.arrays.specs.Dictionary.{encoded, is_code, looked_up}
 use Rattle.layout.specs.Seen.{Seen}
-use Rattle.layout.specs.Reading.{Reading, held, read_parts}
+use Rattle.layout.specs.Reading.{Reading, inner_of, read_parts}
 use Rattle.layout.specs.Checked.{checked}
 use Rattle.layout.proofs.FirstFaultLemmas.{IsWhole, own_fault-whole}
 use Rattle.layout.proofs.LawfulLemmas.{texts_of, either_false, none_held, no_dictionary}
@@ -81,7 +81,7 @@ named n buffers entries =
 -- ---- the array that they make
 
 dict_whole : (n : ℕ) (buffers : Buffers) (d : Reading) → (read_parts (kind.int int32) n None buffers [] None).fault ≡ None → d.kind ≡ kind.utf8
-    → All (λ c. is_code d.length c ≡ true) (column (kind.int int32) n buffers [] []) → IsWhole kind.dict n None buffers [] (Some (held d))
+    → All (λ c. is_code d.length c ≡ true) (column (kind.int int32) n buffers [] []) → IsWhole kind.dict n None buffers [] (Some (inner_of d))
 dict_whole n buffers d lawful texts all =
     let w = whole (kind.int int32) n None buffers [] None lawful in
     record {
@@ -104,7 +104,7 @@ dict_lawful : (n : ℕ) (buffers : Buffers) (d : Reading) → (read_parts (kind.
     → All (λ c. is_code d.length c ≡ true) (column (kind.int int32) n buffers [] []) → (read_parts kind.dict n None buffers [] (Some d)).fault ≡ None
 unfolding read_parts
 dict_lawful n buffers d lawful texts none all =
-    ap (λ o. first (o ∷ None ∷ d.fault ∷ [])) (own_fault-whole kind.dict n None buffers [] (Some (held d)) (dict_whole n buffers d lawful texts all))
+    ap (λ o. first (o ∷ None ∷ d.fault ∷ [])) (own_fault-whole kind.dict n None buffers [] (Some (inner_of d)) (dict_whole n buffers d lawful texts all))
     ∙ ap (λ o. first (None ∷ None ∷ o ∷ [])) none
 
 codes_shown : (n : ℕ) (buffers : Buffers) → (read_parts (kind.int int32) n None buffers [] None).seen.items ≡ column (kind.int int32) n buffers [] []

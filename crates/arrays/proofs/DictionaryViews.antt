@@ -17,10 +17,10 @@ use Rattle.types.specs.Kind.{Kind, int32, same_kind}
 use Rattle.layout.specs.Layout.{Buffers, is_valid, column, codes, code_at}
 use Rattle.types.specs.Number.{natural, number_at, is_negative}
 use Rattle.types.specs.First.{first}
-use Rattle.layout.specs.Fault.{Held, own_fault, do_parts_differ, is_no_code, entry_count}
+use Rattle.layout.specs.Fault.{Inner, own_fault, do_parts_differ, is_no_code, entry_count}
 use Rattle.layout.specs.Seen.{Seen, part, valid_at}
 use Rattle.arrays.specs.Values.{HasNumbers}
-use Rattle.layout.specs.Reading.{Reading, read_parts, reading, held, child_fault, entries_of}
+use Rattle.layout.specs.Reading.{Reading, read_parts, reading, inner_of, child_fault, entries_of}
 use Rattle.layout.specs.Checked.{checked}
 use Rattle.arrays.specs.Dictionary.{looked_up, is_code, encoded, codes_of, dictionary_of, entries_shown, texts_alone}
 use Rattle.arrays.specs.View.{read_view, show_view}
@@ -42,7 +42,7 @@ childless : (n : ℕ) (buffers : Buffers) (children : List Reading) (dictionary 
 childless n buffers children dictionary lawful =
     none_held children (either_false _ _ (whole kind.dict n None buffers children dictionary lawful).parts_agree).0
 
-codes_whole : (n : ℕ) (buffers : Buffers) (dictionary : Option Held) → IsWhole kind.dict n None buffers [] dictionary → IsWhole (kind.int int32) n None buffers [] None
+codes_whole : (n : ℕ) (buffers : Buffers) (dictionary : Option Inner) → IsWhole kind.dict n None buffers [] dictionary → IsWhole (kind.int int32) n None buffers [] None
 codes_whole n buffers dictionary w = record {
   short = w.short;
   shallow = refl;
@@ -65,8 +65,8 @@ unfolding read_parts
 codes_lawful n buffers children dictionary lawful =
     let none = childless n buffers children dictionary lawful in
     let w = whole kind.dict n None buffers children dictionary lawful in
-    let own = own_fault-whole (kind.int int32) n None buffers [] None (codes_whole n buffers (option_map held dictionary) (subst (λ (cs : List Reading). IsWhole kind.dict n None buffers (map held cs) (option_map held dictionary)) none w)) in
-    ap (λ (cs : List Reading). first (own_fault (kind.int int32) n None buffers (map held cs) None ∷ child_fault cs ∷ None ∷ [])) none
+    let own = own_fault-whole (kind.int int32) n None buffers [] None (codes_whole n buffers (option_map inner_of dictionary) (subst (λ (cs : List Reading). IsWhole kind.dict n None buffers (map inner_of cs) (option_map inner_of dictionary)) none w)) in
+    ap (λ (cs : List Reading). first (own_fault (kind.int int32) n None buffers (map inner_of cs) None ∷ child_fault cs ∷ None ∷ [])) none
     ∙ ap (λ f. first (f ∷ None ∷ None ∷ [])) own
 
 -- ---- what they show
@@ -127,7 +127,7 @@ code_fits : (b : Bool) (z : ℤ) (n : ℕ) → (b && (is_negative z || not (int_
 code_fits true z n h = both_sides (is_negative z) (int_lt z (pos n)) h
 code_fits false z n h = refl
 
-counted : (words : Option Seen) → entry_count (option_map held (option_map checked words)) ≡ length (entries_of (option_map checked words)).items
+counted : (words : Option Seen) → entry_count (option_map inner_of (option_map checked words)) ≡ length (entries_of (option_map checked words)).items
 counted None = refl
 counted (Some s) = refl
 
@@ -142,7 +142,7 @@ codes_fit n buffers children words start len lawful within =
     let fits : (j : ℕ) → j < len → is_code entries (slot j) ≡ true =
     λ j h.
     code_fits (is_valid buffers (start + j)) (code_at buffers (start + j)) entries
-    (ap (λ m. is_no_code buffers m (start + j)) (sym (counted words)) ∙ fails-least_none (is_no_code buffers (entry_count (option_map held (option_map checked words)))) n w.all_codes (start + j) (omega (arith, h, within))) in
+    (ap (λ m. is_no_code buffers m (start + j)) (sym (counted words)) ∙ fails-least_none (is_no_code buffers (entry_count (option_map inner_of (option_map checked words)))) n w.all_codes (start + j) (omega (arith, h, within))) in
     let are = slice-column (kind.int int32) n buffers [] [] start len within in
     subst (All (λ c. is_code entries c ≡ true)) (sym are) (All-from_get_or (λ c. is_code entries c ≡ true) (map slot (range_with_len 0 len)) null (λ i h.
     let below : i < len = omega (arith, h, length-map-range_with_len slot 0 len) in
@@ -150,7 +150,7 @@ codes_fit n buffers children words start len lawful within =
 
 -- ---- a view
 
-words_there : {X : Type 0} (f : X → Seen) (o : Option X) (children : List Held) → do_parts_differ kind.dict children (option_map held (option_map checked (option_map f o))) ≡ false → IsSome o
+words_there : {X : Type 0} (f : X → Seen) (o : Option X) (children : List Inner) → do_parts_differ kind.dict children (option_map inner_of (option_map checked (option_map f o))) ≡ false → IsSome o
 words_there f None children h = absurd (false≢true (sym (either_false _ _ h).1))
 words_there f (Some x) children h = refl
 
@@ -183,7 +183,7 @@ codes_of_view v s shows dict lawful within =
       shows = codes-seen v.total v.buffers.now children (option_map checked words) v.start v.len ∙ ap codes_of shown;
       named = encoded-is s dict (subst (λ (q : Seen). q.items ≡ map (looked_up q.entries.items) q.codes) shown (named-part v.total v.buffers.now children (option_map checked words) v.start v.len));
       fit = subst (λ (q : Seen). All (λ c. is_code (length q.entries.items) c ≡ true) q.codes) shown (codes_fit v.total v.buffers.now children words v.start v.len lawful_dict within);
-      there = words_there (λ w. arc_value w.now) v.words (map held children) w.parts_agree;
+      there = words_there (λ w. arc_value w.now) v.words (map inner_of children) w.parts_agree;
       entries = sym (dict_entries v.total v.buffers.now children (option_map checked words)) ∙ ap (λ (q : Seen). q.entries) shown;
     }
 

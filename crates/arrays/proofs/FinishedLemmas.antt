@@ -11,7 +11,7 @@ use Rattle.layout.specs.Fault.{is_validity_short}
 use Rattle.layout.specs.Item.{Item, null, is_null}
 use Rattle.types.specs.Kind.{Kind}
 use Rattle.layout.specs.Layout.{is_valid_in}
-use Rattle.arrays.specs.Made.{show_slots}
+use Rattle.arrays.specs.FromParts.{show_slots}
 use Rattle.arrays.specs.Packed.{IsBufferOf}
 use Rattle.layout.specs.Seen.{Seen, no_entries}
 use Rattle.arrays.specs.Shown.{kept, shown}

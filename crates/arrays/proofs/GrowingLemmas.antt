@@ -10,7 +10,7 @@ use Rattle.colbits.proofs.BitLemmas.{get_or-bits}
 use Rattle.arrays.specs.Growing.{bools_where}
 use Rattle.layout.specs.Item.{Item, null, boolean}
 use Rattle.types.specs.Kind as kind
-use Rattle.arrays.specs.Made.{show_bits}
+use Rattle.arrays.specs.FromParts.{show_bits}
 use Rattle.arrays.specs.Packed.{IsBufferOf}
 use Rattle.arrays.specs.Shown.{kept, shown}
 use Rattle.arrays.specs.Slot.{item_of_bool}

@@ -16,7 +16,7 @@ use Rattle.layout.specs.Layout.{is_valid_in}
 use Rattle.types.specs.Number.{natural, number_at, is_negative, IsOfType, bytes_of_number}
 use Rattle.arrays.specs.Growing.{cut_texts, lengths_where, AreFresh, AreLaid, AreTextsOf, IsText}
 use Rattle.arrays.specs.Lengths.{cut, is_past, total}
-use Rattle.arrays.specs.Made.{AreTexts, show_lists, show_slots, show_texts}
+use Rattle.arrays.specs.FromParts.{AreTexts, show_lists, show_slots, show_texts}
 use Rattle.layout.specs.Offsets.{AreOffsets, length_of, of_slot, start_of}
 use Rattle.arrays.specs.Packed.{IsBufferOf}
 use Rattle.layout.specs.Seen.{Seen, no_entries}

@@ -1,6 +1,6 @@
 pub mod ListLemmas
 pub mod BuilderLemmas
-pub mod MadeLemmas
+pub mod FromPartsLemmas
 pub mod ListArrays
 pub mod ViewLemmas
 pub mod SlotLemmas

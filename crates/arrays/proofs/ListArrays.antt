@@ -7,22 +7,22 @@ use Rattle.types.specs.Kind.{Kind, bytes_of, depth, kind_of, same_int, same_kind
 use Rattle.layout.specs.Seen.{Seen}
 use Rattle.layout.specs.Checked.{checked}
 use Rattle.arrays.specs.Array.{read_array, show_array}
-use Rattle.layout.specs.Reading.{Reading, read_parts, reading, held}
+use Rattle.layout.specs.Reading.{Reading, read_parts, reading, inner_of}
 use Rattle.types.specs.First.{first}
-use Rattle.layout.specs.Fault.{Held, do_parts_differ, is_validity_short, own_fault}
+use Rattle.layout.specs.Fault.{Inner, do_parts_differ, is_validity_short, own_fault}
 use Rattle.layout.specs.Offsets.{AreOffsets, start_of}
-use Rattle.arrays.specs.Made.{show_lists}
+use Rattle.arrays.specs.FromParts.{show_lists}
 use Rattle.arrays.specs.declared.array.Array.TheInside.{Inside}
 use Rattle.layout.specs.Layout.{Buffers, column}
 use Rattle.layout.proofs.FirstFaultLemmas.{own_fault-whole}
-use Rattle.arrays.proofs.MadeLemmas.{offsets_pass}
+use Rattle.arrays.proofs.FromPartsLemmas.{offsets_pass}
 use Rattle.layout.proofs.SeenLemmas.{seen-kind}
 use Rattle.layout.proofs.LawfulLemmas.{either_false, no_dictionary, parts_agree, reading-again}
 
 -- ---- the parts of an array that has no dictionary
 
-none_held : (k : Kind) (children : List Held) (dictionary : Option Reading) → same_kind k kind.dict ≡ false
-    → do_parts_differ k children (option_map held dictionary) ≡ false → dictionary ≡ None
+none_held : (k : Kind) (children : List Inner) (dictionary : Option Reading) → same_kind k kind.dict ≡ false
+    → do_parts_differ k children (option_map inner_of dictionary) ≡ false → dictionary ≡ None
 none_held (kind.int t) children dictionary other h = no_dictionary dictionary (either_false _ _ h).1
 none_held kind.boolean children dictionary other h = no_dictionary dictionary (either_false _ _ h).1
 none_held kind.utf8 children dictionary other h = no_dictionary dictionary (either_false _ _ h).1
@@ -37,7 +37,7 @@ read-wordless a lawful other =
     let children = map reading a.children.items in
     let words = option_map checked (option_map arc_value a.words) in
     let not_dict : same_kind k kind.dict ≡ false = ap (λ k. same_kind k kind.dict) (sym (seen-kind k a.length None a.buffers.items children words)) ∙ other in
-    let wordless = none_held k (map held children) words not_dict (parts_agree k a.length None a.buffers.items children words lawful) in
+    let wordless = none_held k (map inner_of children) words not_dict (parts_agree k a.length None a.buffers.items children words lawful) in
     ap (read_parts k a.length None a.buffers.items children) (sym wordless)
     ∙ sym (reading-again k a.length None a.buffers.items children words lawful)
 
@@ -67,10 +67,10 @@ read_over k l m n buffers parts children raw child kind_is len_is buffers_are on
 
 own_fault-list : (n : ℕ) (validity : Option (List ℕ)) (offsets : List ℕ) (child : Seen) → n ≤ 2147483647 → is_validity_short n validity ≡ false
     → AreOffsets n offsets (length child.items) → same_kind child.kind kind.dict ≡ false → depth child.kind < 8
-    → own_fault (kind.list child.kind) n None (validity ∷ Some offsets ∷ []) (held (checked child) ∷ []) None ≡ None
+    → own_fault (kind.list child.kind) n None (validity ∷ Some offsets ∷ []) (inner_of (checked child) ∷ []) None ≡ None
 own_fault-list n validity offsets child short valid are other shallow =
     let pass = offsets_pass n offsets (length child.items) are in
-    own_fault-whole (kind.list child.kind) n None (validity ∷ Some offsets ∷ []) (held (checked child) ∷ []) None record {
+    own_fault-whole (kind.list child.kind) n None (validity ∷ Some offsets ∷ []) (inner_of (checked child) ∷ []) None record {
       short = le-ltb 2147483647 n short;
       shallow = le-ltb 8 (suc (depth child.kind)) (omega arith);
       none_missing = refl;

@@ -8,8 +8,8 @@ use Rattle.types.specs.Kind as kind
 use Rattle.types.specs.Kind.{Kind, int32}
 use Rattle.layout.specs.Layout.{Buffers, bytes_at, offset_at}
 use Rattle.types.specs.Number.{number_at, natural, is_negative}
-use Rattle.layout.specs.Fault.{Held, are_offsets_short, child_length}
-use Rattle.layout.specs.Held.{HasOffsets}
+use Rattle.layout.specs.Fault.{Inner, are_offsets_short, child_length}
+use Rattle.layout.specs.Inner.{HasOffsets}
 use Rattle.layout.specs.Offsets.{AreOffsets, offsets_from, start_of, length_of}
 use Rattle.layout.proofs.FirstFaultLemmas.{IsWhole}
 use Rattle.layout.proofs.OffsetLemmas.{rises_by, start-rises, text_ends, list_ends}
@@ -35,7 +35,7 @@ fails-any_none : (test : ℕ → Bool) (n : ℕ) → list_any test (range_with_l
 fails-any_none test n h j below =
     not_found (test j) (λ passes. false≢true (sym h ∙ any_found test n j below passes))
 
-pub rising-texts : (n : ℕ) (stated : Option ℕ) (buffers : Buffers) (children : List Held) (dictionary : Option Held)
+pub rising-texts : (n : ℕ) (stated : Option ℕ) (buffers : Buffers) (children : List Inner) (dictionary : Option Inner)
     → IsWhole kind.utf8 n stated buffers children dictionary → Rising n (bytes_at buffers 1) (length (bytes_at buffers 2))
 rising-texts n stated buffers children dictionary whole = record {
   enough = whole.data_enough;
@@ -44,7 +44,7 @@ rising-texts n stated buffers children dictionary whole = record {
   ends = text_ends n buffers children whole.none_decreases whole.within_end;
 }
 
-pub rising-lists : (k : Kind) (n : ℕ) (stated : Option ℕ) (buffers : Buffers) (children : List Held) (dictionary : Option Held)
+pub rising-lists : (k : Kind) (n : ℕ) (stated : Option ℕ) (buffers : Buffers) (children : List Inner) (dictionary : Option Inner)
     → IsWhole (kind.list k) n stated buffers children dictionary → Rising n (bytes_at buffers 1) (child_length children)
 rising-lists k n stated buffers children dictionary whole = record {
   enough = whole.data_enough;

@@ -13,13 +13,13 @@ use Rattle.layout.specs.declared.raw.RawArray.{RawArray, out-RawArray}
 use Rattle.layout.specs.Item.{Item, null, is_null, boolean, text, list, list_of}
 use Rattle.types.specs.Kind as kind
 use Rattle.types.specs.Kind.{Kind, kind_of, same_kind}
-use Rattle.layout.specs.Layout.{Buffers, bytes_at, held_at, is_valid, column, value_at, start_at, length_at}
+use Rattle.layout.specs.Layout.{Buffers, bytes_at, buffer_at, is_valid, column, value_at, start_at, length_at}
 use Rattle.layout.specs.declared.fault.LayoutFault.{LayoutFault}
 use Rattle.types.specs.First.{first}
 use Rattle.layout.specs.Fault.{own_fault, bytes_for, child_length, is_no_child, bad_text_row, is_no_text}
-use Rattle.layout.specs.Held.{HasOffsets}
+use Rattle.layout.specs.Inner.{HasOffsets}
 use Rattle.layout.specs.Seen.{Seen, part, valid_in, valid_at}
-use Rattle.layout.specs.Reading.{Reading, read_parts, reading, held, fault, child_fault, dictionary_fault, child_items, entries_of}
+use Rattle.layout.specs.Reading.{Reading, read_parts, reading, inner_of, fault, child_fault, dictionary_fault, child_items, entries_of}
 use Rattle.layout.specs.Checked.{checked}
 use Rattle.layout.specs.Offsets.{AreOffsets, offsets_from, start_of, length_of}
 use Rattle.arrays.specs.Values.{HasBits, HasTexts, HasLists, valid_values}
@@ -59,8 +59,8 @@ items-part k n buffers children dictionary start len value within is =
     let valid : (j : ℕ) → j < len → valid_at s j ≡ is_valid buffers (start + j) =
     λ j h.
     ap (λ v. valid_in (option_map (λ b. slice b start len) v) j) (seen-validity k n None buffers children dictionary)
-    ∙ ap (λ v. valid_in v j) (validity-part start len n (held_at buffers 0) within)
-    ∙ valid-part start len j (held_at buffers 0) h in
+    ∙ ap (λ v. valid_in v j) (validity-part start len n (buffer_at buffers 0) within)
+    ∙ valid-part start len j (buffer_at buffers 0) h in
     let slot : ℕ → Item = λ j. cond (is_valid buffers (start + j)) (value_at k buffers child entries (start + j)) null in
     let shown : ℕ → Item = λ j. cond (valid_at s j) (value j) null in
     let same : (j : ℕ) → j < len → slot (0 + j) ≡ shown (0 + j) =
@@ -89,9 +89,9 @@ value_is v k is j =
 
 -- a view is of an array where each test has passed
 whole_view : (v : Inside) (k : Kind) → view_kind v.ty ≡ k → (read_view v).fault ≡ None
-    → IsWhole k v.total None v.buffers.now (map held (map reading v.children.now)) (option_map held (option_map checked (option_map (λ w. arc_value w.now) v.words)))
+    → IsWhole k v.total None v.buffers.now (map inner_of (map reading v.children.now)) (option_map inner_of (option_map checked (option_map (λ w. arc_value w.now) v.words)))
 whole_view v k is lawful =
-    subst (λ q. IsWhole q v.total None v.buffers.now (map held (map reading v.children.now)) (option_map held (option_map checked (option_map (λ w. arc_value w.now) v.words)))) is
+    subst (λ q. IsWhole q v.total None v.buffers.now (map inner_of (map reading v.children.now)) (option_map inner_of (option_map checked (option_map (λ w. arc_value w.now) v.words)))) is
     (whole (view_kind v.ty) v.total None v.buffers.now (map reading v.children.now) (option_map checked (option_map (λ w. arc_value w.now) v.words)) lawful)
 
 second_of_three : (a b c : Option LayoutFault) → first (a ∷ b ∷ c ∷ []) ≡ None → b ≡ None
@@ -103,7 +103,7 @@ children_lawful : (k : Kind) (n : ℕ) (buffers : Buffers) (children : List Read
     → (read_parts k n None buffers children dictionary).fault ≡ None → child_fault children ≡ None
 unfolding read_parts
 children_lawful k n buffers children dictionary h =
-    second_of_three (own_fault k n None buffers (map held children) (option_map held dictionary)) (child_fault children) (dictionary_fault dictionary) h
+    second_of_three (own_fault k n None buffers (map inner_of children) (option_map inner_of dictionary)) (child_fault children) (dictionary_fault dictionary) h
 
 -- ---- bits
 
@@ -188,7 +188,7 @@ list_kind kind.utf8 h = cc
 list_kind (kind.list k) h = (k, refl)
 list_kind kind.dict h = cc
 
-some_child : (k : Kind) (children : List RawArray) → is_no_child k (map held (map reading children)) ≡ false → 0 < length children
+some_child : (k : Kind) (children : List RawArray) → is_no_child k (map inner_of (map reading children)) ≡ false → 0 < length children
 some_child k [] h = cc
 some_child k (c ∷ cs) h = omega arith
 
@@ -249,8 +249,8 @@ lists_of_view v s d shows listed lawful within =
     let seen = seen-reading raw in
     let seen_kind : (reading raw).seen.kind ≡ of.0 = seen.0 ∙ child.kind_is in
     let few = ltb-false 8 (kind.depth (kind.list of.0)) w.shallow in
-    let most : child_length (map held (map reading v.children.now)) ≡ length (reading raw).seen.items =
-    ap (λ (cs : List RawArray). child_length (map held (map reading cs))) child.is ∙ sym seen.1 in
+    let most : child_length (map inner_of (map reading v.children.now)) ≡ length (reading raw).seen.items =
+    ap (λ (cs : List RawArray). child_length (map inner_of (map reading cs))) child.is ∙ sym seen.1 in
     let items : child_items (map reading v.children.now) ≡ (reading raw).seen.items = ap (λ (cs : List RawArray). child_items (map reading cs)) child.is in
     let rises = rising-lists of.0 v.total None buffers _ _ w in
     let slots = length-show_view v within in
@@ -259,7 +259,7 @@ lists_of_view v s d shows listed lawful within =
     ap (λ xs. slice xs (start_at buffers (v.start + j)) (length_at buffers (v.start + j))) items
     ∙ ap (λ a. slice (reading raw).seen.items a (length_at buffers (v.start + j))) (sym (start_part v.total (bytes_at buffers 1) rises.enough v.start v.len within j (omega (arith, h))))
     ∙ ap (slice (reading raw).seen.items (start_of offsets j)) (sym (length_part v.total (bytes_at buffers 1) rises.enough v.start v.len within j h)) in
-    let bounds = AreOffsets-part v.total (bytes_at buffers 1) (child_length (map held (map reading v.children.now))) rises v.start v.len within in
+    let bounds = AreOffsets-part v.total (bytes_at buffers 1) (child_length (map inner_of (map reading v.children.now))) rises v.start v.len within in
     record {
       lawful = child.lawful;
       plain = child.plain;

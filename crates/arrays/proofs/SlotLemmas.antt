@@ -14,11 +14,11 @@ use Rattle.types.specs.declared.int_type.IntType.{IntType}
 use Rattle.layout.specs.Item.{Item, null, int}
 use Rattle.types.specs.Kind as kind
 use Rattle.types.specs.Kind.{Kind, bits_of, bytes_of}
-use Rattle.layout.specs.Layout.{Buffers, held_at, bytes_at, is_valid, is_valid_in, validity_of, column, value_at}
+use Rattle.layout.specs.Layout.{Buffers, buffer_at, bytes_at, is_valid, is_valid_in, validity_of, column, value_at}
 use Rattle.types.specs.Number.{number_at}
 use Rattle.layout.specs.Seen.{Seen, part, valid_in, valid_at, nulls_in}
 use Rattle.layout.specs.Fault.{is_validity_short, bytes_for}
-use Rattle.layout.specs.Reading.{Reading, read_parts, reading, held, child_items}
+use Rattle.layout.specs.Reading.{Reading, read_parts, reading, inner_of, child_items}
 use Rattle.layout.specs.Checked.{checked}
 use Rattle.arrays.specs.ViewType.{view_kind}
 use Rattle.arrays.specs.View.{read_view, show_view}
@@ -31,10 +31,10 @@ use Rattle.layout.proofs.SeenLemmas.{slice-slice, length-slice, length-items}
 
 -- where no fault stands, each test has passed
 pub whole : (k : Kind) (n : ℕ) (stated : Option ℕ) (buffers : Buffers) (children : List Reading) (dictionary : Option Reading)
-    → (read_parts k n stated buffers children dictionary).fault ≡ None → IsWhole k n stated buffers (map held children) (option_map held dictionary)
+    → (read_parts k n stated buffers children dictionary).fault ≡ None → IsWhole k n stated buffers (map inner_of children) (option_map inner_of dictionary)
 unfolding read_parts
 whole k n stated buffers children dictionary h =
-    own_fault-none k n stated buffers (map held children) (option_map held dictionary) (first-parts _ _ h).0
+    own_fault-none k n stated buffers (map inner_of children) (option_map inner_of dictionary) (first-parts _ _ h).0
 
 -- ---- validity
 
@@ -119,8 +119,8 @@ HasNumbers-part t n buffers children dictionary start len lawful within =
     let valid : (j : ℕ) → j < len → valid_at s j ≡ is_valid buffers (start + j) =
     λ j h.
     ap (λ v. valid_in (option_map (λ b. slice b start len) v) j) (seen-validity (kind.int t) n None buffers children dictionary)
-    ∙ ap (λ v. valid_in v j) (validity-part start len n (held_at buffers 0) within)
-    ∙ valid-part start len j (held_at buffers 0) h in
+    ∙ ap (λ v. valid_in v j) (validity-part start len n (buffer_at buffers 0) within)
+    ∙ valid-part start len j (buffer_at buffers 0) h in
     let slot : ℕ → Item = λ j. cond (is_valid buffers (start + j)) (int (number_at t bytes (start + j))) null in
     let shown : ℕ → Item = λ j. cond (valid_at s j) (int (number_at t numbers j)) null in
     let same : (j : ℕ) → j < len → slot (0 + j) ≡ shown (0 + j) =
@@ -155,17 +155,17 @@ number_there t bytes s j has within =
 
 -- ---- views
 
-pub validity-view : (v : Inside) → v.start + v.len ≤ v.total → (show_view v).validity ≡ option_map (λ bytes. bits bytes v.start v.len) (held_at v.buffers.now 0)
+pub validity-view : (v : Inside) → v.start + v.len ≤ v.total → (show_view v).validity ≡ option_map (λ bytes. bits bytes v.start v.len) (buffer_at v.buffers.now 0)
 validity-view v h =
     ap (option_map (λ b. slice b v.start v.len)) (seen-validity (view_kind v.ty) v.total None v.buffers.now (map reading v.children.now) (option_map checked (option_map (λ w. arc_value w.now) v.words)))
-    ∙ validity-part v.start v.len v.total (held_at v.buffers.now 0) h
+    ∙ validity-part v.start v.len v.total (buffer_at v.buffers.now 0) h
 
 pub valid-view : (v : Inside) (j : ℕ) → v.start + v.len ≤ v.total → j < v.len → valid_at (show_view v) j ≡ is_valid v.buffers.now (v.start + j)
-valid-view v j h below = ap (λ o. valid_in o j) (validity-view v h) ∙ valid-part v.start v.len j (held_at v.buffers.now 0) below
+valid-view v j h below = ap (λ o. valid_in o j) (validity-view v h) ∙ valid-part v.start v.len j (buffer_at v.buffers.now 0) below
 
-pub bits-view : (v : Inside) (bytes : List ℕ) → (read_view v).fault ≡ None → held_at v.buffers.now 0 ≡ Some bytes → v.total ≤ 8 * length bytes
+pub bits-view : (v : Inside) (bytes : List ℕ) → (read_view v).fault ≡ None → buffer_at v.buffers.now 0 ≡ Some bytes → v.total ≤ 8 * length bytes
 bits-view v bytes lawful is =
-    bits_enough v.total bytes (held_at v.buffers.now 0) is
+    bits_enough v.total bytes (buffer_at v.buffers.now 0) is
     (whole (view_kind v.ty) v.total None v.buffers.now (map reading v.children.now) (option_map checked (option_map (λ w. arc_value w.now) v.words)) lawful).validity_enough
 
 -- the numbers of an integer view, and that their bytes are there

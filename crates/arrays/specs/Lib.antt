@@ -7,7 +7,7 @@ pub use Rattle.types.specs.Schema
 pub use Rattle.types.specs.Shape
 pub use Rattle.layout.specs.Checked
 pub use Rattle.layout.specs.Fault
-pub use Rattle.layout.specs.Held
+pub use Rattle.layout.specs.Inner
 pub use Rattle.layout.specs.Item
 pub use Rattle.layout.specs.Layout
 pub use Rattle.layout.specs.Offsets
@@ -21,7 +21,7 @@ pub mod Words
 pub mod Array
 pub mod Column
 pub mod Builder
-pub mod Made
+pub mod FromParts
 pub mod ViewType
 pub mod View
 pub mod Dictionary

@@ -6,7 +6,7 @@ ghost use Rattle.types.specs.Kind as kind;
 ghost use Rattle.types.specs.Kind.{int32, kind_of};
 ghost use Rattle.layout.specs.Reading.{fault, read_parts, reading};
 
-mod made;
+mod from_parts;
 
 use crate::view::{View, ViewType};
 use crate::words::Words;

@@ -170,7 +170,7 @@ impl<'a> View<'a> {
     pub fn validity(&self) -> Option<Bits<'a>>
         ensures { result ≡ self.now.validity }
     {
-        match buffers::held_at(self.buffers, 0) {
+        match buffers::buffer_at(self.buffers, 0) {
             Some(bytes) => Some(Bits::new(bytes, self.start, self.len)),
             None => None,
         }

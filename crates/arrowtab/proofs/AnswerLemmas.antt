@@ -8,7 +8,7 @@ use Rattle.arrays.specs.Batch as batch
 use Rattle.arrays.specs.File.{File}
 use Rattle.arrays.specs.Item.{Item, null}
 use Rattle.arrays.specs.Seen.{Seen}
-use Rattle.arrowtab.specs.Held.{alone, IsRefused, Shows, Stops}
+use Rattle.arrowtab.specs.Alone.{alone, IsRefused, Shows, Stops}
 use Rattle.arrow_json.specs.JsonBatch.{table_of}
 use Rattle.arrow_json.specs.JsonFile.{Reads, file_of}
 use Rattle.arrow_json.specs.JsonTable as read

@@ -11,7 +11,7 @@ use Rattle.arrays.specs.Kind.{same_int}
 use Rattle.arrays.specs.Shape.{FieldShape, boolean, dict, field, int, kind_of_field, list, utf8}
 use Rattle.types.specs.declared.int_type.Width.{Width}
 use Rattle.types.specs.declared.int_type.Width.TheVariants.{W8, W16, W32, W64}
-use Rattle.arrowtab.specs.Held.{Stops, StopsTable, alone}
+use Rattle.arrowtab.specs.Alone.{Stops, StopsTable, alone}
 use Rattle.arrowtab.specs.declared.run_fault.RunFault.{RunFault}
 use Rattle.arrowtab.specs.declared.run_fault.RunFault.TheVariants.{CannotRead, File, NoMemory, Refused}
 use Rattle.arrow_json.specs.Integers.{AreIntegers, is_integer}

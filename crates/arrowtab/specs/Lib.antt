@@ -12,4 +12,4 @@ pub mod Told
 pub mod Run
 pub mod Explained
 pub mod Job
-pub mod Held
+pub mod Alone

@@ -8,20 +8,20 @@ use Rattle.shared.specs.declared.refusal.Refusal.{Refusal}
 use Rattle.arrow_json.specs.declared.path.Step.{Step}
 use Rattle.arrow_json.specs.declared.fault.JsonFaultKind.{JsonFaultKind}
 
-abbrev pub told : List ℕ → List ℕ
-told what = line (codes "arrowtab: " ++ what)
+abbrev pub message : List ℕ → List ℕ
+message what = line (codes "arrowtab: " ++ what)
 
 abbrev pub unread_line : List ℕ → List ℕ
-unread_line name = told (name ++ codes ": cannot be read")
+unread_line name = message (name ++ codes ": cannot be read")
 
 abbrev pub file_line : List ℕ → JsonFaultKind → List Step → List ℕ
-file_line name kind path = told (name ++ codes ": " ++ fault_text kind path)
+file_line name kind path = message (name ++ codes ": " ++ fault_text kind path)
 
 abbrev pub refusal_line : List ℕ → ℕ → Refusal → List ℕ
-refusal_line name number refusal = told (name ++ codes ": batch " ++ decimal number ++ codes ": " ++ refusal_text refusal)
+refusal_line name number refusal = message (name ++ codes ": batch " ++ decimal number ++ codes ": " ++ refusal_text refusal)
 
 abbrev pub memory_line : List ℕ
-memory_line = told (codes "no memory")
+memory_line = message (codes "no memory")
 
 abbrev pub output_line : List ℕ
-output_line = told (codes "output failed")
+output_line = message (codes "output failed")

@@ -2,7 +2,7 @@
 ghost use Rattle.std.specs.Prelude.{◌≡◌, ◌^◌, ◌-◌, ◌<◌, IfOk, IfErr, IfSome, string_bytes};
 ghost use Rattle.arrowtab.specs.Run.{Answers};
 ghost use Rattle.arrowtab.specs.Explained.{Explains, ExplainsBytes};
-ghost use Rattle.arrowtab.specs.Held.{Shows, Stops};
+ghost use Rattle.arrowtab.specs.Alone.{Shows, Stops};
 ghost use Rattle.arrow_json.specs.JsonFile.{AreUnder};
 
 use crate::load::load;

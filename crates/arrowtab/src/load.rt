@@ -3,7 +3,7 @@ ghost use Rattle.std.specs.Prelude.{◌≡◌, ◌++◌, ◌∷◌, [], length, 
 ghost use Rattle.arrays.specs.Batch.{rows_of};
 ghost use Rattle.arrow_json.specs.Integers.{AreIntegers};
 ghost use Rattle.arrow_json.specs.JsonFile.{AreUnder};
-ghost use Rattle.arrowtab.specs.Held.{alone, Stops, StopsTable};
+ghost use Rattle.arrowtab.specs.Alone.{alone, Stops, StopsTable};
 
 use crate::run_fault::RunFault;
 use arrays::{File, RecordBatch, Schema};

@@ -15,7 +15,7 @@ use Rattle.arrays.specs.Kind.{Kind, same_int}
 use Rattle.arrays.specs.Number.{number_at, is_of_type}
 use Rattle.arrays.specs.Layout.{is_valid_in}
 use Rattle.arrays.specs.Fault.{least_row}
-use Rattle.arrays.specs.Made.{show_numbers}
+use Rattle.arrays.specs.FromParts.{show_numbers}
 use Rattle.arrays.specs.Seen.{Seen, valid_at, valid_in, no_entries}
 use Rattle.arrays.specs.Values.{HasNumbers}
 use Rattle.arrays.proofs.ListLemmas.{map-range-below}
@@ -25,7 +25,7 @@ use Rattle.kernels.specs.Lift.{item_at, lifted}
 use Rattle.arrays.specs.Packed.{IsBufferOf}
 use Rattle.arrays.specs.Shown.{kept, shown}
 use Rattle.kernels.specs.Valid.{valid_in_both, both_valid}
-use Rattle.kernels.specs.Fault.{Told, shape_fault}
+use Rattle.kernels.specs.Fault.{IsKernelFault, shape_fault}
 use Rattle.kernels.specs.Arithmetic.{exact, results, is_outside, first_bad, are_one_int, operands_fault, arithmetic_fault}
 use Rattle.kernels.specs.Computed.{result_at, AreOfType, AreResults, IsLeastOutside, StopsAt}
 use Rattle.arrays.proofs.ValidityLemmas.{valid-kept-places, kept_buffer}
@@ -143,7 +143,7 @@ fault_at f t xs ys a b row are is =
     ∙ ap (option_map (λ row. Overflow row)) is
 
 pub told : (f : ℤ → ℤ → ℤ) (t : IntType) (xs ys : List ℕ) (a b : Seen) (valid : Option (List Bool)) (n : ℕ) (e : KernelFault) → AreOperands t xs ys a b → valid ≡ kept (both_valid a b)
-    → n ≡ length a.items → StopsAt t (result_at f t xs ys) (valid_in valid) n e → Told (operands_fault a b) (arithmetic_fault f a b) e
+    → n ≡ length a.items → StopsAt t (result_at f t xs ys) (valid_in valid) n e → IsKernelFault (operands_fault a b) (arithmetic_fault f a b) e
 told f t xs ys a b valid n (Overflow row) are kept_is size stops =
     let least = subst (λ v. IsLeastOutside t (result_at f t xs ys) (valid_in v) n row) kept_is stops in
     let least = subst (λ m. IsLeastOutside t (result_at f t xs ys) (valid_in (kept (both_valid a b))) m row) size least in
@@ -153,9 +153,9 @@ told f t xs ys a b valid n TypesDiffer are kept_is size stops = absurd stops
 told f t xs ys a b valid n LengthsDiffer are kept_is size stops = absurd stops
 
 -- an error that is passed on
-pub told_on : {T : Type 0} (r : Result T KernelFault) (shape all : Option KernelFault) (e : KernelFault) → IsErrAnd r (λ x. x ≡ e) → Told shape all e → IfErr r (Told shape all)
+pub told_on : {T : Type 0} (r : Result T KernelFault) (shape all : Option KernelFault) (e : KernelFault) → IsErrAnd r (λ x. x ≡ e) → IsKernelFault shape all e → IfErr r (IsKernelFault shape all)
 told_on (Ok v) shape all e same h = tt
-told_on (Err x) shape all e same h = subst (Told shape all) (sym same) h
+told_on (Err x) shape all e same h = subst (IsKernelFault shape all) (sym same) h
 
 -- ---- the array of the results
 

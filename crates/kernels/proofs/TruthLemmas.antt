@@ -10,7 +10,7 @@ use Rattle.arrays.specs.Item.{Item, null, boolean, is_null}
 use Rattle.arrays.specs.Kind as kind
 use Rattle.arrays.specs.Layout.{is_valid_in}
 use Rattle.arrays.specs.Fault.{is_validity_short, bytes_for}
-use Rattle.arrays.specs.Made.{show_bits}
+use Rattle.arrays.specs.FromParts.{show_bits}
 use Rattle.arrays.specs.Seen.{Seen, no_entries}
 use Rattle.arrays.proofs.ListLemmas.{map-range-below}
 use Rattle.arrays.specs.Slot.{holds_at}

@@ -13,5 +13,5 @@ abbrev pub type_fault : Bool → Option KernelFault
 type_fault suit = if suit then None else Some TypesDiffer
 
 -- What is told: the first fault that stands, or want of memory, which comes only where types and lengths are as they should be.
-abbrev pub Told : Option KernelFault → Option KernelFault → KernelFault → Type 0
-Told shape all told = (all ≡ Some told) ⊎ ((told ≡ NoMemory) × (shape ≡ None))
+abbrev pub IsKernelFault : Option KernelFault → Option KernelFault → KernelFault → Type 0
+IsKernelFault shape all told = (all ≡ Some told) ⊎ ((told ≡ NoMemory) × (shape ≡ None))

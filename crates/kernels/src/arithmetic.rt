@@ -9,7 +9,7 @@ ghost use Rattle.arrays.specs.Seen.{valid_in};
 ghost use Rattle.arrays.specs.ViewType.{view_kind};
 ghost use Rattle.kernels.specs.Arithmetic.{are_one_int, arithmetic_fault, operands_fault, results};
 ghost use Rattle.kernels.specs.Computed.{AreResults, StopsAt, result_at};
-ghost use Rattle.kernels.specs.Fault.{Told};
+ghost use Rattle.kernels.specs.Fault.{IsKernelFault};
 ghost use Rattle.arrays.specs.Shown.{shown};
 
 use crate::fault::KernelFault;
@@ -26,7 +26,7 @@ use std::alloc::Global;
 pub fn add(alloc: Global, a: &View<'_>, b: &View<'_>) -> Result<Array, KernelFault>
     ensures ok { IfOk result (λ r. (arithmetic_fault ◌+ℤ◌ a.now b.now ≡ None)
         × (r ≡ shown a.now.kind (results ◌+ℤ◌ a.now.items b.now.items))) }
-    ensures err { IfErr result (λ e. Told (operands_fault a.now b.now) (arithmetic_fault ◌+ℤ◌ a.now b.now) e) }
+    ensures err { IfErr result (λ e. IsKernelFault (operands_fault a.now b.now) (arithmetic_fault ◌+ℤ◌ a.now b.now) e) }
 {
     compute::<Sum>(alloc, a, b)
 }
@@ -37,7 +37,7 @@ pub fn add(alloc: Global, a: &View<'_>, b: &View<'_>) -> Result<Array, KernelFau
 pub fn sub(alloc: Global, a: &View<'_>, b: &View<'_>) -> Result<Array, KernelFault>
     ensures ok { IfOk result (λ r. (arithmetic_fault ◌-ℤ◌ a.now b.now ≡ None)
         × (r ≡ shown a.now.kind (results ◌-ℤ◌ a.now.items b.now.items))) }
-    ensures err { IfErr result (λ e. Told (operands_fault a.now b.now) (arithmetic_fault ◌-ℤ◌ a.now b.now) e) }
+    ensures err { IfErr result (λ e. IsKernelFault (operands_fault a.now b.now) (arithmetic_fault ◌-ℤ◌ a.now b.now) e) }
 {
     compute::<Difference>(alloc, a, b)
 }
@@ -47,7 +47,7 @@ pub fn sub(alloc: Global, a: &View<'_>, b: &View<'_>) -> Result<Array, KernelFau
 pub fn mul(alloc: Global, a: &View<'_>, b: &View<'_>) -> Result<Array, KernelFault>
     ensures ok { IfOk result (λ r. (arithmetic_fault ◌*ℤ◌ a.now b.now ≡ None)
         × (r ≡ shown a.now.kind (results ◌*ℤ◌ a.now.items b.now.items))) }
-    ensures err { IfErr result (λ e. Told (operands_fault a.now b.now) (arithmetic_fault ◌*ℤ◌ a.now b.now) e) }
+    ensures err { IfErr result (λ e. IsKernelFault (operands_fault a.now b.now) (arithmetic_fault ◌*ℤ◌ a.now b.now) e) }
 {
     compute::<Product>(alloc, a, b)
 }
@@ -117,7 +117,7 @@ impl Operation for Product {
 fn compute<O: Operation>(alloc: Global, a: &View<'_>, b: &View<'_>) -> Result<Array, KernelFault>
     ensures ok { IfOk result (λ r. (arithmetic_fault O.exact a.now b.now ≡ None)
         × (r ≡ shown a.now.kind (results O.exact a.now.items b.now.items))) }
-    ensures err { IfErr result (λ e. Told (operands_fault a.now b.now) (arithmetic_fault O.exact a.now b.now) e) }
+    ensures err { IfErr result (λ e. IsKernelFault (operands_fault a.now b.now) (arithmetic_fault O.exact a.now b.now) e) }
 {
     let ty = one_type(a.ty(), b.ty())?;
     if a.len() != b.len() {
@@ -160,7 +160,7 @@ fn computed<O: Operation, T: Integer>(
     requires lengths { length a.now.items ≡ length b.now.items }
     ensures ok { IfOk result (λ r. (arithmetic_fault O.exact a.now b.now ≡ None)
         × (r ≡ shown a.now.kind (results O.exact a.now.items b.now.items))) }
-    ensures err { IfErr result (λ e. Told (operands_fault a.now b.now) (arithmetic_fault O.exact a.now b.now) e) }
+    ensures err { IfErr result (λ e. IsKernelFault (operands_fault a.now b.now) (arithmetic_fault O.exact a.now b.now) e) }
 {
     let len = a.slots();
     let validity = both_valid(alloc, a, b)?;

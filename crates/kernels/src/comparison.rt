@@ -4,7 +4,7 @@ ghost use Rattle.std.specs.Prelude.{◌≡◌, None, true, length, IfOk, IfErr};
 ghost use Rattle.arrays.specs.Kind as kind;
 ghost use Rattle.arrays.specs.Slot.{is_text};
 ghost use Rattle.arrays.specs.ViewType.{view_kind};
-ghost use Rattle.kernels.specs.Fault.{Told};
+ghost use Rattle.kernels.specs.Fault.{IsKernelFault};
 ghost use Rattle.kernels.specs.Order.{are_comparable, compared, comparison_fault};
 ghost use Rattle.arrays.specs.Shown.{shown};
 ghost use Rattle.kernels.specs.Wanted.{decisions, wants};
@@ -40,7 +40,7 @@ pub enum CmpOp {
 pub fn compare(alloc: Global, op: CmpOp, a: &View<'_>, b: &View<'_>) -> Result<Array, KernelFault>
     ensures ok { IfOk result (λ r. (comparison_fault a.now b.now ≡ None)
         × (r ≡ shown kind.boolean (compared op a.now.items b.now.items))) }
-    ensures err { IfErr result (λ e. Told (comparison_fault a.now b.now) (comparison_fault a.now b.now) e) }
+    ensures err { IfErr result (λ e. IsKernelFault (comparison_fault a.now b.now) (comparison_fault a.now b.now) e) }
 {
     if !are_comparable(a.ty(), b.ty()) {
         return Err(KernelFault::TypesDiffer);

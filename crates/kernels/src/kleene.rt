@@ -3,7 +3,7 @@
 ghost use Rattle.std.specs.Prelude.{◌≡◌, ◌<◌, Some, None, is_none, is_some, length, ℕ, IfOk, IfErr};
 ghost use Rattle.arrays.specs.Kind as kind;
 ghost use Rattle.arrays.specs.Kind.{same_kind};
-ghost use Rattle.kernels.specs.Fault.{Told};
+ghost use Rattle.kernels.specs.Fault.{IsKernelFault};
 ghost use Rattle.kernels.specs.Kleene.{conjunction, disjunction, negation, truth_fault, truths_fault};
 ghost use Rattle.kernels.specs.Known.{are_both, is_either, knows_false, knows_true, stored_truth, tells_and, tells_or, truth_in};
 ghost use Rattle.arrays.specs.Shown.{shown};
@@ -20,7 +20,7 @@ use std::alloc::Global;
 pub fn kleene_and(alloc: Global, a: &View<'_>, b: &View<'_>) -> Result<Array, KernelFault>
     ensures ok { IfOk result (λ r. (truths_fault a.now b.now ≡ None)
         × (r ≡ shown kind.boolean (conjunction a.now.items b.now.items))) }
-    ensures err { IfErr result (λ e. Told (truths_fault a.now b.now) (truths_fault a.now b.now) e) }
+    ensures err { IfErr result (λ e. IsKernelFault (truths_fault a.now b.now) (truths_fault a.now b.now) e) }
 {
     let operands = operands_of(a, b)?;
     Ok(array_of(alloc, &And { operands })?)
@@ -31,7 +31,7 @@ pub fn kleene_and(alloc: Global, a: &View<'_>, b: &View<'_>) -> Result<Array, Ke
 pub fn kleene_or(alloc: Global, a: &View<'_>, b: &View<'_>) -> Result<Array, KernelFault>
     ensures ok { IfOk result (λ r. (truths_fault a.now b.now ≡ None)
         × (r ≡ shown kind.boolean (disjunction a.now.items b.now.items))) }
-    ensures err { IfErr result (λ e. Told (truths_fault a.now b.now) (truths_fault a.now b.now) e) }
+    ensures err { IfErr result (λ e. IsKernelFault (truths_fault a.now b.now) (truths_fault a.now b.now) e) }
 {
     let operands = operands_of(a, b)?;
     Ok(array_of(alloc, &Or { operands })?)
@@ -41,7 +41,7 @@ pub fn kleene_or(alloc: Global, a: &View<'_>, b: &View<'_>) -> Result<Array, Ker
 /// and else for want of memory alone.
 pub fn kleene_not(alloc: Global, a: &View<'_>) -> Result<Array, KernelFault>
     ensures ok { IfOk result (λ r. (truth_fault a.now ≡ None) × (r ≡ shown kind.boolean (negation a.now.items))) }
-    ensures err { IfErr result (λ e. Told (truth_fault a.now) (truth_fault a.now) e) }
+    ensures err { IfErr result (λ e. IsKernelFault (truth_fault a.now) (truth_fault a.now) e) }
 {
     if !is_of_truths(a) {
         return Err(KernelFault::TypesDiffer);

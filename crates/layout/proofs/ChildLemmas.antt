@@ -9,9 +9,9 @@ use Rattle.types.specs.declared.int_type.IntType.{IntType}
 use Rattle.layout.specs.declared.raw.RawArray.{RawArray, out-RawArray}
 use Rattle.types.specs.Kind as kind
 use Rattle.types.specs.Kind.{Kind, kind_of, bytes_of, same_int, same_kind}
-use Rattle.layout.specs.Fault.{Held, do_parts_differ, is_no_child}
-use Rattle.layout.specs.Held.{held_children, held_dictionary}
-use Rattle.layout.specs.Reading.{Reading, read_parts, reading, held, fault, child_fault}
+use Rattle.layout.specs.Fault.{Inner, do_parts_differ, is_no_child}
+use Rattle.layout.specs.Inner.{inner_children, inner_dictionary}
+use Rattle.layout.specs.Reading.{Reading, read_parts, reading, inner_of, fault, child_fault}
 use Rattle.layout.proofs.FirstFaultLemmas.{fault-none, reading-raw}
 use Rattle.layout.proofs.LawfulLemmas.{MakesArray-raw, MakesArray, either_false}
 
@@ -81,14 +81,14 @@ none_of : (b : Bool) → not b ≡ false → b ≡ true
 none_of true h = refl
 none_of false h = cc
 
-no_words : (k : Kind) (children : List Held) (dictionary : Option Held) → same_kind k kind.dict ≡ false → do_parts_differ k children dictionary ≡ false → is_none dictionary ≡ true
+no_words : (k : Kind) (children : List Inner) (dictionary : Option Inner) → same_kind k kind.dict ≡ false → do_parts_differ k children dictionary ≡ false → is_none dictionary ≡ true
 no_words (kind.int t) children dictionary plain h = none_of (is_none dictionary) (either_false _ _ h).1
 no_words kind.boolean children dictionary plain h = none_of (is_none dictionary) (either_false _ _ h).1
 no_words kind.utf8 children dictionary plain h = none_of (is_none dictionary) (either_false _ _ h).1
 no_words (kind.list k) children dictionary plain h = none_of (is_none dictionary) (either_false _ _ h).1
 no_words kind.dict children dictionary plain h = cc
 
-none_raw : (d : Option (Box RawArray Global)) → is_none (held_dictionary d) ≡ true → d ≡ None
+none_raw : (d : Option (Box RawArray Global)) → is_none (inner_dictionary d) ≡ true → d ≡ None
 none_raw None h = refl
 none_raw (Some b) h = cc
 
@@ -96,7 +96,7 @@ none_raw (Some b) h = cc
 pub MakesArray-plain : (raw : RawArray) → fault raw ≡ None → same_kind (kind_of (out-RawArray raw).ty) kind.dict ≡ false → MakesArray raw None
 MakesArray-plain raw lawful plain =
     let r = out-RawArray raw in
-    let none = none_raw r.dictionary (no_words (kind_of r.ty) (held_children r.children.items) (held_dictionary r.dictionary) plain (fault-none raw lawful).whole.parts_agree) in
+    let none = none_raw r.dictionary (no_words (kind_of r.ty) (inner_children r.children.items) (inner_dictionary r.dictionary) plain (fault-none raw lawful).whole.parts_agree) in
     MakesArray-raw raw None lawful (sym (ap (option_map (λ b. (reading b.value).seen)) none))
 
 -- ---- the one child
@@ -119,7 +119,7 @@ child_same k l h =
     let same = same_kinds k l (none_of (same_kind k l) parts.0) in
     (same, subst (λ q. same_kind q kind.dict ≡ false) same parts.1)
 
-pub only_child : (k : Kind) (children : List RawArray) (d : RawArray) → is_no_child k (map held (map reading children)) ≡ false → child_fault (map reading children) ≡ None → OneChild k children (slice_index_or children 0 d)
+pub only_child : (k : Kind) (children : List RawArray) (d : RawArray) → is_no_child k (map inner_of (map reading children)) ≡ false → child_fault (map reading children) ≡ None → OneChild k children (slice_index_or children 0 d)
 only_child k [] d h lawful = cc
 only_child k (c ∷ []) d h lawful =
     let same = child_same k (reading c).kind h in

@@ -3,11 +3,11 @@ use Rattle.std.proofs.Common.{◌≡◌, ℕ, ◌∙◌, List, [], ◌∷◌, �
 use Rattle.std.specs.declared.boxed.Box.{Box}
 use Rattle.std.specs.declared.alloc.Global.{Global}
 use Rattle.types.specs.Kind.{Kind, depth, kind_of}
-use Rattle.layout.specs.Layout.{Buffers, held_at}
+use Rattle.layout.specs.Layout.{Buffers, buffer_at}
 use Rattle.types.specs.First.{when, first}
-use Rattle.layout.specs.Fault.{Held, positions, is_missing, do_parts_differ, is_validity_short, is_data_short, has_negative_offset, decreasing_row, is_past_end, does_count_differ, bad_text_row, bad_code_row, own_fault, shape_faults, content_faults}
-use Rattle.layout.specs.Held.{held_raw, held_children, held_dictionary, own_fault_of, shape_faults_of, content_faults_of}
-use Rattle.layout.specs.Reading.{Reading, held, reading_step, reading, child_fault, dictionary_fault, read_parts, fault}
+use Rattle.layout.specs.Fault.{Inner, positions, is_missing, do_parts_differ, is_validity_short, is_data_short, has_negative_offset, decreasing_row, is_past_end, does_count_differ, bad_text_row, bad_code_row, own_fault, shape_faults, content_faults}
+use Rattle.layout.specs.Inner.{inner_raw, inner_children, inner_dictionary, own_fault_of, shape_faults_of, content_faults_of}
+use Rattle.layout.specs.Reading.{Reading, inner_of, reading_step, reading, child_fault, dictionary_fault, read_parts, fault}
 use Rattle.layout.specs.declared.fault.LayoutFault.{LayoutFault}
 use Rattle.layout.specs.declared.fault.LayoutFault.TheVariants.{MissingBuffer, ExtraBuffer, BufferTooShort, OffsetNegative, OffsetDecreases, OffsetPastEnd, NullCountDiffers, NotUtf8, IndexPastDictionary, ChildDiffers, TooLong, TooDeep}
 use Rattle.layout.specs.declared.raw.RawArray.{RawArray, RawArray-F, out-RawArray, fold_out-RawArray}
@@ -18,13 +18,13 @@ use Rattle.layout.specs.declared.raw.RawArray.TheShapes.{former-RawArray-diction
 -- ---- no fault at all
 
 -- Every test of an array itself has passed.
-pub record IsWhole (k : Kind) (n : ℕ) (stated : Option ℕ) (buffers : Buffers) (children : List Held) (dictionary : Option Held) : Type 0 where
+pub record IsWhole (k : Kind) (n : ℕ) (stated : Option ℕ) (buffers : Buffers) (children : List Inner) (dictionary : Option Inner) : Type 0 where
   pub short : nat_lt 2147483647 n ≡ false
   pub shallow : nat_lt 8 (depth k) ≡ false
   pub none_missing : is_missing k buffers ≡ false
   pub none_extra : nat_lt (positions k) (length buffers) ≡ false
   pub parts_agree : do_parts_differ k children dictionary ≡ false
-  pub validity_enough : is_validity_short n (held_at buffers 0) ≡ false
+  pub validity_enough : is_validity_short n (buffer_at buffers 0) ≡ false
   pub data_enough : is_data_short k n buffers ≡ false
   pub none_negative : has_negative_offset k n buffers ≡ false
   pub none_decreases : decreasing_row k n buffers ≡ None
@@ -100,7 +100,7 @@ first-append (None ∷ xs) ys = first-append xs ys
 first-append (Some fault ∷ xs) ys = refl
 
 -- Lengths and shapes come before the content.
-pub own_fault-apart : (k : Kind) (n : ℕ) (stated : Option ℕ) (buffers : Buffers) (children : List Held) (dictionary : Option Held)
+pub own_fault-apart : (k : Kind) (n : ℕ) (stated : Option ℕ) (buffers : Buffers) (children : List Inner) (dictionary : Option Inner)
     → own_fault k n stated buffers children dictionary
     ≡ first (first (shape_faults k n buffers children dictionary) ∷ first (content_faults k n stated buffers children dictionary) ∷ [])
 unfolding own_fault
@@ -112,10 +112,10 @@ both_none None None h = (refl, refl)
 both_none None (Some fault) h = cc
 both_none (Some fault) b h = cc
 
-pub shape_faults-none : (k : Kind) (n : ℕ) (buffers : Buffers) (children : List Held) (dictionary : Option Held)
+pub shape_faults-none : (k : Kind) (n : ℕ) (buffers : Buffers) (children : List Inner) (dictionary : Option Inner)
     → first (shape_faults k n buffers children dictionary) ≡ None → (nat_lt 2147483647 n ≡ false) × (is_data_short k n buffers ≡ false)
 shape_faults-none k n buffers children dictionary h =
-    let s = shaped (nat_lt 2147483647 n) (nat_lt 8 (depth k)) (is_missing k buffers) (nat_lt (positions k) (length buffers)) (do_parts_differ k children dictionary) (is_validity_short n (held_at buffers 0)) (is_data_short k n buffers) h in
+    let s = shaped (nat_lt 2147483647 n) (nat_lt 8 (depth k)) (is_missing k buffers) (nat_lt (positions k) (length buffers)) (do_parts_differ k children dictionary) (is_validity_short n (buffer_at buffers 0)) (is_data_short k n buffers) h in
     (s.short, s.data_enough)
 
 -- What the two halves make of the whole.
@@ -131,13 +131,13 @@ pub own_fault-of_shape : (raw : RawArray) (fault : LayoutFault) → Some fault �
 own_fault-of_shape raw fault h =
     let r = out-RawArray raw in
     first_of_both (first (shape_faults_of raw)) (first (content_faults_of raw)) fault h
-    ∙ sym (own_fault-apart (kind_of r.ty) r.length r.null_count r.buffers.items (held_children r.children.items) (held_dictionary r.dictionary))
+    ∙ sym (own_fault-apart (kind_of r.ty) r.length r.null_count r.buffers.items (inner_children r.children.items) (inner_dictionary r.dictionary))
 
 pub own_fault-of_content : (raw : RawArray) → None ≡ first (shape_faults_of raw) → first (content_faults_of raw) ≡ own_fault_of raw
 own_fault-of_content raw h =
     let r = out-RawArray raw in
     second_of_both (first (shape_faults_of raw)) (first (content_faults_of raw)) h
-    ∙ sym (own_fault-apart (kind_of r.ty) r.length r.null_count r.buffers.items (held_children r.children.items) (held_dictionary r.dictionary))
+    ∙ sym (own_fault-apart (kind_of r.ty) r.length r.null_count r.buffers.items (inner_children r.children.items) (inner_dictionary r.dictionary))
 
 -- Where lengths and shapes have no fault, the buffers of a raw array are long enough.
 pub data-enough : (raw : RawArray) (buffers : Buffers) → first (shape_faults_of raw) ≡ None → buffers ≡ (out-RawArray raw).buffers.items
@@ -145,14 +145,14 @@ pub data-enough : (raw : RawArray) (buffers : Buffers) → first (shape_faults_o
 data-enough raw buffers h same =
     let r = out-RawArray raw in
     ap (is_data_short (kind_of r.ty) r.length) same
-    ∙ (shape_faults-none (kind_of r.ty) r.length r.buffers.items (held_children r.children.items) (held_dictionary r.dictionary) h).1
+    ∙ (shape_faults-none (kind_of r.ty) r.length r.buffers.items (inner_children r.children.items) (inner_dictionary r.dictionary) h).1
 
 -- Where an array has no fault of its own, each test has passed.
-pub own_fault-none : (k : Kind) (n : ℕ) (stated : Option ℕ) (buffers : Buffers) (children : List Held) (dictionary : Option Held)
+pub own_fault-none : (k : Kind) (n : ℕ) (stated : Option ℕ) (buffers : Buffers) (children : List Inner) (dictionary : Option Inner)
     → own_fault k n stated buffers children dictionary ≡ None → IsWhole k n stated buffers children dictionary
 own_fault-none k n stated buffers children dictionary h =
     let parts = both_none _ _ (sym (own_fault-apart k n stated buffers children dictionary) ∙ h) in
-    let s = shaped (nat_lt 2147483647 n) (nat_lt 8 (depth k)) (is_missing k buffers) (nat_lt (positions k) (length buffers)) (do_parts_differ k children dictionary) (is_validity_short n (held_at buffers 0)) (is_data_short k n buffers) parts.0 in
+    let s = shaped (nat_lt 2147483647 n) (nat_lt 8 (depth k)) (is_missing k buffers) (nat_lt (positions k) (length buffers)) (do_parts_differ k children dictionary) (is_validity_short n (buffer_at buffers 0)) (is_data_short k n buffers) parts.0 in
     let f = filled (has_negative_offset k n buffers) (decreasing_row k n buffers) (is_past_end k n buffers children) (does_count_differ stated n buffers) (bad_text_row k n buffers) (bad_code_row k n buffers dictionary) parts.1 in
     record {
       short = s.short;
@@ -193,15 +193,15 @@ reading-roll r =
     ∙ ap (read_parts (kind_of r.ty) r.length r.null_count r.buffers.items (map reading r.children.items)) (entries-map reading r.dictionary)
 
 -- What an array knows of its child is what the child's reading holds.
-held-reading : (raw : RawArray) → held (reading raw) ≡ held_raw raw
+held-reading : (raw : RawArray) → inner_of (reading raw) ≡ inner_raw raw
 unfolding read_parts
-held-reading raw = ap held (reading-raw raw)
+held-reading raw = ap inner_of (reading-raw raw)
 
-held-children : (xs : List RawArray) → map held (map reading xs) ≡ held_children xs
+held-children : (xs : List RawArray) → map inner_of (map reading xs) ≡ inner_children xs
 held-children [] = refl
-held-children (x ∷ xs) = ap (λ h. h ∷ map held (map reading xs)) (held-reading x) ∙ ap (λ hs. held_raw x ∷ hs) (held-children xs)
+held-children (x ∷ xs) = ap (λ h. h ∷ map inner_of (map reading xs)) (held-reading x) ∙ ap (λ hs. inner_raw x ∷ hs) (held-children xs)
 
-held-dictionary : (d : Option (Box RawArray Global)) → option_map held (option_map (λ b. reading b.value) d) ≡ held_dictionary d
+held-dictionary : (d : Option (Box RawArray Global)) → option_map inner_of (option_map (λ b. reading b.value) d) ≡ inner_dictionary d
 held-dictionary None = refl
 held-dictionary (Some b) = ap Some (held-reading b.value)
 
@@ -213,8 +213,8 @@ fault-raw raw =
     let r = out-RawArray raw in
     let below = child_fault (map reading r.children.items) ∷ dictionary_fault (option_map (λ b. reading b.value) r.dictionary) ∷ [] in
     ap (λ (q : Reading). q.fault) (reading-raw raw)
-    ∙ ap (λ children. first (own_fault (kind_of r.ty) r.length r.null_count r.buffers.items children (option_map held (option_map (λ b. reading b.value) r.dictionary)) ∷ below)) (held-children r.children.items)
-    ∙ ap (λ dictionary. first (own_fault (kind_of r.ty) r.length r.null_count r.buffers.items (held_children r.children.items) dictionary ∷ below)) (held-dictionary r.dictionary)
+    ∙ ap (λ children. first (own_fault (kind_of r.ty) r.length r.null_count r.buffers.items children (option_map inner_of (option_map (λ b. reading b.value) r.dictionary)) ∷ below)) (held-children r.children.items)
+    ∙ ap (λ dictionary. first (own_fault (kind_of r.ty) r.length r.null_count r.buffers.items (inner_children r.children.items) dictionary ∷ below)) (held-dictionary r.dictionary)
 
 first_of_three : (a b c : Option LayoutFault) (fault : LayoutFault) → Some fault ≡ a → Some fault ≡ first (a ∷ b ∷ c ∷ [])
 first_of_three None b c fault h = cc
@@ -228,31 +228,31 @@ third_of_three : (a b c : Option LayoutFault) → None ≡ a → None ≡ b → 
 third_of_three None b c none h = second_of_both b c h
 third_of_three (Some other) b c none h = cc
 
-abbrev below_child : RawArray → Option LayoutFault
-below_child raw = child_fault (map reading (out-RawArray raw).children.items)
+abbrev child_fault_in : RawArray → Option LayoutFault
+child_fault_in raw = child_fault (map reading (out-RawArray raw).children.items)
 
-abbrev below_dictionary : RawArray → Option LayoutFault
-below_dictionary raw = dictionary_fault (option_map (λ b. reading b.value) (out-RawArray raw).dictionary)
+abbrev dictionary_fault_in : RawArray → Option LayoutFault
+dictionary_fault_in raw = dictionary_fault (option_map (λ b. reading b.value) (out-RawArray raw).dictionary)
 
 pub fault-of_own : (raw : RawArray) (first : LayoutFault) → Some first ≡ own_fault_of raw → Some first ≡ fault raw
 fault-of_own raw first h =
-    first_of_three (own_fault_of raw) (below_child raw) (below_dictionary raw) first h ∙ sym (fault-raw raw)
+    first_of_three (own_fault_of raw) (child_fault_in raw) (dictionary_fault_in raw) first h ∙ sym (fault-raw raw)
 
 pub fault-of_child : (raw : RawArray) (first : LayoutFault) → None ≡ own_fault_of raw
     → Some first ≡ child_fault (map reading (out-RawArray raw).children.items) → Some first ≡ fault raw
 fault-of_child raw first none h =
-    second_of_three (own_fault_of raw) (below_child raw) (below_dictionary raw) first none h ∙ sym (fault-raw raw)
+    second_of_three (own_fault_of raw) (child_fault_in raw) (dictionary_fault_in raw) first none h ∙ sym (fault-raw raw)
 
 pub fault-of_dictionary : (raw : RawArray) → None ≡ own_fault_of raw → None ≡ child_fault (map reading (out-RawArray raw).children.items)
     → dictionary_fault (option_map (λ b. reading b.value) (out-RawArray raw).dictionary) ≡ fault raw
 fault-of_dictionary raw none none_below =
-    third_of_three (own_fault_of raw) (below_child raw) (below_dictionary raw) none none_below ∙ sym (fault-raw raw)
+    third_of_three (own_fault_of raw) (child_fault_in raw) (dictionary_fault_in raw) none none_below ∙ sym (fault-raw raw)
 
 -- ---- no fault in a raw array
 
 -- Every test of the array has passed, and nothing below it has a fault.
 pub record IsLawful (raw : RawArray) : Type 0 where
-  pub whole : IsWhole (kind_of (out-RawArray raw).ty) (out-RawArray raw).length (out-RawArray raw).null_count (out-RawArray raw).buffers.items (held_children (out-RawArray raw).children.items) (held_dictionary (out-RawArray raw).dictionary)
+  pub whole : IsWhole (kind_of (out-RawArray raw).ty) (out-RawArray raw).length (out-RawArray raw).null_count (out-RawArray raw).buffers.items (inner_children (out-RawArray raw).children.items) (inner_dictionary (out-RawArray raw).dictionary)
   pub child : child_fault (map reading (out-RawArray raw).children.items) ≡ None
   pub dictionary : dictionary_fault (option_map (λ b. reading b.value) (out-RawArray raw).dictionary) ≡ None
 
@@ -265,15 +265,15 @@ three_none (Some fault) b c h = cc
 pub fault-none : (raw : RawArray) → fault raw ≡ None → IsLawful raw
 fault-none raw h =
     let r = out-RawArray raw in
-    let all = three_none (own_fault_of raw) (below_child raw) (below_dictionary raw) (sym (fault-raw raw) ∙ h) in
+    let all = three_none (own_fault_of raw) (child_fault_in raw) (dictionary_fault_in raw) (sym (fault-raw raw) ∙ h) in
     record {
-      whole = own_fault-none (kind_of r.ty) r.length r.null_count r.buffers.items (held_children r.children.items) (held_dictionary r.dictionary) all.0;
+      whole = own_fault-none (kind_of r.ty) r.length r.null_count r.buffers.items (inner_children r.children.items) (inner_dictionary r.dictionary) all.0;
       child = all.1.0;
       dictionary = all.1.1;
     }
 
 -- Where each test has passed, the array has no fault of its own.
-pub own_fault-whole : (k : Kind) (n : ℕ) (stated : Option ℕ) (buffers : Buffers) (children : List Held) (dictionary : Option Held)
+pub own_fault-whole : (k : Kind) (n : ℕ) (stated : Option ℕ) (buffers : Buffers) (children : List Inner) (dictionary : Option Inner)
     → IsWhole k n stated buffers children dictionary → own_fault k n stated buffers children dictionary ≡ None
 unfolding own_fault
 own_fault-whole k n stated buffers children dictionary w =

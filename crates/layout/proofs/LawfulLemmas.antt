@@ -12,8 +12,8 @@ use Rattle.types.specs.Kind as kind
 use Rattle.types.specs.Kind.{Kind, kind_of, same_kind}
 use Rattle.layout.specs.Layout.{Buffers}
 use Rattle.types.specs.First.{first, when}
-use Rattle.layout.specs.Fault.{shape_faults, Held, own_fault, do_parts_differ, has_negative_offset, decreasing_row, is_past_end, does_count_differ, bad_text_row, bad_code_row}
-use Rattle.layout.specs.Reading.{Reading, read_parts, reading, held, fault, child_fault, dictionary_fault}
+use Rattle.layout.specs.Fault.{shape_faults, Inner, own_fault, do_parts_differ, has_negative_offset, decreasing_row, is_past_end, does_count_differ, bad_text_row, bad_code_row}
+use Rattle.layout.specs.Reading.{Reading, read_parts, reading, inner_of, fault, child_fault, dictionary_fault}
 use Rattle.layout.specs.Checked.{checked, read_checked}
 use Rattle.layout.specs.Seen.{Seen}
 use Rattle.layout.proofs.FirstFaultLemmas.{own_fault-none, reading-raw}
@@ -40,7 +40,7 @@ first-without (Some fault ∷ before) o after h = cc
 
 -- ---- a lawful array is lawful without a stated null count, and shows the same
 
-own_fault-unstated : (k : Kind) (n : ℕ) (stated : Option ℕ) (buffers : Buffers) (children : List Held) (dictionary : Option Held)
+own_fault-unstated : (k : Kind) (n : ℕ) (stated : Option ℕ) (buffers : Buffers) (children : List Inner) (dictionary : Option Inner)
     → own_fault k n stated buffers children dictionary ≡ None → own_fault k n None buffers children dictionary ≡ None
 unfolding own_fault
 own_fault-unstated k n stated buffers children dictionary h =
@@ -56,7 +56,7 @@ pub lawful-unstated : (k : Kind) (n : ℕ) (stated : Option ℕ) (buffers : Buff
 unfolding read_parts
 lawful-unstated k n stated buffers children dictionary h =
     let parts = first-parts _ _ h in
-    let own = own_fault-unstated k n stated buffers (map held children) (option_map held dictionary) parts.0 in
+    let own = own_fault-unstated k n stated buffers (map inner_of children) (option_map inner_of dictionary) parts.0 in
     ap (λ o. first (o ∷ child_fault children ∷ dictionary_fault dictionary ∷ [])) own ∙ parts.1
 
 pub seen-unstated : (k : Kind) (n : ℕ) (stated : Option ℕ) (buffers : Buffers) (children : List Reading) (dictionary : Option Reading)
@@ -67,10 +67,10 @@ seen-unstated k n stated buffers children dictionary = refl
 -- ---- children and dictionaries of lawful arrays
 
 pub parts_agree : (k : Kind) (n : ℕ) (stated : Option ℕ) (buffers : Buffers) (children : List Reading) (dictionary : Option Reading)
-    → (read_parts k n stated buffers children dictionary).fault ≡ None → do_parts_differ k (map held children) (option_map held dictionary) ≡ false
+    → (read_parts k n stated buffers children dictionary).fault ≡ None → do_parts_differ k (map inner_of children) (option_map inner_of dictionary) ≡ false
 unfolding read_parts
 parts_agree k n stated buffers children dictionary h =
-    (own_fault-none k n stated buffers (map held children) (option_map held dictionary) (first-parts _ _ h).0).parts_agree
+    (own_fault-none k n stated buffers (map inner_of children) (option_map inner_of dictionary) (first-parts _ _ h).0).parts_agree
 
 pub either_false : (a b : Bool) → (a || b) ≡ false → (a ≡ false) × (b ≡ false)
 either_false true b h = cc
@@ -79,11 +79,11 @@ either_false false b h = (refl, h)
 some_length : (n : ℕ) → not (nat_eq (suc n) 0) ≡ false → ⊥
 some_length n h = grind (arith, nat_tests)
 
-pub none_held : (children : List Reading) → not (nat_eq (length (map held children)) 0) ≡ false → children ≡ []
+pub none_held : (children : List Reading) → not (nat_eq (length (map inner_of children)) 0) ≡ false → children ≡ []
 none_held [] h = refl
-none_held (c ∷ cs) h = absurd (some_length (length (map held cs)) h)
+none_held (c ∷ cs) h = absurd (some_length (length (map inner_of cs)) h)
 
-pub no_dictionary : (dictionary : Option Reading) → not (is_none (option_map held dictionary)) ≡ false → dictionary ≡ None
+pub no_dictionary : (dictionary : Option Reading) → not (is_none (option_map inner_of dictionary)) ≡ false → dictionary ≡ None
 no_dictionary None h = refl
 no_dictionary (Some d) h = cc
 
@@ -101,7 +101,7 @@ same_as_utf8 kind.utf8 h = refl
 same_as_utf8 (kind.list k) h = cc
 same_as_utf8 kind.dict h = cc
 
-dictionary_kind : (k : Kind) (children : List Held) (d : Held) → do_parts_differ k children (Some d) ≡ false → d.kind ≡ kind.utf8
+dictionary_kind : (k : Kind) (children : List Inner) (d : Inner) → do_parts_differ k children (Some d) ≡ false → d.kind ≡ kind.utf8
 dictionary_kind (kind.int t) children d h = absurd (false≢true (sym (either_false _ _ h).1))
 dictionary_kind kind.boolean children d h = absurd (false≢true (sym (either_false _ _ h).1))
 dictionary_kind kind.utf8 children d h = absurd (false≢true (sym (either_false _ _ h).1))
@@ -113,8 +113,8 @@ pub dictionary_lawful : (k : Kind) (n : ℕ) (stated : Option ℕ) (buffers : Bu
     → (read_parts k n stated buffers children (Some d)).fault ≡ None → (d.fault ≡ None) × (d.kind ≡ kind.utf8)
 unfolding read_parts
 dictionary_lawful k n stated buffers children d h =
-    let none = three_none (own_fault k n stated buffers (map held children) (Some (held d))) (child_fault children) d.fault h in
-    (none.2, dictionary_kind k (map held children) (held d) (parts_agree k n stated buffers children (Some d) h))
+    let none = three_none (own_fault k n stated buffers (map inner_of children) (Some (inner_of d))) (child_fault children) d.fault h in
+    (none.2, dictionary_kind k (map inner_of children) (inner_of d) (parts_agree k n stated buffers children (Some d) h))
 
 -- ---- a lawful raw array, read again from what it shows
 

@@ -7,7 +7,7 @@ use Rattle.types.specs.Kind as kind
 use Rattle.types.specs.Kind.{Kind}
 use Rattle.layout.specs.Layout.{Buffers, bytes_at, offset_at, start_at}
 use Rattle.types.specs.Number.{natural}
-use Rattle.layout.specs.Fault.{Held, least_row, has_offsets, decreasing_row, is_past_end, child_length}
+use Rattle.layout.specs.Fault.{Inner, least_row, has_offsets, decreasing_row, is_past_end, child_length}
 
 -- ---- each row fails where none is told
 
@@ -73,14 +73,14 @@ start-le-last k n buffers has none j within =
     omega arith
 
 -- the texts end within the bytes
-pub text_ends : (n : ℕ) (buffers : Buffers) (children : List Held) → decreasing_row kind.utf8 n buffers ≡ None → is_past_end kind.utf8 n buffers children ≡ false
+pub text_ends : (n : ℕ) (buffers : Buffers) (children : List Inner) → decreasing_row kind.utf8 n buffers ≡ None → is_past_end kind.utf8 n buffers children ≡ false
     → (j : ℕ) → j ≤ n → start_at buffers j ≤ length (bytes_at buffers 2)
 text_ends n buffers children none within j below =
     let last = ltb-false (length (bytes_at buffers 2)) (start_at buffers n) within in
     omega (arith, start-le-last kind.utf8 n buffers refl none j below)
 
 -- the lists end within the child
-pub list_ends : (k : Kind) (n : ℕ) (buffers : Buffers) (children : List Held) → decreasing_row (kind.list k) n buffers ≡ None → is_past_end (kind.list k) n buffers children ≡ false
+pub list_ends : (k : Kind) (n : ℕ) (buffers : Buffers) (children : List Inner) → decreasing_row (kind.list k) n buffers ≡ None → is_past_end (kind.list k) n buffers children ≡ false
     → (j : ℕ) → j ≤ n → start_at buffers j ≤ child_length children
 list_ends k n buffers children none within j below =
     let last = ltb-false (child_length children) (start_at buffers n) within in

@@ -6,7 +6,7 @@ use Rattle.std.specs.Str.{is_utf8}
 use Rattle.std.proofs.lemmas.Bool.Decides.{same_from_decides}
 use Rattle.std.proofs.lemmas.List.Sums.{sum_by-cons}
 use Rattle.std.proofs.lemmas.Str.{IsUtf8-from_is_utf8, is_utf8-from_IsUtf8}
-use Rattle.layout.specs.Layout.{Buffers, held_at, is_valid_in}
+use Rattle.layout.specs.Layout.{Buffers, buffer_at, is_valid_in}
 use Rattle.layout.specs.Fault.{least_row, null_count}
 
 -- every row from a on that is below n fails
@@ -102,7 +102,7 @@ count_none a (suc n) = count_none (a + 1) n
 -- ---- slots
 
 -- no slot is null where there is no bitmap
-pub null_count-absent : (buffers : Buffers) (n : ℕ) → held_at buffers 0 ≡ None → null_count n buffers ≡ 0
+pub null_count-absent : (buffers : Buffers) (n : ℕ) → buffer_at buffers 0 ≡ None → null_count n buffers ≡ 0
 null_count-absent buffers n absent =
     ap (λ h. count_by (λ j. not (is_valid_in h j)) (range_with_len 0 n)) absent ∙ count_none 0 n
 

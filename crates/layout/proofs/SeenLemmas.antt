@@ -8,13 +8,13 @@ use Rattle.colbits.proofs.BitLemmas.{length-bits}
 use Rattle.layout.specs.Item.{Item}
 use Rattle.types.specs.Kind as kind
 use Rattle.types.specs.Kind.{Kind, int32}
-use Rattle.layout.specs.Layout.{Buffers, column, codes, validity_of, held_at}
+use Rattle.layout.specs.Layout.{Buffers, column, codes, validity_of, buffer_at}
 use Rattle.layout.specs.declared.fault.LayoutFault.{LayoutFault}
 use Rattle.layout.specs.declared.fault.LayoutFault.TheVariants.{TooLong}
 use Rattle.types.specs.First.{first, when}
-use Rattle.layout.specs.Fault.{Held, own_fault}
+use Rattle.layout.specs.Fault.{Inner, own_fault}
 use Rattle.layout.specs.Seen.{Seen, part}
-use Rattle.layout.specs.Reading.{Reading, read_parts, held}
+use Rattle.layout.specs.Reading.{Reading, read_parts, inner_of}
 
 pub length-column : (k : Kind) (n : ℕ) (buffers : Buffers) (child entries : List Item) → length (column k n buffers child entries) ≡ n
 unfolding column
@@ -86,8 +86,8 @@ part-all n s fits =
     ∙ ap (λ xs. record { kind = s.kind; validity = s.validity; items = s.items; codes = xs; entries = s.entries }) (take_all n s.codes fits.codes)
 
 validity-fits : (n : ℕ) (buffers : Buffers) → IfSome (validity_of n buffers) (λ v. length v ≡ n)
-validity-fits n buffers = held-fits n (held_at buffers 0) where
-  held-fits : (n : ℕ) (held : Option (List ℕ)) → IfSome (option_map (λ bytes. bits bytes 0 n) held) (λ v. length v ≡ n)
+validity-fits n buffers = held-fits n (buffer_at buffers 0) where
+  held-fits : (n : ℕ) (inner_of : Option (List ℕ)) → IfSome (option_map (λ bytes. bits bytes 0 n) inner_of) (λ v. length v ≡ n)
   held-fits n None = tt
   held-fits n (Some bytes) = length-bits bytes 0 n
 
@@ -110,7 +110,7 @@ when-none : (test : Bool) (fault : LayoutFault) → when test fault ≡ None →
 when-none true fault h = absurd (cc)
 when-none false fault h = refl
 
-own_fault-short : (k : Kind) (n : ℕ) (stated : Option ℕ) (buffers : Buffers) (children : List Held) (dictionary : Option Held)
+own_fault-short : (k : Kind) (n : ℕ) (stated : Option ℕ) (buffers : Buffers) (children : List Inner) (dictionary : Option Inner)
     → own_fault k n stated buffers children dictionary ≡ None → n ≤ 2147483647
 unfolding own_fault
 own_fault-short k n stated buffers children dictionary h = ltb-false 2147483647 n (when-none _ TooLong (first-head _ _ h))
@@ -119,4 +119,4 @@ pub short-of_lawful : (k : Kind) (n : ℕ) (stated : Option ℕ) (buffers : Buff
     → (read_parts k n stated buffers children dictionary).fault ≡ None → n ≤ 2147483647
 unfolding read_parts
 short-of_lawful k n stated buffers children dictionary h =
-    own_fault-short k n stated buffers (map held children) (option_map held dictionary) (first-head _ _ h)
+    own_fault-short k n stated buffers (map inner_of children) (option_map inner_of dictionary) (first-head _ _ h)

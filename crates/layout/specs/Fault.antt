@@ -6,12 +6,12 @@ use Rattle.types.specs.First.{first, when}
 use Rattle.colbits.specs.Slice.{slice}
 use Rattle.types.specs.Kind.{Kind, int, boolean, utf8, list, dict, bytes_of, depth, same_kind}
 use Rattle.types.specs.Number.{is_negative}
-use Rattle.layout.specs.Layout.{Buffers, held_at, bytes_at, is_valid, offset_at, start_at, length_at, code_at}
+use Rattle.layout.specs.Layout.{Buffers, buffer_at, bytes_at, is_valid, offset_at, start_at, length_at, code_at}
 use Rattle.layout.specs.declared.fault.LayoutFault.{LayoutFault}
 use Rattle.layout.specs.declared.fault.LayoutFault.TheVariants.{MissingBuffer, ExtraBuffer, BufferTooShort, OffsetNegative, OffsetDecreases, OffsetPastEnd, NullCountDiffers, NotUtf8, IndexPastDictionary, ChildDiffers, TooLong, TooDeep}
 
 -- What an array knows of its child and of its dictionary.
-pub record Held : Type 0 where
+pub record Inner : Type 0 where
   pub kind : Kind
   pub length : ℕ
 
@@ -48,16 +48,16 @@ is_validity_short n (Some bytes) = nat_lt (length bytes) (bytes_for n)
 
 -- ---- children and dictionary
 
-abbrev pub is_no_child : Kind → List Held → Bool
+abbrev pub is_no_child : Kind → List Inner → Bool
 is_no_child k [] = true
 is_no_child k (c ∷ []) = not (same_kind k c.kind) || same_kind k dict
 is_no_child k (c ∷ d ∷ cs) = true
 
-abbrev pub is_no_dictionary : Option Held → Bool
+abbrev pub is_no_dictionary : Option Inner → Bool
 is_no_dictionary None = true
 is_no_dictionary (Some d) = not (same_kind d.kind utf8)
 
-abbrev pub do_parts_differ : Kind → List Held → Option Held → Bool
+abbrev pub do_parts_differ : Kind → List Inner → Option Inner → Bool
 do_parts_differ (list k) children dictionary = is_no_child k children || not (is_none dictionary)
 do_parts_differ dict children dictionary = not (length children == 0) || is_no_dictionary dictionary
 do_parts_differ k children dictionary = not (length children == 0) || not (is_none dictionary)
@@ -80,11 +80,11 @@ least_row test n = position test (range_with_len 0 n)
 abbrev pub decreasing_row : Kind → ℕ → Buffers → Option ℕ
 decreasing_row k n buffers = if has_offsets k then least_row (λ j. int_lt (offset_at buffers (j + 1)) (offset_at buffers j)) n else None
 
-abbrev pub child_length : List Held → ℕ
+abbrev pub child_length : List Inner → ℕ
 child_length [] = 0
 child_length (c ∷ cs) = c.length
 
-abbrev pub is_past_end : Kind → ℕ → Buffers → List Held → Bool
+abbrev pub is_past_end : Kind → ℕ → Buffers → List Inner → Bool
 is_past_end utf8 n buffers children = nat_lt (length (bytes_at buffers 2)) (start_at buffers n)
 is_past_end (list k) n buffers children = nat_lt (child_length children) (start_at buffers n)
 is_past_end k n buffers children = false
@@ -106,32 +106,32 @@ abbrev pub bad_text_row : Kind → ℕ → Buffers → Option ℕ
 bad_text_row utf8 n buffers = least_row (is_no_text buffers) n
 bad_text_row k n buffers = None
 
-abbrev pub entry_count : Option Held → ℕ
+abbrev pub entry_count : Option Inner → ℕ
 entry_count None = 0
 entry_count (Some d) = d.length
 
 abbrev pub is_no_code : Buffers → ℕ → ℕ → Bool
 is_no_code buffers entries j = is_valid buffers j && (is_negative (code_at buffers j) || not (int_lt (code_at buffers j) (pos entries)))
 
-abbrev pub bad_code_row : Kind → ℕ → Buffers → Option Held → Option ℕ
+abbrev pub bad_code_row : Kind → ℕ → Buffers → Option Inner → Option ℕ
 bad_code_row dict n buffers dictionary = least_row (is_no_code buffers (entry_count dictionary)) n
 bad_code_row k n buffers dictionary = None
 
 -- ---- the first fault
 
 -- The tests that come first: of lengths and shapes.
-abbrev pub shape_faults : Kind → ℕ → Buffers → List Held → Option Held → List (Option LayoutFault)
+abbrev pub shape_faults : Kind → ℕ → Buffers → List Inner → Option Inner → List (Option LayoutFault)
 shape_faults k n buffers children dictionary =
     when (nat_lt 2147483647 n) TooLong
     ∷ when (nat_lt 8 (depth k)) TooDeep
     ∷ when (is_missing k buffers) MissingBuffer
     ∷ when (nat_lt (positions k) (length buffers)) ExtraBuffer
     ∷ when (do_parts_differ k children dictionary) ChildDiffers
-    ∷ when (is_validity_short n (held_at buffers 0) || is_data_short k n buffers) BufferTooShort
+    ∷ when (is_validity_short n (buffer_at buffers 0) || is_data_short k n buffers) BufferTooShort
     ∷ []
 
 -- The tests after them: of what the buffers hold.
-abbrev pub content_faults : Kind → ℕ → Option ℕ → Buffers → List Held → Option Held → List (Option LayoutFault)
+abbrev pub content_faults : Kind → ℕ → Option ℕ → Buffers → List Inner → Option Inner → List (Option LayoutFault)
 content_faults k n stated buffers children dictionary =
     when (has_negative_offset k n buffers) OffsetNegative
     ∷ option_map (λ row. OffsetDecreases row) (decreasing_row k n buffers)
@@ -142,6 +142,6 @@ content_faults k n stated buffers children dictionary =
     ∷ []
 
 -- The first fault of an array itself, of n slots, with a stated null count or none.
-unfoldable pub own_fault : Kind → ℕ → Option ℕ → Buffers → List Held → Option Held → Option LayoutFault
+unfoldable pub own_fault : Kind → ℕ → Option ℕ → Buffers → List Inner → Option Inner → Option LayoutFault
 own_fault k n stated buffers children dictionary =
     first (shape_faults k n buffers children dictionary ++ content_faults k n stated buffers children dictionary)

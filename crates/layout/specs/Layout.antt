@@ -13,12 +13,12 @@ abbrev pub Buffers : Type 0
 Buffers = List (Option (List ℕ))
 
 -- The buffer at a position, or none where the position is missing or holds none.
-abbrev pub held_at : Buffers → ℕ → Option (List ℕ)
-held_at buffers k = unwrap_or (slice_get buffers k) None
+abbrev pub buffer_at : Buffers → ℕ → Option (List ℕ)
+buffer_at buffers k = unwrap_or (slice_get buffers k) None
 
 -- The bytes at a position, none where there is no buffer.
 abbrev pub bytes_at : Buffers → ℕ → List ℕ
-bytes_at buffers k = unwrap_or (held_at buffers k) []
+bytes_at buffers k = unwrap_or (buffer_at buffers k) []
 
 -- Offset j of a text or list array. Bytes that aren't there read as 0, so that at length 0 no bytes stand for the one offset 0.
 abbrev pub offset_at : Buffers → ℕ → ℤ
@@ -37,11 +37,11 @@ is_valid_in None j = true
 is_valid_in (Some bytes) j = bit bytes j
 
 abbrev pub is_valid : Buffers → ℕ → Bool
-is_valid buffers = is_valid_in (held_at buffers 0)
+is_valid buffers = is_valid_in (buffer_at buffers 0)
 
 -- The validity of n slots, none where the bitmap is absent.
 abbrev pub validity_of : ℕ → Buffers → Option (List Bool)
-validity_of n buffers = option_map (λ bytes. bits bytes 0 n) (held_at buffers 0)
+validity_of n buffers = option_map (λ bytes. bits bytes 0 n) (buffer_at buffers 0)
 
 -- The code of slot j of a dictionary-encoded array. ("Dictionary-encoded layout")
 abbrev pub code_at : Buffers → ℕ → ℤ

@@ -7,5 +7,5 @@ pub mod Fault
 pub mod Reading
 pub mod Checked
 pub mod Offsets
-pub mod Held
+pub mod Inner
 pub mod Code

@@ -4,7 +4,7 @@ use Rattle.types.specs.Kind.{Kind, dict, kind_of}
 use Rattle.layout.specs.Item.{Item}
 use Rattle.layout.specs.Layout.{Buffers, column, codes, validity_of}
 use Rattle.types.specs.First.{first}
-use Rattle.layout.specs.Fault.{Held, own_fault}
+use Rattle.layout.specs.Fault.{Inner, own_fault}
 use Rattle.layout.specs.Seen.{Seen, Entries, no_entries}
 use Rattle.layout.specs.declared.fault.LayoutFault.{LayoutFault}
 use Rattle.layout.specs.declared.raw.RawArray.{RawArray, RawArray-F, fold-RawArray}
@@ -15,8 +15,8 @@ pub record Reading : Type 0 where
   pub fault : Option LayoutFault
   pub seen : Seen
 
-abbrev pub held : Reading → Held
-held r = record { kind = r.kind; length = r.length }
+abbrev pub inner_of : Reading → Inner
+inner_of r = record { kind = r.kind; length = r.length }
 
 -- The items of the one child, and the entries of the dictionary.
 abbrev pub child_items : List Reading → List Item
@@ -57,7 +57,7 @@ unfoldable pub read_parts : Kind → ℕ → Option ℕ → Buffers → List Rea
 read_parts k n stated buffers children dictionary = record {
   kind = k;
   length = n;
-  fault = first (own_fault k n stated buffers (map held children) (option_map held dictionary) ∷ child_fault children ∷ dictionary_fault dictionary ∷ []);
+  fault = first (own_fault k n stated buffers (map inner_of children) (option_map inner_of dictionary) ∷ child_fault children ∷ dictionary_fault dictionary ∷ []);
   seen = seen_of k n buffers (child_items children) (entries_of dictionary);
 }
 

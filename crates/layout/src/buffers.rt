@@ -4,15 +4,15 @@ ghost use Rattle.std.specs.Prelude.{◌≡◌, ◌+◌, ◌*◌, ◌<◌, ◌≤
 ghost use Rattle.std.specs.Option.{option_copied};
 ghost use Rattle.colbits.specs.Bit.{bit};
 ghost use Rattle.colbits.specs.Slice.{slice};
-ghost use Rattle.layout.specs.Held.{HasOffsets};
-ghost use Rattle.layout.specs.Layout.{bytes_at, held_at, is_valid, offset_at, start_at, length_at};
+ghost use Rattle.layout.specs.Inner.{HasOffsets};
+ghost use Rattle.layout.specs.Layout.{bytes_at, buffer_at, is_valid, offset_at, start_at, length_at};
 
 use colbits::Buffer;
 use types::int32_at;
 
 /// The bytes of the buffer at a position of the layout, if it has one.
-pub fn held_at(buffers: &[Option<Buffer>], position: usize) -> Option<&[u8]>
-    ensures { option_copied result ≡ held_at buffers.now position }
+pub fn buffer_at(buffers: &[Option<Buffer>], position: usize) -> Option<&[u8]>
+    ensures { option_copied result ≡ buffer_at buffers.now position }
 {
     let buffer = buffers.get(position)?.as_ref()?;
     Some(buffer.bytes())
@@ -22,7 +22,7 @@ pub fn held_at(buffers: &[Option<Buffer>], position: usize) -> Option<&[u8]>
 pub fn bytes_at(buffers: &[Option<Buffer>], position: usize) -> &[u8]
     ensures { result.now ≡ bytes_at buffers.now position }
 {
-    held_at(buffers, position).unwrap_or(&[])
+    buffer_at(buffers, position).unwrap_or(&[])
 }
 
 /// Bit `k` of the bytes, 0 where there are too few.
@@ -36,7 +36,7 @@ pub(crate) fn bit(bytes: &[u8], k: usize) -> bool
 pub fn is_valid(buffers: &[Option<Buffer>], j: usize) -> bool
     ensures { result ≡ is_valid buffers.now j }
 {
-    match held_at(buffers, 0) {
+    match buffer_at(buffers, 0) {
         Some(validity) => bit(validity, j),
         None => true,
     }

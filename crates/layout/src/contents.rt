@@ -4,13 +4,13 @@
 ghost use Rattle.std.specs.Prelude.{◌≡◌, ◌+◌, ◌*◌, ◌<◌, ◌≤◌, false, not, length, int_lt};
 ghost use Rattle.std.specs.List.{count_by, list_any, range_with_len};
 ghost use Rattle.colbits.specs.Bit.{bit};
-ghost use Rattle.layout.specs.Held.{HasOffsets, held_children, held_dictionary};
+ghost use Rattle.layout.specs.Inner.{HasOffsets, inner_children, inner_dictionary};
 ghost use Rattle.types.specs.Kind.{kind_of};
 ghost use Rattle.layout.specs.Fault.{bad_code_row, bad_text_row, decreasing_row, does_count_differ, has_negative_offset, has_offsets, is_data_short, is_no_code, is_no_text, is_past_end, least_row, null_count};
 ghost use Rattle.types.specs.Number.{is_negative};
 ghost use Rattle.layout.specs.Layout.{bytes_at, offset_at};
 
-use crate::buffers::{bit, bytes_at, held_at, is_valid, offset_at, start_at, text_at};
+use crate::buffers::{bit, bytes_at, buffer_at, is_valid, offset_at, start_at, text_at};
 use crate::raw::RawArray;
 use crate::shapes::{child_length, entry_count};
 use colbits::Buffer;
@@ -79,7 +79,7 @@ fn zero_bits(bytes: &[u8], n: usize) -> usize
 fn null_count(buffers: &[Option<Buffer>], n: usize) -> usize
     ensures { result ≡ null_count n buffers.now }
 {
-    match held_at(buffers, 0) {
+    match buffer_at(buffers, 0) {
         Some(validity) => zero_bits(validity, n),
         None => 0,
     }
@@ -171,7 +171,7 @@ pub(crate) fn is_past_end(
 ) -> bool
     requires short { n < 2147483648 }
     requires enough { is_data_short (kind_of ty.now) n buffers.now ≡ false }
-    ensures { result ≡ is_past_end (kind_of ty.now) n buffers.now (held_children children.now) }
+    ensures { result ≡ is_past_end (kind_of ty.now) n buffers.now (inner_children children.now) }
 {
     match ty {
         DataType::Utf8 => bytes_at(buffers, 2).len() < start_at(buffers, n),
@@ -211,7 +211,7 @@ pub(crate) fn bad_code_row(
 ) -> Option<usize>
     requires { is_data_short (kind_of ty.now) n buffers.now ≡ false }
     ensures { result
-        ≡ bad_code_row (kind_of ty.now) n buffers.now (held_dictionary dictionary.now) }
+        ≡ bad_code_row (kind_of ty.now) n buffers.now (inner_dictionary dictionary.now) }
 {
     match ty {
         DataType::Dict => least_no_code(buffers, entry_count(dictionary), n),

@@ -1,12 +1,12 @@
 //! The tests of lengths and shapes, one function a fault: each gives what its definition says.
 
 ghost use Rattle.std.specs.Prelude.{◌≡◌, ◌<◌, length, nat_lt};
-ghost use Rattle.layout.specs.Held.{held_children, held_dictionary};
+ghost use Rattle.layout.specs.Inner.{inner_children, inner_dictionary};
 ghost use Rattle.types.specs.Kind.{kind_of};
 ghost use Rattle.layout.specs.Fault.{are_offsets_short, bytes_for, child_length, do_parts_differ, entry_count, is_data_short, is_missing, is_no_child, is_no_dictionary, is_validity_short, positions};
-ghost use Rattle.layout.specs.Layout.{bytes_at, held_at};
+ghost use Rattle.layout.specs.Layout.{bytes_at, buffer_at};
 
-use crate::buffers::{bytes_at, held_at};
+use crate::buffers::{bytes_at, buffer_at};
 use crate::raw::RawArray;
 use colbits::Buffer;
 use types::{DataType, is_same};
@@ -45,9 +45,9 @@ fn bytes_for(n: usize) -> usize
 
 /// Whether the bitmap, if there is one, has fewer than `n` bits.
 pub(crate) fn is_validity_short(buffers: &[Option<Buffer>], n: usize) -> bool
-    ensures { result ≡ is_validity_short n (held_at buffers.now 0) }
+    ensures { result ≡ is_validity_short n (buffer_at buffers.now 0) }
 {
-    match held_at(buffers, 0) {
+    match buffer_at(buffers, 0) {
         Some(validity) => validity.len() < bytes_for(n),
         None => false,
     }
@@ -77,7 +77,7 @@ pub(crate) fn is_data_short(ty: &DataType, n: usize, buffers: &[Option<Buffer>])
 
 /// Whether these aren't the one child of a list whose items have the type `item`.
 fn is_no_child(item: &DataType, children: &[RawArray]) -> bool
-    ensures { result ≡ is_no_child (kind_of item.now) (held_children children.now) }
+    ensures { result ≡ is_no_child (kind_of item.now) (inner_children children.now) }
 {
     match children {
         [child] => !is_same(item, &child.ty) || matches!(item, DataType::Dict),
@@ -87,7 +87,7 @@ fn is_no_child(item: &DataType, children: &[RawArray]) -> bool
 
 /// Whether there is no dictionary of texts.
 fn is_no_dictionary(dictionary: &Option<Box<RawArray>>) -> bool
-    ensures { result ≡ is_no_dictionary (held_dictionary dictionary.now) }
+    ensures { result ≡ is_no_dictionary (inner_dictionary dictionary.now) }
 {
     match dictionary {
         Some(entries) => !matches!(entries.ty, DataType::Utf8),
@@ -102,7 +102,7 @@ pub(crate) fn do_parts_differ(
     dictionary: &Option<Box<RawArray>>,
 ) -> bool
     ensures { result
-        ≡ do_parts_differ (kind_of ty.now) (held_children children.now) (held_dictionary dictionary.now) }
+        ≡ do_parts_differ (kind_of ty.now) (inner_children children.now) (inner_dictionary dictionary.now) }
 {
     match ty {
         DataType::List(item) => is_no_child(&item.ty, children) || dictionary.is_some(),
@@ -113,7 +113,7 @@ pub(crate) fn do_parts_differ(
 
 /// The length of the first child.
 pub(crate) fn child_length(children: &[RawArray]) -> u64
-    ensures { result ≡ child_length (held_children children.now) }
+    ensures { result ≡ child_length (inner_children children.now) }
 {
     match children {
         [child, ..] => child.length,
@@ -123,7 +123,7 @@ pub(crate) fn child_length(children: &[RawArray]) -> u64
 
 /// How many entries the dictionary has.
 pub(crate) fn entry_count(dictionary: &Option<Box<RawArray>>) -> u64
-    ensures { result ≡ entry_count (held_dictionary dictionary.now) }
+    ensures { result ≡ entry_count (inner_dictionary dictionary.now) }
 {
     match dictionary {
         Some(entries) => entries.length,

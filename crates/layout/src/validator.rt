@@ -3,7 +3,7 @@
 ghost use Rattle.std.specs.Prelude.{◌≡◌, None, map, option_map};
 ghost use Rattle.types.specs.First.{first};
 ghost use Rattle.layout.specs.Reading.{child_fault, dictionary_fault, fault, reading};
-ghost use Rattle.layout.specs.Held.{content_faults_of, own_fault_of, shape_faults_of};
+ghost use Rattle.layout.specs.Inner.{content_faults_of, own_fault_of, shape_faults_of};
 
 use crate::fault::LayoutFault;
 use crate::raw::RawArray;

@@ -16,5 +16,5 @@ IsFull full told = ((told ≡ OffsetsFull) × (full ≡ true)) ⊎ (told ≡ NoM
 
 -- What is told: the first fault that stands; else full offsets, only where they would be; or want of memory, which
 -- comes only where kinds, types and lengths are as they should be.
-abbrev pub Told : Option SelectFault → Option SelectFault → Bool → SelectFault → Type 0
-Told shape all full told = (all ≡ Some told) ⊎ (((told ≡ NoMemory) × (shape ≡ None)) ⊎ ((told ≡ OffsetsFull) × ((all ≡ None) × (full ≡ true))))
+abbrev pub IsSelectFault : Option SelectFault → Option SelectFault → Bool → SelectFault → Type 0
+IsSelectFault shape all full told = (all ≡ Some told) ⊎ (((told ≡ NoMemory) × (shape ≡ None)) ⊎ ((told ≡ OffsetsFull) × ((all ≡ None) × (full ≡ true))))

@@ -7,7 +7,7 @@ ghost use Rattle.arrays.specs.Item as item;
 ghost use Rattle.arrays.specs.Item.{Item};
 ghost use Rattle.select.specs.Big.{is_too_big};
 ghost use Rattle.select.specs.Chosen.{chosen};
-ghost use Rattle.select.specs.Fault.{Told};
+ghost use Rattle.select.specs.Fault.{IsSelectFault};
 ghost use Rattle.select.specs.Picked.{IsPick, picked};
 ghost use Rattle.select.specs.Selection.{filter_fault, is_true, kept};
 
@@ -25,7 +25,7 @@ use std::alloc::Global;
 pub fn filter(alloc: Global, view: &View<'_>, mask: &View<'_>) -> Result<Array, SelectFault>
     ensures ok { IfOk result (λ r. (filter_fault view.now mask.now ≡ None)
         × (r ≡ chosen view.now.kind (λ items. kept items mask.now.items) view.now)) }
-    ensures err { IfErr result (Told (filter_fault view.now mask.now) (filter_fault view.now mask.now)
+    ensures err { IfErr result (IsSelectFault (filter_fault view.now mask.now) (filter_fault view.now mask.now)
         (is_too_big view.now.kind (kept view.now.items mask.now.items))) }
 {
     match mask.ty() {

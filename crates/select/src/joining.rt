@@ -6,7 +6,7 @@ ghost use Rattle.arrays.specs.Kind.{same_kind};
 ghost use Rattle.arrays.specs.Lengths.{is_past};
 ghost use Rattle.arrays.specs.Seen.{Seen};
 ghost use Rattle.arrays.specs.ViewType.{view_kind};
-ghost use Rattle.select.specs.Fault.{IsFull, Told};
+ghost use Rattle.select.specs.Fault.{IsFull, IsSelectFault};
 ghost use Rattle.select.specs.Joined.{concat_fault, is_content_too_big, is_joined_too_big, joined, joined_items, kind_of_first};
 
 mod bools;
@@ -29,7 +29,7 @@ const MOST: usize = 2147483647;
 pub fn concat(alloc: Global, views: &[View<'_>]) -> Result<Array, SelectFault>
     requires { 1 ≤ length views.now }
     ensures ok { IfOk result (λ r. (concat_fault views.now ≡ None) × (r ≡ joined (kind_of_first views.now) views.now)) }
-    ensures err { IfErr result (Told (concat_fault views.now) (concat_fault views.now)
+    ensures err { IfErr result (IsSelectFault (concat_fault views.now) (concat_fault views.now)
         (is_joined_too_big (kind_of_first views.now) views.now)) }
 {
     let ty = views[0].ty();

@@ -8,7 +8,7 @@ ghost use Rattle.arrays.specs.Item.{Item};
 ghost use Rattle.arrays.specs.Kind as kind;
 ghost use Rattle.select.specs.Big.{is_too_big};
 ghost use Rattle.select.specs.Chosen.{chosen};
-ghost use Rattle.select.specs.Fault.{Told};
+ghost use Rattle.select.specs.Fault.{IsSelectFault};
 ghost use Rattle.select.specs.Picked.{IsPick, picked, picked_at};
 ghost use Rattle.select.specs.Selection.{indices_fault, outside, take_fault, taken};
 
@@ -25,7 +25,7 @@ use std::alloc::Global;
 pub fn take(alloc: Global, view: &View<'_>, indices: &View<'_>) -> Result<Array, SelectFault>
     ensures ok { IfOk result (λ r. (take_fault view.now indices.now ≡ None)
         × (r ≡ chosen view.now.kind (λ items. taken items indices.now.items) view.now)) }
-    ensures err { IfErr result (Told (indices_fault indices.now) (take_fault view.now indices.now)
+    ensures err { IfErr result (IsSelectFault (indices_fault indices.now) (take_fault view.now indices.now)
         (is_too_big view.now.kind (taken view.now.items indices.now.items))) }
 {
     let ViewType::Int(ty) = indices.ty() else {

@@ -2,7 +2,7 @@
 
 ghost use Rattle.std.specs.Prelude.{◌≡◌, ◌+◌, ◌*◌, ◌<◌, ◌≤◌, ℕ, None, false, length, true};
 ghost use Rattle.colbits.specs.Slice.{slice};
-ghost use Rattle.layout.specs.Held.{HasOffsets};
+ghost use Rattle.layout.specs.Inner.{HasOffsets};
 ghost use Rattle.types.specs.Kind as kind;
 ghost use Rattle.types.specs.Kind.{depth, int32, kind_of, same_kind};
 ghost use Rattle.types.specs.Number.{is_negative, number_at};

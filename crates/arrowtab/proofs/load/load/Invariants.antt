@@ -2,7 +2,7 @@ use Rattle.std.proofs.Common.{◌≡◌, ◌++◌, length, map}
 use Rattle.std.specs.Arc.{arc_value}
 use Rattle.std.specs.Iterator.Adapters.{enumerate_count, enumerate_source}
 use Rattle.std.specs.Vec.Iter.{into_iter_items, into_iter_len}
-use Rattle.arrowtab.specs.Held.{alone}
+use Rattle.arrowtab.specs.Alone.{alone}
 use Rattle.arrowtab.proofs.load.load.Given as goal
 
 abbrev pub invariant-loop-number : goal.invariant-loop-number

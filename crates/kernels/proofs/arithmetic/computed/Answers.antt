@@ -1,6 +1,6 @@
 use Rattle.std.proofs.Common.{◌≡◌, ◌∙◌, ap, sym, subst}
 use Rattle.arrays.specs.Values.{HasNumbers}
-use Rattle.arrays.specs.Made.{show_numbers}
+use Rattle.arrays.specs.FromParts.{show_numbers}
 use Rattle.kernels.specs.Arithmetic.{operands_fault, arithmetic_fault}
 use Rattle.arrays.specs.Packed.{IsBufferOf}
 use Rattle.arrays.specs.Shown.{kept}

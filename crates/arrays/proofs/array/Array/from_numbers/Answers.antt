@@ -2,7 +2,7 @@ use Rattle.std.proofs.Common.{◌∙◌, ap}
 use Rattle.types.specs.Kind as kind
 use Rattle.layout.specs.Reading.{Reading}
 use Rattle.types.proofs.ShapeLemmas.{kind_of-Int}
-use Rattle.arrays.proofs.MadeLemmas.{read_numbers, read_same, show_read_numbers}
+use Rattle.arrays.proofs.FromPartsLemmas.{read_numbers, read_same, show_read_numbers}
 use Rattle.arrays.proofs.array.Array.from_numbers.Goals as goal
 
 pub invariant_of-result : goal.invariant_of-result

@@ -2,7 +2,7 @@ use Rattle.std.proofs.Common.{◌∙◌, ap}
 use Rattle.types.specs.Kind as kind
 use Rattle.layout.specs.Reading.{Reading}
 use Rattle.types.proofs.ShapeLemmas.{kind_of-Utf8}
-use Rattle.arrays.proofs.MadeLemmas.{read_same, read_texts, show_read_texts}
+use Rattle.arrays.proofs.FromPartsLemmas.{read_same, read_texts, show_read_texts}
 use Rattle.arrays.proofs.array.Array.from_texts.Goals as goal
 
 pub invariant_of-result : goal.invariant_of-result

@@ -1,6 +1,6 @@
 use Rattle.std.proofs.Common.{◌≡◌, ◌+◌, ◌<◌, ◌≤◌, ◌∙◌, None, false, ap, length, sym, subst}
 use Rattle.layout.specs.declared.raw.RawArray.{RawArray, out-RawArray}
-use Rattle.layout.specs.Held.{HasOffsets}
+use Rattle.layout.specs.Inner.{HasOffsets}
 use Rattle.types.specs.Kind as kind
 use Rattle.types.specs.Kind.{kind_of, same_kind}
 use Rattle.layout.specs.Offsets.{AreOffsets}

@@ -1,5 +1,5 @@
 use Rattle.std.proofs.Common.{◌+◌, length, sym, subst}
-use Rattle.layout.specs.Held.{HasOffsets}
+use Rattle.layout.specs.Inner.{HasOffsets}
 use Rattle.layout.specs.Offsets.{AreOffsets}
 use Rattle.arrays.proofs.OffsetParts.{ends_within}
 use Rattle.arrays.proofs.PartLemmas.{texts_of_view, texts_read}

@@ -4,7 +4,7 @@ use Rattle.std.proofs.lemmas.Str.{IsUtf8-from_ascii, IsUtf8-nil}
 use Rattle.colbits.specs.Bit.{bit}
 use Rattle.arrays.specs.Number.{number_at}
 use Rattle.arrays.specs.Layout.{is_valid_in}
-use Rattle.arrays.specs.Made.{AreTexts}
+use Rattle.arrays.specs.FromParts.{AreTexts}
 use Rattle.arrays.specs.Offsets.{AreOffsets, of_slot}
 use Rattle.cases.proofs.LiteralOffsets.{AreOffsets-literal, offsets}
 use Rattle.cases.proofs.of_arrays.makers.texts.Goals as goal

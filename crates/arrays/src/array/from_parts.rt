@@ -1,7 +1,7 @@
 ghost use Rattle.std.specs.Prelude.{◌≡◌, ◌*◌, ◌<◌, ◌≤◌, length, false, Some, IfOk};
 ghost use Rattle.types.specs.Kind.{bytes_of, depth, dict, kind_of, same_kind};
 ghost use Rattle.layout.specs.Fault.{is_validity_short};
-ghost use Rattle.arrays.specs.Made.{AreTexts, show_bits, show_lists, show_numbers, show_texts};
+ghost use Rattle.arrays.specs.FromParts.{AreTexts, show_bits, show_lists, show_numbers, show_texts};
 ghost use Rattle.layout.specs.Offsets.{AreOffsets};
 ghost use Rattle.layout.specs.Reading.{reading};
 ghost use Rattle.layout.specs.Checked.{checked};

@@ -11,7 +11,7 @@ use Rattle.layout.specs.Layout.{Buffers, column, is_valid_in}
 use Rattle.types.specs.Number.{natural, number_at, is_negative}
 use Rattle.types.specs.First.{first}
 use Rattle.layout.specs.Fault.{own_fault, is_validity_short, are_offsets_short, least_row}
-use Rattle.arrays.specs.Made.{AreTexts, show_bits, show_numbers, show_texts}
+use Rattle.arrays.specs.FromParts.{AreTexts, show_bits, show_numbers, show_texts}
 use Rattle.layout.specs.Offsets.{AreOffsets, of_slot, start_of}
 use Rattle.layout.specs.Reading.{read_parts, reading}
 use Rattle.layout.proofs.FirstFaultLemmas.{own_fault-whole}

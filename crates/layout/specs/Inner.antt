@@ -3,7 +3,7 @@ use Rattle.std.specs.Prelude.{◌≡◌, ℕ, ◌+◌, ◌*◌, ◌<◌, List, l
 use Rattle.std.specs.declared.boxed.Box.{Box}
 use Rattle.std.specs.declared.alloc.Global.{Global}
 use Rattle.types.specs.Kind.{kind_of}
-use Rattle.layout.specs.Fault.{Held, content_faults, own_fault, shape_faults}
+use Rattle.layout.specs.Fault.{Inner, content_faults, own_fault, shape_faults}
 use Rattle.layout.specs.declared.fault.LayoutFault.{LayoutFault}
 use Rattle.layout.specs.declared.raw.RawArray.{RawArray, out-RawArray}
 
@@ -12,27 +12,27 @@ abbrev pub HasOffsets : ℕ → List ℕ → Type 0
 HasOffsets n bytes = length bytes < 4 * (n + 1) → length bytes ≡ 0
 
 -- What an array knows of its children and of its dictionary.
-abbrev pub held_raw : RawArray → Held
-held_raw raw = record { kind = kind_of (out-RawArray raw).ty; length = (out-RawArray raw).length }
+abbrev pub inner_raw : RawArray → Inner
+inner_raw raw = record { kind = kind_of (out-RawArray raw).ty; length = (out-RawArray raw).length }
 
-abbrev pub held_children : List RawArray → List Held
-held_children children = map held_raw children
+abbrev pub inner_children : List RawArray → List Inner
+inner_children children = map inner_raw children
 
-abbrev pub held_dictionary : Option (Box RawArray Global) → Option Held
-held_dictionary dictionary = option_map (λ b. held_raw b.value) dictionary
+abbrev pub inner_dictionary : Option (Box RawArray Global) → Option Inner
+inner_dictionary dictionary = option_map (λ b. inner_raw b.value) dictionary
 
 -- The tests that come first, those after them, and the first fault of an array itself.
 abbrev pub shape_faults_of : RawArray → List (Option LayoutFault)
 shape_faults_of raw =
     let r = out-RawArray raw in
-    shape_faults (kind_of r.ty) r.length r.buffers.items (held_children r.children.items) (held_dictionary r.dictionary)
+    shape_faults (kind_of r.ty) r.length r.buffers.items (inner_children r.children.items) (inner_dictionary r.dictionary)
 
 abbrev pub content_faults_of : RawArray → List (Option LayoutFault)
 content_faults_of raw =
     let r = out-RawArray raw in
-    content_faults (kind_of r.ty) r.length r.null_count r.buffers.items (held_children r.children.items) (held_dictionary r.dictionary)
+    content_faults (kind_of r.ty) r.length r.null_count r.buffers.items (inner_children r.children.items) (inner_dictionary r.dictionary)
 
 abbrev pub own_fault_of : RawArray → Option LayoutFault
 own_fault_of raw =
     let r = out-RawArray raw in
-    own_fault (kind_of r.ty) r.length r.null_count r.buffers.items (held_children r.children.items) (held_dictionary r.dictionary)
+    own_fault (kind_of r.ty) r.length r.null_count r.buffers.items (inner_children r.children.items) (inner_dictionary r.dictionary)
