@@ -10,7 +10,7 @@ ghost use Rattle.layout.specs.Fault.{bad_code_row, bad_text_row, decreasing_row,
 ghost use Rattle.types.specs.Number.{is_negative};
 ghost use Rattle.layout.specs.Layout.{bytes_at, offset_at};
 
-use crate::buffers::{bit, bytes_at, buffer_at, is_valid, offset_at, start_at, text_at};
+use crate::buffers::{bit, buffer_at, bytes_at, is_valid, offset_at, start_at, text_at};
 use crate::raw::RawArray;
 use crate::shapes::{child_length, entry_count};
 use colbits::Buffer;

@@ -6,7 +6,7 @@ ghost use Rattle.types.specs.Kind.{kind_of};
 ghost use Rattle.layout.specs.Fault.{are_offsets_short, bytes_for, child_length, do_parts_differ, entry_count, is_data_short, is_missing, is_no_child, is_no_dictionary, is_validity_short, positions};
 ghost use Rattle.layout.specs.Layout.{bytes_at, buffer_at};
 
-use crate::buffers::{bytes_at, buffer_at};
+use crate::buffers::{buffer_at, bytes_at};
 use crate::raw::RawArray;
 use colbits::Buffer;
 use types::{DataType, is_same};
