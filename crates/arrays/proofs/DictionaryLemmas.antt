@@ -16,7 +16,7 @@ use Rattle.layout.specs.Fault.{is_no_code, least_row}
 use Rattle.arrays.specs.Dictionary.{encoded, is_code, looked_up}
 use Rattle.layout.specs.Seen.{Seen}
 use Rattle.layout.specs.Reading.{Reading, inner_of, read_parts}
-use Rattle.layout.specs.Checked.{checked}
+use Rattle.layout.specs.Checked.{checked_texts}
 use Rattle.layout.proofs.FirstFaultLemmas.{IsWhole, own_fault-whole}
 use Rattle.layout.proofs.LawfulLemmas.{texts_of, either_false, none_held, no_dictionary}
 use Rattle.arrays.proofs.ListLemmas.{map-range-below}
@@ -124,37 +124,37 @@ dict_shows n buffers d =
 
 -- The parts of an array of codes make a lawful array with a dictionary, which shows what the codes name.
 pub record MakesDict (n : ℕ) (buffers : Buffers) (children : List Reading) (shown words : Seen) : Type 0 where
-  pub lawful : (read_parts kind.dict n None buffers children (Some (checked words))).fault ≡ None
-  pub shows : (read_parts kind.dict n None buffers children (Some (checked words))).seen ≡ encoded shown words
+  pub lawful : (read_parts kind.dict n None buffers children (Some (checked_texts words))).fault ≡ None
+  pub shows : (read_parts kind.dict n None buffers children (Some (checked_texts words))).seen ≡ encoded shown words
 
-makes_alone : (n : ℕ) (buffers : Buffers) (words : Seen) → (read_parts (kind.int int32) n None buffers [] None).fault ≡ None → words.kind ≡ kind.utf8
+makes_alone : (n : ℕ) (buffers : Buffers) (words : Seen) → (read_parts (kind.int int32) n None buffers [] None).fault ≡ None
     → All (λ c. is_code (length words.items) c ≡ true) (read_parts (kind.int int32) n None buffers [] None).seen.items
     → MakesDict n buffers [] (read_parts (kind.int int32) n None buffers [] None).seen words
-makes_alone n buffers words lawful texts all = record {
-  lawful = dict_lawful n buffers (checked words) lawful texts refl (subst (λ (xs : List Item). All (λ c. is_code (length words.items) c ≡ true) xs) (codes_shown n buffers) all);
-  shows = dict_shows n buffers (checked words);
+makes_alone n buffers words lawful all = record {
+  lawful = dict_lawful n buffers (checked_texts words) lawful refl refl (subst (λ (xs : List Item). All (λ c. is_code (length words.items) c ≡ true) xs) (codes_shown n buffers) all);
+  shows = dict_shows n buffers (checked_texts words);
 }
 
 makes_numbers : (n : ℕ) (buffers : Buffers) (children : List Reading) (held_words : Option Reading) (words : Seen) → children ≡ [] → held_words ≡ None
-    → (read_parts (kind.int int32) n None buffers children held_words).fault ≡ None → words.kind ≡ kind.utf8
+    → (read_parts (kind.int int32) n None buffers children held_words).fault ≡ None
     → All (λ c. is_code (length words.items) c ≡ true) (read_parts (kind.int int32) n None buffers children held_words).seen.items
     → MakesDict n buffers children (read_parts (kind.int int32) n None buffers children held_words).seen words
-makes_numbers n buffers [] None words childless wordless lawful texts all = makes_alone n buffers words lawful texts all
-makes_numbers n buffers [] (Some d) words childless wordless lawful texts all = cc
-makes_numbers n buffers (c ∷ cs) held_words words childless wordless lawful texts all = cc
+makes_numbers n buffers [] None words childless wordless lawful all = makes_alone n buffers words lawful all
+makes_numbers n buffers [] (Some d) words childless wordless lawful all = cc
+makes_numbers n buffers (c ∷ cs) held_words words childless wordless lawful all = cc
 
 pub MakesDict-array : (k : Kind) (n : ℕ) (buffers : Buffers) (children : List Reading) (held_words : Option Reading) (shown words : Seen)
     → (read_parts k n None buffers children held_words).fault ≡ None → (read_parts k n None buffers children held_words).seen ≡ shown
-    → shown.kind ≡ kind.int int32 → words.kind ≡ kind.utf8 → All (λ c. is_code (length words.items) c ≡ true) shown.items
+    → shown.kind ≡ kind.int int32 → All (λ c. is_code (length words.items) c ≡ true) shown.items
     → MakesDict n buffers children shown words
-MakesDict-array k n buffers children held_words shown words lawful shows numbers texts all =
+MakesDict-array k n buffers children held_words shown words lawful shows numbers all =
     let is : k ≡ kind.int int32 = sym (seen-kind k n None buffers children held_words) ∙ ap (λ (q : Seen). q.kind) shows ∙ numbers in
     let same = ap (λ q. read_parts q n None buffers children held_words) is in
     let lawful_int = sym (ap (λ (q : Reading). q.fault) same) ∙ lawful in
     let shows_int = sym (ap (λ (q : Reading). q.seen) same) ∙ shows in
     let alone = numbers_alone n buffers children held_words lawful_int in
     subst (λ (s : Seen). MakesDict n buffers children s words) shows_int
-    (makes_numbers n buffers children held_words words alone.0 alone.1 lawful_int texts (subst (λ (s : Seen). All (λ c. is_code (length words.items) c ≡ true) s.items) (sym shows_int) all))
+    (makes_numbers n buffers children held_words words alone.0 alone.1 lawful_int (subst (λ (s : Seen). All (λ c. is_code (length words.items) c ≡ true) s.items) (sym shows_int) all))
 
 pub kind_of-Dict : kind_of Dict ≡ kind.dict
 kind_of-Dict = fold_out-DataType Kind Kind kind_step (λ f. f.ty) Dict ∙ ap (λ o. kind_step (map-DataType DataType Field Kind Kind kind_of (fold-Field Kind Kind kind_step (λ f. f.ty)) o)) outs-Dict

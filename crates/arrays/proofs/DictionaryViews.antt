@@ -21,7 +21,7 @@ use Rattle.layout.specs.Fault.{Inner, own_fault, do_parts_differ, is_no_code, en
 use Rattle.layout.specs.Seen.{Seen, part, valid_at}
 use Rattle.arrays.specs.Values.{HasNumbers}
 use Rattle.layout.specs.Reading.{Reading, read_parts, reading, inner_of, child_fault, entries_of}
-use Rattle.layout.specs.Checked.{checked}
+use Rattle.layout.specs.Checked.{checked_texts}
 use Rattle.arrays.specs.Dictionary.{looked_up, is_code, encoded, codes_of, dictionary_of, entries_shown, texts_alone}
 use Rattle.arrays.specs.View.{read_view, show_view}
 use Rattle.arrays.specs.Slot.{is_text}
@@ -127,22 +127,22 @@ code_fits : (b : Bool) (z : ℤ) (n : ℕ) → (b && (is_negative z || not (int_
 code_fits true z n h = both_sides (is_negative z) (int_lt z (pos n)) h
 code_fits false z n h = refl
 
-counted : (words : Option Seen) → entry_count (option_map inner_of (option_map checked words)) ≡ length (entries_of (option_map checked words)).items
+counted : (words : Option Seen) → entry_count (option_map inner_of (option_map checked_texts words)) ≡ length (entries_of (option_map checked_texts words)).items
 counted None = refl
 counted (Some s) = refl
 
 codes_fit : (n : ℕ) (buffers : Buffers) (children : List Reading) (words : Option Seen) (start len : ℕ)
-    → (read_parts kind.dict n None buffers children (option_map checked words)).fault ≡ None → start + len ≤ n → let s = part start len (read_parts kind.dict n None buffers children (option_map checked words)).seen in
+    → (read_parts kind.dict n None buffers children (option_map checked_texts words)).fault ≡ None → start + len ≤ n → let s = part start len (read_parts kind.dict n None buffers children (option_map checked_texts words)).seen in
     All (λ c. is_code (length s.entries.items) c ≡ true) s.codes
 unfolding read_parts codes
 codes_fit n buffers children words start len lawful within =
-    let w = whole kind.dict n None buffers children (option_map checked words) lawful in
-    let entries = length (entries_of (option_map checked words)).items in
+    let w = whole kind.dict n None buffers children (option_map checked_texts words) lawful in
+    let entries = length (entries_of (option_map checked_texts words)).items in
     let slot : ℕ → Item = λ j. cond (is_valid buffers (start + j)) (int (code_at buffers (start + j))) null in
     let fits : (j : ℕ) → j < len → is_code entries (slot j) ≡ true =
     λ j h.
     code_fits (is_valid buffers (start + j)) (code_at buffers (start + j)) entries
-    (ap (λ m. is_no_code buffers m (start + j)) (sym (counted words)) ∙ fails-least_none (is_no_code buffers (entry_count (option_map inner_of (option_map checked words)))) n w.all_codes (start + j) (omega (arith, h, within))) in
+    (ap (λ m. is_no_code buffers m (start + j)) (sym (counted words)) ∙ fails-least_none (is_no_code buffers (entry_count (option_map inner_of (option_map checked_texts words)))) n w.all_codes (start + j) (omega (arith, h, within))) in
     let are = slice-column (kind.int int32) n buffers [] [] start len within in
     subst (All (λ c. is_code entries c ≡ true)) (sym are) (All-from_get_or (λ c. is_code entries c ≡ true) (map slot (range_with_len 0 len)) null (λ i h.
     let below : i < len = omega (arith, h, length-map-range_with_len slot 0 len) in
@@ -150,7 +150,7 @@ codes_fit n buffers children words start len lawful within =
 
 -- ---- a view
 
-words_there : {X : Type 0} (f : X → Seen) (o : Option X) (children : List Inner) → do_parts_differ kind.dict children (option_map inner_of (option_map checked (option_map f o))) ≡ false → IsSome o
+words_there : {X : Type 0} (f : X → Seen) (o : Option X) (children : List Inner) → do_parts_differ kind.dict children (option_map inner_of (option_map checked_texts (option_map f o))) ≡ false → IsSome o
 words_there f None children h = absurd (false≢true (sym (either_false _ _ h).1))
 words_there f (Some x) children h = refl
 
@@ -165,26 +165,26 @@ pub record ViewCodes (v : Inside) (s : Seen) : Type 0 where
   pub named : s ≡ encoded (codes_of s) (dictionary_of s)
   pub fit : All (λ c. is_code (length s.entries.items) c ≡ true) s.codes
   pub there : IsSome v.words
-  pub entries : entries_of (option_map checked (option_map (λ w. arc_value w.now) v.words)) ≡ s.entries
+  pub entries : entries_of (option_map checked_texts (option_map (λ w. arc_value w.now) v.words)) ≡ s.entries
 
 pub codes_of_view : (v : Inside) (s : Seen) → show_view v ≡ s → s.kind ≡ kind.dict → (read_view v).fault ≡ None → v.start + v.len ≤ v.total → ViewCodes v s
 codes_of_view v s shows dict lawful within =
     let children = map reading v.children.now in
     let words = option_map (λ w. arc_value w.now) v.words in
     let is = kind_shown v s shows ∙ dict in
-    let same : read_view v ≡ read_parts kind.dict v.total None v.buffers.now children (option_map checked words) =
-    ap (λ k. read_parts k v.total None v.buffers.now children (option_map checked words)) is in
+    let same : read_view v ≡ read_parts kind.dict v.total None v.buffers.now children (option_map checked_texts words) =
+    ap (λ k. read_parts k v.total None v.buffers.now children (option_map checked_texts words)) is in
     let lawful_dict = sym (ap (λ (r : Reading). r.fault) same) ∙ lawful in
-    let shown : part v.start v.len (read_parts kind.dict v.total None v.buffers.now children (option_map checked words)).seen ≡ s =
+    let shown : part v.start v.len (read_parts kind.dict v.total None v.buffers.now children (option_map checked_texts words)).seen ≡ s =
     sym (ap (λ (r : Reading). part v.start v.len r.seen) same) ∙ shows in
-    let w = whole kind.dict v.total None v.buffers.now children (option_map checked words) lawful_dict in
+    let w = whole kind.dict v.total None v.buffers.now children (option_map checked_texts words) lawful_dict in
     record {
-      lawful = codes_lawful v.total v.buffers.now children (option_map checked words) lawful_dict;
-      shows = codes-seen v.total v.buffers.now children (option_map checked words) v.start v.len ∙ ap codes_of shown;
-      named = encoded-is s dict (subst (λ (q : Seen). q.items ≡ map (looked_up q.entries.items) q.codes) shown (named-part v.total v.buffers.now children (option_map checked words) v.start v.len));
+      lawful = codes_lawful v.total v.buffers.now children (option_map checked_texts words) lawful_dict;
+      shows = codes-seen v.total v.buffers.now children (option_map checked_texts words) v.start v.len ∙ ap codes_of shown;
+      named = encoded-is s dict (subst (λ (q : Seen). q.items ≡ map (looked_up q.entries.items) q.codes) shown (named-part v.total v.buffers.now children (option_map checked_texts words) v.start v.len));
       fit = subst (λ (q : Seen). All (λ c. is_code (length q.entries.items) c ≡ true) q.codes) shown (codes_fit v.total v.buffers.now children words v.start v.len lawful_dict within);
       there = words_there (λ w. arc_value w.now) v.words (map inner_of children) w.parts_agree;
-      entries = sym (dict_entries v.total v.buffers.now children (option_map checked words)) ∙ ap (λ (q : Seen). q.entries) shown;
+      entries = sym (dict_entries v.total v.buffers.now children (option_map checked_texts words)) ∙ ap (λ (q : Seen). q.entries) shown;
     }
 
 -- ---- one slot

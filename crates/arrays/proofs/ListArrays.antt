@@ -5,7 +5,7 @@ use Rattle.std.specs.Arc.{arc_value}
 use Rattle.types.specs.Kind as kind
 use Rattle.types.specs.Kind.{Kind, bytes_of, depth, kind_of, same_int, same_kind}
 use Rattle.layout.specs.Seen.{Seen}
-use Rattle.layout.specs.Checked.{checked}
+use Rattle.layout.specs.Checked.{checked, checked_texts}
 use Rattle.arrays.specs.Array.{read_array, show_array}
 use Rattle.layout.specs.Reading.{Reading, read_parts, reading, inner_of}
 use Rattle.types.specs.First.{first}
@@ -35,7 +35,7 @@ pub read-wordless : (a : Inside) → (read_array a).fault ≡ None → same_kind
 read-wordless a lawful other =
     let k = kind_of a.ty in
     let children = map reading a.children.items in
-    let words = option_map checked (option_map arc_value a.words) in
+    let words = option_map checked_texts (option_map arc_value a.words) in
     let not_dict : same_kind k kind.dict ≡ false = ap (λ k. same_kind k kind.dict) (sym (seen-kind k a.length None a.buffers.items children words)) ∙ other in
     let wordless = none_held k (map inner_of children) words not_dict (parts_agree k a.length None a.buffers.items children words lawful) in
     ap (read_parts k a.length None a.buffers.items children) (sym wordless)

@@ -20,7 +20,7 @@ use Rattle.layout.specs.Fault.{own_fault, bytes_for, child_length, is_no_child, 
 use Rattle.layout.specs.Inner.{HasOffsets}
 use Rattle.layout.specs.Seen.{Seen, part, valid_in, valid_at}
 use Rattle.layout.specs.Reading.{Reading, read_parts, reading, inner_of, fault, child_fault, dictionary_fault, child_items, entries_of}
-use Rattle.layout.specs.Checked.{checked}
+use Rattle.layout.specs.Checked.{checked_texts}
 use Rattle.layout.specs.Offsets.{AreOffsets, offsets_from, start_of, length_of}
 use Rattle.arrays.specs.Values.{HasBits, HasTexts, HasLists, valid_values}
 use Rattle.arrays.specs.Slot.{is_list, holds_at}
@@ -75,24 +75,24 @@ items-part k n buffers children dictionary start len value within is =
     ∙ ap (λ m. map shown (range_with_len 0 m)) (sym slots)
 
 pub items-view : (v : Inside) (value : ℕ → Item) → v.start + v.len ≤ v.total
-    → ((j : ℕ) → j < v.len → value_at (view_kind v.ty) v.buffers.now (child_items (map reading v.children.now)) (entries_of (option_map checked (option_map (λ w. arc_value w.now) v.words))).items (v.start + j) ≡ value j)
+    → ((j : ℕ) → j < v.len → value_at (view_kind v.ty) v.buffers.now (child_items (map reading v.children.now)) (entries_of (option_map checked_texts (option_map (λ w. arc_value w.now) v.words))).items (v.start + j) ≡ value j)
     → (show_view v).items ≡ valid_values value (show_view v)
 items-view v value within is =
-    items-part (view_kind v.ty) v.total v.buffers.now (map reading v.children.now) (option_map checked (option_map (λ w. arc_value w.now) v.words)) v.start v.len value within is
+    items-part (view_kind v.ty) v.total v.buffers.now (map reading v.children.now) (option_map checked_texts (option_map (λ w. arc_value w.now) v.words)) v.start v.len value within is
 
 -- the values of a view of one kind
 value_is : (v : Inside) (k : Kind) → view_kind v.ty ≡ k → (j : ℕ)
-    → value_at (view_kind v.ty) v.buffers.now (child_items (map reading v.children.now)) (entries_of (option_map checked (option_map (λ w. arc_value w.now) v.words))).items (v.start + j)
-    ≡ value_at k v.buffers.now (child_items (map reading v.children.now)) (entries_of (option_map checked (option_map (λ w. arc_value w.now) v.words))).items (v.start + j)
+    → value_at (view_kind v.ty) v.buffers.now (child_items (map reading v.children.now)) (entries_of (option_map checked_texts (option_map (λ w. arc_value w.now) v.words))).items (v.start + j)
+    ≡ value_at k v.buffers.now (child_items (map reading v.children.now)) (entries_of (option_map checked_texts (option_map (λ w. arc_value w.now) v.words))).items (v.start + j)
 value_is v k is j =
-    ap (λ q. value_at q v.buffers.now (child_items (map reading v.children.now)) (entries_of (option_map checked (option_map (λ w. arc_value w.now) v.words))).items (v.start + j)) is
+    ap (λ q. value_at q v.buffers.now (child_items (map reading v.children.now)) (entries_of (option_map checked_texts (option_map (λ w. arc_value w.now) v.words))).items (v.start + j)) is
 
 -- a view is of an array where each test has passed
 whole_view : (v : Inside) (k : Kind) → view_kind v.ty ≡ k → (read_view v).fault ≡ None
-    → IsWhole k v.total None v.buffers.now (map inner_of (map reading v.children.now)) (option_map inner_of (option_map checked (option_map (λ w. arc_value w.now) v.words)))
+    → IsWhole k v.total None v.buffers.now (map inner_of (map reading v.children.now)) (option_map inner_of (option_map checked_texts (option_map (λ w. arc_value w.now) v.words)))
 whole_view v k is lawful =
-    subst (λ q. IsWhole q v.total None v.buffers.now (map inner_of (map reading v.children.now)) (option_map inner_of (option_map checked (option_map (λ w. arc_value w.now) v.words)))) is
-    (whole (view_kind v.ty) v.total None v.buffers.now (map reading v.children.now) (option_map checked (option_map (λ w. arc_value w.now) v.words)) lawful)
+    subst (λ q. IsWhole q v.total None v.buffers.now (map inner_of (map reading v.children.now)) (option_map inner_of (option_map checked_texts (option_map (λ w. arc_value w.now) v.words)))) is
+    (whole (view_kind v.ty) v.total None v.buffers.now (map reading v.children.now) (option_map checked_texts (option_map (λ w. arc_value w.now) v.words)) lawful)
 
 second_of_three : (a b c : Option LayoutFault) → first (a ∷ b ∷ c ∷ []) ≡ None → b ≡ None
 second_of_three None None c h = refl
@@ -245,7 +245,7 @@ lists_of_view v s d shows listed lawful within =
     let is = kind_shown v s shows ∙ of.1 in
     let w = whole_view v (kind.list of.0) is lawful in
     let raw = slice_index_or v.children.now 0 d in
-    let child = only_child of.0 v.children.now d (either_false _ _ w.parts_agree).0 (children_lawful (view_kind v.ty) v.total buffers (map reading v.children.now) (option_map checked (option_map (λ w. arc_value w.now) v.words)) lawful) in
+    let child = only_child of.0 v.children.now d (either_false _ _ w.parts_agree).0 (children_lawful (view_kind v.ty) v.total buffers (map reading v.children.now) (option_map checked_texts (option_map (λ w. arc_value w.now) v.words)) lawful) in
     let seen = seen-reading raw in
     let seen_kind : (reading raw).seen.kind ≡ of.0 = seen.0 ∙ child.kind_is in
     let few = ltb-false 8 (kind.depth (kind.list of.0)) w.shallow in
@@ -313,7 +313,7 @@ held_where_valid false x h = refl
 pub holds_plain : (v : Inside) (s : Seen) (i : ℕ) → show_view v ≡ s → same_kind s.kind kind.dict ≡ false → v.start + v.len ≤ v.total → i < length s.items → holds_at s i ≡ valid_at s i
 holds_plain v s i shows plain within below =
     let child = child_items (map reading v.children.now) in
-    let entries = (entries_of (option_map checked (option_map (λ w. arc_value w.now) v.words))).items in
+    let entries = (entries_of (option_map checked_texts (option_map (λ w. arc_value w.now) v.words))).items in
     let value : ℕ → Item = λ j. value_at (view_kind v.ty) v.buffers.now child entries (v.start + j) in
     let is : s.items ≡ valid_values value s = subst (λ (q : Seen). q.items ≡ valid_values value q) shows (items-view v value within (λ j h. refl)) in
     let plain_view = subst (λ k. same_kind k kind.dict ≡ false) (sym (kind_shown v s shows)) plain in

@@ -19,7 +19,7 @@ use Rattle.types.specs.Number.{number_at}
 use Rattle.layout.specs.Seen.{Seen, part, valid_in, valid_at, nulls_in}
 use Rattle.layout.specs.Fault.{is_validity_short, bytes_for}
 use Rattle.layout.specs.Reading.{Reading, read_parts, reading, inner_of, child_items}
-use Rattle.layout.specs.Checked.{checked}
+use Rattle.layout.specs.Checked.{checked_texts}
 use Rattle.arrays.specs.ViewType.{view_kind}
 use Rattle.arrays.specs.View.{read_view, show_view}
 use Rattle.arrays.specs.declared.view.View.TheInside.{Inside}
@@ -157,7 +157,7 @@ number_there t bytes s j has within =
 
 pub validity-view : (v : Inside) → v.start + v.len ≤ v.total → (show_view v).validity ≡ option_map (λ bytes. bits bytes v.start v.len) (buffer_at v.buffers.now 0)
 validity-view v h =
-    ap (option_map (λ b. slice b v.start v.len)) (seen-validity (view_kind v.ty) v.total None v.buffers.now (map reading v.children.now) (option_map checked (option_map (λ w. arc_value w.now) v.words)))
+    ap (option_map (λ b. slice b v.start v.len)) (seen-validity (view_kind v.ty) v.total None v.buffers.now (map reading v.children.now) (option_map checked_texts (option_map (λ w. arc_value w.now) v.words)))
     ∙ validity-part v.start v.len v.total (buffer_at v.buffers.now 0) h
 
 pub valid-view : (v : Inside) (j : ℕ) → v.start + v.len ≤ v.total → j < v.len → valid_at (show_view v) j ≡ is_valid v.buffers.now (v.start + j)
@@ -166,7 +166,7 @@ valid-view v j h below = ap (λ o. valid_in o j) (validity-view v h) ∙ valid-p
 pub bits-view : (v : Inside) (bytes : List ℕ) → (read_view v).fault ≡ None → buffer_at v.buffers.now 0 ≡ Some bytes → v.total ≤ 8 * length bytes
 bits-view v bytes lawful is =
     bits_enough v.total bytes (buffer_at v.buffers.now 0) is
-    (whole (view_kind v.ty) v.total None v.buffers.now (map reading v.children.now) (option_map checked (option_map (λ w. arc_value w.now) v.words)) lawful).validity_enough
+    (whole (view_kind v.ty) v.total None v.buffers.now (map reading v.children.now) (option_map checked_texts (option_map (λ w. arc_value w.now) v.words)) lawful).validity_enough
 
 -- the numbers of an integer view, and that their bytes are there
 pub record ViewNumbers (t : IntType) (v : Inside) : Type 0 where
@@ -176,7 +176,7 @@ pub record ViewNumbers (t : IntType) (v : Inside) : Type 0 where
 pub numbers-view : (t : IntType) (v : Inside) → view_kind v.ty ≡ kind.int t → (read_view v).fault ≡ None → v.start + v.len ≤ v.total → ViewNumbers t v
 numbers-view t v is lawful within =
     let children = map reading v.children.now in
-    let words = option_map checked (option_map (λ w. arc_value w.now) v.words) in
+    let words = option_map checked_texts (option_map (λ w. arc_value w.now) v.words) in
     let same = ap (λ k. read_parts k v.total None v.buffers.now children words) is in
     let lawful_int = sym (ap (λ (r : Reading). r.fault) same) ∙ lawful in
     record {

@@ -127,7 +127,6 @@ impl Array {
         requires codes { All (λ c. is_code (length (arc_value dictionary).items) c ≡ true) codes.items }
         ensures { result ≡ encoded codes (arc_value dictionary) }
     {
-        dictionary.tell_kind();
         let Array {
             ty: _,
             length,

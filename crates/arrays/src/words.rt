@@ -55,13 +55,6 @@ impl Words {
         Words { length, buffers }
     }
 
-    /// Says that these are texts.
-    pub(crate) fn tell_kind(&self)
-        ensures { self.now.kind ≡ kind.utf8 }
-    {
-        let _ = &self.length;
-    }
-
     /// The texts of a lawful raw array of texts. No part is copied.
     pub(crate) fn from_raw(raw: RawArray) -> Words
         requires lawful { fault raw ≡ None }

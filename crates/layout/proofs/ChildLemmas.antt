@@ -1,5 +1,5 @@
 -- The child of a lawful list array.
-use Rattle.std.proofs.Common.{◌≡◌, ◌∙◌, ◌||◌, ◌&&◌, List, [], ◌∷◌, map, Bool, true, false, not, cond, nat_eq, is_none, slice_index_or, Option, Some, None, option_map, ap, sym, refl, subst}
+use Rattle.std.proofs.Common.{◌≡◌, ◌∙◌, ◌||◌, List, [], ◌∷◌, map, Bool, true, false, not, cond, nat_eq, is_none, slice_index_or, Option, Some, None, option_map, ap, sym, refl, subst}
 use Rattle.std.proofs.lemmas.Bool.{and_parts}
 use Rattle.std.specs.declared.boxed.Box.{Box}
 use Rattle.std.specs.declared.alloc.Global.{Global}

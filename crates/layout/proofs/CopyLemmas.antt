@@ -6,7 +6,7 @@ use Rattle.types.specs.Kind.{kind_of}
 use Rattle.types.specs.Shape.{shape_of, kind_of_shape}
 use Rattle.layout.specs.Layout.{Buffers}
 use Rattle.layout.specs.Seen.{Seen}
-use Rattle.layout.specs.Checked.{checked, read_checked}
+use Rattle.layout.specs.Checked.{checked_texts, read_checked}
 use Rattle.layout.specs.Reading.{Reading, read_parts, reading, reading_step}
 use Rattle.layout.proofs.FirstFaultLemmas.{entries-map, reading-raw}
 use Rattle.types.proofs.ShapeLemmas.{kind_of_shape-shape_of}
@@ -28,7 +28,7 @@ pub read_checked-copy : (t u : DataType) (n : ℕ) (buffers parts : Buffers) (ch
     → shape_of t ≡ shape_of u → buffers ≡ parts → map reading children ≡ map reading below → words ≡ again
     → read_checked (kind_of t) n buffers children words ≡ read_checked (kind_of u) n parts below again
 read_checked-copy t u n buffers parts children below words again shapes bytes inner same =
-    read_parts-copy t u n None buffers parts (map reading children) (map reading below) (option_map checked words) (option_map checked again) shapes bytes inner (ap (option_map checked) same)
+    read_parts-copy t u n None buffers parts (map reading children) (map reading below) (option_map checked_texts words) (option_map checked_texts again) shapes bytes inner (ap (option_map checked_texts) same)
 
 -- the reading of a raw array that is made of parts
 reading-made : (r : RawArray-F RawArray)

@@ -14,7 +14,7 @@ use Rattle.layout.specs.Layout.{Buffers}
 use Rattle.types.specs.First.{first, when}
 use Rattle.layout.specs.Fault.{shape_faults, Inner, own_fault, do_parts_differ, has_negative_offset, decreasing_row, is_past_end, does_count_differ, bad_text_row, bad_code_row}
 use Rattle.layout.specs.Reading.{Reading, read_parts, reading, inner_of, fault, child_fault, dictionary_fault}
-use Rattle.layout.specs.Checked.{checked, read_checked}
+use Rattle.layout.specs.Checked.{checked, checked_texts, read_checked}
 use Rattle.layout.specs.Seen.{Seen}
 use Rattle.layout.proofs.FirstFaultLemmas.{own_fault-none, reading-raw}
 use Rattle.layout.proofs.SeenLemmas.{seen-kind, length-items}
@@ -184,11 +184,18 @@ dictionary_raw raw h =
           let same : b ≡ x = cc in
           subst (λ (y : Box RawArray Global). (fault y.value ≡ None) × ((reading y.value).kind ≡ kind.utf8)) same (dictionary_lawful k n stated buffers children (reading b.value) h)
 
+-- checked texts are a checked array
+checked_texts-is : (s : Seen) → s.kind ≡ kind.utf8 → checked_texts s ≡ checked s
+checked_texts-is s is = ap (λ k. record { kind = k; length = length s.items; fault = None; seen = s }) (sym is)
+
 -- a checked dictionary is read as the raw one was
 checked_words : (d : Option (Box RawArray Global)) → ForSome d (λ b. (fault b.value ≡ None) × ((reading b.value).kind ≡ kind.utf8))
-    → option_map checked (option_map (λ b. (reading b.value).seen) d) ≡ option_map (λ b. reading b.value) d
+    → option_map checked_texts (option_map (λ b. (reading b.value).seen) d) ≡ option_map (λ b. reading b.value) d
 checked_words None h = refl
-checked_words (Some b) h = ap (λ r. Some r) (checked-reading b.value (h b refl).0)
+checked_words (Some b) h =
+    let is = checked-reading b.value (h b refl).0 in
+    let texts : (reading b.value).seen.kind ≡ kind.utf8 = ap (λ (q : Reading). q.kind) is ∙ (h b refl).1 in
+    ap (λ r. Some r) (checked_texts-is (reading b.value).seen texts ∙ is)
 
 -- The parts of a lawful raw array make an array that is lawful and shows the same.
 pub record MakesArray (raw : RawArray) (words : Option Seen) : Type 0 where
@@ -204,7 +211,7 @@ MakesArray-raw raw words h is =
     let read = reading-raw raw in
     let lawful = sym (ap (λ (q : Reading). q.fault) read) ∙ h in
     let same : read_checked k r.length r.buffers.items r.children.items words ≡ read_parts k r.length None r.buffers.items children dictionary =
-    ap (read_parts k r.length None r.buffers.items children) (ap (option_map checked) is ∙ checked_words r.dictionary (dictionary_raw raw h)) in
+    ap (read_parts k r.length None r.buffers.items children) (ap (option_map checked_texts) is ∙ checked_words r.dictionary (dictionary_raw raw h)) in
     record {
       lawful = ap (λ (q : Reading). q.fault) same ∙ lawful-unstated k r.length r.null_count r.buffers.items children dictionary lawful;
       shows =

@@ -1,4 +1,4 @@
-use Rattle.std.proofs.Common.{◌∙◌, sym}
+use Rattle.std.proofs.Common.{◌∙◌}
 use Rattle.layout.proofs.FirstFaultLemmas.{own_fault-of_shape, own_fault-of_content}
 use Rattle.layout.proofs.validator.own_fault.Goals as goal
 

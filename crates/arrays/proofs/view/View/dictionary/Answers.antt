@@ -1,6 +1,6 @@
 use Rattle.std.proofs.Common.{◌∙◌, ap, sym, option_map}
 use Rattle.std.specs.Arc.{arc_value}
-use Rattle.layout.specs.Checked.{checked}
+use Rattle.layout.specs.Checked.{checked_texts}
 use Rattle.layout.specs.Reading.{entries_of}
 use Rattle.arrays.proofs.DictionaryViews.{codes_of_view}
 use Rattle.arrays.proofs.view.View.dictionary.Goals as goal
@@ -11,4 +11,4 @@ unwrap-requires c = (codes_of_view c.self.inside c.args.self.now c.self.view_is 
 pub returns : goal.returns
 returns c =
     let there = codes_of_view c.self.inside c.args.self.now c.self.view_is c.requires c.self.invariant.0 c.self.invariant.1 in
-    ap (λ o. entries_of (option_map checked (option_map (λ w. arc_value w.now) o))) (sym c.unwrap.ensures) ∙ there.entries
+    ap (λ o. entries_of (option_map checked_texts (option_map (λ w. arc_value w.now) o))) (sym c.unwrap.ensures) ∙ there.entries

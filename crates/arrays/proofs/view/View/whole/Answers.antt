@@ -1,7 +1,7 @@
 use Rattle.std.proofs.Common.{map, None, option_map, arith}
 use Rattle.std.specs.Arc.{arc_value}
 use Rattle.layout.specs.Reading.{reading}
-use Rattle.layout.specs.Checked.{read_checked, checked}
+use Rattle.layout.specs.Checked.{checked_texts, read_checked}
 use Rattle.arrays.specs.ViewType.{view_kind}
 use Rattle.layout.proofs.SeenLemmas.{part-all, Fits-seen, short-of_lawful}
 use Rattle.arrays.proofs.view.View.whole.Goals as goal
@@ -12,7 +12,7 @@ invariant_of-result c =
     let words = option_map (λ w. arc_value w.now) a.words in (
       c.requires,
       omega arith,
-      short-of_lawful (view_kind a.ty) a.total None a.buffers.now (map reading a.children.now) (option_map checked words) c.requires,
+      short-of_lawful (view_kind a.ty) a.total None a.buffers.now (map reading a.children.now) (option_map checked_texts words) c.requires,
     )
 
 pub returns : goal.returns
@@ -20,4 +20,4 @@ returns c =
     let a = c.args in
     let words = option_map (λ w. arc_value w.now) a.words in
     part-all a.total (read_checked (view_kind a.ty) a.total a.buffers.now a.children.now words).seen
-    (Fits-seen (view_kind a.ty) a.total None a.buffers.now (map reading a.children.now) (option_map checked words))
+    (Fits-seen (view_kind a.ty) a.total None a.buffers.now (map reading a.children.now) (option_map checked_texts words))

@@ -1,4 +1,4 @@
-use Rattle.std.proofs.Common.{◌∙◌, ◌⊎◌, ◌≡◌, ◌++◌, ◌∷◌, [], None, Some, ap, arith, length, refl, subst, sym, true}
+use Rattle.std.proofs.Common.{◌∙◌, ◌++◌, ◌∷◌, [], None, ap, arith, refl, subst, sym}
 use Rattle.layout.specs.Item.{null}
 use Rattle.arrays.specs.Lengths.{IsBuildFault, is_past, text_bytes}
 use Rattle.std.proofs.lemmas.Result.{err_from_is_err_and}

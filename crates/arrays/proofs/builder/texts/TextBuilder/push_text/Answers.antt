@@ -1,4 +1,4 @@
-use Rattle.std.proofs.Common.{◌∙◌, ◌⊎◌, ◌≡◌, ◌++◌, ◌∷◌, [], Some, ap, arith, inl, inr, length, refl, rules, subst, sym, true}
+use Rattle.std.proofs.Common.{◌∙◌, ◌++◌, Some, ap, arith, inl, inr, length, refl, rules, subst, sym}
 use Rattle.std.proofs.lemmas.Result.{err_from_is_err_and}
 use Rattle.layout.specs.Item.{text}
 use Rattle.arrays.specs.Lengths.{IsBuildFault, is_past}
