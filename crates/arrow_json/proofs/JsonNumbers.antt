@@ -7,10 +7,11 @@ use Rattle.std.specs.Char.{is_ascii_digit, digit_value}
 use Rattle.std.specs.Str.Parse.{digits_value, digits_value_after}
 use Rattle.arrow_json.specs.JsonNumber.{numeral, below, is_numeral, fitting, narrow}
 use Rattle.types.specs.declared.int_type.IntType.{IntType}
-use Rattle.arrays.specs.Number.{IsOfType, is_of_type}
+use Rattle.arrays.specs.Number.{is_of_type}
 use Rattle.types.specs.declared.int_type.Width.{Width}
 use Rattle.types.specs.declared.int_type.Width.TheVariants.{W8, W16, W32, W64}
 use Rattle.std.proofs.lemmas.Int.{ints}
+use Rattle.types.proofs.RangeLemmas.{IsOfType-from_test}
 
 -- more digits make no number smaller
 pub digits_value_after-le : (n : ℕ) (ds : List ℕ) → n ≤ digits_value_after 10 n ds
@@ -45,24 +46,6 @@ some_from_all ds i n past some all left small =
     whole (is_numeral ds) n (digits_value 10 ds) (grind (arith, nat_tests)) value small
 
 -- ---- the range of a type
-
-pub within_type : (w : Width) (s : Bool) (z : ℤ) → is_of_type (record { bits = w; signed = s }) z ≡ true → IsOfType (record { bits = w; signed = s }) z
-within_type W8 true (pos n) h = grind (arith, ints)
-within_type W8 true (negsuc n) h = grind (arith, ints)
-within_type W8 false (pos n) h = grind (arith, ints)
-within_type W8 false (negsuc n) h = grind (arith, ints)
-within_type W16 true (pos n) h = grind (arith, ints)
-within_type W16 true (negsuc n) h = grind (arith, ints)
-within_type W16 false (pos n) h = grind (arith, ints)
-within_type W16 false (negsuc n) h = grind (arith, ints)
-within_type W32 true (pos n) h = grind (arith, ints)
-within_type W32 true (negsuc n) h = grind (arith, ints)
-within_type W32 false (pos n) h = grind (arith, ints)
-within_type W32 false (negsuc n) h = grind (arith, ints)
-within_type W64 true (pos n) h = grind (arith, ints)
-within_type W64 true (negsuc n) h = grind (arith, ints)
-within_type W64 false (pos n) h = grind (arith, ints)
-within_type W64 false (negsuc n) h = grind (arith, ints)
 
 -- a number of the type is far from 2 ^ 64
 pub narrow_type : (w : Width) (s : Bool) (z : ℤ) → 2 ^ 64 ≤ nat_abs z → is_of_type (record { bits = w; signed = s }) z ≡ false
@@ -100,8 +83,5 @@ none_from_narrow t o e = ap (option_and_then (fitting t)) e ∙ fitting-narrow t
 
 pub fitting_from_narrow : (t : IntType) (o : Option ℤ) (z : ℤ) → Some z ≡ option_and_then narrow o → fitting t z ≡ option_and_then (fitting t) o
 fitting_from_narrow t o z e = ap (option_and_then (fitting t)) e ∙ fitting-narrow t o
-
-pub IsOfType-from_test : (t : IntType) (z : ℤ) → is_of_type t z ≡ true → IsOfType t z
-IsOfType-from_test t z h = within_type t.bits t.signed z h
 
 pub ruleset ranges = (none_from_narrow, fitting_from_narrow, IsOfType-from_test)

@@ -1,8 +1,7 @@
 -- Numbers of a type, and numbers written one behind the other.
-use Rattle.std.proofs.Common.{◌≡◌, ◌∙◌, ◌*ℤ◌, Option, Some, None, SomeIff, IfNone, ℕ, ◌+◌, ◌*◌, ◌<◌, ◌≤◌, ℤ, pos, negsuc, List, ◌++◌, Bool, true, false, length, ap, sym, subst, refl, arith, FitsSigned, length-append}
+use Rattle.std.proofs.Common.{◌≡◌, ◌∙◌, ◌*ℤ◌, Option, Some, None, SomeIff, IfNone, ℕ, ◌+◌, ◌*◌, ◌<◌, ◌≤◌, ℤ, pos, List, ◌++◌, Bool, true, false, length, ap, sym, subst, refl, arith, FitsSigned, length-append}
 use borrow.Author.Count.{below_more}
 use Rattle.std.specs.Int.{w128}
-use Rattle.std.proofs.lemmas.Bool.{ltb-true}
 use Rattle.std.proofs.lemmas.Int.{ints}
 use Rattle.std.proofs.lemmas.Nat.{row_fits}
 use Rattle.types.specs.declared.int_type.Width.{Width}
@@ -10,31 +9,11 @@ use Rattle.types.specs.declared.int_type.Width.TheVariants.{W8, W16, W32, W64}
 use Rattle.types.specs.declared.int_type.IntType.{IntType}
 use Rattle.arrays.specs.Kind.{bytes_of}
 use Rattle.arrays.specs.Number.{number_at, IsOfType, is_of_type, bytes_of_number}
+use Rattle.types.proofs.RangeLemmas.{IsOfType-from_test}
 use Rattle.types.proofs.EncodingLemmas.{length-bytes_of_number, number_at-append-front, number_at-append-end}
 use Rattle.kernels.specs.Computed.{AreResults}
 
 -- ---- the test of a number
-
-is_number : (w : Width) (signed : Bool) (z : ℤ) → is_of_type (record { bits = w; signed = signed }) z ≡ true → IsOfType (record { bits = w; signed = signed }) z
-is_number W8 true (pos n) h = let below = ltb-true _ _ h in omega (arith, ints)
-is_number W8 true (negsuc n) h = let below = ltb-true _ _ h in omega (arith, ints)
-is_number W8 false (pos n) h = let below = ltb-true _ _ h in omega (arith, ints)
-is_number W8 false (negsuc n) h = cc
-is_number W16 true (pos n) h = let below = ltb-true _ _ h in omega (arith, ints)
-is_number W16 true (negsuc n) h = let below = ltb-true _ _ h in omega (arith, ints)
-is_number W16 false (pos n) h = let below = ltb-true _ _ h in omega (arith, ints)
-is_number W16 false (negsuc n) h = cc
-is_number W32 true (pos n) h = let below = ltb-true _ _ h in omega (arith, ints)
-is_number W32 true (negsuc n) h = let below = ltb-true _ _ h in omega (arith, ints)
-is_number W32 false (pos n) h = let below = ltb-true _ _ h in omega (arith, ints)
-is_number W32 false (negsuc n) h = cc
-is_number W64 true (pos n) h = let below = ltb-true _ _ h in omega (arith, ints)
-is_number W64 true (negsuc n) h = let below = ltb-true _ _ h in omega (arith, ints)
-is_number W64 false (pos n) h = let below = ltb-true _ _ h in omega (arith, ints)
-is_number W64 false (negsuc n) h = cc
-
-pub IsOfType-from_test : (t : IntType) (z : ℤ) → is_of_type t z ≡ true → IsOfType t z
-IsOfType-from_test t z h = is_number t.bits t.signed z h
 
 wide : (w : Width) (signed : Bool) (z : ℤ) → IsOfType (record { bits = w; signed = signed }) z → FitsSigned w128 z
 wide W8 true z h = omega (arith, ints)

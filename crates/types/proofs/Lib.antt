@@ -3,3 +3,4 @@ pub mod SchemaLemmas
 pub mod EncodingLemmas
 pub mod ByteLemmas
 pub mod IntegerLemmas
+pub mod RangeLemmas
