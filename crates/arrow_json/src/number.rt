@@ -1,9 +1,9 @@
 ghost use Rattle.std.specs.Prelude.{◌≡◌, ◌<◌, ◌^◌, option_and_then, IfSome};
-ghost use Rattle.arrays.specs.Number.{IsOfType, is_of_type};
+ghost use Rattle.arrays.specs.Number.{IsOfType};
 ghost use Rattle.serde_json.specs.View.{view, number_view};
 ghost use Rattle.arrow_json.specs.JsonNumber.{integer_of, fitting, spelled, narrow, numeral, below, count_of, flag_of, width_of};
 
-use arrays::{IntType, Integer, Width};
+use arrays::{IntType, Width};
 use serde_json::{Number, Value};
 
 /// The integer of the type that the value spells, as a number or as a text.
@@ -24,27 +24,7 @@ fn fitting(ty: IntType, number: i128) -> Option<i128>
     ensures value { result ≡ fitting ty number }
     ensures of_type { IfSome result (IsOfType ty) }
 {
-    if holds(ty, number) {
-        Some(number)
-    } else {
-        None
-    }
-}
-
-/// Whether the number is in the type's range.
-fn holds(ty: IntType, number: i128) -> bool
-    ensures { result ≡ is_of_type ty number }
-{
-    match (ty.bits, ty.signed) {
-        (Width::W8, true) => i8::holds(number),
-        (Width::W8, false) => u8::holds(number),
-        (Width::W16, true) => i16::holds(number),
-        (Width::W16, false) => u16::holds(number),
-        (Width::W32, true) => i32::holds(number),
-        (Width::W32, false) => u32::holds(number),
-        (Width::W64, true) => i64::holds(number),
-        (Width::W64, false) => u64::holds(number),
-    }
+    if ty.holds(number) { Some(number) } else { None }
 }
 
 /// A count: a whole number up to 2^31 - 1.

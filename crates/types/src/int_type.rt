@@ -33,3 +33,25 @@ pub struct IntType {
     pub bits: Width,
     pub signed: bool,
 }
+
+impl IntType {
+    ghost use Rattle.types.specs.Number.{is_of_type};
+
+    /// Whether the number is in the type's range.
+    #[inline]
+    pub fn holds(self, number: i128) -> bool
+        ensures { result ≡ is_of_type self number }
+    {
+        let count: i128 = match self.bits {
+            Width::W8 => 1 << 8,
+            Width::W16 => 1 << 16,
+            Width::W32 => 1 << 32,
+            Width::W64 => 1 << 64,
+        };
+        if self.signed {
+            -count / 2 <= number && number < count / 2
+        } else {
+            0 <= number && number < count
+        }
+    }
+}
