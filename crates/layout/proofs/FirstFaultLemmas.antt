@@ -4,7 +4,8 @@ use Rattle.std.specs.declared.boxed.Box.{Box}
 use Rattle.std.specs.declared.alloc.Global.{Global}
 use Rattle.types.specs.Kind.{Kind, depth, kind_of}
 use Rattle.layout.specs.Layout.{Buffers, buffer_at}
-use Rattle.types.specs.First.{when, first}
+use Rattle.std.specs.Bool.{then_some}
+use Rattle.types.specs.First.{first}
 use Rattle.layout.specs.Fault.{Inner, positions, is_missing, do_parts_differ, is_validity_short, is_data_short, has_negative_offset, decreasing_row, is_past_end, does_count_differ, bad_text_row, bad_code_row, own_fault, shape_faults, content_faults}
 use Rattle.layout.specs.Inner.{inner_raw, inner_children, inner_dictionary, own_fault_of, shape_faults_of, content_faults_of}
 use Rattle.layout.specs.Reading.{Reading, inner_of, reading_step, reading, child_fault, dictionary_fault, read_parts, fault}
@@ -44,7 +45,7 @@ record Shaped (a b c d e f g : Bool) : Type 0 where
   data_enough : g ≡ false
 
 shaped : (a b c d e f g : Bool)
-    → first (when a TooLong ∷ when b TooDeep ∷ when c MissingBuffer ∷ when d ExtraBuffer ∷ when e ChildDiffers ∷ when (f || g) BufferTooShort ∷ []) ≡ None
+    → first (then_some a TooLong ∷ then_some b TooDeep ∷ then_some c MissingBuffer ∷ then_some d ExtraBuffer ∷ then_some e ChildDiffers ∷ then_some (f || g) BufferTooShort ∷ []) ≡ None
     → Shaped a b c d e f g
 shaped true b c d e f g h = cc
 shaped false true c d e f g h = cc
@@ -73,7 +74,7 @@ record Filled (a : Bool) (b : Option ℕ) (c d : Bool) (e f : Option ℕ) : Type
   all_codes : f ≡ None
 
 filled : (a : Bool) (b : Option ℕ) (c d : Bool) (e f : Option ℕ)
-    → first (when a OffsetNegative ∷ option_map (λ row. OffsetDecreases row) b ∷ when c OffsetPastEnd ∷ when d NullCountDiffers ∷ option_map (λ row. NotUtf8 row) e ∷ option_map (λ row. IndexPastDictionary row) f ∷ []) ≡ None
+    → first (then_some a OffsetNegative ∷ option_map (λ row. OffsetDecreases row) b ∷ then_some c OffsetPastEnd ∷ then_some d NullCountDiffers ∷ option_map (λ row. NotUtf8 row) e ∷ option_map (λ row. IndexPastDictionary row) f ∷ []) ≡ None
     → Filled a b c d e f
 filled true b c d e f h = cc
 filled false (Some row) c d e f h = cc

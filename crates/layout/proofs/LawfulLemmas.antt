@@ -11,7 +11,8 @@ use Rattle.layout.specs.declared.raw.RawArray.{RawArray, out-RawArray}
 use Rattle.types.specs.Kind as kind
 use Rattle.types.specs.Kind.{Kind, kind_of, same_kind}
 use Rattle.layout.specs.Layout.{Buffers}
-use Rattle.types.specs.First.{first, when}
+use Rattle.std.specs.Bool.{then_some}
+use Rattle.types.specs.First.{first}
 use Rattle.layout.specs.Fault.{shape_faults, Inner, own_fault, do_parts_differ, has_negative_offset, decreasing_row, is_past_end, does_count_differ, bad_text_row, bad_code_row}
 use Rattle.layout.specs.Reading.{Reading, read_parts, reading, inner_of, fault, child_fault, dictionary_fault}
 use Rattle.layout.specs.Checked.{checked, checked_texts, read_checked}
@@ -46,8 +47,8 @@ unfolding own_fault
 own_fault-unstated k n stated buffers children dictionary h =
     first-without
     (shape_faults k n buffers children dictionary
-    ++ when (has_negative_offset k n buffers) OffsetNegative ∷ option_map (λ row. OffsetDecreases row) (decreasing_row k n buffers) ∷ when (is_past_end k n buffers children) OffsetPastEnd ∷ [])
-    (when (does_count_differ stated n buffers) NullCountDiffers)
+    ++ then_some (has_negative_offset k n buffers) OffsetNegative ∷ option_map (λ row. OffsetDecreases row) (decreasing_row k n buffers) ∷ then_some (is_past_end k n buffers children) OffsetPastEnd ∷ [])
+    (then_some (does_count_differ stated n buffers) NullCountDiffers)
     (option_map (λ row. NotUtf8 row) (bad_text_row k n buffers) ∷ option_map (λ row. IndexPastDictionary row) (bad_code_row k n buffers dictionary) ∷ [])
     h
 

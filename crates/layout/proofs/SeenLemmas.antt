@@ -1,5 +1,5 @@
 -- What the parts of an array show, and slices of it.
-use Rattle.std.proofs.Common.{◌≡◌, ◌∙◌, ℕ, ◌+◌, ◌-◌, ◌≤◌, List, map, Bool, length, take, drop, Option, Some, None, option_map, IfSome, [], ◌∷◌, true, false, ltb-false, ap, refl, arith, length-take, length-drop}
+use Rattle.std.proofs.Common.{◌≡◌, ◌∙◌, ℕ, ◌+◌, ◌-◌, ◌≤◌, List, map, Bool, length, take, drop, Option, Some, None, option_map, IfSome, [], ltb-false, ap, refl, arith, length-take, length-drop}
 use Rattle.std.proofs.lemmas.List.{drop-take, drop-drop, take-take, take_all}
 use Rattle.std.proofs.lemmas.List.FromFn.{length-map-range_with_len}
 use Rattle.colbits.specs.Bit.{bits}
@@ -9,9 +9,8 @@ use Rattle.layout.specs.Item.{Item}
 use Rattle.types.specs.Kind as kind
 use Rattle.types.specs.Kind.{Kind, int32}
 use Rattle.layout.specs.Layout.{Buffers, column, codes, validity_of, buffer_at}
-use Rattle.layout.specs.declared.fault.LayoutFault.{LayoutFault}
 use Rattle.layout.specs.declared.fault.LayoutFault.TheVariants.{TooLong}
-use Rattle.types.specs.First.{first, when}
+use Rattle.types.proofs.FirstLemmas.{first-none, then_some-none}
 use Rattle.layout.specs.Fault.{Inner, own_fault}
 use Rattle.layout.specs.Seen.{Seen, part}
 use Rattle.layout.specs.Reading.{Reading, read_parts, inner_of}
@@ -102,21 +101,13 @@ Fits-seen kind.dict n stated buffers children dictionary = record { items = leng
 
 -- ---- how long a lawful array is
 
-first-head : (o : Option LayoutFault) (rest : List (Option LayoutFault)) → first (o ∷ rest) ≡ None → o ≡ None
-first-head None rest h = refl
-first-head (Some fault) rest h = h
-
-when-none : (test : Bool) (fault : LayoutFault) → when test fault ≡ None → test ≡ false
-when-none true fault h = absurd (cc)
-when-none false fault h = refl
-
 own_fault-short : (k : Kind) (n : ℕ) (stated : Option ℕ) (buffers : Buffers) (children : List Inner) (dictionary : Option Inner)
     → own_fault k n stated buffers children dictionary ≡ None → n ≤ 2147483647
 unfolding own_fault
-own_fault-short k n stated buffers children dictionary h = ltb-false 2147483647 n (when-none _ TooLong (first-head _ _ h))
+own_fault-short k n stated buffers children dictionary h = ltb-false 2147483647 n (then_some-none _ TooLong (first-none _ _ h).0)
 
 pub short-of_lawful : (k : Kind) (n : ℕ) (stated : Option ℕ) (buffers : Buffers) (children : List Reading) (dictionary : Option Reading)
     → (read_parts k n stated buffers children dictionary).fault ≡ None → n ≤ 2147483647
 unfolding read_parts
 short-of_lawful k n stated buffers children dictionary h =
-    own_fault-short k n stated buffers (map inner_of children) (option_map inner_of dictionary) (first-head _ _ h)
+    own_fault-short k n stated buffers (map inner_of children) (option_map inner_of dictionary) (first-none _ _ h).0

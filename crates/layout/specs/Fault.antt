@@ -2,7 +2,8 @@
 use Rattle.std.specs.Prelude.{ℕ, ◌+◌, ◌-◌, ◌*◌, ◌/◌, ◌&&◌, ◌||◌, ◌==◌, pos, int_lt, List, [], ◌∷◌, ◌++◌, take, drop, length, Bool, true, false, not, nat_lt, if◌then◌else◌, Option, Some, None, option_map, is_none, position, count_by}
 use Rattle.std.specs.List.{range_with_len, list_any}
 use Rattle.std.specs.Str.{is_utf8}
-use Rattle.types.specs.First.{first, when}
+use Rattle.std.specs.Bool.{then_some}
+use Rattle.types.specs.First.{first}
 use Rattle.colbits.specs.Slice.{slice}
 use Rattle.types.specs.Kind.{Kind, int, boolean, utf8, list, dict, bytes_of, depth, same_kind}
 use Rattle.types.specs.Number.{is_negative}
@@ -122,21 +123,21 @@ bad_code_row k n buffers dictionary = None
 -- The tests that come first: of lengths and shapes.
 abbrev pub shape_faults : Kind → ℕ → Buffers → List Inner → Option Inner → List (Option LayoutFault)
 shape_faults k n buffers children dictionary =
-    when (nat_lt 2147483647 n) TooLong
-    ∷ when (nat_lt 8 (depth k)) TooDeep
-    ∷ when (is_missing k buffers) MissingBuffer
-    ∷ when (nat_lt (positions k) (length buffers)) ExtraBuffer
-    ∷ when (do_parts_differ k children dictionary) ChildDiffers
-    ∷ when (is_validity_short n (buffer_at buffers 0) || is_data_short k n buffers) BufferTooShort
+    then_some (nat_lt 2147483647 n) TooLong
+    ∷ then_some (nat_lt 8 (depth k)) TooDeep
+    ∷ then_some (is_missing k buffers) MissingBuffer
+    ∷ then_some (nat_lt (positions k) (length buffers)) ExtraBuffer
+    ∷ then_some (do_parts_differ k children dictionary) ChildDiffers
+    ∷ then_some (is_validity_short n (buffer_at buffers 0) || is_data_short k n buffers) BufferTooShort
     ∷ []
 
 -- The tests after them: of what the buffers hold.
 abbrev pub content_faults : Kind → ℕ → Option ℕ → Buffers → List Inner → Option Inner → List (Option LayoutFault)
 content_faults k n stated buffers children dictionary =
-    when (has_negative_offset k n buffers) OffsetNegative
+    then_some (has_negative_offset k n buffers) OffsetNegative
     ∷ option_map (λ row. OffsetDecreases row) (decreasing_row k n buffers)
-    ∷ when (is_past_end k n buffers children) OffsetPastEnd
-    ∷ when (does_count_differ stated n buffers) NullCountDiffers
+    ∷ then_some (is_past_end k n buffers children) OffsetPastEnd
+    ∷ then_some (does_count_differ stated n buffers) NullCountDiffers
     ∷ option_map (λ row. NotUtf8 row) (bad_text_row k n buffers)
     ∷ option_map (λ row. IndexPastDictionary row) (bad_code_row k n buffers dictionary)
     ∷ []

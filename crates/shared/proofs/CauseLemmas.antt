@@ -11,7 +11,8 @@ use Rattle.arrays.specs.Shape.{FieldShape, Shape, field_of, field_step, fields_o
 use Rattle.types.specs.declared.data_type.Field.{Field, fold_out-Field, out-Field}
 use Rattle.types.proofs.SchemaLemmas.{position-map}
 use Rattle.types.proofs.ShapeLemmas.{kind_of_field-field_of}
-use Rattle.arrays.specs.First.{first, when}
+use Rattle.std.specs.Bool.{then_some}
+use Rattle.arrays.specs.First.{first}
 use Rattle.shared.specs.Cause.{difference, differs, early_cause, is_book_full, is_table_full, null_cause}
 use Rattle.shared.specs.Columns.{HasColumns}
 use Rattle.shared.specs.History.{History, rows}
@@ -77,7 +78,7 @@ same_count stored handed none = go (position differs (zip stored handed)) (eqb (
 -- ---- one refusal after the other
 
 abbrev causes : Option ℕ → Option Refusal → Bool → Bool → Option Refusal
-causes column nulls full book = first (option_map (λ c. SchemaDiffers c) column ∷ nulls ∷ when full TableFull ∷ when book BookFull ∷ [])
+causes column nulls full book = first (option_map (λ c. SchemaDiffers c) column ∷ nulls ∷ then_some full TableFull ∷ then_some book BookFull ∷ [])
 
 pub early-by : (fields : List FieldShape) (h : History) (b : Batch) (column : Option ℕ) (nulls : Option Refusal) (full book : Bool) → column ≡ difference fields b.fields
     → nulls ≡ null_cause fields (rows_of b) → is_table_full h (rows_of b) ≡ full → is_book_full h ≡ book → causes column nulls full book ≡ early_cause fields h b

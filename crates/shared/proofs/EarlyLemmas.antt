@@ -3,7 +3,8 @@ use Rattle.std.proofs.Common.{◌≡◌, ℕ, ◌+◌, ◌≤◌, ◌^◌, List,
 use Rattle.std.proofs.lemmas.Bool.{ltb-false}
 use Rattle.arrays.specs.Batch.{Batch, rows_of}
 use Rattle.arrays.specs.Shape.{FieldShape}
-use Rattle.arrays.specs.First.{first, when}
+use Rattle.std.specs.Bool.{then_some}
+use Rattle.arrays.specs.First.{first}
 use Rattle.shared.specs.Cause.{batch_cause, difference, early_cause, is_book_full, is_table_full, null_cause, texts_cause}
 use Rattle.shared.specs.History.{History, rows}
 use Rattle.shared.specs.declared.refusal.Refusal.{Refusal}
@@ -20,7 +21,7 @@ late (Some s) n f k x h = absurd cc
 -- Where nothing stands early, the texts alone may.
 pub late-cause : (fields : List FieldShape) (h : History) (b : Batch) → early_cause fields h b ≡ None → batch_cause fields h b ≡ texts_cause fields h (rows_of b)
 late-cause fields h b early =
-    late (option_map (λ c. SchemaDiffers c) (difference fields b.fields)) (null_cause fields (rows_of b)) (when (is_table_full h (rows_of b)) TableFull) (when (is_book_full h) BookFull)
+    late (option_map (λ c. SchemaDiffers c) (difference fields b.fields)) (null_cause fields (rows_of b)) (then_some (is_table_full h (rows_of b)) TableFull) (then_some (is_book_full h) BookFull)
     (texts_cause fields h (rows_of b)) early
 
 no-difference : (o : Option ℕ) (n f k : Option Refusal) → first (option_map (λ c. SchemaDiffers c) o ∷ n ∷ f ∷ k ∷ []) ≡ None → (o ≡ None) × (n ≡ None)
@@ -30,9 +31,9 @@ no-difference (Some c) n f k h = absurd cc
 
 pub early-none : (fields : List FieldShape) (h : History) (b : Batch) → early_cause fields h b ≡ None → (difference fields b.fields ≡ None) × (null_cause fields (rows_of b) ≡ None)
 early-none fields h b early =
-    no-difference (difference fields b.fields) (null_cause fields (rows_of b)) (when (is_table_full h (rows_of b)) TableFull) (when (is_book_full h) BookFull) early
+    no-difference (difference fields b.fields) (null_cause fields (rows_of b)) (then_some (is_table_full h (rows_of b)) TableFull) (then_some (is_book_full h) BookFull) early
 
-no-full : (a n : Option Refusal) (f k : Bool) → first (a ∷ n ∷ when f TableFull ∷ when k BookFull ∷ []) ≡ None → f ≡ false
+no-full : (a n : Option Refusal) (f k : Bool) → first (a ∷ n ∷ then_some f TableFull ∷ then_some k BookFull ∷ []) ≡ None → f ≡ false
 no-full None None false k h = refl
 no-full None None true k h = absurd cc
 no-full None (Some r) f k h = absurd cc

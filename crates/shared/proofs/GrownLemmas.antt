@@ -3,13 +3,14 @@ use Rattle.std.proofs.Common.{◌≡◌, ◌∙◌, ℕ, suc, ◌+◌, List, [],
 use Rattle.std.specs.List.{enumerate_from, zip}
 use Rattle.arrays.specs.Item.{Item, text}
 use Rattle.arrays.specs.Kind as kind
-use Rattle.arrays.specs.Kind.{Kind, bytes_of, same_kind}
+use Rattle.arrays.specs.Kind.{Kind, same_kind}
 use Rattle.arrays.specs.Seen.{Seen}
 use Rattle.arrays.specs.Shape.{FieldShape}
 use Rattle.arrays.specs.Shown.{shown}
 use Rattle.arrays.specs.Slot.{is_text}
 use Rattle.pool.specs.Texts.{firsts, is_too_full, texts_of}
-use Rattle.arrays.specs.First.{first, when}
+use Rattle.std.specs.Bool.{then_some}
+use Rattle.arrays.specs.First.{first}
 use Rattle.shared.specs.Cause.{full_in, texts_cause}
 use Rattle.arrays.specs.Batch.{Table, column}
 use Rattle.shared.specs.History.{History, rows}
@@ -87,7 +88,7 @@ full-all h u n [] [] all = refl
 full-all h u n [] (c ∷ columns) all = absurd all
 full-all h u n (f ∷ fields) [] all = absurd all
 full-all h u n (f ∷ fields) (c ∷ columns) all =
-    ap (λ b. when b (TextsFull n) ∷ map full_at (enumerate_from (n + 1) (zip (map (texts_in (rows h)) (enumerate_from (n + 1) fields)) columns))) (full-one (rows h) u (n, f) c all.0)
+    ap (λ b. then_some b (TextsFull n) ∷ map full_at (enumerate_from (n + 1) (zip (map (texts_in (rows h)) (enumerate_from (n + 1) fields)) columns))) (full-one (rows h) u (n, f) c all.0)
     ∙ ap (λ l. full_in h u (n, f) ∷ l) (full-all h u (n + 1) fields columns all.1)
 
 pub full-cause : (h : History) (u : Table) (fields : List FieldShape) (columns : List Seen) → AllSuit u (enumerate_from 0 fields) columns

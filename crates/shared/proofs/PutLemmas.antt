@@ -9,7 +9,7 @@ use Rattle.arrays.specs.Batch.{Batch, rows_of, Table}
 use Rattle.arrays.specs.Seen.{Seen}
 use Rattle.arrays.specs.Shape.{FieldShape}
 use Rattle.group.specs.declared.stats.ColumnStats.{ColumnStats}
-use Rattle.arrays.specs.First.{first, when}
+use Rattle.std.specs.Bool.{then_some}
 use Rattle.shared.specs.Cause.{IsLegal, batch_cause, cause, difference, is_book_full, is_table_full, null_cause, texts_cause}
 use Rattle.shared.specs.Contents.{Contents, admitted}
 use Rattle.shared.specs.Held.{IsHeld, IsPut, IsSame, batches_of, book_of, dictionaries_in, pieces_of, show}
@@ -18,22 +18,14 @@ use Rattle.shared.specs.Lawful.{LawfulTable, counted, dictionaries_of, table_of,
 use Rattle.shared.specs.Ready.{AreTexts, IsReady}
 use Rattle.shared.specs.declared.held.Prepared.{Prepared}
 use Rattle.shared.specs.declared.held.Held.{Held}
-use Rattle.shared.specs.declared.refusal.Refusal.{Refusal}
 use Rattle.shared.specs.declared.refusal.Refusal.TheVariants.{BookFull, SchemaDiffers, TableFull}
 use Rattle.shared.proofs.BatchLemmas.{length-rows_of}
 use Rattle.shared.proofs.HeldLemmas.{rows-shown}
 use Rattle.shared.proofs.HistoryLemmas.{IsLegal-push, cut-push, length-cut}
 use Rattle.shared.proofs.TableLemmas.{Lawful-push, table_of-push}
+use Rattle.types.proofs.FirstLemmas.{first-none, then_some-none}
 
 -- ---- no refusal
-
-pub none-first : (o : Option Refusal) (rest : List (Option Refusal)) → first (o ∷ rest) ≡ None → (o ≡ None) × (first rest ≡ None)
-none-first None rest h = (refl, h)
-none-first (Some r) rest h = absurd cc
-
-pub none-when : (b : Bool) (r : Refusal) → when b r ≡ None → b ≡ false
-none-when true r h = absurd cc
-none-when false r h = refl
 
 -- what no cause means
 pub record Allowed (fields : List FieldShape) (h : History) (t : Table) : Type 0 where
@@ -44,21 +36,21 @@ pub record Allowed (fields : List FieldShape) (h : History) (t : Table) : Type 0
 
 pub Allowed-none : (fields : List FieldShape) (h : History) (t : Table) → cause fields h t ≡ None → Allowed fields h t
 Allowed-none fields h t none =
-    let a = none-first (null_cause fields t) (when (is_table_full h t) TableFull ∷ when (is_book_full h) BookFull ∷ texts_cause fields h t ∷ []) none in
-    let b = none-first (when (is_table_full h t) TableFull) (when (is_book_full h) BookFull ∷ texts_cause fields h t ∷ []) a.1 in
-    let d = none-first (when (is_book_full h) BookFull) (texts_cause fields h t ∷ []) b.1 in
-    let e = none-first (texts_cause fields h t) [] d.1 in
+    let a = first-none (null_cause fields t) (then_some (is_table_full h t) TableFull ∷ then_some (is_book_full h) BookFull ∷ texts_cause fields h t ∷ []) none in
+    let b = first-none (then_some (is_table_full h t) TableFull) (then_some (is_book_full h) BookFull ∷ texts_cause fields h t ∷ []) a.1 in
+    let d = first-none (then_some (is_book_full h) BookFull) (texts_cause fields h t ∷ []) b.1 in
+    let e = first-none (texts_cause fields h t) [] d.1 in
     record {
       nulls = a.0;
-      rows = ltb-false (2 ^ 40) (length (rows h) + length t) (none-when (is_table_full h t) TableFull b.0);
-      entries = λ full. Rattle.std.proofs.Common.true≢false (sym (Rattle.std.proofs.Common.eq-eqb (length h) (2 ^ 32 - 1) full) ∙ none-when (is_book_full h) BookFull d.0);
+      rows = ltb-false (2 ^ 40) (length (rows h) + length t) (then_some-none (is_table_full h t) TableFull b.0);
+      entries = λ full. Rattle.std.proofs.Common.true≢false (sym (Rattle.std.proofs.Common.eq-eqb (length h) (2 ^ 32 - 1) full) ∙ then_some-none (is_book_full h) BookFull d.0);
       texts = e.0;
     }
 
 pub cause-none : (fields : List FieldShape) (h : History) (b : Batch) → batch_cause fields h b ≡ None → cause fields h (rows_of b) ≡ None
 cause-none fields h b none =
-    let a = none-first (option_map (λ c. SchemaDiffers c) (difference fields b.fields)) (cause fields h (rows_of b) ∷ []) none in
-    (none-first (cause fields h (rows_of b)) [] a.1).0
+    let a = first-none (option_map (λ c. SchemaDiffers c) (difference fields b.fields)) (cause fields h (rows_of b) ∷ []) none in
+    (first-none (cause fields h (rows_of b)) [] a.1).0
 
 -- ---- the same parts
 

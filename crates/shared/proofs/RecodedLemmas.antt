@@ -18,7 +18,8 @@ use Rattle.pool.specs.Codes.{code_item}
 use Rattle.pool.specs.Texts.{firsts, is_once, place_of, texts_of}
 use Rattle.pool.proofs.PlaceLemmas.{position_found}
 use Rattle.pool.proofs.RecodeLemmas.{starts_take}
-use Rattle.arrays.specs.First.{first, when}
+use Rattle.std.specs.Bool.{then_some}
+use Rattle.arrays.specs.First.{first}
 use Rattle.shared.specs.Lawful.{Begins}
 use Rattle.shared.specs.Recoded.{coded, dictionary_for, full_at, full_cause, grown, is_full, stored_seen}
 use Rattle.shared.specs.declared.refusal.Refusal.{Refusal}
@@ -191,7 +192,7 @@ module _ (olds : List (List (List ℕ))) (columns : List Seen) (same : length ol
       fits-more : is_full (pool, c) ≡ false → full_among 0 (take (k + 1) pairs) ≡ None
       fits-more few =
           ap (full_among 0) pairs-more ∙ full_among-append (take k pairs) ((pool, c) ∷ []) are.fits
-          ∙ ap (λ b. first (when b (TextsFull (0 + length (take k pairs))) ∷ [])) few
+          ∙ ap (λ b. first (then_some b (TextsFull (0 + length (take k pairs))) ∷ [])) few
 
       pub pools-begun : (next : List (List ℕ)) → Begins pool next → AllZip Begins olds (set pools k next)
       pools-begun next begins =
@@ -215,7 +216,7 @@ module _ (olds : List (List (List ℕ))) (columns : List Seen) (same : length ol
           ap (full_among 0) (sym (take-append-drop k pairs))
           ∙ full_among-append (take k pairs) (drop k pairs) are.fits
           ∙ ap (full_among (0 + length (take k pairs))) (drop_more pairs k (pool, c) inside ∙ ap (λ p. p ∷ drop (k + 1) pairs) pair-at)
-          ∙ ap (λ b. first (when b (TextsFull (0 + length (take k pairs))) ∷ map full_at (enumerate_from (0 + length (take k pairs) + 1) (drop (k + 1) pairs)))) many
+          ∙ ap (λ b. first (then_some b (TextsFull (0 + length (take k pairs))) ∷ map full_at (enumerate_from (0 + length (take k pairs) + 1) (drop (k + 1) pairs)))) many
           ∙ ap (λ n. Some (TextsFull n)) (omega (arith, length-take-le k pairs (omega (arith, inside))))
 
       -- What stands beside them in a list that goes with the pairs.

@@ -2,7 +2,8 @@
 use Rattle.std.specs.Prelude.{◌≡◌, ◌∷◌, ◌++◌, ◌&&◌, ◌||◌, ℕ, ◌+◌, ◌-◌, ◌^◌, ◌==◌, nat_lt, List, [], length, map, not, Bool, Option, Some, None, option_map, position, All, if◌then◌else◌}
 use Rattle.std.specs.List.{enumerate_from, AllZip, zip}
 use Rattle.std.specs.Str.{bytes_eq}
-use Rattle.arrays.specs.First.{first, when}
+use Rattle.std.specs.Bool.{then_some}
+use Rattle.arrays.specs.First.{first}
 use Rattle.arrays.specs.Batch.{Batch, rows_of, Row, Table, column}
 use Rattle.arrays.specs.Item.{Item, is_null}
 use Rattle.arrays.specs.Kind.{same_kind}
@@ -50,7 +51,7 @@ is_book_full h = length h == 2 ^ 32 - 1
 -- The texts at place k, each once, would be more than a dictionary holds.
 abbrev pub full_in : History → Table → ℕ × FieldShape → Option Refusal
 full_in h t field =
-    when (is_text_field field.1 && is_too_full (firsts (texts_of (column (rows h ++ t) field.0)))) (TextsFull field.0)
+    then_some (is_text_field field.1 && is_too_full (firsts (texts_of (column (rows h ++ t) field.0)))) (TextsFull field.0)
 
 -- The least column of texts with more of them than a dictionary holds.
 unfoldable pub texts_cause : List FieldShape → History → Table → Option Refusal
@@ -60,8 +61,8 @@ texts_cause fields h t = first (map (full_in h t) (enumerate_from 0 fields))
 abbrev pub cause : List FieldShape → History → Table → Option Refusal
 cause fields h t = first (
     null_cause fields t
-    ∷ when (is_table_full h t) TableFull
-    ∷ when (is_book_full h) BookFull
+    ∷ then_some (is_table_full h t) TableFull
+    ∷ then_some (is_book_full h) BookFull
     ∷ texts_cause fields h t
     ∷ [])
 
@@ -74,8 +75,8 @@ abbrev pub early_cause : List FieldShape → History → Batch → Option Refusa
 early_cause fields h b = first (
     option_map (λ c. SchemaDiffers c) (difference fields b.fields)
     ∷ null_cause fields (rows_of b)
-    ∷ when (is_table_full h (rows_of b)) TableFull
-    ∷ when (is_book_full h) BookFull
+    ∷ then_some (is_table_full h (rows_of b)) TableFull
+    ∷ then_some (is_book_full h) BookFull
     ∷ [])
 
 -- ---- legal histories

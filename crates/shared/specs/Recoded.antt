@@ -13,7 +13,8 @@ use Rattle.arrays.specs.Shown.{shown}
 use Rattle.arrays.specs.Slot.{is_text}
 use Rattle.pool.specs.Codes.{code_item}
 use Rattle.pool.specs.Texts.{firsts, is_too_full, texts_of}
-use Rattle.arrays.specs.First.{first, when}
+use Rattle.std.specs.Bool.{then_some}
+use Rattle.arrays.specs.First.{first}
 use Rattle.shared.specs.declared.refusal.Refusal.{Refusal}
 use Rattle.shared.specs.declared.refusal.Refusal.TheVariants.{TextsFull}
 
@@ -39,7 +40,7 @@ stored_seen p = if is_text p.1.kind then coded (grown p) p.1 else p.1
 
 -- The least column with too many texts.
 abbrev pub full_at : ℕ × (List (List ℕ) × Seen) → Option Refusal
-full_at e = when (is_full e.1) (TextsFull e.0)
+full_at e = then_some (is_full e.1) (TextsFull e.0)
 
 unfoldable pub full_cause : List (List (List ℕ)) → List Seen → Option Refusal
 full_cause texts columns = first (map full_at (enumerate_from 0 (zip texts columns)))

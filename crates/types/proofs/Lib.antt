@@ -4,3 +4,4 @@ pub mod EncodingLemmas
 pub mod ByteLemmas
 pub mod IntegerLemmas
 pub mod RangeLemmas
+pub mod FirstLemmas
