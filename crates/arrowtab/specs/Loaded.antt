@@ -1,5 +1,6 @@
 -- Which histories come of the files' batches.
 use Rattle.std.specs.Prelude.{◌≡◌, ◌≢◌, ◌<◌, ◌++◌, ◌∷◌, ℕ, List, map, length, Some, All}
+use mathlib.Core.List.{IsPrefix}
 use Rattle.arrays.specs.Shape.{FieldShape}
 use Rattle.arrays.specs.Batch.{Table}
 use Rattle.shared.specs.History.{History, of}
@@ -16,10 +17,6 @@ pub record IsLoaded (workers : ℕ) (files : List (List Table)) (h : History) : 
   pub known : All (λ e. e.0 < workers) h
   pub each : (w : ℕ) → w < workers → added_by h w ≡ planned files workers w
 
--- A list is a front of another.
-abbrev pub Begins : List Table → List Table → Type 0
-Begins front whole = (rest : List Table) × (whole ≡ front ++ rest)
-
 -- A cause stands for a batch of a worker after a legal history: each worker had added a front of its
 -- list in the plan, this one up to just before the batch.
 pub record IsStopped (workers : ℕ) (files : List (List Table)) (schema : List FieldShape) (number : ℕ) (refusal : Refusal) : Type 0 where
@@ -33,6 +30,6 @@ pub record IsStopped (workers : ℕ) (files : List (List Table)) (schema : List 
   pub place : length before ≡ number
   pub workers_known : All (λ e. e.0 < workers) history
   pub own : added_by history worker ≡ before
-  pub others : (w : ℕ) → w < workers → w ≢ worker → Begins (added_by history w) (planned files workers w)
+  pub others : (w : ℕ) → w < workers → w ≢ worker → IsPrefix (added_by history w) (planned files workers w)
   pub legal : IsLegal schema history
   pub stands : cause schema history batch ≡ Some refusal

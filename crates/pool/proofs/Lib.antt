@@ -4,3 +4,4 @@ pub mod PlaceLemmas
 pub mod PoolLemmas
 pub mod RecodeLemmas
 pub mod UnifyLemmas
+pub mod PrefixLemmas

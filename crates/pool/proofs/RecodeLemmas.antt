@@ -1,13 +1,13 @@
 -- A column recoded slot by slot.
-use Rattle.std.proofs.Common.{◌≡◌, ◌∙◌, ℕ, ◌+◌, ◌<◌, ◌≤◌, pos, true, false, List, [], ◌∷◌, ◌++◌, length, take, drop, map, Some, option_map, refl, sym, ap, arith, length-append, append_assoc}
+use Rattle.std.proofs.Common.{◌≡◌, ◌∙◌, ℕ, ◌+◌, ◌<◌, ◌≤◌, pos, true, false, List, [], ◌∷◌, ◌++◌, take, drop, map, Some, option_map, refl, sym, ap, arith, append_assoc}
 use Rattle.std.specs.Prelude.{slice_get, Result, Ok, Err, IfErr, IsErrAnd, ◌⊎◌}
 use Rattle.std.proofs.Common.{inl, inr, to_z, ◌^◌, lit≤}
 use Rattle.std.proofs.lemmas.Int.{to_z_pos}
+use mathlib.Core.List.{IsPrefix}
 use Rattle.std.specs.Int.{w128}
 use Rattle.pool.specs.declared.fault.PoolFault.{PoolFault}
 use Rattle.pool.specs.declared.fault.PoolFault.TheVariants.{TextsFull, NoMemory}
 use Rattle.std.proofs.lemmas.List.{append-nil, map-append, take-append-drop, take_more}
-use Rattle.std.proofs.Math.Seq.{take-append_seam}
 use Rattle.std.proofs.lemmas.List.Elements.{filter_map-append}
 use Rattle.std.proofs.lemmas.Option.{slice_get_within, get_or_from_slice_get}
 use Rattle.arrays.specs.Item.{Item, null, text}
@@ -103,15 +103,9 @@ module _ (old : List (List ℕ)) (items : List Item) where
       (ap is_too_full (sym (pool-text i t pool at is)) ∙ full)
 
 -- The pool as it was comes first.
-starts : (old seen pool : List (List ℕ)) → is_once old ≡ true → pool ≡ firsts (old ++ seen) → pool ≡ old ++ beyond old (firsts seen)
-starts old seen pool once is = is ∙ firsts-append old seen ∙ ap (λ l. l ++ beyond old (firsts seen)) (firsts-once old once)
-
-pub starts_take : (old seen pool : List (List ℕ)) → is_once old ≡ true → pool ≡ firsts (old ++ seen) → take (length old) pool ≡ old
-starts_take old seen pool once is = ap (take (length old)) (starts old seen pool once is) ∙ take-append_seam old (beyond old (firsts seen))
-
-pub starts_longer : (old seen pool : List (List ℕ)) → is_once old ≡ true → pool ≡ firsts (old ++ seen) → length old ≤ length pool
-starts_longer old seen pool once is =
-    omega (arith, ap (λ (l : List (List ℕ)). length l) (starts old seen pool once is), length-append old (beyond old (firsts seen)))
+pub begins_as_before : (old seen pool : List (List ℕ)) → is_once old ≡ true → pool ≡ firsts (old ++ seen) → IsPrefix old pool
+begins_as_before old seen pool once is =
+    (beyond old (firsts seen), sym (is ∙ firsts-append old seen ∙ ap (λ l. l ++ beyond old (firsts seen)) (firsts-once old once)))
 
 -- A fault of one text, told of all.
 pub told_of_all : {T : Type 0} (r : Result T PoolFault) (e : PoolFault) (one all : List (List ℕ)) → IsErrAnd r (λ x. x ≡ e)

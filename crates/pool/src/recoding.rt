@@ -1,6 +1,7 @@
 //! Columns of texts recoded into places of a pool.
 
 ghost use Rattle.std.specs.Prelude.{◌≡◌, ◌≤◌, ◌⊎◌, ◌++◌, false, true, length, map, take, OnOk, IfOk, IfErr, OnErr};
+ghost use mathlib.Core.List.{IsPrefix};
 ghost use Rattle.arrays.specs.Kind as kind;
 ghost use Rattle.arrays.specs.Kind.{int32};
 ghost use Rattle.arrays.specs.Shown.{shown};
@@ -15,6 +16,7 @@ use std::alloc::Global;
 
 /// The places of a column's texts in a pool, to which its new texts are added: null for null. It fails where the
 /// pool would be too full, and for want of memory; then the pool is as it was.
+#[tactic(auto, using(crate::proofs::PrefixLemmas::prefix_length, crate::proofs::PrefixLemmas::prefix_take))]
 pub fn recode(alloc: Global, view: &View<'_>, pool: &mut TextPool) -> Result<Array, PoolFault>
     requires { is_text view.now.kind ≡ true }
     ensures texts { OnOk result (pool.new ≡ firsts (pool.old ++ texts_of view.now.items)) }
@@ -46,8 +48,7 @@ fn add_all(alloc: Global, view: &View<'_>, pool: &mut TextPool) -> Result<Array,
     ensures whole { IfOk result (λ a. a ≡ shown (kind.int int32) (map (code_item pool.new) view.now.items)) }
     ensures err { IfErr result (λ e. ((e ≡ PoolFault.TextsFull)
         × (is_too_full (firsts (pool.old ++ texts_of view.now.items)) ≡ true)) ⊎ (e ≡ PoolFault.NoMemory)) }
-    ensures longer { length pool.old ≤ length pool.new }
-    ensures begins { take (length pool.old) pool.new ≡ pool.old }
+    ensures begins { IsPrefix pool.old pool.new }
 {
     let ty = IntType {
         bits: Width::W32,

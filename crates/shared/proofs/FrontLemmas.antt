@@ -1,16 +1,13 @@
 -- Lists that begin others.
-use Rattle.std.proofs.Common.{◌∙◌, ◌≤◌, List, [], ◌∷◌, length, take, ap, sym, arith}
-use Rattle.std.proofs.lemmas.List.{take-take, take_all}
-use Rattle.shared.specs.Lawful.{Begins}
+use Rattle.std.proofs.Common.{◌≡◌, ◌∙◌, List, [], ◌++◌, ap, sym, append_assoc}
+use Rattle.std.proofs.lemmas.List.{append-nil}
+use mathlib.Core.List.{IsPrefix}
 
-pub begins-length : {A : Type 0} (xs ys : List A) → Begins xs ys → length xs ≤ length ys
-begins-length [] ys begins = omega arith
-begins-length (x ∷ xs) [] begins = absurd cc
-begins-length (x ∷ xs) (y ∷ ys) begins = omega (arith, begins-length xs ys cc)
+pub prefix_same : {A : Type 0} (xs ys : List A) → ys ≡ xs → IsPrefix xs ys
+prefix_same xs ys same = ([], append-nil xs ∙ sym same)
 
-pub begins-itself : {A : Type 0} (xs : List A) → Begins xs xs
-begins-itself xs = take_all (length xs) xs (omega arith)
+pub prefix_self : {A : Type 0} (xs : List A) → IsPrefix xs xs
+prefix_self xs = ([], append-nil xs)
 
-pub begins-longer : {A : Type 0} (xs ys zs : List A) → Begins xs ys → Begins ys zs → Begins xs zs
-begins-longer xs ys zs first second =
-    sym (take-take (length xs) (length ys) zs (begins-length xs ys first)) ∙ ap (λ l. take (length xs) l) second ∙ first
+pub prefix_trans : {A : Type 0} (xs ys zs : List A) → IsPrefix xs ys → IsPrefix ys zs → IsPrefix xs zs
+prefix_trans xs ys zs first second = (first.0 ++ second.0, sym (append_assoc xs first.0 second.0) ∙ ap (λ l. l ++ second.0) first.1 ∙ second.1)

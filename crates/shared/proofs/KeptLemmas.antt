@@ -2,7 +2,8 @@
 use Rattle.std.proofs.Common.{◌≡◌, ◌∙◌, ℕ, suc, ◌+◌, ◌≤◌, ◌^◌, List, [], ◌∷◌, ◌++◌, length, map, Bool, true, false, not, cond, eqb, ◌||◌, ◌&&◌, None, Some, get_or, ap, sym, refl, subst, arith, true≢false, eq-eqb}
 use Rattle.std.specs.Prelude.{slice_index_or}
 use Rattle.std.specs.List.{AllZip, enumerate_from, list_any, range_with_len, zip}
-use Rattle.std.proofs.lemmas.List.{length-map, take_all}
+use Rattle.std.proofs.lemmas.List.{length-map}
+use Rattle.shared.proofs.FrontLemmas.{prefix_self}
 use Rattle.arrays.specs.Batch.{Batch, batch_fault, row_of, rows_of, Table, column}
 use Rattle.arrays.specs.Item.{Item, null, text}
 use Rattle.arrays.specs.Kind as kind
@@ -60,7 +61,7 @@ kept-all t u (e ∷ es) [] all = absurd all
 kept-all t u (e ∷ es) (c ∷ columns) all = (kept-if u (texts_in t e) e c (is_text c.kind) refl all.0, kept-all t u es columns all.1)
 
 front-if : (b : Bool) (ts : List (List ℕ)) (c : Seen) → NamesFront (cond b (coded ts c) c) (cond b (Some (shown kind.utf8 (map text ts))) None)
-front-if true ts c = take_all (length (map text ts)) (map text ts) (omega arith)
+front-if true ts c = prefix_self (map text ts)
 front-if false ts c = tt
 
 pub front-all : (texts : List (List (List ℕ))) (columns : List Seen)

@@ -1,6 +1,7 @@
 -- Columns stored one after the other.
 use Rattle.std.proofs.Common.{◌≡◌, ◌∙◌, ℕ, zero, suc, pos, ◌+◌, ◌<◌, ◌≤◌, true, false, not, ◌&&◌, List, [], ◌∷◌, ◌++◌, length, map, take, drop, set, get_or, Option, None, Some, option_map, All, if◌then◌else◌, refl, sym, ap, subst, arith, length-append}
 use Rattle.std.specs.Prelude.{nat_lt}
+use mathlib.Core.List.{IsPrefix}
 use Rattle.std.specs.List.{AllZip, enumerate_from, zip}
 use Rattle.std.specs.Str.{bytes_eq}
 use Rattle.std.proofs.lemmas.Bool.{le-ltb, lt-ltb}
@@ -15,29 +16,24 @@ use Rattle.arrays.specs.Kind.{int32}
 use Rattle.arrays.specs.Seen.{Seen}
 use Rattle.arrays.specs.Shown.{shown}
 use Rattle.pool.specs.Codes.{code_item}
-use Rattle.pool.specs.Texts.{firsts, is_once, place_of, texts_of}
+use Rattle.pool.specs.Texts.{firsts, place_of, texts_of}
 use Rattle.pool.proofs.PlaceLemmas.{position_found}
-use Rattle.pool.proofs.RecodeLemmas.{starts_take}
+use Rattle.pool.proofs.PrefixLemmas.{prefix_take}
 use Rattle.std.specs.Bool.{then_some}
 use Rattle.arrays.specs.First.{first}
-use Rattle.shared.specs.Lawful.{Begins}
 use Rattle.shared.specs.Recoded.{coded, dictionary_for, full_at, full_cause, grown, is_full, stored_seen}
 use Rattle.shared.specs.declared.refusal.Refusal.{Refusal}
 use Rattle.shared.specs.declared.refusal.Refusal.TheVariants.{TextsFull}
-use Rattle.shared.proofs.FrontLemmas.{begins-itself}
+use Rattle.shared.proofs.FrontLemmas.{prefix_self}
 
 -- ---- texts that begin others
 
--- A pool after a column's texts begins as before.
-pub begun-recoded : (old seen pool : List (List ℕ)) → is_once old ≡ true → pool ≡ firsts (old ++ seen) → Begins old pool
-begun-recoded old seen pool once is = starts_take old seen pool once is
-
 -- As many texts that begin with the old ones are these.
-same-texts : (old new : List (List ℕ)) → Begins old new → length old ≡ length new → old ≡ new
-same-texts old new begun same = sym begun ∙ take_all (length old) new (omega (arith, same))
+same-texts : (old new : List (List ℕ)) → IsPrefix old new → length old ≡ length new → old ≡ new
+same-texts old new begun same = sym (prefix_take old new begun) ∙ take_all (length old) new (omega (arith, same))
 
 -- The dictionary of as many texts is the one that there is.
-pub dictionary-same : (words : Seen) (known : ℕ) (old new : List (List ℕ)) → words ≡ shown kind.utf8 (map text old) → Begins old new
+pub dictionary-same : (words : Seen) (known : ℕ) (old new : List (List ℕ)) → words ≡ shown kind.utf8 (map text old) → IsPrefix old new
     → known ≡ length old → known ≡ length new → words ≡ shown kind.utf8 (map text new)
 dictionary-same words known old new is begun had many =
     is ∙ ap (λ (l : List (List ℕ)). shown kind.utf8 (map text l)) (same-texts old new begun (sym had ∙ many))
@@ -107,13 +103,13 @@ module _ {A Z : Type 0} (f : Z → A) (olds : List A) (inputs : List Z) (same : 
 
 -- ---- pools of columns side by side
 
-pub begun-all : (pools : List (List (List ℕ))) → AllZip Begins pools pools
+pub begun-all : (pools : List (List (List ℕ))) → AllZip IsPrefix pools pools
 begun-all [] = tt
-begun-all (p ∷ pools) = (begins-itself p, begun-all pools)
+begun-all (p ∷ pools) = (prefix_self p, begun-all pools)
 
 -- A pool that is written begins as it did.
-pub begun-set : (olds now : List (List (List ℕ))) (k : ℕ) (y : List (List ℕ)) → AllZip Begins olds now → Begins (get_or olds k y) y
-    → AllZip Begins olds (set now k y)
+pub begun-set : (olds now : List (List (List ℕ))) (k : ℕ) (y : List (List ℕ)) → AllZip IsPrefix olds now → IsPrefix (get_or olds k y) y
+    → AllZip IsPrefix olds (set now k y)
 begun-set [] [] k y all one = tt
 begun-set [] (p ∷ now) k y all one = absurd all
 begun-set (o ∷ olds) [] k y all one = absurd all
@@ -152,7 +148,7 @@ pub record AreStored (olds : List (List (List ℕ))) (columns : List Seen) (k : 
   pub dictionaries_are : dictionaries ≡ map (λ p. dictionary_for (grown p, p.1)) (take k (zip olds columns))
   pub pools_are : pools ≡ map grown (take k (zip olds columns)) ++ drop k olds
   pub fits : full_among 0 (take k (zip olds columns)) ≡ None
-  pub begun : AllZip Begins olds pools
+  pub begun : AllZip IsPrefix olds pools
 
 pub AreStored-none : (olds : List (List (List ℕ))) (columns : List Seen) → AreStored olds columns 0 olds [] []
 AreStored-none olds columns = record { columns_are = refl; dictionaries_are = refl; pools_are = refl; fits = refl; begun = begun-all olds }
@@ -194,13 +190,13 @@ module _ (olds : List (List (List ℕ))) (columns : List Seen) (same : length ol
           ap (full_among 0) pairs-more ∙ full_among-append (take k pairs) ((pool, c) ∷ []) are.fits
           ∙ ap (λ b. first (then_some b (TextsFull (0 + length (take k pairs))) ∷ [])) few
 
-      pub pools-begun : (next : List (List ℕ)) → Begins pool next → AllZip Begins olds (set pools k next)
+      pub pools-begun : (next : List (List ℕ)) → IsPrefix pool next → AllZip IsPrefix olds (set pools k next)
       pools-begun next begins =
           begun-set olds pools k next are.begun
-          (subst (λ p. Begins p next) (old-at ∙ get_or_default olds k pool next (omega (arith, same, below))) begins)
+          (subst (λ p. IsPrefix p next) (old-at ∙ get_or_default olds k pool next (omega (arith, same, below))) begins)
 
       pub AreStored-more : (next : List (List ℕ)) (column : Seen) (dictionary : Option Seen) → column ≡ stored_seen (pool, c)
-          → dictionary ≡ dictionary_for (grown (pool, c), c) → next ≡ grown (pool, c) → is_full (pool, c) ≡ false → Begins pool next
+          → dictionary ≡ dictionary_for (grown (pool, c), c) → next ≡ grown (pool, c) → is_full (pool, c) ≡ false → IsPrefix pool next
           → AreStored olds columns (k + 1) (set pools k next) (stored ++ column ∷ []) (dictionaries ++ dictionary ∷ [])
       AreStored-more next column dictionary column_is dictionary_is next_is few begins = record {
         columns_are = mapped-more stored_seen stored column are.columns_are column_is;

@@ -1,9 +1,9 @@
 -- A lawful table with one batch more.
-use Rattle.std.proofs.Common.{◌≡◌, ◌∙◌, inl, inr, ℕ, ◌+◌, ◌<◌, ◌≤◌, ◌^◌, List, [], ◌∷◌, ◌++◌, length, map, take, Option, None, Some, Bool, true, false, cond, ap, sym, refl, subst, arith, length-append}
+use Rattle.std.proofs.Common.{◌≡◌, ◌∙◌, inl, inr, ℕ, ◌+◌, ◌<◌, ◌≤◌, ◌^◌, List, [], ◌∷◌, ◌++◌, length, map, Option, None, Some, Bool, true, false, cond, ap, sym, refl, subst, arith, length-append}
 use Rattle.std.specs.Prelude.{slice_index_or, ⊤}
 use Rattle.std.specs.List.{AllZip, enumerate_from}
+use mathlib.Core.List.{IsPrefix}
 use Rattle.std.proofs.Math.Nat.{eq-or-lt_of_le}
-use Rattle.std.proofs.Math.Seq.{take-append_seam}
 use Rattle.std.proofs.lemmas.List.{append-nil, map-append, take-append-le, take_all}
 use Rattle.std.proofs.lemmas.List.Elements.{All-push}
 use Rattle.std.proofs.lemmas.List.Sums.{sum_by-append}
@@ -17,9 +17,9 @@ use Rattle.arrays.specs.Shown.{shown}
 use Rattle.group.specs.declared.stats.ColumnStats.{ColumnStats}
 use Rattle.pool.specs.Texts.{firsts, texts_of}
 use Rattle.pool.proofs.TextLemmas.{beyond, firsts-append}
-use Rattle.shared.specs.Lawful.{AreStatsOf, Begins, EndsWithEntry, IsStored, LawfulTable, NamesFront, counted, dictionaries_of, dictionary_in, table_of, texts_in}
+use Rattle.shared.specs.Lawful.{AreStatsOf, EndsWithEntry, IsStored, LawfulTable, NamesFront, counted, dictionaries_of, dictionary_in, table_of, texts_in}
 use Rattle.shared.specs.Stored.{is_text_field}
-use Rattle.shared.proofs.FrontLemmas.{begins-longer}
+use Rattle.shared.proofs.FrontLemmas.{prefix_trans}
 
 pub table_of-push : (batches : List Batch) (b : Batch) → table_of (batches ++ b ∷ []) ≡ table_of batches ++ rows_of b
 table_of-push batches b = flat_map-append rows_of batches (b ∷ []) ∙ ap (λ t. table_of batches ++ t) (append-nil (rows_of b))
@@ -77,14 +77,14 @@ abbrev pub Grows : Option Seen → Option Seen → Type 0
 Grows None None = ⊤
 Grows None (Some e) = ⊥
 Grows (Some d) None = ⊤
-Grows (Some d) (Some e) = Begins d.items e.items
+Grows (Some d) (Some e) = IsPrefix d.items e.items
 
 front-longer : (c : Seen) (d e : Option Seen) → NamesFront c d → Grows d e → NamesFront c e
 front-longer c None None names begins = tt
 front-longer c None (Some e) names begins = absurd begins
 front-longer c (Some d) None names begins = tt
 front-longer c (Some d) (Some e) names begins =
-    begins-longer c.entries.items d.items e.items names begins
+    prefix_trans c.entries.items d.items e.items names begins
 
 fronts-longer : (columns : List Seen) (old new : List (Option Seen)) → AllZip Grows old new → AllZip NamesFront columns old → AllZip NamesFront columns new
 fronts-longer [] [] [] begins names = tt
@@ -123,7 +123,7 @@ texts_in-append t u k f =
 begins-if : (b : Bool) (xs ys zs : List (List ℕ)) → ys ≡ xs ++ zs → Grows (cond b (Some (shown kind.utf8 (map text xs))) None) (cond b (Some (shown kind.utf8 (map text ys))) None)
 begins-if false xs ys zs more = tt
 begins-if true xs ys zs more =
-    ap (λ l. take (length (map text xs)) (map text l)) more ∙ ap (take (length (map text xs))) (map-append text xs zs) ∙ take-append_seam (map text xs) (map text zs)
+    (map text zs, sym (ap (map text) more ∙ map-append text xs zs))
 
 begin-from : (n : ℕ) (fields : List FieldShape) (t u : Table) → AllZip Grows (map (dictionary_in t) (enumerate_from n fields)) (map (dictionary_in (t ++ u)) (enumerate_from n fields))
 begin-from n [] t u = tt

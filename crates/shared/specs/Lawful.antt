@@ -1,6 +1,8 @@
 -- A table all of whose parts agree.
 use Rattle.std.specs.Prelude.{◌≡◌, ℕ, ◌≤◌, ◌<◌, ◌^◌, List, [], map, flat_map, length, sum_by, take, All, Option, Some, None, ⊤, if◌then◌else◌}
 use Rattle.std.specs.List.{AllZip, enumerate_from}
+use mathlib.Core.List.{IsPrefix}
+pub use mathlib.Core.List.{IsPrefix as Begins}
 use Rattle.arrays.specs.Batch.{Batch, batch_fault, rows_of, Table, column}
 use Rattle.arrays.specs.Item.{text}
 use Rattle.arrays.specs.Kind as kind
@@ -43,14 +45,10 @@ dictionaries_of fields t = map (dictionary_in t) (enumerate_from 0 fields)
 abbrev pub AreStatsOf : List FieldShape → Table → List ColumnStats → Type 0
 AreStatsOf fields t stats = AllZip (λ e s. AreStats s (kind_of_field e.1) (column t e.0)) (enumerate_from 0 fields) stats
 
--- The first list begins the second.
-abbrev pub Begins : {A : Type 0} → List A → List A → Type 0
-Begins front whole = take (length front) whole ≡ front
-
 -- The dictionary that the column names begins the other, where there is one.
 abbrev pub NamesFront : Seen → Option Seen → Type 0
 NamesFront c None = ⊤
-NamesFront c (Some d) = Begins c.entries.items d.items
+NamesFront c (Some d) = IsPrefix c.entries.items d.items
 
 -- So does each dictionary that a column of the batch names.
 abbrev pub NamesFronts : List FieldShape → Table → Batch → Type 0

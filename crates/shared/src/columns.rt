@@ -3,12 +3,12 @@
 ghost use Rattle.std.specs.Prelude.{◌≡◌, ◌≤◌, ◌⊎◌, false, None, IfErr, IfOk, OnOk, Some, length, map, option_map, take, true};
 ghost use Rattle.std.specs.Arc.{arc_value};
 ghost use Rattle.std.specs.List.{AllZip, zip};
+ghost use mathlib.Core.List.{IsPrefix};
 ghost use Rattle.arrays.specs.Kind as kind;
 ghost use Rattle.arrays.specs.Item.{text};
 ghost use Rattle.arrays.specs.Shown.{shown};
 ghost use Rattle.arrays.specs.Slot.{is_text};
 ghost use Rattle.pool.specs.Texts.{is_too_full};
-ghost use Rattle.shared.specs.Lawful.{Begins};
 ghost use Rattle.shared.specs.Recoded.{coded, dictionary_for, entry_count, full_cause, grown, is_full, shortened, stored_seen};
 
 use crate::refusal::Refusal;
@@ -41,7 +41,7 @@ pub(crate) fn stored_columns(
     ensures pools { OnOk result (pools.new.items ≡ map grown (zip pools.old.items columns.now)) }
     ensures fits { OnOk result (full_cause pools.old.items columns.now ≡ None) }
     ensures err { IfErr result (λ e. (e ≡ Refusal.NoMemory) ⊎ (full_cause pools.old.items columns.now ≡ Some e)) }
-    ensures begun { AllZip Begins pools.old.items pools.new.items }
+    ensures begun { AllZip IsPrefix pools.old.items pools.new.items }
 {
     let mut stored = Columns {
         columns: Vec::with_capacity(alloc, columns.len())?,
@@ -65,6 +65,7 @@ pub(crate) fn stored_columns(
 }
 
 /// A column as it is stored, and its dictionary: the same one where the column brings no new text.
+#[tactic(auto, using(crate::proofs::FrontLemmas::prefix_same))]
 fn stored_column(
     alloc: Global,
     column: &Array,
@@ -77,7 +78,7 @@ fn stored_column(
     ensures pool { OnOk result (pool.new ≡ grown (pool.old, column.now)) }
     ensures fits { OnOk result (is_full (pool.old, column.now) ≡ false) }
     ensures err { IfErr result (λ e. ((e ≡ PoolFault.TextsFull) × (is_full (pool.old, column.now) ≡ true)) ⊎ (e ≡ PoolFault.NoMemory)) }
-    ensures begun { Begins pool.old pool.new }
+    ensures begun { IsPrefix pool.old pool.new }
 {
     match dictionary {
         Some(words) => {
@@ -89,6 +90,7 @@ fn stored_column(
 }
 
 /// A column of texts as it is stored, and its dictionary.
+#[tactic(auto, using(crate::proofs::FrontLemmas::prefix_same))]
 fn stored_texts(
     alloc: Global,
     column: &Array,
@@ -102,7 +104,7 @@ fn stored_texts(
     ensures pool { OnOk result (pool.new ≡ grown (pool.old, column.now)) }
     ensures fits { OnOk result (is_full (pool.old, column.now) ≡ false) }
     ensures err { IfErr result (λ e. ((e ≡ PoolFault.TextsFull) × (is_full (pool.old, column.now) ≡ true)) ⊎ (e ≡ PoolFault.NoMemory)) }
-    ensures begun { Begins pool.old pool.new }
+    ensures begun { IsPrefix pool.old pool.new }
 {
     let known = pool.len();
     let codes = recode(alloc, &column.view(), pool)?;

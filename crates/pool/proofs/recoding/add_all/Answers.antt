@@ -1,7 +1,7 @@
 use Rattle.std.proofs.Common.{inl, inr, ◌≡◌, ◌∙◌, ◌+◌, ◌++◌, ◌∷◌, [], ◌<◌, pos, take, Some, refl, sym, ap, subst}
 use Rattle.arrays.specs.Slot.{item_of}
 use Rattle.pool.specs.Texts.{firsts, texts_of, with_text, place_of, is_too_full}
-use Rattle.pool.proofs.RecodeLemmas.{Recoded, Recoded-none, Recoded-text, Recoded-null, pool-text, pool-null, full_in_all, told_of_all, to_z_small, starts_take, starts_longer}
+use Rattle.pool.proofs.RecodeLemmas.{Recoded, Recoded-none, Recoded-text, Recoded-null, pool-text, pool-null, full_in_all, told_of_all, to_z_small, begins_as_before}
 use Rattle.pool.proofs.recoding.add_all.Goals as goal
 use Rattle.pool.proofs.recoding.add_all.Goals.{in-Some+in_ok-add-in-Some, in-None}
 
@@ -18,32 +18,16 @@ returns-in_err-add-in-Some-clause-err c =
     c.from_residual-in_err-add-in-Some.ensures.1 (elim c.in_err-add-in-Some.ensures.fault [ inl h ↦ inl h | inr h ↦ inr h.0 ])
     (full_in_all old items c.loop-i.i t c.loop-i.pool c.in-Some.ensures c.loop-i.invariant.pool_is)
 
-pub returns-in_err-add-in-Some-clause-longer : goal.returns-in_err-add-in-Some-clause-longer
-returns-in_err-add-in-Some-clause-longer c =
-    starts_longer c.args.pool.now (texts_of (take c.loop-i.i c.args.view.now.items)) c.add.new.self c.requires.once (c.in_err-add-in-Some.ensures.err ∙ c.loop-i.invariant.pool_is)
-
 pub returns-in_err-add-in-Some-clause-begins : goal.returns-in_err-add-in-Some-clause-begins
 returns-in_err-add-in-Some-clause-begins c =
-    starts_take c.args.pool.now (texts_of (take c.loop-i.i c.args.view.now.items)) c.add.new.self c.requires.once (c.in_err-add-in-Some.ensures.err ∙ c.loop-i.invariant.pool_is)
-
-pub returns-in_err-push_as-clause-longer : goal.returns-in_err-push_as-clause-longer
-returns-in_err-push_as-clause-longer c =
-    let old = c.args.pool.now in
-    let items = c.args.view.now.items in
-    let i = c.loop-i.i in
-    let longer = starts_longer old (texts_of (take (i + 1) items)) c.match-text_at.pool c.requires.once in
-    elim c.match-text_at.branch [
-      | in-Some+in_ok-add-in-Some w ↦ longer (w.pool-is ∙ w.in_ok-add-in-Some.ensures.texts
-          ∙ pool-text old items i w.in-Some.text.now c.loop-i.pool w.in-Some.ensures c.loop-i.invariant.pool_is)
-      | in-None w ↦ longer (w.pool-is ∙ pool-null old items i c.loop-i.pool w.in-None.ensures c.loop-i.invariant.pool_is)
-    ]
+    begins_as_before c.args.pool.now (texts_of (take c.loop-i.i c.args.view.now.items)) c.add.new.self c.requires.once (c.in_err-add-in-Some.ensures.err ∙ c.loop-i.invariant.pool_is)
 
 pub returns-in_err-push_as-clause-begins : goal.returns-in_err-push_as-clause-begins
 returns-in_err-push_as-clause-begins c =
     let old = c.args.pool.now in
     let items = c.args.view.now.items in
     let i = c.loop-i.i in
-    let begins = starts_take old (texts_of (take (i + 1) items)) c.match-text_at.pool c.requires.once in
+    let begins = begins_as_before old (texts_of (take (i + 1) items)) c.match-text_at.pool c.requires.once in
     elim c.match-text_at.branch [
       | in-Some+in_ok-add-in-Some w ↦ begins (w.pool-is ∙ w.in_ok-add-in-Some.ensures.texts
           ∙ pool-text old items i w.in-Some.text.now c.loop-i.pool w.in-Some.ensures c.loop-i.invariant.pool_is)
@@ -70,18 +54,10 @@ loop-i-preserved c =
           (c.in_ok-push_as.ensures.ok ∙ ap (λ o. c.loop-i.codes.items ++ item_of o ∷ []) w.code-is)))
     ]
 
-pub returns-in_err-finish-clause-longer : goal.returns-in_err-finish-clause-longer
-returns-in_err-finish-clause-longer c =
-    starts_longer c.args.pool.now (texts_of (take c.loop-i.i c.args.view.now.items)) c.loop-i.pool c.requires.once c.loop-i.invariant.pool_is
-
 pub returns-in_err-finish-clause-begins : goal.returns-in_err-finish-clause-begins
 returns-in_err-finish-clause-begins c =
-    starts_take c.args.pool.now (texts_of (take c.loop-i.i c.args.view.now.items)) c.loop-i.pool c.requires.once c.loop-i.invariant.pool_is
-
-pub returns-clause-longer : goal.returns-clause-longer
-returns-clause-longer c =
-    starts_longer c.args.pool.now (texts_of (take c.loop-i.i c.args.view.now.items)) c.loop-i.pool c.requires.once c.loop-i.invariant.pool_is
+    begins_as_before c.args.pool.now (texts_of (take c.loop-i.i c.args.view.now.items)) c.loop-i.pool c.requires.once c.loop-i.invariant.pool_is
 
 pub returns-clause-begins : goal.returns-clause-begins
 returns-clause-begins c =
-    starts_take c.args.pool.now (texts_of (take c.loop-i.i c.args.view.now.items)) c.loop-i.pool c.requires.once c.loop-i.invariant.pool_is
+    begins_as_before c.args.pool.now (texts_of (take c.loop-i.i c.args.view.now.items)) c.loop-i.pool c.requires.once c.loop-i.invariant.pool_is

@@ -9,22 +9,23 @@ use Rattle.arrays.specs.Shown.{shown}
 use Rattle.pool.specs.Codes.{code_item}
 use Rattle.pool.specs.Texts.{firsts, texts_of}
 use Rattle.std.proofs.lemmas.List.{length-map}
-use Rattle.shared.proofs.RecodedLemmas.{begun-recoded, codes-within, column-coded, dictionary-same}
+use Rattle.pool.proofs.RecodeLemmas.{begins_as_before}
+use Rattle.shared.proofs.RecodedLemmas.{codes-within, column-coded, dictionary-same}
 use Rattle.shared.proofs.columns.stored_texts.Goals as goal
 
 pub newest-requires : goal.newest-requires
 newest-requires c =
     dictionary-same (arc_value c.args.words.now) c.len-known.result c.args.pool.now c.recode.new.pool c.requires.words
-    (begun-recoded c.args.pool.now (texts_of c.view.result.items) c.recode.new.pool c.len-known.ensures.once c.in_ok-codes.ensures.texts)
+    (begins_as_before c.args.pool.now (texts_of c.view.result.items) c.recode.new.pool c.len-known.ensures.once c.in_ok-codes.ensures.texts)
     c.len-known.ensures.count
 
 pub returns-in_err-words-clause-begun : goal.returns-in_err-words-clause-begun
 returns-in_err-words-clause-begun c =
-    begun-recoded c.args.pool.now (texts_of c.view.result.items) c.recode.new.pool c.len-known.ensures.once c.in_ok-codes.ensures.texts
+    begins_as_before c.args.pool.now (texts_of c.view.result.items) c.recode.new.pool c.len-known.ensures.once c.in_ok-codes.ensures.texts
 
 pub returns-in_err-dictionary-clause-begun : goal.returns-in_err-dictionary-clause-begun
 returns-in_err-dictionary-clause-begun c =
-    begun-recoded c.args.pool.now (texts_of c.view.result.items) c.recode.new.pool c.len-known.ensures.once c.in_ok-codes.ensures.texts
+    begins_as_before c.args.pool.now (texts_of c.view.result.items) c.recode.new.pool c.len-known.ensures.once c.in_ok-codes.ensures.texts
 
 pub dict-requires-clause-codes : goal.dict-requires-clause-codes
 dict-requires-clause-codes c =
@@ -44,4 +45,4 @@ returns-clause-column c =
 
 pub returns-clause-begun : goal.returns-clause-begun
 returns-clause-begun c =
-    begun-recoded c.args.pool.now (texts_of c.view.result.items) c.recode.new.pool c.len-known.ensures.once c.in_ok-codes.ensures.texts
+    begins_as_before c.args.pool.now (texts_of c.view.result.items) c.recode.new.pool c.len-known.ensures.once c.in_ok-codes.ensures.texts
