@@ -1,7 +1,7 @@
 -- Three-valued logic (Kleene's strong logic of indeterminacy): null is a truth value that isn't known.
 use Rattle.std.specs.Prelude.{List, map, Bool, true, false, not, ◌&&◌, Option, Some, None, option_map}
 use Rattle.arrays.specs.Item as item
-use Rattle.arrays.specs.Item.{Item, null}
+use Rattle.arrays.specs.Item.{Item}
 use Rattle.arrays.specs.Kind as kind
 use Rattle.arrays.specs.Kind.{same_kind}
 use Rattle.arrays.specs.Seen.{Seen}

@@ -7,7 +7,7 @@ use Rattle.std.proofs.lemmas.List.Elements.{All-map}
 use Rattle.arrays.specs.Batch.{Batch, batch_fault, row_of, rows_of, Table, column}
 use Rattle.arrays.specs.Item.{Item, boolean, int, list, null, text}
 use Rattle.arrays.specs.Kind as kind
-use Rattle.arrays.specs.Kind.{Kind, bytes_of, same_kind}
+use Rattle.arrays.specs.Kind.{Kind, same_kind}
 use Rattle.arrays.specs.Seen.{Seen}
 use Rattle.arrays.specs.Shape.{FieldShape, kind_of_field, name_of}
 use Rattle.arrays.specs.Typed.{IsItemOf}

@@ -1,5 +1,5 @@
 -- What a schema refuses.
-use Rattle.std.specs.Prelude.{List, Bool, nat_lt, not, ◌&&◌, Option, Some, None, option_map, position}
+use Rattle.std.specs.Prelude.{List, Bool, nat_lt, not, ◌&&◌, Option, option_map, position}
 use Rattle.std.specs.Option.{option_or}
 use Rattle.types.specs.Kind.{Kind, depth, has_dict_in_list}
 use Rattle.types.specs.Shape.{FieldShape, kind_of_field}
