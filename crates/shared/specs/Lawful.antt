@@ -2,7 +2,6 @@
 use Rattle.std.specs.Prelude.{◌≡◌, ℕ, ◌≤◌, ◌<◌, ◌^◌, List, [], map, flat_map, length, sum_by, take, All, Option, Some, None, ⊤, if◌then◌else◌}
 use Rattle.std.specs.List.{AllZip, enumerate_from}
 use mathlib.Core.List.{IsPrefix}
-pub use mathlib.Core.List.{IsPrefix as Begins}
 use Rattle.arrays.specs.Batch.{Batch, batch_fault, rows_of, Table, column}
 use Rattle.arrays.specs.Item.{text}
 use Rattle.arrays.specs.Kind as kind

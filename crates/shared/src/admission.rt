@@ -3,11 +3,12 @@
 ghost use Rattle.std.specs.Prelude.{◌≡◌, ◌⊎◌, ◌++◌, All, IfErr, IfOk, None, OnErr, OnOk, Some};
 ghost use Rattle.std.specs.Arc.{arc_value};
 ghost use Rattle.std.specs.List.{AllZip};
+ghost use mathlib.Core.List.{IsPrefix};
 ghost use Rattle.arrays.specs.Batch.{rows_of};
 ghost use Rattle.arrays.specs.Typed.{IsItemOf};
 ghost use Rattle.shared.specs.Cause.{batch_cause, early_cause};
 ghost use Rattle.shared.specs.Held.{IsHeld, batches_of, show};
-ghost use Rattle.shared.specs.Lawful.{Begins, table_of};
+ghost use Rattle.shared.specs.Lawful.{table_of};
 ghost use Rattle.shared.specs.Ready.{AreTexts, IsReady};
 
 use crate::columns::{Columns, cut_back, stored_columns};
@@ -59,7 +60,7 @@ fn recoded(
     ensures pools { OnOk result (AreTexts held.now (table_of (batches_of held.now) ++ rows_of batch.now) pools.new.items) }
     ensures err { IfErr result (λ e. (e ≡ Refusal.NoMemory)
         ⊎ (batch_cause (arc_value held.now.schema) (show held.now).history batch.now ≡ Some e)) }
-    ensures begun { AllZip Begins pools.old.items pools.new.items }
+    ensures begun { AllZip IsPrefix pools.old.items pools.new.items }
 {
     tell_all(batch.columns());
     let Columns {
