@@ -1,102 +1,219 @@
--- What was loaded of a file's bytes, as an answer of them.
-use Rattle.std.proofs.Common.{Result, Ok, Err, IfOk, IfErr, ◌≡◌, ◌∙◌, ℕ, zero, suc, ◌<◌, List, [], ◌∷◌, ◌++◌, get_or, map, All, ap, sym, refl, subst, arith, append-nil}
-use Rattle.std.proofs.lemmas.List.{map-append, length-map}
+-- What was loaded of the sources' bytes, as an answer of them.
+use Rattle.std.proofs.Common.{Result, Ok, Err, IfOk, IfErr, ◌≡◌, ◌∙◌, ℕ, zero, suc, ◌+◌, ◌%◌, ◌==◌, ◌<◌, cond, List, [], ◌∷◌, ◌++◌, None, Some, get_or, length, map, filter, All, slice_get, take, ap, sym, refl, subst, arith}
+use Rattle.std.proofs.lemmas.List.{length-map, map-append}
 use Rattle.std.proofs.lemmas.Simd.{map-map}
-use Rattle.std.specs.List.{range_with_len}
+use Rattle.std.proofs.Math.Seq.{take-append_seam}
+use Rattle.std.specs.List.{AllByRecursion, enumerate_from, flat_map, range_with_len}
+use Rattle.std.proofs.lemmas.Slice.Zip.{AllZip-long}
 use Rattle.arrays.specs.Batch.{Batch, Table}
 use Rattle.arrays.specs.Batch as batch
 use Rattle.arrays.specs.File.{File}
 use Rattle.arrays.specs.Item.{Item, null}
 use Rattle.arrays.specs.Seen.{Seen}
-use Rattle.arrowtab.specs.Alone.{alone, IsRefused, Shows, Stops}
+use Rattle.arrays.specs.Shape.{FieldShape}
 use Rattle.arrow_json.specs.JsonBatch.{table_of}
-use Rattle.arrow_json.specs.JsonFile.{Reads, file_of}
+use Rattle.arrow_json.specs.JsonFile.{AreUnder, file_of}
 use Rattle.arrow_json.specs.JsonTable as read
-use Rattle.arrowtab.specs.Loaded.{IsLoaded, added_by}
+use Rattle.arrow_json.specs.JsonTable.{FileData}
+use Rattle.arrowtab.specs.Alone.{AreAlike, IsRefusedIn, Shows, Stops, alone, batches_in, fields_for}
+use Rattle.arrowtab.specs.Explained.{Explains}
+use Rattle.arrowtab.specs.Loaded.{FileBatch, IsLoaded, IsStopped, added_by, batches_of, tables_of}
 use Rattle.arrowtab.specs.Plan.{planned}
-use Rattle.arrowtab.specs.Run.{Answers, Refuses, batches_of}
-use Rattle.arrowtab.specs.Explained.{ExplainsBytes}
-use Rattle.shared.specs.declared.refusal.Refusal.{Refusal}
+use Rattle.arrowtab.specs.Shown.{shown}
+use Rattle.arrowtab.specs.Run.{Answers, AreRead, Inputs, Refuses, table_fields}
+use Rattle.arrowtab.specs.declared.run_fault.FileFault.TheVariants.{CannotRead, Json, Refused}
 use Rattle.arrowtab.specs.declared.run_fault.RunFault.{RunFault}
-use Rattle.arrowtab.specs.declared.run_fault.RunFault.TheVariants.{CannotRead, NoMemory, Refused}
-use Rattle.arrowtab.specs.declared.run_fault.RunFault.TheVariants as run_fault
+use Rattle.arrowtab.specs.declared.run_fault.RunFault.TheVariants.{NoMemory, OfFile}
+use Rattle.shared.specs.Cause.{IsLegal, batch_cause, difference, handed_cause}
+use Rattle.shared.specs.History.{History}
+use Rattle.shared.specs.declared.refusal.Refusal.{Refusal}
+
+-- ---- lists
+
+at_middle : {A : Type 0} (xs ys : List A) (x : A) → slice_get (xs ++ x ∷ ys) (length xs) ≡ Some x
+at_middle [] ys x = refl
+at_middle (y ∷ xs) ys x = at_middle xs ys x
+
+all_middle : {A : Type 0} (P : A → Type 0) (xs ys : List A) (x : A) → AllByRecursion P (xs ++ x ∷ ys) → P x
+all_middle P [] ys x all = all.0
+all_middle P (y ∷ xs) ys x all = all_middle P xs ys x all.1
+
+all_from : {A : Type 0} (P : A → Type 0) (xs : List A) → AllByRecursion P xs → All P xs
+all_from P [] all k d below = absurd (omega (arith, below))
+all_from P (x ∷ xs) all zero d below = all.0
+all_from P (x ∷ xs) all (suc k) d below = all_from P xs all.1 k d (omega (arith, below))
+
+-- ---- the plan of one worker is all batches in order
+
+by_one : (n : ℕ) → n % 1 ≡ 0
+by_one n = omega arith
+
+planned_from : {B : Type 0} (n : ℕ) (files : List (List B)) → flat_map (λ e. e.1) (filter (λ e. (e.0 % 1) == 0) (enumerate_from n files)) ≡ flat_map (λ f. f) files
+planned_from n [] = refl
+planned_from {B} n (f ∷ files) =
+    let rest : List (ℕ × List B) = filter (λ e. (e.0 % 1) == 0) (enumerate_from (n + 1) files) in
+    ap (λ (m : ℕ). flat_map (λ (e : ℕ × List B). e.1) (cond (m == 0) ((n, f) ∷ rest) rest)) (by_one n) ∙ ap (λ xs. f ++ xs) (planned_from (n + 1) files)
+
+planned_alone : {B : Type 0} (files : List (List B)) → planned files 1 0 ≡ flat_map (λ f. f) files
+planned_alone files = planned_from 0 files
+
+-- ---- batches of files, as the files' bytes say them
 
 rows_of_table : (b : Batch) → read.rows_of (table_of b) ≡ batch.rows_of b
 rows_of_table b = ap (λ (f : ℕ → List Item). map f (range_with_len 0 b.rows)) (λ j. λ i. map-map (λ (c : List Item). get_or c i null) (λ (s : Seen). s.items) b.columns j)
 
-tables : (bs : List Batch) → map read.rows_of (map table_of bs) ≡ map batch.rows_of bs
-tables bs = map-map read.rows_of table_of bs ∙ ap (λ (f : Batch → Table). map f bs) (λ j. λ b. rows_of_table b j)
+tables-of_file : (fields : List FieldShape) (bs : List Batch) → tables_of (batches_of (record { fields = fields; tables = map table_of bs })) ≡ map batch.rows_of bs
+tables-of_file fields [] = refl
+tables-of_file fields (b ∷ bs) = ap (λ t. t ∷ tables_of (batches_of (record { fields = fields; tables = map table_of bs }))) (rows_of_table b) ∙ ap (λ ts. batch.rows_of b ∷ ts) (tables-of_file fields bs)
+
+abbrev data_of : List File → List FileData
+data_of files = map file_of files
+
+abbrev listed : List File → List (List FileBatch)
+listed files = map batches_of (data_of files)
+
+tables-of_files : (files : List File) → tables_of (flat_map (λ f. f) (listed files)) ≡ map batch.rows_of (batches_in files)
+tables-of_files [] = refl
+tables-of_files (f ∷ files) =
+    map-append (λ (b : FileBatch). b.rows) (batches_of (file_of f)) (flat_map (λ g. g) (listed files))
+    ∙ ap (λ ts. ts ++ tables_of (flat_map (λ g. g) (listed files))) (tables-of_file f.fields f.batches)
+    ∙ ap (λ ts. map batch.rows_of f.batches ++ ts) (tables-of_files files)
+    ∙ sym (map-append batch.rows_of f.batches (batches_in files))
+
+tables-planned : (files : List File) → tables_of (planned (listed files) 1 0) ≡ map batch.rows_of (batches_in files)
+tables-planned files = ap tables_of (planned_alone (listed files)) ∙ tables-of_files files
 
 added_alone : (bs : List Batch) → added_by (alone bs) 0 ≡ map batch.rows_of bs
 added_alone [] = refl
 added_alone (b ∷ bs) = ap (λ ts. batch.rows_of b ∷ ts) (added_alone bs)
-
-planned_alone : (ts : List Table) → planned (ts ∷ []) 1 0 ≡ ts
-planned_alone ts = append-nil ts
 
 known_alone : (bs : List Batch) → All (λ e. e.0 < 1) (alone bs)
 known_alone [] k d below = absurd (omega (arith, below))
 known_alone (b ∷ bs) zero d below = omega arith
 known_alone (b ∷ bs) (suc k) d below = known_alone bs k d (omega (arith, below))
 
-whole : (f : File) → added_by (alone f.batches) 0 ≡ planned (batches_of (file_of f) ∷ []) 1 0
-whole f = added_alone f.batches ∙ sym (tables f.batches) ∙ sym (planned_alone (batches_of (file_of f)))
+fields-same : (files : List File) → table_fields (data_of files) ≡ fields_for files
+fields-same [] = refl
+fields-same (f ∷ files) = refl
 
-IsLoaded-alone : (f : File) → IsLoaded 1 (batches_of (file_of f) ∷ []) (alone f.batches)
-IsLoaded-alone f = record {
-  known = known_alone f.batches;
+abbrev AreKept : List File → Type 0
+AreKept files = AllByRecursion (λ f. AreUnder f.fields f.batches) files
+
+-- ---- what was loaded
+
+alike_in : (fields handed : List FieldShape) (bs : List Batch) → AllByRecursion (λ b. b.fields ≡ handed) bs → AreAlike fields bs
+    → AllByRecursion (λ (b : FileBatch). difference fields b.fields ≡ None) (batches_of (record { fields = handed; tables = map table_of bs }))
+alike_in fields handed [] under alike = tt
+alike_in fields handed (b ∷ bs) under alike = (subst (λ (fs : List FieldShape). difference fields fs ≡ None) under.0 alike.0, alike_in fields handed bs under.1 alike.1)
+
+alike_all : (fields : List FieldShape) (files : List File) → AreKept files → AllByRecursion (λ f. AreAlike fields f.batches) files
+    → AllByRecursion (λ (bs : List FileBatch). All (λ b. difference fields b.fields ≡ None) bs) (listed files)
+alike_all fields [] kept alike = tt
+alike_all fields (f ∷ files) kept alike = (
+  all_from (λ (b : FileBatch). difference fields b.fields ≡ None) (batches_of (file_of f)) (alike_in fields f.fields f.batches kept.0.each alike.0),
+  alike_all fields files kept.1 alike.1,
+)
+
+IsLoaded-alone : (fields : List FieldShape) (files : List File) → AreKept files → AllByRecursion (λ f. AreAlike fields f.batches) files
+    → IsLegal fields (alone (batches_in files)) → IsLoaded 1 (listed files) fields (alone (batches_in files))
+IsLoaded-alone fields files kept alike legal = record {
+  alike = all_from (λ (bs : List FileBatch). All (λ b. difference fields b.fields ≡ None) bs) (listed files) (alike_all fields files kept alike);
+  known = known_alone (batches_in files);
   each =
       λ w below.
       let first : 0 ≡ w = omega (arith, below) in
-      subst (λ k. added_by (alone f.batches) k ≡ planned (batches_of (file_of f) ∷ []) 1 k) first (whole f);
+      subst (λ k. added_by (alone (batches_in files)) k ≡ tables_of (planned (listed files) 1 k)) first (added_alone (batches_in files) ∙ sym (tables-planned files));
+  legal = legal;
 }
 
-pub Answers-shown : (bytes : List ℕ) (f : File) (text : List ℕ) → Reads bytes (file_of f) → Shows f.fields f.batches text → Answers bytes text
-Answers-shown bytes f text reads shows = record {
-  file = file_of f;
-  reads = reads;
-  history = alone f.batches;
-  loaded = IsLoaded-alone f;
-  legal = shows.legal;
-  shows = shows.text;
-}
-
-pub Refuses-stopped : (bytes : List ℕ) (f : File) (number : ℕ) (refusal : Refusal) → Reads bytes (file_of f) → IsRefused f.fields f.batches number refusal → Refuses bytes number refusal
-Refuses-stopped bytes f number refusal reads refused =
-    let split : batches_of (file_of f) ≡ map batch.rows_of refused.before ++ batch.rows_of refused.batch ∷ map batch.rows_of refused.rest =
-    tables f.batches ∙ ap (map batch.rows_of) refused.place ∙ map-append batch.rows_of refused.before (refused.batch ∷ refused.rest) in
+pub Answers-shown : (inputs : Inputs) (files : List File) (text : List ℕ) → AreRead inputs (data_of files) → AreKept files → Shows (fields_for files) files text → Answers inputs text
+Answers-shown inputs files text read kept shows =
+    let same = fields-same files in
     record {
-      file = file_of f;
-      reads = reads;
-      stopped = record {
-        worker = 0;
-        batch = batch.rows_of refused.batch;
-        before = map batch.rows_of refused.before;
-        rest = map batch.rows_of refused.rest;
-        history = alone refused.before;
-        known = omega arith;
-        stands_in = planned_alone (batches_of (file_of f)) ∙ split;
-        place = length-map refused.before batch.rows_of ∙ sym refused.counted;
-        workers_known = known_alone refused.before;
-        own = added_alone refused.before;
-        others = λ w below other. absurd (other (omega (arith, below)));
-        legal = refused.legal;
-        stands = refused.stands;
-      };
+      files = data_of files;
+      read = read;
+      history = alone (batches_in files);
+      loaded = subst (λ (fs : List FieldShape). IsLoaded 1 (listed files) fs (alone (batches_in files))) (sym same) (IsLoaded-alone (fields_for files) files kept shows.alike shows.legal);
+      shows = shows.text ∙ ap (λ (fs : List FieldShape). shown 1 fs (alone (batches_in files))) (sym same);
     }
 
-ExplainsBytes-stopped : (bytes : List ℕ) (f : File) (fault : RunFault) → Reads bytes (file_of f) → Stops f.fields f.batches fault → ExplainsBytes bytes fault
-ExplainsBytes-stopped bytes f CannotRead reads stops = stops
-ExplainsBytes-stopped bytes f NoMemory reads stops = tt
-ExplainsBytes-stopped bytes f (run_fault.File g) reads stops = absurd stops
-ExplainsBytes-stopped bytes f (Refused number refusal) reads stops = Refuses-stopped bytes f number refusal reads stops
+-- ---- what stopped it
 
-pub ok_answers : {A : Type 0} (bytes : List ℕ) (f : File) (r : Result A RunFault) (text : A → List ℕ) → Reads bytes (file_of f)
-    → IfOk r (λ t. Shows f.fields f.batches (text t)) → IfOk r (λ t. Answers bytes (text t))
-ok_answers bytes f (Ok t) text reads shows = Answers-shown bytes f (text t) reads shows
-ok_answers bytes f (Err fault) text reads shows = tt
+IsStopped-alone : (fields : List FieldShape) (files : List File) (file number : ℕ) (refusal : Refusal) → AreKept files → IsRefusedIn fields files file number refusal
+    → IsStopped 1 (listed files) fields file number refusal
+IsStopped-alone fields files file number refusal kept stopped =
+    let before = stopped.before in
+    let f = stopped.file in
+    let r = stopped.refused in
+    let whole : listed files ≡ listed before ++ batches_of (file_of f) ∷ listed stopped.rest =
+    ap listed stopped.in_files ∙ ap (map batches_of) (map-append file_of before (f ∷ stopped.rest)) ∙ map-append batches_of (data_of before) (file_of f ∷ data_of stopped.rest) in
+    let many : length (listed before) ≡ file = length-map (data_of before) batches_of ∙ length-map before file_of ∙ sym stopped.counted in
+    let inside : batches_of (file_of f) ≡ batches_of (record { fields = f.fields; tables = map table_of r.before }) ++ record { fields = f.fields; rows = read.rows_of (table_of r.batch) } ∷ batches_of (record { fields = f.fields; tables = map table_of r.rest }) =
+    ap (λ bs. batches_of (record { fields = f.fields; tables = map table_of bs })) r.place
+    ∙ ap (λ ts. batches_of (record { fields = f.fields; tables = ts })) (map-append table_of r.before (r.batch ∷ r.rest))
+    ∙ map-append (λ t. record { fields = f.fields; rows = read.rows_of t }) (map table_of r.before) (table_of r.batch ∷ map table_of r.rest) in
+    let some : length (batches_of (record { fields = f.fields; tables = map table_of r.before })) ≡ number =
+    length-map (map table_of r.before) (λ t. record { fields = f.fields; rows = read.rows_of t }) ∙ length-map r.before table_of ∙ sym r.counted in
+    let history = alone (batches_in before ++ r.before) in
+    let grown : alone (batches_in before) ++ alone r.before ≡ history = sym (map-append (λ (b : Batch). (0, batch.rows_of b)) (batches_in before) r.before) in
+    let under : AreUnder f.fields f.batches = all_middle (λ g. AreUnder g.fields g.batches) before stopped.rest f (subst AreKept stopped.in_files kept) in
+    let same : r.batch.fields ≡ f.fields = all_middle (λ b. b.fields ≡ f.fields) r.before r.rest r.batch (subst (AllByRecursion (λ (b : Batch). b.fields ≡ f.fields)) r.place under.each) in
+    let own : added_by history 0 ≡ tables_of (planned (take file (listed files)) 1 0 ++ take number (batches_of (file_of f))) =
+    added_alone (batches_in before ++ r.before)
+    ∙ map-append batch.rows_of (batches_in before) r.before
+    ∙ ap (λ ts. ts ++ map batch.rows_of r.before) (sym (tables-planned before))
+    ∙ ap (λ ts. tables_of (planned (listed before) 1 0) ++ ts) (sym (tables-of_file f.fields r.before))
+    ∙ sym (map-append (λ (b : FileBatch). b.rows) (planned (listed before) 1 0) (batches_of (record { fields = f.fields; tables = map table_of r.before })))
+    ∙ ap (λ (fs : List (List FileBatch)). tables_of (planned fs 1 0 ++ batches_of (record { fields = f.fields; tables = map table_of r.before })))
+    (sym (ap (λ k. take k (listed files)) (sym many) ∙ ap (take (length (listed before))) whole ∙ take-append_seam (listed before) (batches_of (file_of f) ∷ listed stopped.rest)))
+    ∙ ap (λ (bs : List FileBatch). tables_of (planned (take file (listed files)) 1 0 ++ bs))
+    (sym (ap (λ k. take k (batches_of (file_of f))) (sym some) ∙ ap (take (length (batches_of (record { fields = f.fields; tables = map table_of r.before })))) inside
+    ∙ take-append_seam (batches_of (record { fields = f.fields; tables = map table_of r.before })) _)) in
+    record {
+      batches = batches_of (file_of f);
+      batch = record { fields = f.fields; rows = read.rows_of (table_of r.batch) };
+      history = history;
+      in_files = ap (λ k. slice_get (listed files) k) (sym many) ∙ ap (λ fs. slice_get fs (length (listed before))) whole ∙ at_middle (listed before) (listed stopped.rest) (batches_of (file_of f));
+      in_file =
+          ap (λ k. slice_get (batches_of (file_of f)) k) (sym some)
+          ∙ ap (λ bs. slice_get bs (length (batches_of (record { fields = f.fields; tables = map table_of r.before })))) inside
+          ∙ at_middle (batches_of (record { fields = f.fields; tables = map table_of r.before })) _ _;
+      known = known_alone (batches_in before ++ r.before);
+      own = subst (λ k. added_by history k ≡ tables_of (planned (take file (listed files)) 1 k ++ take number (batches_of (file_of f)))) (sym (by_one file)) own;
+      others = λ w below other. absurd (other (omega (arith, below, by_one file)));
+      legal = subst (IsLegal fields) grown r.legal;
+      stands =
+          ap (λ t. handed_cause fields history f.fields t) (rows_of_table r.batch)
+          ∙ ap (λ (fs : List FieldShape). handed_cause fields history fs (batch.rows_of r.batch)) (sym same)
+          ∙ ap (λ (h : History). batch_cause fields h r.batch) (sym grown)
+          ∙ r.stands;
+    }
 
-pub err_explains : {A : Type 0} (bytes : List ℕ) (f : File) (r : Result A RunFault) → Reads bytes (file_of f)
-    → IfErr r (Stops f.fields f.batches) → IfErr r (ExplainsBytes bytes)
-err_explains bytes f (Ok t) reads stops = tt
-err_explains bytes f (Err fault) reads stops = ExplainsBytes-stopped bytes f fault reads stops
+Refuses-stopped : (inputs : Inputs) (files : List File) (file number : ℕ) (refusal : Refusal) → AreRead inputs (data_of files) → AreKept files → IsRefusedIn (fields_for files) files file number refusal
+    → Refuses inputs file number refusal
+Refuses-stopped inputs files file number refusal read kept stopped = record {
+  files = data_of files;
+  read = read;
+  stopped = subst (λ (fs : List FieldShape). IsStopped 1 (listed files) fs file number refusal) (sym (fields-same files)) (IsStopped-alone (fields_for files) files file number refusal kept stopped);
+}
+
+Explains-stopped : (inputs : Inputs) (before after : List ℕ) (files : List File) (fault : RunFault) → AreRead inputs (data_of files) → AreKept files → Stops (fields_for files) files fault
+    → Explains inputs before after fault
+Explains-stopped inputs before after files NoMemory read kept stops = tt
+Explains-stopped inputs before after files (OfFile f CannotRead) read kept stops = absurd stops
+Explains-stopped inputs before after files (OfFile f (Json g)) read kept stops = absurd stops
+Explains-stopped inputs before after files (OfFile f (Refused number refusal)) read kept stops = Refuses-stopped inputs files f number refusal read kept stops
+
+pub ok_answers : {A : Type 0} (inputs : Inputs) (files : List File) (r : Result A RunFault) (text : A → List ℕ) → AreRead inputs (data_of files) → AreKept files
+    → IfOk r (λ t. Shows (fields_for files) files (text t)) → IfOk r (λ t. Answers inputs (text t))
+ok_answers inputs files (Ok t) text read kept shows = Answers-shown inputs files (text t) read kept shows
+ok_answers inputs files (Err fault) text read kept shows = tt
+
+pub err_explains : {A : Type 0} (inputs : Inputs) (before after : List ℕ) (files : List File) (r : Result A RunFault) → AreRead inputs (data_of files) → AreKept files
+    → IfErr r (Stops (fields_for files) files) → IfErr r (Explains inputs before after)
+err_explains inputs before after files (Ok t) read kept stops = tt
+err_explains inputs before after files (Err fault) read kept stops = Explains-stopped inputs before after files fault read kept stops
+
+-- there are as many files as sources
+pub some_files : (inputs : Inputs) (files : List File) → AreRead inputs (data_of files) → length files ≡ length inputs
+some_files inputs files read = sym (length-map files file_of) ∙ AllZip-long _ inputs (data_of files) read

@@ -1,7 +1,7 @@
 -- What the proofs of this crate share.
 mod Ends
-pub mod ToldLemmas
 mod ReportLemmas
 mod LoadLemmas
+mod ReadLemmas
 mod AnswerLemmas
 mod RunLemmas

@@ -1,35 +1,46 @@
 -- Which histories come of the files' batches.
-use Rattle.std.specs.Prelude.{◌≡◌, ◌≢◌, ◌<◌, ◌++◌, ◌∷◌, ℕ, List, map, length, Some, All}
+use Rattle.std.specs.Prelude.{◌≡◌, ◌≢◌, ◌<◌, ◌++◌, ◌%◌, ℕ, List, map, slice_get, take, None, Some, All}
 use mathlib.Core.List.{IsPrefix}
 use Rattle.arrays.specs.Shape.{FieldShape}
 use Rattle.arrays.specs.Batch.{Table}
+use Rattle.arrow_json.specs.JsonTable.{FileData, rows_of}
 use Rattle.shared.specs.History.{History, of}
 use Rattle.arrowtab.specs.Plan.{planned}
-use Rattle.shared.specs.Cause.{IsLegal, cause}
+use Rattle.shared.specs.Cause.{IsLegal, difference, handed_cause}
 use Rattle.shared.specs.declared.refusal.Refusal.{Refusal}
+
+-- A batch of a file: the fields of the file, and the rows.
+pub record FileBatch : Type 0 where
+  pub fields : List FieldShape
+  pub rows : Table
+
+abbrev pub batches_of : FileData → List FileBatch
+batches_of f = map (λ t. record { fields = f.fields; rows = rows_of t }) f.tables
+
+abbrev pub tables_of : List FileBatch → List Table
+tables_of batches = map (λ b. b.rows) batches
 
 -- The tables that a worker added, in order.
 abbrev pub added_by : History → ℕ → List Table
 added_by h worker = map (λ e. e.1) (of h worker)
 
--- Each worker added its list in the plan, in order, and nobody else anything.
-pub record IsLoaded (workers : ℕ) (files : List (List Table)) (h : History) : Type 0 where
+-- The fields of each batch are the table's, and each worker added its list in the plan, in order, and nobody else anything.
+pub record IsLoaded (workers : ℕ) (files : List (List FileBatch)) (fields : List FieldShape) (h : History) : Type 0 where
+  pub alike : All (All (λ b. difference fields b.fields ≡ None)) files
   pub known : All (λ e. e.0 < workers) h
-  pub each : (w : ℕ) → w < workers → added_by h w ≡ planned files workers w
+  pub each : (w : ℕ) → w < workers → added_by h w ≡ tables_of (planned files workers w)
+  pub legal : IsLegal fields h
 
--- A cause stands for a batch of a worker after a legal history: each worker had added a front of its
--- list in the plan, this one up to just before the batch.
-pub record IsStopped (workers : ℕ) (files : List (List Table)) (schema : List FieldShape) (number : ℕ) (refusal : Refusal) : Type 0 where
-  pub worker : ℕ
-  pub batch : Table
-  pub before : List Table
-  pub rest : List Table
+-- A cause stands for batch `number` of a file after a legal history: each worker had added a front of its list in the plan,
+-- the file's worker its files before this one, and of this one the batches before that.
+pub record IsStopped (workers : ℕ) (files : List (List FileBatch)) (fields : List FieldShape) (file number : ℕ) (refusal : Refusal) : Type 0 where
+  pub batches : List FileBatch
+  pub batch : FileBatch
   pub history : History
-  pub known : worker < workers
-  pub stands_in : planned files workers worker ≡ before ++ batch ∷ rest
-  pub place : length before ≡ number
-  pub workers_known : All (λ e. e.0 < workers) history
-  pub own : added_by history worker ≡ before
-  pub others : (w : ℕ) → w < workers → w ≢ worker → IsPrefix (added_by history w) (planned files workers w)
-  pub legal : IsLegal schema history
-  pub stands : cause schema history batch ≡ Some refusal
+  pub in_files : slice_get files file ≡ Some batches
+  pub in_file : slice_get batches number ≡ Some batch
+  pub known : All (λ e. e.0 < workers) history
+  pub own : added_by history (file % workers) ≡ tables_of (planned (take file files) workers (file % workers) ++ take number batches)
+  pub others : (w : ℕ) → w < workers → w ≢ file % workers → IsPrefix (added_by history w) (tables_of (planned files workers w))
+  pub legal : IsLegal fields history
+  pub stands : handed_cause fields history batch.fields batch.rows ≡ Some refusal

@@ -1,60 +1,83 @@
--- What the program writes, and why it refuses: stated over the bytes that its source tells.
-use Rattle.std.specs.Prelude.{◌≡◌, ◌<◌, ◌∷◌, ℕ, List, [], map, Option, IfSome}
+-- What the program writes, and why it refuses: stated over the bytes that its sources tell.
+use Rattle.std.specs.Prelude.{◌≡◌, ◌<◌, ◌∷◌, ℕ, List, [], map, Option, Some, IfSome, slice_get}
+use Rattle.std.specs.List.{AllZip}
 use Rattle.std.specs.Io.KnownBytes.{Appends, Keeps}
 use Rattle.arrowtab.specs.Sink.{AppendsFront}
-use Rattle.arrays.specs.Batch.{Table}
+use Rattle.arrays.specs.Shape.{FieldShape}
 use Rattle.shared.specs.History.{History}
-use Rattle.shared.specs.Cause.{IsLegal}
+use Rattle.shared.specs.Stored.{stored_fields}
 use Rattle.arrowtab.specs.Shown.{shown}
 use Rattle.arrowtab.specs.Lines.{unread_line, file_line, refusal_line, memory_line, output_line}
-use Rattle.arrowtab.specs.Loaded.{IsLoaded, IsStopped}
+use Rattle.arrowtab.specs.Loaded.{IsLoaded, IsStopped, batches_of}
 use Rattle.arrow_json.specs.JsonFile.{Reads, BytesFault}
-use Rattle.arrow_json.specs.JsonTable.{FileData, rows_of}
+use Rattle.arrow_json.specs.JsonTable.{FileData}
 use Rattle.shared.specs.declared.refusal.Refusal.{Refusal}
 use Rattle.arrow_json.specs.declared.path.Step.{Step}
 use Rattle.arrow_json.specs.declared.fault.JsonFaultKind.{JsonFaultKind}
 
--- The batches of a file, each as its rows.
-abbrev pub batches_of : FileData → List Table
-batches_of f = map rows_of f.tables
+-- What each source still has to give, where it tells it.
+abbrev pub Inputs : Type 0
+Inputs = List (Option (List ℕ))
 
--- The text is the output of `stats` for one file of these bytes and one worker: the bytes read as a file,
--- and a legal history has the worker add its batches, each in order.
-pub record Answers (bytes : List ℕ) (text : List ℕ) : Type 0 where
-  pub file : FileData
-  pub reads : Reads bytes file
+-- There is a file for each source, and the bytes of a source that tells them are read as its file.
+abbrev pub AreRead : Inputs → List FileData → Type 0
+AreRead inputs files = AllZip (λ input file. IfSome input (λ bytes. Reads bytes file)) inputs files
+
+-- The fields of the table: those of the first file, as they are stored.
+abbrev pub table_fields : List FileData → List FieldShape
+table_fields [] = []
+table_fields (file ∷ files) = stored_fields file.fields
+
+-- The text is the output of `stats` for the files of these sources and one worker: a legal history has the worker add
+-- their batches, each in order.
+pub record Answers (inputs : Inputs) (text : List ℕ) : Type 0 where
+  pub files : List FileData
+  pub read : AreRead inputs files
   pub history : History
-  pub loaded : IsLoaded 1 (batches_of file ∷ []) history
-  pub legal : IsLegal file.fields history
-  pub shows : text ≡ shown 1 file.fields history
+  pub loaded : IsLoaded 1 (map batches_of files) (table_fields files) history
+  pub shows : text ≡ shown 1 (table_fields files) history
 
--- The bytes read as a file, and a cause stands for a batch of it after those before it.
-pub record Refuses (bytes : List ℕ) (number : ℕ) (refusal : Refusal) : Type 0 where
-  pub file : FileData
-  pub reads : Reads bytes file
-  pub stopped : IsStopped 1 (batches_of file ∷ []) file.fields number refusal
+-- The sources' bytes are read, and a cause stands for a batch of a file, after those before it.
+pub record Refuses (inputs : Inputs) (file number : ℕ) (refusal : Refusal) : Type 0 where
+  pub files : List FileData
+  pub read : AreRead inputs files
+  pub stopped : IsStopped 1 (map batches_of files) (table_fields files) file number refusal
 
 -- ---- a run, where its ends tell their bytes. An end that doesn't tell them is none here.
 
 -- The whole output was written.
-abbrev pub Wrote : Option (List ℕ) → Option (List ℕ) → Option (List ℕ) → Type 0
-Wrote input old new = (text : List ℕ) × IfSome input (λ bytes. Answers bytes text) × Appends old new text
+abbrev pub Wrote : Inputs → Option (List ℕ) → Option (List ℕ) → Type 0
+Wrote inputs old new = (text : List ℕ) × Answers inputs text × Appends old new text
 
 -- The output took nothing, or a beginning of the text and a write failed.
-pub data WroteFront (input old new : Option (List ℕ)) (failed failures : ℕ) : Type 0 where
-  nothing : Keeps old new → WroteFront input old new failed failures
-  front : (text : List ℕ) → IfSome input (λ bytes. Answers bytes text) → AppendsFront old new text → failed < failures → WroteFront input old new failed failures
+pub data WroteFront (inputs : Inputs) (old new : Option (List ℕ)) (failed failures : ℕ) : Type 0 where
+  nothing : Keeps old new → WroteFront inputs old new failed failures
+  front : (text : List ℕ) → Answers inputs text → AppendsFront old new text → failed < failures → WroteFront inputs old new failed failures
+
+-- A file's source failed in this call.
+pub record FailedRead (before after : List ℕ) (file : ℕ) : Type 0 where
+  pub failed : ℕ
+  pub failures : ℕ
+  pub first : slice_get before file ≡ Some failed
+  pub last : slice_get after file ≡ Some failures
+  pub more : failed < failures
+
+-- The bytes of a file's source, where it tells them, aren't read as a file: this fault stands.
+pub record FailedFile (inputs : Inputs) (file : ℕ) (kind : JsonFaultKind) (path : List Step) : Type 0 where
+  pub input : Option (List ℕ)
+  pub of_file : slice_get inputs file ≡ Some input
+  pub stands : IfSome input (λ bytes. BytesFault bytes kind path)
 
 -- Why a run ends with status 1, and the line that the error sink then took.
-pub data Excuse (name : List ℕ) (input : Option (List ℕ)) (source_old source_new out_old out_new err_old err_new : ℕ) (old new : Option (List ℕ)) : Type 0 where
+pub data Excuse (names : List (List ℕ)) (inputs : Inputs) (before after : List ℕ) (out_old out_new err_old err_new : ℕ) (old new : Option (List ℕ)) : Type 0 where
   -- the error sink failed
-  error_failed : err_old < err_new → Excuse name input source_old source_new out_old out_new err_old err_new old new
-  no_memory : Appends old new memory_line → Excuse name input source_old source_new out_old out_new err_old err_new old new
-  -- the source failed in this call
-  source_failed : source_old < source_new → Appends old new (unread_line name) → Excuse name input source_old source_new out_old out_new err_old err_new old new
-  output_failed : out_old < out_new → Appends old new output_line → Excuse name input source_old source_new out_old out_new err_old err_new old new
-  -- the bytes aren't read as a file: a fault stands
-  not_read : (kind : JsonFaultKind) (path : List Step) → IfSome input (λ bytes. BytesFault bytes kind path) → Appends old new (file_line name kind path)
-      → Excuse name input source_old source_new out_old out_new err_old err_new old new
-  refused : (number : ℕ) (refusal : Refusal) → IfSome input (λ bytes. Refuses bytes number refusal) → Appends old new (refusal_line name number refusal)
-      → Excuse name input source_old source_new out_old out_new err_old err_new old new
+  error_failed : err_old < err_new → Excuse names inputs before after out_old out_new err_old err_new old new
+  -- the output can't be this: its line takes no memory
+  no_memory : out_new ≡ out_old → Appends old new memory_line → Excuse names inputs before after out_old out_new err_old err_new old new
+  output_failed : out_old < out_new → Appends old new output_line → Excuse names inputs before after out_old out_new err_old err_new old new
+  source_failed : (file : ℕ) (name : List ℕ) → slice_get names file ≡ Some name → FailedRead before after file
+      → Appends old new (unread_line name) → Excuse names inputs before after out_old out_new err_old err_new old new
+  not_read : (file : ℕ) (name : List ℕ) (kind : JsonFaultKind) (path : List Step) → slice_get names file ≡ Some name → FailedFile inputs file kind path
+      → Appends old new (file_line name kind path) → Excuse names inputs before after out_old out_new err_old err_new old new
+  refused : (file number : ℕ) (name : List ℕ) (refusal : Refusal) → slice_get names file ≡ Some name → Refuses inputs file number refusal
+      → Appends old new (refusal_line name number refusal) → Excuse names inputs before after out_old out_new err_old err_new old new

@@ -1,53 +1,39 @@
 //! The output of a job, or why there is none.
-ghost use Rattle.std.specs.Prelude.{◌≡◌, ◌^◌, ◌-◌, ◌<◌, IfOk, IfErr, IfSome, string_bytes};
-ghost use Rattle.arrowtab.specs.Run.{Answers};
-ghost use Rattle.arrowtab.specs.Explained.{Explains, ExplainsBytes};
-ghost use Rattle.arrowtab.specs.Alone.{Shows, Stops};
+ghost use Rattle.std.specs.Prelude.{◌^◌, ◌-◌, ◌<◌, All, IfErr, IfOk, length, map, string_bytes};
+ghost use Rattle.std.specs.List.{AllByRecursion};
 ghost use Rattle.arrow_json.specs.JsonFile.{AreUnder};
+ghost use Rattle.arrowtab.specs.Alone.{fields_for, Shows, Stops};
+ghost use Rattle.arrowtab.specs.Explained.{Explains};
+ghost use Rattle.arrowtab.specs.Run.{Answers};
 
 use crate::load::load;
+use crate::reading::read_files;
 use crate::report::stats_text;
 use crate::run_fault::RunFault;
-use crate::source::{Source, SourceFault, read_whole};
+use crate::source::Source;
 use arrays::File;
-use arrow_json::{JsonFaultKind, read_file};
 use std::alloc::Global;
 
-/// Reads the source, and makes the output of `stats` of its bytes.
-pub(crate) fn answer<S: Source>(alloc: Global, source: &mut S) -> Result<String, RunFault>
-    requires { S.failures source.old < 2 ^ 64 - 1 }
-    ensures ok { IfOk result (λ text.
-        IfSome (S.remaining source.old) (λ bytes. Answers bytes (string_bytes text))) }
-    ensures err { IfErr result (Explains (S.remaining source.old) (S.failures source.old) (S.failures source.new)) }
+/// Reads all sources, one after the other, and makes the output of `stats` of their files.
+pub(crate) fn answer<S: Source>(alloc: Global, sources: &mut [S]) -> Result<String, RunFault>
+    requires some { 0 < length sources.old }
+    requires room { All (λ s. S.failures s < 2 ^ 64 - 1) sources.old }
+    ensures ok { IfOk result (λ text. Answers (map S.remaining sources.old) (string_bytes text)) }
+    ensures err { IfErr result (Explains (map S.remaining sources.old) (map S.failures sources.old) (map S.failures sources.new)) }
 {
-    match read_whole(alloc, source) {
-        Ok(bytes) => answer_bytes(alloc, bytes),
-        Err(SourceFault::ReadFailed) => Err(RunFault::CannotRead),
-        Err(SourceFault::NoMemory) => Err(RunFault::NoMemory),
+    match read_files(alloc, sources) {
+        Ok(files) => answer_files(alloc, files),
+        Err(fault) => Err(fault),
     }
 }
 
-/// The output of `stats` of a file's bytes.
-fn answer_bytes(alloc: Global, bytes: Vec<u8>) -> Result<String, RunFault>
-    ensures ok { IfOk result (λ text. Answers bytes.items (string_bytes text)) }
-    ensures err { IfErr result (ExplainsBytes bytes.items) }
+/// The output of `stats` of files.
+fn answer_files(alloc: Global, files: Vec<File>) -> Result<String, RunFault>
+    requires { 0 < length files.items }
+    ensures ok { IfOk result (λ text. Shows (fields_for files.items) files.items (string_bytes text)) }
+    ensures err { IfErr result (Stops (fields_for files.items) files.items) }
 {
-    match read_file(alloc, bytes) {
-        Ok(file) => answer_file(alloc, file),
-        Err(fault) => match fault.kind {
-            JsonFaultKind::NoMemory => Err(RunFault::NoMemory),
-            _ => Err(RunFault::File(fault)),
-        },
-    }
-}
-
-/// The output of `stats` of a file.
-fn answer_file(alloc: Global, file: File) -> Result<String, RunFault>
-    requires { AreUnder file.fields file.batches }
-    ensures ok { IfOk result (λ text. Shows file.fields file.batches (string_bytes text)) }
-    ensures err { IfErr result (Stops file.fields file.batches) }
-{
-    let table = load(alloc, file)?;
+    let table = load(alloc, files)?;
     let version = table.version()?;
     Ok(stats_text(alloc, 1, &version)?)
 }

@@ -6,6 +6,7 @@ mod invocation;
 pub mod job;
 mod load;
 pub mod memory;
+mod reading;
 pub mod refusal;
 mod report;
 mod run_fault;

@@ -1,16 +1,24 @@
 use arrow_json::JsonFault;
 use colbits::NoMemory;
 use shared::Refusal;
+use std::alloc::AllocFailed;
 
 /// Why there is no output.
 #[derive(Debug, Drop)]
 pub(crate) enum RunFault {
-    /// The source failed.
-    CannotRead,
     NoMemory,
-    /// The bytes are no file.
-    File(JsonFault),
-    /// A batch of the file is refused: the batch by its place in the file.
+    /// A fault of the file at this place.
+    OfFile { file: usize, fault: FileFault },
+}
+
+/// Why a file can't be loaded.
+#[derive(Debug, Drop)]
+pub(crate) enum FileFault {
+    /// Its source failed.
+    CannotRead,
+    /// Its bytes are no file.
+    Json(JsonFault),
+    /// A batch of it is refused: the batch by its place in the file.
     Refused { batch: usize, refusal: Refusal },
 }
 
@@ -21,6 +29,17 @@ impl From<NoMemory> for RunFault {
     ghost from_gives = { λ _ e. e ≡ fault.NoMemory };
 
     fn from(_: NoMemory) -> RunFault {
+        RunFault::NoMemory
+    }
+}
+
+impl<T: Drop> From<AllocFailed<T>> for RunFault {
+    ghost use Rattle.std.specs.Prelude.{◌≡◌};
+    ghost use Rattle.arrowtab.specs.declared.run_fault.RunFault.TheVariants as fault;
+
+    ghost from_gives = { λ _ e. e ≡ fault.NoMemory };
+
+    fn from(_: AllocFailed<T>) -> RunFault {
         RunFault::NoMemory
     }
 }

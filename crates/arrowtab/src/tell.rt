@@ -1,10 +1,10 @@
 //! Faults as lines on the error sink.
 ghost use Rattle.std.specs.Prelude.{◌≡◌, ◌^◌, ◌-◌, ◌<◌, IfOk, string_bytes};
 ghost use Rattle.arrowtab.specs.Lines.{unread_line, file_line, refusal_line, memory_line, output_line};
-ghost use Rattle.arrowtab.specs.Told.{TookLine, fault_line};
+ghost use Rattle.arrowtab.specs.Told.{TookBuilt, TookLine, fault_line};
 
 use crate::refusal::refusal_text;
-use crate::run_fault::RunFault;
+use crate::run_fault::FileFault;
 use crate::sink::{Sink, write_whole};
 use arrow_json::{JsonFault, fault_text};
 use colbits::NoMemory;
@@ -17,15 +17,14 @@ const MEMORY_LINE: &[u8] = b"arrowtab: no memory\n";
 /// The line that is written where the output failed.
 const OUTPUT_LINE: &[u8] = b"arrowtab: output failed\n";
 
-/// The line of a fault.
-fn line_of(alloc: Global, name: &str, fault: &RunFault) -> Result<String, NoMemory>
+/// The line of a file's fault.
+fn line_of(alloc: Global, name: &str, fault: &FileFault) -> Result<String, NoMemory>
     ensures { IfOk result (λ text. string_bytes text ≡ fault_line name.now fault.now) }
 {
     match fault {
-        RunFault::CannotRead => unread_line(alloc, name),
-        RunFault::NoMemory => Ok(String::from_str(alloc, "arrowtab: no memory\n")?),
-        RunFault::File(fault) => file_line(alloc, name, fault),
-        RunFault::Refused { batch, refusal } => refusal_line(alloc, name, *batch, *refusal),
+        FileFault::CannotRead => unread_line(alloc, name),
+        FileFault::Json(fault) => file_line(alloc, name, fault),
+        FileFault::Refused { batch, refusal } => refusal_line(alloc, name, *batch, *refusal),
     }
 }
 
@@ -70,17 +69,25 @@ fn refusal_line(
     Ok(text)
 }
 
-/// Writes the line of a fault, or that memory ran out where there was none for the line. A failure of
+/// Writes the line of a file's fault, or that memory ran out where there was none for the line. A failure of
 /// the sink can't be told any more; it stands in the sink's count.
-pub(crate) fn tell<E: Sink>(alloc: Global, name: &str, fault: &RunFault, err: &mut E)
+pub(crate) fn tell<E: Sink>(alloc: Global, name: &str, fault: &FileFault, err: &mut E)
     requires { E.failures err.old < 2 ^ 64 - 1 }
-    ensures { TookLine (fault_line name.now fault.now) (E.failures err.old) (E.failures err.new)
+    ensures { TookBuilt (fault_line name.now fault.now) (E.failures err.old) (E.failures err.new)
         (E.taken err.old) (E.taken err.new) }
 {
     match line_of(alloc, name, fault) {
         Ok(line) => write_line(line.as_bytes(), err),
-        Err(NoMemory) => write_line(MEMORY_LINE, err),
+        Err(NoMemory) => tell_memory(err),
     }
+}
+
+/// Writes that memory ran out.
+pub(crate) fn tell_memory<E: Sink>(err: &mut E)
+    requires { E.failures err.old < 2 ^ 64 - 1 }
+    ensures { TookLine memory_line (E.failures err.old) (E.failures err.new) (E.taken err.old) (E.taken err.new) }
+{
+    write_line(MEMORY_LINE, err);
 }
 
 /// Writes that the output failed.

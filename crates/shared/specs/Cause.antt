@@ -66,9 +66,13 @@ cause fields h t = first (
     ∷ texts_cause fields h t
     ∷ [])
 
--- The same for a batch, whose fields have to be the table's.
+-- The same for a table that is handed in with fields of its own, which have to be those of the history.
+abbrev pub handed_cause : List FieldShape → History → List FieldShape → Table → Option Refusal
+handed_cause fields h handed t = first (option_map (λ c. SchemaDiffers c) (difference fields handed) ∷ cause fields h t ∷ [])
+
+-- The same for a batch.
 abbrev pub batch_cause : List FieldShape → History → Batch → Option Refusal
-batch_cause fields h b = first (option_map (λ c. SchemaDiffers c) (difference fields b.fields) ∷ cause fields h (rows_of b) ∷ [])
+batch_cause fields h b = handed_cause fields h b.fields (rows_of b)
 
 -- The first of them before the texts are looked at.
 abbrev pub early_cause : List FieldShape → History → Batch → Option Refusal
