@@ -1,42 +1,77 @@
 //! A file as a source of bytes.
-ghost use Rattle.std.specs.Prelude.{◌≡◌, ◌^◌, ◌-◌, ◌<◌, ◌≢◌, IfErr, option_and_then};
+ghost use Rattle.std.specs.Prelude.{◌≡◌, ◌^◌, ◌-◌, ◌<◌, ◌≢◌, IfErr, None};
 ghost use Rattle.std.specs.Io.{ReadsAtMost};
 ghost use Rattle.std.specs.IoError.{error_kind};
 ghost use Rattle.std.specs.Io.KnownBytes.{ReadConsumes};
 
 use arrowtab::{ReadFailed, Source};
-use std::io;
 use std::io::{ErrorKind, Read};
+use std::rt::Files;
+use std::{fs, io};
 
-/// A file that is read from where it stands, or one that could not be opened: each read of that fails.
+/// A file that is opened at its first read, and let go of at its end: a name alone costs no descriptor.
+/// Each read of a file that can't be opened fails.
 #[derive(Drop)]
-pub struct FileSource<F> {
-    file: Option<F>,
+pub struct FileSource<'a, R: Files> {
+    files: &'a R,
+    path: &'a str,
+    stage: Stage<R::File>,
     failures: u64,
 }
 
-impl<F> FileSource<F> {
-    pub fn new(file: Option<F>) -> Self
-        ensures file { result.file ≡ file }
-        ensures failures { result.failures ≡ 0 }
+/// How far a file was read.
+#[derive(Drop)]
+enum Stage<F> {
+    Named,
+    Open(F),
+    Ended,
+}
+
+impl<'a, R: Files> FileSource<'a, R> {
+    pub fn new(files: &'a R, path: &'a str) -> Self
+        ensures { result.failures ≡ 0 }
     {
-        FileSource { file, failures: 0 }
+        FileSource {
+            files,
+            path,
+            stage: Stage::Named,
+            failures: 0,
+        }
+    }
+
+    // The next bytes, of a file that is opened where it isn't yet.
+    fn next(&mut self, buffer: &mut [u8]) -> io::Result<usize>
+        ensures bound { ReadsAtMost result buffer.new }
+        ensures count { self.new.failures ≡ self.old.failures }
+    {
+        if let Stage::Named = &self.stage {
+            self.stage = Stage::Open(fs::open(self.files, self.path)?);
+        }
+        let Stage::Open(file) = &mut self.stage else {
+            return Ok(0);
+        };
+        let count = read_retrying(file, buffer)?;
+        if count == 0 && !buffer.is_empty() {
+            self.stage = Stage::Ended;
+        }
+        Ok(count)
     }
 }
 
-impl<F: Read> Source for FileSource<F> {
+impl<'a, R: Files> Source for FileSource<'a, R> {
     ghost failures = { λ s. s.failures };
 
-    ghost remaining = { λ s. option_and_then F.remaining s.file };
+    // What a file holds nobody tells.
+    ghost remaining = { λ s. None };
 
     fn read(&mut self, buffer: &mut [u8]) -> Result<usize, ReadFailed> {
-        if let Some(file) = &mut self.file {
-            if let Ok(count) = read_retrying(file, buffer) {
-                return Ok(count);
+        match self.next(buffer) {
+            Ok(count) => Ok(count),
+            Err(_) => {
+                self.failures += 1;
+                Err(ReadFailed)
             }
         }
-        self.failures += 1;
-        Err(ReadFailed)
     }
 }
 
