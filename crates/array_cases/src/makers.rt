@@ -1,0 +1,197 @@
+//! Tests of arrays that are made of lawful parts, and of copies.
+
+ghost use Rattle.std.specs.Prelude.{◌≡◌, pos, [], ◌∷◌, IfOk};
+ghost use Rattle.arrays.specs.Item.{int, null};
+ghost use Rattle.arrays.specs.Kind as kind;
+ghost use Rattle.arrays.specs.Kind.{int32};
+
+use arrays::{Array, DataType, IntBuilder, ViewType, Words, validate};
+use colbits::Buffer;
+use samples::{
+    INT16, INT32, Positions, checked, expect_bools, expect_item, expect_lists, expect_numbers,
+    expect_texts, field, lists_of, raw,
+};
+use std::alloc::Global;
+use std::process::Abort;
+use std::sync::Arc;
+use std::test::Fail;
+
+#[test]
+fn makes_numbers(rt: HostRuntime) -> Result<(), Fail> {
+    let validity = Buffer::from_bytes(rt.alloc(), &[0x05])?;
+    let values = Buffer::from_bytes(rt.alloc(), &[1, 0, 0xfe, 0xff, 3, 0])?;
+    let array = Array::from_numbers(rt.alloc(), INT16, 3, Some(validity), values)?;
+    expect_numbers(&array.view(), &[Some(1), None, Some(3)])?;
+    assert_eq!(rt; array.view().null_count(), 1);
+    Ok(())
+}
+
+#[test]
+fn makes_truth_values(rt: HostRuntime) -> Result<(), Fail> {
+    let validity = Buffer::from_bytes(rt.alloc(), &[0x07])?;
+    let bits = Buffer::from_bytes(rt.alloc(), &[0x0d])?;
+    let array = Array::from_bits(rt.alloc(), 4, Some(validity), bits)?;
+    let expected = [Some(true), Some(false), Some(true), None];
+    expect_bools(&array.view(), &expected)?;
+    assert_eq!(rt; array.view().null_count(), 1);
+    Ok(())
+}
+
+/// The offsets 0, 1, 3 and 3.
+const OFFSETS: &[u8] = &[0, 0, 0, 0, 1, 0, 0, 0, 3, 0, 0, 0, 3, 0, 0, 0];
+
+/// The texts `a`, `bc` and nothing, of which the second is null.
+fn texts(alloc: Global) -> Result<Array, Fail> {
+    let validity = Buffer::from_bytes(alloc, &[0x05])?;
+    let offsets = Buffer::from_bytes(alloc, OFFSETS)?;
+    let bytes = Buffer::from_bytes(alloc, b"a\xff\xff")?;
+    Ok(Array::from_texts(alloc, 3, Some(validity), offsets, bytes)?)
+}
+
+#[test]
+fn makes_texts(rt: HostRuntime) -> Result<(), Fail> {
+    let array = texts(rt.alloc())?;
+    expect_texts(&array.view(), &[Some("a"), None, Some("")])?;
+    assert_eq!(rt; array.view().null_count(), 1);
+    Ok(())
+}
+
+/// The lists of 1, of 2 and 3, and of nothing, of which the second is null, with this field of their items.
+fn lists(alloc: Global, name: &str, nullable: bool) -> Result<Array, Fail> {
+    let values = Buffer::from_bytes(alloc, &[1, 0, 2, 0, 3, 0])?;
+    let child = Array::from_numbers(alloc, INT16, 3, None, values)?;
+    let item = field(alloc, name, nullable, DataType::Int(INT16))?;
+    let validity = Buffer::from_bytes(alloc, &[0x05])?;
+    let offsets = Buffer::from_bytes(alloc, OFFSETS)?;
+    Ok(Array::from_list(alloc, item, 3, Some(validity), offsets, child)?)
+}
+
+#[test]
+fn makes_and_copies_lists_with_their_items_field(rt: HostRuntime) -> Result<(), Fail> {
+    for (name, nullable) in [("item", true), ("entry", false)] {
+        let array = lists(rt.alloc(), name, nullable)?;
+        let copy = array.copy(rt.alloc())?;
+        for view in [array.view(), copy.view()] {
+            assert_eq!(rt; view.null_count(), 1);
+            expect_lists(&view, &[Some(&[Some(1)]), None, Some(&[])])?;
+            expect_item(&view, name, nullable)?;
+        }
+    }
+    Ok(())
+}
+
+/// Asserts that a copy has the length, the null count and the type of the array.
+fn assert_copied(rt: &impl Abort, array: &Array, copy: &Array) {
+    let (old, new) = (array.view(), copy.view());
+    assert_eq!(rt;
+        (copy.len(), new.null_count()),
+        (array.len(), old.null_count())
+    );
+    assert!(rt; new.ty().is_same(old.ty()));
+}
+
+/// The numbers 1, 0, 2, 4 and 8, of which the second is null.
+const NUMBERS: Positions = &[
+    Some(&[0xfd]),
+    Some(&[1, 0, 0, 0, 0, 0, 0, 0, 2, 0, 0, 0, 4, 0, 0, 0, 8, 0, 0, 0]),
+];
+
+#[test]
+fn copies_numbers(rt: HostRuntime) -> Result<(), Fail> {
+    let array = checked(rt.alloc(), DataType::Int(INT32), 5, NUMBERS)?;
+    let copy = array.copy(rt.alloc())?;
+    assert_copied(&rt, &array, &copy);
+    let expected = [Some(1), None, Some(2), Some(4), Some(8)];
+    expect_numbers(&array.view(), &expected)?;
+    expect_numbers(&copy.view(), &expected)?;
+    assert_eq!(rt; copy.view().null_count(), 1);
+    Ok(())
+}
+
+/// Two slots, of which the second is null, over three lists.
+const OUTER: Positions = &[Some(&[0x01]), Some(&[0, 0, 0, 0, 3, 0, 0, 0, 3, 0, 0, 0])];
+
+/// Three lists of 2, 0 and 3 numbers.
+const INNER: Positions = &[
+    None,
+    Some(&[0, 0, 0, 0, 2, 0, 0, 0, 2, 0, 0, 0, 5, 0, 0, 0]),
+];
+
+/// The lists of the three lists, and null.
+fn lists_in_lists(alloc: Global) -> Result<Array, Fail> {
+    let int = DataType::Int(INT32);
+    let mut lists = raw(alloc, lists_of(alloc, 1, int)?, 3, INNER)?;
+    let int = DataType::Int(INT32);
+    lists.children.push(raw(alloc, int, 5, NUMBERS)?)?;
+    let int = DataType::Int(INT32);
+    let mut outer = raw(alloc, lists_of(alloc, 2, int)?, 2, OUTER)?;
+    outer.children.push(lists)?;
+    Ok(validate(alloc, outer)?)
+}
+
+#[test]
+fn copies_lists_in_lists(rt: HostRuntime) -> Result<(), Fail> {
+    let array = lists_in_lists(rt.alloc())?;
+    let copy = array.copy(rt.alloc())?;
+    assert_copied(&rt, &array, &copy);
+    let view = copy.view();
+    assert_eq!(rt; view.null_count(), 1);
+    expect_item(&view, "item", true)?;
+    assert!(rt; matches!(view.ty(), ViewType::List(_)) && view.len() == 2);
+    match (view.list_at(0), view.list_at(1)) {
+        (Some(inner), None) => {
+            let (first, last) = ([Some(1), None], [Some(2), Some(4), Some(8)]);
+            expect_lists(&inner, &[Some(&first), Some(&[]), Some(&last)])?;
+            expect_item(&inner, "item", true)?;
+        }
+        _ => panic!(rt; "the second list alone is null"),
+    }
+    Ok(())
+}
+
+/// The texts `a`, `b` and `a`, and a null.
+const TEXTS: Positions = &[
+    Some(&[0x07]),
+    Some(&[0, 0, 0, 0, 1, 0, 0, 0, 2, 0, 0, 0, 3, 0, 0, 0, 3, 0, 0, 0]),
+    Some(b"aba"),
+];
+
+/// The codes 2, 0, 3, null and 1.
+fn codes(alloc: Global) -> Result<Array, Fail>
+    ensures kind { IfOk result (λ a. a.kind ≡ kind.int int32) }
+    ensures items { IfOk result (λ a. a.items ≡ int (pos 2) ∷ int (pos 0) ∷ int (pos 3) ∷ null ∷ int (pos 1) ∷ []) }
+{
+    let mut builder = IntBuilder::with_capacity(alloc, INT32, 5)?;
+    builder.push(Some(2))?;
+    builder.push(Some(0))?;
+    builder.push(Some(3))?;
+    builder.push(None)?;
+    builder.push(Some(1))?;
+    Ok(builder.finish()?)
+}
+
+/// The codes with the texts as their dictionary.
+fn encoded(rt: &impl Abort, alloc: Global) -> Result<Array, Fail> {
+    let texts = checked(alloc, DataType::Utf8, 4, TEXTS)?;
+    let ViewType::Utf8 = texts.view().ty() else {
+        panic!(rt; "these are no texts");
+    };
+    assert!(rt; texts.len() == 4);
+    let words = Arc::new(alloc, Words::of(texts))?;
+    Ok(Array::dict(codes(alloc)?, words))
+}
+
+#[test]
+fn makes_and_copies_a_dictionary(rt: HostRuntime) -> Result<(), Fail> {
+    let array = encoded(&rt, rt.alloc())?;
+    let copy = array.copy(rt.alloc())?;
+    assert_copied(&rt, &array, &copy);
+    let expected = [Some("a"), Some("a"), None, None, Some("b")];
+    for made in [&array, &copy] {
+        assert_eq!(rt; made.len(), 5);
+        assert_eq!(rt; made.view().null_count(), 1);
+        assert!(rt; matches!(made.view().ty(), ViewType::Dict));
+        expect_texts(&made.view(), &expected)?;
+    }
+    Ok(())
+}

@@ -1,0 +1,181 @@
+mod deciding;
+
+use arrays::{Array, View};
+use kernels::{
+    CmpOp, KernelFault, add, compare, is_null, kleene_and, kleene_not, kleene_or, mul, sub,
+};
+use samples::{
+    Flat, INT8, INT16, INT64, Parts, Positions, UINT8, UINT64, built, expect_fault,
+    expect_result_numbers,
+};
+use std::alloc::Global;
+use std::test::Fail;
+
+const INT8S: Flat = Flat::Int(INT8);
+
+const UINT8S: Flat = Flat::Int(UINT8);
+
+const INT64S: Flat = Flat::Int(INT64);
+
+const UINT64S: Flat = Flat::Int(UINT64);
+
+/// What is done to columns.
+#[derive(Clone, Copy)]
+enum Kernel {
+    Add,
+    Sub,
+    Mul,
+    Compare(CmpOp),
+    And,
+    Or,
+    Not,
+    IsNull,
+}
+
+/// What a kernel gives of two columns, or of the first alone.
+fn outcome(
+    alloc: Global,
+    kernel: Kernel,
+    a: &View<'_>,
+    b: &View<'_>,
+) -> Result<Array, KernelFault> {
+    match kernel {
+        Kernel::Add => add(alloc, a, b),
+        Kernel::Sub => sub(alloc, a, b),
+        Kernel::Mul => mul(alloc, a, b),
+        Kernel::Compare(op) => compare(alloc, op, a, b),
+        Kernel::And => kleene_and(alloc, a, b),
+        Kernel::Or => kleene_or(alloc, a, b),
+        Kernel::Not => kleene_not(alloc, a),
+        Kernel::IsNull => Ok(is_null(alloc, a)?),
+    }
+}
+
+/// A kernel, two columns of a type, and the numbers that it gives of them.
+type Computed = (Kernel, Flat, Positions, Positions, &'static [Option<i128>]);
+
+const NO_NUMBERS: Positions = &[None, Some(&[])];
+
+static COMPUTED: [Computed; 4] = [
+    // An overflow under a null is none: 127 lies beneath it.
+    (
+        Kernel::Add,
+        INT8S,
+        &[Some(&[0x01]), Some(&[100, 127])],
+        &[None, Some(&[27, 1])],
+        &[Some(127), None],
+    ),
+    (Kernel::Mul, INT64S, MOST, MOST, &[Some(1)]),
+    (
+        Kernel::Sub,
+        UINT8S,
+        &[None, Some(&[5, 1])],
+        &[None, Some(&[5, 0])],
+        &[Some(0), Some(1)],
+    ),
+    (Kernel::Add, INT8S, NO_NUMBERS, NO_NUMBERS, &[]),
+];
+
+#[test]
+fn numbers_are_exact(rt: HostRuntime) -> Result<(), Fail> {
+    for (kernel, flat, a, b, numbers) in COMPUTED {
+        let length = numbers.len() as u64;
+        let a = built(rt.alloc(), (flat, length, a))?;
+        let b = built(rt.alloc(), (flat, length, b))?;
+        let results = outcome(rt.alloc(), kernel, &a.view(), &b.view())?;
+        expect_result_numbers(&results, numbers)?;
+    }
+    Ok(())
+}
+
+/// Eight bytes of ones: the greatest number of 64 bits, or -1.
+const MOST: Positions = &[None, Some(&[255; 8])];
+
+/// False, null and true, three times.
+const QUICK: Positions = &[Some(&[0x6d, 0x01]), Some(&[0x36, 0x01])];
+
+/// 1, null, -128.
+const WITH_A_NULL: Parts = (INT8S, 3, &[Some(&[0x05]), Some(&[1, 0, 128])]);
+
+/// 1, 5, -2.
+const WHOLE: Parts = (INT8S, 3, &[None, Some(&[1, 5, 254])]);
+
+/// 1, 2.
+const TWO: Parts = (INT8S, 2, &[None, Some(&[1, 2])]);
+
+/// 1, 2, 3.
+const THREE: Parts = (INT8S, 3, &[None, Some(&[1, 2, 3])]);
+
+/// 1, 2, 3, each of 16 bits.
+const WIDER: Parts = (Flat::Int(INT16), 3, &[None, Some(&[1, 0, 2, 0, 3, 0])]);
+
+/// 127, null, -128.
+const LARGE: Parts = (INT8S, 3, &[Some(&[0x05]), Some(&[127, 0, 128])]);
+
+/// The least number of 64 bits.
+const LEAST: Parts = (INT64S, 1, &[None, Some(&[0, 0, 0, 0, 0, 0, 0, 128])]);
+
+/// True and false.
+const TRUTHS: Parts = (Flat::Bool, 2, &[None, Some(&[1])]);
+
+static REFUSED: [(Kernel, Parts, Parts, KernelFault); 12] = [
+    (Kernel::Add, LARGE, WHOLE, KernelFault::Overflow { row: 0 }),
+    (
+        Kernel::Add,
+        WITH_A_NULL,
+        WHOLE,
+        KernelFault::Overflow { row: 2 },
+    ),
+    (
+        Kernel::Mul,
+        (UINT64S, 1, MOST),
+        (UINT64S, 1, MOST),
+        KernelFault::Overflow { row: 0 },
+    ),
+    (
+        Kernel::Mul,
+        LEAST,
+        (INT64S, 1, MOST),
+        KernelFault::Overflow { row: 0 },
+    ),
+    (
+        Kernel::Sub,
+        (UINT8S, 2, &[None, Some(&[5, 0])]),
+        (UINT8S, 2, &[None, Some(&[5, 1])]),
+        KernelFault::Overflow { row: 1 },
+    ),
+    // Types come before lengths.
+    (Kernel::Add, TWO, WIDER, KernelFault::TypesDiffer),
+    (Kernel::Add, TWO, THREE, KernelFault::LengthsDiffer),
+    (Kernel::Mul, TRUTHS, TRUTHS, KernelFault::TypesDiffer),
+    (
+        Kernel::Compare(CmpOp::Eq),
+        TWO,
+        THREE,
+        KernelFault::LengthsDiffer,
+    ),
+    (
+        Kernel::And,
+        (Flat::Bool, 9, QUICK),
+        TWO,
+        KernelFault::TypesDiffer,
+    ),
+    (Kernel::Not, TWO, TWO, KernelFault::TypesDiffer),
+    (
+        Kernel::Or,
+        (Flat::Bool, 9, QUICK),
+        TRUTHS,
+        KernelFault::LengthsDiffer,
+    ),
+];
+
+#[test]
+fn what_has_no_meaning_is_refused(rt: HostRuntime) -> Result<(), Fail> {
+    for (kernel, a, b, fault) in REFUSED {
+        let a = built(rt.alloc(), a)?;
+        let b = built(rt.alloc(), b)?;
+        let answer = outcome(rt.alloc(), kernel, &a.view(), &b.view());
+        expect_fault(answer, fault)?;
+    }
+    Ok(())
+}

@@ -1,0 +1,66 @@
+//! Arrays of the bytes of their buffers.
+
+use arrays::{Array, DataType, IntType, RawArray, validate};
+use colbits::Buffer;
+use std::alloc::Global;
+use std::test::Fail;
+
+/// The bytes of each position of a layout, none where it holds no buffer, as a constant has them.
+pub type Positions = &'static [Option<&'static [u8]>];
+
+/// The parts of an array without children: its type, its length and the bytes of each position, none where it holds no
+/// buffer.
+pub fn raw(
+    alloc: Global,
+    ty: DataType,
+    length: u64,
+    positions: &[Option<&[u8]>],
+) -> Result<RawArray, Fail> {
+    let mut buffers = Vec::new(alloc);
+    for position in positions {
+        buffers.push(match position {
+            Some(bytes) => Some(Buffer::from_bytes(alloc, *bytes)?),
+            None => None,
+        })?;
+    }
+    Ok(RawArray {
+        ty,
+        length,
+        null_count: None,
+        buffers,
+        children: Vec::new(alloc),
+        dictionary: None,
+    })
+}
+
+/// An array without children, checked.
+pub fn checked(
+    alloc: Global,
+    ty: DataType,
+    length: u64,
+    positions: Positions,
+) -> Result<Array, Fail> {
+    Ok(validate(alloc, raw(alloc, ty, length, positions)?)?)
+}
+
+/// A type without children and without a dictionary.
+#[derive(Clone, Copy)]
+pub enum Flat {
+    Int(IntType),
+    Bool,
+    Utf8,
+}
+
+/// An array of a flat type: the type, the length and the bytes of each position.
+pub type Parts = (Flat, u64, Positions);
+
+/// The array of these parts.
+pub fn built(alloc: Global, parts: Parts) -> Result<Array, Fail> {
+    let (flat, length, positions) = parts;
+    let ty = match flat {
+        Flat::Int(int) => DataType::Int(int),
+        Flat::Bool => DataType::Bool,
+        Flat::Utf8 => DataType::Utf8,
+    };
+    checked(alloc, ty, length, positions)
+}

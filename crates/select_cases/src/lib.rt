@@ -1,0 +1,13 @@
+//! Tests of selection: rows that are taken, kept by a mask, and joined.
+#![tactic(auto)]
+
+#[cfg(test)]
+mod choosing;
+#[cfg(test)]
+mod filtering;
+#[cfg(test)]
+mod joining;
+#[cfg(test)]
+mod taking;
+#[cfg(test)]
+mod testing;
