@@ -12,8 +12,8 @@ use arrays::{
 };
 use colbits::{BitmapBuf, Buffer};
 use samples::{
-    INT16, INT32, expect_bools, expect_item, expect_lists, expect_numbers, expect_offsets,
-    expect_texts, field,
+    INT16, INT32, field, has_item, has_offsets, shows_bools, shows_lists, shows_numbers,
+    shows_texts,
 };
 use std::alloc::Global;
 use std::process::Abort;
@@ -105,7 +105,7 @@ fn builds_numbers(rt: HostRuntime) -> Result<(), Fail> {
     builder.push(None)?;
     builder.push(Some(-1))?;
     let array = builder.finish()?;
-    expect_numbers(&array.view(), &[Some(7), None, Some(-1)])?;
+    assert!(rt; shows_numbers(&array.view(), &[Some(7), None, Some(-1)]));
     assert_eq!(rt; array.view().null_count(), 1);
     Ok(())
 }
@@ -116,7 +116,7 @@ fn builds_numbers_without_a_null(rt: HostRuntime) -> Result<(), Fail> {
     builder.push(Some(70_000))?;
     builder.push(Some(-1))?;
     let array = builder.finish()?;
-    expect_numbers(&array.view(), &[Some(70_000), Some(-1)])?;
+    assert!(rt; shows_numbers(&array.view(), &[Some(70_000), Some(-1)]));
     assert!(rt; array.view().validity().is_none());
     Ok(())
 }
@@ -150,7 +150,7 @@ fn numbers(alloc: Global, has_validity: bool) -> Result<Array, Fail>
 #[test]
 fn pushes_numbers_of_a_known_type(rt: HostRuntime) -> Result<(), Fail> {
     let array = pushed(rt.alloc())?.finish()?;
-    expect_numbers(&array.view(), &[Some(5), None, Some(-6)])?;
+    assert!(rt; shows_numbers(&array.view(), &[Some(5), None, Some(-6)]));
     assert_eq!(rt; array.view().null_count(), 1);
     Ok(())
 }
@@ -165,7 +165,7 @@ fn extends_numbers_without_a_null(rt: HostRuntime) -> Result<(), Fail> {
         .extended::<i16>(&whole.slice(1, 2))?
         .finish()?;
     let expected = [Some(1), Some(-2), Some(3), Some(4), Some(-2), Some(3)];
-    expect_numbers(&array.view(), &expected)?;
+    assert!(rt; shows_numbers(&array.view(), &expected));
     assert!(rt; array.view().validity().is_none());
     Ok(())
 }
@@ -181,7 +181,7 @@ fn extends_numbers_after_a_null(rt: HostRuntime) -> Result<(), Fail> {
     for (has_validity, second, nulls) in [(true, None, 2), (false, Some(-2), 1)] {
         let array = extended(rt.alloc(), has_validity)?;
         let expected = [Some(5), None, Some(-6), Some(1), second, Some(3), Some(4)];
-        expect_numbers(&array.view(), &expected)?;
+        assert!(rt; shows_numbers(&array.view(), &expected));
         assert_eq!(rt; array.view().null_count(), nulls);
     }
     Ok(())
@@ -196,7 +196,7 @@ fn builds_truth_values(rt: HostRuntime) -> Result<(), Fail> {
     builder.push(Some(true))?;
     let array = builder.finish()?;
     let expected = [Some(true), None, Some(false), Some(true)];
-    expect_bools(&array.view(), &expected)?;
+    assert!(rt; shows_bools(&array.view(), &expected));
     assert_eq!(rt; array.view().null_count(), 1);
     Ok(())
 }
@@ -207,7 +207,7 @@ fn builds_truth_values_without_a_null(rt: HostRuntime) -> Result<(), Fail> {
     builder.push(Some(false))?;
     builder.push(Some(true))?;
     let array = builder.finish()?;
-    expect_bools(&array.view(), &[Some(false), Some(true)])?;
+    assert!(rt; shows_bools(&array.view(), &[Some(false), Some(true)]));
     assert!(rt; array.view().validity().is_none());
     Ok(())
 }
@@ -221,10 +221,10 @@ fn builds_texts(rt: HostRuntime) -> Result<(), Fail> {
     builder.push(Some(""))?;
     let array = builder.finish()?;
     let view = array.view();
-    expect_texts(&view, &[Some("a"), None, Some("b\u{e9}"), Some("")])?;
+    assert!(rt; shows_texts(&view, &[Some("a"), None, Some("b\u{e9}"), Some("")]));
     assert_eq!(rt; view.null_count(), 1);
     let offsets = [0, 0, 0, 0, 1, 0, 0, 0, 1, 0, 0, 0, 4, 0, 0, 0, 4, 0, 0, 0];
-    expect_offsets(&view, &offsets)?;
+    assert!(rt; has_offsets(&view, &offsets));
     let ViewType::Utf8 = view.ty() else {
         panic!(rt; "these are no texts");
     };
@@ -237,7 +237,7 @@ fn builds_texts_without_a_null(rt: HostRuntime) -> Result<(), Fail> {
     let mut builder = TextBuilder::with_capacity(rt.alloc(), 1, 2)?;
     builder.push(Some("ab"))?;
     let array = builder.finish()?;
-    expect_texts(&array.view(), &[Some("ab")])?;
+    assert!(rt; shows_texts(&array.view(), &[Some("ab")]));
     assert!(rt; array.view().validity().is_none());
     Ok(())
 }
@@ -245,8 +245,8 @@ fn builds_texts_without_a_null(rt: HostRuntime) -> Result<(), Fail> {
 #[test]
 fn builds_no_texts(rt: HostRuntime) -> Result<(), Fail> {
     let array = TextBuilder::with_capacity(rt.alloc(), 0, 0)?.finish()?;
-    expect_texts(&array.view(), &[])?;
-    expect_offsets(&array.view(), &[0; 4])?;
+    assert!(rt; shows_texts(&array.view(), &[]));
+    assert!(rt; has_offsets(&array.view(), &[0; 4]));
     Ok(())
 }
 
@@ -271,9 +271,9 @@ fn builds_lists_with_their_items_field(rt: HostRuntime) -> Result<(), Fail> {
         let array = lists(rt.alloc(), name, nullable)?;
         let view = array.view();
         assert_eq!(rt; view.null_count(), 1);
-        expect_offsets(&view, &offsets)?;
-        expect_lists(&view, &[Some(&first), None, Some(&[]), Some(&last)])?;
-        expect_item(&view, name, nullable)?;
+        assert!(rt; has_offsets(&view, &offsets));
+        assert!(rt; shows_lists(&view, &[Some(&first), None, Some(&[]), Some(&last)]));
+        assert!(rt; has_item(&view, name, nullable));
     }
     Ok(())
 }

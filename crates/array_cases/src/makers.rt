@@ -8,8 +8,8 @@ ghost use Rattle.arrays.specs.Kind.{int32};
 use arrays::{Array, DataType, IntBuilder, ViewType, Words, validate};
 use colbits::Buffer;
 use samples::{
-    INT16, INT32, Positions, checked, expect_bools, expect_item, expect_lists, expect_numbers,
-    expect_texts, field, lists_of, raw,
+    INT16, INT32, Positions, checked, field, has_item, lists_of, raw, shows_bools, shows_lists,
+    shows_numbers, shows_texts,
 };
 use std::alloc::Global;
 use std::process::Abort;
@@ -21,7 +21,7 @@ fn makes_numbers(rt: HostRuntime) -> Result<(), Fail> {
     let validity = Buffer::from_bytes(rt.alloc(), &[0x05])?;
     let values = Buffer::from_bytes(rt.alloc(), &[1, 0, 0xfe, 0xff, 3, 0])?;
     let array = Array::from_numbers(rt.alloc(), INT16, 3, Some(validity), values)?;
-    expect_numbers(&array.view(), &[Some(1), None, Some(3)])?;
+    assert!(rt; shows_numbers(&array.view(), &[Some(1), None, Some(3)]));
     assert_eq!(rt; array.view().null_count(), 1);
     Ok(())
 }
@@ -32,7 +32,7 @@ fn makes_truth_values(rt: HostRuntime) -> Result<(), Fail> {
     let bits = Buffer::from_bytes(rt.alloc(), &[0x0d])?;
     let array = Array::from_bits(rt.alloc(), 4, Some(validity), bits)?;
     let expected = [Some(true), Some(false), Some(true), None];
-    expect_bools(&array.view(), &expected)?;
+    assert!(rt; shows_bools(&array.view(), &expected));
     assert_eq!(rt; array.view().null_count(), 1);
     Ok(())
 }
@@ -51,7 +51,7 @@ fn texts(alloc: Global) -> Result<Array, Fail> {
 #[test]
 fn makes_texts(rt: HostRuntime) -> Result<(), Fail> {
     let array = texts(rt.alloc())?;
-    expect_texts(&array.view(), &[Some("a"), None, Some("")])?;
+    assert!(rt; shows_texts(&array.view(), &[Some("a"), None, Some("")]));
     assert_eq!(rt; array.view().null_count(), 1);
     Ok(())
 }
@@ -73,8 +73,8 @@ fn makes_and_copies_lists_with_their_items_field(rt: HostRuntime) -> Result<(), 
         let copy = array.copy(rt.alloc())?;
         for view in [array.view(), copy.view()] {
             assert_eq!(rt; view.null_count(), 1);
-            expect_lists(&view, &[Some(&[Some(1)]), None, Some(&[])])?;
-            expect_item(&view, name, nullable)?;
+            assert!(rt; shows_lists(&view, &[Some(&[Some(1)]), None, Some(&[])]));
+            assert!(rt; has_item(&view, name, nullable));
         }
     }
     Ok(())
@@ -102,8 +102,8 @@ fn copies_numbers(rt: HostRuntime) -> Result<(), Fail> {
     let copy = array.copy(rt.alloc())?;
     assert_copied(&rt, &array, &copy);
     let expected = [Some(1), None, Some(2), Some(4), Some(8)];
-    expect_numbers(&array.view(), &expected)?;
-    expect_numbers(&copy.view(), &expected)?;
+    assert!(rt; shows_numbers(&array.view(), &expected));
+    assert!(rt; shows_numbers(&copy.view(), &expected));
     assert_eq!(rt; copy.view().null_count(), 1);
     Ok(())
 }
@@ -136,13 +136,13 @@ fn copies_lists_in_lists(rt: HostRuntime) -> Result<(), Fail> {
     assert_copied(&rt, &array, &copy);
     let view = copy.view();
     assert_eq!(rt; view.null_count(), 1);
-    expect_item(&view, "item", true)?;
+    assert!(rt; has_item(&view, "item", true));
     assert!(rt; matches!(view.ty(), ViewType::List(_)) && view.len() == 2);
     match (view.list_at(0), view.list_at(1)) {
         (Some(inner), None) => {
             let (first, last) = ([Some(1), None], [Some(2), Some(4), Some(8)]);
-            expect_lists(&inner, &[Some(&first), Some(&[]), Some(&last)])?;
-            expect_item(&inner, "item", true)?;
+            assert!(rt; shows_lists(&inner, &[Some(&first), Some(&[]), Some(&last)]));
+            assert!(rt; has_item(&inner, "item", true));
         }
         _ => panic!(rt; "the second list alone is null"),
     }
@@ -191,7 +191,7 @@ fn makes_and_copies_a_dictionary(rt: HostRuntime) -> Result<(), Fail> {
         assert_eq!(rt; made.len(), 5);
         assert_eq!(rt; made.view().null_count(), 1);
         assert!(rt; matches!(made.view().ty(), ViewType::Dict));
-        expect_texts(&made.view(), &expected)?;
+        assert!(rt; shows_texts(&made.view(), &expected));
     }
     Ok(())
 }

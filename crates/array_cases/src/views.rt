@@ -3,8 +3,8 @@
 use crate::testing::assert_bits;
 use arrays::{Array, DataType, ViewType, validate};
 use samples::{
-    Flat, INT8, INT32, NAMES, Parts, Positions, UINT32, built, coded, expect_bools, expect_encoded,
-    expect_lists, expect_numbers, expect_texts, lists, lists_of, raw,
+    Flat, INT8, INT32, NAMES, Parts, Positions, UINT32, built, coded, lists, lists_of, raw,
+    shows_bools, shows_encoded, shows_lists, shows_numbers, shows_texts,
 };
 use std::alloc::Global;
 use std::test::Fail;
@@ -25,7 +25,7 @@ fn slices_numbers(rt: HostRuntime) -> Result<(), Fail> {
     let whole = array.view();
     assert_eq!(rt; whole.len(), 6);
     let view = whole.slice(3, 3);
-    expect_numbers(&view, &[Some(2), None, Some(3)])?;
+    assert!(rt; shows_numbers(&view, &[Some(2), None, Some(3)]));
     assert_eq!(rt; view.null_count(), 1);
     match view.validity() {
         Some(bits) => {
@@ -46,7 +46,8 @@ fn slices_truth_values(rt: HostRuntime) -> Result<(), Fail> {
     let whole = array.view();
     assert_eq!(rt; whole.len(), 10);
     let (yes, no) = (Some(true), Some(false));
-    expect_bools(&whole.slice(3, 6), &[no, yes, yes, None, no, yes])
+    assert!(rt; shows_bools(&whole.slice(3, 6), &[no, yes, yes, None, no, yes]));
+    Ok(())
 }
 
 /// The text `joe`, which doesn't begin at the first byte.
@@ -60,11 +61,12 @@ const LATE: Parts = (
 fn slices_texts(rt: HostRuntime) -> Result<(), Fail> {
     let array = built(rt.alloc(), NAMES)?;
     let whole = array.view();
-    expect_texts(&whole, &[Some("joe"), None, None, Some("mark")])?;
+    assert!(rt; shows_texts(&whole, &[Some("joe"), None, None, Some("mark")]));
     assert_eq!(rt; whole.len(), 4);
-    expect_texts(&whole.slice(2, 2), &[None, Some("mark")])?;
+    assert!(rt; shows_texts(&whole.slice(2, 2), &[None, Some("mark")]));
     let late = built(rt.alloc(), LATE)?;
-    expect_texts(&late.view(), &[Some("joe")])
+    assert!(rt; shows_texts(&late.view(), &[Some("joe")]));
+    Ok(())
 }
 
 #[test]
@@ -73,7 +75,8 @@ fn slices_lists(rt: HostRuntime) -> Result<(), Fail> {
     let whole = array.view();
     assert_eq!(rt; whole.len(), 4);
     let numbers = [Some(0), Some(-127), Some(127), Some(50)];
-    expect_lists(&whole.slice(1, 3), &[None, Some(&numbers), Some(&[])])
+    assert!(rt; shows_lists(&whole.slice(1, 3), &[None, Some(&numbers), Some(&[])]));
+    Ok(())
 }
 
 /// The texts of the dictionary.
@@ -100,12 +103,13 @@ fn shows_texts_of_a_dictionary(rt: HostRuntime) -> Result<(), Fail> {
     assert_eq!(rt; view.null_count(), 1);
     let codes = [Some(2), Some(0), Some(3), None, Some(1)];
     let texts = [Some("a"), Some("a"), None, None, Some("b")];
-    expect_encoded(&view, &codes, ENTRIES, &texts)?;
+    assert!(rt; shows_encoded(&view, &codes, ENTRIES, &texts));
     assert_eq!(rt; view.len(), 5);
     let part = view.slice(3, 2);
-    expect_encoded(&part, &[None, Some(1)], ENTRIES, &[None, Some("b")])?;
+    assert!(rt; shows_encoded(&part, &[None, Some(1)], ENTRIES, &[None, Some("b")]));
     let past = past(rt.alloc())?;
-    expect_texts(&past.view(), &[Some("x"), None])
+    assert!(rt; shows_texts(&past.view(), &[Some("x"), None]));
+    Ok(())
 }
 
 #[test]

@@ -5,8 +5,7 @@ use kernels::{
     CmpOp, KernelFault, add, compare, is_null, kleene_and, kleene_not, kleene_or, mul, sub,
 };
 use samples::{
-    Flat, INT8, INT16, INT64, Parts, Positions, UINT8, UINT64, built, expect_fault,
-    expect_result_numbers,
+    Flat, INT8, INT16, INT64, Parts, Positions, UINT8, UINT64, built, is_result_of_numbers,
 };
 use std::alloc::Global;
 use std::test::Fail;
@@ -83,7 +82,7 @@ fn numbers_are_exact(rt: HostRuntime) -> Result<(), Fail> {
         let a = built(rt.alloc(), (flat, length, a))?;
         let b = built(rt.alloc(), (flat, length, b))?;
         let results = outcome(rt.alloc(), kernel, &a.view(), &b.view())?;
-        expect_result_numbers(&results, numbers)?;
+        assert!(rt; is_result_of_numbers(&results, numbers), "{numbers:?}");
     }
     Ok(())
 }
@@ -175,7 +174,7 @@ fn what_has_no_meaning_is_refused(rt: HostRuntime) -> Result<(), Fail> {
         let a = built(rt.alloc(), a)?;
         let b = built(rt.alloc(), b)?;
         let answer = outcome(rt.alloc(), kernel, &a.view(), &b.view());
-        expect_fault(answer, fault)?;
+        assert_eq!(rt; answer.err(), Some(fault));
     }
     Ok(())
 }

@@ -3,7 +3,7 @@ ghost use Rattle.arrays.specs.Slot.{is_text};
 
 use arrays::{View, ViewType};
 use pool::{TextPool, recode, unify};
-use samples::{Flat, Parts, built, coded, expect_numbers, expect_texts, slots_of};
+use samples::{Flat, Parts, built, coded, shows_numbers, shows_texts, slots_of};
 use std::process::Abort;
 use std::test::Fail;
 
@@ -37,10 +37,10 @@ fn a_pool_is_cut_back(rt: HostRuntime) -> Result<(), Fail> {
     assert_of_texts(&rt, &view);
     let codes = recode(rt.alloc(), &view, &mut pool)?;
     let expected = [Some(0), Some(0), None, None, Some(1)];
-    expect_numbers(&codes.view(), &expected)?;
+    assert!(rt; shows_numbers(&codes.view(), &expected));
     assert_pooled(&rt, &pool, &["a", "b"]);
     let texts = pool.to_array(rt.alloc())?;
-    expect_texts(&texts.view(), &[Some("a"), Some("b")])?;
+    assert!(rt; shows_texts(&texts.view(), &[Some("a"), Some("b")]));
     assert!(rt; pool.len() >= 1);
     pool.cut_back(1);
     assert_pooled(&rt, &pool, &["a"]);
@@ -75,7 +75,7 @@ fn columns_share_a_pool(rt: HostRuntime) -> Result<(), Fail> {
         let view = column.view();
         assert_of_texts(&rt, &view);
         let codes = recode(rt.alloc(), &view, &mut pool)?;
-        expect_numbers(&codes.view(), &expected)?;
+        assert!(rt; shows_numbers(&codes.view(), &expected));
     }
     assert_pooled(&rt, &pool, &["b", "a"]);
     Ok(())
@@ -87,21 +87,21 @@ fn columns_share_a_dictionary(rt: HostRuntime) -> Result<(), Fail> {
     let whole = column.view();
     assert_of_texts(&rt, &whole);
     let (dictionary, codes) = unify(rt.alloc(), &[whole])?;
-    expect_texts(&dictionary.view(), &[Some("a"), Some("b")])?;
+    assert!(rt; shows_texts(&dictionary.view(), &[Some("a"), Some("b")]));
     assert_eq!(rt; codes.len(), 1);
     let expected = [Some(0), Some(0), None, None, Some(1)];
-    expect_numbers(&codes[0].view(), &expected)?;
-    let (last, all) = (slots_of(&column, 4, 1)?, slots_of(&column, 0, 5)?);
+    assert!(rt; shows_numbers(&codes[0].view(), &expected));
+    let (last, all) = (slots_of(&column, 4, 1), slots_of(&column, 0, 5));
     assert_of_texts(&rt, &last);
     assert_of_texts(&rt, &all);
     let (dictionary, codes) = unify(rt.alloc(), &[last, all])?;
-    expect_texts(&dictionary.view(), &[Some("b"), Some("a")])?;
+    assert!(rt; shows_texts(&dictionary.view(), &[Some("b"), Some("a")]));
     assert_eq!(rt; codes.len(), 2);
-    expect_numbers(&codes[0].view(), &[Some(0)])?;
+    assert!(rt; shows_numbers(&codes[0].view(), &[Some(0)]));
     let expected = [Some(1), Some(1), None, None, Some(0)];
-    expect_numbers(&codes[1].view(), &expected)?;
+    assert!(rt; shows_numbers(&codes[1].view(), &expected));
     let (dictionary, codes) = unify(rt.alloc(), &[])?;
-    expect_texts(&dictionary.view(), &[])?;
+    assert!(rt; shows_texts(&dictionary.view(), &[]));
     assert_eq!(rt; codes.len(), 0);
     Ok(())
 }

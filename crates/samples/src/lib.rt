@@ -12,10 +12,8 @@ pub use columns::{NAMES, coded, lists, lists_of_lists, raw_coded, raw_lists};
 pub use fields::{field, item, lists_of};
 pub use integers::{INT8, INT16, INT32, INT64, UINT8, UINT16, UINT32, UINT64};
 pub use parts::{Flat, Parts, Positions, built, checked, raw};
-pub use results::{
-    expect_fault, expect_result_bools, expect_result_numbers, expect_validity_only_where_null,
-};
+pub use results::{has_validity_only_where_null, is_result_of_bools, is_result_of_numbers};
 pub use slots::{
-    Numbers, expect_bools, expect_encoded, expect_item, expect_lists, expect_numbers,
-    expect_offsets, expect_texts, slots_of,
+    Numbers, has_item, has_offsets, shows_bools, shows_encoded, shows_lists, shows_numbers,
+    shows_texts, slots_of,
 };

@@ -2,10 +2,7 @@
 
 use crate::testing::INT8S;
 use arrays::{Array, DataType, View, validate};
-use samples::{
-    Flat, INT8, Parts, UINT64, built, expect_fault, expect_item, expect_result_numbers, field,
-    raw_lists,
-};
+use samples::{Flat, INT8, Parts, UINT64, built, field, has_item, is_result_of_numbers, raw_lists};
 use select::{SelectFault, concat, filter, take};
 use std::alloc::Global;
 use std::test::Fail;
@@ -78,7 +75,7 @@ fn numbers_are_chosen(rt: HostRuntime) -> Result<(), Fail> {
         let column = built(rt.alloc(), column)?;
         let by = built(rt.alloc(), by)?;
         let rows = chosen(rt.alloc(), choice, &column.view(), &by.view())?;
-        expect_result_numbers(&rows, numbers)?;
+        assert!(rt; is_result_of_numbers(&rows, numbers));
     }
     Ok(())
 }
@@ -151,7 +148,7 @@ fn what_names_no_rows_is_refused(rt: HostRuntime) -> Result<(), Fail> {
         let column = built(rt.alloc(), column)?;
         let by = built(rt.alloc(), by)?;
         let answer = chosen(rt.alloc(), choice, &column.view(), &by.view());
-        expect_fault(answer, fault)?;
+        assert_eq!(rt; answer.err(), Some(fault));
     }
     Ok(())
 }
@@ -168,7 +165,7 @@ fn an_item_keeps_its_name(rt: HostRuntime) -> Result<(), Fail> {
         filter(rt.alloc(), &view, &mask.view())?,
         concat(rt.alloc(), &[lists.view(), lists.view()])?,
     ] {
-        expect_item(&rows.view(), "reading", false)?;
+        assert!(rt; has_item(&rows.view(), "reading", false));
     }
     Ok(())
 }

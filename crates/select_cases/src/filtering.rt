@@ -1,10 +1,10 @@
 //! Tests of rows that a mask keeps.
 
-use crate::testing::{NUMBERS, TRUTHS, expect_codes, expect_items};
+use crate::testing::{NUMBERS, TRUTHS, has_items, is_result_of_codes};
 use arrays::ViewType;
 use samples::{
-    Flat, NAMES, Parts, built, coded, expect_fault, expect_lists, expect_result_bools,
-    expect_result_numbers, expect_texts, lists, slots_of,
+    Flat, NAMES, Parts, built, coded, is_result_of_bools, is_result_of_numbers, lists, shows_lists,
+    shows_texts, slots_of,
 };
 use select::{SelectFault, filter};
 use std::test::Fail;
@@ -13,16 +13,17 @@ use std::test::Fail;
 fn filters_from_any_slot(rt: HostRuntime) -> Result<(), Fail> {
     let numbers = built(rt.alloc(), NUMBERS)?;
     let truths = built(rt.alloc(), TRUTHS)?;
-    let mask = slots_of(&truths, 3, 5)?;
-    let kept = filter(rt.alloc(), &slots_of(&numbers, 3, 5)?, &mask)?;
-    expect_result_numbers(&kept, &[Some(4), None])?;
-    let kept = filter(rt.alloc(), &slots_of(&truths, 2, 5)?, &mask)?;
-    expect_result_bools(&kept, &[Some(true), None])?;
-    let (no_numbers, no_truths) = (slots_of(&numbers, 3, 0)?, slots_of(&truths, 5, 0)?);
+    let mask = slots_of(&truths, 3, 5);
+    let kept = filter(rt.alloc(), &slots_of(&numbers, 3, 5), &mask)?;
+    assert!(rt; is_result_of_numbers(&kept, &[Some(4), None]));
+    let kept = filter(rt.alloc(), &slots_of(&truths, 2, 5), &mask)?;
+    assert!(rt; is_result_of_bools(&kept, &[Some(true), None]));
+    let (no_numbers, no_truths) = (slots_of(&numbers, 3, 0), slots_of(&truths, 5, 0));
     let answer = filter(rt.alloc(), &no_truths, &no_numbers);
-    expect_fault(answer, SelectFault::WrongKind)?;
+    assert_eq!(rt; answer.err(), Some(SelectFault::WrongKind));
     let kept = filter(rt.alloc(), &no_numbers, &no_truths)?;
-    expect_result_numbers(&kept, &[])
+    assert!(rt; is_result_of_numbers(&kept, &[]));
+    Ok(())
 }
 
 /// True, true, null, true.
@@ -37,17 +38,18 @@ fn filters_texts_lists_and_codes(rt: HostRuntime) -> Result<(), Fail> {
     let texts = built(rt.alloc(), NAMES)?;
     let kept = filter(rt.alloc(), &texts.view(), &mask.view())?;
     assert!(rt; kept.view().ty().is_same(ViewType::Utf8));
-    expect_texts(&kept.view(), &[Some("joe"), None, Some("mark")])?;
+    assert!(rt; shows_texts(&kept.view(), &[Some("joe"), None, Some("mark")]));
     let lists = lists(rt.alloc())?;
     let kept = filter(rt.alloc(), &lists.view(), &mask.view())?;
     let first: &[Option<i128>] = &[Some(12), Some(-7), Some(25)];
-    expect_lists(&kept.view(), &[Some(first), None, Some(&[])])?;
+    assert!(rt; shows_lists(&kept.view(), &[Some(first), None, Some(&[])]));
     let offsets = [0, 0, 0, 0, 3, 0, 0, 0, 3, 0, 0, 0, 3, 0, 0, 0];
-    expect_items(&kept.view(), &offsets, 3)?;
+    assert!(rt; has_items(&kept.view(), &offsets, 3));
     let coded = coded(rt.alloc())?;
     let mask = built(rt.alloc(), MASK_OF_CODES)?;
     let kept = filter(rt.alloc(), &coded.view(), &mask.view())?;
     let (a, b) = (Some("a"), Some("b"));
     let codes = [Some(0), Some(3), None];
-    expect_codes(&kept, &codes, &[a, b, a, None], &[a, None, None])
+    assert!(rt; is_result_of_codes(&kept, &codes, &[a, b, a, None], &[a, None, None]));
+    Ok(())
 }

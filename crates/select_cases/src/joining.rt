@@ -1,12 +1,12 @@
 //! Tests of views that are joined.
 
-use crate::testing::{NUMBERS, TRUTHS, expect_codes, expect_items};
+use crate::testing::{NUMBERS, TRUTHS, has_items, is_result_of_codes};
 use arrays::{Array, DataType, View, ViewType, validate};
 use colbits::Buffer;
 use samples::{
     Flat, INT8, INT16, INT32, INT64, NAMES, Parts, Positions, UINT8, UINT16, UINT32, UINT64, built,
-    coded, expect_fault, expect_lists, expect_result_bools, expect_result_numbers, expect_texts,
-    lists, lists_of_lists, raw, slots_of,
+    coded, is_result_of_bools, is_result_of_numbers, lists, lists_of_lists, raw, shows_lists,
+    shows_texts, slots_of,
 };
 use select::{SelectFault, concat};
 use std::alloc::Global;
@@ -21,19 +21,20 @@ fn concat_both<'a>(alloc: Global, first: View<'a>, second: View<'a>) -> Result<A
 fn joins_numbers_and_truths_from_any_slot(rt: HostRuntime) -> Result<(), Fail> {
     let numbers = built(rt.alloc(), NUMBERS)?;
     let pieces = [
-        slots_of(&numbers, 3, 3)?,
-        slots_of(&numbers, 7, 1)?,
-        slots_of(&numbers, 5, 0)?,
-        slots_of(&numbers, 0, 2)?,
+        slots_of(&numbers, 3, 3),
+        slots_of(&numbers, 7, 1),
+        slots_of(&numbers, 5, 0),
+        slots_of(&numbers, 0, 2),
     ];
     let joined = concat(rt.alloc(), &pieces)?;
     let expected = [Some(4), None, Some(6), None, Some(1), Some(2)];
-    expect_result_numbers(&joined, &expected)?;
+    assert!(rt; is_result_of_numbers(&joined, &expected));
     let truths = built(rt.alloc(), TRUTHS)?;
-    let pieces = [slots_of(&truths, 3, 4)?, slots_of(&truths, 1, 2)?];
+    let pieces = [slots_of(&truths, 3, 4), slots_of(&truths, 1, 2)];
     let joined = concat(rt.alloc(), &pieces)?;
     let (f, t) = (Some(false), Some(true));
-    expect_result_bools(&joined, &[t, None, f, None, f, t])
+    assert!(rt; is_result_of_bools(&joined, &[t, None, f, None, f, t]));
+    Ok(())
 }
 
 #[test]
@@ -78,17 +79,18 @@ fn joins_texts_from_any_slot(rt: HostRuntime) -> Result<(), Fail> {
     let joined = concat_both(rt.alloc(), names.view(), accented.view())?;
     assert!(rt; joined.view().ty().is_same(ViewType::Utf8));
     let expected = [Some("joe"), None, None, Some("mark"), Some("é")];
-    expect_texts(&joined.view(), &expected)?;
-    let pieces = [slots_of(&names, 3, 1)?, slots_of(&names, 0, 2)?];
+    assert!(rt; shows_texts(&joined.view(), &expected));
+    let pieces = [slots_of(&names, 3, 1), slots_of(&names, 0, 2)];
     let joined = concat(rt.alloc(), &pieces)?;
     assert!(rt; joined.view().ty().is_same(ViewType::Utf8));
-    expect_texts(&joined.view(), &[Some("mark"), Some("joe"), None])
+    assert!(rt; shows_texts(&joined.view(), &[Some("mark"), Some("joe"), None]));
+    Ok(())
 }
 
 #[test]
 fn joins_lists_without_what_lies_before_them(rt: HostRuntime) -> Result<(), Fail> {
     let lists = lists(rt.alloc())?;
-    let pieces = [slots_of(&lists, 2, 2)?, lists.view()];
+    let pieces = [slots_of(&lists, 2, 2), lists.view()];
     let joined = concat(rt.alloc(), &pieces)?;
     let first: &[Option<i128>] = &[Some(12), Some(-7), Some(25)];
     let third: &[Option<i128>] = &[Some(0), Some(-127), Some(127), Some(50)];
@@ -100,25 +102,26 @@ fn joins_lists_without_what_lies_before_them(rt: HostRuntime) -> Result<(), Fail
         Some(third),
         Some(&[]),
     ];
-    expect_lists(&joined.view(), &expected)?;
+    assert!(rt; shows_lists(&joined.view(), &expected));
     let offsets = [
         0, 0, 0, 0, 4, 0, 0, 0, 4, 0, 0, 0, 7, 0, 0, 0, 7, 0, 0, 0, 11, 0, 0, 0, 11, 0, 0, 0,
     ];
-    expect_items(&joined.view(), &offsets, 11)?;
+    assert!(rt; has_items(&joined.view(), &offsets, 11));
     // A view alone is copied.
-    let joined = concat(rt.alloc(), &[slots_of(&lists, 1, 2)?])?;
-    expect_lists(&joined.view(), &[None, Some(third)])?;
-    expect_items(&joined.view(), b"\0\0\0\0\0\0\0\0\x04\0\0\0", 4)
+    let joined = concat(rt.alloc(), &[slots_of(&lists, 1, 2)])?;
+    assert!(rt; shows_lists(&joined.view(), &[None, Some(third)]));
+    assert!(rt; has_items(&joined.view(), b"\0\0\0\0\0\0\0\0\x04\0\0\0", 4));
+    Ok(())
 }
 
 #[test]
 fn joins_lists_of_lists(rt: HostRuntime) -> Result<(), Fail> {
     let lists = lists_of_lists(rt.alloc())?;
-    let pieces = [slots_of(&lists, 2, 1)?, slots_of(&lists, 0, 2)?];
+    let pieces = [slots_of(&lists, 2, 1), slots_of(&lists, 0, 2)];
     let joined = concat(rt.alloc(), &pieces)?;
     let view = joined.view();
     let offsets = [0, 0, 0, 0, 2, 0, 0, 0, 4, 0, 0, 0, 4, 0, 0, 0];
-    expect_items(&view, &offsets, 4)?;
+    assert!(rt; has_items(&view, &offsets, 4));
     let ViewType::List(_) = view.ty() else {
         panic!(rt; "these are no lists");
     };
@@ -128,25 +131,27 @@ fn joins_lists_of_lists(rt: HostRuntime) -> Result<(), Fail> {
         panic!(rt; "there are two lists");
     };
     let numbers: &[Option<i128>] = &[Some(0), Some(-127), Some(127), Some(50)];
-    expect_lists(&first, &[Some(numbers), Some(&[])])?;
+    assert!(rt; shows_lists(&first, &[Some(numbers), Some(&[])]));
     let numbers: &[Option<i128>] = &[Some(12), Some(-7), Some(25)];
-    expect_lists(&second, &[Some(numbers), None])?;
+    assert!(rt; shows_lists(&second, &[Some(numbers), None]));
     let offsets = [4, 0, 0, 0, 7, 0, 0, 0, 7, 0, 0, 0];
-    expect_items(&second, &offsets, 7)
+    assert!(rt; has_items(&second, &offsets, 7));
+    Ok(())
 }
 
 #[test]
 fn joins_codes_with_both_dictionaries(rt: HostRuntime) -> Result<(), Fail> {
     let coded = coded(rt.alloc())?;
-    let pieces = [coded.view(), slots_of(&coded, 3, 2)?];
+    let pieces = [coded.view(), slots_of(&coded, 3, 2)];
     let joined = concat(rt.alloc(), &pieces)?;
     let codes = [Some(2), Some(0), Some(3), None, Some(1), None, Some(5)];
     let (a, b) = (Some("a"), Some("b"));
     let entries = [a, b, a, None, a, b, a, None];
     let texts = [a, a, None, None, b, None, b];
-    expect_codes(&joined, &codes, &entries, &texts)?;
-    let joined = concat(rt.alloc(), &[slots_of(&coded, 2, 0)?])?;
-    expect_codes(&joined, &[], &[a, b, a, None], &[])
+    assert!(rt; is_result_of_codes(&joined, &codes, &entries, &texts));
+    let joined = concat(rt.alloc(), &[slots_of(&coded, 2, 0)])?;
+    assert!(rt; is_result_of_codes(&joined, &[], &[a, b, a, None], &[]));
+    Ok(())
 }
 
 #[test]
@@ -166,7 +171,7 @@ fn views_of_several_types_are_refused(rt: HostRuntime) -> Result<(), Fail> {
         (lists.view(), deeper.view()),
     ] {
         let answer = concat_both(rt.alloc(), first, second);
-        expect_fault(answer, SelectFault::TypesDiffer)?;
+        assert_eq!(rt; answer.err(), Some(SelectFault::TypesDiffer));
     }
     Ok(())
 }
@@ -188,5 +193,6 @@ fn more_slots_than_offsets_count_are_refused(rt: HostRuntime) -> Result<(), Fail
     }
     assert!(rt; !views.is_empty());
     let answer = concat(rt.alloc(), &views);
-    expect_fault(answer, SelectFault::OffsetsFull)
+    assert_eq!(rt; answer.err(), Some(SelectFault::OffsetsFull));
+    Ok(())
 }

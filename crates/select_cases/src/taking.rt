@@ -1,11 +1,11 @@
 //! Tests of rows that indices name.
 
-use crate::testing::{NUMBERS, TRUTHS, expect_codes, expect_items};
+use crate::testing::{NUMBERS, TRUTHS, has_items, is_result_of_codes};
 use arrays::{Array, DataType, ViewType, validate};
 use colbits::Buffer;
 use samples::{
-    Flat, INT8, INT16, Parts, UINT8, built, coded, expect_lists, expect_result_bools,
-    expect_result_numbers, expect_texts, item, lists, lists_of_lists, raw, slots_of,
+    Flat, INT8, INT16, Parts, UINT8, built, coded, is_result_of_bools, is_result_of_numbers, item,
+    lists, lists_of_lists, raw, shows_lists, shows_texts, slots_of,
 };
 use select::take;
 use std::alloc::Global;
@@ -23,12 +23,13 @@ fn takes_from_any_slot(rt: HostRuntime) -> Result<(), Fail> {
     let numbers = built(rt.alloc(), NUMBERS)?;
     let truths = built(rt.alloc(), TRUTHS)?;
     let indices = built(rt.alloc(), INDICES)?;
-    let indices = slots_of(&indices, 3, 4)?;
-    let rows = take(rt.alloc(), &slots_of(&numbers, 3, 3)?, &indices)?;
-    expect_result_numbers(&rows, &[Some(6), None, None, Some(4)])?;
-    let rows = take(rt.alloc(), &slots_of(&truths, 3, 3)?, &indices)?;
+    let indices = slots_of(&indices, 3, 4);
+    let rows = take(rt.alloc(), &slots_of(&numbers, 3, 3), &indices)?;
+    assert!(rt; is_result_of_numbers(&rows, &[Some(6), None, None, Some(4)]));
+    let rows = take(rt.alloc(), &slots_of(&truths, 3, 3), &indices)?;
     let expected = [Some(false), None, None, Some(true)];
-    expect_result_bools(&rows, &expected)
+    assert!(rt; is_result_of_bools(&rows, &expected));
+    Ok(())
 }
 
 #[test]
@@ -38,14 +39,15 @@ fn takes_lists_without_what_lies_between(rt: HostRuntime) -> Result<(), Fail> {
     let rows = take(rt.alloc(), &lists.view(), &indices.view())?;
     let view = rows.view();
     let first: &[Option<i128>] = &[Some(12), Some(-7), Some(25)];
-    expect_lists(&view, &[Some(&[]), Some(first), None])?;
+    assert!(rt; shows_lists(&view, &[Some(&[]), Some(first), None]));
     let offsets = [0, 0, 0, 0, 0, 0, 0, 0, 3, 0, 0, 0, 3, 0, 0, 0];
-    expect_items(&view, &offsets, 3)?;
+    assert!(rt; has_items(&view, &offsets, 3));
     let one = built(rt.alloc(), (Flat::Int(INT8), 1, &[None, Some(&[1])]))?;
-    let rows = take(rt.alloc(), &slots_of(&lists, 1, 3)?, &one.view())?;
+    let rows = take(rt.alloc(), &slots_of(&lists, 1, 3), &one.view())?;
     let third: &[Option<i128>] = &[Some(0), Some(-127), Some(127), Some(50)];
-    expect_lists(&rows.view(), &[Some(third)])?;
-    expect_items(&rows.view(), &[0, 0, 0, 0, 4, 0, 0, 0], 4)
+    assert!(rt; shows_lists(&rows.view(), &[Some(third)]));
+    assert!(rt; has_items(&rows.view(), &[0, 0, 0, 0, 4, 0, 0, 0], 4));
+    Ok(())
 }
 
 #[test]
@@ -54,7 +56,7 @@ fn takes_lists_of_lists(rt: HostRuntime) -> Result<(), Fail> {
     let indices = built(rt.alloc(), (Flat::Int(INT8), 2, &[None, Some(&[1, 0])]))?;
     let rows = take(rt.alloc(), &lists.view(), &indices.view())?;
     let view = rows.view();
-    expect_items(&view, b"\0\0\0\0\0\0\0\0\x02\0\0\0", 2)?;
+    assert!(rt; has_items(&view, b"\0\0\0\0\0\0\0\0\x02\0\0\0", 2));
     let ViewType::List(_) = view.ty() else {
         panic!(rt; "these are no lists");
     };
@@ -64,8 +66,9 @@ fn takes_lists_of_lists(rt: HostRuntime) -> Result<(), Fail> {
         panic!(rt; "there is a list");
     };
     let first: &[Option<i128>] = &[Some(12), Some(-7), Some(25)];
-    expect_lists(&inner, &[Some(first), None])?;
-    expect_items(&inner, b"\0\0\0\0\x03\0\0\0\x03\0\0\0", 3)
+    assert!(rt; shows_lists(&inner, &[Some(first), None]));
+    assert!(rt; has_items(&inner, b"\0\0\0\0\x03\0\0\0\x03\0\0\0", 3));
+    Ok(())
 }
 
 /// The indices 4, null, 0, 4, 2, 3.
@@ -94,13 +97,14 @@ fn takes_texts_and_codes(rt: HostRuntime) -> Result<(), Fail> {
     let codes = [Some(1), None, Some(2), Some(1), Some(3), None];
     let (a, b) = (Some("a"), Some("b"));
     let texts = [b, None, a, b, None, None];
-    expect_codes(&rows, &codes, &[a, b, a, None], &texts)?;
+    assert!(rt; is_result_of_codes(&rows, &codes, &[a, b, a, None], &texts));
     let names = built(rt.alloc(), FIVE_NAMES)?;
     let rows = take(rt.alloc(), &names.view(), &indices.view())?;
     let (joe, mark, accented) = (Some("joe"), Some("mark"), Some("é"));
     let texts = [accented, None, joe, accented, Some(""), mark];
     assert!(rt; rows.view().ty().is_same(ViewType::Utf8));
-    expect_texts(&rows.view(), &texts)
+    assert!(rt; shows_texts(&rows.view(), &texts));
+    Ok(())
 }
 
 /// So many lists, each of a thousand numbers.
@@ -134,5 +138,6 @@ fn one_list_of_a_large_column_has_its_own_items_alone(rt: HostRuntime) -> Result
     let column = thousands(rt.alloc(), 1000)?;
     let index = built(rt.alloc(), (Flat::Int(INT16), 1, &[None, Some(&[231, 3])]))?;
     let row = take(rt.alloc(), &column.view(), &index.view())?;
-    expect_items(&row.view(), &[0, 0, 0, 0, 232, 3, 0, 0], 1000)
+    assert!(rt; has_items(&row.view(), &[0, 0, 0, 0, 232, 3, 0, 0], 1000));
+    Ok(())
 }

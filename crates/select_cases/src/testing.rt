@@ -1,8 +1,7 @@
 //! What several tests select from, and what they compare selections with.
 
 use arrays::{Array, View, ViewType};
-use samples::{Flat, INT8, Parts, expect_encoded, expect_offsets, expect_validity_only_where_null};
-use std::test::Fail;
+use samples::{Flat, INT8, Parts, has_offsets, has_validity_only_where_null, shows_encoded};
 
 pub(crate) const INT8S: Flat = Flat::Int(INT8);
 
@@ -12,26 +11,22 @@ pub(crate) const NUMBERS: Parts = (INT8S, 8, &[Some(&[0x6f]), Some(&[1, 2, 3, 4,
 /// True, false, true, true, null, false, null, true.
 pub(crate) const TRUTHS: Parts = (Flat::Bool, 8, &[Some(&[0xaf]), Some(&[0xdd])]);
 
-/// Expects the lists of a view to begin and end here, over a child of so many items.
-pub(crate) fn expect_items(view: &View<'_>, offsets: &[u8], items: usize) -> Result<(), Fail> {
-    expect_offsets(view, offsets)?;
+/// Whether the lists of a view begin and end here, over a child of so many items.
+pub(crate) fn has_items(view: &View<'_>, offsets: &[u8], items: usize) -> bool {
     let ViewType::List(_) = view.ty() else {
-        return Err(Fail::new("these are no lists"));
+        return false;
     };
     let child = view.lists().child;
-    if child.len() != items {
-        return Err(Fail::new(format_args!("the child has {} items", child.len())));
-    }
-    expect_validity_only_where_null(&child)
+    has_offsets(view, offsets) && child.len() == items && has_validity_only_where_null(&child)
 }
 
-/// Expects a result to hold these codes, into a dictionary of these entries, and with them these texts.
-pub(crate) fn expect_codes(
+/// Whether a result holds these codes, into a dictionary of these entries, and with them these texts.
+pub(crate) fn is_result_of_codes(
     column: &Array,
     codes: &[Option<i128>],
     entries: &[Option<&str>],
     texts: &[Option<&str>],
-) -> Result<(), Fail> {
-    expect_encoded(&column.view(), codes, entries, texts)?;
-    expect_validity_only_where_null(&column.view())
+) -> bool {
+    shows_encoded(&column.view(), codes, entries, texts)
+        && has_validity_only_where_null(&column.view())
 }

@@ -2,9 +2,7 @@ use crate::of_kernels::{
     INT8S, Kernel, MOST, NO_NUMBERS, QUICK, TWO, UINT64S, WHOLE, WITH_A_NULL, outcome,
 };
 use kernels::{CmpOp, KernelFault, add, compare, is_null, kleene_not};
-use samples::{
-    Flat, Positions, built, coded, expect_fault, expect_numbers, expect_result_bools, slots_of,
-};
+use samples::{Flat, Positions, built, coded, is_result_of_bools, shows_numbers, slots_of};
 use std::test::Fail;
 
 const F: Option<bool> = Some(false);
@@ -92,7 +90,7 @@ fn truth_values_are_decided(rt: HostRuntime) -> Result<(), Fail> {
         let a = built(rt.alloc(), (flat, length, a))?;
         let b = built(rt.alloc(), (flat, length, b))?;
         let results = outcome(rt.alloc(), kernel, &a.view(), &b.view())?;
-        expect_result_bools(&results, truths)?;
+        assert!(rt; is_result_of_bools(&results, truths), "{truths:?}");
     }
     Ok(())
 }
@@ -101,20 +99,21 @@ fn truth_values_are_decided(rt: HostRuntime) -> Result<(), Fail> {
 fn parts_of_columns_are_columns(rt: HostRuntime) -> Result<(), Fail> {
     let a = built(rt.alloc(), WITH_A_NULL)?;
     let b = built(rt.alloc(), WHOLE)?;
-    let (a, b) = (slots_of(&a, 0, 2)?, slots_of(&b, 1, 2)?);
+    let (a, b) = (slots_of(&a, 0, 2), slots_of(&b, 1, 2));
     let sums = add(rt.alloc(), &a, &b)?;
-    expect_numbers(&sums.view(), &[Some(6), None])?;
+    assert!(rt; shows_numbers(&sums.view(), &[Some(6), None]));
     let a = built(rt.alloc(), (INT8S, 4, FROM_3))?;
     let b = built(rt.alloc(), (INT8S, 4, FROM_2))?;
-    let (a, b) = (slots_of(&a, 0, 3)?, slots_of(&b, 1, 3)?);
+    let (a, b) = (slots_of(&a, 0, 3), slots_of(&b, 1, 3));
     let equal = compare(rt.alloc(), CmpOp::Eq, &a, &b)?;
-    expect_result_bools(&equal, &[T, N, T])?;
+    assert!(rt; is_result_of_bools(&equal, &[T, N, T]));
     let quick = built(rt.alloc(), (Flat::Bool, 9, QUICK))?;
-    let negated = kleene_not(rt.alloc(), &slots_of(&quick, 1, 3)?)?;
-    expect_result_bools(&negated, &[N, F, T])?;
+    let negated = kleene_not(rt.alloc(), &slots_of(&quick, 1, 3))?;
+    assert!(rt; is_result_of_bools(&negated, &[N, F, T]));
     let coded = coded(rt.alloc())?;
-    let nulls = is_null(rt.alloc(), &slots_of(&coded, 1, 3)?)?;
-    expect_result_bools(&nulls, &[F, T, T])
+    let nulls = is_null(rt.alloc(), &slots_of(&coded, 1, 3))?;
+    assert!(rt; is_result_of_bools(&nulls, &[F, T, T]));
+    Ok(())
 }
 
 /// The texts a, b, a, a, null.
@@ -144,9 +143,10 @@ fn texts_may_lie_in_a_dictionary(rt: HostRuntime) -> Result<(), Fail> {
         (Kernel::IsNull, coded.view(), plain.view(), [F, F, T, T, F]),
     ] {
         let results = outcome(rt.alloc(), kernel, &a, &b)?;
-        expect_result_bools(&results, &truths)?;
+        assert!(rt; is_result_of_bools(&results, &truths), "{truths:?}");
     }
     let numbers = built(rt.alloc(), TWO)?;
     let kinds = compare(rt.alloc(), CmpOp::Eq, &coded.view(), &numbers.view());
-    expect_fault(kinds, KernelFault::TypesDiffer)
+    assert_eq!(rt; kinds.err(), Some(KernelFault::TypesDiffer));
+    Ok(())
 }
