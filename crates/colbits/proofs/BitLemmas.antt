@@ -1,7 +1,8 @@
 -- Bits of bytes, as a list.
-use Rattle.std.proofs.Common.{◌&&◌, ◌⊎◌, ◌≢◌, ◌^◌, ◌++◌, [], true, inl, inr, not, nat_lt, bit_or, w8, subst, zero-add, lt-ltb, le-ltb, ◌≡◌, ℕ, zero, suc, ◌+◌, ◌*◌, ◌-◌, ◌/◌, ◌%◌, ◌<◌, ◌≤◌, ◌∙◌, List, ◌∷◌, Bool, false, Some, map, length, take, drop, get_or, slice_get, slice_index, nat_eq, ap, sym, refl, arith, add-zero}
+use Rattle.std.proofs.Common.{◌&&◌, ◌⊎◌, ◌≢◌, ◌^◌, ◌++◌, [], true, inl, inr, not, nat_lt, bit_or, subst, zero-add, lt-ltb, le-ltb, ◌≡◌, ℕ, zero, suc, ◌+◌, ◌*◌, ◌-◌, ◌/◌, ◌%◌, ◌<◌, ◌≤◌, ◌∙◌, List, ◌∷◌, Bool, false, Some, map, length, take, drop, get_or, slice_get, slice_index, nat_eq, ap, sym, refl, arith, add-zero}
 use Rattle.std.specs.List.{range_with_len}
-use Rattle.std.specs.Int.{bit_at}
+use Rattle.std.specs.Int.{bit_at, Width}
+use mir.Val.{bits as width}
 use Rattle.std.proofs.lemmas.List.FromFn.{fill_by_all, length-map-range_with_len, get_or-map-range_with_len, take-map-range_with_len}
 use Rattle.std.proofs.lemmas.List.{get_or-drop, get_or_past}
 use Rattle.std.proofs.Math.ListN.{get_or-append}
@@ -83,17 +84,17 @@ listed xs = sym (fill_by_all (bit_of xs) xs (length xs) false refl (λ k h. refl
 pub listed_not : (xs : List Bool) → map (λ i. not (bit_of xs i)) (range_with_len 0 (length xs)) ≡ map not xs
 listed_not xs = sym (map-map not (bit_of xs) (range_with_len 0 (length xs))) ∙ ap (map not) (listed xs)
 
--- one more bit of a byte made 1, or none
-pub bits-set : (f : ℕ → Bool) (byte j : ℕ) → j < 8 → f j ≡ true → ((k : ℕ) → bit_in byte k ≡ (nat_lt k j && f k))
-    → (k : ℕ) → bit_in (bit_or byte (1 * 2 ^ j % 256)) k ≡ (nat_lt k (j + 1) && f k)
-bits-set f byte j small one h k =
+-- one more bit of a number made 1, or none
+pub bits-set : (w : Width) (f : ℕ → Bool) (byte j : ℕ) → j < width w → f j ≡ true → ((k : ℕ) → bit_in byte k ≡ (nat_lt k j && f k))
+    → (k : ℕ) → bit_in (bit_or byte (1 * 2 ^ j % 2 ^ width w)) k ≡ (nat_lt k (j + 1) && f k)
+bits-set w f byte j small one h k =
     elim (cases_eq k j) [
       | inl same ↦ (
-          let set : bit_in (bit_or byte (1 * 2 ^ j % 256)) j ≡ true = ap (λ b. nat_eq b 1) (bit_at_set_same w8 byte j small) in
-          subst (λ i. bit_in (bit_or byte (1 * 2 ^ j % 256)) i ≡ (nat_lt i (j + 1) && f i)) (sym same)
+          let set : bit_in (bit_or byte (1 * 2 ^ j % 2 ^ width w)) j ≡ true = ap (λ b. nat_eq b 1) (bit_at_set_same w byte j small) in
+          subst (λ i. bit_in (bit_or byte (1 * 2 ^ j % 2 ^ width w)) i ≡ (nat_lt i (j + 1) && f i)) (sym same)
           (set ∙ sym (ap (λ b. b && f j) (lt-ltb j (j + 1) (omega arith)) ∙ one)))
       | inr other ↦ (
-          ap (λ b. nat_eq b 1) (bit_at_set_other w8 byte j small k other) ∙ h k ∙ ap (λ b. b && f k) (below-next k j other))
+          ap (λ b. nat_eq b 1) (bit_at_set_other w byte j small k other) ∙ h k ∙ ap (λ b. b && f k) (below-next k j other))
     ]
   where
     below-next : (k j : ℕ) → k ≢ j → nat_lt k j ≡ nat_lt k (j + 1)

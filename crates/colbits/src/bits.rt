@@ -1,8 +1,10 @@
-ghost use Rattle.std.specs.Prelude.{◌≡◌, ◌+◌, ◌*◌, ◌/◌, ◌%◌, ◌<◌, ◌≤◌, List, Bool, Some, length, slice_get, true, count_by, IsTrue, ◌↔◌};
+ghost use Rattle.std.specs.Prelude.{◌≡◌, ℕ, ◌+◌, ◌*◌, ◌/◌, ◌%◌, ◌<◌, ◌≤◌, ◌^◌, ◌&&◌, nat_lt, List, Bool, Some, length, slice_get, true, count_by, IsTrue, ◌↔◌};
 ghost use Rattle.std.specs.List.{All};
-ghost use Rattle.colbits.specs.Bit.{bits};
+ghost use Rattle.colbits.specs.Bit.{bit_in, bits};
+ghost use Rattle.colbits.specs.Bitmap.{bit_of};
 ghost use Rattle.colbits.specs.Slice.{slice};
 
+use crate::word::word_from;
 use std::marker::Model;
 
 /// Bits that lie in borrowed bytes, from any bit on: a validity bitmap or packed booleans.
@@ -57,6 +59,46 @@ impl<'a> Bits<'a> {
         (self.bytes[i / 8 + k / 8] >> (k % 8)) & 1 == 1
     }
 
+    /// Bits `i` to `i + 63`, the first of them least significant: 0 past the last one.
+    pub fn word(&self, i: usize) -> u64
+        ensures { (j : ℕ) → j < 64 → bit_in result j ≡ bit_of self.now (i + j) }
+    {
+        let len = self.len();
+        if i >= len {
+            return 0;
+        }
+        if len - i >= 64 {
+            return self.whole_word(i);
+        }
+        self.few(i, len - i)
+    }
+
+    /// Bits `i` to `i + 63`, all of which are there: `word` without a look at the length.
+    #[inline(always)]
+    pub fn whole_word(&self, i: usize) -> u64
+        requires { i + 64 ≤ length self.now }
+        ensures { (j : ℕ) → j < 64 → bit_in result j ≡ bit_of self.now (i + j) }
+    {
+        let k = i % 8 + self.shift as usize;
+        word_from(self.bytes, i / 8 + k / 8, k % 8)
+    }
+
+    /// The `count` bits from bit `start` on, the first of them least significant.
+    fn few(&self, start: usize, count: usize) -> u64
+        requires within { start + count ≤ length self.now }
+        requires fits { start + count < 2 ^ 64 }
+        requires small { count ≤ 64 }
+        ensures { (j : ℕ) → bit_in result j ≡ (nat_lt j count && bit_of self.now (start + j)) }
+    {
+        let mut word = 0;
+        for j in 0..count {
+            if self.get(start + j) {
+                word |= 1 << j;
+            }
+        }
+        word
+    }
+
     /// The `len` bits from bit `start` on.
     pub fn slice(&self, start: usize, len: usize) -> Bits<'a>
         requires { start + len ≤ length self.now }
@@ -74,13 +116,12 @@ impl<'a> Bits<'a> {
     pub fn count_ones(&self) -> usize
         ensures { result ≡ count_by (λ b. b) self.now }
     {
+        let words = self.len() / 64;
         let mut ones = 0;
-        for i in 0..self.len() {
-            if self.get(i) {
-                ones += 1;
-            }
+        for w in 0..words {
+            ones += self.whole_word(64 * w).count_ones() as usize;
         }
-        ones
+        ones + self.word(64 * words).count_ones() as usize
     }
 
     /// Whether each of the bits is 1. It looks no further than the first that is 0.

@@ -6,6 +6,7 @@ pub mod bits;
 pub mod buffer;
 pub mod memory;
 pub mod places;
+mod word;
 
 pub use bitmap::BitmapBuf;
 pub use bits::Bits;

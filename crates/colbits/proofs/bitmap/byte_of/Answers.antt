@@ -1,4 +1,4 @@
-use Rattle.std.proofs.Common.{◌≡◌, ◌+◌, ◌&&◌, ◌<◌, ℕ, nat_lt, sym, ◌∙◌, subst, arith}
+use Rattle.std.proofs.Common.{◌≡◌, ◌+◌, ◌&&◌, ◌<◌, ℕ, nat_lt, sym, ◌∙◌, subst, arith, w8}
 use Rattle.colbits.specs.Bit.{bit_in}
 use Rattle.colbits.proofs.BitLemmas.{bits-set, bits-left, bits-zero}
 use Rattle.colbits.proofs.bitmap.byte_of.Goals as goal
@@ -14,6 +14,6 @@ loop-j-preserved g c =
     let P = λ (byte : ℕ). (k : ℕ) → bit_in byte k ≡ (nat_lt k (j + 1) && f k) in
     let small : j < 8 = omega arith in
     elim c.if-at.branch [
-      | then-at w ↦ subst P (sym w.byte-is) (bits-set f c.loop-j.byte j small (sym c.at.ensures ∙ w.if-at.true) c.loop-j.invariant)
+      | then-at w ↦ subst P (sym w.byte-is) (bits-set w8 f c.loop-j.byte j small (sym c.at.ensures ∙ w.if-at.true) c.loop-j.invariant)
       | else-at w ↦ subst P (sym w.byte-is) (bits-left f c.loop-j.byte j (sym c.at.ensures ∙ w.if-at.false) c.loop-j.invariant)
     ]

@@ -1,16 +1,38 @@
-use Rattle.std.proofs.Common.{◌+◌, ◌∙◌, false, ap, sym, arith}
-use Rattle.std.proofs.lemmas.Option.{get_or_from_slice_get, slice_get_within}
-use Rattle.std.proofs.lemmas.List.Sums.{count_by_more_yes, count_by_more_no}
+use Rattle.std.proofs.Common.{◌≡◌, ◌≤◌, ◌+◌, ◌*◌, ◌/◌, ◌<◌, ◌∙◌, Bool, List, ℕ, Fits, count_by, length, drop, take, ap, sym, arith, w64}
+use Rattle.std.specs.Int.RustNames.{count_ones}
+use Rattle.std.proofs.lemmas.List.{length-take}
+use Rattle.std.proofs.lemmas.List.Sums.{count_by-le-length}
+use Rattle.colbits.proofs.WordLemmas.{ones-more, ones-of_word, ones-rest}
 use Rattle.colbits.proofs.bits.Bits.count_ones.Goals as goal
-use Rattle.colbits.proofs.bits.Bits.count_ones.Goals.{then-get, else-get}
 
-pub loop-i-preserved : goal.loop-i-preserved
-loop-i-preserved c =
+-- how many of the bits are 1
+abbrev ones_in : List Bool → ℕ
+ones_in = count_by (λ b. b)
+
+pub loop-w-preserved : goal.loop-w-preserved
+loop-w-preserved c =
     let xs = c.args.self.now in
-    let i = c.loop-i.i in
-    let within = slice_get_within xs i _ c.get.ensures in
-    let is = get_or_from_slice_get xs i _ false c.get.ensures in
-    elim c.if-get.branch [
-      | then-get w ↦ (w.ones-is ∙ ap (λ n. n + 1) c.loop-i.invariant.0 ∙ sym (count_by_more_yes (λ b. b) xs i false within (is ∙ w.if-get.true)), omega arith)
-      | else-get w ↦ (w.ones-is ∙ c.loop-i.invariant.0 ∙ sym (count_by_more_no (λ b. b) xs i false within (is ∙ w.if-get.false)), omega arith)
-    ]
+    let n = 64 * c.loop-w.w in
+    let here = ones-of_word xs n c.whole_word.result c.whole_word.type_inv c.whole_word.ensures in
+    let next : 64 * (c.loop-w.w + 1) ≡ n + 64 = omega arith in
+    let sum : c.loop-w.ones + count_ones c.whole_word.result ≡ ones_in (take (64 * (c.loop-w.w + 1)) xs) =
+        omega (arith, here, ones-more xs n, c.loop-w.invariant.0, ap (λ m. ones_in (take m xs)) next) in
+    let few = count_by-le-length (λ b. b) (take 64 (drop n xs)) in
+    (sum, omega (arith, here, few, length-take 64 (drop n xs)))
+
+-- the ones of the whole words, and those of the last
+all-ones : (xs : List Bool) (len w ones word : ℕ) → len ≡ length xs → len / 64 ≤ w → ones ≡ ones_in (take (64 * w) xs)
+    → count_ones word ≡ ones_in (take 64 (drop (64 * w) xs)) → ones + count_ones word ≡ ones_in xs
+all-ones xs len w ones word is end before last = omega (arith, before, last, ones-rest xs (64 * w) (omega arith))
+
+pub returns : goal.returns
+returns c =
+    let xs = c.args.self.now in
+    let words = c.len-words.result / 64 in
+    let at : 64 * words ≡ 64 * c.loop-w.w = omega arith in
+    let here = ones-of_word xs (64 * words) c.word.result c.word.type_inv c.word.ensures ∙ ap (λ n. ones_in (take 64 (drop n xs))) at in
+    all-ones xs c.len-words.result c.loop-w.w c.loop-w.ones c.word.result c.len-words.ensures c.loop-w-test.false c.loop-w.invariant.0 here
+
+pub overflow_add-result : goal.overflow_add-result
+overflow_add-result c =
+    record { fits = omega (arith, returns c, count_by-le-length (λ b. b) c.args.self.now) }
