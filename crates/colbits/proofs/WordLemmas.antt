@@ -1,5 +1,5 @@
 -- Bits of words of 64 bits, and of the eight bytes that hold them.
-use Rattle.std.proofs.Common.{◌≡◌, ℕ, zero, suc, ◌+◌, ◌-◌, ◌*◌, ◌/◌, ◌%◌, ◌^◌, ◌<◌, ◌≤◌, ◌&&◌, ◌||◌, ◌++◌, ◌∷◌, [], ◌∙◌, ◌⊎◌, inl, inr, Bool, true, false, not, List, max, min, map, length, take, drop, get_or, slice_index, nat_eq, nat_lt, bit_and, bit_or, w64, cond, count_by, refl, sym, ap, subst, arith, add-zero, zero-add, length-append, lt-ltb, le-ltb}
+use Rattle.std.proofs.Common.{◌≡◌, ℕ, zero, suc, ◌+◌, ◌-◌, ◌*◌, ◌/◌, ◌%◌, ◌^◌, ◌<◌, ◌≤◌, ◌&&◌, ◌||◌, ◌++◌, ◌∙◌, inl, inr, Bool, false, not, List, max, min, map, length, take, drop, get_or, slice_index, nat_eq, nat_lt, bit_and, bit_or, w64, cond, count_by, refl, sym, ap, subst, arith, add-zero, zero-add, length-append, lt-ltb, le-ltb}
 use Rattle.std.specs.Int.{bit_at, byte_at, byte_worth, bytes_low_first, sum_through, from_le_bytes, to_le_bytes}
 use Rattle.std.specs.Int.RustNames.{count_ones}
 use Rattle.std.specs.List.{range_with_len}
@@ -8,13 +8,14 @@ use Rattle.std.proofs.Math.ListN.{get_or-append}
 use Rattle.std.proofs.lemmas.Nat.{pow-add, pow_pos, shr-shr, shr_split}
 use Rattle.std.proofs.lemmas.Nat.Bits.{bit_at-lt, bit_at-zero, bit_at_above, bit_at_and, bit_at_cat_high, bit_at_cat_low, bit_at_not, bit_at_or, same_from_bits_below}
 use Rattle.std.proofs.lemmas.Bool.{cases_lt}
-use Rattle.std.proofs.lemmas.List.{get_or-append-add, get_or-drop, get_or-take, get_or_past, length-take, map-id, take_all}
+use Rattle.std.proofs.lemmas.List.{get_or-append-add, get_or-drop, get_or-take, get_or_past, length-take, length-take-le, map-id, take_all}
 use Rattle.std.proofs.lemmas.List.Sums.{sum_by-append}
 use Rattle.std.proofs.Math.Seq.{take-add}
 use Rattle.std.proofs.Math.Pow.{pow_mono}
 use Rattle.std.proofs.lemmas.Simd.{mask_l-lt, bit_mask_l, ones-mask_l}
 use lib.Lanes.{mask_l}
 use Rattle.std.proofs.lemmas.List.FromFn.{get_or-map-range_with_len}
+use Rattle.colbits.proofs.BitLemmas.{bytes-whole}
 use Rattle.colbits.specs.Bit.{bit, bit_in}
 use Rattle.colbits.specs.Bitmap.{bit_of}
 
@@ -175,3 +176,68 @@ ones-more xs n = ap (count_by (λ b. b)) (take-add n 64 xs) ∙ sum_by-append (�
 
 pub ones-rest : (xs : List Bool) (n : ℕ) → length xs ≤ n + 64 → count_by (λ b. b) xs ≡ count_by (λ b. b) (take n xs) + count_by (λ b. b) (take 64 (drop n xs))
 ones-rest xs n h = ap (count_by (λ b. b)) (sym (take_all (n + 64) xs h)) ∙ ones-more xs n
+
+-- ---- places that are packed
+
+bit-append_low : (xs ys : List ℕ) (i : ℕ) → i < 8 * length xs → bit (xs ++ ys) i ≡ bit xs i
+unfolding bit
+bit-append_low xs ys i h = ap (λ b. nat_eq (bit_at b (i % 8)) 1) (get_or-append xs ys 0 (i / 8) (omega arith))
+
+bit-append_high : (xs ys : List ℕ) (i : ℕ) → bit (xs ++ ys) (8 * length xs + i) ≡ bit ys i
+unfolding bit
+bit-append_high xs ys i =
+    ap (λ b. nat_eq (bit_at b ((8 * length xs + i) % 8)) 1) (ap (λ k. get_or (xs ++ ys) k 0) (omega arith) ∙ get_or-append-add xs ys (i / 8) 0)
+    ∙ ap (λ k. nat_eq (bit_at (slice_index ys (i / 8)) k) 1) (omega arith)
+
+bit-take : (xs : List ℕ) (n i : ℕ) → i < 8 * n → bit (take n xs) i ≡ bit xs i
+unfolding bit
+bit-take xs n i h = ap (λ b. nat_eq (bit_at b (i % 8)) 1) (get_or-take n xs (i / 8) 0 (omega arith))
+
+-- the places of some bytes, and those of more behind them
+pub places-more : (f : ℕ → Bool) (bytes more : List ℕ) (k m : ℕ) → length bytes ≡ k → ((i : ℕ) → i < 8 * k → bit bytes i ≡ f i)
+    → ((j : ℕ) → j < m → bit more j ≡ f (8 * k + j)) → (i : ℕ) → i < 8 * k + m → bit (bytes ++ more) i ≡ f i
+places-more f bytes more k m long before here i h =
+    elim (cases_lt i (8 * k)) [
+      | inl low ↦ bit-append_low bytes more i (omega arith) ∙ before i low
+      | inr high ↦ (
+          let at : 8 * length bytes + (i - 8 * k) ≡ i = omega arith in
+          let back : 8 * k + (i - 8 * k) ≡ i = omega arith in
+          ap (bit (bytes ++ more)) (sym at) ∙ bit-append_high bytes more (i - 8 * k) ∙ here (i - 8 * k) (omega arith) ∙ ap f back)
+    ]
+
+-- the places of a word behind those of w others
+pub word-more : (f : ℕ → Bool) (bytes : List ℕ) (w word : ℕ) → length bytes ≡ 8 * w → ((i : ℕ) → i < 64 * w → bit bytes i ≡ f i)
+    → ((j : ℕ) → j < 64 → bit_in word j ≡ f (64 * w + j)) → (i : ℕ) → i < 64 * (w + 1) → bit (bytes ++ to_le_bytes w64 word) i ≡ f i
+word-more f bytes w word long before here i h =
+    places-more f bytes (to_le_bytes w64 word) (8 * w) 64 long (λ k low. before k (omega arith))
+    (λ j low. bit-to_le word j low ∙ here j low ∙ ap f (omega arith)) i (omega arith)
+
+-- the bytes of n places: those of w words, and as many of the last as are needed
+pub record ArePlaces (f : ℕ → Bool) (n : ℕ) (bytes : List ℕ) : Type 0 where
+  pub long : length bytes ≡ (n + 7) / 8
+  pub bits_are : (i : ℕ) → bit bytes i ≡ (nat_lt i n && f i)
+
+pub word-last : (f : ℕ → Bool) (bytes : List ℕ) (n w last : ℕ) → length bytes ≡ 8 * w → 64 * w ≤ n → n < 64 * w + 64 → ((i : ℕ) → i < 64 * w → bit bytes i ≡ f i)
+    → ((k : ℕ) → bit_in last k ≡ (nat_lt k (n - 64 * w) && f (64 * w + k))) → ArePlaces f n (bytes ++ take ((n - 64 * w + 7) / 8) (to_le_bytes w64 last))
+word-last f bytes n w last long within end before here =
+    let rest = n - 64 * w in
+    let size = (rest + 7) / 8 in
+    let more = take size (to_le_bytes w64 last) in
+    let few : size ≤ 8 = omega arith in
+    let sized : length (bytes ++ more) ≡ (n + 7) / 8 = omega (arith, length-append bytes more, length-take-le size (to_le_bytes w64 last) few) in
+    let low = λ (i : ℕ) (h : i < 8 * (8 * w)). before i (omega arith) ∙ ap (λ b. b && f i) (sym (lt-ltb i n (omega arith))) in
+    let high = λ (j : ℕ) (h : j < 8 * size). bit-take (to_le_bytes w64 last) size j h ∙ bit-to_le last j (omega arith) ∙ here j
+        ∙ (λ i. same j i && f (at j i)) in
+    record {
+      long = sized;
+      bits_are = bytes-whole f n (bytes ++ more) sized (λ i h. places-more (λ k. nat_lt k n && f k) bytes more (8 * w) (8 * size) long low high i (omega arith));
+    }
+  where
+    at : (j : ℕ) → 64 * w + j ≡ 8 * (8 * w) + j
+    at j = omega arith
+    same : (j : ℕ) → nat_lt j (n - 64 * w) ≡ nat_lt (8 * (8 * w) + j) n
+    same j =
+        elim (cases_lt j (n - 64 * w)) [
+          | inl low ↦ lt-ltb j (n - 64 * w) low ∙ sym (lt-ltb (8 * (8 * w) + j) n (omega arith))
+          | inr high ↦ le-ltb j (n - 64 * w) high ∙ sym (le-ltb (8 * (8 * w) + j) n (omega arith))
+        ]

@@ -39,17 +39,15 @@ impl BitmapBuf {
         ensures { IfOk result (λ m. m ≡ map (P.at places.now) (range_with_len 0 (P.count places.now))) }
     {
         let len = places.len();
-        let count = bytes_for(len);
-        let mut bytes = Vec::with_capacity(alloc, count + 63)?;
-        for k in 0..count {
-            let rest = len - 8 * k;
-            let byte = if rest >= 8 {
-                byte_of(places, 8 * k, 8)
-            } else {
-                byte_of(places, 8 * k, rest)
-            };
-            bytes.push(byte)?;
+        let words = len / 64;
+        let mut bytes = Vec::with_capacity(alloc, bytes_for(len) + 63)?;
+        for w in 0..words {
+            let word = places.word(64 * w);
+            bytes.extend_from_slice(&word.to_le_bytes())?;
         }
+        let rest = len - 64 * words;
+        let last = last_word(places, 64 * words, rest);
+        bytes.extend_from_slice(&last.to_le_bytes()[..bytes_for(rest)])?;
         let buffer = Buffer::from_vec(bytes)?;
         Ok(BitmapBuf { buffer, len })
     }
@@ -115,19 +113,18 @@ fn bytes_for(bits: usize) -> usize
     bits / 8 + usize::from(!bits.is_multiple_of(8))
 }
 
-/// The bits of `count` places from place `start` on, in one byte.
-#[inline(always)]
-fn byte_of<P: Places>(places: &P, start: usize, count: usize) -> u8
+/// The bits of `count` places from place `start` on, the first of them least significant.
+fn last_word<P: Places>(places: &P, start: usize, count: usize) -> u64
     requires within { start + count ≤ P.count places.now }
     requires fits { start + count < 2 ^ 64 }
-    requires small { count ≤ 8 }
+    requires small { count ≤ 64 }
     ensures { (k : ℕ) → bit_in result k ≡ (nat_lt k count && P.at places.now (start + k)) }
 {
-    let mut byte = 0;
+    let mut word = 0;
     for j in 0..count {
         if places.at(start + j) {
-            byte |= 1 << j;
+            word |= 1 << j;
         }
     }
-    byte
+    word
 }

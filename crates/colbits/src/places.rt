@@ -1,6 +1,7 @@
 //! Bits that are told place by place.
 
-ghost use Rattle.std.specs.Prelude.{◌≡◌, ℕ, ◌<◌, ◌&&◌, ◌||◌, Bool, not, length};
+ghost use Rattle.std.specs.Prelude.{◌≡◌, ℕ, ◌+◌, ◌<◌, ◌≤◌, ◌&&◌, ◌||◌, Bool, not, length};
+ghost use Rattle.colbits.specs.Bit.{bit_in};
 ghost use Rattle.colbits.specs.Bitmap.{bit_of};
 
 use crate::bits::Bits;
@@ -20,6 +21,21 @@ pub trait Places {
     fn at(&self, i: usize) -> bool
         requires { i < count self.now }
         ensures { result ≡ at self.now i };
+
+    /// The bits of places `i` to `i + 63`, the first of them least significant.
+    fn word(&self, i: usize) -> u64
+        requires { i + 64 ≤ count self.now }
+        ensures { (j : ℕ) → j < 64 → bit_in result j ≡ at self.now (i + j) }
+    {
+        let _count = self.len();
+        let mut word = 0;
+        for j in 0..64 {
+            if self.at(i + j) {
+                word |= 1 << j;
+            }
+        }
+        word
+    }
 }
 
 /// The bits of a list.
@@ -60,6 +76,11 @@ impl<'a, 'b> Places for Both<'a, 'b> {
     fn at(&self, i: usize) -> bool {
         self.a.get(i) && self.b.get(i)
     }
+
+    #[inline(always)]
+    fn word(&self, i: usize) -> u64 {
+        self.a.whole_word(i) & self.b.whole_word(i)
+    }
 }
 
 /// Where either has 1.
@@ -81,6 +102,11 @@ impl<'a, 'b> Places for Either<'a, 'b> {
 
     fn at(&self, i: usize) -> bool {
         self.a.get(i) || self.b.get(i)
+    }
+
+    #[inline(always)]
+    fn word(&self, i: usize) -> u64 {
+        self.a.whole_word(i) | self.b.whole_word(i)
     }
 }
 
@@ -104,6 +130,11 @@ impl<'a, 'b> Places for Without<'a, 'b> {
     fn at(&self, i: usize) -> bool {
         self.a.get(i) && !self.b.get(i)
     }
+
+    #[inline(always)]
+    fn word(&self, i: usize) -> u64 {
+        self.a.whole_word(i) & !self.b.whole_word(i)
+    }
 }
 
 /// Where there is 0.
@@ -123,5 +154,10 @@ impl<'a, 'b> Places for Flipped<'a, 'b> {
 
     fn at(&self, i: usize) -> bool {
         !self.a.get(i)
+    }
+
+    #[inline(always)]
+    fn word(&self, i: usize) -> u64 {
+        !self.a.whole_word(i)
     }
 }

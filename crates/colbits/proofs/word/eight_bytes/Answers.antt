@@ -1,4 +1,4 @@
-use Rattle.std.proofs.Common.{◌≡◌, ◌∷◌, ◌+◌, ◌∙◌, [], ℕ, List, add-zero, ap, get_or, sym, w64}
+use Rattle.std.proofs.Common.{◌∷◌, ◌+◌, ◌∙◌, [], ℕ, add-zero, ap, get_or, sym, w64}
 use Rattle.std.specs.Int.{from_le_bytes}
 use Rattle.colbits.specs.Bit.{bit_in}
 use Rattle.colbits.proofs.WordLemmas.{eight-bytes}

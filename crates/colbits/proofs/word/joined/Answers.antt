@@ -1,5 +1,5 @@
 use Rattle.colbits.proofs.WordLemmas.{joined-high, joined-low}
-use Rattle.std.proofs.Common.{arith, ◌∙◌, ap, ◌-◌, ◌+◌}
+use Rattle.std.proofs.Common.{arith, ◌∙◌, ap}
 use Rattle.colbits.specs.Bit.{bit_in}
 use Rattle.colbits.proofs.word.joined.Goals as goal
 

@@ -1,44 +1,48 @@
-use Rattle.std.proofs.Common.{◌≡◌, ◌&&◌, ◌∙◌, ◌+◌, ◌*◌, ◌<◌, ◌++◌, ◌∷◌, [], ℕ, List, map, length, nat_lt, ap, sym, subst, arith, inl, inr, length-append}
+use Rattle.std.proofs.Common.{◌≡◌, ◌∙◌, ◌+◌, ◌-◌, ◌*◌, ◌/◌, ◌<◌, ◌++◌, ◌&&◌, nat_lt, ℕ, List, map, length, take, ap, sym, subst, arith, length-append, w64}
+use Rattle.std.specs.Int.{to_le_bytes}
 use Rattle.std.specs.List.{range_with_len}
-use Rattle.colbits.specs.Bit.{bit, bits}
-use Rattle.colbits.proofs.BitLemmas.{byte-more, bytes-whole, bits-filled, past-filled}
+use Rattle.colbits.specs.Bit.{bit, bit_in}
+use Rattle.colbits.proofs.BitLemmas.{bits-filled, past-filled}
+use Rattle.colbits.proofs.WordLemmas.{ArePlaces, word-last, word-more}
 use Rattle.colbits.proofs.bitmap.BitmapBuf.from_places.Goals as goal
-use Rattle.colbits.proofs.bitmap.BitmapBuf.from_places.Goals.{then-rest-ge8, else-rest-ge8}
+use Rattle.colbits.proofs.bitmap.BitmapBuf.from_places.Given as given
 
-pub loop-k-preserved : goal.loop-k-preserved
-loop-k-preserved g c =
+pub loop-w-preserved : goal.loop-w-preserved
+loop-w-preserved g c =
+    let f = g.P.Places.at c.args.places.now in
+    let w = c.loop-w.w in
+    let bytes = c.loop-w.bytes.items in
+    let word = c.word-word.result in
+    let is : c.extend_from_slice.new.self.items ≡ bytes ++ to_le_bytes w64 word = c.in_ok-extend_from_slice.ensures.items ∙ ap (λ b. bytes ++ b) c.to_le_bytes.ensures in (
+      omega (arith, ap length is, length-append bytes (to_le_bytes w64 word)),
+      subst (λ (bs : List ℕ). (i : ℕ) → i < 64 * (w + 1) → bit bs i ≡ f i) (sym is) (word-more f bytes w word c.loop-w.invariant.0 c.loop-w.invariant.1 c.word-word.ensures),
+    )
+
+-- what the buffer holds in the end
+held : (g : given.Over) (c : goal.In_ok-buffer g) → ArePlaces (g.P.Places.at c.args.places.now) c.len-len.result c.in_ok-buffer.buffer
+held g c =
     let f = g.P.Places.at c.args.places.now in
     let n = c.len-len.result in
-    let k = c.loop-k.k in
-    let bytes = c.loop-k.bytes.items in
-    let P = λ (b : ℕ). (i : ℕ) → i < 8 * (k + 1) → bit (bytes ++ b ∷ []) i ≡ (nat_lt i n && f i) in (
-      ap length c.in_ok-push.ensures.items ∙ length-append bytes _ ∙ ap (λ m. m + 1) c.loop-k.invariant.0,
-      subst (λ (bs : List ℕ). (i : ℕ) → i < 8 * (k + 1) → bit bs i ≡ (nat_lt i n && f i)) (sym c.in_ok-push.ensures.items)
-          (elim c.if-rest-ge8.branch [
-            | then-rest-ge8 w ↦ subst P (sym w.byte-is) (byte-more f n bytes w.byte_of-byte.result k 8 c.loop-k.invariant.0 (inl (omega arith)) (omega arith) w.byte_of-byte.ensures c.loop-k.invariant.1)
-            | else-rest-ge8 w ↦ subst P (sym w.byte-is) (byte-more f n bytes w.byte_of-byte-else-rest-ge8.result k _ c.loop-k.invariant.0 (inr (omega arith)) (omega arith) w.byte_of-byte-else-rest-ge8.ensures c.loop-k.invariant.1)
-          ]),
-    )
+    let w = c.loop-w.w in
+    let bytes = c.loop-w.bytes.items in
+    let last = c.last_word-last.result in
+    let end : 64 * w ≡ 64 * (n / 64) = omega arith in
+    let rest : c.bytes_for-2.result ≡ (n - 64 * w + 7) / 8 = omega (arith, c.bytes_for-2.ensures) in
+    let is : c.in_ok-buffer.buffer ≡ bytes ++ take ((n - 64 * w + 7) / 8) (to_le_bytes w64 last) =
+        c.in_ok-buffer.ensures ∙ c.in_ok-extend_from_slice-2.ensures.items ∙ (λ i. bytes ++ take (rest i) (c.to_le_bytes-2.ensures i)) in
+    let here : (k : ℕ) → bit_in last k ≡ (nat_lt k (n - 64 * w) && f (64 * w + k)) =
+        λ k. subst (λ m. bit_in last k ≡ (nat_lt k (n - m) && f (m + k))) (sym end) (c.last_word-last.ensures k) in
+    subst (ArePlaces f n) (sym is) (word-last f bytes n w last c.loop-w.invariant.0 (omega arith) (omega arith) c.loop-w.invariant.1 here)
 
 pub returns : goal.returns
 returns g c =
     let f = g.P.Places.at c.args.places.now in
     let n = c.len-len.result in
-    let bytes = c.loop-k.bytes.items in
-    let end : c.loop-k.k ≡ c.bytes_for-count.result = omega arith in
-    let long = c.loop-k.invariant.0 ∙ end ∙ c.bytes_for-count.ensures in
-    let filled = bytes-whole f n bytes long (subst (λ m. (i : ℕ) → i < 8 * m → bit bytes i ≡ (nat_lt i n && f i)) (sym c.loop-k.invariant.0) c.loop-k.invariant.1) in
-    ap (λ b. bits b 0 n) c.in_ok-buffer.ensures ∙ bits-filled f bytes n filled ∙ ap (λ m. map f (range_with_len 0 m)) c.len-len.ensures
+    let buffer = c.in_ok-buffer.buffer in
+    bits-filled f buffer n (held g c).bits_are ∙ ap (λ m. map f (range_with_len 0 m)) c.len-len.ensures
 
 pub invariant_of-result : goal.invariant_of-result
 invariant_of-result g c =
     let f = g.P.Places.at c.args.places.now in
-    let n = c.len-len.result in
-    let bytes = c.loop-k.bytes.items in
-    let end : c.loop-k.k ≡ c.bytes_for-count.result = omega arith in
-    let long = c.loop-k.invariant.0 ∙ end ∙ c.bytes_for-count.ensures in
-    let filled = bytes-whole f n bytes long (subst (λ m. (i : ℕ) → i < 8 * m → bit bytes i ≡ (nat_lt i n && f i)) (sym c.loop-k.invariant.0) c.loop-k.invariant.1) in
-    record {
-      length_is = ap length c.in_ok-buffer.ensures ∙ long;
-      past = λ k h. ap (λ b. bit b k) c.in_ok-buffer.ensures ∙ past-filled f bytes n filled k h;
-    }
+    let all = held g c in
+    record { length_is = all.long; past = past-filled f c.in_ok-buffer.buffer c.len-len.result all.bits_are; }

@@ -1,8 +1,7 @@
-use Rattle.std.proofs.Common.{◌≡◌, ◌*◌, ◌<◌, ◌&&◌, ℕ, length, nat_lt}
+use Rattle.std.proofs.Common.{◌≡◌, ◌*◌, ◌<◌, ℕ, length}
 use Rattle.colbits.specs.Bit.{bit}
 use Rattle.colbits.proofs.bitmap.BitmapBuf.from_places.Given as goal
 
--- each byte so far has the bits of its places, and 0 past the last one
-abbrev pub invariant-loop-k : goal.invariant-loop-k
-invariant-loop-k g l =
-    (length l.bytes.items ≡ l.k) × ((i : ℕ) → i < 8 * l.k → bit l.bytes.items i ≡ (nat_lt i l.len && g.P.Places.at l.places i))
+-- the bytes so far have the bits of their places
+abbrev pub invariant-loop-w : goal.invariant-loop-w
+invariant-loop-w g l = (length l.bytes.items ≡ 8 * l.w) × ((i : ℕ) → i < 64 * l.w → bit l.bytes.items i ≡ g.P.Places.at l.places i)

@@ -1,4 +1,4 @@
-use Rattle.std.proofs.Common.{◌≡◌, ◌+◌, ◌<◌, ◌∙◌, false, length, get_or, sym, ap, arith}
+use Rattle.std.proofs.Common.{◌+◌, ◌<◌, ◌∙◌, false, length, get_or, sym, ap, arith}
 use Rattle.colbits.specs.Bit.{bit}
 use Rattle.colbits.proofs.BitLemmas.{length-bits, get_or-bits}
 use Rattle.colbits.proofs.bits.Bits.whole_word.Goals as goal

@@ -1,0 +1,6 @@
+use Rattle.std.proofs.Common.{not, ◌∙◌, ap}
+use Rattle.colbits.proofs.WordLemmas.{bit_in-not}
+use Rattle.colbits.proofs.places.FlippedPlaces.word.Goals as goal
+
+pub returns : goal.returns
+returns c = λ j h. bit_in-not _ j c.whole_word.type_inv h ∙ ap not (c.whole_word.ensures j h)
