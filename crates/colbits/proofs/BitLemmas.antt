@@ -126,38 +126,11 @@ bits-left f byte j unset h k = h k ∙ next
 pub bits-zero : (f : ℕ → Bool) (k : ℕ) → bit_in 0 k ≡ (nat_lt k 0 && f k)
 bits-zero f k = ap (λ b. nat_eq b 1) (bit_at-zero k) ∙ sym (ap (λ b. b && f k) (le-ltb k 0 (omega arith)))
 
--- a bit of bytes with one more at the end
-pub bit-before : (bytes : List ℕ) (byte i : ℕ) → i < 8 * length bytes → bit (bytes ++ byte ∷ []) i ≡ bit bytes i
-unfolding bit
-bit-before bytes byte i h = ap (λ b. nat_eq (bit_at b (i % 8)) 1) (get_or-append bytes (byte ∷ []) 0 (i / 8) (omega arith))
-
-pub bit-last : (bytes : List ℕ) (byte i : ℕ) → i / 8 ≡ length bytes → bit (bytes ++ byte ∷ []) i ≡ bit_in byte (i % 8)
-unfolding bit
-bit-last bytes byte i h = ap (λ b. nat_eq (bit_at b (i % 8)) 1) (ap (λ k. get_or (bytes ++ byte ∷ []) k 0) h ∙ get_or-append_seam bytes byte [] 0)
-
+-- no byte lies past the last
 pub bit-past : (bytes : List ℕ) (i : ℕ) → 8 * length bytes ≤ i → bit bytes i ≡ false
 unfolding bit
 bit-past bytes i h =
     ap (λ b. nat_eq (bit_at b (i % 8)) 1) (get_or_past bytes (i / 8) 0 (omega arith)) ∙ ap (λ b. nat_eq b 1) (bit_at-zero (i % 8))
-
--- one more byte of n places
-pub byte-more : (f : ℕ → Bool) (n : ℕ) (bytes : List ℕ) (byte k count : ℕ) → length bytes ≡ k → (8 ≤ count) ⊎ (8 * k + count ≡ n)
-    → 8 * k + count ≤ n → ((i : ℕ) → bit_in byte i ≡ (nat_lt i count && f (8 * k + i))) → ((i : ℕ) → i < 8 * k → bit bytes i ≡ (nat_lt i n && f i))
-    → (i : ℕ) → i < 8 * (k + 1) → bit (bytes ++ byte ∷ []) i ≡ (nat_lt i n && f i)
-byte-more f n bytes byte k count long whole within here before i h =
-    elim (cases_lt i (8 * k)) [
-      | inl below ↦ bit-before bytes byte i (omega arith) ∙ before i below
-      | inr last ↦ (
-          let place : 8 * k + i % 8 ≡ i = omega arith in
-          bit-last bytes byte i (omega arith) ∙ here (i % 8) ∙ ap (λ p. nat_lt (i % 8) count && f p) place ∙ ap (λ b. b && f i) (same last))
-    ]
-  where
-    same : 8 * k ≤ i → nat_lt (i % 8) count ≡ nat_lt i n
-    same last =
-        elim (cases_lt (i % 8) count) [
-          | inl low ↦ lt-ltb (i % 8) count low ∙ sym (lt-ltb i n (omega arith))
-          | inr high ↦ le-ltb (i % 8) count high ∙ sym (le-ltb i n (elim whole [ inl eight ↦ absurd (omega arith) | inr end ↦ omega arith ]))
-        ]
 
 -- bytes for n places have f at each place below n, and 0 at all others
 pub bytes-whole : (f : ℕ → Bool) (n : ℕ) (bytes : List ℕ) → length bytes ≡ (n + 7) / 8 → ((i : ℕ) → i < 8 * length bytes → bit bytes i ≡ (nat_lt i n && f i))

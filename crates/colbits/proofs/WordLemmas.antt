@@ -34,13 +34,13 @@ pub bit_in-and : (a b i : ℕ) → bit_in (bit_and a b) i ≡ (bit_in a i && bit
 bit_in-and a b i =
     ap (λ n. nat_eq n 1) (bit_at_and a b i)
     ∙ by_bit (λ x. nat_eq (min x (bit_at b i)) 1 ≡ (nat_eq x 1 && bit_in b i)) (by_bit (λ y. nat_eq (min 0 y) 1 ≡ (nat_eq 0 1 && nat_eq y 1)) refl refl b i)
-      (by_bit (λ y. nat_eq (min 1 y) 1 ≡ (nat_eq 1 1 && nat_eq y 1)) refl refl b i) a i
+    (by_bit (λ y. nat_eq (min 1 y) 1 ≡ (nat_eq 1 1 && nat_eq y 1)) refl refl b i) a i
 
 pub bit_in-or : (a b i : ℕ) → bit_in (bit_or a b) i ≡ (bit_in a i || bit_in b i)
 bit_in-or a b i =
     ap (λ n. nat_eq n 1) (bit_at_or a b i)
     ∙ by_bit (λ x. nat_eq (max x (bit_at b i)) 1 ≡ (nat_eq x 1 || bit_in b i)) (by_bit (λ y. nat_eq (max 0 y) 1 ≡ (nat_eq 0 1 || nat_eq y 1)) refl refl b i)
-      (by_bit (λ y. nat_eq (max 1 y) 1 ≡ (nat_eq 1 1 || nat_eq y 1)) refl refl b i) a i
+    (by_bit (λ y. nat_eq (max 1 y) 1 ≡ (nat_eq 1 1 || nat_eq y 1)) refl refl b i) a i
 
 pub bit_in-not : (a i : ℕ) → a < 2 ^ 64 → i < 64 → bit_in (2 ^ 64 - 1 - a) i ≡ not (bit_in a i)
 bit_in-not a i fits within =
@@ -72,7 +72,7 @@ pub joined-high : (low high shift i : ℕ) → low < 2 ^ 64 → shift < 64 → i
 joined-high low high shift i fits some within =
     let none : bit_at (low / 2 ^ shift) (64 - shift + i) ≡ 0 = bit_at-shr low shift (64 - shift + i) ∙ bit_at_above low 64 (shift + (64 - shift + i)) fits (omega arith) in
     let set : bit_at (high * 2 ^ (64 - shift) % 2 ^ 64) (64 - shift + i) ≡ bit_at high i =
-        bit_at-mod (high * 2 ^ (64 - shift)) 64 (64 - shift + i) (omega arith) ∙ bit_at-shl_high high (64 - shift) i in
+    bit_at-mod (high * 2 ^ (64 - shift)) 64 (64 - shift + i) (omega arith) ∙ bit_at-shl_high high (64 - shift) i in
     ap (λ n. nat_eq n 1) (bit_at_or (low / 2 ^ shift) _ (64 - shift + i) ∙ omega (arith, none, set))
 
 -- ---- numbers and their bytes
@@ -165,7 +165,7 @@ ones-of_word xs i word fits h =
     let long : length part ≤ 64 = omega (arith, length-take 64 (drop i xs)) in
     let small : mask_l part < 2 ^ 64 = omega (arith, mask_l-lt part, pow_mono long) in
     let place = λ (j : ℕ) (within : j < 64). bit-from_test (bit_at word j) (get_or part j false) (bit_at-lt word j)
-        (h j within ∙ sym (get_or-take 64 (drop i xs) j false within ∙ get_or-drop i xs j false)) ∙ sym (bit_mask_l part j) in
+    (h j within ∙ sym (get_or-take 64 (drop i xs) j false within ∙ get_or-drop i xs j false)) ∙ sym (bit_mask_l part j) in
     ap count_ones (same_from_bits_below 64 word (mask_l part) fits small place)
     ∙ ap (λ ys. count_ones (mask_l ys)) (sym (map-id part))
     ∙ ones-mask_l (λ b. b) part
@@ -227,7 +227,7 @@ word-last f bytes n w last long within end before here =
     let sized : length (bytes ++ more) ≡ (n + 7) / 8 = omega (arith, length-append bytes more, length-take-le size (to_le_bytes w64 last) few) in
     let low = λ (i : ℕ) (h : i < 8 * (8 * w)). before i (omega arith) ∙ ap (λ b. b && f i) (sym (lt-ltb i n (omega arith))) in
     let high = λ (j : ℕ) (h : j < 8 * size). bit-take (to_le_bytes w64 last) size j h ∙ bit-to_le last j (omega arith) ∙ here j
-        ∙ (λ i. same j i && f (at j i)) in
+    ∙ (λ i. same j i && f (at j i)) in
     record {
       long = sized;
       bits_are = bytes-whole f n (bytes ++ more) sized (λ i h. places-more (λ k. nat_lt k n && f k) bytes more (8 * w) (8 * size) long low high i (omega arith));
@@ -235,6 +235,7 @@ word-last f bytes n w last long within end before here =
   where
     at : (j : ℕ) → 64 * w + j ≡ 8 * (8 * w) + j
     at j = omega arith
+
     same : (j : ℕ) → nat_lt j (n - 64 * w) ≡ nat_lt (8 * (8 * w) + j) n
     same j =
         elim (cases_lt j (n - 64 * w)) [

@@ -29,9 +29,9 @@ held g c =
     let end : 64 * w ≡ 64 * (n / 64) = omega arith in
     let rest : c.bytes_for-2.result ≡ (n - 64 * w + 7) / 8 = omega (arith, c.bytes_for-2.ensures) in
     let is : c.in_ok-buffer.buffer ≡ bytes ++ take ((n - 64 * w + 7) / 8) (to_le_bytes w64 last) =
-        c.in_ok-buffer.ensures ∙ c.in_ok-extend_from_slice-2.ensures.items ∙ (λ i. bytes ++ take (rest i) (c.to_le_bytes-2.ensures i)) in
+    c.in_ok-buffer.ensures ∙ c.in_ok-extend_from_slice-2.ensures.items ∙ (λ i. bytes ++ take (rest i) (c.to_le_bytes-2.ensures i)) in
     let here : (k : ℕ) → bit_in last k ≡ (nat_lt k (n - 64 * w) && f (64 * w + k)) =
-        λ k. subst (λ m. bit_in last k ≡ (nat_lt k (n - m) && f (m + k))) (sym end) (c.last_word-last.ensures k) in
+    λ k. subst (λ m. bit_in last k ≡ (nat_lt k (n - m) && f (m + k))) (sym end) (c.last_word-last.ensures k) in
     subst (ArePlaces f n) (sym is) (word-last f bytes n w last c.loop-w.invariant.0 (omega arith) (omega arith) c.loop-w.invariant.1 here)
 
 pub returns : goal.returns
@@ -45,4 +45,4 @@ pub invariant_of-result : goal.invariant_of-result
 invariant_of-result g c =
     let f = g.P.Places.at c.args.places.now in
     let all = held g c in
-    record { length_is = all.long; past = past-filled f c.in_ok-buffer.buffer c.len-len.result all.bits_are; }
+    record { length_is = all.long; past = past-filled f c.in_ok-buffer.buffer c.len-len.result all.bits_are }

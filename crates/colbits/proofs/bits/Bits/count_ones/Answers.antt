@@ -16,7 +16,7 @@ loop-w-preserved c =
     let here = ones-of_word xs n c.whole_word.result c.whole_word.type_inv c.whole_word.ensures in
     let next : 64 * (c.loop-w.w + 1) ≡ n + 64 = omega arith in
     let sum : c.loop-w.ones + count_ones c.whole_word.result ≡ ones_in (take (64 * (c.loop-w.w + 1)) xs) =
-        omega (arith, here, ones-more xs n, c.loop-w.invariant.0, ap (λ m. ones_in (take m xs)) next) in
+    omega (arith, here, ones-more xs n, c.loop-w.invariant.0, ap (λ m. ones_in (take m xs)) next) in
     let few = count_by-le-length (λ b. b) (take 64 (drop n xs)) in
     (sum, omega (arith, here, few, length-take 64 (drop n xs)))
 
