@@ -1,12 +1,10 @@
 -- Bits of bytes, as a list.
-use Rattle.std.proofs.Common.{◌&&◌, ◌⊎◌, ◌≢◌, ◌^◌, ◌++◌, [], true, inl, inr, not, nat_lt, bit_or, subst, zero-add, lt-ltb, le-ltb, ◌≡◌, ℕ, zero, suc, ◌+◌, ◌*◌, ◌-◌, ◌/◌, ◌%◌, ◌<◌, ◌≤◌, ◌∙◌, List, ◌∷◌, Bool, false, Some, map, length, take, drop, get_or, slice_get, slice_index, nat_eq, ap, sym, refl, arith, add-zero}
+use Rattle.std.proofs.Common.{◌&&◌, ◌≢◌, ◌^◌, true, inl, inr, not, nat_lt, bit_or, subst, zero-add, lt-ltb, le-ltb, ◌≡◌, ℕ, zero, suc, ◌+◌, ◌*◌, ◌-◌, ◌/◌, ◌%◌, ◌<◌, ◌≤◌, ◌∙◌, List, ◌∷◌, Bool, false, Some, map, length, take, drop, get_or, slice_get, slice_index, nat_eq, ap, sym, refl, arith, add-zero}
 use Rattle.std.specs.List.{range_with_len}
 use Rattle.std.specs.Int.{bit_at, Width}
 use mir.Val.{bits as width}
 use Rattle.std.proofs.lemmas.List.FromFn.{fill_by_all, length-map-range_with_len, get_or-map-range_with_len, take-map-range_with_len}
 use Rattle.std.proofs.lemmas.List.{get_or-drop, get_or_past}
-use Rattle.std.proofs.Math.ListN.{get_or-append}
-use Rattle.std.proofs.Math.Seq.{get_or-append_seam}
 use Rattle.std.proofs.lemmas.Simd.{map-map}
 use Rattle.std.proofs.lemmas.Bool.{cases_lt, cases_eq}
 use Rattle.std.proofs.lemmas.Nat.Bits.{bit_at-zero, bit_at_set_same, bit_at_set_other}

@@ -1,6 +1,7 @@
 -- Bits of words of 64 bits, and of the eight bytes that hold them.
 use Rattle.std.proofs.Common.{◌≡◌, ℕ, zero, suc, ◌+◌, ◌-◌, ◌*◌, ◌/◌, ◌%◌, ◌^◌, ◌<◌, ◌≤◌, ◌&&◌, ◌||◌, ◌++◌, ◌∙◌, inl, inr, Bool, false, not, List, max, min, map, length, take, drop, get_or, slice_index, nat_eq, nat_lt, bit_and, bit_or, w64, cond, count_by, refl, sym, ap, subst, arith, add-zero, zero-add, length-append, lt-ltb, le-ltb}
-use Rattle.std.specs.Int.{bit_at, byte_at, byte_worth, bytes_low_first, sum_through, from_le_bytes, to_le_bytes}
+use mir.Val.{bits as width}
+use Rattle.std.specs.Int.{Width, bit_at, byte_at, byte_worth, bytes_low_first, sum_through, from_le_bytes, to_le_bytes}
 use Rattle.std.specs.Int.RustNames.{count_ones}
 use Rattle.std.specs.List.{range_with_len}
 use Rattle.std.proofs.Math.Nat.{pow-suc, div-one, mul-le-mul_right}
@@ -42,9 +43,9 @@ bit_in-or a b i =
     ∙ by_bit (λ x. nat_eq (max x (bit_at b i)) 1 ≡ (nat_eq x 1 || bit_in b i)) (by_bit (λ y. nat_eq (max 0 y) 1 ≡ (nat_eq 0 1 || nat_eq y 1)) refl refl b i)
     (by_bit (λ y. nat_eq (max 1 y) 1 ≡ (nat_eq 1 1 || nat_eq y 1)) refl refl b i) a i
 
-pub bit_in-not : (a i : ℕ) → a < 2 ^ 64 → i < 64 → bit_in (2 ^ 64 - 1 - a) i ≡ not (bit_in a i)
-bit_in-not a i fits within =
-    ap (λ n. nat_eq n 1) (bit_at_not w64 a i fits within) ∙ by_bit (λ x. nat_eq (1 - x) 1 ≡ not (nat_eq x 1)) refl refl a i
+pub bit_in-not : (w : Width) (a i : ℕ) → a < 2 ^ width w → i < width w → bit_in (2 ^ width w - 1 - a) i ≡ not (bit_in a i)
+bit_in-not w a i fits within =
+    ap (λ n. nat_eq n 1) (bit_at_not w a i fits within) ∙ by_bit (λ x. nat_eq (1 - x) 1 ≡ not (nat_eq x 1)) refl refl a i
 
 -- ---- shifts
 
@@ -61,19 +62,19 @@ bit_at-shl_high : (n k i : ℕ) → bit_at (n * 2 ^ k) (k + i) ≡ bit_at n i
 bit_at-shl_high n k i =
     ap (λ x. bit_at x (k + i)) (sym (add-zero (n * 2 ^ k))) ∙ bit_at_cat_high n k 0 (k + i) (pow_pos k) (omega arith) ∙ ap (bit_at n) (omega arith)
 
--- the two parts of `low >> shift | high << (64 - shift)`
-pub joined-low : (low high shift i : ℕ) → shift + i < 64 → bit_in (bit_or (low / 2 ^ shift) (high * 2 ^ (64 - shift) % 2 ^ 64)) i ≡ bit_in low (shift + i)
-joined-low low high shift i within =
-    let none : bit_at (high * 2 ^ (64 - shift) % 2 ^ 64) i ≡ 0 = bit_at-mod (high * 2 ^ (64 - shift)) 64 i (omega arith) ∙ bit_at-shl_low high (64 - shift) i (omega arith) in
-    ap (λ n. nat_eq n 1) (bit_at_or (low / 2 ^ shift) _ i ∙ omega (arith, none, bit_at-shr low shift i))
+-- the two parts of `low >> shift | high << (n - shift)` at n bits
+pub joined-low : (n low high shift i : ℕ) → shift + i < n → bit_in (bit_or (low / 2 ^ shift) (high * 2 ^ (n - shift) % 2 ^ n)) i ≡ bit_in low (shift + i)
+joined-low n low high shift i within =
+    let none : bit_at (high * 2 ^ (n - shift) % 2 ^ n) i ≡ 0 = bit_at-mod (high * 2 ^ (n - shift)) n i (omega arith) ∙ bit_at-shl_low high (n - shift) i (omega arith) in
+    ap (λ b. nat_eq b 1) (bit_at_or (low / 2 ^ shift) _ i ∙ omega (arith, none, bit_at-shr low shift i))
 
-pub joined-high : (low high shift i : ℕ) → low < 2 ^ 64 → shift < 64 → i < shift
-    → bit_in (bit_or (low / 2 ^ shift) (high * 2 ^ (64 - shift) % 2 ^ 64)) (64 - shift + i) ≡ bit_in high i
-joined-high low high shift i fits some within =
-    let none : bit_at (low / 2 ^ shift) (64 - shift + i) ≡ 0 = bit_at-shr low shift (64 - shift + i) ∙ bit_at_above low 64 (shift + (64 - shift + i)) fits (omega arith) in
-    let set : bit_at (high * 2 ^ (64 - shift) % 2 ^ 64) (64 - shift + i) ≡ bit_at high i =
-    bit_at-mod (high * 2 ^ (64 - shift)) 64 (64 - shift + i) (omega arith) ∙ bit_at-shl_high high (64 - shift) i in
-    ap (λ n. nat_eq n 1) (bit_at_or (low / 2 ^ shift) _ (64 - shift + i) ∙ omega (arith, none, set))
+pub joined-high : (n low high shift i : ℕ) → low < 2 ^ n → shift < n → i < shift
+    → bit_in (bit_or (low / 2 ^ shift) (high * 2 ^ (n - shift) % 2 ^ n)) (n - shift + i) ≡ bit_in high i
+joined-high n low high shift i fits some within =
+    let none : bit_at (low / 2 ^ shift) (n - shift + i) ≡ 0 = bit_at-shr low shift (n - shift + i) ∙ bit_at_above low n (shift + (n - shift + i)) fits (omega arith) in
+    let set : bit_at (high * 2 ^ (n - shift) % 2 ^ n) (n - shift + i) ≡ bit_at high i =
+    bit_at-mod (high * 2 ^ (n - shift)) n (n - shift + i) (omega arith) ∙ bit_at-shl_high high (n - shift) i in
+    ap (λ b. nat_eq b 1) (bit_at_or (low / 2 ^ shift) _ (n - shift + i) ∙ omega (arith, none, set))
 
 -- ---- numbers and their bytes
 
@@ -189,7 +190,7 @@ bit-append_high xs ys i =
     ap (λ b. nat_eq (bit_at b ((8 * length xs + i) % 8)) 1) (ap (λ k. get_or (xs ++ ys) k 0) (omega arith) ∙ get_or-append-add xs ys (i / 8) 0)
     ∙ ap (λ k. nat_eq (bit_at (slice_index ys (i / 8)) k) 1) (omega arith)
 
-bit-take : (xs : List ℕ) (n i : ℕ) → i < 8 * n → bit (take n xs) i ≡ bit xs i
+pub bit-take : (xs : List ℕ) (n i : ℕ) → i < 8 * n → bit (take n xs) i ≡ bit xs i
 unfolding bit
 bit-take xs n i h = ap (λ b. nat_eq (bit_at b (i % 8)) 1) (get_or-take n xs (i / 8) 0 (omega arith))
 

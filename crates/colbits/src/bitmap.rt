@@ -1,12 +1,12 @@
-ghost use Rattle.std.specs.Prelude.{◌≡◌, ℕ, ◌+◌, ◌/◌, ◌^◌, ◌<◌, ◌≤◌, ◌&&◌, ◌||◌, nat_lt, List, Bool, not, map, length, IfOk};
+ghost use Rattle.std.specs.Prelude.{◌≡◌, ℕ, ◌+◌, ◌*◌, ◌/◌, ◌^◌, ◌<◌, ◌≤◌, ◌&&◌, ◌||◌, nat_lt, List, Bool, not, map, length, IfOk};
 ghost use Rattle.std.specs.List.{range_with_len};
-ghost use Rattle.colbits.specs.Bit.{bit_in, bits};
+ghost use Rattle.colbits.specs.Bit.{bit, bit_in, bits};
 ghost use Rattle.colbits.specs.Bitmap.{place_by_place};
 
 use crate::bits::Bits;
 use crate::buffer::Buffer;
 use crate::memory::NoMemory;
-use crate::places::{Both, Either, Flipped, Given, Places, Without};
+use crate::places::{Both, Either, Flipped, Given, Lanes, Places, Without};
 use std::alloc::Global;
 use std::marker::Model;
 
@@ -38,18 +38,22 @@ impl BitmapBuf {
     pub fn from_places<P: Places>(alloc: Global, places: &P) -> Result<BitmapBuf, NoMemory>
         ensures { IfOk result (λ m. m ≡ map (P.at places.now) (range_with_len 0 (P.count places.now))) }
     {
+        let bytes = Vec::with_capacity(alloc, bytes_for(places.len()) + 63)?;
+        completed(bytes, places, 0)
+    }
+
+    /// The same, 256 places at a time.
+    pub fn from_lanes<P: Lanes>(alloc: Global, places: &P) -> Result<BitmapBuf, NoMemory>
+        ensures { IfOk result (λ m. m ≡ map (P.at places.now) (range_with_len 0 (P.count places.now))) }
+    {
         let len = places.len();
-        let words = len / 64;
+        let blocks = len / 256;
         let mut bytes = Vec::with_capacity(alloc, bytes_for(len) + 63)?;
-        for w in 0..words {
-            let word = places.word(64 * w);
-            bytes.extend_from_slice(&word.to_le_bytes())?;
+        for b in 0..blocks {
+            let lanes = places.lanes(256 * b).to_array();
+            bytes.extend_from_slice(&lanes)?;
         }
-        let rest = len - 64 * words;
-        let last = last_word(places, 64 * words, rest);
-        bytes.extend_from_slice(&last.to_le_bytes()[..bytes_for(rest)])?;
-        let buffer = Buffer::from_vec(bytes)?;
-        Ok(BitmapBuf { buffer, len })
+        completed(bytes, places, 4 * blocks)
     }
 
     /// The bits of the list, packed.
@@ -64,7 +68,7 @@ impl BitmapBuf {
         requires { length a.now ≡ length b.now }
         ensures { IfOk result (λ m. m ≡ place_by_place ◌&&◌ a.now b.now) }
     {
-        BitmapBuf::from_places(alloc, &Both { a, b })
+        BitmapBuf::from_lanes(alloc, &Both { a, b })
     }
 
     /// Where either has 1.
@@ -72,7 +76,7 @@ impl BitmapBuf {
         requires { length a.now ≡ length b.now }
         ensures { IfOk result (λ m. m ≡ place_by_place ◌||◌ a.now b.now) }
     {
-        BitmapBuf::from_places(alloc, &Either { a, b })
+        BitmapBuf::from_lanes(alloc, &Either { a, b })
     }
 
     /// Where the first has 1 and the second 0.
@@ -80,14 +84,14 @@ impl BitmapBuf {
         requires { length a.now ≡ length b.now }
         ensures { IfOk result (λ m. m ≡ place_by_place (λ x y. x && not y) a.now b.now) }
     {
-        BitmapBuf::from_places(alloc, &Without { a, b })
+        BitmapBuf::from_lanes(alloc, &Without { a, b })
     }
 
     /// Where there is 0.
     pub fn not(alloc: Global, a: &Bits<'_>) -> Result<BitmapBuf, NoMemory>
         ensures { IfOk result (λ m. m ≡ map not a.now) }
     {
-        BitmapBuf::from_places(alloc, &Flipped { a })
+        BitmapBuf::from_lanes(alloc, &Flipped { a })
     }
 
     /// The bits.
@@ -111,6 +115,27 @@ fn bytes_for(bits: usize) -> usize
     ensures { result ≡ (bits + 7) / 8 }
 {
     bits / 8 + usize::from(!bits.is_multiple_of(8))
+}
+
+/// The bitmap of the places, of which those of so many words are packed.
+fn completed<P: Places>(packed: Vec<u8>, places: &P, from: usize) -> Result<BitmapBuf, NoMemory>
+    requires within { 64 * from ≤ P.count places.now }
+    requires packed { length packed.items ≡ 8 * from }
+    requires bits { (i : ℕ) → i < 64 * from → bit packed.items i ≡ P.at places.now i }
+    ensures { IfOk result (λ m. m ≡ map (P.at places.now) (range_with_len 0 (P.count places.now))) }
+{
+    let len = places.len();
+    let words = len / 64;
+    let mut bytes = packed;
+    for w in from..words {
+        let word = places.word(64 * w);
+        bytes.extend_from_slice(&word.to_le_bytes())?;
+    }
+    let rest = len - 64 * words;
+    let last = last_word(places, 64 * words, rest);
+    bytes.extend_from_slice(&last.to_le_bytes()[..bytes_for(rest)])?;
+    let buffer = Buffer::from_vec(bytes)?;
+    Ok(BitmapBuf { buffer, len })
 }
 
 /// The bits of `count` places from place `start` on, the first of them least significant.

@@ -1,11 +1,13 @@
 ghost use Rattle.std.specs.Prelude.{◌≡◌, ℕ, ◌+◌, ◌*◌, ◌/◌, ◌%◌, ◌<◌, ◌≤◌, ◌^◌, ◌&&◌, nat_lt, List, Bool, Some, length, slice_get, true, count_by, IsTrue, ◌↔◌};
 ghost use Rattle.std.specs.List.{All};
-ghost use Rattle.colbits.specs.Bit.{bit_in, bits};
+ghost use Rattle.colbits.specs.Bit.{bit, bit_in, bits};
 ghost use Rattle.colbits.specs.Bitmap.{bit_of};
 ghost use Rattle.colbits.specs.Slice.{slice};
 
+use crate::lanes::lanes_from;
 use crate::word::word_from;
 use std::marker::Model;
+use std::simd::prelude::*;
 
 /// Bits that lie in borrowed bytes, from any bit on: a validity bitmap or packed booleans.
 ///
@@ -81,6 +83,16 @@ impl<'a> Bits<'a> {
     {
         let k = i % 8 + self.shift as usize;
         word_from(self.bytes, i / 8 + k / 8, k % 8)
+    }
+
+    /// Bits `i` to `i + 255`, all of which are there, eight to a lane.
+    #[inline(always)]
+    pub fn whole_lanes(&self, i: usize) -> u8x32
+        requires { i + 256 ≤ length self.now }
+        ensures { (j : ℕ) → j < 256 → bit result j ≡ bit_of self.now (i + j) }
+    {
+        let k = i % 8 + self.shift as usize;
+        lanes_from(self.bytes, i / 8 + k / 8, (k % 8) as u8)
     }
 
     /// The `count` bits from bit `start` on, the first of them least significant.

@@ -4,6 +4,7 @@
 pub mod bitmap;
 pub mod bits;
 pub mod buffer;
+mod lanes;
 pub mod memory;
 pub mod places;
 mod word;
@@ -12,4 +13,4 @@ pub use bitmap::BitmapBuf;
 pub use bits::Bits;
 pub use buffer::Buffer;
 pub use memory::NoMemory;
-pub use places::Places;
+pub use places::{Lanes, Places};

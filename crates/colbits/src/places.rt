@@ -1,10 +1,12 @@
 //! Bits that are told place by place.
 
 ghost use Rattle.std.specs.Prelude.{◌≡◌, ℕ, ◌+◌, ◌<◌, ◌≤◌, ◌&&◌, ◌||◌, Bool, not, length};
-ghost use Rattle.colbits.specs.Bit.{bit_in};
+ghost use Rattle.colbits.specs.Bit.{bit, bit_in};
 ghost use Rattle.colbits.specs.Bitmap.{bit_of};
 
 use crate::bits::Bits;
+use crate::lanes::{both, either, flipped};
+use std::simd::prelude::*;
 
 /// A bit for each place, told one by one, in any order and as often as it is asked: what
 /// [`BitmapBuf::from_places`](crate::BitmapBuf::from_places) packs.
@@ -36,6 +38,14 @@ pub trait Places {
         }
         word
     }
+}
+
+/// Places whose bits are told 256 at a time too: what [`BitmapBuf::from_lanes`](crate::BitmapBuf::from_lanes) packs.
+pub trait Lanes: Places {
+    /// The bits of places `i` to `i + 255`, eight to a lane, the first of them least significant.
+    fn lanes(&self, i: usize) -> u8x32
+        requires { i + 256 ≤ Self.count self.now }
+        ensures { (j : ℕ) → j < 256 → bit result j ≡ Self.at self.now (i + j) };
 }
 
 /// The bits of a list.
@@ -83,6 +93,13 @@ impl<'a, 'b> Places for Both<'a, 'b> {
     }
 }
 
+impl<'a, 'b> Lanes for Both<'a, 'b> {
+    #[inline(always)]
+    fn lanes(&self, i: usize) -> u8x32 {
+        both(self.a.whole_lanes(i), self.b.whole_lanes(i))
+    }
+}
+
 /// Where either has 1.
 #[derive(Drop)]
 pub(crate) struct Either<'a, 'b> {
@@ -107,6 +124,13 @@ impl<'a, 'b> Places for Either<'a, 'b> {
     #[inline(always)]
     fn word(&self, i: usize) -> u64 {
         self.a.whole_word(i) | self.b.whole_word(i)
+    }
+}
+
+impl<'a, 'b> Lanes for Either<'a, 'b> {
+    #[inline(always)]
+    fn lanes(&self, i: usize) -> u8x32 {
+        either(self.a.whole_lanes(i), self.b.whole_lanes(i))
     }
 }
 
@@ -137,6 +161,13 @@ impl<'a, 'b> Places for Without<'a, 'b> {
     }
 }
 
+impl<'a, 'b> Lanes for Without<'a, 'b> {
+    #[inline(always)]
+    fn lanes(&self, i: usize) -> u8x32 {
+        both(self.a.whole_lanes(i), flipped(self.b.whole_lanes(i)))
+    }
+}
+
 /// Where there is 0.
 #[derive(Drop)]
 pub(crate) struct Flipped<'a, 'b> {
@@ -159,5 +190,12 @@ impl<'a, 'b> Places for Flipped<'a, 'b> {
     #[inline(always)]
     fn word(&self, i: usize) -> u64 {
         !self.a.whole_word(i)
+    }
+}
+
+impl<'a, 'b> Lanes for Flipped<'a, 'b> {
+    #[inline(always)]
+    fn lanes(&self, i: usize) -> u8x32 {
+        flipped(self.a.whole_lanes(i))
     }
 }

@@ -1,6 +1,6 @@
-use Rattle.std.proofs.Common.{not, ◌∙◌, ap}
+use Rattle.std.proofs.Common.{w64, not, ◌∙◌, ap}
 use Rattle.colbits.proofs.WordLemmas.{bit_in-not}
 use Rattle.colbits.proofs.places.FlippedPlaces.word.Goals as goal
 
 pub returns : goal.returns
-returns c = λ j h. bit_in-not _ j c.whole_word.type_inv h ∙ ap not (c.whole_word.ensures j h)
+returns c = λ j h. bit_in-not w64 _ j c.whole_word.type_inv h ∙ ap not (c.whole_word.ensures j h)

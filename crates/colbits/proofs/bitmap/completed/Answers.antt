@@ -4,8 +4,8 @@ use Rattle.std.specs.List.{range_with_len}
 use Rattle.colbits.specs.Bit.{bit, bit_in}
 use Rattle.colbits.proofs.BitLemmas.{bits-filled, past-filled}
 use Rattle.colbits.proofs.WordLemmas.{ArePlaces, word-last, word-more}
-use Rattle.colbits.proofs.bitmap.BitmapBuf.from_places.Goals as goal
-use Rattle.colbits.proofs.bitmap.BitmapBuf.from_places.Given as given
+use Rattle.colbits.proofs.bitmap.completed.Goals as goal
+use Rattle.colbits.proofs.bitmap.completed.Given as given
 
 pub loop-w-preserved : goal.loop-w-preserved
 loop-w-preserved g c =
@@ -27,7 +27,7 @@ held g c =
     let bytes = c.loop-w.bytes.items in
     let last = c.last_word-last.result in
     let end : 64 * w ≡ 64 * (n / 64) = omega arith in
-    let rest : c.bytes_for-2.result ≡ (n - 64 * w + 7) / 8 = omega (arith, c.bytes_for-2.ensures) in
+    let rest : c.bytes_for.result ≡ (n - 64 * w + 7) / 8 = omega (arith, c.bytes_for.ensures) in
     let is : c.in_ok-buffer.buffer ≡ bytes ++ take ((n - 64 * w + 7) / 8) (to_le_bytes w64 last) =
     c.in_ok-buffer.ensures ∙ c.in_ok-extend_from_slice-2.ensures.items ∙ (λ i. bytes ++ take (rest i) (c.to_le_bytes-2.ensures i)) in
     let here : (k : ℕ) → bit_in last k ≡ (nat_lt k (n - 64 * w) && f (64 * w + k)) =
