@@ -272,6 +272,63 @@ fn stats(a: &Numbers) -> Stats {
     stats
 }
 
+/// Bits that lie in bytes from any bit on.
+struct Packed {
+    bytes: Vec<u8>,
+    start: usize,
+    len: usize,
+}
+
+impl Packed {
+    /// Bits in no order.
+    fn new(len: usize, start: usize, salt: u32) -> Packed {
+        let bytes = (0..len as u32 / 8 + 9).map(|k| (spread(k.wrapping_add(salt)) >> 24) as u8).collect();
+        Packed { bytes, start, len }
+    }
+
+    /// The whole words from the first bit of the first byte on.
+    fn words(&self) -> impl Iterator<Item = u64> + '_ {
+        let words = self.bytes.chunks_exact(8).map(|word| u64::from_le_bytes(word.try_into().unwrap()));
+        words.take(self.len / 64)
+    }
+
+    /// The whole words from a bit within the first byte on.
+    fn words_within(&self) -> impl Iterator<Item = u64> + '_ {
+        let next = self.bytes[8..].chunks(8);
+        self.words().zip(next).map(|(low, next)| low >> self.start | u64::from(next[0]) << (64 - self.start))
+    }
+
+    /// The bits behind the whole words, as a word.
+    fn rest(&self) -> u64 {
+        let first = self.len / 64 * 64;
+        let bit = |i: usize| u64::from(self.bytes[(self.start + i) / 8] >> ((self.start + i) % 8) & 1);
+        (first..self.len).fold(0, |word, i| word | bit(i) << (i - first))
+    }
+
+    /// The words of what is made of each two bits, the bits past the last 0.
+    fn combined(&self, other: &Packed, both: impl Fn(u64, u64) -> u64) -> Vec<u64> {
+        let mut words = Vec::with_capacity(self.len.div_ceil(64));
+        if self.start == 0 && other.start == 0 {
+            words.extend(self.words().zip(other.words()).map(|(a, b)| both(a, b)));
+        } else {
+            words.extend(self.words_within().zip(other.words_within()).map(|(a, b)| both(a, b)));
+        }
+        if self.len % 64 > 0 {
+            words.push(both(self.rest(), other.rest()) & ((1 << (self.len % 64)) - 1));
+        }
+        words
+    }
+}
+
+fn ones(words: impl Iterator<Item = u64>) -> usize {
+    words.map(|word| word.count_ones() as usize).sum()
+}
+
+/// How many of the bits are 0.
+fn null_count(bits: &Packed) -> usize {
+    bits.len - ones(bits.words()) - bits.rest().count_ones() as usize
+}
+
 /// The result of the last of so many calls.
 fn last_of<T>(times: u32, mut work: impl FnMut() -> T) -> T {
     let mut last = None;
@@ -325,6 +382,22 @@ fn main() {
             let (least, greatest) = stats.ends.unwrap_or((0, 0));
             println!("{} {} {least} {greatest}", stats.nulls, stats.sum);
             return;
+        }
+        "null-count" => {
+            let mut bytes = validity(rows, 3).0;
+            bytes.resize(rows / 8 + 9, 0);
+            let bits = Packed { bytes, start: 0, len: rows };
+            last_of(times, || null_count(black_box(&bits)))
+        }
+        "bits-and" | "bits-or" | "bits-not" | "bits-and-within" => {
+            let (first, second) = if words[1] == "bits-and-within" { (3, 5) } else { (0, 0) };
+            let (a, b) = (Packed::new(rows, first, 3), Packed::new(rows, second, 8));
+            let result = last_of(times, || match words[1].as_str() {
+                "bits-or" => black_box(&a).combined(black_box(&b), |a, b| a | b),
+                "bits-not" => black_box(&a).combined(black_box(&a), |a, _| !a),
+                _ => black_box(&a).combined(black_box(&b), |a, b| a & b),
+            });
+            ones(result.into_iter())
         }
         _ => {
             let (a, b) = (truths(rows, 3), truths(rows, 8));

@@ -1,5 +1,7 @@
 //! Tests of buffers and bitmaps.
 
+mod words;
+
 use crate::testing::{AllBut, assert_bits};
 use colbits::{BitmapBuf, Buffer, NoMemory};
 use std::process::Abort;

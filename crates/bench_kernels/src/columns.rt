@@ -52,12 +52,18 @@ pub fn rows(alloc: Global, count: u32) -> Option<Array> {
 
 /// Truth values, each twentieth of them null.
 pub fn truths(alloc: Global, rows: u32, salt: u32) -> Option<Array> {
-    let mut bytes = Vec::with_capacity(alloc, rows as usize / 8 + 64).ok()?;
-    for k in 0..rows / 8 + 1 {
-        let noise = spread(k.wrapping_add(salt));
-        bytes.push((noise >> 24) as u8).ok()?;
-    }
+    let bytes = noise(alloc, rows / 8 + 1, salt)?;
     column(alloc, DataType::Bool, rows, salt, bytes)
+}
+
+/// So many bytes whose bits are in no order.
+pub fn noise(alloc: Global, count: u32, salt: u32) -> Option<Vec<u8>> {
+    let mut bytes = Vec::with_capacity(alloc, count as usize + 63).ok()?;
+    for k in 0..count {
+        let number = spread(k.wrapping_add(salt));
+        bytes.push((number >> 24) as u8).ok()?;
+    }
+    Some(bytes)
 }
 
 /// Texts of up to six digits, each twentieth of them null. Mostly two neighbours are the same.

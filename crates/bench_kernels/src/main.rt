@@ -1,17 +1,21 @@
 //! `bench_kernels KERNEL ROWS TIMES` makes two columns of so many rows, runs a kernel on them so many times, and
 //! prints how many slots of the last result are null. KERNEL is `add`, `less`, `equal` (of texts), `and`, `filter`, `take`,
 //! `take-texts`, `recode-few` or `recode-many`. `bench_kernels concat ROWS TIMES` puts
-//! sixteen columns of so many rows together behind one another, and `bench_kernels stats-of ROWS TIMES` prints the
-//! statistics of one column.
+//! sixteen columns of so many rows together behind one another, `bench_kernels stats-of ROWS TIMES` prints the
+//! statistics of one column, and `bench_kernels null-count ROWS TIMES` how many of its slots are null.
+//! `bench_kernels BITS ROWS TIMES`, with `bits-and`, `bits-or`, `bits-not` or `bits-and-within` (a byte) for BITS, makes a bitmap
+//! of two of so many bits, and prints how many bits of the last are 1.
 //!
 //! Without arguments it runs each kernel once, on few rows.
 #![tactic(auto)]
 
+mod bitmaps;
 mod columns;
 mod kernel;
 mod pieces;
 mod statistics;
 
+use bitmaps::{Bitwise, nulls_counted};
 use group::Scalar;
 use kernel::Kernel;
 use statistics::stats_after;
@@ -34,6 +38,9 @@ const EACH: [Kernel; 9] = [
     Kernel::RecodeMany,
 ];
 
+/// All operations on bitmaps.
+const EACH_BITWISE: [Bitwise; 4] = [Bitwise::And, Bitwise::Or, Bitwise::Not, Bitwise::AndWithin];
+
 fn main(rt: HostRuntime) -> ExitCode {
     let Ok(mut words) = env::args(&rt) else {
         return refused(&rt);
@@ -48,10 +55,19 @@ fn main(rt: HostRuntime) -> ExitCode {
     match name.as_str() {
         "stats-of" => tell_stats(&rt, rows, times),
         "concat" => tell(&rt, pieces::nulls_after(rt.alloc(), rows, times)),
+        "null-count" => tell(&rt, nulls_counted(rt.alloc(), rows, times)),
         name => match Kernel::of_name(name) {
             Some(kernel) => tell(&rt, kernel.nulls_after(rt.alloc(), rows, times)),
-            None => refused(&rt),
+            None => tell_bits(&rt, name, rows, times),
         },
+    }
+}
+
+// Makes bitmaps so many times and prints how many bits of the last are 1.
+fn tell_bits(rt: &HostRuntime, name: &str, len: u32, times: u32) -> ExitCode {
+    match Bitwise::of_name(name) {
+        Some(bitwise) => tell(rt, bitwise.ones_after(rt.alloc(), len, times)),
+        None => refused(rt),
     }
 }
 
@@ -60,12 +76,15 @@ fn number(word: Option<String>) -> Option<u32> {
     word?.as_str().parse().ok()
 }
 
-// Runs each kernel once.
+// Runs each once.
 fn try_each(rt: &HostRuntime) -> ExitCode {
     for kernel in EACH {
         if tell(rt, kernel.nulls_after(rt.alloc(), FEW, 1)) != ExitCode::SUCCESS {
             return ExitCode::FAILURE;
         }
+    }
+    if try_each_bitwise(rt) != ExitCode::SUCCESS {
+        return ExitCode::FAILURE;
     }
     if tell(rt, pieces::nulls_after(rt.alloc(), FEW, 1)) != ExitCode::SUCCESS {
         return ExitCode::FAILURE;
@@ -73,13 +92,23 @@ fn try_each(rt: &HostRuntime) -> ExitCode {
     tell_stats(rt, FEW, 1)
 }
 
-// Prints how many nulls the result has, if there is one.
-fn tell(rt: &HostRuntime, nulls: Option<usize>) -> ExitCode {
-    let Some(nulls) = nulls else {
+// Runs each operation on bitmaps once, and counts nulls.
+fn try_each_bitwise(rt: &HostRuntime) -> ExitCode {
+    for bitwise in EACH_BITWISE {
+        if tell(rt, bitwise.ones_after(rt.alloc(), FEW, 1)) != ExitCode::SUCCESS {
+            return ExitCode::FAILURE;
+        }
+    }
+    tell(rt, nulls_counted(rt.alloc(), FEW, 1))
+}
+
+// Prints how many nulls the result has, or how many ones, if there is one.
+fn tell(rt: &HostRuntime, count: Option<usize>) -> ExitCode {
+    let Some(count) = count else {
         let _ = eprintln!(rt; "bench_kernels: no memory");
         return ExitCode::FAILURE;
     };
-    match println!(rt; "{nulls}") {
+    match println!(rt; "{count}") {
         Ok(()) => ExitCode::SUCCESS,
         Err(_) => ExitCode::FAILURE,
     }
