@@ -63,7 +63,7 @@ fn assert_count(rt: &impl Abort, start: usize, len: usize)
     let bytes = surrounded(start, len, 5);
     let bits = Bits::new(&bytes, start, len);
     let mut ones = 0usize;
-    for i in 0..len {
+    for i in 0..bits.len() {
         ones = ones.wrapping_add(usize::from(bits.get(i)));
     }
     assert_eq!(rt;
@@ -142,6 +142,7 @@ impl Operation {
         let (left, right) = (surrounded(starts.0, len, 7), surrounded(starts.1, len, 11));
         let a = Bits::new(&left, starts.0, len);
         let b = Bits::new(&right, starts.1, len);
+        assert!(rt; a.len() == b.len());
         match self.of_bitmaps(alloc, &a, &b) {
             Ok(bitmap) => self.assert_bytes(rt, bitmap.into_buffer().bytes(), &a, &b),
             Err(_) => panic!(rt; "there is no memory"),
