@@ -62,6 +62,7 @@ impl<'a> Bits<'a> {
     }
 
     /// Bits `i` to `i + 63`, the first of them least significant: 0 past the last one.
+    #[inline(always)]
     pub fn word(&self, i: usize) -> u64
         ensures { (j : ℕ) → j < 64 → bit_in result j ≡ bit_of self.now (i + j) }
     {
@@ -96,6 +97,7 @@ impl<'a> Bits<'a> {
     }
 
     /// The `count` bits from bit `start` on, the first of them least significant.
+    #[inline(never)]
     fn few(&self, start: usize, count: usize) -> u64
         requires within { start + count ≤ length self.now }
         requires fits { start + count < 2 ^ 64 }

@@ -7,12 +7,12 @@ use Rattle.colbits.specs.Bitmap.{bit_of}
 use Rattle.arrays.specs.Item.{Item, null, boolean}
 use Rattle.arrays.specs.Kind as kind
 use Rattle.arrays.specs.Kind.{Kind, same_kind}
-use Rattle.arrays.specs.Seen.{Seen, valid_at}
+use Rattle.arrays.specs.Seen.{Seen, valid_at, valid_in}
 use Rattle.arrays.specs.Slot.{item_of_bool}
 use Rattle.arrays.specs.Values.{HasBits}
 use Rattle.arrays.proofs.ListLemmas.{map-range-below}
 use Rattle.kernels.specs.Kleene.{truth_of, negation, truths_fault}
-use Rattle.kernels.specs.Known.{truth_in, stored_truth, knows_false}
+use Rattle.kernels.specs.Known.{truth_in, stored_truth, knows_false, knows_true}
 use Rattle.kernels.specs.Truth.{truth_at, truths_of}
 use Rattle.kernels.specs.declared.fault.KernelFault.{KernelFault}
 use Rattle.kernels.specs.declared.fault.KernelFault.TheVariants.{TypesDiffer}
@@ -66,3 +66,27 @@ truths-negation xs =
     (λ i below. not_place (truth_in xs (0 + i)))
     ∙ sym (map-map (λ x. item_of_bool (option_map not (truth_of x))) item_at (range_with_len 0 (length xs)))
     ∙ ap negation (listed xs null)
+
+-- ---- words
+
+-- a slot is true where it is valid and its bit is 1, and false where it is valid and its bit is 0
+pub stored-true : (validity : Option (List Bool)) (bits : List Bool) (i : ℕ) → (valid_in validity i && bit_of bits i) ≡ knows_true (stored_truth validity bits i)
+stored-true validity bits i = by_case (valid_in validity i)
+  where
+    by_case : (b : Bool) → (b && bit_of bits i) ≡ knows_true (cond b (Some (bit_of bits i)) None)
+    by_case true = refl
+    by_case false = refl
+
+pub stored-false : (validity : Option (List Bool)) (bits : List Bool) (i : ℕ) → (valid_in validity i && not (bit_of bits i)) ≡ knows_false (stored_truth validity bits i)
+stored-false validity bits i = by_case (valid_in validity i)
+  where
+    by_case : (b : Bool) → (b && not (bit_of bits i)) ≡ knows_false (cond b (Some (bit_of bits i)) None)
+    by_case true = refl
+    by_case false = refl
+
+pub stored-known : (validity : Option (List Bool)) (bits : List Bool) (i : ℕ) → valid_in validity i ≡ is_some (stored_truth validity bits i)
+stored-known validity bits i = by_case (valid_in validity i)
+  where
+    by_case : (b : Bool) → b ≡ is_some (cond b (Some (bit_of bits i)) None)
+    by_case true = refl
+    by_case false = refl

@@ -1,7 +1,9 @@
 //! Three-valued logic: null is a truth value that isn't known.
 
-ghost use Rattle.std.specs.Prelude.{◌≡◌, ◌<◌, Some, None, is_none, is_some, length, ℕ, IfOk, IfErr};
+ghost use Rattle.std.specs.Prelude.{◌≡◌, ◌+◌, ◌<◌, ◌≤◌, Some, None, is_none, is_some, length, ℕ, IfOk, IfErr};
+ghost use Rattle.colbits.specs.Bit.{bit_in};
 ghost use Rattle.arrays.specs.Kind as kind;
+ghost use Rattle.arrays.specs.Seen.{valid_in};
 ghost use Rattle.arrays.specs.Kind.{same_kind};
 ghost use Rattle.kernels.specs.Fault.{IsKernelFault};
 ghost use Rattle.kernels.specs.Kleene.{conjunction, disjunction, negation, truth_fault, truths_fault};
@@ -136,6 +138,35 @@ impl<'a, 'b> Truth<'a, 'b> {
     {
         is_valid(&self.validity, i) & !self.bits.get(i)
     }
+
+    /// Which of slots `i` to `i + 63` are valid, the first of them least significant.
+    #[inline(always)]
+    fn valid_word(&self, i: usize) -> u64
+        ensures { (j : ℕ) → j < 64 → bit_in result j ≡ valid_in self.now.validity (i + j) }
+    {
+        match &self.validity {
+            None => u64::MAX,
+            Some(bits) => bits.word(i),
+        }
+    }
+
+    /// Which of these are true, likewise.
+    #[inline(always)]
+    fn true_word(&self, i: usize) -> u64
+        requires { i + 64 ≤ length self.now.view.now.items }
+        ensures { (j : ℕ) → j < 64 → bit_in result j ≡ knows_true (truth_in self.now.view.now.items (i + j)) }
+    {
+        self.valid_word(i) & self.bits.whole_word(i)
+    }
+
+    /// Which of these are false.
+    #[inline(always)]
+    fn false_word(&self, i: usize) -> u64
+        requires { i + 64 ≤ length self.now.view.now.items }
+        ensures { (j : ℕ) → j < 64 → bit_in result j ≡ knows_false (truth_in self.now.view.now.items (i + j)) }
+    {
+        self.valid_word(i) & !self.bits.whole_word(i)
+    }
 }
 
 /// The truth values of two views of one length.
@@ -176,6 +207,18 @@ impl<'a, 'b, 'c, 'd> Truths for And<'a, 'b, 'c, 'd> {
         let Operands { a, b } = &self.operands;
         a.is_true(i) & b.is_true(i)
     }
+
+    #[inline(always)]
+    fn known_word(&self, i: usize) -> u64 {
+        let Operands { a, b } = &self.operands;
+        (a.true_word(i) & b.true_word(i)) | (a.false_word(i) | b.false_word(i))
+    }
+
+    #[inline(always)]
+    fn value_word(&self, i: usize) -> u64 {
+        let Operands { a, b } = &self.operands;
+        a.true_word(i) & b.true_word(i)
+    }
 }
 
 /// Whether either is true.
@@ -208,6 +251,18 @@ impl<'a, 'b, 'c, 'd> Truths for Or<'a, 'b, 'c, 'd> {
         let Operands { a, b } = &self.operands;
         a.is_true(i) | b.is_true(i)
     }
+
+    #[inline(always)]
+    fn known_word(&self, i: usize) -> u64 {
+        let Operands { a, b } = &self.operands;
+        (a.false_word(i) & b.false_word(i)) | (a.true_word(i) | b.true_word(i))
+    }
+
+    #[inline(always)]
+    fn value_word(&self, i: usize) -> u64 {
+        let Operands { a, b } = &self.operands;
+        a.true_word(i) | b.true_word(i)
+    }
 }
 
 /// Whether it is false.
@@ -237,5 +292,15 @@ impl<'a, 'b> Truths for Not<'a, 'b> {
 
     fn value(&self, i: usize) -> bool {
         self.operand.is_false(i)
+    }
+
+    #[inline(always)]
+    fn known_word(&self, i: usize) -> u64 {
+        self.operand.valid_word(i)
+    }
+
+    #[inline(always)]
+    fn value_word(&self, i: usize) -> u64 {
+        self.operand.false_word(i)
     }
 }

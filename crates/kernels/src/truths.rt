@@ -1,7 +1,8 @@
 //! Arrays of truth values, told place by place.
 
-ghost use Rattle.std.specs.Prelude.{◌≡◌, ◌<◌, ◌≤◌, ℕ, Bool, true, map, IfOk, IsTrue};
+ghost use Rattle.std.specs.Prelude.{◌≡◌, ◌+◌, ◌<◌, ◌≤◌, ℕ, Bool, true, map, IfOk, IsTrue};
 ghost use Rattle.std.specs.List.{range_with_len};
+ghost use Rattle.colbits.specs.Bit.{bit_in};
 ghost use Rattle.arrays.specs.Kind as kind;
 ghost use Rattle.arrays.specs.Shown.{kept, shown};
 ghost use Rattle.kernels.specs.Truth.{truths_of};
@@ -38,6 +39,36 @@ pub(crate) trait Truths {
     fn value(&self, i: usize) -> bool
         requires { i < count self.now }
         ensures { result ≡ value self.now i };
+
+    /// Whether there is a value at each of places `i` to `i + 63`, the first of them least significant.
+    fn known_word(&self, i: usize) -> u64
+        requires { i + 64 ≤ count self.now }
+        ensures { (j : ℕ) → j < 64 → bit_in result j ≡ known self.now (i + j) }
+    {
+        let _slots = self.slots();
+        let mut word = 0;
+        for j in 0..64 {
+            if self.known(i + j) {
+                word |= 1 << j;
+            }
+        }
+        word
+    }
+
+    /// The values at these places, likewise.
+    fn value_word(&self, i: usize) -> u64
+        requires { i + 64 ≤ count self.now }
+        ensures { (j : ℕ) → j < 64 → bit_in result j ≡ value self.now (i + j) }
+    {
+        let _slots = self.slots();
+        let mut word = 0;
+        for j in 0..64 {
+            if self.value(i + j) {
+                word |= 1 << j;
+            }
+        }
+        word
+    }
 }
 
 /// The array of the truth values.
@@ -83,6 +114,11 @@ impl<'a, T: Truths> Places for Known<'a, T> {
     fn at(&self, i: usize) -> bool {
         self.truths.known(i)
     }
+
+    #[inline(always)]
+    fn word(&self, i: usize) -> u64 {
+        self.truths.known_word(i)
+    }
 }
 
 /// Where the value is true.
@@ -102,5 +138,10 @@ impl<'a, T: Truths> Places for Values<'a, T> {
 
     fn at(&self, i: usize) -> bool {
         self.truths.value(i)
+    }
+
+    #[inline(always)]
+    fn word(&self, i: usize) -> u64 {
+        self.truths.value_word(i)
     }
 }
