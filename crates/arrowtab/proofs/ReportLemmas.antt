@@ -1,5 +1,5 @@
 -- Shares of workers, entry by entry, and lines, one after the other.
-use Rattle.std.proofs.Common.{◌≡◌, ◌∙◌, ℕ, ◌+◌, ◌<◌, append_assoc, zero-add, add-zero, length-take, List, [], ◌∷◌, ◌++◌, length, get_or, map, take, Bool, Some, option_map, cond, eqb, ap, sym, refl, arith, eq-eqb, length-append, string_bytes}
+use Rattle.std.proofs.Common.{◌≡◌, ◌∙◌, ℕ, ◌+◌, ◌<◌, append_assoc, zero-add, add-zero, length-take, List, [], ◌∷◌, ◌++◌, length, get_or, map, take, Some, option_map, cond, eqb, ap, sym, refl, arith, eq-eqb, length-append, string_bytes}
 use Rattle.std.specs.List.{flat_map, range_with_len, enumerate_from, slice_get}
 use Rattle.std.proofs.lemmas.Bool.{ne_eqb}
 use Rattle.std.proofs.lemmas.Grind.{flat_map-append}
@@ -8,12 +8,14 @@ use Rattle.std.proofs.lemmas.List.Elements.{filter-append}
 use Rattle.std.proofs.lemmas.List.FromFn.{map-range_with_len_more}
 use Rattle.std.proofs.lemmas.Option.{slice_get-get_or, slice_get-map}
 use Rattle.arrays.specs.Item.{Item}
-use Rattle.arrays.specs.Shape.{FieldShape, Shape, field, field_of, field_step, fields_of, shape_of, shape_step}
-use Rattle.types.specs.declared.data_type.DataType.{DataType, DataType-F, out-DataType, fold_out-DataType, map-DataType}
-use Rattle.types.specs.declared.data_type.DataType.TheVariants.{Int, Bool as Bool', Utf8, List', Dict, outs-Bool, outs-Utf8, outs-List', outs-Dict}
+use Rattle.arrays.specs.Shape.{FieldShape, Shape, field_of, field_step, fields_of, kind_of_field, name_of, shape_step}
 use Rattle.types.specs.declared.data_type.Field.{Field, fold_out-Field, out-Field}
-use Rattle.types.specs.declared.int_type.IntType.{IntType}
-use Rattle.arrowtab.specs.Shown.{worker_lines, worker_line, column_lines, field_line}
+use Rattle.types.specs.Kind.{kind_of}
+use Rattle.types.proofs.ShapeLemmas.{kind_of_field-field_of}
+use Rattle.group.specs.Stats.{least_of, nulls_of, sum_of}
+use Rattle.group.specs.Summary.{AreStats, scalar_item}
+use Rattle.group.specs.declared.stats.ColumnStats.{ColumnStats}
+use Rattle.arrowtab.specs.Shown.{worker_lines, worker_line, column_line, column_lines, field_line}
 use Rattle.arrays.specs.Batch.{Table, column}
 use Rattle.shared.specs.History.{History, book, rows, of}
 use Rattle.shared.proofs.HistoryLemmas.{rows-push}
@@ -85,23 +87,23 @@ worker_lines-more n h =
 pub one_line_more : (first before now lines line : List ℕ) → now ≡ before ++ line → before ≡ first ++ lines → now ≡ first ++ (lines ++ line)
 one_line_more first before now lines line added so_far = added ∙ ap (λ t. t ++ line) so_far ∙ append_assoc first lines line
 
--- ---- columns of other types than integers
+-- ---- the line of a field
 
-shape_at : (t : DataType) (level : DataType-F DataType Field) → out-DataType t ≡ level → shape_of t ≡ shape_step (map-DataType DataType Field Shape FieldShape shape_of field_of level)
-shape_at t level is =
-    fold_out-DataType Shape FieldShape shape_step field_step t ∙ ap (λ o. shape_step (map-DataType DataType Field Shape FieldShape shape_of field_of o)) is
+name_of-field_of : (f : Field) → name_of (field_of f) ≡ string_bytes (out-Field f).name
+name_of-field_of f = ap name_of (fold_out-Field Shape FieldShape shape_step field_step f)
 
-no_line_at : (t : DataType) (name : List ℕ) (nullable : Bool) (items : List Item) → ((x : IntType) → t ≡ Int x → ⊥) → field_line (field name nullable (shape_of t)) items ≡ []
-no_line_at (Int x) name nullable items not_int = absurd (not_int x refl)
-no_line_at Bool' name nullable items not_int = ap (λ (s : Shape). field_line (field name nullable s) items) (shape_at Bool' _ outs-Bool)
-no_line_at Utf8 name nullable items not_int = ap (λ (s : Shape). field_line (field name nullable s) items) (shape_at Utf8 _ outs-Utf8)
-no_line_at (List' b item n ty) name nullable items not_int = ap (λ (s : Shape). field_line (field name nullable s) items) (shape_at (List' b item n ty) _ (outs-List' b item n ty))
-no_line_at Dict name nullable items not_int = ap (λ (s : Shape). field_line (field name nullable s) items) (shape_at Dict _ outs-Dict)
-
-pub no_line : (f : Field) (items : List Item) → ((x : IntType) → (out-Field f).ty ≡ Int x → ⊥) → field_line (field_of f) items ≡ []
-no_line f items not_int =
-    ap (λ (s : FieldShape). field_line s items) (fold_out-Field Shape FieldShape shape_step field_step f)
-    ∙ no_line_at (out-Field f).ty (string_bytes (out-Field f).name) (out-Field f).nullable items not_int
+pub field_line-stats : (f : Field) (s : ColumnStats) (items : List Item) → AreStats s (kind_of_field (field_of f)) items
+    → column_line (string_bytes (out-Field f).name) (kind_of (out-Field f).ty) s.rows s.nulls s.sum (option_map scalar_item s.least) (option_map scalar_item s.greatest)
+    ≡ field_line (field_of f) items
+field_line-stats f s items are =
+    let k = kind_of_field (field_of f) in
+    ap (λ name. column_line name (kind_of (out-Field f).ty) s.rows s.nulls s.sum (option_map scalar_item s.least) (option_map scalar_item s.greatest)) (sym (name_of-field_of f))
+    ∙ ap (λ l. column_line (name_of (field_of f)) l s.rows s.nulls s.sum (option_map scalar_item s.least) (option_map scalar_item s.greatest)) (sym (kind_of_field-field_of f))
+    ∙ ap (λ n. column_line (name_of (field_of f)) k n s.nulls s.sum (option_map scalar_item s.least) (option_map scalar_item s.greatest)) are.rows
+    ∙ ap (λ n. column_line (name_of (field_of f)) k (length items) n s.sum (option_map scalar_item s.least) (option_map scalar_item s.greatest)) are.nulls
+    ∙ ap (λ z. column_line (name_of (field_of f)) k (length items) (nulls_of items) z (option_map scalar_item s.least) (option_map scalar_item s.greatest)) are.sum
+    ∙ ap (λ x. column_line (name_of (field_of f)) k (length items) (nulls_of items) (sum_of k items) x (option_map scalar_item s.greatest)) are.least
+    ∙ ap (λ x. column_line (name_of (field_of f)) k (length items) (nulls_of items) (sum_of k items) (least_of k items) x) are.greatest
 
 -- ---- the lines of columns
 

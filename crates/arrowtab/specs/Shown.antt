@@ -3,16 +3,16 @@ use Rattle.std.specs.Prelude.{ℕ, ℤ, List, [], ◌∷◌, ◌++◌, length, B
 use Rattle.std.specs.List.{enumerate_from, range_with_len, flat_map}
 use Rattle.std.specs.Fmt.{decimal, signed_decimal}
 use Rattle.json.specs.Print.{quoted}
-use Rattle.types.specs.declared.int_type.IntType.{IntType}
 use Rattle.types.specs.declared.int_type.Width.{Width}
 use Rattle.types.specs.declared.int_type.Width.TheVariants.{W8, W16, W32, W64}
+use Rattle.arrays.specs.Item as item
 use Rattle.arrays.specs.Item.{Item}
-use Rattle.arrays.specs.Shape as shape
-use Rattle.arrays.specs.Shape.{FieldShape, field}
+use Rattle.arrays.specs.Kind as kind
+use Rattle.arrays.specs.Kind.{Kind}
+use Rattle.arrays.specs.Shape.{FieldShape, kind_of_field, name_of}
 use Rattle.arrays.specs.Batch.{Table, column}
 use Rattle.shared.specs.History.{History, rows, of}
-use Rattle.group.specs.Stats.{nulls_of, total_of}
-use Rattle.group.specs.Numbers.{least_number, greatest_number}
+use Rattle.group.specs.Stats.{nulls_of, sum_of, least_of, greatest_of}
 
 -- ---- lines over plain numbers and texts
 
@@ -37,26 +37,51 @@ type_name W32 false = codes "uint32"
 type_name W64 true = codes "int64"
 type_name W64 false = codes "uint64"
 
--- A number in decimal, a dash where there is none.
-abbrev pub statistic : Option ℤ → List ℕ
-statistic None = codes "-"
-statistic (Some number) = signed_decimal number
+-- The name of a type. A column of texts is dictionary-encoded at the top, and plain inside lists.
+abbrev pub kind_name : Kind → List ℕ
+kind_name (kind.int t) = type_name t.bits t.signed
+kind_name kind.boolean = codes "bool"
+kind_name kind.utf8 = codes "utf8"
+kind_name (kind.list k) = codes "list<" ++ kind_name k ++ codes ">"
+kind_name kind.dict = codes "dictionary"
 
-abbrev pub column_line : List ℕ → IntType → ℕ → ℕ → ℤ → Option ℤ → Option ℤ → List ℕ
-column_line name ty count nulls sum least greatest = line (
-    quoted name ++ codes " " ++ type_name ty.bits ty.signed
+abbrev pub truth_text : Bool → List ℕ
+truth_text true = codes "true"
+truth_text false = codes "false"
+
+-- A value: a number in decimal, a text as a JSON string. Lists have none.
+abbrev pub cell : Item → List ℕ
+cell item.null = codes "null"
+cell (item.int z) = signed_decimal z
+cell (item.boolean b) = truth_text b
+cell (item.text t) = quoted t
+cell (item.list xs) = []
+
+-- A statistic, a dash where there is none.
+abbrev pub sum_text : Option ℤ → List ℕ
+sum_text None = codes "-"
+sum_text (Some number) = signed_decimal number
+
+abbrev pub value_text : Option Item → List ℕ
+value_text None = codes "-"
+value_text (Some value) = cell value
+
+abbrev pub column_line : List ℕ → Kind → ℕ → ℕ → Option ℤ → Option Item → Option Item → List ℕ
+column_line name k count nulls sum least greatest = line (
+    quoted name ++ codes " " ++ kind_name k
     ++ codes " rows=" ++ decimal count
     ++ codes " nulls=" ++ decimal nulls
-    ++ codes " sum=" ++ signed_decimal sum
-    ++ codes " least=" ++ statistic least
-    ++ codes " greatest=" ++ statistic greatest)
+    ++ codes " sum=" ++ sum_text sum
+    ++ codes " least=" ++ value_text least
+    ++ codes " greatest=" ++ value_text greatest)
 
 -- ---- the whole text
 
--- The line of a column with these items. A column of another type than integers has none.
+-- The line of a column with these items.
 abbrev pub field_line : FieldShape → List Item → List ℕ
-field_line (field name nullable (shape.int ty)) items = column_line name ty (length items) (nulls_of items) (total_of items) (least_number items) (greatest_number items)
-field_line f items = []
+field_line f items =
+    let k = kind_of_field f in
+    column_line (name_of f) k (length items) (nulls_of items) (sum_of k items) (least_of k items) (greatest_of k items)
 
 -- A line for each worker: how many tables it added, and how many rows they have together.
 abbrev pub worker_lines : ℕ → History → List ℕ

@@ -8,7 +8,7 @@ ghost use Rattle.shared.specs.Cause.{IsLegal};
 ghost use Rattle.shared.specs.History.{of, rows};
 
 use crate::text::{column_line, push_rows_line, push_worker_line};
-use arrays::{DataType, Field};
+use arrays::Field;
 use colbits::NoMemory;
 use group::ColumnStats;
 use shared::Version;
@@ -69,7 +69,7 @@ fn push_column_lines(alloc: Global, text: &mut String, version: &Version) -> Res
     Ok(())
 }
 
-/// Adds the line of a column with these statistics, where it is one of integers: another has none.
+/// Adds the line of a column with these statistics.
 fn push_field_line(
     alloc: Global,
     text: &mut String,
@@ -80,10 +80,7 @@ fn push_field_line(
         → OnOk result (string_bytes text.new
         ≡ string_bytes text.old ++ field_line (field_of field.now) items) }
 {
-    let DataType::Int(ty) = &field.ty else {
-        return Ok(());
-    };
-    let line = column_line(alloc, &field.name, *ty, stats)?;
+    let line = column_line(alloc, &field.name, &field.ty, stats)?;
     text.push_str(line.as_str())?;
     Ok(())
 }

@@ -1,14 +1,11 @@
 //! The lines of `stats`, as text.
-ghost use Rattle.std.specs.Prelude.{◌≡◌, ◌++◌, ℤ, List, Option, OnOk, IfOk, length, option_map, string_bytes};
-ghost use Rattle.arrays.specs.Item.{Item, int};
-ghost use Rattle.arrays.specs.Kind as kind;
-ghost use Rattle.group.specs.Numbers.{greatest_number, least_number};
-ghost use Rattle.group.specs.Stats.{nulls_of, total_of};
-ghost use Rattle.group.specs.Summary.{AreStats, scalar_item};
+ghost use Rattle.std.specs.Prelude.{◌≡◌, ◌++◌, OnOk, IfOk, option_map, string_bytes};
+ghost use Rattle.types.specs.Kind.{kind_of};
+ghost use Rattle.group.specs.Summary.{scalar_item};
 ghost use Rattle.json.specs.Print.{quoted};
-ghost use Rattle.arrowtab.specs.Shown.{type_name, statistic, rows_line, worker_line, column_line};
+ghost use Rattle.arrowtab.specs.Shown.{column_line, kind_name, rows_line, sum_text, type_name, value_text, worker_line};
 
-use arrays::{IntType, Width};
+use arrays::{DataType, IntType, Width};
 use colbits::NoMemory;
 use group::{ColumnStats, Scalar};
 use serde_json::Value;
@@ -44,60 +41,85 @@ pub(crate) fn push_worker_line(
     Ok(())
 }
 
-/// The line of a column of integers with these statistics.
+/// The line of a column of a type with these statistics.
 pub(crate) fn column_line(
     alloc: Global,
     name: &str,
-    ty: IntType,
+    ty: &DataType,
     stats: &ColumnStats,
 ) -> Result<String, NoMemory>
-    ensures { (items : List Item) → AreStats stats.now (kind.int ty) items
-        → IfOk result (λ text. string_bytes text ≡ column_line name.now ty (length items) (nulls_of items)
-        (total_of items) (least_number items) (greatest_number items)) }
+    ensures { IfOk result (λ text. string_bytes text ≡ column_line name.now (kind_of ty.now) stats.now.rows stats.now.nulls
+        stats.now.sum (option_map scalar_item stats.now.least) (option_map scalar_item stats.now.greatest)) }
 {
     let mut text = quoted(alloc, name)?;
     text.push_str(" ")?;
-    text.push_str(type_name(ty))?;
+    push_type(&mut text, ty)?;
     text.push_str(" rows=")?;
     write!(text, "{}", stats.rows)?;
     text.push_str(" nulls=")?;
     write!(text, "{}", stats.nulls)?;
     text.push_str(" sum=")?;
-    push_statistic(&mut text, stats.sum)?;
+    push_sum(&mut text, stats.sum)?;
     text.push_str(" least=")?;
-    push_statistic(&mut text, int_of(&stats.least))?;
+    push_value(alloc, &mut text, &stats.least)?;
     text.push_str(" greatest=")?;
-    push_statistic(&mut text, int_of(&stats.greatest))?;
+    push_value(alloc, &mut text, &stats.greatest)?;
     text.push_str("\n")?;
     Ok(text)
 }
 
-/// A name as a JSON string.
-fn quoted(alloc: Global, name: &str) -> Result<String, AllocError>
-    ensures { IfOk result (λ text. string_bytes text ≡ quoted name.now) }
+/// Adds the name of a type.
+fn push_type(text: &mut String, ty: &DataType) -> Result<(), AllocError>
+    ensures { OnOk result (string_bytes text.new ≡ string_bytes text.old ++ kind_name (kind_of ty.now)) }
 {
-    Value::String(String::from_str(alloc, name)?).to_string(alloc)
-}
-
-/// The number that a value is, none where there is no value.
-fn int_of(value: &Option<Scalar>) -> Option<i128>
-    ensures { (number : Option ℤ) → option_map scalar_item value.now ≡ option_map int number → result ≡ number }
-{
-    match value {
-        Some(Scalar::Int(number)) => Some(*number),
-        _ => None,
+    match ty {
+        DataType::Int(int) => text.push_str(type_name(*int)),
+        DataType::Bool => text.push_str("bool"),
+        DataType::Utf8 => text.push_str("utf8"),
+        DataType::List(item) => {
+            text.push_str("list<")?;
+            push_type(text, &item.ty)?;
+            text.push_str(">")
+        }
+        DataType::Dict => text.push_str("dictionary"),
     }
 }
 
-/// Adds a number, or a dash where there is none.
-fn push_statistic(text: &mut String, number: Option<i128>) -> Result<(), AllocError>
-    ensures { OnOk result (string_bytes text.new ≡ string_bytes text.old ++ statistic number) }
+/// A text as a JSON string.
+fn quoted(alloc: Global, value: &str) -> Result<String, AllocError>
+    ensures { IfOk result (λ text. string_bytes text ≡ quoted value.now) }
 {
-    match number {
+    Value::String(String::from_str(alloc, value)?).to_string(alloc)
+}
+
+/// Adds a sum, or a dash where there is none.
+fn push_sum(text: &mut String, sum: Option<i128>) -> Result<(), AllocError>
+    ensures { OnOk result (string_bytes text.new ≡ string_bytes text.old ++ sum_text sum) }
+{
+    match sum {
         None => text.push_str("-"),
         Some(number) => {
             write!(text, "{number}")?;
             Ok(())
+        }
+    }
+}
+
+/// Adds a value, or a dash where there is none.
+fn push_value(alloc: Global, text: &mut String, value: &Option<Scalar>) -> Result<(), AllocError>
+    ensures { OnOk result (string_bytes text.new
+        ≡ string_bytes text.old ++ value_text (option_map scalar_item value.now)) }
+{
+    match value {
+        None => text.push_str("-"),
+        Some(Scalar::Int(number)) => {
+            write!(text, "{number}")?;
+            Ok(())
+        }
+        Some(Scalar::Bool(truth)) => text.push_str(if *truth { "true" } else { "false" }),
+        Some(Scalar::Text(value)) => {
+            let value = quoted(alloc, value.as_str())?;
+            text.push_str(value.as_str())
         }
     }
 }
