@@ -12,5 +12,5 @@ pub mod path;
 mod schema;
 
 pub use fault::{JsonFault, JsonFaultKind, fault_text};
-pub use file::read_file;
+pub use file::{read_file, read_file_from_vec};
 pub use path::{Member, Path, Step};

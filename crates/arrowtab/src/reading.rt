@@ -8,7 +8,7 @@ ghost use Rattle.arrowtab.specs.Run.{AreRead};
 use crate::run_fault::{FileFault, RunFault};
 use crate::source::{Source, SourceFault, read_whole};
 use arrays::File;
-use arrow_json::{JsonFaultKind, read_file};
+use arrow_json::{JsonFaultKind, read_file_from_vec};
 use std::alloc::Global;
 
 /// The file of each source, in order. The first fault ends it. The bytes of one file are gone before the next is read.
@@ -35,7 +35,7 @@ fn read_source<S: Source>(alloc: Global, number: usize, source: &mut S) -> Resul
         (S.remaining source.old) (S.failures source.old) (S.failures source.new)) }
 {
     match read_whole(alloc, source) {
-        Ok(bytes) => match read_file(alloc, bytes) {
+        Ok(bytes) => match read_file_from_vec(alloc, bytes) {
             Ok(file) => Ok(file),
             Err(fault) => match fault.kind {
                 JsonFaultKind::NoMemory => Err(RunFault::NoMemory),

@@ -9,8 +9,7 @@ use std::test::Fail;
 
 /// Asserts what is told of a file, `read` where nothing is wrong.
 pub(crate) fn expect(rt: &impl Abort, alloc: Global, text: &str, wanted: &str) -> Result<(), Fail> {
-    let bytes = Vec::from_slice(alloc, text.as_bytes())?;
-    let told = match read_file(alloc, bytes) {
+    let told = match read_file(alloc, text.as_bytes()) {
         Ok(_) => String::from_str(alloc, "read")?,
         Err(fault) => fault_text(alloc, &fault)?,
     };
@@ -60,8 +59,7 @@ fn tells_the_faults_of_a_file(rt: HostRuntime) -> Result<(), Fail> {
     for (text, wanted) in FILES {
         expect(&rt, rt.alloc(), text, wanted)?;
     }
-    let bytes = Vec::from_slice(rt.alloc(), &[34, 255, 34])?;
-    match read_file(rt.alloc(), bytes) {
+    match read_file(rt.alloc(), &[34, 255, 34]) {
         Ok(_) => panic!(&rt; "no UTF-8 was read"),
         Err(fault) => assert_eq!(&rt; fault_text(rt.alloc(), &fault)?.as_str(), "J1 NotJson"),
     }

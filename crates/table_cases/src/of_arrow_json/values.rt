@@ -3,7 +3,9 @@
 use super::{FILE_OF_COLUMN, expect};
 use crate::testing::assert_numbers;
 use arrays::{DataType, Field, IntType, Width};
-use arrow_json::{JsonFault, JsonFaultKind, Member, Path, Step, fault_text, read_file};
+use arrow_json::{
+    JsonFault, JsonFaultKind, Member, Path, Step, fault_text, read_file, read_file_from_vec,
+};
 use std::process::Abort;
 use std::test::Fail;
 
@@ -73,8 +75,7 @@ fn assert_field(rt: &impl Abort, field: &Field, name: &str, nullable: bool, ty: 
 
 #[test]
 fn reads_the_values(rt: HostRuntime) -> Result<(), Fail> {
-    let bytes = Vec::from_slice(rt.alloc(), TWO_COLUMNS.as_bytes())?;
-    let file = match read_file(rt.alloc(), bytes) {
+    let file = match read_file(rt.alloc(), TWO_COLUMNS.as_bytes()) {
         Ok(file) => file,
         Err(fault) => panic!(&rt; "{fault:?}"),
     };
@@ -153,5 +154,20 @@ fn leads_to_places(rt: HostRuntime) -> Result<(), Fail> {
         root.under(Step::Item(0))?.steps(),
         [Step::Item(0)].as_slice()
     );
+    Ok(())
+}
+
+#[test]
+fn reads_bytes_that_it_takes(rt: HostRuntime) -> Result<(), Fail> {
+    let bytes = Vec::from_slice(rt.alloc(), TWO_COLUMNS.as_bytes())?;
+    match read_file_from_vec(rt.alloc(), bytes) {
+        Ok(file) => assert_eq!(&rt; file.schema().len(), 2),
+        Err(fault) => panic!(&rt; "{fault:?}"),
+    }
+    let bytes = Vec::from_slice(rt.alloc(), &TWO_COLUMNS.as_bytes()[..20])?;
+    match read_file_from_vec(rt.alloc(), bytes) {
+        Ok(_) => panic!(&rt; "a part of a file was read"),
+        Err(fault) => assert_eq!(&rt; fault.kind, JsonFaultKind::NotJson),
+    }
     Ok(())
 }

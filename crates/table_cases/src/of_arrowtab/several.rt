@@ -8,7 +8,8 @@ use std::process::Abort;
 use std::test::Fail;
 
 /// A file of one column of numbers that may not be null, and of batches.
-const TEMPLATE: &str = r#"{"schema":{"fields":[{"name":"n","nullable":false,"type":{"name":"int","bitWidth":8,"isSigned":true},"children":[]}]},"batches":[BATCHES]}"#;
+const TEMPLATE: &str =
+    r#"{"schema":{"fields":[{"name":"n","nullable":false,"type":{"name":"int","bitWidth":8,"isSigned":true},"children":[]}]},"batches":[BATCHES]}"#;
 
 /// The numbers 5 and 7.
 const FIVE_AND_SEVEN: &str = r#"{"count":2,"columns":[{"name":"n","count":2,"DATA":[5,7]}]}"#;
@@ -99,7 +100,8 @@ fn counts_batches_within_their_file(rt: HostRuntime) -> Result<(), Fail> {
 }
 
 /// A file whose column has another name, and whose batches are to be put in.
-const OTHER: &str = r#"{"schema":{"fields":[{"name":"m","nullable":false,"type":{"name":"int","bitWidth":8,"isSigned":true},"children":[]}]},"batches":[BATCHES]}"#;
+const OTHER: &str =
+    r#"{"schema":{"fields":[{"name":"m","nullable":false,"type":{"name":"int","bitWidth":8,"isSigned":true},"children":[]}]},"batches":[BATCHES]}"#;
 
 #[test]
 fn refuses_a_batch_of_another_schema(rt: HostRuntime) -> Result<(), Fail> {
