@@ -1,13 +1,14 @@
 -- Bits of vectors of 32 bytes, which proofs see as the lists of their lanes.
-use Rattle.std.proofs.Common.{◌≡◌, ◌&&◌, ◌||◌, not, Bool, Fits, map, bit_and, w8, ℕ, ◌+◌, ◌-◌, ◌*◌, ◌/◌, ◌%◌, ◌^◌, ◌<◌, ◌∙◌, List, length, drop, get_or, slice_index, nat_eq, replicate, bit_or, sym, ap, arith}
-use Rattle.std.proofs.lemmas.Simd.{Each1-get_or, get_or-replicate, get_or-zip2, length-zip2}
+use Rattle.std.proofs.Common.{true, zero, suc, [], ◌∷◌, refl, ◌≡◌, ◌&&◌, ◌||◌, not, Bool, Fits, map, bit_and, w8, ℕ, ◌+◌, ◌-◌, ◌*◌, ◌/◌, ◌%◌, ◌^◌, ◌<◌, ◌∙◌, List, length, drop, get_or, slice_index, nat_eq, replicate, bit_or, sym, ap, arith}
+use Rattle.std.proofs.lemmas.Simd.{Each1-get_or, get_or_narrower, get_or-replicate, get_or-zip2, length-zip2}
 use Rattle.std.proofs.lemmas.List.{get_or-map}
-use lib.Lanes.{Each1, zip2}
+use Rattle.std.proofs.lemmas.Nat.Bits.{bit_at_ones}
+use lib.Lanes.{Each1, digits_l, number_l, zip2}
 use Rattle.std.specs.Int.{bit_at}
 use Rattle.colbits.specs.Bit.{bit, bit_in}
 use Rattle.colbits.specs.Slice.{slice}
 use Rattle.colbits.proofs.BitLemmas.{bit-drop}
-use Rattle.colbits.proofs.WordLemmas.{bit-take, bit_in-and, bit_in-not, bit_in-or}
+use Rattle.colbits.proofs.WordLemmas.{bit_at-mod, bit_at-shr, pow-256, bit-take, bit_in-and, bit_in-not, bit_in-or}
 
 -- in each lane the high bits of low, with the low bits of high above them
 abbrev joined : List ℕ → List ℕ → ℕ → List ℕ
@@ -65,3 +66,34 @@ bit-lanes_not xs i l fits h =
     let within : k < length xs = omega arith in
     ap (λ b. nat_eq (bit_at b (i % 8)) 1) (get_or-map (λ a. 255 - a) xs k 0 0 within)
     ∙ bit_in-not w8 (get_or xs k 0) (i % 8) (Each1-get_or (Fits w8) xs k 0 within fits).fits (omega arith)
+
+-- ---- four words
+
+-- the bits of four words that are cut into bytes
+pub bit-lanes_of : (words : List ℕ) → Each1 (λ x. x < 2 ^ 64) words → (k i : ℕ) → k < 4 → i < 64
+    → bit (digits_l 256 32 (number_l (2 ^ 64) words)) (64 * k + i) ≡ bit_in (slice_index words k) i
+unfolding bit
+bit-lanes_of words fits k i few within =
+    let lanes = digits_l 256 32 (number_l (2 ^ 64) words) in
+    let r = i / 8 in
+    let word = slice_index words k in
+    let lane : (64 * k + i) / 8 ≡ 8 * k + r = omega arith in
+    let place : (64 * k + i) % 8 ≡ i % 8 = omega arith in
+    ap (λ n. nat_eq (bit_at (slice_index lanes n) ((64 * k + i) % 8)) 1) lane
+    ∙ ap (λ n. nat_eq (bit_at (slice_index lanes (8 * k + r)) n) 1) place
+    ∙ ap (λ b. nat_eq (bit_at b (i % 8)) 1) (get_or_narrower (2 ^ 64) 8 256 32 words k r refl fits (omega arith) (omega arith) ∙ ap (λ p. word / p % 256) (pow-256 r))
+    ∙ ap (λ b. nat_eq b 1) (bit_at-mod (word / 2 ^ (8 * r)) 8 (i % 8) (omega arith) ∙ bit_at-shr word (8 * r) (i % 8) ∙ ap (bit_at word) (omega arith))
+
+-- what holds of each of four
+pub each-of_four : (P : ℕ → ℕ → Type 0) (a b c d : ℕ) → P 0 a → P 1 b → P 2 c → P 3 d → (k : ℕ) → k < 4 → P k (slice_index (a ∷ b ∷ c ∷ d ∷ []) k)
+each-of_four P a b c d p q r s zero h = p
+each-of_four P a b c d p q r s (suc zero) h = q
+each-of_four P a b c d p q r s (suc (suc zero)) h = r
+each-of_four P a b c d p q r s (suc (suc (suc zero))) h = s
+each-of_four P a b c d p q r s (suc (suc (suc (suc k)))) h = absurd (omega arith)
+
+-- each bit of bytes of 255 is 1
+pub bit-ones : (i : ℕ) → i < 256 → bit (replicate 32 255) i ≡ true
+unfolding bit
+bit-ones i h =
+    ap (λ b. nat_eq (bit_at b (i % 8)) 1) (get_or-replicate 32 (i / 8) 255 0 (omega arith)) ∙ ap (λ n. nat_eq n 1) (bit_at_ones 8 (i % 8) (omega arith))

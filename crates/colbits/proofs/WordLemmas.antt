@@ -49,10 +49,10 @@ bit_in-not w a i fits within =
 
 -- ---- shifts
 
-bit_at-shr : (n k i : ℕ) → bit_at (n / 2 ^ k) i ≡ bit_at n (k + i)
+pub bit_at-shr : (n k i : ℕ) → bit_at (n / 2 ^ k) i ≡ bit_at n (k + i)
 bit_at-shr n k i = ap (λ x. x % 2) (shr-shr n k i)
 
-bit_at-mod : (n k i : ℕ) → i < k → bit_at (n % 2 ^ k) i ≡ bit_at n i
+pub bit_at-mod : (n k i : ℕ) → i < k → bit_at (n % 2 ^ k) i ≡ bit_at n i
 bit_at-mod n k i within = sym (bit_at_cat_low (n / 2 ^ k) k (n % 2 ^ k) i within) ∙ ap (λ x. bit_at x i) (shr_split n k)
 
 bit_at-shl_low : (n k i : ℕ) → i < k → bit_at (n * 2 ^ k) i ≡ 0
@@ -78,7 +78,7 @@ joined-high n low high shift i fits some within =
 
 -- ---- numbers and their bytes
 
-pow-256 : (k : ℕ) → 256 ^ k ≡ 2 ^ (8 * k)
+pub pow-256 : (k : ℕ) → 256 ^ k ≡ 2 ^ (8 * k)
 pow-256 zero = refl
 pow-256 (suc k) =
     let more : 8 * suc k ≡ 8 + 8 * k = omega arith in

@@ -6,7 +6,7 @@ ghost use Rattle.colbits.specs.Bitmap.{place_by_place};
 use crate::bits::Bits;
 use crate::buffer::Buffer;
 use crate::memory::NoMemory;
-use crate::places::{Both, Either, Flipped, Given, Lanes, Places, Without};
+use crate::places::{Both, Either, Flipped, Given, Places, Without};
 use std::alloc::Global;
 use std::marker::Model;
 
@@ -38,14 +38,6 @@ impl BitmapBuf {
     pub fn from_places<P: Places>(alloc: Global, places: &P) -> Result<BitmapBuf, NoMemory>
         ensures { IfOk result (λ m. m ≡ map (P.at places.now) (range_with_len 0 (P.count places.now))) }
     {
-        let bytes = Vec::with_capacity(alloc, bytes_for(places.len()) + 63)?;
-        completed(bytes, places, 0)
-    }
-
-    /// The same, 256 places at a time.
-    pub fn from_lanes<P: Lanes>(alloc: Global, places: &P) -> Result<BitmapBuf, NoMemory>
-        ensures { IfOk result (λ m. m ≡ map (P.at places.now) (range_with_len 0 (P.count places.now))) }
-    {
         let len = places.len();
         let blocks = len / 256;
         let mut bytes = Vec::with_capacity(alloc, bytes_for(len) + 63)?;
@@ -68,7 +60,7 @@ impl BitmapBuf {
         requires { length a.now ≡ length b.now }
         ensures { IfOk result (λ m. m ≡ place_by_place ◌&&◌ a.now b.now) }
     {
-        BitmapBuf::from_lanes(alloc, &Both { a, b })
+        BitmapBuf::from_places(alloc, &Both { a, b })
     }
 
     /// Where either has 1.
@@ -76,7 +68,7 @@ impl BitmapBuf {
         requires { length a.now ≡ length b.now }
         ensures { IfOk result (λ m. m ≡ place_by_place ◌||◌ a.now b.now) }
     {
-        BitmapBuf::from_lanes(alloc, &Either { a, b })
+        BitmapBuf::from_places(alloc, &Either { a, b })
     }
 
     /// Where the first has 1 and the second 0.
@@ -84,14 +76,14 @@ impl BitmapBuf {
         requires { length a.now ≡ length b.now }
         ensures { IfOk result (λ m. m ≡ place_by_place (λ x y. x && not y) a.now b.now) }
     {
-        BitmapBuf::from_lanes(alloc, &Without { a, b })
+        BitmapBuf::from_places(alloc, &Without { a, b })
     }
 
     /// Where there is 0.
     pub fn not(alloc: Global, a: &Bits<'_>) -> Result<BitmapBuf, NoMemory>
         ensures { IfOk result (λ m. m ≡ map not a.now) }
     {
-        BitmapBuf::from_lanes(alloc, &Flipped { a })
+        BitmapBuf::from_places(alloc, &Flipped { a })
     }
 
     /// The bits.

@@ -4,7 +4,7 @@ ghost use Rattle.colbits.specs.Bit.{bit, bit_in, bits};
 ghost use Rattle.colbits.specs.Bitmap.{bit_of};
 ghost use Rattle.colbits.specs.Slice.{slice};
 
-use crate::lanes::lanes_from;
+use crate::lanes::{lanes_from, lanes_of};
 use crate::word::word_from;
 use std::marker::Model;
 use std::simd::prelude::*;
@@ -86,7 +86,30 @@ impl<'a> Bits<'a> {
         word_from(self.bytes, i / 8 + k / 8, k % 8)
     }
 
-    /// Bits `i` to `i + 255`, all of which are there, eight to a lane.
+    /// Bits `i` to `i + 255`, eight to a lane: 0 past the last one.
+    #[inline(always)]
+    pub fn lanes(&self, i: usize) -> u8x32
+        requires { i + 256 < 2 ^ 64 }
+        ensures { (j : ℕ) → j < 256 → bit result j ≡ bit_of self.now (i + j) }
+    {
+        if i + 256 <= self.len() {
+            return self.whole_lanes(i);
+        }
+        self.few_lanes(i)
+    }
+
+    /// The same, a word at a time.
+    #[inline(never)]
+    fn few_lanes(&self, i: usize) -> u8x32
+        requires { i + 256 < 2 ^ 64 }
+        ensures { (j : ℕ) → j < 256 → bit result j ≡ bit_of self.now (i + j) }
+    {
+        let (a, b) = (self.word(i), self.word(i + 64));
+        let (c, d) = (self.word(i + 128), self.word(i + 192));
+        lanes_of(a, b, c, d)
+    }
+
+    /// Bits `i` to `i + 255`, all of which are there: `lanes` without a look at the length.
     #[inline(always)]
     pub fn whole_lanes(&self, i: usize) -> u8x32
         requires { i + 256 ≤ length self.now }

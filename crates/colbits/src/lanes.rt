@@ -1,6 +1,6 @@
 //! 32 bytes at a time.
 
-ghost use Rattle.std.specs.Prelude.{◌≡◌, ℕ, ◌+◌, ◌-◌, ◌*◌, ◌<◌, ◌≤◌, ◌&&◌, ◌||◌, not, length, slice_index};
+ghost use Rattle.std.specs.Prelude.{◌≡◌, ℕ, ◌+◌, ◌-◌, ◌*◌, ◌<◌, ◌≤◌, ◌&&◌, ◌||◌, not, [], ◌∷◌, length, slice_index};
 ghost use Rattle.colbits.specs.Bit.{bit, bit_in};
 ghost use Rattle.colbits.specs.Slice.{slice};
 
@@ -40,9 +40,17 @@ fn moved(low: u8x32, high: u8x32, shift: u8) -> u8x32
     (low >> u8x32::splat(shift)) | (high << u8x32::splat(8 - shift))
 }
 
+/// The bits of four words, those of the first first.
+#[inline(always)]
+pub fn lanes_of(a: u64, b: u64, c: u64, d: u64) -> u8x32
+    ensures { (k : ℕ) → (j : ℕ) → k < 4 → j < 64 → bit result (64 * k + j) ≡ bit_in (slice_index (a ∷ b ∷ c ∷ d ∷ []) k) j }
+{
+    u64x4::from_array([a, b, c, d]).to_le_bytes()
+}
+
 /// Where both have 1.
 #[inline(always)]
-pub(crate) fn both(a: u8x32, b: u8x32) -> u8x32
+pub fn both(a: u8x32, b: u8x32) -> u8x32
     ensures { (j : ℕ) → j < 256 → bit result j ≡ (bit a j && bit b j) }
 {
     a & b
@@ -50,7 +58,7 @@ pub(crate) fn both(a: u8x32, b: u8x32) -> u8x32
 
 /// Where either has 1.
 #[inline(always)]
-pub(crate) fn either(a: u8x32, b: u8x32) -> u8x32
+pub fn either(a: u8x32, b: u8x32) -> u8x32
     ensures { (j : ℕ) → j < 256 → bit result j ≡ (bit a j || bit b j) }
 {
     a | b
@@ -58,7 +66,7 @@ pub(crate) fn either(a: u8x32, b: u8x32) -> u8x32
 
 /// Where there is 0.
 #[inline(always)]
-pub(crate) fn flipped(a: u8x32) -> u8x32
+pub fn flipped(a: u8x32) -> u8x32
     ensures { (j : ℕ) → j < 256 → bit result j ≡ not (bit a j) }
 {
     !a

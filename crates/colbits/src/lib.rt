@@ -4,7 +4,7 @@
 pub mod bitmap;
 pub mod bits;
 pub mod buffer;
-mod lanes;
+pub mod lanes;
 pub mod memory;
 pub mod places;
 mod word;
@@ -12,5 +12,6 @@ mod word;
 pub use bitmap::BitmapBuf;
 pub use bits::Bits;
 pub use buffer::Buffer;
+pub use lanes::lanes_of;
 pub use memory::NoMemory;
-pub use places::{Lanes, Places};
+pub use places::Places;

@@ -5,7 +5,7 @@ ghost use Rattle.colbits.specs.Bit.{bit, bit_in};
 ghost use Rattle.colbits.specs.Bitmap.{bit_of};
 
 use crate::bits::Bits;
-use crate::lanes::{both, either, flipped};
+use crate::lanes::{both, either, flipped, lanes_of};
 use std::simd::prelude::*;
 
 /// A bit for each place, told one by one, in any order and as often as it is asked: what
@@ -38,14 +38,17 @@ pub trait Places {
         }
         word
     }
-}
 
-/// Places whose bits are told 256 at a time too: what [`BitmapBuf::from_lanes`](crate::BitmapBuf::from_lanes) packs.
-pub trait Lanes: Places {
-    /// The bits of places `i` to `i + 255`, eight to a lane, the first of them least significant.
+    /// The bits of places `i` to `i + 255`, eight to a lane.
     fn lanes(&self, i: usize) -> u8x32
-        requires { i + 256 ≤ Self.count self.now }
-        ensures { (j : ℕ) → j < 256 → bit result j ≡ Self.at self.now (i + j) };
+        requires { i + 256 ≤ count self.now }
+        ensures { (j : ℕ) → j < 256 → bit result j ≡ at self.now (i + j) }
+    {
+        let _count = self.len();
+        let (a, b) = (self.word(i), self.word(i + 64));
+        let (c, d) = (self.word(i + 128), self.word(i + 192));
+        lanes_of(a, b, c, d)
+    }
 }
 
 /// The bits of a list.
@@ -91,9 +94,7 @@ impl<'a, 'b> Places for Both<'a, 'b> {
     fn word(&self, i: usize) -> u64 {
         self.a.whole_word(i) & self.b.whole_word(i)
     }
-}
 
-impl<'a, 'b> Lanes for Both<'a, 'b> {
     #[inline(always)]
     fn lanes(&self, i: usize) -> u8x32 {
         both(self.a.whole_lanes(i), self.b.whole_lanes(i))
@@ -125,9 +126,7 @@ impl<'a, 'b> Places for Either<'a, 'b> {
     fn word(&self, i: usize) -> u64 {
         self.a.whole_word(i) | self.b.whole_word(i)
     }
-}
 
-impl<'a, 'b> Lanes for Either<'a, 'b> {
     #[inline(always)]
     fn lanes(&self, i: usize) -> u8x32 {
         either(self.a.whole_lanes(i), self.b.whole_lanes(i))
@@ -159,9 +158,7 @@ impl<'a, 'b> Places for Without<'a, 'b> {
     fn word(&self, i: usize) -> u64 {
         self.a.whole_word(i) & !self.b.whole_word(i)
     }
-}
 
-impl<'a, 'b> Lanes for Without<'a, 'b> {
     #[inline(always)]
     fn lanes(&self, i: usize) -> u8x32 {
         both(self.a.whole_lanes(i), flipped(self.b.whole_lanes(i)))
@@ -191,9 +188,7 @@ impl<'a, 'b> Places for Flipped<'a, 'b> {
     fn word(&self, i: usize) -> u64 {
         !self.a.whole_word(i)
     }
-}
 
-impl<'a, 'b> Lanes for Flipped<'a, 'b> {
     #[inline(always)]
     fn lanes(&self, i: usize) -> u8x32 {
         flipped(self.a.whole_lanes(i))

@@ -1,7 +1,7 @@
 //! Three-valued logic: null is a truth value that isn't known.
 
 ghost use Rattle.std.specs.Prelude.{◌≡◌, ◌+◌, ◌<◌, ◌≤◌, Some, None, is_none, is_some, length, ℕ, IfOk, IfErr};
-ghost use Rattle.colbits.specs.Bit.{bit_in};
+ghost use Rattle.colbits.specs.Bit.{bit, bit_in};
 ghost use Rattle.arrays.specs.Kind as kind;
 ghost use Rattle.arrays.specs.Seen.{valid_in};
 ghost use Rattle.arrays.specs.Kind.{same_kind};
@@ -12,10 +12,13 @@ ghost use Rattle.arrays.specs.Shown.{shown};
 
 use crate::fault::KernelFault;
 use crate::truths::{Truths, array_of};
+use crate::validity::{valid_lanes, valid_word};
 use arrays::validity::is_valid;
 use arrays::{Array, View, ViewType};
 use colbits::Bits;
+use colbits::lanes::{both, either, flipped};
 use std::alloc::Global;
+use std::simd::prelude::*;
 
 /// False where either is false, true where both are true, else null. It fails where the views aren't both of
 /// truth values, then where their lengths differ, and else for want of memory alone.
@@ -139,24 +142,13 @@ impl<'a, 'b> Truth<'a, 'b> {
         is_valid(&self.validity, i) & !self.bits.get(i)
     }
 
-    /// Which of slots `i` to `i + 63` are valid, the first of them least significant.
-    #[inline(always)]
-    fn valid_word(&self, i: usize) -> u64
-        ensures { (j : ℕ) → j < 64 → bit_in result j ≡ valid_in self.now.validity (i + j) }
-    {
-        match &self.validity {
-            None => u64::MAX,
-            Some(bits) => bits.word(i),
-        }
-    }
-
-    /// Which of these are true, likewise.
+    /// Which of slots `i` to `i + 63` are true, the first of them least significant.
     #[inline(always)]
     fn true_word(&self, i: usize) -> u64
         requires { i + 64 ≤ length self.now.view.now.items }
         ensures { (j : ℕ) → j < 64 → bit_in result j ≡ knows_true (truth_in self.now.view.now.items (i + j)) }
     {
-        self.valid_word(i) & self.bits.whole_word(i)
+        valid_word(&self.validity, i) & self.bits.whole_word(i)
     }
 
     /// Which of these are false.
@@ -165,7 +157,28 @@ impl<'a, 'b> Truth<'a, 'b> {
         requires { i + 64 ≤ length self.now.view.now.items }
         ensures { (j : ℕ) → j < 64 → bit_in result j ≡ knows_false (truth_in self.now.view.now.items (i + j)) }
     {
-        self.valid_word(i) & !self.bits.whole_word(i)
+        valid_word(&self.validity, i) & !self.bits.whole_word(i)
+    }
+
+    /// Which of slots `i` to `i + 255` are true, eight to a lane.
+    #[inline(always)]
+    fn true_lanes(&self, i: usize) -> u8x32
+        requires { i + 256 ≤ length self.now.view.now.items }
+        ensures { (j : ℕ) → j < 256 → bit result j ≡ knows_true (truth_in self.now.view.now.items (i + j)) }
+    {
+        let _slots = self.view.len();
+        both(valid_lanes(&self.validity, i), self.bits.whole_lanes(i))
+    }
+
+    /// Which of these are false.
+    #[inline(always)]
+    fn false_lanes(&self, i: usize) -> u8x32
+        requires { i + 256 ≤ length self.now.view.now.items }
+        ensures { (j : ℕ) → j < 256 → bit result j ≡ knows_false (truth_in self.now.view.now.items (i + j)) }
+    {
+        let _slots = self.view.len();
+        let unset = flipped(self.bits.whole_lanes(i));
+        both(valid_lanes(&self.validity, i), unset)
     }
 }
 
@@ -219,6 +232,20 @@ impl<'a, 'b, 'c, 'd> Truths for And<'a, 'b, 'c, 'd> {
         let Operands { a, b } = &self.operands;
         a.true_word(i) & b.true_word(i)
     }
+
+    #[inline(always)]
+    fn known_lanes(&self, i: usize) -> u8x32 {
+        let Operands { a, b } = &self.operands;
+        let trues = both(a.true_lanes(i), b.true_lanes(i));
+        let falses = either(a.false_lanes(i), b.false_lanes(i));
+        either(trues, falses)
+    }
+
+    #[inline(always)]
+    fn value_lanes(&self, i: usize) -> u8x32 {
+        let Operands { a, b } = &self.operands;
+        both(a.true_lanes(i), b.true_lanes(i))
+    }
 }
 
 /// Whether either is true.
@@ -263,6 +290,20 @@ impl<'a, 'b, 'c, 'd> Truths for Or<'a, 'b, 'c, 'd> {
         let Operands { a, b } = &self.operands;
         a.true_word(i) | b.true_word(i)
     }
+
+    #[inline(always)]
+    fn known_lanes(&self, i: usize) -> u8x32 {
+        let Operands { a, b } = &self.operands;
+        let falses = both(a.false_lanes(i), b.false_lanes(i));
+        let trues = either(a.true_lanes(i), b.true_lanes(i));
+        either(falses, trues)
+    }
+
+    #[inline(always)]
+    fn value_lanes(&self, i: usize) -> u8x32 {
+        let Operands { a, b } = &self.operands;
+        either(a.true_lanes(i), b.true_lanes(i))
+    }
 }
 
 /// Whether it is false.
@@ -296,11 +337,22 @@ impl<'a, 'b> Truths for Not<'a, 'b> {
 
     #[inline(always)]
     fn known_word(&self, i: usize) -> u64 {
-        self.operand.valid_word(i)
+        valid_word(&self.operand.validity, i)
     }
 
     #[inline(always)]
     fn value_word(&self, i: usize) -> u64 {
         self.operand.false_word(i)
+    }
+
+    #[inline(always)]
+    fn known_lanes(&self, i: usize) -> u8x32 {
+        let _slots = self.operand.view.len();
+        valid_lanes(&self.operand.validity, i)
+    }
+
+    #[inline(always)]
+    fn value_lanes(&self, i: usize) -> u8x32 {
+        self.operand.false_lanes(i)
     }
 }

@@ -2,15 +2,16 @@
 
 ghost use Rattle.std.specs.Prelude.{◌≡◌, ◌+◌, ◌<◌, ◌≤◌, ℕ, Bool, true, map, IfOk, IsTrue};
 ghost use Rattle.std.specs.List.{range_with_len};
-ghost use Rattle.colbits.specs.Bit.{bit_in};
+ghost use Rattle.colbits.specs.Bit.{bit, bit_in};
 ghost use Rattle.arrays.specs.Kind as kind;
 ghost use Rattle.arrays.specs.Shown.{kept, shown};
 ghost use Rattle.kernels.specs.Truth.{truths_of};
 
 use arrays::Array;
 use arrays::validity::{buffer_of, validity_of};
-use colbits::{BitmapBuf, NoMemory, Places};
+use colbits::{BitmapBuf, NoMemory, Places, lanes_of};
 use std::alloc::Global;
+use std::simd::prelude::*;
 
 /// A truth value or null for each place.
 pub(crate) trait Truths {
@@ -69,6 +70,28 @@ pub(crate) trait Truths {
         }
         word
     }
+
+    /// Whether there is a value at each of places `i` to `i + 255`, eight to a lane.
+    fn known_lanes(&self, i: usize) -> u8x32
+        requires { i + 256 ≤ count self.now }
+        ensures { (j : ℕ) → j < 256 → bit result j ≡ known self.now (i + j) }
+    {
+        let _slots = self.slots();
+        let (a, b) = (self.known_word(i), self.known_word(i + 64));
+        let (c, d) = (self.known_word(i + 128), self.known_word(i + 192));
+        lanes_of(a, b, c, d)
+    }
+
+    /// The values at these places, likewise.
+    fn value_lanes(&self, i: usize) -> u8x32
+        requires { i + 256 ≤ count self.now }
+        ensures { (j : ℕ) → j < 256 → bit result j ≡ value self.now (i + j) }
+    {
+        let _slots = self.slots();
+        let (a, b) = (self.value_word(i), self.value_word(i + 64));
+        let (c, d) = (self.value_word(i + 128), self.value_word(i + 192));
+        lanes_of(a, b, c, d)
+    }
 }
 
 /// The array of the truth values.
@@ -119,6 +142,11 @@ impl<'a, T: Truths> Places for Known<'a, T> {
     fn word(&self, i: usize) -> u64 {
         self.truths.known_word(i)
     }
+
+    #[inline(always)]
+    fn lanes(&self, i: usize) -> u8x32 {
+        self.truths.known_lanes(i)
+    }
 }
 
 /// Where the value is true.
@@ -143,5 +171,10 @@ impl<'a, T: Truths> Places for Values<'a, T> {
     #[inline(always)]
     fn word(&self, i: usize) -> u64 {
         self.truths.value_word(i)
+    }
+
+    #[inline(always)]
+    fn lanes(&self, i: usize) -> u8x32 {
+        self.truths.value_lanes(i)
     }
 }

@@ -1,7 +1,7 @@
 use Rattle.std.proofs.Common.{rules, ◌≡◌, ◌+◌, ◌*◌, ◌<◌, ◌++◌, ◌∙◌, ℕ, List, length, ap, sym, subst, arith, length-append}
 use Rattle.colbits.specs.Bit.{bit}
 use Rattle.colbits.proofs.WordLemmas.{places-more}
-use Rattle.colbits.proofs.bitmap.BitmapBuf.from_lanes.Goals as goal
+use Rattle.colbits.proofs.bitmap.BitmapBuf.from_places.Goals as goal
 
 pub loop-b-preserved : goal.loop-b-preserved
 loop-b-preserved g c =

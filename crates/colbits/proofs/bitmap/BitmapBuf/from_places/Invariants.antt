@@ -1,6 +1,6 @@
 use Rattle.std.proofs.Common.{◌≡◌, ◌*◌, ◌<◌, ℕ, length}
 use Rattle.colbits.specs.Bit.{bit}
-use Rattle.colbits.proofs.bitmap.BitmapBuf.from_lanes.Given as goal
+use Rattle.colbits.proofs.bitmap.BitmapBuf.from_places.Given as goal
 
 -- the bytes so far have the bits of their places
 abbrev pub invariant-loop-b : goal.invariant-loop-b
