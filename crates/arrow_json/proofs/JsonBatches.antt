@@ -21,31 +21,32 @@ use Rattle.arrays.specs.Item.{Item}
 use Rattle.arrays.specs.Seen.{Seen}
 use Rattle.serde_json.specs.Data.{Data, Items}
 use Rattle.arrow_json.specs.declared.fault.JsonFault.{JsonFault}
+use Rattle.arrow_json.specs.declared.fault.JsonFaultKind.TheVariants.{BadNumber}
 use Rattle.arrow_json.specs.JsonFault.{Tells, IsUnder}
-use Rattle.arrow_json.specs.JsonColumn.{ReadsInts}
+use Rattle.arrow_json.specs.JsonColumn.{ReadsPlain, number_in}
 use Rattle.arrow_json.specs.JsonColumnFault.{ColumnFault}
 use Rattle.arrow_json.specs.Integers.{AreIntegers, int_of, is_integer}
 use Rattle.arrow_json.specs.JsonBatch.{HoldsColumn, HoldsColumns}
 use Rattle.arrow_json.specs.JsonBatchFault.{KindFault, ColumnsFault, bad_column, BatchFault, no_batch_object, bad_rows, bad_list, bad_columns}
 use Rattle.arrow_json.proofs.JsonFaults.{tells_as, tells_under, tells_wants}
 
-pub tells_kind : (k : Kind) (t : IntType) (n : ℕ) (d : Data) (f : JsonFault) → Some t ≡ int_of k → Tells (ColumnFault t n d) f → Tells (KindFault k n d) f
+pub tells_kind : (k : Kind) (t : IntType) (n : ℕ) (d : Data) (f : JsonFault) → Some t ≡ int_of k → Tells (ColumnFault (number_in t) BadNumber n d) f → Tells (KindFault k n d) f
 tells_kind (kind.int u) t n d f is told =
     let same : t ≡ u = cc in
-    subst (λ v. Tells (ColumnFault v n d) f) same told
+    subst (λ v. Tells (ColumnFault (number_in v) BadNumber n d) f) same told
 tells_kind kind.boolean t n d f is told = cc
 tells_kind kind.utf8 t n d f is told = cc
 tells_kind (kind.list k) t n d f is told = cc
 tells_kind kind.dict t n d f is told = cc
 
-holds : (t : IntType) (n : ℕ) (d : Data) (s : Seen) (items : List Item) → s.kind ≡ kind.int t → s.items ≡ items → ReadsInts t n d items → HoldsColumn (kind.int t) n d s
+holds : (t : IntType) (n : ℕ) (d : Data) (s : Seen) (items : List Item) → s.kind ≡ kind.int t → s.items ≡ items → ReadsPlain (number_in t) n d items → HoldsColumn (kind.int t) n d s
 holds t n d s items same shown reads = record {
   kind = same;
   len = ap length shown ∙ reads.slots.len;
-  reads = subst (λ xs. ReadsInts t n d xs) (sym shown) reads;
+  reads = subst (λ xs. ReadsPlain (number_in t) n d xs) (sym shown) reads;
 }
 
-pub holds_int : (k : Kind) (t : IntType) (n : ℕ) (d : Data) (s : Seen) (items : List Item) → Some t ≡ int_of k → s.kind ≡ kind.int t → s.items ≡ items → ReadsInts t n d items → HoldsColumn k n d s
+pub holds_int : (k : Kind) (t : IntType) (n : ℕ) (d : Data) (s : Seen) (items : List Item) → Some t ≡ int_of k → s.kind ≡ kind.int t → s.items ≡ items → ReadsPlain (number_in t) n d items → HoldsColumn k n d s
 holds_int (kind.int u) t n d s items is same shown reads =
     let e : t ≡ u = cc in
     subst (λ v. HoldsColumn (kind.int v) n d s) e (holds t n d s items same shown reads)

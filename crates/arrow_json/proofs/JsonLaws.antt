@@ -1,12 +1,11 @@
 -- Where a fault stands, nothing is read.
-use Rattle.std.proofs.Common.{◌≡◌, ◌∙◌, ℕ, zero, suc, ◌<◌, Bool, true, List, [], ◌∷◌, length, Option, Some, None, option_map, option_and_then, codes, refl, sym, ap, subst, arith}
+use Rattle.std.proofs.Common.{◌≡◌, ◌∙◌, ℕ, zero, suc, ◌<◌, Bool, true, List, [], ◌∷◌, length, Option, Some, None, option_and_then, codes, refl, sym, ap, subst, arith}
 use Rattle.std.proofs.lemmas.Bool.{false≢true}
 use Rattle.std.specs.List.{slice_get}
 use Rattle.types.specs.declared.int_type.IntType.{IntType}
 use Rattle.arrays.specs.Kind as kind
 use Rattle.arrays.specs.Kind.{Kind}
 use Rattle.arrays.specs.Item.{Item}
-use Rattle.arrays.specs.Item as column
 use Rattle.arrays.specs.Shape.{Shape, FieldShape, int, boolean, utf8, list, dict, field, kind_of_field}
 use Rattle.serde_json.specs.Data as data'
 use Rattle.serde_json.specs.Data.{Data, Items, no_items, item}
@@ -16,13 +15,14 @@ use Rattle.arrow_json.specs.declared.path.Member.{Member}
 use Rattle.arrow_json.specs.declared.path.Member.TheVariants as member
 use Rattle.arrow_json.specs.declared.path.Step.{Step}
 use Rattle.arrow_json.specs.declared.fault.JsonFaultKind.{JsonFaultKind}
+use Rattle.arrow_json.specs.declared.fault.JsonFaultKind.TheVariants.{BadNumber}
 use Rattle.arrow_json.specs.JsonMember as at
 use Rattle.arrow_json.specs.JsonMember.{IsObject, member_of, Unlike, unlike, Missing, missing, MemberFault, absent, wrong, ListFault, no_array, length_differs, EachFault, ReadsEach}
-use Rattle.arrow_json.specs.JsonNumber.{count_of, flag_of, width_of, integer_of}
+use Rattle.arrow_json.specs.JsonNumber.{count_of, flag_of, width_of}
 use Rattle.arrow_json.specs.JsonSchema.{ReadsInt, ReadsShape, ReadsField, HasField, ReadsSchema}
 use Rattle.arrow_json.specs.JsonSchemaFault.{TypeFault, no_type_object, bad_type_name, other_type, bad_width, other_width, bad_sign, FieldFault, no_field_object, bad_field_name, bad_nullable, bad_type, no_dictionary_object, encoded, has_children, SchemaFault, no_schema_object, bad_fields, bad_field}
-use Rattle.arrow_json.specs.JsonColumn.{flags_of, HasFlags, valid_at, slot_of, ReadsInts}
-use Rattle.arrow_json.specs.JsonColumnFault.{CountFault, no_count, other_count, FlagsFault, no_flags, SlotFault, no_flag, no_integer, SlotsFault, bad_valid, bad_slot, ColumnFault, no_column_object, bad_count, bad_flags, bad_values, bad_slots}
+use Rattle.arrow_json.specs.JsonColumn.{flags_of, HasFlags, number_in, valid_at, slot_of, ReadsPlain}
+use Rattle.arrow_json.specs.JsonColumnFault.{CountFault, no_count, other_count, FlagsFault, no_flags, SlotFault, no_flag, no_value, SlotsFault, bad_valid, bad_slot, ColumnFault, no_column_object, bad_count, bad_flags, bad_values, bad_slots}
 use Rattle.arrow_json.specs.JsonTable.{Table, FileData}
 use Rattle.arrow_json.specs.JsonBatch.{ReadsColumn, ReadsColumns, ReadsBatch}
 use Rattle.arrow_json.specs.JsonBatchFault.{KindFault, ColumnsFault, bad_column, BatchFault, no_batch_object, bad_rows, bad_list, bad_columns}
@@ -166,49 +166,49 @@ flags_law n d flags k p h len (no_flags e k' p' found there w) =
     let a = flags_array e n flags (ap flags_of (sym found) ∙ h) len there in
     list_law n e a.0 _ _ a.1 a.2 w
 
-valid_law : (t : IntType) (o : Option Data) (d : Data) (x : Item) → slot_of t (Some true) o ≡ Some x → o ≡ Some d → integer_of t d ≡ None → ⊥
+valid_law : (t : Data → Option Item) (o : Option Data) (d : Data) (x : Item) → slot_of t (Some true) o ≡ Some x → o ≡ Some d → t d ≡ None → ⊥
 valid_law t o d x h at none =
-    let e = ap (slot_of t (Some true)) at ∙ ap (option_map column.int) none in
+    let e = ap (slot_of t (Some true)) at ∙ none in
     cc (e, h)
 
-no_flag_law : (t : IntType) (o : Option Data) (d : Data) (x : Item) → slot_of t None o ≡ Some x → ⊥
+no_flag_law : (t : Data → Option Item) (o : Option Data) (d : Data) (x : Item) → slot_of t None o ≡ Some x → ⊥
 no_flag_law t None d x h = cc
 no_flag_law t (Some e) d x h = cc
 
-slot_law : (t : IntType) (i : ℕ) (f d : Data) (x : Item) (k : JsonFaultKind) (p : List Step) → slot_of t (flag_of f) (Some d) ≡ Some x → SlotFault t i f d k p → ⊥
-slot_law t i f d x k p h (no_flag none) = no_flag_law t (Some d) d x (ap (λ o. slot_of t o (Some d)) (sym none) ∙ h)
-slot_law t i f d x k p h (no_integer valid none) = valid_law t (Some d) d x (ap (λ o. slot_of t o (Some d)) (sym valid) ∙ h) refl none
+slot_law : (t : Data → Option Item) (bad : JsonFaultKind) (i : ℕ) (f d : Data) (x : Item) (k : JsonFaultKind) (p : List Step) → slot_of t (flag_of f) (Some d) ≡ Some x → SlotFault t bad i f d k p → ⊥
+slot_law t bad i f d x k p h (no_flag none) = no_flag_law t (Some d) d x (ap (λ o. slot_of t o (Some d)) (sym none) ∙ h)
+slot_law t bad i f d x k p h (no_value valid none) = valid_law t (Some d) d x (ap (λ o. slot_of t o (Some d)) (sym valid) ∙ h) refl none
 
-slot_read : (t : IntType) (n : ℕ) (d : Data) (items : List Item) (h : ReadsInts t n d items) (i : ℕ) (e : Data) → get_item i h.values ≡ Some e
+slot_read : (t : Data → Option Item) (n : ℕ) (d : Data) (items : List Item) (h : ReadsPlain t n d items) (i : ℕ) (e : Data) → get_item i h.values ≡ Some e
     → (x : Item) × (slot_of t (valid_at h.flags i) (get_item i h.values) ≡ Some x)
 slot_read t n d items h i e found =
     let within : i < n = omega (arith, get_item-within h.values i e found, h.whole) in
     let x = slice_get_some items i (omega (arith, h.slots.len)) in
     (x.0, sym (h.slots.each i within) ∙ x.1)
 
-slots_law : (t : IntType) (n : ℕ) (d : Data) (items : List Item) (k : JsonFaultKind) (p : List Step) → (h : ReadsInts t n d items) → SlotsFault t h.flags h.values k p → ⊥
-slots_law t n d items k p h (bad_valid i e none found w) =
+slots_law : (t : Data → Option Item) (bad : JsonFaultKind) (n : ℕ) (d : Data) (items : List Item) (k : JsonFaultKind) (p : List Step) → (h : ReadsPlain t n d items) → SlotsFault t bad h.flags h.values k p → ⊥
+slots_law t bad n d items k p h (bad_valid i e none found w) =
     let x = slot_read t n d items h i e found in
     valid_law t (get_item i h.values) e x.0 (ap (λ o. slot_of t (valid_at o i) (get_item i h.values)) (sym none) ∙ x.1) found w
-slots_law t n d items k p h (bad_slot fs i f e k' p' flags at_flag found w) =
+slots_law t bad n d items k p h (bad_slot fs i f e k' p' flags at_flag found w) =
     let x = slot_read t n d items h i e found in
     let valid : valid_at h.flags i ≡ flag_of f = ap (λ o. valid_at o i) flags ∙ ap (option_and_then flag_of) at_flag in
-    slot_law t i f e x.0 _ _ (ap (slot_of t (flag_of f)) (sym found) ∙ (ap (λ o. slot_of t o (get_item i h.values)) (sym valid) ∙ x.1)) w
+    slot_law t bad i f e x.0 _ _ (ap (slot_of t (flag_of f)) (sym found) ∙ (ap (λ o. slot_of t o (get_item i h.values)) (sym valid) ∙ x.1)) w
 
-ints_law : (t : IntType) (n : ℕ) (d : Data) (items : List Item) (k : JsonFaultKind) (p : List Step) → ReadsInts t n d items → ColumnFault t n d k p → ⊥
-ints_law t n d items k p h (no_column_object k' p' u) = no_object count_of member.Count d n h.count (not_unlike as_object d _ _ u)
-ints_law t n d items k p h (bad_count k' p' f) = count_law n d _ _ h.count f
-ints_law t n d items k p h (bad_flags k' p' f) = flags_law n d h.flags _ _ h.validity h.flagged f
-ints_law t n d items k p h (bad_values k' p' f) =
+plain_law : (t : Data → Option Item) (bad : JsonFaultKind) (n : ℕ) (d : Data) (items : List Item) (k : JsonFaultKind) (p : List Step) → ReadsPlain t n d items → ColumnFault t bad n d k p → ⊥
+plain_law t bad n d items k p h (no_column_object k' p' u) = no_object count_of member.Count d n h.count (not_unlike as_object d _ _ u)
+plain_law t bad n d items k p h (bad_count k' p' f) = count_law n d _ _ h.count f
+plain_law t bad n d items k p h (bad_flags k' p' f) = flags_law n d h.flags _ _ h.validity h.flagged f
+plain_law t bad n d items k p h (bad_values k' p' f) =
     let i = inner as_array (member_of member.Data d) h.values h.listed in
     under_law member.Data (ListFault n) d i.0 _ _ i.1 (λ k p w. list_law n i.0 h.values k p i.2 h.whole w) f
-ints_law t n d items k p h (bad_slots flags values k' p' at_flags at_values whole f) =
+plain_law t bad n d items k p h (bad_slots flags values k' p' at_flags at_values whole f) =
     let a : flags ≡ h.flags = cc (at_flags, h.validity) in
     let b : values ≡ h.values = cc (at_values, h.listed) in
-    slots_law t n d items k' p' h (subst (λ x. SlotsFault t x h.values k' p') a (subst (λ y. SlotsFault t flags y k' p') b f))
+    slots_law t bad n d items k' p' h (subst (λ x. SlotsFault t bad x h.values k' p') a (subst (λ y. SlotsFault t bad flags y k' p') b f))
 
 column_law : (c : Kind) (n : ℕ) (d : Data) (items : List Item) (k : JsonFaultKind) (p : List Step) → ReadsColumn c n d items → KindFault c n d k p → ⊥
-column_law (kind.int t) n d items k p h f = ints_law t n d items k p h f
+column_law (kind.int t) n d items k p h f = plain_law (number_in t) BadNumber n d items k p h f
 column_law kind.boolean n d items k p h f = absurd h
 column_law kind.utf8 n d items k p h f = absurd h
 column_law (kind.list c) n d items k p h f = absurd h
@@ -306,8 +306,8 @@ bytes_law bytes f k p h (bad_file d k' p' text parsed w) =
 
 -- ---- two readings of one file are one
 
-same_ints : (t : IntType) (n : ℕ) (d : Data) (xs ys : List Item) → ReadsInts t n d xs → ReadsInts t n d ys → xs ≡ ys
-same_ints t n d xs ys h g =
+same_plain : (t : Data → Option Item) (n : ℕ) (d : Data) (xs ys : List Item) → ReadsPlain t n d xs → ReadsPlain t n d ys → xs ≡ ys
+same_plain t n d xs ys h g =
     let flags : h.flags ≡ g.flags = cc (h.validity, g.validity) in
     let values : h.values ≡ g.values = cc (h.listed, g.listed) in
     same_lists xs ys (h.slots.len ∙ sym g.slots.len)
@@ -318,7 +318,7 @@ same_ints t n d xs ys h g =
     cc)
 
 same_column : (k : Kind) (n : ℕ) (d : Data) (xs ys : List Item) → ReadsColumn k n d xs → ReadsColumn k n d ys → xs ≡ ys
-same_column (kind.int t) n d xs ys h g = same_ints t n d xs ys h g
+same_column (kind.int t) n d xs ys h g = same_plain (number_in t) n d xs ys h g
 same_column kind.boolean n d xs ys h g = absurd h
 same_column kind.utf8 n d xs ys h g = absurd h
 same_column (kind.list k) n d xs ys h g = absurd h

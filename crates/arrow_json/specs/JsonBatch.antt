@@ -10,7 +10,7 @@ use Rattle.serde_json.specs.Find.{get_item, as_array}
 use Rattle.serde_json.specs.Events.{items_len}
 use Rattle.arrow_json.specs.JsonNumber.{count_of}
 use Rattle.arrow_json.specs.JsonMember.{member_of}
-use Rattle.arrow_json.specs.JsonColumn.{ReadsInts}
+use Rattle.arrow_json.specs.JsonColumn.{ReadsPlain, number_in}
 use Rattle.arrow_json.specs.JsonTable.{Table}
 use Rattle.arrow_json.specs.declared.path.Member.TheVariants as member
 
@@ -20,7 +20,7 @@ table_of b = record { rows = b.rows; columns = map (λ s. s.items) b.columns }
 
 -- The column object of n items of the kind. Only integers are read.
 abbrev pub ReadsColumn : Kind → ℕ → Data → List Item → Type 0
-ReadsColumn (int t) n d items = ReadsInts t n d items
+ReadsColumn (int t) n d items = ReadsPlain (number_in t) n d items
 ReadsColumn boolean n d items = ⊥
 ReadsColumn utf8 n d items = ⊥
 ReadsColumn (list k) n d items = ⊥

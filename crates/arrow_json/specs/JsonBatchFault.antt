@@ -6,15 +6,17 @@ use Rattle.serde_json.specs.Data.{Data, Items}
 use Rattle.serde_json.specs.Find.{get_item, as_array, as_object}
 use Rattle.arrow_json.specs.JsonNumber.{count_of}
 use Rattle.arrow_json.specs.JsonMember.{member_of, Unlike, MemberFault, ListFault}
+use Rattle.arrow_json.specs.JsonColumn.{number_in}
 use Rattle.arrow_json.specs.JsonColumnFault.{ColumnFault}
 use Rattle.arrow_json.specs.declared.path.Member.TheVariants as member
 use Rattle.arrow_json.specs.declared.path.Step.{Step}
 use Rattle.arrow_json.specs.declared.path.Step.TheVariants as step
 use Rattle.arrow_json.specs.declared.fault.JsonFaultKind.{JsonFaultKind}
+use Rattle.arrow_json.specs.declared.fault.JsonFaultKind.TheVariants.{BadNumber}
 
 -- Only integers are read.
 abbrev pub KindFault : Kind → ℕ → Data → JsonFaultKind → List Step → Type 0
-KindFault (int t) n d kind path = ColumnFault t n d kind path
+KindFault (int t) n d kind path = ColumnFault (number_in t) BadNumber n d kind path
 KindFault boolean n d kind path = ⊥
 KindFault utf8 n d kind path = ⊥
 KindFault (list k) n d kind path = ⊥

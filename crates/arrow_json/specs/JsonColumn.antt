@@ -29,20 +29,24 @@ abbrev pub valid_at : Option Items → ℕ → Option Bool
 valid_at None i = Some true
 valid_at (Some fs) i = option_and_then flag_of (get_item i fs)
 
--- What a slot holds: null, or the integer that is spelled. Under a null slot the value isn't looked at.
-abbrev pub slot_of : IntType → Option Bool → Option Data → Option Item
-slot_of t (Some true) (Some d) = option_map column.int (integer_of t d)
-slot_of t (Some false) (Some d) = Some column.null
-slot_of t (Some b) None = None
-slot_of t None value = None
+-- What a value spells in a column of integers.
+abbrev pub number_in : IntType → Data → Option Item
+number_in t d = option_map column.int (integer_of t d)
+
+-- What a slot holds: null, or what its value spells. Under a null slot the value isn't looked at.
+abbrev pub slot_of : (Data → Option Item) → Option Bool → Option Data → Option Item
+slot_of spelled (Some true) (Some d) = spelled d
+slot_of spelled (Some false) (Some d) = Some column.null
+slot_of spelled (Some b) None = None
+slot_of spelled None d = None
 
 -- The first n slots.
-pub record ReadsSlots (t : IntType) (flags : Option Items) (values : Items) (n : ℕ) (items : List Item) : Type 0 where
+pub record ReadsSlots (spelled : Data → Option Item) (flags : Option Items) (values : Items) (n : ℕ) (items : List Item) : Type 0 where
   pub len : length items ≡ n
-  pub each : (i : ℕ) → i < n → slice_get items i ≡ slot_of t (valid_at flags i) (get_item i values)
+  pub each : (i : ℕ) → i < n → slice_get items i ≡ slot_of spelled (valid_at flags i) (get_item i values)
 
--- The column object of n integers of the type.
-pub record ReadsInts (t : IntType) (n : ℕ) (d : Data) (items : List Item) : Type 0 where
+-- The column object of n slots, each with a value of its own.
+pub record ReadsPlain (spelled : Data → Option Item) (n : ℕ) (d : Data) (items : List Item) : Type 0 where
   pub count : option_and_then count_of (member_of member.Count d) ≡ Some n
   pub flags : Option Items
   pub values : Items
@@ -50,4 +54,4 @@ pub record ReadsInts (t : IntType) (n : ℕ) (d : Data) (items : List Item) : Ty
   pub flagged : HasFlags n flags
   pub listed : option_and_then as_array (member_of member.Data d) ≡ Some values
   pub whole : items_len values ≡ n
-  pub slots : ReadsSlots t flags values n items
+  pub slots : ReadsSlots spelled flags values n items

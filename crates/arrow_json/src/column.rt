@@ -5,7 +5,7 @@ ghost use Rattle.arrays.specs.Kind as kind;
 ghost use Rattle.arrays.specs.Number.{IsOfType};
 ghost use Rattle.serde_json.specs.Find.{as_array};
 ghost use Rattle.serde_json.specs.View.{view, items_view};
-ghost use Rattle.arrow_json.specs.JsonColumn.{flags_of, slot_of, ReadsSlots, ReadsInts};
+ghost use Rattle.arrow_json.specs.JsonColumn.{flags_of, number_in, slot_of, ReadsSlots, ReadsPlain};
 ghost use Rattle.arrow_json.specs.JsonColumnFault.{CountFault, FlagsFault, SlotFault, SlotsFault, ColumnFault};
 ghost use Rattle.arrow_json.specs.JsonFault.{Tells, IsFault, no_memory};
 ghost use Rattle.arrow_json.specs.JsonMember.{member_of, IsObject, ListFault, MemberFault};
@@ -123,10 +123,10 @@ fn slot(
     value: &Value,
 ) -> Result<Option<i128>, JsonFault>
     ensures ok { IfOk result (λ s.
-        slot_of ty (flag_of (view flagged.now)) (Some (view value.now)) ≡ Some (item_of s)) }
+        slot_of (number_in ty) (flag_of (view flagged.now)) (Some (view value.now)) ≡ Some (item_of s)) }
     ensures of_type { IfOk result (λ s. ForSome s (IsOfType ty)) }
     ensures err { IfErr result
-        (Tells (SlotFault ty index (view flagged.now) (view value.now))) }
+        (Tells (SlotFault (number_in ty) BadNumber index (view flagged.now) (view value.now))) }
 {
     match flag(flagged) {
         Some(true) => match integer(ty, value) {
@@ -169,8 +169,8 @@ fn valid_slots(alloc: Global, ty: IntType, values: &[Value]) -> Result<IntBuilde
     requires { length values.now < 2 ^ 31 }
     ensures ty { IfOk result (λ b. b.ty ≡ ty) }
     ensures slots { IfOk result (λ b.
-        ReadsSlots ty None (items_view values.now) (length values.now) b.items) }
-    ensures err { IfErr result (Tells (SlotsFault ty None (items_view values.now))) }
+        ReadsSlots (number_in ty) None (items_view values.now) (length values.now) b.items) }
+    ensures err { IfErr result (Tells (SlotsFault (number_in ty) BadNumber None (items_view values.now))) }
 {
     let mut builder = new_builder(alloc, ty, values.len())?;
     for (index, value) in values.iter().enumerate() {
@@ -194,9 +194,9 @@ fn flagged_slots(
     requires whole { length flags.now ≡ length values.now }
     ensures ty { IfOk result (λ b. b.ty ≡ ty) }
     ensures slots { IfOk result (λ b.
-        ReadsSlots ty (Some (items_view flags.now)) (items_view values.now) (length values.now) b.items) }
+        ReadsSlots (number_in ty) (Some (items_view flags.now)) (items_view values.now) (length values.now) b.items) }
     ensures err { IfErr result
-        (Tells (SlotsFault ty (Some (items_view flags.now)) (items_view values.now))) }
+        (Tells (SlotsFault (number_in ty) BadNumber (Some (items_view flags.now)) (items_view values.now))) }
 {
     let mut builder = new_builder(alloc, ty, values.len())?;
     for index in 0..values.len() {
@@ -216,8 +216,8 @@ pub(crate) fn read_column(
 ) -> Result<IntBuilder, JsonFault>
     requires { count < 2 ^ 31 }
     ensures ty { IfOk result (λ b. b.ty ≡ ty) }
-    ensures items { IfOk result (λ b. ReadsInts ty count (view column.now) b.items) }
-    ensures err { IfErr result (Tells (ColumnFault ty count (view column.now))) }
+    ensures items { IfOk result (λ b. ReadsPlain (number_in ty) count (view column.now) b.items) }
+    ensures err { IfErr result (Tells (ColumnFault (number_in ty) BadNumber count (view column.now))) }
 {
     check_object(alloc, column)?;
     check_count(alloc, column, count)?;
