@@ -1,4 +1,5 @@
 mod deciding;
+mod logic;
 
 use arrays::{Array, View};
 use kernels::{
