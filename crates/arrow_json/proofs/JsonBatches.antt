@@ -1,7 +1,7 @@
 -- What a batch's columns are, and why its faults stand.
-use Rattle.std.proofs.Common.{◌≡◌, ◌∙◌, ℕ, ◌+◌, ◌<◌, List, [], ◌∷◌, ◌++◌, length, get_or, true, Some, option_map, option_and_then, refl, sym, ap, subst, arith, length-append, below_more}
+use Rattle.std.proofs.Common.{◌≡◌, ◌∙◌, ℕ, ◌+◌, ◌<◌, List, [], ◌∷◌, ◌++◌, length, get_or, Some, option_map, option_and_then, refl, sym, ap, subst, arith, length-append, below_more}
 use Rattle.std.specs.List.{slice_get}
-use Rattle.std.proofs.lemmas.Option.{slice_get-map, slice_get_within, slice_get_read, get_or_from_slice_get}
+use Rattle.std.proofs.lemmas.Option.{slice_get-map, slice_get_within, slice_get_read}
 use Rattle.arrays.specs.Kind.{kind_of, Kind}
 use Rattle.arrays.specs.Shape.{FieldShape, field_of, fields_of, kind_of_field}
 use Rattle.types.specs.declared.data_type.Field.{Field, out-Field}
@@ -15,45 +15,17 @@ use Rattle.arrow_json.specs.JsonMember.{member_of, Unlike, MemberFault, ListFaul
 use Rattle.arrow_json.specs.JsonNumber.{count_of}
 use Rattle.arrow_json.proofs.JsonItems.{slice_get-front, slice_get-last}
 use Rattle.arrow_json.proofs.JsonColumnFaults.{at_index}
-use Rattle.types.specs.declared.int_type.IntType.{IntType}
-use Rattle.arrays.specs.Kind as kind
-use Rattle.arrays.specs.Item.{Item}
 use Rattle.arrays.specs.Seen.{Seen}
 use Rattle.serde_json.specs.Data.{Data, Items}
 use Rattle.arrow_json.specs.declared.fault.JsonFault.{JsonFault}
-use Rattle.arrow_json.specs.declared.fault.JsonFaultKind.TheVariants.{BadNumber}
-use Rattle.arrow_json.specs.JsonFault.{Tells, IsUnder}
-use Rattle.arrow_json.specs.JsonColumn.{ReadsPlain, number_in}
-use Rattle.arrow_json.specs.JsonColumnFault.{ColumnFault}
-use Rattle.arrow_json.specs.Integers.{AreIntegers, int_of, is_integer}
+use Rattle.arrow_json.specs.declared.fault.JsonFaultKind.TheVariants.{UnsupportedType}
+use Rattle.arrow_json.specs.JsonFault.{Tells, IsFault, IsUnder}
 use Rattle.arrow_json.specs.JsonBatch.{HoldsColumn, HoldsColumns}
-use Rattle.arrow_json.specs.JsonBatchFault.{KindFault, ColumnsFault, bad_column, BatchFault, no_batch_object, bad_rows, bad_list, bad_columns}
-use Rattle.arrow_json.proofs.JsonFaults.{tells_as, tells_under, tells_wants}
+use Rattle.arrow_json.specs.JsonBatchFault.{KindFault, Unread, unread, ColumnsFault, bad_column, BatchFault, no_batch_object, bad_rows, bad_list, bad_columns}
+use Rattle.arrow_json.proofs.JsonFaults.{tells_at, tells_as, tells_under, tells_wants}
 
-pub tells_kind : (k : Kind) (t : IntType) (n : ℕ) (d : Data) (f : JsonFault) → Some t ≡ int_of k → Tells (ColumnFault (number_in t) BadNumber n d) f → Tells (KindFault k n d) f
-tells_kind (kind.int u) t n d f is told =
-    let same : t ≡ u = cc in
-    subst (λ v. Tells (ColumnFault (number_in v) BadNumber n d) f) same told
-tells_kind kind.boolean t n d f is told = cc
-tells_kind kind.utf8 t n d f is told = cc
-tells_kind (kind.list k) t n d f is told = cc
-tells_kind kind.dict t n d f is told = cc
-
-holds : (t : IntType) (n : ℕ) (d : Data) (s : Seen) (items : List Item) → s.kind ≡ kind.int t → s.items ≡ items → ReadsPlain (number_in t) n d items → HoldsColumn (kind.int t) n d s
-holds t n d s items same shown reads = record {
-  kind = same;
-  len = ap length shown ∙ reads.slots.len;
-  reads = subst (λ xs. ReadsPlain (number_in t) n d xs) (sym shown) reads;
-}
-
-pub holds_int : (k : Kind) (t : IntType) (n : ℕ) (d : Data) (s : Seen) (items : List Item) → Some t ≡ int_of k → s.kind ≡ kind.int t → s.items ≡ items → ReadsPlain (number_in t) n d items → HoldsColumn k n d s
-holds_int (kind.int u) t n d s items is same shown reads =
-    let e : t ≡ u = cc in
-    subst (λ v. HoldsColumn (kind.int v) n d s) e (holds t n d s items same shown reads)
-holds_int kind.boolean t n d s items is same shown reads = absurd cc
-holds_int kind.utf8 t n d s items is same shown reads = absurd cc
-holds_int (kind.list k) t n d s items is same shown reads = absurd cc
-holds_int kind.dict t n d s items is same shown reads = absurd cc
+pub tells_unread : (k : Kind) (n : ℕ) (d : Data) (f : JsonFault) → (Unread UnsupportedType [] → KindFault k n d UnsupportedType []) → IsFault UnsupportedType [] f → Tells (KindFault k n d) f
+tells_unread k n d f is told = tells_at (KindFault k n d) UnsupportedType [] f (is unread) told
 
 -- ---- the fields of a schema, one by one
 
@@ -62,12 +34,6 @@ slice_get_from_get_or xs i x within is = slice_get_read xs (length xs) i x refl 
 
 pub field_at : (fs : List Field) (i : ℕ) (f : Field) → i < length fs → f ≡ get_or fs i f → slice_get (fields_of fs) i ≡ Some (field_of f)
 field_at fs i f within is = slice_get-map field_of fs i ∙ ap (option_map field_of) (slice_get_from_get_or fs i f within is)
-
-pub int_at : (fs : List Field) (i : ℕ) (f : Field) → i < length fs → f ≡ get_or fs i f → AreIntegers (fields_of fs) → is_integer (kind_of (out-Field f).ty) ≡ true
-int_at fs i f within is ints =
-    let at = field_at fs i f within is in
-    let read : get_or (fields_of fs) i (field_of f) ≡ field_of f = get_or_from_slice_get (fields_of fs) i (field_of f) (field_of f) at in
-    subst (λ k. is_integer k ≡ true) (ap kind_of_field read ∙ kind_of_field-field_of f) (ints i (field_of f) (slice_get_within (fields_of fs) i (field_of f) at))
 
 -- ---- columns
 
@@ -106,7 +72,7 @@ columns_pushed fs n vs m columns f v s h at_field is_field at_value is_value col
     column_pushed (fields_of fs) n (items_view vs) m columns (field_of f) (view v) s h (field_at fs m f at_field is_field) (at_index vs m v at_value is_value)
     (subst (λ a. HoldsColumn a n (view v) s) (sym (kind_of_field-field_of f)) column)
 
-pub ruleset columns_told = (tells_column, int_at, tells_wants)
+pub ruleset columns_told = (tells_column, tells_wants)
 
 -- ---- batches
 
@@ -126,5 +92,3 @@ batch_columns fields d rows ds f g told at_rows at_list up =
     tells_under (ColumnsFault fields rows ds) (BatchFault fields d) (step.Member member.Columns) f g (λ k p w. bad_columns rows ds k p at_rows at_list w) told up
 
 pub ruleset batch_told = (batch_object, batch_rows, batch_list, batch_columns)
-
-pub ruleset column_told = (tells_kind, holds_int, tells_wants)

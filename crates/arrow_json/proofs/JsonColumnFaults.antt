@@ -1,5 +1,5 @@
 -- Why a fault of a column stands.
-use Rattle.std.proofs.Common.{◌≡◌, ◌≢◌, ◌∙◌, ℕ, ◌<◌, true, get_or, length, List, [], ◌∷◌, Option, Some, None, option_and_then, option_map, refl, sym, ap}
+use Rattle.std.proofs.Common.{◌≡◌, ◌≢◌, ◌∙◌, ℕ, ◌<◌, false, get_or, length, List, [], ◌∷◌, Option, Some, None, option_and_then, option_map, IfSome, sym, ap, subst}
 use Rattle.serde_json.specs.Data.{Data, Items}
 use Rattle.serde_json.specs.Find.{get_item, as_array, as_null, as_object}
 use Rattle.serde_json.proofs.Views.{items_len-items_view, get_item_within}
@@ -11,14 +11,19 @@ use Rattle.arrow_json.specs.declared.path.Step.{Step}
 use Rattle.arrow_json.specs.declared.path.Step.TheVariants as step
 use Rattle.arrow_json.specs.declared.fault.JsonFault.{JsonFault}
 use Rattle.arrow_json.specs.declared.fault.JsonFaultKind.{JsonFaultKind}
-use Rattle.arrow_json.specs.declared.fault.JsonFaultKind.TheVariants.{WrongMember, BadNumber, CountDiffers}
+use Rattle.arrow_json.specs.declared.fault.JsonFaultKind.TheVariants.{WrongMember, CountDiffers}
 use Rattle.arrow_json.specs.JsonFault.{IsFault, IsUnder, Tells}
 use Rattle.arrow_json.specs.JsonMember.{member_of, Unlike, MemberFault, wrong, ListFault, no_array, length_differs}
-use Rattle.arrow_json.specs.JsonNumber.{count_of, flag_of, integer_of}
-use Rattle.arrays.specs.Item as column
+use Rattle.arrow_json.specs.JsonNumber.{count_of}
+use Rattle.arrays.specs.Kind as kind
+use Rattle.arrays.specs.Kind.{Kind}
+use Rattle.arrays.specs.Seen.{Seen}
 use Rattle.types.specs.declared.int_type.IntType.{IntType}
-use Rattle.arrow_json.specs.JsonColumnFault.{CountFault, no_count, other_count, FlagsFault, no_flags, SlotFault, no_flag, no_value, SlotsFault, bad_valid, bad_slot, ColumnFault, no_column_object, bad_count, bad_flags, bad_values, bad_slots}
-use Rattle.arrow_json.specs.JsonColumn.{flags_of, number_in}
+use Rattle.arrow_json.specs.declared.column.Slots.{Slots}
+use Rattle.arrow_json.specs.SlotParts.{flags_in, values_in}
+use Rattle.arrow_json.specs.JsonBatch.{HoldsColumn, ReadsColumn}
+use Rattle.arrow_json.specs.JsonColumnFault.{CountFault, no_count, other_count, FlagsFault, no_flags, NoSlots, no_column_object, bad_count, bad_flags, bad_values, SlotsFault, ColumnFault, no_slots, bad_slots}
+use Rattle.arrow_json.specs.JsonColumn.{Spelling, numbers, truths, texts, is_full, flags_of, HasFlags, ReadsSlots, HasSlots, ReadsPlain}
 use Rattle.arrow_json.proofs.JsonFaults.{tells_at, tells_as, tells_under, tells_absent, tells_wants}
 
 pub tells_count : (n : ℕ) (d : Data) (f : JsonFault) → Tells (MemberFault member.Count (Unlike count_of) d) f → Tells (CountFault n d) f
@@ -51,51 +56,67 @@ tells_flags n d e f g t at there up = tells_under (ListFault n e) (FlagsFault n 
 
 pub ruleset flags_told = (tells_flags)
 
--- ---- slots
-
-pub tells_no_flag : (t : IntType) (i : ℕ) (f d : Data) (g : JsonFault) → flag_of f ≡ None → IsFault WrongMember (step.Member member.Validity ∷ step.Item i ∷ []) g → Tells (SlotFault (number_in t) BadNumber i f d) g
-tells_no_flag t i f d g h is = tells_at (SlotFault (number_in t) BadNumber i f d) WrongMember (step.Member member.Validity ∷ step.Item i ∷ []) g (no_flag h) is
-
-pub tells_no_integer : (t : IntType) (i : ℕ) (f d : Data) (g : JsonFault) → flag_of f ≡ Some true → integer_of t d ≡ None → IsFault BadNumber (step.Member member.Data ∷ step.Item i ∷ []) g
-    → Tells (SlotFault (number_in t) BadNumber i f d) g
-tells_no_integer t i f d g valid h is = tells_at (SlotFault (number_in t) BadNumber i f d) BadNumber (step.Member member.Data ∷ step.Item i ∷ []) g (no_value valid (ap (option_map column.int) h)) is
-
-pub ruleset slot_told = (tells_no_flag, tells_no_integer)
+-- flags that are there are as many as the slots
+has_flags : {R : Type 0} (now : R → List Value) (n : ℕ) (flags : Option R) → IfSome flags (λ fs. length (now fs) ≡ n) → HasFlags n (option_map (λ fs. items_view (now fs)) flags)
+has_flags now n None h = tt
+has_flags now n (Some fs) h = items_len-items_view (now fs) ∙ h
 
 -- the value that a loop reads
 pub at_index : (vs : List Value) (i : ℕ) (v : Value) → i < length vs → v ≡ get_or vs i v → get_item i (items_view vs) ≡ Some (view v)
 at_index vs i v within is = sym (get_item_within vs i v within) ∙ ap (λ w. Some (view w)) (sym is)
 
-pub tells_valid : (t : IntType) (vs : List Value) (i : ℕ) (v : Value) (g : JsonFault) → i < length vs → v ≡ get_or vs i v → integer_of t (view v) ≡ None
-    → IsFault BadNumber (step.Member member.Data ∷ step.Item i ∷ []) g → Tells (SlotsFault (number_in t) BadNumber None (items_view vs)) g
-tells_valid t vs i v g within is h at =
-    tells_at (SlotsFault (number_in t) BadNumber None (items_view vs)) BadNumber (step.Member member.Data ∷ step.Item i ∷ []) g (bad_valid i (view v) refl (at_index vs i v within is) (ap (option_map column.int) h)) at
+-- ---- no slots
 
-pub tells_flagged : (t : IntType) (fs vs : List Value) (i : ℕ) (f v : Value) (g : JsonFault) → Tells (SlotFault (number_in t) BadNumber i (view f) (view v)) g → i < length fs → f ≡ get_or fs i f → i < length vs → v ≡ get_or vs i v
-    → Tells (SlotsFault (number_in t) BadNumber (Some (items_view fs)) (items_view vs)) g
-tells_flagged t fs vs i f v g told at_flag is_flag at_value is_value =
-    tells_as (SlotFault (number_in t) BadNumber i (view f) (view v)) (SlotsFault (number_in t) BadNumber (Some (items_view fs)) (items_view vs)) g
-    (λ k p h. bad_slot (items_view fs) i (view f) (view v) k p refl (at_index fs i f at_flag is_flag) (at_index vs i v at_value is_value) h) told
+pub slots_object : (n : ℕ) (d : Data) (f : JsonFault) → Tells (Unlike as_object d) f → Tells (NoSlots n d) f
+slots_object n d f h = tells_as (Unlike as_object d) (NoSlots n d) f (λ k p w. no_column_object k p w) h
 
-pub ruleset slots_told = (tells_valid, tells_flagged, tells_wants)
+pub slots_count : (n : ℕ) (d : Data) (f : JsonFault) → Tells (CountFault n d) f → Tells (NoSlots n d) f
+slots_count n d f h = tells_as (CountFault n d) (NoSlots n d) f (λ k p w. bad_count k p w) h
+
+pub slots_flags : (n : ℕ) (d : Data) (f : JsonFault) → Tells (FlagsFault n d) f → Tells (NoSlots n d) f
+slots_flags n d f h = tells_as (FlagsFault n d) (NoSlots n d) f (λ k p w. bad_flags k p w) h
+
+pub slots_values : (n : ℕ) (d : Data) (f : JsonFault) → Tells (MemberFault member.Data (ListFault n) d) f → Tells (NoSlots n d) f
+slots_values n d f h = tells_as (MemberFault member.Data (ListFault n) d) (NoSlots n d) f (λ k p w. bad_values k p w) h
+
+-- the flags and values that were found
+pub has_slots : (n : ℕ) (d : Data) (s : Slots) → option_and_then count_of (member_of member.Count d) ≡ Some n → flags_of (member_of member.Validity d) ≡ Some (flags_in s)
+    → IfSome s.flags (λ fs. length fs.now ≡ n) → option_and_then as_array (member_of member.Data d) ≡ Some (values_in s) → length s.values.now ≡ n → HasSlots n d (flags_in s) (values_in s)
+has_slots n d s count validity flagged listed whole = record {
+  count = count;
+  validity = validity;
+  flagged = has_flags (λ fs. fs.now) n s.flags flagged;
+  listed = listed;
+  whole = items_len-items_view s.values.now ∙ whole;
+}
+
+pub ruleset no_slots_told = (slots_object, slots_count, slots_flags, slots_values, has_slots)
 
 -- ---- columns
 
-pub column_object : (t : IntType) (n : ℕ) (d : Data) (f : JsonFault) → Tells (Unlike as_object d) f → Tells (ColumnFault (number_in t) BadNumber n d) f
-column_object t n d f h = tells_as (Unlike as_object d) (ColumnFault (number_in t) BadNumber n d) f (λ k p w. no_column_object k p w) h
+pub column_no_slots : (s : Spelling) (n : ℕ) (d : Data) (f : JsonFault) → Tells (NoSlots n d) f → Tells (ColumnFault s n d) f
+column_no_slots s n d f h = tells_as (NoSlots n d) (ColumnFault s n d) f (λ k p w. no_slots k p w) h
 
-pub column_count : (t : IntType) (n : ℕ) (d : Data) (f : JsonFault) → Tells (CountFault n d) f → Tells (ColumnFault (number_in t) BadNumber n d) f
-column_count t n d f h = tells_as (CountFault n d) (ColumnFault (number_in t) BadNumber n d) f (λ k p w. bad_count k p w) h
+pub column_slots : (s : Spelling) (n : ℕ) (d : Data) (f : JsonFault) (flags : Option Items) (values : Items) → Tells (SlotsFault s flags values) f → HasSlots n d flags values
+    → Tells (ColumnFault s n d) f
+column_slots s n d f flags values h given = tells_as (SlotsFault s flags values) (ColumnFault s n d) f (λ k p w. bad_slots flags values k p given w) h
 
-pub column_flags : (t : IntType) (n : ℕ) (d : Data) (f : JsonFault) → Tells (FlagsFault n d) f → Tells (ColumnFault (number_in t) BadNumber n d) f
-column_flags t n d f h = tells_as (FlagsFault n d) (ColumnFault (number_in t) BadNumber n d) f (λ k p w. bad_flags k p w) h
+holds : (k : Kind) (s : Spelling) (n : ℕ) (d : Data) (flags : Option Items) (vs : List Value) (a : Seen) → a.kind ≡ k → HasSlots n d flags (items_view vs)
+    → ReadsSlots s flags (items_view vs) (length vs) a.items → length vs ≡ n → is_full s a.items ≡ false → (ReadsPlain s n d a.items → ReadsColumn k n d a.items) → HoldsColumn k n d a
+holds k s n d flags vs a same given slots whole fits reads =
+    let all = subst (λ m. ReadsSlots s flags (items_view vs) m a.items) whole slots in
+    record { kind = same; len = all.len; reads = reads record { flags = flags; values = items_view vs; given = given; slots = all; fits = fits } }
 
-pub column_values : (t : IntType) (n : ℕ) (d : Data) (f : JsonFault) → Tells (MemberFault member.Data (ListFault n) d) f → Tells (ColumnFault (number_in t) BadNumber n d) f
-column_values t n d f h = tells_as (MemberFault member.Data (ListFault n) d) (ColumnFault (number_in t) BadNumber n d) f (λ k p w. bad_values k p w) h
+pub holds_numbers : (t : IntType) (n : ℕ) (d : Data) (flags : Option Items) (vs : List Value) (a : Seen) → a.kind ≡ kind.int t → HasSlots n d flags (items_view vs)
+    → ReadsSlots (numbers t) flags (items_view vs) (length vs) a.items → length vs ≡ n → is_full (numbers t) a.items ≡ false → HoldsColumn (kind.int t) n d a
+holds_numbers t n d flags vs a same given slots whole fits = holds (kind.int t) (numbers t) n d flags vs a same given slots whole fits (λ r. r)
 
-pub column_slots : (t : IntType) (n : ℕ) (d : Data) (f : JsonFault) (flags : Option Items) (vs : List Value) → Tells (SlotsFault (number_in t) BadNumber flags (items_view vs)) f
-    → flags_of (member_of member.Validity d) ≡ Some flags → option_and_then as_array (member_of member.Data d) ≡ Some (items_view vs) → length vs ≡ n → Tells (ColumnFault (number_in t) BadNumber n d) f
-column_slots t n d f flags vs h at_flags at_values whole =
-    tells_as (SlotsFault (number_in t) BadNumber flags (items_view vs)) (ColumnFault (number_in t) BadNumber n d) f (λ k p w. bad_slots flags (items_view vs) k p at_flags at_values (items_len-items_view vs ∙ whole) w) h
+pub holds_truths : (n : ℕ) (d : Data) (flags : Option Items) (vs : List Value) (a : Seen) → a.kind ≡ kind.boolean → HasSlots n d flags (items_view vs)
+    → ReadsSlots truths flags (items_view vs) (length vs) a.items → length vs ≡ n → is_full truths a.items ≡ false → HoldsColumn kind.boolean n d a
+holds_truths n d flags vs a same given slots whole fits = holds kind.boolean truths n d flags vs a same given slots whole fits (λ r. r)
 
-pub ruleset column_told = (column_object, column_count, column_flags, column_values, column_slots)
+pub holds_texts : (n : ℕ) (d : Data) (flags : Option Items) (vs : List Value) (a : Seen) → a.kind ≡ kind.utf8 → HasSlots n d flags (items_view vs)
+    → ReadsSlots texts flags (items_view vs) (length vs) a.items → length vs ≡ n → is_full texts a.items ≡ false → HoldsColumn kind.utf8 n d a
+holds_texts n d flags vs a same given slots whole fits = holds kind.utf8 texts n d flags vs a same given slots whole fits (λ r. r)
+
+pub ruleset column_told = (column_no_slots, column_slots, holds_numbers, holds_truths, holds_texts, tells_wants)

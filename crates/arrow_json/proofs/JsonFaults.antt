@@ -58,8 +58,8 @@ type_object d f t = tells_as (Unlike as_object d) (TypeFault d) f (λ k p h. no_
 pub type_name_told : (d : Data) (f : JsonFault) → Tells (MemberFault member.Name (Unlike as_str) d) f → Tells (TypeFault d) f
 type_name_told d f t = tells_as (MemberFault member.Name (Unlike as_str) d) (TypeFault d) f (λ k p h. bad_type_name k p h) t
 
-pub type_other_name : (d : Data) (f : JsonFault) (bytes : List ℕ) → type_name d ≡ Some bytes → bytes ≢ codes "int" → IsFault UnsupportedType [] f → Tells (TypeFault d) f
-type_other_name d f bytes at other is = tells_at (TypeFault d) UnsupportedType [] f (other_type bytes at other) is
+pub type_other_name : (d : Data) (f : JsonFault) (bytes : List ℕ) → type_name d ≡ Some bytes → bytes ≢ codes "int" → bytes ≢ codes "bool" → bytes ≢ codes "utf8" → IsFault UnsupportedType [] f → Tells (TypeFault d) f
+type_other_name d f bytes at int bool utf8 is = tells_at (TypeFault d) UnsupportedType [] f (other_type bytes at int bool utf8) is
 
 pub type_width : (d : Data) (f : JsonFault) → Tells (MemberFault member.BitWidth (Unlike as_number) d) f → type_name d ≡ Some (codes "int") → Tells (TypeFault d) f
 type_width d f t int = tells_as (MemberFault member.BitWidth (Unlike as_number) d) (TypeFault d) f (λ k p h. bad_width k p int h) t

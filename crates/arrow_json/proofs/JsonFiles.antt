@@ -16,13 +16,11 @@ use Rattle.arrow_json.specs.declared.fault.JsonFaultKind.TheVariants.{NotJson}
 use Rattle.arrow_json.specs.JsonFault.{Tells, IsFault, IsUnder}
 use Rattle.arrow_json.specs.JsonMember.{member_of, Unlike, Missing, MemberFault, absent, wrong, EachFault, ReadsFirst}
 use Rattle.arrow_json.specs.JsonSchemaFault.{SchemaFault}
-use Rattle.arrow_json.specs.Integers.{AreIntegers}
 use Rattle.arrow_json.specs.JsonBatch.{ReadsBatch, table_of}
 use Rattle.arrow_json.specs.JsonBatchFault.{BatchFault}
 use Rattle.arrow_json.specs.JsonFile.{AreUnder, HasSchema, FileFault, no_file_object, bad_schema, bad_batches, bad_batch, BytesFault, no_json, bad_file}
 use Rattle.arrow_json.proofs.JsonFaults.{tells_at, tells_as, tells_under, tells_wants, tells_item_at}
 use Rattle.arrow_json.proofs.JsonItems.{each_pushed}
-use Rattle.arrow_json.proofs.JsonInts.{ints_from_read}
 
 pub tells_batch : (fields : List FieldShape) (vs : List Value) (i : ℕ) (v : Value) (f g : JsonFault) → Tells (BatchFault fields (view v)) f → i < length vs → v ≡ get_or vs i v
     → IsUnder (step.Item i) f g → Tells (EachFault (BatchFault fields) (items_view vs)) g
@@ -33,9 +31,6 @@ pub batch_pushed : (fields : List FieldShape) (vs : List Value) (n : ℕ) (bs : 
     → n < length vs → v ≡ get_or vs n v → ReadsBatch fields (view v) (table_of b) → ReadsFirst (ReadsBatch fields) (items_view vs) (n + 1) (map table_of (bs ++ b ∷ []))
 batch_pushed fields vs n bs v b h within is batch =
     rw (map-append table_of bs (b ∷ [])) (each_pushed (ReadsBatch fields) vs n (map table_of bs) v (table_of b) h within is batch)
-
-pub ints_from_schema : (d : Data) (fields : List FieldShape) → HasSchema d fields → AreIntegers fields
-ints_from_schema d fields h = ints_from_read h.reads.fields.0 fields h.reads.fields.2
 
 pub ruleset batches_told = (tells_batch, tells_wants)
 
@@ -74,7 +69,4 @@ each_under fields [] b h is = (is, tt)
 each_under fields (x ∷ bs) b h is = (h.0, each_under fields bs b h.1 is)
 
 pub AreUnder-push : (fields : List FieldShape) (bs new : List Batch) (b : Batch) → AreUnder fields bs → b.fields ≡ fields → new ≡ bs ++ b ∷ [] → AreUnder fields new
-AreUnder-push fields bs new b under is grown = record {
-  integers = under.integers;
-  each = subst (λ xs. AllByRecursion (λ (x : Batch). x.fields ≡ fields) xs) (sym grown) (each_under fields bs b under.each is);
-}
+AreUnder-push fields bs new b under is grown = subst (AreUnder fields) (sym grown) (each_under fields bs b under is)

@@ -1,7 +1,9 @@
 -- Where a fault stands, nothing is read.
-use Rattle.std.proofs.Common.{◌≡◌, ◌∙◌, ℕ, zero, suc, ◌<◌, Bool, true, List, [], ◌∷◌, length, Option, Some, None, option_and_then, codes, refl, sym, ap, subst, arith}
+use Rattle.std.proofs.Common.{◌≡◌, ◌≢◌, ◌∙◌, ℕ, zero, suc, ◌<◌, ◌≤◌, Bool, true, false, List, [], ◌∷◌, length, Option, Some, None, option_and_then, codes, refl, sym, ap, subst, arith}
 use Rattle.std.proofs.lemmas.Bool.{false≢true}
-use Rattle.std.specs.List.{slice_get}
+use Rattle.std.specs.List.{slice_get, sum_by}
+use Rattle.std.proofs.lemmas.Bool.Decides.{nat_tests}
+use Rattle.std.proofs.lemmas.List.Sums.{sum_by-cons}
 use Rattle.types.specs.declared.int_type.IntType.{IntType}
 use Rattle.arrays.specs.Kind as kind
 use Rattle.arrays.specs.Kind.{Kind}
@@ -15,18 +17,18 @@ use Rattle.arrow_json.specs.declared.path.Member.{Member}
 use Rattle.arrow_json.specs.declared.path.Member.TheVariants as member
 use Rattle.arrow_json.specs.declared.path.Step.{Step}
 use Rattle.arrow_json.specs.declared.fault.JsonFaultKind.{JsonFaultKind}
-use Rattle.arrow_json.specs.declared.fault.JsonFaultKind.TheVariants.{BadNumber}
 use Rattle.arrow_json.specs.JsonMember as at
 use Rattle.arrow_json.specs.JsonMember.{IsObject, member_of, Unlike, unlike, Missing, missing, MemberFault, absent, wrong, ListFault, no_array, length_differs, EachFault, ReadsEach}
-use Rattle.arrow_json.specs.JsonNumber.{count_of, flag_of, width_of}
-use Rattle.arrow_json.specs.JsonSchema.{ReadsInt, ReadsShape, ReadsField, HasField, ReadsSchema}
+use Rattle.arrow_json.specs.JsonNumber.{count_of, width_of}
+use Rattle.arrow_json.specs.JsonSchema.{type_name, ReadsInt, ReadsShape, ReadsField, HasField, ReadsSchema}
 use Rattle.arrow_json.specs.JsonSchemaFault.{TypeFault, no_type_object, bad_type_name, other_type, bad_width, other_width, bad_sign, FieldFault, no_field_object, bad_field_name, bad_nullable, bad_type, no_dictionary_object, encoded, has_children, SchemaFault, no_schema_object, bad_fields, bad_field}
-use Rattle.arrow_json.specs.JsonColumn.{flags_of, HasFlags, number_in, valid_at, slot_of, ReadsPlain}
-use Rattle.arrow_json.specs.JsonColumnFault.{CountFault, no_count, other_count, FlagsFault, no_flags, SlotFault, no_flag, no_value, SlotsFault, bad_valid, bad_slot, ColumnFault, no_column_object, bad_count, bad_flags, bad_values, bad_slots}
+use Rattle.arrow_json.specs.JsonColumn.{Spelling, numbers, truths, texts, is_full, flags_of, HasFlags, valid_at, slot_of, ReadsSlots, HasSlots, ReadsPlain}
+use Rattle.arrays.specs.Lengths.{is_past}
+use Rattle.arrow_json.specs.JsonColumnFault.{CountFault, no_count, other_count, FlagsFault, no_flags, NoSlots, no_column_object, bad_count, bad_flags, bad_values, SlotsFault, no_flag, no_value, too_long, ColumnFault, no_slots, bad_slots}
 use Rattle.arrow_json.specs.JsonTable.{Table, FileData}
 use Rattle.arrow_json.specs.JsonBatch.{ReadsColumn, ReadsColumns, ReadsBatch}
 use Rattle.arrow_json.specs.JsonBatchFault.{KindFault, ColumnsFault, bad_column, BatchFault, no_batch_object, bad_rows, bad_list, bad_columns}
-use Rattle.arrow_json.proofs.JsonInts.{get_item_some}
+use Rattle.arrow_json.proofs.JsonSchemas.{get_item_some}
 use Rattle.arrow_json.specs.JsonFile.{HasSchema, ReadsFile, Reads, FileFault, no_file_object, bad_schema, bad_batches, bad_batch, BytesFault, no_json, bad_file}
 
 -- ---- members
@@ -67,7 +69,7 @@ no_member w m d x k p h (wrong e k' p' found u) =
 type_law : (d : Data) (t : IntType) (k : JsonFaultKind) (p : List Step) → ReadsInt d t → TypeFault d k p → ⊥
 type_law d t k p h (no_type_object k' p' u) = no_object as_str member.Name d _ h.name (not_unlike as_object d _ _ u)
 type_law d t k p h (bad_type_name k' p' f) = no_member as_str member.Name d _ _ _ h.name f
-type_law d t k p h (other_type bytes found other) =
+type_law d t k p h (other_type bytes found other no_bool no_utf8) =
     let same : bytes ≡ codes "int" = cc (found, h.name) in
     other same
 type_law d t k p h (bad_width k' p' name f) =
@@ -76,10 +78,25 @@ type_law d t k p h (bad_width k' p' name f) =
 type_law d t k p h (other_width width name at none) = cc (at, none, h.width)
 type_law d t k p h (bad_sign k' p' name f) = no_member as_bool member.IsSigned d _ _ _ h.sign f
 
+-- of a type that its name describes whole
+named_law : (d : Data) (bytes : List ℕ) (k : JsonFaultKind) (p : List Step) → type_name d ≡ Some bytes → bytes ≢ codes "int" → (bytes ≢ codes "bool" → bytes ≢ codes "utf8" → ⊥) → TypeFault d k p → ⊥
+named_law d bytes k p h no_int known (no_type_object k' p' u) = no_object as_str member.Name d _ h (not_unlike as_object d _ _ u)
+named_law d bytes k p h no_int known (bad_type_name k' p' f) = no_member as_str member.Name d _ _ _ h f
+named_law d bytes k p h no_int known (other_type other found a b c) =
+    let same : other ≡ bytes = cc (found, h) in
+    known (subst (λ x. x ≢ codes "bool") same b) (subst (λ x. x ≢ codes "utf8") same c)
+named_law d bytes k p h no_int known (bad_width k' p' name f) = no_int cc
+named_law d bytes k p h no_int known (other_width width name at none) = no_int cc
+named_law d bytes k p h no_int known (bad_sign k' p' name f) = no_int cc
+
+abbrev head : List ℕ → ℕ
+head [] = 0
+head (x ∷ xs) = x
+
 shape_law : (d : Data) (s : Shape) (k : JsonFaultKind) (p : List Step) → ReadsShape d s → TypeFault d k p → ⊥
 shape_law d (int t) k p h f = type_law d t k p h f
-shape_law d boolean k p h f = absurd h
-shape_law d utf8 k p h f = absurd h
+shape_law d boolean k p h f = named_law d (codes "bool") k p h (λ e. let n : 98 ≡ 105 = ap head e in omega (arith, n)) (λ no_bool no_utf8. no_bool refl) f
+shape_law d utf8 k p h f = named_law d (codes "utf8") k p h (λ e. let n : 117 ≡ 105 = ap head e in omega (arith, n)) (λ no_bool no_utf8. no_utf8 refl) f
 shape_law d (list g) k p h f = absurd h
 shape_law d dict k p h f = absurd h
 
@@ -104,7 +121,7 @@ has_law : (d : Data) (bytes : List ℕ) (b : Bool) (s : Shape) (k : JsonFaultKin
 has_law d bytes b s k p h (no_field_object k' p' u) = no_object as_str member.Name d _ h.name (not_unlike as_object d _ _ u)
 has_law d bytes b s k p h (bad_field_name k' p' f) = no_member as_str member.Name d _ _ _ h.name f
 has_law d bytes b s k p h (bad_nullable k' p' f) = no_member as_bool member.Nullable d _ _ _ h.nullable f
-has_law d bytes b s k p h (bad_type k' p' f) = under_law member.DataType TypeFault d h.ty.0 _ _ h.ty.1 (λ k p w. shape_law h.ty.0 s k p h.ty.2 w) f
+has_law d bytes b s k p h (bad_type k' p' f) = under_law member.DataType TypeFault d h.ty.object _ _ h.ty.at_type (λ k p w. shape_law h.ty.object s k p h.ty.reads w) f
 has_law d bytes b s k p h (no_dictionary_object e k' p' at some u) = cc (at, some, h.plain)
 has_law d bytes b s k p h (encoded e at object) = cc (at, no_null e object, h.plain)
 has_law d bytes b s k p h (has_children e) = cc (e, h.childless)
@@ -116,6 +133,11 @@ get_item-within : (ds : Items) (i : ℕ) (d : Data) → get_item i ds ≡ Some d
 get_item-within no_items i d h = absurd cc
 get_item-within (item e ds) zero d h = omega arith
 get_item-within (item e ds) (suc i) d h = omega (arith, get_item-within ds i d h)
+
+slice_get-within : {A : Type 0} (xs : List A) (i : ℕ) (x : A) → slice_get xs i ≡ Some x → i < length xs
+slice_get-within [] i x h = absurd cc
+slice_get-within (y ∷ xs) zero x h = omega arith
+slice_get-within (y ∷ xs) (suc i) x h = omega (arith, slice_get-within xs i x h)
 
 slice_get_some : {A : Type 0} (xs : List A) (i : ℕ) → i < length xs → (x : A) × (slice_get xs i ≡ Some x)
 slice_get_some [] i h = absurd (omega arith)
@@ -166,51 +188,81 @@ flags_law n d flags k p h len (no_flags e k' p' found there w) =
     let a = flags_array e n flags (ap flags_of (sym found) ∙ h) len there in
     list_law n e a.0 _ _ a.1 a.2 w
 
-valid_law : (t : Data → Option Item) (o : Option Data) (d : Data) (x : Item) → slot_of t (Some true) o ≡ Some x → o ≡ Some d → t d ≡ None → ⊥
-valid_law t o d x h at none =
-    let e = ap (slot_of t (Some true)) at ∙ none in
+valid_law : (s : Spelling) (o : Option Data) (d : Data) (x : Item) → slot_of s (Some true) o ≡ Some x → o ≡ Some d → s.spelled d ≡ None → ⊥
+valid_law s o d x h at none =
+    let e = ap (slot_of s (Some true)) at ∙ none in
     cc (e, h)
 
-no_flag_law : (t : Data → Option Item) (o : Option Data) (d : Data) (x : Item) → slot_of t None o ≡ Some x → ⊥
-no_flag_law t None d x h = cc
-no_flag_law t (Some e) d x h = cc
+no_flag_law : (s : Spelling) (o : Option Data) (x : Item) → slot_of s None o ≡ Some x → ⊥
+no_flag_law s None x h = cc
+no_flag_law s (Some e) x h = cc
 
-slot_law : (t : Data → Option Item) (bad : JsonFaultKind) (i : ℕ) (f d : Data) (x : Item) (k : JsonFaultKind) (p : List Step) → slot_of t (flag_of f) (Some d) ≡ Some x → SlotFault t bad i f d k p → ⊥
-slot_law t bad i f d x k p h (no_flag none) = no_flag_law t (Some d) d x (ap (λ o. slot_of t o (Some d)) (sym none) ∙ h)
-slot_law t bad i f d x k p h (no_value valid none) = valid_law t (Some d) d x (ap (λ o. slot_of t o (Some d)) (sym valid) ∙ h) refl none
-
-slot_read : (t : Data → Option Item) (n : ℕ) (d : Data) (items : List Item) (h : ReadsPlain t n d items) (i : ℕ) (e : Data) → get_item i h.values ≡ Some e
-    → (x : Item) × (slot_of t (valid_at h.flags i) (get_item i h.values) ≡ Some x)
-slot_read t n d items h i e found =
-    let within : i < n = omega (arith, get_item-within h.values i e found, h.whole) in
+slot_read : (s : Spelling) (n : ℕ) (d : Data) (items : List Item) (h : ReadsPlain s n d items) (i : ℕ) (e : Data) → get_item i h.values ≡ Some e
+    → (x : Item) × (slot_of s (valid_at h.flags i) (get_item i h.values) ≡ Some x)
+slot_read s n d items h i e found =
+    let within : i < n = omega (arith, get_item-within h.values i e found, h.given.whole) in
     let x = slice_get_some items i (omega (arith, h.slots.len)) in
     (x.0, sym (h.slots.each i within) ∙ x.1)
 
-slots_law : (t : Data → Option Item) (bad : JsonFaultKind) (n : ℕ) (d : Data) (items : List Item) (k : JsonFaultKind) (p : List Step) → (h : ReadsPlain t n d items) → SlotsFault t bad h.flags h.values k p → ⊥
-slots_law t bad n d items k p h (bad_valid i e none found w) =
-    let x = slot_read t n d items h i e found in
-    valid_law t (get_item i h.values) e x.0 (ap (λ o. slot_of t (valid_at o i) (get_item i h.values)) (sym none) ∙ x.1) found w
-slots_law t bad n d items k p h (bad_slot fs i f e k' p' flags at_flag found w) =
-    let x = slot_read t n d items h i e found in
-    let valid : valid_at h.flags i ≡ flag_of f = ap (λ o. valid_at o i) flags ∙ ap (option_and_then flag_of) at_flag in
-    slot_law t bad i f e x.0 _ _ (ap (slot_of t (flag_of f)) (sym found) ∙ (ap (λ o. slot_of t o (get_item i h.values)) (sym valid) ∙ x.1)) w
+-- a slot that holds something has its place among the values
+slot_given : (s : Spelling) (b : Option Bool) (o : Option Data) (x : Item) → slot_of s b o ≡ Some x → (d : Data) × (o ≡ Some d)
+slot_given s b (Some d) x h = (d, refl)
+slot_given s None None x h = absurd cc
+slot_given s (Some true) None x h = absurd cc
+slot_given s (Some false) None x h = absurd cc
 
-plain_law : (t : Data → Option Item) (bad : JsonFaultKind) (n : ℕ) (d : Data) (items : List Item) (k : JsonFaultKind) (p : List Step) → ReadsPlain t n d items → ColumnFault t bad n d k p → ⊥
-plain_law t bad n d items k p h (no_column_object k' p' u) = no_object count_of member.Count d n h.count (not_unlike as_object d _ _ u)
-plain_law t bad n d items k p h (bad_count k' p' f) = count_law n d _ _ h.count f
-plain_law t bad n d items k p h (bad_flags k' p' f) = flags_law n d h.flags _ _ h.validity h.flagged f
-plain_law t bad n d items k p h (bad_values k' p' f) =
-    let i = inner as_array (member_of member.Data d) h.values h.listed in
-    under_law member.Data (ListFault n) d i.0 _ _ i.1 (λ k p w. list_law n i.0 h.values k p i.2 h.whole w) f
-plain_law t bad n d items k p h (bad_slots flags values k' p' at_flags at_values whole f) =
-    let a : flags ≡ h.flags = cc (at_flags, h.validity) in
-    let b : values ≡ h.values = cc (at_values, h.listed) in
-    slots_law t bad n d items k' p' h (subst (λ x. SlotsFault t bad x h.values k' p') a (subst (λ y. SlotsFault t bad flags y k' p') b f))
+-- the first items hold no more than all
+sum_by-first : (size : Item → ℕ) (xs ys : List Item) → ((i : ℕ) (x : Item) → slice_get xs i ≡ Some x → slice_get ys i ≡ Some x) → sum_by size xs ≤ sum_by size ys
+sum_by-first size [] ys h = omega arith
+sum_by-first size (x ∷ xs) [] h = absurd (let e = h 0 x refl in cc)
+sum_by-first size (x ∷ xs) (y ∷ ys) h =
+    let e = h 0 x refl in
+    let same : size y ≡ size x = ap size cc in
+    let rest = sum_by-first size xs ys (λ i z at. h (suc i) z at) in
+    omega (arith, sum_by-cons size x xs, sum_by-cons size y ys, same, rest)
+
+not_past : (m n : ℕ) → m ≤ n → is_past m ≡ true → is_past n ≡ false → ⊥
+not_past m n h past within = grind (arith, nat_tests)
+
+long_law : (s : Spelling) (n : ℕ) (d : Data) (items first : List Item) (m : ℕ) → (h : ReadsPlain s n d items) → ReadsSlots s h.flags h.values m first → is_full s first ≡ true → ⊥
+long_law s n d items first m h reads full =
+    not_past (sum_by s.size first) (sum_by s.size items)
+    (sum_by-first s.size first items
+    (λ i x at.
+    let below : i < m = omega (arith, slice_get-within first i x at, reads.len) in
+    let slot = sym (reads.each i below) ∙ at in
+    let given = slot_given s (valid_at h.flags i) (get_item i h.values) x slot in
+    h.slots.each i (omega (arith, get_item-within h.values i given.0 given.1, h.given.whole)) ∙ slot))
+    full h.fits
+
+slots_law : (s : Spelling) (n : ℕ) (d : Data) (items : List Item) (k : JsonFaultKind) (p : List Step) → (h : ReadsPlain s n d items) → SlotsFault s h.flags h.values k p → ⊥
+slots_law s n d items k p h (no_flag i e found none) =
+    let x = slot_read s n d items h i e found in
+    no_flag_law s (get_item i h.values) x.0 (ap (λ o. slot_of s o (get_item i h.values)) (sym none) ∙ x.1)
+slots_law s n d items k p h (no_value i e found valid none) =
+    let x = slot_read s n d items h i e found in
+    valid_law s (get_item i h.values) e x.0 (ap (λ o. slot_of s o (get_item i h.values)) (sym valid) ∙ x.1) found none
+slots_law s n d items k p h (too_long m first reads full) = long_law s n d items first m h reads full
+
+no_slots_law : (n : ℕ) (d : Data) (flags : Option Items) (values : Items) (k : JsonFaultKind) (p : List Step) → HasSlots n d flags values → NoSlots n d k p → ⊥
+no_slots_law n d flags values k p h (no_column_object k' p' u) = no_object count_of member.Count d n h.count (not_unlike as_object d _ _ u)
+no_slots_law n d flags values k p h (bad_count k' p' f) = count_law n d _ _ h.count f
+no_slots_law n d flags values k p h (bad_flags k' p' f) = flags_law n d flags _ _ h.validity h.flagged f
+no_slots_law n d flags values k p h (bad_values k' p' f) =
+    let i = inner as_array (member_of member.Data d) values h.listed in
+    under_law member.Data (ListFault n) d i.0 _ _ i.1 (λ k p w. list_law n i.0 values k p i.2 h.whole w) f
+
+plain_law : (s : Spelling) (n : ℕ) (d : Data) (items : List Item) (k : JsonFaultKind) (p : List Step) → ReadsPlain s n d items → ColumnFault s n d k p → ⊥
+plain_law s n d items k p h (no_slots k' p' f) = no_slots_law n d h.flags h.values _ _ h.given f
+plain_law s n d items k p h (bad_slots flags values k' p' given f) =
+    let a : flags ≡ h.flags = cc (given.validity, h.given.validity) in
+    let b : values ≡ h.values = cc (given.listed, h.given.listed) in
+    slots_law s n d items k' p' h (subst (λ x. SlotsFault s x h.values k' p') a (subst (λ y. SlotsFault s flags y k' p') b f))
 
 column_law : (c : Kind) (n : ℕ) (d : Data) (items : List Item) (k : JsonFaultKind) (p : List Step) → ReadsColumn c n d items → KindFault c n d k p → ⊥
-column_law (kind.int t) n d items k p h f = plain_law (number_in t) BadNumber n d items k p h f
-column_law kind.boolean n d items k p h f = absurd h
-column_law kind.utf8 n d items k p h f = absurd h
+column_law (kind.int t) n d items k p h f = plain_law (numbers t) n d items k p h f
+column_law kind.boolean n d items k p h f = plain_law truths n d items k p h f
+column_law kind.utf8 n d items k p h f = plain_law texts n d items k p h f
 column_law (kind.list c) n d items k p h f = absurd h
 column_law kind.dict n d items k p h f = absurd h
 
@@ -240,14 +292,27 @@ same_int d s t h g =
     let sign : s.signed ≡ t.signed = cc (h.sign, g.sign) in
     ap (λ w. record { bits = w; signed = s.signed }) width ∙ ap (λ b. record { bits = t.bits; signed = b }) sign
 
+other_names : (d : Data) (a b : List ℕ) → head a ≢ head b → type_name d ≡ Some a → type_name d ≡ Some b → ⊥
+other_names d a b differ h g =
+    let same : a ≡ b = cc in
+    differ (ap head same)
+
 same_shape : (d : Data) (s t : Shape) → ReadsShape d s → ReadsShape d t → s ≡ t
 same_shape d (int s) (int t) h g = ap int (same_int d s t h g)
-same_shape d (int s) boolean h g = absurd g
-same_shape d (int s) utf8 h g = absurd g
+same_shape d (int s) boolean h g = absurd (other_names d (codes "int") (codes "bool") (λ e. omega (arith, e)) h.name g)
+same_shape d (int s) utf8 h g = absurd (other_names d (codes "int") (codes "utf8") (λ e. omega (arith, e)) h.name g)
 same_shape d (int s) (list f) h g = absurd g
 same_shape d (int s) dict h g = absurd g
-same_shape d boolean t h g = absurd h
-same_shape d utf8 t h g = absurd h
+same_shape d boolean (int t) h g = absurd (other_names d (codes "bool") (codes "int") (λ e. omega (arith, e)) h g.name)
+same_shape d boolean boolean h g = refl
+same_shape d boolean utf8 h g = absurd (other_names d (codes "bool") (codes "utf8") (λ e. omega (arith, e)) h g)
+same_shape d boolean (list f) h g = absurd g
+same_shape d boolean dict h g = absurd g
+same_shape d utf8 (int t) h g = absurd (other_names d (codes "utf8") (codes "int") (λ e. omega (arith, e)) h g.name)
+same_shape d utf8 boolean h g = absurd (other_names d (codes "utf8") (codes "bool") (λ e. omega (arith, e)) h g)
+same_shape d utf8 utf8 h g = refl
+same_shape d utf8 (list f) h g = absurd g
+same_shape d utf8 dict h g = absurd g
 same_shape d (list f) t h g = absurd h
 same_shape d dict t h g = absurd h
 
@@ -255,8 +320,8 @@ same_field : (d : Data) (f g : FieldShape) → ReadsField d f → ReadsField d g
 same_field d (field bytes b s) (field bytes' b' s') h g =
     let name : bytes ≡ bytes' = cc (h.name, g.name) in
     let nullable : b ≡ b' = cc (h.nullable, g.nullable) in
-    let place : h.ty.0 ≡ g.ty.0 = cc (h.ty.1, g.ty.1) in
-    let shape : s ≡ s' = same_shape g.ty.0 s s' (subst (λ e. ReadsShape e s) place h.ty.2) g.ty.2 in
+    let place : h.ty.object ≡ g.ty.object = cc (h.ty.at_type, g.ty.at_type) in
+    let shape : s ≡ s' = same_shape g.ty.object s s' (subst (λ e. ReadsShape e s) place h.ty.reads) g.ty.reads in
     cc (name, nullable, shape)
 
 same_lists : {A : Type 0} (xs ys : List A) → length xs ≡ length ys → ((i : ℕ) (x y : A) → slice_get xs i ≡ Some x → slice_get ys i ≡ Some y → x ≡ y) → xs ≡ ys
@@ -265,11 +330,6 @@ same_lists [] (y ∷ ys) len h = absurd (omega arith)
 same_lists (x ∷ xs) [] len h = absurd (omega arith)
 same_lists (x ∷ xs) (y ∷ ys) len h =
     ap (λ a. a ∷ xs) (h 0 x y refl refl) ∙ ap (λ l. y ∷ l) (same_lists xs ys (omega arith) (λ i a b at at'. h (suc i) a b at at'))
-
-slice_get-within : {A : Type 0} (xs : List A) (i : ℕ) (x : A) → slice_get xs i ≡ Some x → i < length xs
-slice_get-within [] i x h = absurd cc
-slice_get-within (y ∷ xs) zero x h = omega arith
-slice_get-within (y ∷ xs) (suc i) x h = omega (arith, slice_get-within xs i x h)
 
 -- two readings of the items of one array are one, if those of each item are
 same_each : {A : Type 0} (R : Data → A → Type 0) (ds : Items) (xs ys : List A) → ((d : Data) (x y : A) → R d x → R d y → x ≡ y) → ReadsEach R ds xs → ReadsEach R ds ys → xs ≡ ys
@@ -306,21 +366,21 @@ bytes_law bytes f k p h (bad_file d k' p' text parsed w) =
 
 -- ---- two readings of one file are one
 
-same_plain : (t : Data → Option Item) (n : ℕ) (d : Data) (xs ys : List Item) → ReadsPlain t n d xs → ReadsPlain t n d ys → xs ≡ ys
-same_plain t n d xs ys h g =
-    let flags : h.flags ≡ g.flags = cc (h.validity, g.validity) in
-    let values : h.values ≡ g.values = cc (h.listed, g.listed) in
+same_plain : (s : Spelling) (n : ℕ) (d : Data) (xs ys : List Item) → ReadsPlain s n d xs → ReadsPlain s n d ys → xs ≡ ys
+same_plain s n d xs ys h g =
+    let flags : h.flags ≡ g.flags = cc (h.given.validity, g.given.validity) in
+    let values : h.values ≡ g.values = cc (h.given.listed, g.given.listed) in
     same_lists xs ys (h.slots.len ∙ sym g.slots.len)
     (λ i x y at at'.
     let within : i < n = omega (arith, slice_get-within xs i x at, h.slots.len) in
-    let slot = ap (λ fs. slot_of t (valid_at fs i) (get_item i h.values)) flags ∙ ap (λ vs. slot_of t (valid_at g.flags i) (get_item i vs)) values in
+    let slot = ap (λ fs. slot_of s (valid_at fs i) (get_item i h.values)) flags ∙ ap (λ vs. slot_of s (valid_at g.flags i) (get_item i vs)) values in
     let e : Some x ≡ Some y = sym at ∙ (h.slots.each i within ∙ (slot ∙ (sym (g.slots.each i within) ∙ at'))) in
     cc)
 
 same_column : (k : Kind) (n : ℕ) (d : Data) (xs ys : List Item) → ReadsColumn k n d xs → ReadsColumn k n d ys → xs ≡ ys
-same_column (kind.int t) n d xs ys h g = same_plain (number_in t) n d xs ys h g
-same_column kind.boolean n d xs ys h g = absurd h
-same_column kind.utf8 n d xs ys h g = absurd h
+same_column (kind.int t) n d xs ys h g = same_plain (numbers t) n d xs ys h g
+same_column kind.boolean n d xs ys h g = same_plain truths n d xs ys h g
+same_column kind.utf8 n d xs ys h g = same_plain texts n d xs ys h g
 same_column (kind.list k) n d xs ys h g = absurd h
 same_column kind.dict n d xs ys h g = absurd h
 

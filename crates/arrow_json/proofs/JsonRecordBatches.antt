@@ -22,7 +22,7 @@ use Rattle.arrow_json.specs.declared.path.Member.TheVariants as member
 use Rattle.arrow_json.specs.JsonMember.{member_of}
 use Rattle.arrow_json.specs.JsonNumber.{count_of}
 use Rattle.arrow_json.specs.JsonBatch.{HoldsColumn, HoldsColumns, ReadsColumn, ReadsColumns, ReadsBatch, table_of}
-use Rattle.arrow_json.proofs.JsonInts.{get_item_some, position-none}
+use Rattle.arrow_json.proofs.JsonSchemas.{get_item_some, position-none}
 
 same_int_by : (w : Width) (b : Bool) → same_int (record { bits = w; signed = b }) (record { bits = w; signed = b }) ≡ true
 same_int_by W8 true = refl

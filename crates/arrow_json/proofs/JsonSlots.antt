@@ -1,84 +1,135 @@
--- The slots of a column read one after another.
-use Rattle.std.proofs.Common.{◌≡◌, ◌∙◌, ℕ, ◌+◌, ◌<◌, ℤ, List, [], ◌∷◌, ◌++◌, length, get_or, Option, Some, None, true, option_map, option_and_then, Result, Ok, Err, IfOk, sym, ap, subst, arith, length-append, below_more}
-use Rattle.std.specs.List.{slice_get}
+-- The slots of a column added one after another.
+use Rattle.std.proofs.Common.{◌≡◌, ◌∙◌, ℕ, ◌+◌, ℤ, Bool, List, [], ◌∷◌, ◌++◌, Option, Some, None, true, false, option_map, refl, sym, ap, subst, arith, length-append, below_more}
+use Rattle.std.specs.List.{slice_get, sum_by}
+use Rattle.std.proofs.lemmas.List.Sums.{sum_by_push}
 use Rattle.types.specs.declared.int_type.IntType.{IntType}
 use Rattle.arrays.specs.Item as column
 use Rattle.arrays.specs.Item.{Item}
-use Rattle.arrays.specs.Column.{Column}
-use Rattle.arrow_json.specs.declared.fault.JsonFault.{JsonFault}
+use Rattle.arrays.specs.Kind as kind
+use Rattle.arrays.specs.Kind.{Kind}
+use Rattle.arrays.specs.Lengths.{is_past, text_bytes}
 use Rattle.serde_json.specs.Data.{Data, Items}
-use Rattle.serde_json.specs.Find.{get_item, as_array}
-use Rattle.serde_json.specs.View.{view, items_view}
-use Rattle.serde_json.specs.declared.value.Value.{Value}
-use Rattle.arrow_json.specs.JsonNumber.{integer_of, flag_of, count_of}
-use Rattle.arrow_json.specs.JsonMember.{member_of}
+use Rattle.serde_json.specs.Find.{get_item, as_str}
+use Rattle.layout.specs.declared.fault.LayoutFault.TheVariants as layout
 use Rattle.arrow_json.specs.declared.path.Member.TheVariants as member
-use Rattle.serde_json.proofs.Views.{items_len-items_view}
-use Rattle.arrow_json.specs.JsonColumn.{flags_of, valid_at, slot_of, ReadsSlots, ReadsPlain, number_in}
+use Rattle.arrow_json.specs.declared.path.Step.TheVariants as step
+use Rattle.arrow_json.specs.declared.fault.JsonFault.{JsonFault}
+use Rattle.arrow_json.specs.declared.fault.JsonFaultKind.TheVariants.{WrongMember, BadNumber, Layout}
+use Rattle.arrow_json.specs.declared.column.Unfit.{Unfit}
+use Rattle.arrow_json.specs.declared.column.Unfit.TheVariants as unfit
+use Rattle.arrow_json.specs.JsonFault.{IsFault, Tells}
+use Rattle.arrow_json.specs.JsonNumber.{integer_of, flag_of}
+use Rattle.arrow_json.specs.JsonColumn.{Spelling, numbers, truths, texts, spelling_of, is_full, valid_at, slot_of, ReadsSlots}
+use Rattle.arrow_json.specs.JsonColumnFault.{SlotsFault, no_flag, no_value, too_long}
+use Rattle.arrow_json.specs.Unfit.{IsWith, IsUnfit, spells_nothing, has_no_room, refused, IsTold}
+use Rattle.arrow_json.proofs.JsonFaults.{tells_at, tells_wants}
 use Rattle.arrow_json.proofs.JsonItems.{slice_get-front, slice_get-last}
 use Rattle.arrow_json.proofs.JsonColumnFaults.{at_index}
 
-slots_pushed : (t : Data → Option Item) (flags : Option Items) (values : Items) (n : ℕ) (items : List Item) (x : Item) → ReadsSlots t flags values n items
-    → slot_of t (valid_at flags n) (get_item n values) ≡ Some x → ReadsSlots t flags values (n + 1) (items ++ x ∷ [])
-slots_pushed t flags values n items x h at = record {
+-- ---- what offsets count
+
+nothing : (xs : List Item) → sum_by (λ (x : Item). 0) xs ≡ 0
+nothing [] = refl
+nothing (x ∷ xs) = nothing xs
+
+-- a column without offsets is never full
+never_full : (xs : List Item) → is_past (sum_by (λ (x : Item). 0) xs) ≡ false
+never_full xs = ap is_past (nothing xs)
+
+-- a null takes none of the offsets
+null_size : (k : Kind) → (spelling_of k).size column.null ≡ 0
+null_size (kind.int t) = refl
+null_size kind.boolean = refl
+null_size kind.utf8 = refl
+null_size (kind.list k) = refl
+null_size kind.dict = refl
+
+still_fits : (s : Spelling) (xs : List Item) → s.size column.null ≡ 0 → is_full s xs ≡ false → is_full s (xs ++ column.null ∷ []) ≡ false
+still_fits s xs zero fits = ap is_past (sum_by_push s.size xs column.null ∙ (ap (λ n. sum_by s.size xs + n) zero ∙ omega arith)) ∙ fits
+
+-- ---- a value is taken
+
+pub number_taken : (t : IntType) (old new : List Item) (d : Data) (z : ℤ) → Some z ≡ integer_of t d → new ≡ old ++ column.int z ∷ [] → IsWith (numbers t) old d new
+number_taken t old new d z is grown = record { item = column.int z; spelled = ap (option_map column.int) (sym is); grown = grown; fits = never_full new }
+
+pub truth_taken : (old new : List Item) (d : Data) (b : Bool) → Some b ≡ flag_of d → new ≡ old ++ column.boolean b ∷ [] → IsWith truths old d new
+truth_taken old new d b is grown = record { item = column.boolean b; spelled = ap (option_map column.boolean) (sym is); grown = grown; fits = never_full new }
+
+pub text_taken : (old new : List Item) (d : Data) (t : List ℕ) → as_str d ≡ Some t → new ≡ old ++ column.text t ∷ [] → is_past (text_bytes new) ≡ false → IsWith texts old d new
+text_taken old new d t is grown fits = record { item = column.text t; spelled = ap (option_map column.text) is; grown = grown; fits = fits }
+
+pub no_number : (t : IntType) (old : List Item) (d : Data) → integer_of t d ≡ None → IsUnfit (numbers t) old d (unfit.Unspelled BadNumber)
+no_number t old d none = spells_nothing (ap (option_map column.int) none)
+
+pub no_truth : (old : List Item) (d : Data) → flag_of d ≡ None → IsUnfit truths old d (unfit.Unspelled WrongMember)
+no_truth old d none = spells_nothing (ap (option_map column.boolean) none)
+
+pub no_text : (old : List Item) (d : Data) → as_str d ≡ None → IsUnfit texts old d (unfit.Unspelled WrongMember)
+no_text old d none = spells_nothing (ap (option_map column.text) none)
+
+pub no_room : (old : List Item) (d : Data) (t : List ℕ) → as_str d ≡ Some t → is_past (text_bytes (old ++ column.text t ∷ [])) ≡ true → IsUnfit texts old d unfit.TooLong
+no_room old d t is past = has_no_room (column.text t) (ap (option_map column.text) is) past
+
+pub no_growth : (s : Spelling) (old : List Item) (d : Data) → IsUnfit s old d unfit.NoMemory
+no_growth s old d = refused
+
+pub ruleset taken = (number_taken, truth_taken, text_taken, no_number, no_truth, no_text, no_room, no_growth)
+
+-- ---- a slot is added
+
+slots_pushed : (s : Spelling) (flags : Option Items) (values : Items) (n : ℕ) (items : List Item) (x : Item) → ReadsSlots s flags values n items
+    → slot_of s (valid_at flags n) (get_item n values) ≡ Some x → ReadsSlots s flags values (n + 1) (items ++ x ∷ [])
+slots_pushed s flags values n items x h at = record {
   len = omega (arith, length-append items (x ∷ []), h.len);
-  each = below_more (λ k. slice_get (items ++ x ∷ []) k ≡ slot_of t (valid_at flags k) (get_item k values)) n
+  each = below_more (λ k. slice_get (items ++ x ∷ []) k ≡ slot_of s (valid_at flags k) (get_item k values)) n
       (λ k within. slice_get-front items (x ∷ []) k (omega (arith, h.len)) ∙ h.each k within)
       (ap (slice_get (items ++ x ∷ [])) (sym h.len) ∙ (slice_get-last items x ∙ sym at));
 }
 
--- the loop's step, without flags and with them
-pub valid_pushed : (t : IntType) (vs : List Value) (n : ℕ) (items : List Item) (v : Value) (z : ℤ) → ReadsSlots (number_in t) None (items_view vs) n items → n < length vs → v ≡ get_or vs n v
-    → Some z ≡ integer_of t (view v) → ReadsSlots (number_in t) None (items_view vs) (n + 1) (items ++ column.int z ∷ [])
-valid_pushed t vs n items v z h within is spelled =
-    slots_pushed (number_in t) None (items_view vs) n items (column.int z) h
-    (ap (slot_of (number_in t) (Some true)) (at_index vs n v within is) ∙ ap (option_map column.int) (sym spelled))
+valid_slot : (s : Spelling) (flags : Option Items) (values : Items) (i : ℕ) (d : Data) (x : Item) → valid_at flags i ≡ Some true → get_item i values ≡ Some d → s.spelled d ≡ Some x
+    → slot_of s (valid_at flags i) (get_item i values) ≡ Some x
+valid_slot s flags values i d x valid found is = rw (valid, found) is
 
-pub flagged_pushed : (t : Data → Option Item) (fs vs : List Value) (n : ℕ) (items : List Item) (f v : Value) (x : Item) → ReadsSlots t (Some (items_view fs)) (items_view vs) n items
-    → n < length fs → f ≡ get_or fs n f → n < length vs → v ≡ get_or vs n v → slot_of t (flag_of (view f)) (Some (view v)) ≡ Some x
-    → ReadsSlots t (Some (items_view fs)) (items_view vs) (n + 1) (items ++ x ∷ [])
-flagged_pushed t fs vs n items f v x h at_flag is_flag at_value is_value slot =
-    slots_pushed t (Some (items_view fs)) (items_view vs) n items x h
-    (rw (at_index fs n f at_flag is_flag, at_index vs n v at_value is_value) slot)
+null_slot : (s : Spelling) (flags : Option Items) (values : Items) (i : ℕ) (d : Data) → valid_at flags i ≡ Some false → get_item i values ≡ Some d
+    → slot_of s (valid_at flags i) (get_item i values) ≡ Some column.null
+null_slot s flags values i d null found = rw (null, found) refl
 
--- ---- whole columns
+pub value_pushed : (s : Spelling) (flags : Option Items) (values : Items) (i : ℕ) (old new : List Item) (d : Data) → ReadsSlots s flags values i old → valid_at flags i ≡ Some true
+    → get_item i values ≡ Some d → IsWith s old d new → ReadsSlots s flags values (i + 1) new
+value_pushed s flags values i old new d h valid found added =
+    subst (λ xs. ReadsSlots s flags values (i + 1) xs) (sym added.grown) (slots_pushed s flags values i old added.item h (valid_slot s flags values i d added.item valid found added.spelled))
 
-pub valid_column : (t : Data → Option Item) (n : ℕ) (d : Data) (vs : List Value) (items : List Item) → option_and_then count_of (member_of member.Count d) ≡ Some n
-    → flags_of (member_of member.Validity d) ≡ Some None → option_and_then as_array (member_of member.Data d) ≡ Some (items_view vs) → length vs ≡ n
-    → ReadsSlots t None (items_view vs) (length vs) items → ReadsPlain t n d items
-valid_column t n d vs items count validity listed whole slots = record {
-  count = count;
-  flags = None;
-  values = items_view vs;
-  validity = validity;
-  flagged = tt;
-  listed = listed;
-  whole = items_len-items_view vs ∙ whole;
-  slots = subst (λ m. ReadsSlots t None (items_view vs) m items) whole slots;
-}
+pub null_pushed : (s : Spelling) (flags : Option Items) (values : Items) (i : ℕ) (old new : List Item) (d : Data) → ReadsSlots s flags values i old → valid_at flags i ≡ Some false
+    → get_item i values ≡ Some d → new ≡ old ++ column.null ∷ [] → ReadsSlots s flags values (i + 1) new
+null_pushed s flags values i old new d h null found grown =
+    subst (λ xs. ReadsSlots s flags values (i + 1) xs) (sym grown) (slots_pushed s flags values i old column.null h (null_slot s flags values i d null found))
 
-pub flagged_column : (t : Data → Option Item) (n : ℕ) (d : Data) (fs vs : List Value) (items : List Item) → option_and_then count_of (member_of member.Count d) ≡ Some n
-    → flags_of (member_of member.Validity d) ≡ Some (Some (items_view fs)) → length fs ≡ n → option_and_then as_array (member_of member.Data d) ≡ Some (items_view vs) → length vs ≡ n
-    → ReadsSlots t (Some (items_view fs)) (items_view vs) (length vs) items → ReadsPlain t n d items
-flagged_column t n d fs vs items count validity flagged listed whole slots = record {
-  count = count;
-  flags = Some (items_view fs);
-  values = items_view vs;
-  validity = validity;
-  flagged = items_len-items_view fs ∙ flagged;
-  listed = listed;
-  whole = items_len-items_view vs ∙ whole;
-  slots = subst (λ m. ReadsSlots t (Some (items_view fs)) (items_view vs) m items) whole slots;
-}
+pub null_fits : (k : Kind) (old new : List Item) → is_full (spelling_of k) old ≡ false → new ≡ old ++ column.null ∷ [] → is_full (spelling_of k) new ≡ false
+null_fits k old new fits grown = ap (is_full (spelling_of k)) grown ∙ still_fits (spelling_of k) old (null_size k) fits
 
-pub valid_result : (t : Data → Option Item) (n : ℕ) (d : Data) (vs : List Value) (r : Result Column JsonFault) → option_and_then count_of (member_of member.Count d) ≡ Some n
-    → flags_of (member_of member.Validity d) ≡ Some None → option_and_then as_array (member_of member.Data d) ≡ Some (items_view vs) → length vs ≡ n
-    → IfOk r (λ b. ReadsSlots t None (items_view vs) (length vs) b.items) → IfOk r (λ b. ReadsPlain t n d b.items)
-valid_result t n d vs (Ok b) count validity listed whole slots = valid_column t n d vs b.items count validity listed whole slots
-valid_result t n d vs (Err e) count validity listed whole slots = tt
+-- ---- a slot is refused
 
-pub flagged_result : (t : Data → Option Item) (n : ℕ) (d : Data) (fs vs : List Value) (r : Result Column JsonFault) → option_and_then count_of (member_of member.Count d) ≡ Some n
-    → flags_of (member_of member.Validity d) ≡ Some (Some (items_view fs)) → length fs ≡ n → option_and_then as_array (member_of member.Data d) ≡ Some (items_view vs) → length vs ≡ n
-    → IfOk r (λ b. ReadsSlots t (Some (items_view fs)) (items_view vs) (length vs) b.items) → IfOk r (λ b. ReadsPlain t n d b.items)
-flagged_result t n d fs vs (Ok b) count validity flagged listed whole slots = flagged_column t n d fs vs b.items count validity flagged listed whole slots
-flagged_result t n d fs vs (Err e) count validity flagged listed whole slots = tt
+pub tells_no_flag : (s : Spelling) (flags : Option Items) (values : Items) (i : ℕ) (d : Data) (f : JsonFault) → get_item i values ≡ Some d → valid_at flags i ≡ None
+    → IsFault WrongMember (step.Member member.Validity ∷ step.Item i ∷ []) f → Tells (SlotsFault s flags values) f
+tells_no_flag s flags values i d f found none is = tells_at (SlotsFault s flags values) WrongMember (step.Member member.Validity ∷ step.Item i ∷ []) f (no_flag i d found none) is
+
+pub tells_unfit : (s : Spelling) (flags : Option Items) (values : Items) (i : ℕ) (items : List Item) (d : Data) (u : Unfit) (f : JsonFault) → ReadsSlots s flags values i items
+    → valid_at flags i ≡ Some true → get_item i values ≡ Some d → IsUnfit s items d u → IsTold i u f → Tells (SlotsFault s flags values) f
+tells_unfit s flags values i items d u f h valid found (spells_nothing none) told =
+    tells_at (SlotsFault s flags values) s.bad (step.Member member.Data ∷ step.Item i ∷ []) f (no_value i d found valid none) told
+tells_unfit s flags values i items d u f h valid found (has_no_room x is full) told =
+    tells_at (SlotsFault s flags values) (Layout layout.TooLong) [] f
+    (too_long (i + 1) (items ++ x ∷ []) (slots_pushed s flags values i items x h (valid_slot s flags values i d x valid found is)) full) told
+tells_unfit s flags values i items d u f h valid found refused told = tells_wants (SlotsFault s flags values) f told
+
+-- ---- none yet
+
+pub no_slots_yet : (s : Spelling) (flags : Option Items) (values : Items) (items : List Item) → items ≡ [] → ReadsSlots s flags values 0 items
+no_slots_yet s flags values items none = subst (λ xs. ReadsSlots s flags values 0 xs) (sym none) record { len = refl; each = λ i below. absurd (omega (arith, below)) }
+
+pub nothing_fits : (s : Spelling) (items : List Item) → items ≡ [] → is_full s items ≡ false
+nothing_fits s items none = ap (is_full s) none
+
+pub ruleset slots_told = (tells_wants)
+
+pub ruleset flags_read = (at_index)

@@ -2,7 +2,7 @@
 pub mod JsonNumbers
 pub mod JsonFaults
 pub mod JsonItems
-pub mod JsonInts
+pub mod JsonSchemas
 pub mod JsonColumnFaults
 pub mod JsonSlots
 pub mod JsonBatches

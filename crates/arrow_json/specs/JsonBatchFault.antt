@@ -1,26 +1,29 @@
 -- What can be wrong with a batch.
-use Rattle.std.specs.Prelude.{◌≡◌, ℕ, List, ◌∷◌, length, slice_get, Some, option_and_then}
+use Rattle.std.specs.Prelude.{◌≡◌, ℕ, List, [], ◌∷◌, length, slice_get, Some, option_and_then}
 use Rattle.arrays.specs.Kind.{Kind, int, boolean, utf8, list, dict}
 use Rattle.arrays.specs.Shape.{FieldShape, kind_of_field}
 use Rattle.serde_json.specs.Data.{Data, Items}
 use Rattle.serde_json.specs.Find.{get_item, as_array, as_object}
 use Rattle.arrow_json.specs.JsonNumber.{count_of}
 use Rattle.arrow_json.specs.JsonMember.{member_of, Unlike, MemberFault, ListFault}
-use Rattle.arrow_json.specs.JsonColumn.{number_in}
+use Rattle.arrow_json.specs.JsonColumn.{numbers, truths, texts}
 use Rattle.arrow_json.specs.JsonColumnFault.{ColumnFault}
 use Rattle.arrow_json.specs.declared.path.Member.TheVariants as member
 use Rattle.arrow_json.specs.declared.path.Step.{Step}
 use Rattle.arrow_json.specs.declared.path.Step.TheVariants as step
 use Rattle.arrow_json.specs.declared.fault.JsonFaultKind.{JsonFaultKind}
-use Rattle.arrow_json.specs.declared.fault.JsonFaultKind.TheVariants.{BadNumber}
+use Rattle.arrow_json.specs.declared.fault.JsonFaultKind.TheVariants.{UnsupportedType}
 
--- Only integers are read.
+-- A column of a kind that isn't read.
+pub data Unread : JsonFaultKind → List Step → Type 0 where
+  unread : Unread UnsupportedType []
+
 abbrev pub KindFault : Kind → ℕ → Data → JsonFaultKind → List Step → Type 0
-KindFault (int t) n d kind path = ColumnFault (number_in t) BadNumber n d kind path
-KindFault boolean n d kind path = ⊥
-KindFault utf8 n d kind path = ⊥
-KindFault (list k) n d kind path = ⊥
-KindFault dict n d kind path = ⊥
+KindFault (int t) n d kind path = ColumnFault (numbers t) n d kind path
+KindFault boolean n d kind path = ColumnFault truths n d kind path
+KindFault utf8 n d kind path = ColumnFault texts n d kind path
+KindFault (list k) n d kind path = Unread kind path
+KindFault dict n d kind path = Unread kind path
 
 -- Some column is wrong.
 pub data ColumnsFault (fields : List FieldShape) (rows : ℕ) (ds : Items) : JsonFaultKind → List Step → Type 0 where

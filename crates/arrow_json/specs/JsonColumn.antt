@@ -1,14 +1,18 @@
 -- The columns of a file. (Arrow integration testing, "JSON test data format", RecordBatch and FieldData)
-use Rattle.std.specs.Prelude.{◌≡◌, ℕ, ◌<◌, List, length, slice_get, Bool, true, false, Option, Some, None, option_map, option_and_then}
+use Rattle.std.specs.Prelude.{◌≡◌, ℕ, ◌<◌, List, length, slice_get, sum_by, Bool, true, false, Option, Some, None, option_map, option_and_then}
 use Rattle.types.specs.declared.int_type.IntType.{IntType}
 use Rattle.arrays.specs.Item as column
 use Rattle.arrays.specs.Item.{Item}
+use Rattle.arrays.specs.Kind.{Kind, int, boolean as truth, utf8, list, dict}
+use Rattle.arrays.specs.Lengths.{is_past, text_length}
 use Rattle.serde_json.specs.Data.{Data, null, boolean, number, string, array, object, Items}
-use Rattle.serde_json.specs.Find.{get_item, as_array}
+use Rattle.serde_json.specs.Find.{get_item, as_array, as_str}
 use Rattle.serde_json.specs.Events.{items_len}
 use Rattle.arrow_json.specs.JsonNumber.{integer_of, count_of, flag_of}
 use Rattle.arrow_json.specs.JsonMember.{member_of}
 use Rattle.arrow_json.specs.declared.path.Member.TheVariants as member
+use Rattle.arrow_json.specs.declared.fault.JsonFaultKind.{JsonFaultKind}
+use Rattle.arrow_json.specs.declared.fault.JsonFaultKind.TheVariants.{BadNumber, WrongMember, UnsupportedType}
 
 -- The flags of a column, none where the member is absent or null: then all slots are valid.
 abbrev pub flags_of : Option Data → Option (Option Items)
@@ -29,29 +33,67 @@ abbrev pub valid_at : Option Items → ℕ → Option Bool
 valid_at None i = Some true
 valid_at (Some fs) i = option_and_then flag_of (get_item i fs)
 
--- What a value spells in a column of integers.
-abbrev pub number_in : IntType → Data → Option Item
-number_in t d = option_map column.int (integer_of t d)
+-- ---- what values spell
+
+-- What a value spells, as what one that spells nothing is told, and how much of the offsets an item takes.
+pub record Spelling : Type 0 where
+  pub spelled : Data → Option Item
+  pub bad : JsonFaultKind
+  pub size : Item → ℕ
+
+-- Integers of a type.
+abbrev pub numbers : IntType → Spelling
+numbers t = record { spelled = λ d. option_map column.int (integer_of t d); bad = BadNumber; size = λ x. 0 }
+
+-- Truth values, spelled as flags are.
+abbrev pub truths : Spelling
+truths = record { spelled = λ d. option_map column.boolean (flag_of d); bad = WrongMember; size = λ x. 0 }
+
+-- Texts: the offsets count their bytes.
+abbrev pub texts : Spelling
+texts = record { spelled = λ d. option_map column.text (as_str d); bad = WrongMember; size = text_length }
+
+-- Nothing is spelled.
+abbrev pub unread : Spelling
+unread = record { spelled = λ d. None; bad = UnsupportedType; size = λ x. 0 }
+
+abbrev pub spelling_of : Kind → Spelling
+spelling_of (int t) = numbers t
+spelling_of truth = truths
+spelling_of utf8 = texts
+spelling_of (list k) = unread
+spelling_of dict = unread
+
+-- The items are more than 32-bit offsets count.
+abbrev pub is_full : Spelling → List Item → Bool
+is_full s items = is_past (sum_by s.size items)
+
+-- ---- slots
 
 -- What a slot holds: null, or what its value spells. Under a null slot the value isn't looked at.
-abbrev pub slot_of : (Data → Option Item) → Option Bool → Option Data → Option Item
-slot_of spelled (Some true) (Some d) = spelled d
-slot_of spelled (Some false) (Some d) = Some column.null
-slot_of spelled (Some b) None = None
-slot_of spelled None d = None
+abbrev pub slot_of : Spelling → Option Bool → Option Data → Option Item
+slot_of s (Some true) (Some d) = s.spelled d
+slot_of s (Some false) (Some d) = Some column.null
+slot_of s (Some b) None = None
+slot_of s None d = None
 
 -- The first n slots.
-pub record ReadsSlots (spelled : Data → Option Item) (flags : Option Items) (values : Items) (n : ℕ) (items : List Item) : Type 0 where
+pub record ReadsSlots (s : Spelling) (flags : Option Items) (values : Items) (n : ℕ) (items : List Item) : Type 0 where
   pub len : length items ≡ n
-  pub each : (i : ℕ) → i < n → slice_get items i ≡ slot_of spelled (valid_at flags i) (get_item i values)
+  pub each : (i : ℕ) → i < n → slice_get items i ≡ slot_of s (valid_at flags i) (get_item i values)
 
--- The column object of n slots, each with a value of its own.
-pub record ReadsPlain (spelled : Data → Option Item) (n : ℕ) (d : Data) (items : List Item) : Type 0 where
+-- A column object of n slots, with a flag for each or none, and a value for each.
+pub record HasSlots (n : ℕ) (d : Data) (flags : Option Items) (values : Items) : Type 0 where
   pub count : option_and_then count_of (member_of member.Count d) ≡ Some n
-  pub flags : Option Items
-  pub values : Items
   pub validity : flags_of (member_of member.Validity d) ≡ Some flags
   pub flagged : HasFlags n flags
   pub listed : option_and_then as_array (member_of member.Data d) ≡ Some values
   pub whole : items_len values ≡ n
-  pub slots : ReadsSlots spelled flags values n items
+
+-- The column object of n slots, each with a value of its own.
+pub record ReadsPlain (s : Spelling) (n : ℕ) (d : Data) (items : List Item) : Type 0 where
+  pub flags : Option Items
+  pub values : Items
+  pub given : HasSlots n d flags values
+  pub slots : ReadsSlots s flags values n items
+  pub fits : is_full s items ≡ false

@@ -7,7 +7,6 @@ use Rattle.arrays.specs.File.{File}
 use Rattle.serde_json.specs.Data.{Data, Items}
 use Rattle.serde_json.specs.Find.{as_array, as_object}
 use Rattle.serde_json.specs.Read.{read}
-use Rattle.arrow_json.specs.Integers.{AreIntegers}
 use Rattle.arrow_json.specs.JsonMember.{member_of, Unlike, MemberFault, EachFault, ReadsEach}
 use Rattle.arrow_json.specs.JsonSchema.{ReadsSchema}
 use Rattle.arrow_json.specs.JsonSchemaFault.{SchemaFault}
@@ -24,10 +23,9 @@ use Rattle.arrow_json.specs.declared.fault.JsonFaultKind.TheVariants.{NotJson}
 abbrev pub file_of : File → FileData
 file_of f = record { fields = f.fields; tables = map table_of f.batches }
 
--- Each batch is under the fields, and these are integers.
-pub record AreUnder (fields : List FieldShape) (batches : List Batch) : Type 0 where
-  pub integers : AreIntegers fields
-  pub each : AllByRecursion (λ b. b.fields ≡ fields) batches
+-- Each batch is under the fields.
+abbrev pub AreUnder : List FieldShape → List Batch → Type 0
+AreUnder fields batches = AllByRecursion (λ b. b.fields ≡ fields) batches
 
 -- The document has the schema of the fields.
 pub record HasSchema (d : Data) (fields : List FieldShape) : Type 0 where

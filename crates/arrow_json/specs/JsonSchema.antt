@@ -21,11 +21,11 @@ pub record ReadsInt (d : Data) (t : IntType) : Type 0 where
   pub width : option_and_then width_of (option_and_then as_number (member_of member.BitWidth d)) ≡ Some t.bits
   pub sign : option_and_then as_bool (member_of member.IsSigned d) ≡ Some t.signed
 
--- The type object of a type. Only integers are read.
+-- The type object of a type. Lists and dictionaries aren't read.
 abbrev pub ReadsShape : Data → Shape → Type 0
 ReadsShape d (int t) = ReadsInt d t
-ReadsShape d boolean = ⊥
-ReadsShape d utf8 = ⊥
+ReadsShape d boolean = type_name d ≡ Some (codes "bool")
+ReadsShape d utf8 = type_name d ≡ Some (codes "utf8")
 ReadsShape d (list f) = ⊥
 ReadsShape d dict = ⊥
 
@@ -41,14 +41,16 @@ abbrev pub is_childless : Option Data → Bool
 is_childless None = true
 is_childless (Some d) = unwrap_or (option_map (λ ds. items_len ds == 0) (as_array d)) (is_some (as_null d))
 
--- The field's type object is that of an integer type.
-pub record HasType (d : Data) (t : IntType) : Type 0 where
-  pub found : (e : Data) × (member_of member.DataType d ≡ Some e) × ReadsInt e t
+-- The field's type object is that of the type.
+pub record HasType (d : Data) (shape : Shape) : Type 0 where
+  pub object : Data
+  pub at_type : member_of member.DataType d ≡ Some object
+  pub reads : ReadsShape object shape
 
 pub record HasField (d : Data) (bytes : List ℕ) (b : Bool) (shape : Shape) : Type 0 where
   pub name : option_and_then as_str (member_of member.Name d) ≡ Some bytes
   pub nullable : option_and_then as_bool (member_of member.Nullable d) ≡ Some b
-  pub ty : (e : Data) × (member_of member.DataType d ≡ Some e) × ReadsShape e shape
+  pub ty : HasType d shape
   pub plain : is_without (member_of member.Dictionary d) ≡ true
   pub childless : is_childless (member_of member.Children d) ≡ true
 

@@ -14,8 +14,8 @@ use Rattle.arrow_json.specs.declared.fault.JsonFaultKind.TheVariants.{WrongMembe
 pub data TypeFault (d : Data) : JsonFaultKind → List Step → Type 0 where
   no_type_object : (kind : JsonFaultKind) (path : List Step) → Unlike as_object d kind path → TypeFault d kind path
   bad_type_name : (kind : JsonFaultKind) (path : List Step) → MemberFault member.Name (Unlike as_str) d kind path → TypeFault d kind path
-  -- only integers are read
-  other_type : (bytes : List ℕ) → type_name d ≡ Some bytes → bytes ≢ codes "int" → TypeFault d UnsupportedType []
+  -- integers, truth values and texts are read
+  other_type : (bytes : List ℕ) → type_name d ≡ Some bytes → bytes ≢ codes "int" → bytes ≢ codes "bool" → bytes ≢ codes "utf8" → TypeFault d UnsupportedType []
   bad_width : (kind : JsonFaultKind) (path : List Step) → type_name d ≡ Some (codes "int") → MemberFault member.BitWidth (Unlike as_number) d kind path → TypeFault d kind path
   other_width : (width : Num) → type_name d ≡ Some (codes "int") → option_and_then as_number (member_of member.BitWidth d) ≡ Some width → width_of width ≡ None
       → TypeFault d UnsupportedType []
@@ -28,9 +28,9 @@ pub data FieldFault (d : Data) : JsonFaultKind → List Step → Type 0 where
   bad_type : (kind : JsonFaultKind) (path : List Step) → MemberFault member.DataType TypeFault d kind path → FieldFault d kind path
   no_dictionary_object : (e : Data) (kind : JsonFaultKind) (path : List Step) → member_of member.Dictionary d ≡ Some e → as_null e ≡ None → Unlike as_object e kind path
       → FieldFault d kind (step.Member member.Dictionary ∷ path)
-  -- only texts may be dictionary-encoded, and texts aren't read
+  -- dictionaries aren't read
   encoded : (e : Data) → member_of member.Dictionary d ≡ Some e → IsObject e → FieldFault d UnsupportedType (step.Member member.DataType ∷ [])
-  -- an integer has no children
+  -- only lists have children, and lists aren't read
   has_children : is_childless (member_of member.Children d) ≡ false → FieldFault d WrongMember (step.Member member.Children ∷ [])
 
 pub data SchemaFault (d : Data) : JsonFaultKind → List Step → Type 0 where

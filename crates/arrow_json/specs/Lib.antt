@@ -4,11 +4,12 @@ pub mod JsonFault
 pub mod JsonFaultText
 pub mod JsonNumber
 pub mod JsonMember
-pub mod Integers
 pub mod JsonSchema
 pub mod JsonSchemaFault
 pub mod JsonColumn
 pub mod JsonColumnFault
+pub mod SlotParts
+pub mod Unfit
 pub mod JsonTable
 pub mod JsonBatch
 pub mod JsonBatchFault

@@ -1,24 +1,24 @@
-ghost use Rattle.std.specs.Prelude.{◌≡◌, ◌<◌, ◌^◌, ◌∷◌, ◌++◌, [], length, Option, Some, None, IfOk, IfErr, IfSome, OnOk, option_map, option_and_then};
-ghost use Rattle.std.specs.Option.{ForSome};
-ghost use Rattle.arrays.specs.Slot.{item_of};
+ghost use Rattle.std.specs.Prelude.{◌≡◌, ◌+◌, ◌<◌, ◌^◌, ◌∷◌, ◌++◌, [], length, false, Option, Some, None, IfOk, IfErr, IfSome, OnOk, option_map, option_and_then};
+ghost use Rattle.arrays.specs.Item.{null};
 ghost use Rattle.arrays.specs.Kind as kind;
-ghost use Rattle.arrays.specs.Number.{IsOfType};
 ghost use Rattle.serde_json.specs.Find.{as_array};
 ghost use Rattle.serde_json.specs.View.{view, items_view};
-ghost use Rattle.arrow_json.specs.JsonColumn.{flags_of, number_in, slot_of, ReadsSlots, ReadsPlain};
-ghost use Rattle.arrow_json.specs.JsonColumnFault.{CountFault, FlagsFault, SlotFault, SlotsFault, ColumnFault};
-ghost use Rattle.arrow_json.specs.JsonFault.{Tells, IsFault, no_memory};
+ghost use Rattle.arrow_json.specs.JsonBatch.{HoldsColumn};
+ghost use Rattle.arrow_json.specs.JsonColumn.{flags_of, valid_at, numbers, truths, texts, spelling_of, is_full, ReadsSlots, HasSlots};
+ghost use Rattle.arrow_json.specs.JsonColumnFault.{CountFault, FlagsFault, NoSlots, SlotsFault, ColumnFault};
+ghost use Rattle.arrow_json.specs.JsonFault.{Tells};
 ghost use Rattle.arrow_json.specs.JsonMember.{member_of, IsObject, ListFault, MemberFault};
-ghost use Rattle.arrow_json.specs.JsonNumber.{count_of, flag_of};
+ghost use Rattle.arrow_json.specs.JsonNumber.{count_of};
+ghost use Rattle.arrow_json.specs.SlotParts.{flags_in, values_in};
+ghost use Rattle.arrow_json.specs.Unfit.{IsWith, IsUnfit, IsTold};
 ghost use Rattle.arrow_json.specs.declared.path.Member.TheVariants as member;
-ghost use Rattle.arrow_json.specs.declared.path.Step.TheVariants as step;
-ghost use Rattle.arrow_json.specs.declared.fault.JsonFaultKind.TheVariants.{BadNumber};
 
 use crate::fault::{JsonFault, JsonFaultKind};
 use crate::member::{check_object, count_member, required};
 use crate::number::{flag, integer};
 use crate::path::{Member, Step};
-use arrays::{IntBuilder, IntType};
+use arrays::{Array, BoolBuilder, BuildFault, IntBuilder, IntType, LayoutFault, TextBuilder};
+use colbits::NoMemory;
 use serde_json::Value;
 use std::alloc::Global;
 
@@ -100,40 +100,232 @@ fn flags<'v>(alloc: Global, column: &'v Value, count: u32) -> Result<Option<&'v 
     Ok(Some(flags))
 }
 
-/// The fault of a valid slot whose value is no integer of its type.
-#[cold]
-fn bad_number(alloc: Global, index: usize) -> JsonFault
-    ensures { IsFault BadNumber (step.Member member.Data ∷ step.Item index ∷ []) result }
-{
-    JsonFault::at(
-        alloc,
-        JsonFaultKind::BadNumber,
-        &[Step::Member(Member::Data), Step::Item(index)],
-    )
+/// The flags and values of a column's slots.
+#[derive(Drop)]
+struct Slots<'v> {
+    /// None where all slots are valid.
+    flags: Option<&'v [Value]>,
+    values: &'v [Value],
 }
 
-/// What a slot holds. Under a null slot the value isn't looked at.
-#[inline]
-#[tactic(auto, using(crate::proofs::JsonColumnFaults::slot_told))]
-fn slot(
-    alloc: Global,
-    ty: IntType,
-    index: usize,
-    flagged: &Value,
-    value: &Value,
-) -> Result<Option<i128>, JsonFault>
-    ensures ok { IfOk result (λ s.
-        slot_of (number_in ty) (flag_of (view flagged.now)) (Some (view value.now)) ≡ Some (item_of s)) }
-    ensures of_type { IfOk result (λ s. ForSome s (IsOfType ty)) }
-    ensures err { IfErr result
-        (Tells (SlotFault (number_in ty) BadNumber index (view flagged.now) (view value.now))) }
+impl Slots<'_> {
+    /// Whether a slot is valid; none where its flag is no flag.
+    #[inline]
+    #[tactic(auto, using(crate::proofs::JsonSlots::flags_read))]
+    fn valid_at(&self, index: usize) -> Option<bool>
+        requires short { index < 2 ^ 31 }
+        requires within { IfSome self.now.flags (λ fs. index < length fs.now) }
+        ensures { result ≡ valid_at (flags_in self.now) index }
+    {
+        match self.flags {
+            None => Some(true),
+            Some(flags) => flag(&flags[index]),
+        }
+    }
+}
+
+/// The flags and values of a column of `count` slots.
+#[tactic(auto, using(crate::proofs::JsonColumnFaults::no_slots_told))]
+fn read_slots<'v>(alloc: Global, count: u32, column: &'v Value) -> Result<Slots<'v>, JsonFault>
+    ensures given { IfOk result (λ s. HasSlots count (view column.now) (flags_in s) (values_in s)) }
+    ensures flagged { IfOk result (λ s. IfSome s.flags (λ fs. length fs.now ≡ count)) }
+    ensures whole { IfOk result (λ s. length s.values.now ≡ count) }
+    ensures err { IfErr result (Tells (NoSlots count (view column.now))) }
 {
-    match flag(flagged) {
-        Some(true) => match integer(ty, value) {
-            Some(number) => Ok(Some(number)),
-            None => Err(bad_number(alloc, index)),
+    check_object(alloc, column)?;
+    check_count(alloc, column, count)?;
+    let flags = flags(alloc, column, count)?;
+    let values = list_member(alloc, column, Member::Data, count as usize)?;
+    Ok(Slots { flags, values })
+}
+
+/// Why a value isn't taken into a column.
+enum Unfit {
+    /// It spells nothing that the column may hold, which is told as this kind.
+    Unspelled(JsonFaultKind),
+    /// With it the column would be more than 32-bit offsets count.
+    TooLong,
+    /// A growth was refused.
+    NoMemory,
+}
+
+/// A column in the making, of which each slot has a value of its own.
+trait ColumnBuilder: Drop {
+    ghost use Rattle.std.specs.Prelude.{List};
+    ghost use Rattle.arrays.specs.Item.{Item};
+    ghost use Rattle.arrays.specs.Kind.{Kind};
+
+    ghost kind: { Self → Kind };
+
+    ghost items: { Self → List Item };
+
+    /// Adds the item that the value spells.
+    fn push_value(&mut self, value: &Value) -> Result<(), Unfit>
+        requires room { length (items self.old) < 2147483647 }
+        ensures kept { kind self.new ≡ kind self.old }
+        ensures ok { OnOk result
+            (IsWith (spelling_of (kind self.old)) (items self.old) (view value.now) (items self.new)) }
+        ensures err { IfErr result (IsUnfit (spelling_of (kind self.old)) (items self.old) (view value.now)) };
+
+    /// Adds a null.
+    fn push_null(&mut self) -> Result<(), NoMemory>
+        requires room { length (items self.old) < 2147483647 }
+        ensures kept { kind self.new ≡ kind self.old }
+        ensures ok { OnOk result (items self.new ≡ items self.old ++ null ∷ []) };
+
+    /// The column as an array.
+    fn finish(self) -> Result<Array, NoMemory>
+        ensures kind { IfOk result (λ a. a.kind ≡ kind self) }
+        ensures items { IfOk result (λ a. a.items ≡ items self) };
+}
+
+/// A column of integers in the making.
+#[derive(Drop)]
+struct IntColumn {
+    ty: IntType,
+    builder: IntBuilder,
+    ghost one_type: { builder.ty ≡ ty },
+}
+
+impl ColumnBuilder for IntColumn {
+    ghost use Rattle.arrays.specs.Kind.{int};
+
+    ghost kind = { λ c. int c.ty };
+
+    ghost items = { λ c. c.builder.items };
+
+    #[inline]
+    #[tactic(auto, using(crate::proofs::JsonSlots::taken))]
+    fn push_value(&mut self, value: &Value) -> Result<(), Unfit> {
+        let Some(number) = integer(self.ty, value) else {
+            return Err(Unfit::Unspelled(JsonFaultKind::BadNumber));
+        };
+        match self.builder.push(Some(number)) {
+            Ok(()) => Ok(()),
+            Err(NoMemory) => Err(Unfit::NoMemory),
+        }
+    }
+
+    #[inline]
+    fn push_null(&mut self) -> Result<(), NoMemory> {
+        self.builder.push(None)
+    }
+
+    fn finish(self) -> Result<Array, NoMemory> {
+        let IntColumn { ty: _, builder } = self;
+        builder.finish()
+    }
+}
+
+impl ColumnBuilder for BoolBuilder {
+    ghost use Rattle.arrays.specs.Kind.{boolean};
+
+    ghost kind = { λ _. boolean };
+
+    ghost items = { λ items. items };
+
+    #[inline]
+    #[tactic(auto, using(crate::proofs::JsonSlots::taken))]
+    fn push_value(&mut self, value: &Value) -> Result<(), Unfit> {
+        let Some(truth) = flag(value) else {
+            return Err(Unfit::Unspelled(JsonFaultKind::WrongMember));
+        };
+        match self.push(Some(truth)) {
+            Ok(()) => Ok(()),
+            Err(NoMemory) => Err(Unfit::NoMemory),
+        }
+    }
+
+    #[inline]
+    fn push_null(&mut self) -> Result<(), NoMemory> {
+        self.push(None)
+    }
+
+    fn finish(self) -> Result<Array, NoMemory> {
+        BoolBuilder::finish(self)
+    }
+}
+
+impl ColumnBuilder for TextBuilder {
+    ghost use Rattle.arrays.specs.Kind.{utf8};
+
+    ghost kind = { λ _. utf8 };
+
+    ghost items = { λ items. items };
+
+    #[inline]
+    #[tactic(auto, using(crate::proofs::JsonSlots::taken))]
+    fn push_value(&mut self, value: &Value) -> Result<(), Unfit> {
+        let Some(text) = value.as_str() else {
+            return Err(Unfit::Unspelled(JsonFaultKind::WrongMember));
+        };
+        match self.push(Some(text)) {
+            Ok(()) => Ok(()),
+            Err(BuildFault::OffsetsFull) => Err(Unfit::TooLong),
+            Err(BuildFault::NoMemory) => Err(Unfit::NoMemory),
+        }
+    }
+
+    #[inline]
+    fn push_null(&mut self) -> Result<(), NoMemory> {
+        match self.push(None) {
+            Ok(()) => Ok(()),
+            Err(_) => Err(NoMemory),
+        }
+    }
+
+    fn finish(self) -> Result<Array, NoMemory> {
+        TextBuilder::finish(self)
+    }
+}
+
+/// The fault of the value of a slot that isn't taken.
+#[cold]
+fn unfit_at(alloc: Global, index: usize, unfit: Unfit) -> JsonFault
+    ensures { IsTold index unfit result }
+{
+    match unfit {
+        Unfit::Unspelled(kind) => JsonFault::at(
+            alloc,
+            kind,
+            &[Step::Member(Member::Data), Step::Item(index)],
+        ),
+        Unfit::TooLong => JsonFault::at(alloc, JsonFaultKind::Layout(LayoutFault::TooLong), &[]),
+        Unfit::NoMemory => JsonFault::no_memory(alloc),
+    }
+}
+
+/// Adds a slot to the column of those before it.
+#[inline]
+#[tactic(auto, using(crate::proofs::JsonSlots::slots_told))]
+fn push_slot<B: ColumnBuilder>(
+    alloc: Global,
+    builder: &mut B,
+    slots: &Slots,
+    index: usize,
+) -> Result<(), JsonFault>
+    requires short { index < 2147483647 }
+    requires within { index < length slots.now.values.now }
+    requires flagged { IfSome slots.now.flags (λ fs. index < length fs.now) }
+    requires so_far { ReadsSlots (spelling_of (B.kind builder.old))
+        (flags_in slots.now) (values_in slots.now) index (B.items builder.old) }
+    requires fits { is_full (spelling_of (B.kind builder.old)) (B.items builder.old) ≡ false }
+    ensures kept { B.kind builder.new ≡ B.kind builder.old }
+    ensures ok { OnOk result (ReadsSlots (spelling_of (B.kind builder.old))
+        (flags_in slots.now) (values_in slots.now) (index + 1) (B.items builder.new)) }
+    ensures fits { OnOk result (is_full (spelling_of (B.kind builder.old)) (B.items builder.new) ≡ false) }
+    ensures err { IfErr result (Tells (SlotsFault (spelling_of (B.kind builder.old))
+        (flags_in slots.now) (values_in slots.now))) }
+{
+    match slots.valid_at(index) {
+        Some(true) => match builder.push_value(&slots.values[index]) {
+            Ok(()) => Ok(()),
+            Err(unfit) => Err(unfit_at(alloc, index, unfit)),
         },
-        Some(false) => Ok(None),
+        Some(false) => match builder.push_null() {
+            Ok(()) => Ok(()),
+            Err(NoMemory) => Err(JsonFault::no_memory(alloc)),
+        },
         None => Err(JsonFault::at(
             alloc,
             JsonFaultKind::WrongMember,
@@ -142,89 +334,88 @@ fn slot(
     }
 }
 
-/// Adds a slot to a column.
-#[inline]
-fn push_slot(alloc: Global, builder: &mut IntBuilder, slot: Option<i128>) -> Result<(), JsonFault>
-    requires of_type { ForSome slot (IsOfType builder.old.ty) }
-    requires room { length builder.old.items < 2147483647 }
-    ensures kept { builder.new.ty ≡ builder.old.ty }
-    ensures ok { OnOk result (builder.new.items ≡ builder.old.items ++ item_of slot ∷ []) }
-    ensures err { IfErr result (λ fault. fault ≡ no_memory) }
+/// The column with all slots added, which has none yet.
+#[tactic(auto, using(crate::proofs::JsonSlots::slots_told))]
+fn filled<B: ColumnBuilder>(alloc: Global, builder: B, slots: &Slots) -> Result<B, JsonFault>
+    requires empty { B.items builder ≡ [] }
+    requires short { length slots.now.values.now < 2 ^ 31 }
+    requires whole { IfSome slots.now.flags (λ fs. length fs.now ≡ length slots.now.values.now) }
+    ensures kept { IfOk result (λ b. B.kind b ≡ B.kind builder) }
+    ensures ok { IfOk result (λ b. ReadsSlots (spelling_of (B.kind builder))
+        (flags_in slots.now) (values_in slots.now) (length slots.now.values.now) (B.items b)) }
+    ensures fits { IfOk result (λ b. is_full (spelling_of (B.kind builder)) (B.items b) ≡ false) }
+    ensures err { IfErr result (Tells (SlotsFault (spelling_of (B.kind builder))
+        (flags_in slots.now) (values_in slots.now))) }
 {
-    builder.push(slot).map_err(|_| JsonFault::no_memory(alloc))
-}
-
-/// An empty column with room for so many slots.
-fn new_builder(alloc: Global, ty: IntType, slots: usize) -> Result<IntBuilder, JsonFault>
-    requires { slots < 2 ^ 31 }
-    ensures ok { IfOk result (λ b. (b.ty ≡ ty) × (b.items ≡ [])) }
-    ensures err { IfErr result (λ fault. fault ≡ no_memory) }
-{
-    IntBuilder::with_capacity(alloc, ty, slots).map_err(|_| JsonFault::no_memory(alloc))
-}
-
-/// The slots where all are valid.
-#[tactic(auto, using(crate::proofs::JsonColumnFaults::slots_told))]
-fn valid_slots(alloc: Global, ty: IntType, values: &[Value]) -> Result<IntBuilder, JsonFault>
-    requires { length values.now < 2 ^ 31 }
-    ensures ty { IfOk result (λ b. b.ty ≡ ty) }
-    ensures slots { IfOk result (λ b.
-        ReadsSlots (number_in ty) None (items_view values.now) (length values.now) b.items) }
-    ensures err { IfErr result (Tells (SlotsFault (number_in ty) BadNumber None (items_view values.now))) }
-{
-    let mut builder = new_builder(alloc, ty, values.len())?;
-    for (index, value) in values.iter().enumerate() {
-        match integer(ty, value) {
-            Some(number) => push_slot(alloc, &mut builder, Some(number))?,
-            None => return Err(bad_number(alloc, index)),
-        }
+    let mut column = builder;
+    for index in 0..slots.values.len() {
+        push_slot(alloc, &mut column, slots, index)?;
     }
-    Ok(builder)
+    Ok(column)
 }
 
-/// The slots, each with a flag.
-#[tactic(auto, using(crate::proofs::JsonColumnFaults::slots_told))]
-fn flagged_slots(
-    alloc: Global,
-    ty: IntType,
-    flags: &[Value],
-    values: &[Value],
-) -> Result<IntBuilder, JsonFault>
-    requires room { length values.now < 2 ^ 31 }
-    requires whole { length flags.now ≡ length values.now }
-    ensures ty { IfOk result (λ b. b.ty ≡ ty) }
-    ensures slots { IfOk result (λ b.
-        ReadsSlots (number_in ty) (Some (items_view flags.now)) (items_view values.now) (length values.now) b.items) }
-    ensures err { IfErr result
-        (Tells (SlotsFault (number_in ty) BadNumber (Some (items_view flags.now)) (items_view values.now))) }
+/// The array of all slots, by a column that has none yet.
+fn array_of<B: ColumnBuilder>(alloc: Global, builder: B, slots: &Slots) -> Result<Array, JsonFault>
+    requires empty { B.items builder ≡ [] }
+    requires short { length slots.now.values.now < 2 ^ 31 }
+    requires whole { IfSome slots.now.flags (λ fs. length fs.now ≡ length slots.now.values.now) }
+    ensures kind { IfOk result (λ a. a.kind ≡ B.kind builder) }
+    ensures ok { IfOk result (λ a. ReadsSlots (spelling_of (B.kind builder))
+        (flags_in slots.now) (values_in slots.now) (length slots.now.values.now) a.items) }
+    ensures fits { IfOk result (λ a. is_full (spelling_of (B.kind builder)) a.items ≡ false) }
+    ensures err { IfErr result (Tells (SlotsFault (spelling_of (B.kind builder))
+        (flags_in slots.now) (values_in slots.now))) }
 {
-    let mut builder = new_builder(alloc, ty, values.len())?;
-    for index in 0..values.len() {
-        let slot = slot(alloc, ty, index, &flags[index], &values[index])?;
-        push_slot(alloc, &mut builder, slot)?;
+    let column = filled(alloc, builder, slots)?;
+    match column.finish() {
+        Ok(array) => Ok(array),
+        Err(NoMemory) => Err(JsonFault::no_memory(alloc)),
     }
-    Ok(builder)
 }
 
 /// The column of `count` integers that a column object holds.
 #[tactic(auto, using(crate::proofs::JsonColumnFaults::column_told))]
-pub(crate) fn read_column(
+pub(crate) fn read_numbers(
     alloc: Global,
     ty: IntType,
     count: u32,
     column: &Value,
-) -> Result<IntBuilder, JsonFault>
+) -> Result<Array, JsonFault>
     requires { count < 2 ^ 31 }
-    ensures ty { IfOk result (λ b. b.ty ≡ ty) }
-    ensures items { IfOk result (λ b. ReadsPlain (number_in ty) count (view column.now) b.items) }
-    ensures err { IfErr result (Tells (ColumnFault (number_in ty) BadNumber count (view column.now))) }
+    ensures ok { IfOk result (HoldsColumn (kind.int ty) count (view column.now)) }
+    ensures err { IfErr result (Tells (ColumnFault (numbers ty) count (view column.now))) }
 {
-    check_object(alloc, column)?;
-    check_count(alloc, column, count)?;
-    let flags = flags(alloc, column, count)?;
-    let values = list_member(alloc, column, Member::Data, count as usize)?;
-    match flags {
-        None => valid_slots(alloc, ty, values),
-        Some(flags) => flagged_slots(alloc, ty, flags, values),
+    let slots = read_slots(alloc, count, column)?;
+    match IntBuilder::with_capacity(alloc, ty, slots.values.len()) {
+        Ok(builder) => array_of(alloc, IntColumn { ty, builder }, &slots),
+        Err(NoMemory) => Err(JsonFault::no_memory(alloc)),
+    }
+}
+
+/// The column of `count` truth values that a column object holds.
+#[tactic(auto, using(crate::proofs::JsonColumnFaults::column_told))]
+pub(crate) fn read_truths(alloc: Global, count: u32, column: &Value) -> Result<Array, JsonFault>
+    requires { count < 2 ^ 31 }
+    ensures ok { IfOk result (HoldsColumn kind.boolean count (view column.now)) }
+    ensures err { IfErr result (Tells (ColumnFault truths count (view column.now))) }
+{
+    let slots = read_slots(alloc, count, column)?;
+    match BoolBuilder::with_capacity(alloc, slots.values.len()) {
+        Ok(builder) => array_of(alloc, builder, &slots),
+        Err(NoMemory) => Err(JsonFault::no_memory(alloc)),
+    }
+}
+
+/// The column of `count` texts that a column object holds.
+#[tactic(auto, using(crate::proofs::JsonColumnFaults::column_told))]
+pub(crate) fn read_texts(alloc: Global, count: u32, column: &Value) -> Result<Array, JsonFault>
+    requires { count < 2 ^ 31 }
+    ensures ok { IfOk result (HoldsColumn kind.utf8 count (view column.now)) }
+    ensures err { IfErr result (Tells (ColumnFault texts count (view column.now))) }
+{
+    let slots = read_slots(alloc, count, column)?;
+    match TextBuilder::with_capacity(alloc, slots.values.len(), 0) {
+        Ok(builder) => array_of(alloc, builder, &slots),
+        Err(NoMemory) => Err(JsonFault::no_memory(alloc)),
     }
 }

@@ -1,11 +1,13 @@
 ghost use Rattle.std.specs.Prelude.{◌≡◌, ◌∷◌, ◌++◌, ◌≢◌, [], IfOk, OnOk, codes, string_bytes};
-ghost use Rattle.arrow_json.specs.JsonFaultText.{kind_text, fault_text};
+ghost use Rattle.arrow_json.specs.JsonFaultText.{kind_name, kind_text, fault_text, layout_name, row_of};
 
 use crate::path::{Path, Step, push_pointer};
+use arrays::LayoutFault;
 use colbits::NoMemory;
 use std::alloc::Global;
 use std::error::Error;
 use std::fmt;
+use std::fmt::Write;
 
 /// What is wrong with a file.
 #[derive(Clone, Copy, Debug, PartialEq, Eq)]
@@ -22,14 +24,16 @@ pub enum JsonFaultKind {
     BadNumber,
     /// The length of an array, or a column's count, isn't what is stated.
     CountDiffers,
+    /// The column is no lawful array. Its texts may be too long for 32-bit offsets.
+    Layout(LayoutFault),
     /// A growth was refused. The path is empty.
     NoMemory,
 }
 
 impl JsonFaultKind {
-    /// The number and the name.
-    pub fn text(self) -> &'static str
-        ensures { result.now ≡ kind_text self }
+    /// The number and the name, without the layout's fault.
+    pub fn name(self) -> &'static str
+        ensures { result.now ≡ kind_name self }
     {
         match self {
             JsonFaultKind::NotJson => "J1 NotJson",
@@ -38,8 +42,51 @@ impl JsonFaultKind {
             JsonFaultKind::UnsupportedType => "J4 UnsupportedType",
             JsonFaultKind::BadNumber => "J5 BadNumber",
             JsonFaultKind::CountDiffers => "J7 CountDiffers",
+            JsonFaultKind::Layout(_) => "J10 Layout",
             JsonFaultKind::NoMemory => "J11 NoMemory",
         }
+    }
+}
+
+/// The number and the name of a layout's fault.
+fn layout_name(fault: LayoutFault) -> &'static str
+    ensures { result.now ≡ layout_name fault }
+{
+    match fault {
+        LayoutFault::MissingBuffer => "V1 MissingBuffer",
+        LayoutFault::ExtraBuffer => "V2 ExtraBuffer",
+        LayoutFault::BufferTooShort => "V3 BufferTooShort",
+        LayoutFault::OffsetNegative => "V4 OffsetNegative",
+        LayoutFault::OffsetDecreases { row: _ } => "V5 OffsetDecreases",
+        LayoutFault::OffsetPastEnd => "V6 OffsetPastEnd",
+        LayoutFault::NullCountDiffers => "V7 NullCountDiffers",
+        LayoutFault::NotUtf8 { row: _ } => "V8 NotUtf8",
+        LayoutFault::IndexPastDictionary { row: _ } => "V9 IndexPastDictionary",
+        LayoutFault::ChildDiffers => "V10 ChildDiffers",
+        LayoutFault::TooLong => "V11 TooLong",
+        LayoutFault::TooDeep => "V12 TooDeep",
+        LayoutFault::NoMemory => "V13 NoMemory",
+    }
+}
+
+/// The row of a layout's fault, if it has one.
+fn row_of(fault: LayoutFault) -> Option<usize>
+    ensures { result ≡ row_of fault }
+{
+    match fault {
+        LayoutFault::OffsetDecreases { row } => Some(row),
+        LayoutFault::NotUtf8 { row } => Some(row),
+        LayoutFault::IndexPastDictionary { row } => Some(row),
+        LayoutFault::MissingBuffer
+        | LayoutFault::ExtraBuffer
+        | LayoutFault::BufferTooShort
+        | LayoutFault::OffsetNegative
+        | LayoutFault::OffsetPastEnd
+        | LayoutFault::NullCountDiffers
+        | LayoutFault::ChildDiffers
+        | LayoutFault::TooLong
+        | LayoutFault::TooDeep
+        | LayoutFault::NoMemory => None,
     }
 }
 
@@ -50,7 +97,16 @@ impl fmt::Display for JsonFaultKind {
     ghost output = { λ kind. Some (kind_text kind) };
 
     fn fmt<W: fmt::Write>(&self, f: &mut fmt::Formatter<W>) -> fmt::Result {
-        f.write_str(self.text())
+        f.write_str(self.name())?;
+        let JsonFaultKind::Layout(fault) = *self else {
+            return Ok(());
+        };
+        f.write_str(" ")?;
+        f.write_str(layout_name(fault))?;
+        match row_of(fault) {
+            Some(row) => write!(f, " row={row}"),
+            None => Ok(()),
+        }
     }
 }
 
@@ -107,7 +163,8 @@ impl JsonFault {
 pub fn fault_text(alloc: Global, fault: &JsonFault) -> Result<String, NoMemory>
     ensures { IfOk result (λ text. string_bytes text ≡ fault_text fault.now.kind fault.now.path) }
 {
-    let mut text = String::from_str(alloc, fault.kind.text())?;
+    let mut text = String::new(alloc);
+    write!(text, "{}", fault.kind)?;
     let steps = fault.path.steps();
     if !steps.is_empty() {
         text.push_str(" at ")?;

@@ -2,7 +2,6 @@ ghost use Rattle.std.specs.Prelude.{◌≡◌, Some, IfOk, IfErr, OnOk, IsUtf8, 
 ghost use Rattle.std.specs.Arc.{arc_value};
 ghost use Rattle.serde_json.specs.Read.{read};
 ghost use Rattle.serde_json.specs.View.{view, items_view};
-ghost use Rattle.arrow_json.specs.Integers.{AreIntegers};
 ghost use Rattle.arrow_json.specs.JsonBatch.{ReadsBatch, table_of};
 ghost use Rattle.arrow_json.specs.JsonBatchFault.{BatchFault};
 ghost use Rattle.arrow_json.specs.JsonFault.{Tells};
@@ -23,7 +22,6 @@ use std::sync::Arc;
 /// The batch that a batch object holds, under a copy of the schema.
 #[tactic(auto, using(crate::proofs::JsonFiles::batches_told))]
 fn read_under(alloc: Global, schema: &Schema, batch: &Value) -> Result<RecordBatch, JsonFault>
-    requires { AreIntegers schema.now }
     ensures fields { IfOk result (λ b. b.fields ≡ schema.now) }
     ensures ok { IfOk result (λ b. ReadsBatch schema.now (view batch.now) (table_of b)) }
     ensures err { IfErr result (Tells (BatchFault schema.now (view batch.now))) }
@@ -35,7 +33,6 @@ fn read_under(alloc: Global, schema: &Schema, batch: &Value) -> Result<RecordBat
 /// The same, to be shared.
 #[tactic(auto, using(crate::proofs::JsonFiles::batches_told))]
 fn read_shared(alloc: Global, schema: &Schema, batch: &Value) -> Result<Arc<RecordBatch>, JsonFault>
-    requires { AreIntegers schema.now }
     ensures fields { IfOk result (λ b. (arc_value b).fields ≡ schema.now) }
     ensures ok { IfOk result (λ b. ReadsBatch schema.now (view batch.now) (table_of (arc_value b))) }
     ensures err { IfErr result (Tells (BatchFault schema.now (view batch.now))) }
@@ -51,7 +48,6 @@ fn read_batches(
     schema: &Schema,
     values: &[Value],
 ) -> Result<Vec<Arc<RecordBatch>>, JsonFault>
-    requires { AreIntegers schema.now }
     ensures under { IfOk result (λ batches. AreUnder schema.now (map arc_value batches.items)) }
     ensures ok { IfOk result (λ batches. ReadsEach (ReadsBatch schema.now) (items_view values.now)
         (map table_of (map arc_value batches.items))) }
@@ -123,7 +119,7 @@ fn parse_vec(alloc: Global, bytes: Vec<u8>) -> Result<Value, JsonFault>
 pub fn read_file(alloc: Global, bytes: &[u8]) -> Result<File, JsonFault>
     // What is read is what the bytes say.
     ensures ok { IfOk result (λ f. Reads bytes.now (file_of f)) }
-    // Each batch is under the schema, which is one of integers.
+    // Each batch is under the schema.
     ensures under { IfOk result (λ f. AreUnder f.fields f.batches) }
     // A fault that is told stands, want of memory apart.
     ensures err { IfErr result (Tells (BytesFault bytes.now)) }

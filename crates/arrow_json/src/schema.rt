@@ -1,9 +1,9 @@
 ghost use Rattle.std.specs.Prelude.{◌≡◌, ◌≤◌, true, false, IfOk, IfErr, OnOk, Some, codes};
 ghost use Rattle.serde_json.specs.View.{view, items_view};
-ghost use Rattle.arrays.specs.Shape.{field_of, fields_of, int};
+ghost use Rattle.arrays.specs.Shape.{field_of, fields_of, shape_of};
 ghost use Rattle.arrow_json.specs.JsonFault.{Tells};
 ghost use Rattle.arrow_json.specs.JsonMember.{member_of, EachFault, IsObject, ReadsEach};
-ghost use Rattle.arrow_json.specs.JsonSchema.{type_name, HasType, ReadsInt, ReadsField, ReadsSchema, is_without, is_childless};
+ghost use Rattle.arrow_json.specs.JsonSchema.{type_name, HasType, ReadsInt, ReadsShape, ReadsField, ReadsSchema, is_without, is_childless};
 ghost use Rattle.arrow_json.specs.JsonSchemaFault.{TypeFault, FieldFault, SchemaFault};
 ghost use Rattle.arrow_json.specs.declared.path.Member.TheVariants as member;
 
@@ -17,14 +17,29 @@ use arrays::{DataType, Field, IntType, Schema};
 use serde_json::Value;
 use std::alloc::Global;
 
-/// The integer type that a type object names.
+/// The type that a type object names.
 #[tactic(auto, using(crate::proofs::JsonFaults::type_told))]
-pub(crate) fn read_type(alloc: Global, object: &Value) -> Result<IntType, JsonFault>
-    ensures ok { IfOk result (ReadsInt (view object.now)) }
+pub(crate) fn read_type(alloc: Global, object: &Value) -> Result<DataType, JsonFault>
+    ensures ok { IfOk result (λ t. ReadsShape (view object.now) (shape_of t)) }
     ensures err { IfErr result (Tells (TypeFault (view object.now))) }
 {
     check_object(alloc, object)?;
-    check_name(alloc, object)?;
+    match text_member(alloc, object, Member::Name)? {
+        "int" => Ok(DataType::Int(read_int(alloc, object)?)),
+        "bool" => Ok(DataType::Bool),
+        "utf8" => Ok(DataType::Utf8),
+        _ => Err(JsonFault::at(alloc, JsonFaultKind::UnsupportedType, &[])),
+    }
+}
+
+/// The integer type that a type object of the name describes.
+#[tactic(auto, using(crate::proofs::JsonFaults::type_told))]
+fn read_int(alloc: Global, object: &Value) -> Result<IntType, JsonFault>
+    requires object { IsObject (view object.now) }
+    requires name { type_name (view object.now) ≡ Some (codes "int") }
+    ensures ok { IfOk result (ReadsInt (view object.now)) }
+    ensures err { IfErr result (Tells (TypeFault (view object.now))) }
+{
     let Some(bits) = width(number_member(alloc, object, Member::BitWidth)?) else {
         return Err(JsonFault::at(alloc, JsonFaultKind::UnsupportedType, &[]));
     };
@@ -32,32 +47,18 @@ pub(crate) fn read_type(alloc: Global, object: &Value) -> Result<IntType, JsonFa
     Ok(IntType { bits, signed })
 }
 
-/// That a type object has the name of the integers.
-#[tactic(auto, using(crate::proofs::JsonFaults::type_told))]
-fn check_name(alloc: Global, object: &Value) -> Result<(), JsonFault>
-    requires { IsObject (view object.now) }
-    ensures ok { OnOk result (type_name (view object.now) ≡ Some (codes "int")) }
-    ensures err { IfErr result (Tells (TypeFault (view object.now))) }
-{
-    if text_member(alloc, object, Member::Name)? == "int" {
-        Ok(())
-    } else {
-        Err(JsonFault::at(alloc, JsonFaultKind::UnsupportedType, &[]))
-    }
-}
-
 /// The type of a field.
 #[tactic(auto, using(crate::proofs::JsonFaults::field_told))]
-fn field_type(alloc: Global, field: &Value) -> Result<IntType, JsonFault>
+fn field_type(alloc: Global, field: &Value) -> Result<DataType, JsonFault>
     requires { IsObject (view field.now) }
-    ensures ok { IfOk result (λ t. HasType (view field.now) t) }
+    ensures ok { IfOk result (λ t. HasType (view field.now) (shape_of t)) }
     ensures err { IfErr result (Tells (FieldFault (view field.now))) }
 {
     let object = required(alloc, field, Member::DataType)?;
     read_type(alloc, object).map_err(|fault| fault.under(alloc, Step::Member(Member::DataType)))
 }
 
-/// That a field has no dictionary: it is absent or null. Only texts may have one, and texts aren't read.
+/// That a field has no dictionary: it is absent or null. Dictionaries aren't read.
 #[tactic(auto, using(crate::proofs::JsonFaults::field_told))]
 fn check_dictionary(alloc: Global, field: &Value) -> Result<(), JsonFault>
     requires { IsObject (view field.now) }
@@ -112,11 +113,7 @@ pub(crate) fn read_field(alloc: Global, field: &Value) -> Result<Field, JsonFaul
         ));
     }
     let name = String::from_str(alloc, name).map_err(|_| JsonFault::no_memory(alloc))?;
-    Ok(Field {
-        name,
-        nullable,
-        ty: DataType::Int(ty),
-    })
+    Ok(Field { name, nullable, ty })
 }
 
 /// The fields of a schema.

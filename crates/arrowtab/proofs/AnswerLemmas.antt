@@ -110,7 +110,7 @@ alike_all : (fields : List FieldShape) (files : List File) → AreKept files →
     → AllByRecursion (λ (bs : List FileBatch). All (λ b. difference fields b.fields ≡ None) bs) (listed files)
 alike_all fields [] kept alike = tt
 alike_all fields (f ∷ files) kept alike = (
-  all_from (λ (b : FileBatch). difference fields b.fields ≡ None) (batches_of (file_of f)) (alike_in fields f.fields f.batches kept.0.each alike.0),
+  all_from (λ (b : FileBatch). difference fields b.fields ≡ None) (batches_of (file_of f)) (alike_in fields f.fields f.batches kept.0 alike.0),
   alike_all fields files kept.1 alike.1,
 )
 
@@ -157,7 +157,7 @@ IsStopped-alone fields files file number refusal kept stopped =
     let history = alone (batches_in before ++ r.before) in
     let grown : alone (batches_in before) ++ alone r.before ≡ history = sym (map-append (λ (b : Batch). (0, batch.rows_of b)) (batches_in before) r.before) in
     let under : AreUnder f.fields f.batches = all_middle (λ g. AreUnder g.fields g.batches) before stopped.rest f (subst AreKept stopped.in_files kept) in
-    let same : r.batch.fields ≡ f.fields = all_middle (λ b. b.fields ≡ f.fields) r.before r.rest r.batch (subst (AllByRecursion (λ (b : Batch). b.fields ≡ f.fields)) r.place under.each) in
+    let same : r.batch.fields ≡ f.fields = all_middle (λ b. b.fields ≡ f.fields) r.before r.rest r.batch (subst (AllByRecursion (λ (b : Batch). b.fields ≡ f.fields)) r.place under) in
     let own : added_by history 0 ≡ tables_of (planned (take file (listed files)) 1 0 ++ take number (batches_of (file_of f))) =
     added_alone (batches_in before ++ r.before)
     ∙ map-append batch.rows_of (batches_in before) r.before

@@ -1,6 +1,6 @@
 //! The offsets of texts or lists in the making.
 
-ghost use Rattle.std.specs.Prelude.{◌≡◌, ◌<◌, ◌≤◌, Some, [], ◌∷◌, ◌++◌, length, IfErr, IfOk, OnErr, OnOk};
+ghost use Rattle.std.specs.Prelude.{◌≡◌, ◌<◌, ◌≤◌, false, Some, [], ◌∷◌, ◌++◌, length, IfErr, IfOk, OnErr, OnOk};
 ghost use Rattle.arrays.specs.Growing.{AreLaid};
 ghost use Rattle.arrays.specs.Lengths.{IsBuildFault, is_past, total};
 
@@ -63,6 +63,7 @@ impl OffsetsBuilder {
         ensures ok { OnOk result (self.new ≡ self.old ++ slot ∷ []) }
         ensures err { OnErr result (self.new ≡ self.old) }
         ensures fault { IfErr result (IsBuildFault (is_past (total (self.old ++ slot ∷ [])))) }
+        ensures fits { OnOk result (is_past (total self.new) ≡ false) }
     {
         let more = slot.unwrap_or(0);
         if more > MOST - self.total {

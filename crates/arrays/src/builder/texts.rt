@@ -1,6 +1,6 @@
 //! A column of texts in the making.
 
-ghost use Rattle.std.specs.Prelude.{◌≡◌, ◌<◌, ◌≤◌, [], ◌∷◌, ◌++◌, length, IfErr, IfOk, OnErr, OnOk};
+ghost use Rattle.std.specs.Prelude.{◌≡◌, ◌<◌, ◌≤◌, false, [], ◌∷◌, ◌++◌, length, IfErr, IfOk, OnErr, OnOk};
 ghost use Rattle.std.specs.Option.{option_copied};
 ghost use Rattle.layout.specs.Item as item;
 ghost use Rattle.types.specs.Kind as kind;
@@ -58,6 +58,8 @@ impl TextBuilder {
         ensures err { OnErr result (self.new ≡ self.old) }
         ensures fault { IfErr result
             (IsBuildFault (is_past (text_bytes (self.old ++ item_of_text (option_copied text.entry) ∷ [])))) }
+        // What the offsets count together is what they can count.
+        ensures fits { OnOk result (is_past (text_bytes self.new) ≡ false) }
     {
         match text {
             Some(text) => self.push_text(text),
@@ -74,6 +76,7 @@ impl TextBuilder {
         ensures ok { OnOk result (self.new ≡ self.old ++ item.text text.now ∷ []) }
         ensures err { OnErr result (self.new ≡ self.old) }
         ensures fault { IfErr result (IsBuildFault (is_past (text_bytes (self.old ++ item.text text.now ∷ [])))) }
+        ensures fits { OnOk result (is_past (text_bytes self.new) ≡ false) }
     {
         if self.slots.is_full_for(text.len()) {
             return Err(BuildFault::OffsetsFull);

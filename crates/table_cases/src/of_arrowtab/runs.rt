@@ -68,7 +68,7 @@ fn expect(
 const TEMPLATE: &str = r#"{"schema":{"fields":[FIELD]},"batches":[BATCHES]}"#;
 
 /// Fields, batches, and what is printed of their file.
-const PRINTED: [(&str, &str, &str); 6] = [
+const PRINTED: [(&str, &str, &str); 9] = [
     // No batch.
     (
         r#"{"name":"n","nullable":true,"type":{"name":"int","bitWidth":8,"isSigned":false},"children":[]}"#,
@@ -103,6 +103,24 @@ const PRINTED: [(&str, &str, &str); 6] = [
         r#"{"name":"n","nullable":true,"type":{"name":"int","bitWidth":64,"isSigned":true},"children":[]}"#,
         r#"{"count":2,"columns":[{"name":"n","count":2,"DATA":[5,7]}]},{"count":2,"columns":[{"name":"n","count":2,"VALIDITY":[1,0],"DATA":[-3,0]}]},{"count":2,"columns":[{"name":"n","count":2,"VALIDITY":[0,0],"DATA":[0,0]}]}"#,
         "rows 6\nworker 0 calls 3 rows 6\n\"n\" int64 rows=6 nulls=3 sum=9 least=-3 greatest=7\n",
+    ),
+    // Truth values.
+    (
+        r#"{"name":"b","nullable":true,"type":{"name":"bool"},"children":[]}"#,
+        r#"{"count":3,"columns":[{"name":"b","count":3,"VALIDITY":[1,0,1],"DATA":[1,1,0]}]}"#,
+        "rows 3\nworker 0 calls 1 rows 3\n\"b\" bool rows=3 nulls=1 sum=- least=false greatest=true\n",
+    ),
+    // Texts, which are stored by dictionary, over two batches.
+    (
+        r#"{"name":"s","nullable":true,"type":{"name":"utf8"},"children":[]}"#,
+        r#"{"count":3,"columns":[{"name":"s","count":3,"VALIDITY":[1,0,1],"DATA":["pear","x","fig"]}]},{"count":2,"columns":[{"name":"s","count":2,"DATA":["pear","quince"]}]}"#,
+        "rows 5\nworker 0 calls 2 rows 5\n\"s\" dictionary rows=5 nulls=1 sum=- least=\"fig\" greatest=\"quince\"\n",
+    ),
+    // Both, with texts that are told as JSON spells them.
+    (
+        r#"{"name":"b","nullable":false,"type":{"name":"bool"},"children":[]},{"name":"\"s\"","nullable":false,"type":{"name":"utf8"},"children":[]}"#,
+        r#"{"count":1,"columns":[{"name":"b","count":1,"DATA":[true]},{"name":"s","count":1,"DATA":["a\"b\n"]}]}"#,
+        "rows 1\nworker 0 calls 1 rows 1\n\"b\" bool rows=1 nulls=0 sum=- least=true greatest=true\n\"\\\"s\\\"\" dictionary rows=1 nulls=0 sum=- least=\"a\\\"b\\n\" greatest=\"a\\\"b\\n\"\n",
     ),
 ];
 

@@ -1,4 +1,4 @@
-use Rattle.arrow_json.proofs.JsonInts.{schema_fault-read}
+use Rattle.arrow_json.proofs.JsonSchemas.{schema_fault-read}
 use Rattle.arrow_json.proofs.JsonResults.{value_kept}
 use Rattle.arrow_json.proofs.schema.read_schema.Goals as goal
 

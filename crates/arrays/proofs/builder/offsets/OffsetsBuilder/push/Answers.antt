@@ -1,5 +1,6 @@
 use Rattle.std.proofs.Common.{◌∙◌, ◌+◌, ◌≤◌, ◌++◌, ap, arith, inl, inr, length, refl}
 use Rattle.std.proofs.lemmas.Result.{err_from_is_err_and}
+use Rattle.arrays.specs.Lengths.{is_past, total}
 use Rattle.types.specs.Kind.{int32}
 use Rattle.types.specs.Number.{bytes_of_number}
 use Rattle.arrays.proofs.LaidLemmas.{grown, past_by, within_by, length-lengths_where, wide}
@@ -28,6 +29,14 @@ returns-in-Ok-clause-ok c =
     let short : s.total + c.unwrap_or-more.result ≤ 2147483647 = omega (arith, c.self.invariant.short) in
     (grown s.valid c.push-2.new.self s.offsets.items c.push.new.numbers.items s.total c.unwrap_or-more.result c.is_some.result c.args.self.now c.args.slot
     c.self.view_is c.self.invariant c.is_some.ensures c.unwrap_or-more.ensures short (c.in_ok-push.ensures.ok ∙ ap (λ z. s.offsets.items ++ bytes_of_number int32 z) (wide (s.total + c.unwrap_or-more.result) short)) c.in-Ok.ensures.ok).one_more
+
+pub returns-in-Ok-clause-fits : goal.returns-in-Ok-clause-fits
+returns-in-Ok-clause-fits c =
+    let s = c.self.inside in
+    let short : s.total + c.unwrap_or-more.result ≤ 2147483647 = omega (arith, c.self.invariant.short) in
+    ap (λ l. is_past (total l)) (grown s.valid c.push-2.new.self s.offsets.items c.push.new.numbers.items s.total c.unwrap_or-more.result c.is_some.result c.args.self.now c.args.slot
+    c.self.view_is c.self.invariant c.is_some.ensures c.unwrap_or-more.ensures short (c.in_ok-push.ensures.ok ∙ ap (λ z. s.offsets.items ++ bytes_of_number int32 z) (wide (s.total + c.unwrap_or-more.result) short)) c.in-Ok.ensures.ok).one_more
+    ∙ within_by s.valid s.offsets.items s.total c.args.self.now c.args.slot c.self.view_is c.self.invariant (omega (arith, c.self.invariant.short, c.unwrap_or-more.ensures))
 
 pub returns-in_err-push-clause-fault : goal.returns-in_err-push-clause-fault
 returns-in_err-push-clause-fault c =

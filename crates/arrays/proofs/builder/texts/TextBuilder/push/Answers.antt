@@ -1,6 +1,6 @@
 use Rattle.std.proofs.Common.{◌∙◌, ◌++◌, ◌∷◌, [], None, ap, arith, refl, subst, sym}
 use Rattle.layout.specs.Item.{null}
-use Rattle.arrays.specs.Lengths.{IsBuildFault, is_past, text_bytes}
+use Rattle.arrays.specs.Lengths.{IsBuildFault, is_past, text_bytes, total}
 use Rattle.std.proofs.lemmas.Result.{err_from_is_err_and}
 use Rattle.std.specs.Option.{option_copied}
 use Rattle.arrays.specs.Slot.{item_of_text}
@@ -33,3 +33,10 @@ returns-in_ok-push-in-None-clause-ok c =
     let s = c.self.inside in
     (null_more s.slots c.push.new.self s.bytes.items c.args.self.now c.self.view_is c.self.invariant c.in_ok-push-in-None.ensures.ok).one_more
     ∙ ap (λ x. c.args.self.now ++ item_of_text (option_copied x) ∷ []) (sym c.in-None.is)
+
+pub returns-in_ok-push-in-None-clause-fits : goal.returns-in_ok-push-in-None-clause-fits
+returns-in_ok-push-in-None-clause-fits c =
+    let s = c.self.inside in
+    ap (λ xs. is_past (text_bytes xs)) (null_more s.slots c.push.new.self s.bytes.items c.args.self.now c.self.view_is c.self.invariant c.in_ok-push-in-None.ensures.ok).one_more
+    ∙ sym (ap is_past (bytes_with s.slots s.bytes.items c.args.self.now None null c.self.view_is c.self.invariant refl))
+    ∙ (sym (ap (λ l. is_past (total l)) c.in_ok-push-in-None.ensures.ok) ∙ c.in_ok-push-in-None.ensures.fits)

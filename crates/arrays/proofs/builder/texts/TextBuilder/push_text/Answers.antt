@@ -1,7 +1,7 @@
 use Rattle.std.proofs.Common.{◌∙◌, ◌++◌, Some, ap, arith, inl, inr, length, refl, rules, subst, sym}
 use Rattle.std.proofs.lemmas.Result.{err_from_is_err_and}
 use Rattle.layout.specs.Item.{text}
-use Rattle.arrays.specs.Lengths.{IsBuildFault, is_past}
+use Rattle.arrays.specs.Lengths.{IsBuildFault, is_past, text_bytes, total}
 use Rattle.arrays.proofs.CutLemmas.{bytes_with, length-texts, text_more}
 use Rattle.arrays.proofs.builder.texts.TextBuilder.push_text.Goals as goal
 
@@ -21,6 +21,14 @@ returns-in-Ok-clause-ok c =
     let s = c.self.inside in
     (text_more s.slots c.push.new.self s.bytes.items c.extend_from_slice.new.self.items c.args.text.now c.args.self.now c.self.view_is c.self.invariant c.utf8.text
     (c.in_ok-extend_from_slice.ensures.items ∙ ap (λ xs. s.bytes.items ++ xs) c.as_bytes.ensures.value) c.in-Ok.ensures.ok).one_more
+
+pub returns-in-Ok-clause-fits : goal.returns-in-Ok-clause-fits
+returns-in-Ok-clause-fits c =
+    let s = c.self.inside in
+    ap (λ xs. is_past (text_bytes xs)) (text_more s.slots c.push.new.self s.bytes.items c.extend_from_slice.new.self.items c.args.text.now c.args.self.now c.self.view_is c.self.invariant c.utf8.text
+    (c.in_ok-extend_from_slice.ensures.items ∙ ap (λ xs. s.bytes.items ++ xs) c.as_bytes.ensures.value) c.in-Ok.ensures.ok).one_more
+    ∙ sym (ap is_past (bytes_with s.slots s.bytes.items c.args.self.now (Some (length c.args.text.now)) (text c.args.text.now) c.self.view_is c.self.invariant refl))
+    ∙ (sym (ap (λ l. is_past (total l)) c.in-Ok.ensures.ok) ∙ c.in-Ok.ensures.fits)
 
 pub returns-in-Err-clause-fault : goal.returns-in-Err-clause-fault
 returns-in-Err-clause-fault c =

@@ -1,0 +1,47 @@
+-- A schema that is read is lawful.
+use Rattle.std.proofs.Common.{◌≡◌, ◌∙◌, ℕ, zero, suc, ◌+◌, ◌<◌, Bool, false, cond, not, nat_lt, List, [], ◌∷◌, length, Some, None, position, refl, ap, arith}
+use Rattle.std.specs.List.{slice_get, position_or_len}
+use Rattle.std.proofs.lemmas.Bool.Decides.{nat_tests}
+use Rattle.std.proofs.lemmas.Option.{slice_get_within}
+use Rattle.arrays.specs.Shape.{FieldShape, int, boolean, utf8, list, dict, field}
+use Rattle.arrays.specs.Schema.{schema_fault, is_deep, holds_dict}
+use Rattle.serde_json.specs.Data.{Data, Items, no_items, item}
+use Rattle.serde_json.specs.Find.{get_item}
+use Rattle.serde_json.specs.Events.{items_len}
+use Rattle.arrow_json.specs.JsonMember.{ReadsEach}
+use Rattle.arrow_json.specs.JsonSchema.{ReadsField}
+
+pub get_item_some : (ds : Items) (i : ℕ) → i < items_len ds → (d : Data) × (get_item i ds ≡ Some d)
+get_item_some no_items i h = absurd (omega arith)
+get_item_some (item d ds) zero h = (d, refl)
+get_item_some (item d ds) (suc i) h = get_item_some ds i (omega arith)
+
+-- what is read is neither too deep nor a dictionary
+flat : (d : Data) (f : FieldShape) → ReadsField d f → (is_deep f ≡ false) × (holds_dict f ≡ false)
+flat d (field bytes b (int t)) h = (refl, refl)
+flat d (field bytes b boolean) h = (refl, refl)
+flat d (field bytes b utf8) h = (refl, refl)
+flat d (field bytes b (list f)) h = absurd h.ty.reads
+flat d (field bytes b dict) h = absurd h.ty.reads
+
+flat_at : (ds : Items) (fields : List FieldShape) (i : ℕ) (f : FieldShape) → ReadsEach ReadsField ds fields → slice_get fields i ≡ Some f → (is_deep f ≡ false) × (holds_dict f ≡ false)
+flat_at ds fields i f h at =
+    let found = get_item_some ds i (omega (arith, slice_get_within fields i f at, h.len)) in
+    flat found.0 f (h.each i found.0 f found.1 at)
+
+position_or_len-none : {A : Type 0} (p : A → Bool) (xs : List A) → ((i : ℕ) (x : A) → slice_get xs i ≡ Some x → p x ≡ false) → position_or_len p xs ≡ length xs
+position_or_len-none p [] h = refl
+position_or_len-none p (x ∷ xs) h =
+    ap (λ b. cond (not b) (1 + position_or_len p xs) 0) (h 0 x refl) ∙ (ap (λ n. 1 + n) (position_or_len-none p xs (λ i y at. h (suc i) y at)) ∙ omega arith)
+
+pub position-none : {A : Type 0} (p : A → Bool) (xs : List A) → ((i : ℕ) (x : A) → slice_get xs i ≡ Some x → p x ≡ false) → position p xs ≡ None
+position-none p xs h =
+    let all : position_or_len p xs ≡ length xs = position_or_len-none p xs h in
+    let past : nat_lt (position_or_len p xs) (length xs) ≡ false = grind (arith, nat_tests) in
+    ap (λ b. cond b (Some (position_or_len p xs)) None) past
+
+pub schema_fault-read : (ds : Items) (fields : List FieldShape) → ReadsEach ReadsField ds fields → schema_fault fields ≡ None
+schema_fault-read ds fields h =
+    let deep = position-none is_deep fields (λ i f at. (flat_at ds fields i f h at).0) in
+    let held = position-none holds_dict fields (λ i f at. (flat_at ds fields i f h at).1) in
+    rw (deep, held) refl

@@ -1,0 +1,31 @@
+-- Why a value isn't taken into a column that has some items, and how that is told.
+use Rattle.std.specs.Prelude.{◌≡◌, ℕ, List, [], ◌∷◌, ◌++◌, true, false, Some, None}
+use Rattle.layout.specs.declared.fault.LayoutFault.TheVariants as layout
+use Rattle.arrays.specs.Item.{Item}
+use Rattle.serde_json.specs.Data.{Data}
+use Rattle.arrow_json.specs.JsonColumn.{Spelling, is_full}
+use Rattle.arrow_json.specs.JsonFault.{IsFault, no_memory}
+use Rattle.arrow_json.specs.declared.path.Member.TheVariants as member
+use Rattle.arrow_json.specs.declared.path.Step.TheVariants as step
+use Rattle.arrow_json.specs.declared.fault.JsonFault.{JsonFault}
+use Rattle.arrow_json.specs.declared.fault.JsonFaultKind.TheVariants.{Layout}
+use Rattle.arrow_json.specs.declared.column.Unfit.{Unfit}
+use Rattle.arrow_json.specs.declared.column.Unfit.TheVariants.{Unspelled, TooLong, NoMemory}
+
+-- The value's item follows, and the offsets count all.
+pub record IsWith (s : Spelling) (old : List Item) (d : Data) (new : List Item) : Type 0 where
+  pub item : Item
+  pub spelled : s.spelled d ≡ Some item
+  pub grown : new ≡ old ++ item ∷ []
+  pub fits : is_full s new ≡ false
+
+pub data IsUnfit (s : Spelling) (old : List Item) (d : Data) : Unfit → Type 0 where
+  spells_nothing : s.spelled d ≡ None → IsUnfit s old d (Unspelled s.bad)
+  has_no_room : (item : Item) → s.spelled d ≡ Some item → is_full s (old ++ item ∷ []) ≡ true → IsUnfit s old d TooLong
+  refused : IsUnfit s old d NoMemory
+
+-- How it is told of slot i.
+abbrev pub IsTold : ℕ → Unfit → JsonFault → Type 0
+IsTold i (Unspelled kind) fault = IsFault kind (step.Member member.Data ∷ step.Item i ∷ []) fault
+IsTold i TooLong fault = IsFault (Layout layout.TooLong) [] fault
+IsTold i NoMemory fault = fault ≡ no_memory
