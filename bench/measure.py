@@ -1,12 +1,13 @@
 #!/usr/bin/env python3
-"""Measures `arrowtab stats` beside another program on files of integer columns.
+"""Measures `arrowtab stats` beside another program, on a file of integers or one of integers, texts and truth values.
 
-    bench/measure.py [MEGABYTES] [PEER..]
+    bench/measure.py ints|mixed [MEGABYTES] [PEER..]
 
 PEER is a program with its first arguments, to which the file's name is added; it has to print the same.
 The runs alternate; printed are the medians of wall time, the peak memory, and their ratios. Only ratios of
 one run on one machine mean anything.
 """
+import itertools
 import os
 import random
 import resource
@@ -18,31 +19,51 @@ import time
 
 TOP = os.path.dirname(os.path.dirname(os.path.abspath(__file__)))
 ARROWTAB = [os.path.join(TOP, "build", "arrowtab"), "stats"]
-COLUMNS = [("small", 16, True), ("flags", 8, False), ("middle", 32, True), ("large", 64, True)]
+INTS = [("small", "int", 16, True), ("flags", "int", 8, False), ("middle", "int", 32, True), ("large", "int", 64, True)]
+MIXES = {"ints": INTS, "mixed": INTS[2:] + [("word", "utf8"), ("truth", "bool")]}
 ROWS = 50_000
+WORDS = [f"word-{number}" for number in range(1000)]
 
 
-def field(name, bits, signed):
-    return (f'{{"name":"{name}","nullable":true,"type":{{"name":"int","bitWidth":{bits},'
-            f'"isSigned":{"true" if signed else "false"}}},"children":[]}}')
+def field(name, kind, bits=None, signed=None):
+    width = f',"bitWidth":{bits},"isSigned":{"true" if signed else "false"}' if kind == "int" else ""
+    return f'{{"name":"{name}","nullable":true,"type":{{"name":"{kind}"{width}}},"children":[]}}'
 
 
-def column(draw, name, bits, signed):
+def int_values(draw, bits, signed):
     low, high = (-(1 << bits - 1), (1 << bits - 1) - 1) if signed else (0, (1 << bits) - 1)
     quote = '"' if bits == 64 else ""
+    return f'"DATA":[{",".join(f"{quote}{draw.randint(low, high)}{quote}" for _ in range(ROWS))}]'
+
+
+def text_values(draw):
+    texts = [draw.choice(WORDS) for _ in range(ROWS)]
+    offsets = itertools.accumulate((len(text) for text in texts), initial=0)
+    quoted = ",".join(f'"{text}"' for text in texts)
+    return f'"OFFSET":[{",".join(map(str, offsets))}],"DATA":[{quoted}]'
+
+
+def values(draw, kind, *width):
+    if kind == "int":
+        return int_values(draw, *width)
+    if kind == "utf8":
+        return text_values(draw)
+    return f'"DATA":[{",".join(draw.choice("01") for _ in range(ROWS))}]'
+
+
+def column(draw, name, *kind):
     flags = ",".join("0" if draw.random() < 0.05 else "1" for _ in range(ROWS))
-    numbers = ",".join(f"{quote}{draw.randint(low, high)}{quote}" for _ in range(ROWS))
-    return f'{{"name":"{name}","count":{ROWS},"VALIDITY":[{flags}],"DATA":[{numbers}]}}'
+    return f'{{"name":"{name}","count":{ROWS},"VALIDITY":[{flags}],{values(draw, *kind)}}}'
 
 
-def write(path, size):
+def write(path, columns, size):
     draw = random.Random(1)
     with open(path, "w") as out:
-        out.write('{"schema":{"fields":[' + ",".join(field(*it) for it in COLUMNS) + ']},"batches":[')
+        out.write('{"schema":{"fields":[' + ",".join(field(*it) for it in columns) + ']},"batches":[')
         between = ""
         while out.tell() < size:
-            columns = ",".join(column(draw, *it) for it in COLUMNS)
-            out.write(f'{between}{{"count":{ROWS},"columns":[{columns}]}}')
+            batch = ",".join(column(draw, *it) for it in columns)
+            out.write(f'{between}{{"count":{ROWS},"columns":[{batch}]}}')
             between = ","
         out.write("]}\n")
 
@@ -66,11 +87,13 @@ def run(words):
 
 
 def main():
-    size = float(sys.argv[1] if len(sys.argv) > 1 else 100) * 1_000_000
-    programs = [ARROWTAB] + ([sys.argv[2:]] if len(sys.argv) > 2 else [])
+    if len(sys.argv) < 2 or sys.argv[1] not in MIXES:
+        sys.exit(__doc__)
+    size = float(sys.argv[2] if len(sys.argv) > 2 else 100) * 1_000_000
+    programs = [ARROWTAB] + ([sys.argv[3:]] if len(sys.argv) > 3 else [])
     with tempfile.TemporaryDirectory() as room:
-        path = os.path.join(room, "ints.json")
-        write(path, size)
+        path = os.path.join(room, "columns.json")
+        write(path, MIXES[sys.argv[1]], size)
         size = os.path.getsize(path)
         runs = [[run([*words, path]) for words in programs] for _ in range(5)]
     if len({it[2] for turn in runs for it in turn}) != 1:
@@ -80,7 +103,7 @@ def main():
     for words, took, peak in zip(programs, seconds, peaks):
         print(f"{os.path.basename(words[0])}: {took:.3f} s, {peak / size:.1f} times the file in memory")
     if len(programs) > 1:
-        print(f"time: {seconds[0] / seconds[1]:.2f} of the other program's")
+        print(f"of the other program's: time {seconds[0] / seconds[1]:.2f}, memory {peaks[0] / peaks[1]:.2f}")
 
 
 if __name__ == "__main__":
