@@ -3,5 +3,6 @@ pub mod ValidityLemmas
 pub mod TruthLemmas
 pub mod ComparisonLemmas
 pub mod KleeneLemmas
+pub mod PackedLemmas
 pub mod NumberLemmas
 pub mod ResultLemmas

@@ -26,6 +26,9 @@ wide W64 true z h = omega (arith, ints)
 wide W64 false z h = omega (arith, ints)
 
 -- a number of any type is one of 128 bits
+pub FitsSigned-from_type : (t : IntType) (z : ℤ) → IsOfType t z → FitsSigned w128 z
+FitsSigned-from_type t z h = wide t.bits t.signed z h
+
 pub FitsSigned-from_test : (t : IntType) (z : ℤ) → is_of_type t z ≡ true → FitsSigned w128 z
 FitsSigned-from_test t z h = wide t.bits t.signed z (IsOfType-from_test t z h)
 

@@ -9,6 +9,7 @@ ghost use Rattle.kernels.specs.Order.{are_comparable, compared, comparison_fault
 ghost use Rattle.arrays.specs.Shown.{shown};
 ghost use Rattle.kernels.specs.Wanted.{decisions, wants};
 
+mod packed;
 mod pairs;
 mod wanted;
 
@@ -211,5 +212,15 @@ impl<'p, P: Pairs> Truths for Verdicts<'p, P> {
 
     fn value(&self, i: usize) -> bool {
         self.pairs.meets(self.wanted, i)
+    }
+
+    #[inline(always)]
+    fn known_word(&self, i: usize) -> u64 {
+        self.pairs.holds_word(i)
+    }
+
+    #[inline(always)]
+    fn value_word(&self, i: usize) -> u64 {
+        self.pairs.meets_word(self.wanted, i)
     }
 }

@@ -1,9 +1,10 @@
 //! Two items at each place: numbers, truth values or texts.
 
-ghost use Rattle.std.specs.Prelude.{◌≡◌, ◌<◌, ◌≤◌, ◌*◌, ◌&&◌, ℕ, Bool, true, false, length, slice_index_or, is_none, IsTrue};
+ghost use Rattle.std.specs.Prelude.{◌≡◌, ◌+◌, ◌<◌, ◌≤◌, ◌*◌, ◌&&◌, ℕ, Bool, true, false, length, slice_index_or, is_none, IsTrue};
 ghost use Rattle.std.specs.Cmp.Lexicographic.{slice_cmp};
 ghost use Rattle.std.specs.Ordering.{bool_cmp, int_cmp, nat_cmp};
 ghost use Rattle.std.specs.declared.cmp.Ordering.{Ordering};
+ghost use Rattle.colbits.specs.Bit.{bit_in};
 ghost use Rattle.arrays.specs.Number.{number_at};
 ghost use Rattle.arrays.specs.Kind.{bytes_of};
 ghost use Rattle.arrays.specs.Offsets.{of_slot};
@@ -13,8 +14,9 @@ ghost use Rattle.kernels.specs.Lift.{item_at};
 ghost use Rattle.kernels.specs.Order.{order};
 ghost use Rattle.kernels.specs.Wanted.{wants};
 
+use super::packed::{are_equal, are_less, chosen};
 use super::wanted::Wanted;
-use crate::validity::BothValid;
+use crate::validity::{BothValid, valid_word};
 use arrays::validity::is_valid;
 use arrays::{Integer, Texts, View};
 use colbits::Bits;
@@ -47,6 +49,32 @@ pub(crate) trait Pairs {
     fn meets(&self, wanted: Wanted, i: usize) -> bool
         requires { i < count self.now }
         ensures { result ≡ wants wanted (order self.now i) };
+
+    /// Whether both items are there at each of places `i` to `i + 63`, the first of them least significant.
+    fn holds_word(&self, i: usize) -> u64
+        requires { i + 64 ≤ count self.now }
+        ensures { (j : ℕ) → j < 64 → bit_in result j ≡ both self.now (i + j) }
+    {
+        let _slots = self.slots();
+        let mut word = 0;
+        for j in 0..64 {
+            word |= u64::from(self.holds(i + j)) << j;
+        }
+        word
+    }
+
+    /// Whether the items at these places stand to each other as wanted, likewise.
+    fn meets_word(&self, wanted: Wanted, i: usize) -> u64
+        requires { i + 64 ≤ count self.now }
+        ensures { (j : ℕ) → j < 64 → bit_in result j ≡ wants wanted (order self.now (i + j)) }
+    {
+        let _slots = self.slots();
+        let mut word = 0;
+        for j in 0..64 {
+            word |= u64::from(self.meets(wanted, i + j)) << j;
+        }
+        word
+    }
 }
 
 /// Whether both slots are valid at place `i`.
@@ -55,6 +83,14 @@ fn are_both_valid(valid: &BothValid<'_, '_>, i: usize) -> bool
     ensures { result ≡ (valid_in valid.now.a i && valid_in valid.now.b i) }
 {
     is_valid(&valid.a, i) & is_valid(&valid.b, i)
+}
+
+/// Whether both slots are valid at each of places `i` to `i + 63`, the first of them least significant.
+#[inline(always)]
+fn are_both_valid_at(valid: &BothValid<'_, '_>, i: usize) -> u64
+    ensures { (j : ℕ) → j < 64 → bit_in result j ≡ (valid_in valid.now.a (i + j) && valid_in valid.now.b (i + j)) }
+{
+    valid_word(&valid.a, i) & valid_word(&valid.b, i)
 }
 
 /// Whether both slots are valid at each place, as neither column has a bitmap.
@@ -99,6 +135,25 @@ impl<'a, 'b, T: Integer> Pairs for Numbers<'a, 'b, T> {
     fn meets(&self, wanted: Wanted, i: usize) -> bool {
         wanted.numbers(T::at(self.a, i), T::at(self.b, i))
     }
+
+    #[inline(always)]
+    fn holds_word(&self, i: usize) -> u64 {
+        are_both_valid_at(&self.valid, i)
+    }
+
+    #[inline(always)]
+    fn meets_word(&self, wanted: Wanted, i: usize) -> u64 {
+        if wanted.less == wanted.greater {
+            let equal = are_equal::<T>(self.a, self.b, i);
+            return chosen(equal, wanted.equal, wanted.less);
+        }
+        if wanted.equal == wanted.greater {
+            let less = are_less::<T>(self.a, self.b, i);
+            return chosen(less, wanted.less, wanted.equal);
+        }
+        let greater = are_less::<T>(self.b, self.a, i);
+        chosen(greater, wanted.greater, wanted.equal)
+    }
 }
 
 /// Truth values.
@@ -135,6 +190,11 @@ impl<'a, 'b> Pairs for Bools<'a, 'b> {
     fn meets(&self, wanted: Wanted, i: usize) -> bool {
         wanted.bools(self.a.get(i), self.b.get(i))
     }
+
+    #[inline(always)]
+    fn holds_word(&self, i: usize) -> u64 {
+        are_both_valid_at(&self.valid, i)
+    }
 }
 
 /// Texts of which neither column is dictionary-encoded.
@@ -169,6 +229,11 @@ impl<'a, 'b> Pairs for Utf8s<'a, 'b> {
         let x = self.a.get(i);
         let y = self.b.get(i);
         wanted.bytes(x, y)
+    }
+
+    #[inline(always)]
+    fn holds_word(&self, i: usize) -> u64 {
+        are_both_valid_at(&self.valid, i)
     }
 }
 

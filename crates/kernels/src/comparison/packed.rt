@@ -1,0 +1,71 @@
+//! Comparisons of 64 numbers each, packed into a word.
+
+ghost use Rattle.std.specs.Prelude.{◌≡◌, ℕ, ◌+◌, ◌*◌, ◌≤◌, ◌<◌, ◌^◌, ◌&&◌, if◌then◌else◌, length};
+ghost use Rattle.std.specs.Ordering.{int_cmp, is_eq, is_lt};
+ghost use Rattle.arrays.specs.Kind.{bytes_of};
+ghost use Rattle.arrays.specs.Number.{number_at};
+ghost use Rattle.colbits.specs.Bit.{bit_in};
+
+use arrays::Integer;
+
+/// At which of places `i` to `i + 63` the first number is less, the first of them least significant.
+#[inline(always)]
+pub(crate) fn are_less<T: Integer>(a: &[u8], b: &[u8], i: usize) -> u64
+    requires fits { i + 64 < 2 ^ 64 }
+    requires a { (i + 64) * bytes_of T.ty.bits ≤ length a.now }
+    requires b { (i + 64) * bytes_of T.ty.bits ≤ length b.now }
+    ensures { (j : ℕ) → j < 64 → bit_in result j ≡ is_lt (int_cmp (number_at T.ty a.now (i + j)) (number_at T.ty b.now (i + j))) }
+{
+    let mut word = 0;
+    for j in 0..64 {
+        word |= u64::from(is_less(T::at(a, i + j), T::at(b, i + j))) << j;
+    }
+    word
+}
+
+/// At which of these places the two numbers are equal, likewise.
+#[inline(always)]
+pub(crate) fn are_equal<T: Integer>(a: &[u8], b: &[u8], i: usize) -> u64
+    requires fits { i + 64 < 2 ^ 64 }
+    requires a { (i + 64) * bytes_of T.ty.bits ≤ length a.now }
+    requires b { (i + 64) * bytes_of T.ty.bits ≤ length b.now }
+    ensures { (j : ℕ) → j < 64 → bit_in result j ≡ is_eq (int_cmp (number_at T.ty a.now (i + j)) (number_at T.ty b.now (i + j))) }
+{
+    let mut word = 0;
+    for j in 0..64 {
+        word |= u64::from(is_equal(T::at(a, i + j), T::at(b, i + j))) << j;
+    }
+    word
+}
+
+/// Whether the first number is less.
+#[inline(always)]
+fn is_less(x: i128, y: i128) -> bool
+    ensures { result ≡ is_lt (int_cmp x y) }
+{
+    x < y
+}
+
+/// Whether the numbers are equal.
+#[inline(always)]
+fn is_equal(x: i128, y: i128) -> bool
+    ensures { result ≡ is_eq (int_cmp x y) }
+{
+    x == y
+}
+
+/// A word that has `there` where this one has 1, and `elsewhere` where it has 0.
+#[inline(always)]
+pub(crate) fn chosen(word: u64, there: bool, elsewhere: bool) -> u64
+    ensures { (j : ℕ) → j < 64 → bit_in result j ≡ (if bit_in word j then there else elsewhere) }
+{
+    kept_if(word, there) | kept_if(!word, elsewhere)
+}
+
+/// The word, or 0.
+#[inline(always)]
+fn kept_if(word: u64, is_kept: bool) -> u64
+    ensures { (j : ℕ) → bit_in result j ≡ (bit_in word j && is_kept) }
+{
+    if is_kept { word } else { 0 }
+}
