@@ -1,0 +1,23 @@
+use Rattle.std.proofs.Common.{◌∙◌, ◌≡◌, ap, ap₂, true}
+use Rattle.std.proofs.lemmas.Result.{IfOk-weaker}
+use Rattle.std.specs.Prelude.{codes}
+use Rattle.clap.specs.Simple.{App, app_of_fields, on_top}
+use Rattle.clap.specs.Words.{app_of, new_app, with_subcommand}
+use Rattle.job.proofs.command_line.arrowtab.Goals as goal
+
+abbrev required : App → App
+required = on_top (λ top. record top { subcommand_required = true })
+
+abbrev helpful : App → App
+helpful = on_top (λ top. record top { arg_required_else_help = true })
+
+pub returns : goal.returns
+returns c =
+    let described : app_of c.about-described.result ≡ new_app (codes "arrowtab") = ap app_of_fields c.about-described.ensures ∙ c.new-bare.ensures.app in
+    let explained : app_of c.after_help-explained.result ≡ new_app (codes "arrowtab") = ap app_of_fields c.after_help-explained.ensures ∙ described in
+    let with_command : app_of c.subcommand_required-required.result ≡ required (new_app (codes "arrowtab")) =
+    ap app_of_fields c.subcommand_required-required.ensures ∙ ap required explained in
+    let with_help : app_of c.arg_required_else_help-helpful.result ≡ helpful (required (new_app (codes "arrowtab"))) =
+    ap app_of_fields c.arg_required_else_help-helpful.ensures ∙ ap helpful with_command in
+    IfOk-weaker c.subcommand.result _ _ (λ command added.
+    added.shape c.in_ok-stats.ensures.local ∙ ap₂ with_subcommand with_help (ap (λ (a : App). a.top) c.in_ok-stats.ensures.line)) c.subcommand.ensures

@@ -1,0 +1,54 @@
+-- Which job the words of the command line ask for, and why they ask for none. `clap` has functions of the words for both.
+use Rattle.std.specs.Prelude.{◌≡◌, ◌≢◌, ◌<◌, List, [], length, map, Option, Some, false, ⊤, codes, string_bytes, String}
+use Rattle.std.specs.declared.alloc.Global.{Global}
+use Rattle.clap.specs.Words.{IsAmong, Row, Text, all_of, fault_of, kind_of, subcommand_of, takes}
+use Rattle.clap.specs.declared.error.Error.{Error}
+use Rattle.clap.specs.declared.error.kind.ErrorKind.TheVariants.{OutOfMemory}
+use Rattle.job.specs.CommandLine.{arrowtab}
+use Rattle.job.specs.declared.asked.Command.{Command}
+use Rattle.job.specs.declared.asked.Command.TheVariants.{Stats}
+use Rattle.job.specs.declared.asked.Job.{Job}
+use Rattle.job.specs.declared.fault.JobFault.{JobFault}
+use Rattle.job.specs.declared.fault.JobFault.TheVariants.{Line, Unread, NoMemory}
+
+-- The word of a command.
+abbrev pub word_of : Command → Text
+word_of Stats = codes "stats"
+
+-- The names of the files.
+abbrev pub names_of : List (String Global) → List Text
+names_of names = map string_bytes names
+
+-- What `clap` finds in the words is the command, and the names of the files. It finds no number of workers yet.
+pub record Finds (found : Option (Text × List Row)) (job : Job) : Type 0 where
+  pub rows : List Row
+  pub command : found ≡ Some (word_of job.command, rows)
+  pub names : all_of (codes "FILE") rows ≡ Some (names_of job.names.items)
+  pub workers : job.workers ≡ 1
+
+-- `clap` takes the words, and finds the job in them.
+pub record Asks (words : List Text) (job : Job) : Type 0 where
+  pub taken : fault_of arrowtab words ≡ []
+  pub finds : Finds (subcommand_of arrowtab words) job
+
+-- What running a job asks of it.
+pub record IsReady (job : Job) : Type 0 where
+  pub some : 0 < length job.names.items
+  pub one_worker : job.workers ≡ 1
+
+-- `clap` doesn't take the words, and the error is of a kind that they give.
+pub record IsRefusal (words : List Text) (error : Error) : Type 0 where
+  pub refused : takes arrowtab words ≡ false
+  pub kind : IsAmong (kind_of error) (fault_of arrowtab words)
+  pub of_words : kind_of error ≢ OutOfMemory
+
+abbrev pub IsFaultOf : List Text → JobFault → Type 0
+IsFaultOf words (Line error) = IsRefusal words error
+IsFaultOf words Unread = fault_of arrowtab words ≡ []
+IsFaultOf words NoMemory = ⊤
+
+-- No error of `clap`.
+abbrev pub IsNoLine : JobFault → Type 0
+IsNoLine (Line error) = ⊥
+IsNoLine Unread = ⊤
+IsNoLine NoMemory = ⊤

@@ -1,0 +1,47 @@
+//! The commands of the program, as `clap` reads them.
+ghost use Rattle.std.specs.Prelude.{◌≡◌, IfOk, false};
+ghost use Rattle.clap.specs.Words.{app_of, rule_of};
+ghost use Rattle.job.specs.CommandLine.{arrowtab, files, stats};
+ghost use Rattle.clap.specs.declared.builder.command.Command.TheViews.{out-Command};
+
+use clap::{Arg, Command};
+use std::alloc::{AllocError, Global};
+
+/// The program: a command has to be there.
+pub(crate) fn arrowtab<'a>(alloc: Global) -> Result<Command<'a>, AllocError>
+    ensures { IfOk result (λ command. app_of command ≡ arrowtab) }
+{
+    let stats = stats(alloc)?;
+    let bare = Command::new(alloc, "arrowtab");
+    let described = bare.about(
+        "Prints exact statistics of files in Apache Arrow's JSON integration format",
+    );
+    let explained = described.after_help(
+        "Exit status: 0 if all was done; 1 for a fault in a file, the output or memory;\n2 for a mistake in the arguments.",
+    );
+    let required = explained.subcommand_required(true);
+    let helpful = required.arg_required_else_help(true);
+    helpful.subcommand(stats)
+}
+
+/// `stats FILE..`
+fn stats<'a>(alloc: Global) -> Result<Command<'a>, AllocError>
+    ensures line { IfOk result (λ command. app_of command ≡ stats) }
+    ensures local { IfOk result (λ command. (out-Command command).has_globals ≡ false) }
+{
+    let files = files(alloc);
+    let bare = Command::new(alloc, "stats");
+    let described = bare.about("Print rows, nulls, sum, least and greatest of each column");
+    described.arg(files)
+}
+
+/// `FILE..`, at least one.
+fn files<'a>(alloc: Global) -> Arg<'a>
+    ensures rule { rule_of result ≡ files }
+    ensures local { result.global ≡ false }
+{
+    let file = Arg::new(alloc, "FILE");
+    let described = file.help("Files of one table, which has the first one's schema");
+    let required = described.required(true);
+    required.num_args(1..)
+}

@@ -1,0 +1,15 @@
+use thiserror::Error;
+
+/// Why the words of the command line are no job.
+#[derive(Debug, Drop, Error)]
+pub enum JobFault {
+    /// `clap` doesn't take the words, or they ask for help: the text is its own.
+    #[error("{0}")]
+    Line(clap::Error),
+    /// `clap` took the words, but what it made of them is no job.
+    #[error("bad arguments")]
+    Unread,
+    /// There was no memory to read the words.
+    #[error("out of memory")]
+    NoMemory,
+}
