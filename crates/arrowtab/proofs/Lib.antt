@@ -1,5 +1,4 @@
 -- What the proofs of this crate share.
-mod Ends
 mod ReportLemmas
 mod LoadLemmas
 mod ReadLemmas

@@ -5,9 +5,9 @@ use Rattle.std.proofs.lemmas.Option.{slice_get_within}
 use Rattle.std.proofs.lemmas.Slice.Zip.{AllZip-long}
 use Rattle.arrowtab.specs.Explained.{Explains, ExplainsFile}
 use Rattle.arrowtab.specs.Loaded.{batches_of}
-use Rattle.arrowtab.specs.Lines.{memory_line}
+use Rattle.ends.specs.Line.{TookLine, line_taken, memory_line, sink_failed}
 use Rattle.arrowtab.specs.Run.{Excuse, Inputs, error_failed, no_memory, not_read, refused, source_failed}
-use Rattle.arrowtab.specs.Told.{IsOfFile, TookBuilt, TookFault, TookLine, built, fault_line, line_taken, not_built, sink_failed}
+use Rattle.arrowtab.specs.Told.{IsOfFile, TookBuilt, TookFault, built, fault_line, not_built}
 use Rattle.arrowtab.specs.declared.run_fault.FileFault.{FileFault}
 use Rattle.arrowtab.specs.declared.run_fault.FileFault.TheVariants.{CannotRead, Json, Refused}
 use Rattle.arrowtab.specs.declared.run_fault.RunFault.{RunFault}

@@ -1,8 +1,4 @@
 -- The words of this crate's contracts.
-pub mod Count
-pub mod Memory
-pub mod Sink
-pub mod Source
 pub mod Plan
 pub mod RefusalText
 pub mod Shown
@@ -11,5 +7,4 @@ pub mod Lines
 pub mod Told
 pub mod Run
 pub mod Explained
-pub mod Job
 pub mod Alone

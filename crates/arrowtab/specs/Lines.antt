@@ -1,15 +1,12 @@
 -- The lines of faults.
 use Rattle.std.specs.Prelude.{ℕ, List, ◌++◌, codes}
 use Rattle.std.specs.Fmt.{decimal}
-use Rattle.arrowtab.specs.Shown.{line}
+use Rattle.ends.specs.Line.{message}
 use Rattle.arrowtab.specs.RefusalText.{refusal_text}
 use Rattle.arrow_json.specs.JsonFaultText.{fault_text}
 use Rattle.shared.specs.declared.refusal.Refusal.{Refusal}
 use Rattle.arrow_json.specs.declared.path.Step.{Step}
 use Rattle.arrow_json.specs.declared.fault.JsonFaultKind.{JsonFaultKind}
-
-abbrev pub message : List ℕ → List ℕ
-message what = line (codes "arrowtab: " ++ what)
 
 abbrev pub unread_line : List ℕ → List ℕ
 unread_line name = message (name ++ codes ": cannot be read")
@@ -19,9 +16,3 @@ file_line name kind path = message (name ++ codes ": " ++ fault_text kind path)
 
 abbrev pub refusal_line : List ℕ → ℕ → Refusal → List ℕ
 refusal_line name number refusal = message (name ++ codes ": batch " ++ decimal number ++ codes ": " ++ refusal_text refusal)
-
-abbrev pub memory_line : List ℕ
-memory_line = message (codes "no memory")
-
-abbrev pub output_line : List ℕ
-output_line = message (codes "output failed")

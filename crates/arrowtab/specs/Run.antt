@@ -2,12 +2,13 @@
 use Rattle.std.specs.Prelude.{◌≡◌, ◌<◌, ◌∷◌, ℕ, List, [], map, Option, Some, IfSome, slice_get}
 use Rattle.std.specs.List.{AllZip}
 use Rattle.std.specs.Io.KnownBytes.{Appends, Keeps}
-use Rattle.arrowtab.specs.Sink.{AppendsFront}
+use Rattle.ends.specs.Line.{memory_line, output_line}
+use Rattle.ends.specs.Sink.{AppendsFront}
 use Rattle.arrays.specs.Shape.{FieldShape}
 use Rattle.shared.specs.History.{History}
 use Rattle.shared.specs.Stored.{stored_fields}
 use Rattle.arrowtab.specs.Shown.{shown}
-use Rattle.arrowtab.specs.Lines.{unread_line, file_line, refusal_line, memory_line, output_line}
+use Rattle.arrowtab.specs.Lines.{unread_line, file_line, refusal_line}
 use Rattle.arrowtab.specs.Loaded.{IsLoaded, IsStopped, batches_of}
 use Rattle.arrow_json.specs.JsonFile.{Reads, BytesFault}
 use Rattle.arrow_json.specs.JsonTable.{FileData}

@@ -1,8 +1,9 @@
 -- The output of `stats`, line by line.
-use Rattle.std.specs.Prelude.{ℕ, ℤ, List, [], ◌∷◌, ◌++◌, length, Bool, true, false, Option, Some, None, codes}
+use Rattle.std.specs.Prelude.{ℕ, ℤ, List, [], ◌++◌, length, Bool, true, false, Option, Some, None, codes}
 use Rattle.std.specs.List.{enumerate_from, range_with_len, flat_map}
 use Rattle.std.specs.Fmt.{decimal, signed_decimal}
 use Rattle.json.specs.Print.{quoted}
+use Rattle.ends.specs.Line.{line}
 use Rattle.types.specs.declared.int_type.Width.{Width}
 use Rattle.types.specs.declared.int_type.Width.TheVariants.{W8, W16, W32, W64}
 use Rattle.arrays.specs.Item as item
@@ -15,10 +16,6 @@ use Rattle.shared.specs.History.{History, rows, of}
 use Rattle.group.specs.Stats.{nulls_of, sum_of, least_of, greatest_of}
 
 -- ---- lines over plain numbers and texts
-
--- The lines of a text end with one newline each.
-abbrev pub line : List ℕ → List ℕ
-line text = text ++ 10 ∷ []
 
 abbrev pub rows_line : ℕ → List ℕ
 rows_line count = line (codes "rows " ++ decimal count)

@@ -1,7 +1,7 @@
 -- What the error sink took of a line.
 use Rattle.std.specs.Prelude.{◌≡◌, ℕ, ◌<◌, List, Option, Some, slice_get, ⊤}
-use Rattle.std.specs.Io.KnownBytes.{Appends}
-use Rattle.arrowtab.specs.Lines.{unread_line, file_line, refusal_line, memory_line}
+use Rattle.arrowtab.specs.Lines.{unread_line, file_line, refusal_line}
+use Rattle.ends.specs.Line.{TookLine, memory_line}
 use Rattle.arrowtab.specs.declared.run_fault.FileFault.{FileFault}
 use Rattle.arrowtab.specs.declared.run_fault.FileFault.TheVariants.{CannotRead, Json, Refused}
 use Rattle.arrowtab.specs.declared.run_fault.RunFault.{RunFault}
@@ -13,12 +13,7 @@ fault_line name CannotRead = unread_line name
 fault_line name (Json f) = file_line name f.kind f.path
 fault_line name (Refused number refusal) = refusal_line name number refusal
 
--- The sink took the line, or it failed.
-pub data TookLine (text : List ℕ) (failed failures : ℕ) (old new : Option (List ℕ)) : Type 0 where
-  sink_failed : failed < failures → TookLine text failed failures old new
-  line_taken : Appends old new text → TookLine text failed failures old new
-
--- The same of a line that had to be built: that memory ran out may be told in its place.
+-- The sink took a line that had to be built, or it failed: that memory ran out may be told in its place.
 pub data TookBuilt (text : List ℕ) (failed failures : ℕ) (old new : Option (List ℕ)) : Type 0 where
   built : TookLine text failed failures old new → TookBuilt text failed failures old new
   not_built : TookLine memory_line failed failures old new → TookBuilt text failed failures old new

@@ -10,8 +10,8 @@ use crate::load::load;
 use crate::reading::read_files;
 use crate::report::stats_text;
 use crate::run_fault::RunFault;
-use crate::source::Source;
 use arrays::File;
+use ends::Source;
 use std::alloc::Global;
 
 /// Reads all sources, one after the other, and makes the output of `stats` of their files.

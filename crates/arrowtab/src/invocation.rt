@@ -1,15 +1,14 @@
 //! The program over any sources and any two sinks.
 ghost use Rattle.std.specs.Prelude.{◌≡◌, ◌^◌, ◌-◌, ◌<◌, All, length, map};
-ghost use Rattle.arrowtab.specs.Job.{names_of};
 ghost use Rattle.arrowtab.specs.Run.{Excuse, Wrote, WroteFront};
 ghost use Rattle.arrowtab.specs.Told.{IsOfFile, TookFault};
+ghost use Rattle.job.specs.Asked.{names_of};
 
 use crate::answer::answer;
-use crate::job::Job;
 use crate::run_fault::RunFault;
-use crate::sink::{Sink, write_whole};
-use crate::source::Source;
-use crate::tell::{tell, tell_memory, tell_output};
+use crate::tell::tell;
+use ends::{Sink, Source, tell_memory, tell_output, write_whole};
+use job::Job;
 use std::alloc::Global;
 
 /// Does the job: reads all sources in order, loads their files, writes the output, and answers the status: 0 where

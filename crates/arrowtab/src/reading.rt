@@ -6,9 +6,9 @@ ghost use Rattle.arrowtab.specs.Explained.{Explains, ExplainsSource};
 ghost use Rattle.arrowtab.specs.Run.{AreRead};
 
 use crate::run_fault::{FileFault, RunFault};
-use crate::source::{Source, SourceFault, read_whole};
 use arrays::File;
 use arrow_json::{JsonFaultKind, read_file_from_vec};
+use ends::{Source, SourceFault, read_whole};
 use std::alloc::Global;
 
 /// The file of each source, in order. The first fault ends it. The bytes of one file are gone before the next is read.

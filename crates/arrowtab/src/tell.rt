@@ -1,21 +1,15 @@
 //! Faults as lines on the error sink.
 ghost use Rattle.std.specs.Prelude.{◌≡◌, ◌^◌, ◌-◌, ◌<◌, IfOk, string_bytes};
-ghost use Rattle.arrowtab.specs.Lines.{unread_line, file_line, refusal_line, memory_line, output_line};
-ghost use Rattle.arrowtab.specs.Told.{TookBuilt, TookLine, fault_line};
+ghost use Rattle.arrowtab.specs.Lines.{unread_line, file_line, refusal_line};
+ghost use Rattle.arrowtab.specs.Told.{TookBuilt, fault_line};
 
 use crate::refusal::refusal_text;
 use crate::run_fault::FileFault;
-use crate::sink::{Sink, write_whole};
 use arrow_json::{JsonFault, fault_text};
 use colbits::NoMemory;
+use ends::{Sink, tell_memory, write_line};
 use shared::Refusal;
 use std::alloc::Global;
-
-/// The line that is written where memory ran out. It takes none itself.
-const MEMORY_LINE: &[u8] = b"arrowtab: no memory\n";
-
-/// The line that is written where the output failed.
-const OUTPUT_LINE: &[u8] = b"arrowtab: output failed\n";
 
 /// The line of a file's fault.
 fn line_of(alloc: Global, name: &str, fault: &FileFault) -> Result<String, NoMemory>
@@ -80,28 +74,4 @@ pub(crate) fn tell<E: Sink>(alloc: Global, name: &str, fault: &FileFault, err: &
         Ok(line) => write_line(line.as_bytes(), err),
         Err(NoMemory) => tell_memory(err),
     }
-}
-
-/// Writes that memory ran out.
-pub(crate) fn tell_memory<E: Sink>(err: &mut E)
-    requires { E.failures err.old < 2 ^ 64 - 1 }
-    ensures { TookLine memory_line (E.failures err.old) (E.failures err.new) (E.taken err.old) (E.taken err.new) }
-{
-    write_line(MEMORY_LINE, err);
-}
-
-/// Writes that the output failed.
-pub(crate) fn tell_output<E: Sink>(err: &mut E)
-    requires { E.failures err.old < 2 ^ 64 - 1 }
-    ensures { TookLine output_line (E.failures err.old) (E.failures err.new) (E.taken err.old) (E.taken err.new) }
-{
-    write_line(OUTPUT_LINE, err);
-}
-
-/// Writes a line.
-fn write_line<E: Sink>(line: &[u8], err: &mut E)
-    requires { E.failures err.old < 2 ^ 64 - 1 }
-    ensures { TookLine line.now (E.failures err.old) (E.failures err.new) (E.taken err.old) (E.taken err.new) }
-{
-    let _ = write_whole(err, line);
 }

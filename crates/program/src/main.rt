@@ -1,48 +1,48 @@
 //! `arrowtab stats FILE..` prints the statistics of Arrow integration JSON files of integer columns.
 //!
 //! It ends with status 0 where all of them were written, 1 where a fault was told on standard error
-//! instead, and 2 where its arguments are others.
+//! instead, and 2 where its arguments are others. `arrowtab --help` tells what it takes.
 #![tactic(auto)]
 
 mod file;
 mod output;
 
-ghost use Rattle.std.specs.Prelude.{◌≡◌, ◌<◌, ◌^◌, ◌-◌, All, IfOk, IfSome, length};
+ghost use Rattle.std.specs.Prelude.{◌≡◌, ◌<◌, ◌^◌, ◌-◌, All, IfOk, length};
+ghost use Rattle.job.specs.Asked.{IsReady};
 
-use arrowtab::{Command, Job, run};
+use arrowtab::{Job, JobFault, job, print_fault, run};
 use file::FileSource;
 use output::OutputSink;
-use std::alloc::{AllocError, Global};
+use std::alloc::AllocError;
 use std::io::ErrorKind;
 use std::process::ExitCode;
 use std::{env, io};
 
-// The names of the files that the words after the program's name ask for, none where they ask for something else.
-fn asked_names(alloc: Global, words: env::Args) -> Result<Option<Vec<String>>, AllocError>
-    ensures { IfOk result (λ asked. IfSome asked (λ names. 0 < length names.items)) }
+// The job that the words of the command line ask for. Words that are no text ask for none.
+fn asked(rt: &HostRuntime) -> Result<Job, JobFault>
+    ensures { IfOk result IsReady }
 {
-    let mut words = words;
-    let _program = words.next();
-    let Some(verb) = words.next() else {
-        return Ok(None);
-    };
-    if verb.as_str() != "stats" {
-        return Ok(None);
+    match env::args(rt) {
+        Ok(words) => job_of(rt, words),
+        Err(error) if error.kind() == ErrorKind::InvalidData => Err(JobFault::Unread),
+        Err(_) => Err(JobFault::NoMemory),
     }
-    let names = rest_of(alloc, words)?;
-    if names.is_empty() {
-        return Ok(None);
-    }
-    Ok(Some(names))
 }
 
-// All words that are left.
-fn rest_of(alloc: Global, words: env::Args) -> Result<Vec<String>, AllocError> {
-    let mut names = Vec::new(alloc);
-    for word in words {
-        names.push(word)?;
-    }
-    Ok(names)
+fn job_of(rt: &HostRuntime, words: env::Args) -> Result<Job, JobFault>
+    ensures { IfOk result IsReady }
+{
+    let Ok(words) = words.collect::<Vec<String>>(rt.alloc()) else {
+        return Err(JobFault::NoMemory);
+    };
+    let Ok(texts) = words
+        .iter()
+        .map(String::as_str)
+        .collect::<Vec<&str>>(rt.alloc())
+    else {
+        return Err(JobFault::NoMemory);
+    };
+    job(rt.alloc(), texts.as_slice())
 }
 
 // A source for each name.
@@ -60,45 +60,31 @@ fn sources_of<'a>(
     Ok(sources)
 }
 
-// Prints the statistics of files.
-fn stats(rt: &HostRuntime, names: Vec<String>) -> ExitCode
-    requires { 0 < length names.items }
+// Does the job, and answers the status.
+fn done(rt: &HostRuntime, job: &Job) -> u8
+    requires { IsReady job.now }
 {
-    let job = Job {
-        command: Command::Stats,
-        names,
-        workers: 1,
-    };
     let Ok(mut sources) = sources_of(rt, &job.names) else {
-        return no_memory(rt);
+        return told(rt, &JobFault::NoMemory);
     };
     let errors = rt.stderr();
     let mut out = OutputSink::new(io::writer(rt));
     let mut err = OutputSink::new(io::writer(&errors));
-    let status = run(rt.alloc(), &job, sources.as_mut_slice(), &mut out, &mut err);
-    ExitCode::from(status)
+    run(rt.alloc(), job, sources.as_mut_slice(), &mut out, &mut err)
+}
+
+// Prints why there is no job, and answers the status.
+fn told(rt: &HostRuntime, fault: &JobFault) -> u8 {
+    let errors = rt.stderr();
+    let mut out = OutputSink::new(io::writer(rt));
+    let mut err = OutputSink::new(io::writer(&errors));
+    print_fault(rt.alloc(), fault, &mut out, &mut err)
 }
 
 fn main(rt: HostRuntime) -> ExitCode {
-    match env::args(&rt) {
-        Ok(words) => match asked_names(rt.alloc(), words) {
-            Ok(Some(names)) => stats(&rt, names),
-            Ok(None) => refused(&rt),
-            Err(_) => no_memory(&rt),
-        },
-        Err(error) if error.kind() == ErrorKind::InvalidData => refused(&rt),
-        Err(_) => no_memory(&rt),
-    }
-}
-
-// Says that memory ran out. Where standard error fails too, the status alone tells it.
-fn no_memory(rt: &HostRuntime) -> ExitCode {
-    let _ = eprintln!(rt; "arrowtab: no memory");
-    ExitCode::FAILURE
-}
-
-// Says that the arguments ask for nothing.
-fn refused(rt: &HostRuntime) -> ExitCode {
-    let _ = eprintln!(rt; "arrowtab: bad arguments");
-    ExitCode::from(2)
+    let status = match asked(&rt) {
+        Ok(job) => done(&rt, &job),
+        Err(fault) => told(&rt, &fault),
+    };
+    ExitCode::from(status)
 }

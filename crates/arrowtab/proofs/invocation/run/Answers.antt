@@ -1,8 +1,8 @@
 use Rattle.std.proofs.Common.{arith, ◌∙◌, String, List, Global, ap, length, string_bytes, subst, sym}
 use Rattle.std.proofs.lemmas.List.{length-map}
-use Rattle.arrowtab.specs.Job.{names_of}
+use Rattle.job.specs.Asked.{names_of}
 use Rattle.arrowtab.specs.Run.{front}
-use Rattle.arrowtab.specs.Sink.{AppendsFront}
+use Rattle.ends.specs.Sink.{AppendsFront}
 use Rattle.arrowtab.specs.Told.{TookFault}
 use Rattle.arrowtab.proofs.RunLemmas.{excuse_told, named}
 use Rattle.arrowtab.proofs.invocation.run.Goals as goal

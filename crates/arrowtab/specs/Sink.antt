@@ -1,7 +1,0 @@
--- What writing a text to a sink comes to.
-use Rattle.std.specs.Prelude.{ℕ, ◌≤◌, List, length, take, Option}
-use Rattle.std.specs.Io.KnownBytes.{Appends}
-
--- known bytes grow by a front of the text: nothing, some of it or all
-abbrev pub AppendsFront : Option (List ℕ) → Option (List ℕ) → List ℕ → Type 0
-AppendsFront old new text = (n : ℕ) × (n ≤ length text) × Appends old new (take n text)
