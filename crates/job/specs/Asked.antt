@@ -42,6 +42,7 @@ pub record IsRefusal (words : List Text) (error : Error) : Type 0 where
   pub kind : IsAmong (kind_of error) (fault_of arrowtab words)
   pub of_words : kind_of error ≢ OutOfMemory
 
+-- Why the words ask for no job. Memory may run out at any words.
 abbrev pub IsFaultOf : List Text → JobFault → Type 0
 IsFaultOf words (Line error) = IsRefusal words error
 IsFaultOf words Unread = fault_of arrowtab words ≡ []

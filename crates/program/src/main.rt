@@ -1,4 +1,4 @@
-//! `arrowtab stats FILE..` prints the statistics of Arrow integration JSON files of integer columns.
+//! `arrowtab stats FILE..` prints the statistics of the columns of Arrow integration JSON files.
 //!
 //! It ends with status 0 where all of them were written, 1 where a fault was told on standard error
 //! instead, and 2 where its arguments are others. `arrowtab --help` tells what it takes.

@@ -1,5 +1,6 @@
 //! The program over memory.
 
-mod ends;
+mod bytes;
 mod runs;
 mod several;
+mod words;

@@ -1,0 +1,222 @@
+//! The words of the command line: the job that they ask for, or what is printed in its stead, and the status.
+ghost use Rattle.std.specs.Prelude.{◌^◌, ◌-◌, ◌<◌};
+
+use arrowtab::memory::{MemorySink, Plan};
+use arrowtab::{Command, JobFault, job, print_fault};
+use std::alloc::Global;
+use std::process::Abort;
+use std::test::Fail;
+
+/// Asserts that the words ask for the statistics of these files.
+fn expect_stats(rt: &impl Abort, alloc: Global, words: &[&str], names: &[&str]) {
+    let Ok(job) = job(alloc, words) else {
+        assert!(rt; false, "no job for {words:?}");
+        return;
+    };
+    assert_eq!(rt; job.command, Command::Stats);
+    assert_eq!(rt; job.workers, 1);
+    assert!(rt;
+        job.names
+            .iter()
+            .map(String::as_str)
+            .eq(names.iter().copied()),
+        "for {words:?}"
+    );
+}
+
+#[test]
+fn stats_takes_files(rt: HostRuntime) {
+    let alloc = rt.alloc();
+    expect_stats(&rt, alloc, &["arrowtab", "stats", "A"], &["A"]);
+    expect_stats(
+        &rt,
+        alloc,
+        &["a/b", "stats", "B", "A", "B"],
+        &["B", "A", "B"],
+    );
+    expect_stats(&rt, alloc, &["arrowtab", "stats", ""], &[""]);
+    expect_stats(
+        &rt,
+        alloc,
+        &["arrowtab", "stats", "stats", "help"],
+        &["stats", "help"],
+    );
+    expect_stats(
+        &rt,
+        alloc,
+        &["arrowtab", "stats", "--", "-h", "--"],
+        &["-h", "--"],
+    );
+}
+
+const HELP: &str = "Prints exact statistics of files in Apache Arrow's JSON integration format
+
+Usage: arrowtab <COMMAND>
+
+Commands:
+  stats  Print rows, nulls, sum, least and greatest of each column
+  help   Print this message or the help of the given subcommand(s)
+
+Options:
+  -h, --help  Print help
+
+Exit status: 0 if all was done; 1 for a fault in a file, the output or memory;
+2 for a mistake in the arguments.
+";
+
+const STATS_HELP: &str = "Print rows, nulls, sum, least and greatest of each column
+
+Usage: arrowtab stats <FILE>...
+
+Arguments:
+  <FILE>...  Files of one table, which has the first one's schema
+
+Options:
+  -h, --help  Print help
+";
+
+/// What a fault came to.
+#[derive(Drop)]
+struct Outcome {
+    status: u8,
+    out: MemorySink,
+    err: MemorySink,
+}
+
+/// Prints a fault to this output.
+fn told(alloc: Global, fault: &JobFault, out: MemorySink) -> Outcome
+    requires { out.failures < 2 ^ 64 - 1 }
+{
+    let mut out = out;
+    let mut err = MemorySink::new(alloc);
+    let status = print_fault(alloc, fault, &mut out, &mut err);
+    Outcome { status, out, err }
+}
+
+/// The fault of these words.
+fn fault_of(alloc: Global, words: &[&str]) -> Result<JobFault, Fail> {
+    match job(alloc, words) {
+        Ok(_) => Err("a job where a fault was wanted".into()),
+        Err(fault) => Ok(fault),
+    }
+}
+
+/// Asserts what a fault prints, and its status.
+fn expect_printed(
+    rt: &impl Abort,
+    alloc: Global,
+    fault: &JobFault,
+    out: &str,
+    err: &str,
+    status: u8,
+) {
+    let came = told(alloc, fault, MemorySink::new(alloc));
+    assert_eq!(rt; came.out.taken(), out.as_bytes(), "for {fault:?}");
+    assert_eq!(rt; came.err.taken(), err.as_bytes(), "for {fault:?}");
+    assert_eq!(rt; came.status, status, "for {fault:?}");
+}
+
+#[test]
+fn help_is_the_output(rt: HostRuntime) -> Result<(), Fail> {
+    let alloc = rt.alloc();
+    let words: [(&[&str], &str); 5] = [
+        (&["arrowtab", "--help"], HELP),
+        (&["bin/arrowtab", "-h"], HELP),
+        (&["arrowtab", "help"], HELP),
+        (&["arrowtab", "stats", "A", "--help"], STATS_HELP),
+        (&["arrowtab", "help", "stats"], STATS_HELP),
+    ];
+    for (words, help) in words {
+        expect_printed(&rt, alloc, &fault_of(alloc, words)?, help, "", 0);
+    }
+    Ok(())
+}
+
+#[test]
+fn help_may_fail(rt: HostRuntime) -> Result<(), Fail> {
+    let alloc = rt.alloc();
+    let help = fault_of(alloc, &["arrowtab", "--help"])?;
+    let out = MemorySink::new(alloc).in_pieces(7).failing(Plan::At(1));
+    let came = told(alloc, &help, out);
+    assert_eq!(rt; came.out.taken(), b"Prints ".as_slice());
+    assert_eq!(rt; came.err.taken(), b"arrowtab: output failed\n".as_slice());
+    assert_eq!(rt; came.status, 1);
+    Ok(())
+}
+
+/// Words that are no job, and what `clap` says of them.
+const MISTAKES: [(&[&str], &str); 6] = [
+    (&["arrowtab"], HELP),
+    (&[], HELP),
+    (
+        &["arrowtab", "stats"],
+        "error: the following required arguments were not provided:
+  <FILE>...
+
+Usage: arrowtab stats <FILE>...
+
+For more information, try '--help'.
+",
+    ),
+    (
+        &["arrowtab", "stat", "A"],
+        "error: unrecognized subcommand 'stat'
+
+  tip: a similar subcommand exists: 'stats'
+
+Usage: arrowtab <COMMAND>
+
+For more information, try '--help'.
+",
+    ),
+    (
+        &["arrowtab", "export", "A"],
+        "error: unrecognized subcommand 'export'
+
+Usage: arrowtab <COMMAND>
+
+For more information, try '--help'.
+",
+    ),
+    (
+        &["arrowtab", "stats", "--workers", "2", "A"],
+        "error: unexpected argument '--workers' found
+
+  tip: to pass '--workers' as a value, use '-- --workers'
+
+Usage: arrowtab stats <FILE>...
+
+For more information, try '--help'.
+",
+    ),
+];
+
+#[test]
+fn a_mistake_is_told(rt: HostRuntime) -> Result<(), Fail> {
+    let alloc = rt.alloc();
+    for (words, text) in MISTAKES {
+        expect_printed(&rt, alloc, &fault_of(alloc, words)?, "", text, 2);
+    }
+    Ok(())
+}
+
+#[test]
+fn other_faults_have_lines(rt: HostRuntime) {
+    let alloc = rt.alloc();
+    expect_printed(
+        &rt,
+        alloc,
+        &JobFault::Unread,
+        "",
+        "arrowtab: bad arguments\n",
+        2,
+    );
+    expect_printed(
+        &rt,
+        alloc,
+        &JobFault::NoMemory,
+        "",
+        "arrowtab: no memory\n",
+        1,
+    );
+}
