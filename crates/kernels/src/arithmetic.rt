@@ -181,7 +181,7 @@ fn bits_of(validity: &Option<BitmapBuf>) -> Option<Bits<'_>>
 }
 
 /// The results of `len` slots as numbers of the type, any number where a slot isn't valid. It stops at the first
-/// valid slot whose result is outside the type.
+/// valid slot whose result is outside the type: only of such a result it asks whether the slot is valid.
 fn numbers<O: Operation, T: Integer>(
     alloc: Global,
     a: &[u8],
@@ -202,13 +202,14 @@ fn numbers<O: Operation, T: Integer>(
     // A buffer is padded by at most 63 bytes, so that the numbers aren't copied again.
     let mut numbers = Vec::with_capacity(alloc, count * T::ty().bits.bytes() + 63)?;
     for j in 0..count {
-        let number = if is_valid(valid, j) {
-            match exact_number::<O, T>(a, b, j) {
-                Some(number) => number,
-                None => return Err(KernelFault::Overflow { row: j }),
+        let number = match exact_number::<O, T>(a, b, j) {
+            Some(number) => number,
+            None => {
+                if is_valid(valid, j) {
+                    return Err(KernelFault::Overflow { row: j });
+                }
+                0
             }
-        } else {
-            0
         };
         T::push(&mut numbers, number)?;
     }
