@@ -95,7 +95,11 @@ const VALUES: [(&str, &str, &str); 15] = [
     ),
     ("utf8", r#""DATA":["a",""]"#, "read"),
     ("utf8", r#""DATA":["a","b"],"OFFSET":[7,"x"]"#, "read"),
-    ("utf8", r#""VALIDITY":[false,true],"DATA":[0,"\u00e9"]"#, "read"),
+    (
+        "utf8",
+        r#""VALIDITY":[false,true],"DATA":[0,"\u00e9"]"#,
+        "read",
+    ),
     (
         "utf8",
         r#""DATA":["a",1]"#,
