@@ -1,6 +1,6 @@
 -- The least of values by a total order, and of columns of each kind.
-use Rattle.std.proofs.Common.{◌≡◌, ◌∙◌, zero, suc, ◌+◌, List, [], ◌∷◌, map, length, Option, Some, None, IfSome, option_map, cond, Bool, true, false, All, ap, sym, refl, subst, arith}
-use Rattle.std.specs.List.{Contains, fold, reduce, filter}
+use Rattle.std.proofs.Common.{◌≡◌, ◌∙◌, zero, suc, List, [], ◌∷◌, map, Option, Some, None, IfSome, Bool, true, false, All, ap, sym, refl, subst, arith}
+use Rattle.std.specs.List.{Contains, fold, reduce}
 use Rattle.std.specs.Cmp.{IsTotalOrder, bool_cmp_total}
 use Rattle.std.specs.Cmp.Lexicographic.{slice_cmp}
 use Rattle.std.specs.Ordering.{is_gt, int_cmp, bool_cmp, nat_cmp, flip_args, ordering_reverse}
@@ -14,7 +14,7 @@ use Rattle.arrays.specs.Kind as kind
 use Rattle.arrays.specs.Kind.{Kind}
 use Rattle.kernels.specs.Order.{order}
 use Rattle.group.specs.Bounds.{IsGreatestOf, IsLeastOf}
-use Rattle.group.specs.Stats.{greater, greatest_of, is_bytes, is_number, is_truth, least_of, lesser, number_of, ordered}
+use Rattle.group.specs.Stats.{greater, greatest_of, least_of, lesser, number_of, ordered}
 use Rattle.group.proofs.JoinLemmas.{are_bytes, are_numbers, are_truths, bytes_of_text, cond-item, pick, picks-first, picks-second, reduce-items, truth_of}
 use Rattle.group.proofs.TallyLemmas.{no_greatest_of_lists, no_least_of_lists}
 

@@ -3,6 +3,7 @@
 
 mod join;
 pub mod laws;
+mod number;
 mod slots;
 pub mod stats;
 mod tally;

@@ -1,15 +1,16 @@
 //! The statistics of the slots of a view.
 
 ghost use Rattle.std.specs.Prelude.{◌≡◌, IfOk, option_map, true};
-ghost use Rattle.arrays.specs.Item.{boolean, int, text};
+ghost use Rattle.arrays.specs.Item.{boolean, text};
 ghost use Rattle.arrays.specs.Kind as kind;
 ghost use Rattle.arrays.specs.Slot.{is_list, is_text};
 ghost use Rattle.group.specs.Summary.{AreStats, scalar_item};
 
+use crate::number::Number;
 use crate::stats::{ColumnStats, Scalar};
 use crate::tally::{Tally, greater, lesser};
 use arrays::validity::is_valid;
-use arrays::{IntType, Integer, View, ViewType, Width};
+use arrays::{IntType, View, ViewType, Width};
 use colbits::NoMemory;
 use std::alloc::Global;
 
@@ -43,7 +44,7 @@ fn int_stats(ty: IntType, view: &View<'_>) -> ColumnStats
 }
 
 /// The statistics of a column of numbers of type `T`.
-fn number_stats<T: Integer>(view: &View<'_>) -> ColumnStats
+fn number_stats<T: Number>(view: &View<'_>) -> ColumnStats
     requires { view.now.kind ≡ kind.int T.ty }
     ensures { AreStats result view.now.kind view.now.items }
 {
@@ -56,7 +57,7 @@ fn number_stats<T: Integer>(view: &View<'_>) -> ColumnStats
         if is_valid(&validity, i) {
             let number = T::at(numbers, i);
             sum += number;
-            tally = tally.with_value(number);
+            tally = tally.with_value(T::narrow(number));
         } else {
             tally = tally.with_null();
         }
@@ -65,8 +66,8 @@ fn number_stats<T: Integer>(view: &View<'_>) -> ColumnStats
         rows: u64::from(slots),
         nulls: tally.nulls,
         sum: Some(sum),
-        least: int_scalar(tally.least),
-        greatest: int_scalar(tally.greatest),
+        least: number_scalar(tally.least),
+        greatest: number_scalar(tally.greatest),
     }
 }
 
@@ -144,11 +145,11 @@ fn list_stats(view: &View<'_>) -> ColumnStats
 }
 
 /// A number as a value, if there is one.
-fn int_scalar(number: Option<i128>) -> Option<Scalar>
-    ensures { option_map scalar_item result ≡ option_map int number }
+fn number_scalar<T: Number>(number: Option<T>) -> Option<Scalar>
+    ensures { option_map scalar_item result ≡ option_map T.item number }
 {
     match number {
-        Some(number) => Some(Scalar::Int(number)),
+        Some(number) => Some(Scalar::Int(number.wide())),
         None => None,
     }
 }

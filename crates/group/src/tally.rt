@@ -20,16 +20,6 @@ pub(crate) trait Value: Copy {
         ensures { result ≡ is_gt (order (item self) (item other)) };
 }
 
-impl Value for i128 {
-    ghost use Rattle.arrays.specs.Item.{int};
-
-    ghost item = { int };
-
-    fn exceeds(self, other: i128) -> bool {
-        self > other
-    }
-}
-
 impl Value for bool {
     ghost use Rattle.arrays.specs.Item.{boolean};
 

@@ -1,4 +1,4 @@
-use Rattle.std.proofs.Common.{◌≡◌, ◌∙◌, ℕ, ◌+◌, ◌<◌, ℤ, ◌+ℤ◌, [], ◌∷◌, ◌++◌, length, Some, rules, take, option_map, FitsSigned, to_z, of_z, ap, sym, refl, subst, arith}
+use Rattle.std.proofs.Common.{◌≡◌, ◌∙◌, ℕ, ◌+◌, ◌<◌, ◌+ℤ◌, [], ◌∷◌, ◌++◌, length, Some, rules, take, option_map, FitsSigned, to_z, of_z, ap, sym, refl, subst, arith}
 use Rattle.std.specs.Int.{w128}
 use Rattle.std.proofs.lemmas.Int.{ints, to_z-of_z}
 use Rattle.arrays.specs.Item.{int, null}
@@ -19,7 +19,7 @@ with_null-tally-requires g c =
     let s = c.args.view.now in
     let t = c.loop-i.tally in
     let within : c.loop-i.i < length s.items = omega (arith, c.slots-slots.ensures.count, c.loop-i-test.true) in
-    let few = few_nulls (kind.int g.T.Integer.ty) t.nulls (option_map int t.least) (option_map int t.greatest) c.loop-i.i s.items within c.loop-i.invariant.0 in
+    let few = few_nulls (kind.int g.T.Integer.ty) t.nulls (option_map g.T.Value.item t.least) (option_map g.T.Value.item t.greatest) c.loop-i.i s.items within c.loop-i.invariant.0 in
     omega (arith, few, c.slots-slots.ensures.short, c.loop-i-test.true)
 
 pub loop-i-preserved : goal.loop-i-preserved
@@ -47,22 +47,22 @@ loop-i-preserved g c =
           let sum_fits : FitsSigned w128 (to_z w128 c.loop-i.sum-bits +ℤ z) = omega (arith, ints, next.low, next.high, c.slots-slots.ensures.short, c.loop-i-test.true) in
           let sum_is : to_z w128 c.if-is_valid.sum-bits ≡ to_z w128 c.loop-i.sum-bits +ℤ z =
           w.sum-is ∙ ap (λ y. to_z w128 (of_z w128 (to_z w128 c.loop-i.sum-bits +ℤ y))) same ∙ to_z-of_z w128 (to_z w128 c.loop-i.sum-bits +ℤ z) sum_fits in (
-            walk-value k t.nulls u.nulls (option_map int t.least) (option_map int t.greatest) (option_map int u.least) (option_map int u.greatest) items (take (i + 1) s.items) (int z)
+            walk-value k t.nulls u.nulls (option_map g.T.Value.item t.least) (option_map g.T.Value.item t.greatest) (option_map g.T.Value.item u.least) (option_map g.T.Value.item u.greatest) items (take (i + 1) s.items) (int z)
                 c.loop-i.invariant.0 refl grown
-                (ap (λ (q : Tally ℤ). q.nulls) w.tally-is ∙ e.nulls)
-                (ap (λ (q : Tally ℤ). option_map int q.least) w.tally-is ∙ e.least ∙ ap (λ y. Some (chosen lesser (option_map int t.least) (int y))) same)
-                (ap (λ (q : Tally ℤ). option_map int q.greatest) w.tally-is ∙ e.greatest ∙ ap (λ y. Some (chosen greater (option_map int t.greatest) (int y))) same),
+                (ap (λ (q : Tally g.row.T.Denot). q.nulls) w.tally-is ∙ e.nulls)
+                (ap (λ (q : Tally g.row.T.Denot). option_map g.T.Value.item q.least) w.tally-is ∙ e.least ∙ ap (λ y. Some (chosen lesser (option_map g.T.Value.item t.least) y)) (w.narrow.ensures ∙ ap int same))
+                (ap (λ (q : Tally g.row.T.Denot). option_map g.T.Value.item q.greatest) w.tally-is ∙ e.greatest ∙ ap (λ y. Some (chosen greater (option_map g.T.Value.item t.greatest) y)) (w.narrow.ensures ∙ ap int same)),
             subst (λ l. IsSum (i + 1) (to_z w128 c.if-is_valid.sum-bits) l) (sym grown) (subst (λ y. IsSum (i + 1) y (items ++ int z ∷ [])) (sym sum_is) next),
           ))
       | else-is_valid w ↦ (
           let e = w.with_null-tally.ensures in
           let grown = take-null value s i has.numbers within (valid_is ∙ w.if-is_valid.false) in
           let next = IsSum-null i (to_z w128 c.loop-i.sum-bits) items c.loop-i.invariant.1 in (
-            walk-null k t.nulls u.nulls (option_map int t.least) (option_map int t.greatest) (option_map int u.least) (option_map int u.greatest) items (take (i + 1) s.items)
+            walk-null k t.nulls u.nulls (option_map g.T.Value.item t.least) (option_map g.T.Value.item t.greatest) (option_map g.T.Value.item u.least) (option_map g.T.Value.item u.greatest) items (take (i + 1) s.items)
                 c.loop-i.invariant.0 grown
-                (ap (λ (q : Tally ℤ). q.nulls) w.tally-is ∙ e.nulls)
-                (ap (λ (q : Tally ℤ). option_map int q.least) w.tally-is ∙ ap (option_map int) e.least)
-                (ap (λ (q : Tally ℤ). option_map int q.greatest) w.tally-is ∙ ap (option_map int) e.greatest),
+                (ap (λ (q : Tally g.row.T.Denot). q.nulls) w.tally-is ∙ e.nulls)
+                (ap (λ (q : Tally g.row.T.Denot). option_map g.T.Value.item q.least) w.tally-is ∙ ap (option_map g.T.Value.item) e.least)
+                (ap (λ (q : Tally g.row.T.Denot). option_map g.T.Value.item q.greatest) w.tally-is ∙ ap (option_map g.T.Value.item) e.greatest),
             subst (λ l. IsSum (i + 1) (to_z w128 c.if-is_valid.sum-bits) l) (sym grown) (subst (λ y. IsSum (i + 1) y (items ++ null ∷ [])) (sym w.sum-is) next),
           ))
     ]

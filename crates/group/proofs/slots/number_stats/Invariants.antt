@@ -1,5 +1,4 @@
 use Rattle.std.proofs.Common.{take, option_map}
-use Rattle.arrays.specs.Item.{int}
 use Rattle.arrays.specs.Kind as kind
 use Rattle.group.specs.Tally.{IsTally}
 use Rattle.group.proofs.SumLemmas.{IsSum}
@@ -8,5 +7,5 @@ use Rattle.group.proofs.slots.number_stats.Given as goal
 -- the slots so far are counted in
 abbrev pub invariant-loop-i : goal.invariant-loop-i
 invariant-loop-i g l =
-    IsTally (kind.int g.T.Integer.ty) l.tally.nulls (option_map int l.tally.least) (option_map int l.tally.greatest) (take l.i l.view.items)
+    IsTally (kind.int g.T.Integer.ty) l.tally.nulls (option_map g.T.Value.item l.tally.least) (option_map g.T.Value.item l.tally.greatest) (take l.i l.view.items)
     × IsSum l.i l.sum (take l.i l.view.items)
