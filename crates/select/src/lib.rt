@@ -1,4 +1,4 @@
-//! Selection of rows: take, filter and concatenate views of Arrow arrays.
+//! Selection of rows: take, filter, concatenate and copy views of Arrow arrays.
 #![tactic(auto)]
 
 pub mod copying;
