@@ -6,3 +6,4 @@ pub mod ListLemmas
 pub mod ChosenLemmas
 pub mod JoinLemmas
 pub mod JoinedCodes
+pub mod SizeLemmas

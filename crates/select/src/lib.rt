@@ -1,6 +1,7 @@
-//! Selection of rows: take, filter and concatenate views of Arrow arrays.
+//! Selection of rows: take, filter, concatenate and copy views of Arrow arrays.
 #![tactic(auto)]
 
+pub mod copying;
 pub mod fault;
 pub mod filtering;
 mod gather;
@@ -8,6 +9,7 @@ mod joining;
 mod picks;
 pub mod taking;
 
+pub use copying::copy;
 pub use fault::SelectFault;
 pub use filtering::filter;
 pub use joining::concat;

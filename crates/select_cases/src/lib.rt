@@ -1,8 +1,10 @@
-//! Tests of selection: rows that are taken, kept by a mask, and joined.
+//! Tests of selection: rows that are taken, kept by a mask, joined and copied.
 #![tactic(auto)]
 
 #[cfg(test)]
 mod choosing;
+#[cfg(test)]
+mod copying;
 #[cfg(test)]
 mod filtering;
 #[cfg(test)]

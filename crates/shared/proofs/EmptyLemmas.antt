@@ -85,6 +85,7 @@ lawful-empty : (fields : List FieldShape) (stats : List ColumnStats) (dictionari
 lawful-empty fields stats dictionaries are texts = record {
   stored = λ k d below. absurd (omega (arith, below));
   ends = λ i within. record { entries = 0; each = within; within = omega arith; same = ap (λ (l : List Batch). length (table_of l)) (take_all i [] (omega (arith, within))) };
+  some = λ entry. absurd (omega (arith, entry));
   counts = refl;
   few = omega arith;
   short = omega arith;

@@ -20,3 +20,4 @@ pub mod EmptyLemmas
 pub mod BatchLemmas
 pub mod NullLemmas
 pub mod CauseLemmas
+pub mod ExportLemmas

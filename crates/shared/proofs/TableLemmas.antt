@@ -152,6 +152,7 @@ Lawful-push fields batches pieces stats dictionaries entries is b piece next gro
       ends =
           subst (λ n. (i : ℕ) → i ≤ length (batches ++ b ∷ []) → EndsWithEntry (batches ++ b ∷ []) (entries ++ (worker, n) ∷ []) i) (sym size)
           (ends-push batches entries b worker is.ends is.counts);
+      some = λ entry. omega (arith, length-append batches (b ∷ []));
       counts = counted-push entries (worker, count) ∙ ap (λ n. n + count) is.counts ∙ ap (λ n. length t + n) size ∙ sym (length-append t (rows_of b)) ∙ ap (λ (u : Table). length u) (sym more);
       few = omega (arith, few, counted-push entries (worker, count));
       short = omega (arith, short, length-append entries ((worker, count) ∷ []));

@@ -64,6 +64,7 @@ pub record EndsWithEntry (batches : List Batch) (book : List (ℕ × ℕ)) (i : 
 pub record LawfulTable (fields : List FieldShape) (batches : List Batch) (pieces : List (List ColumnStats)) (stats : List ColumnStats) (dictionaries : List (Option Seen)) (book : List (ℕ × ℕ)) : Type 0 where
   pub stored : All (IsStored fields) batches
   pub ends : (i : ℕ) → i ≤ length batches → EndsWithEntry batches book i
+  pub some : 1 ≤ length book → 1 ≤ length batches
   pub counts : counted book ≡ length (table_of batches)
   pub few : counted book ≤ 2 ^ 40
   pub short : length book < 2 ^ 32

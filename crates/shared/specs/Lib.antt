@@ -8,3 +8,4 @@ pub mod Counted
 pub mod Lawful
 pub mod Held
 pub mod Ready
+pub mod Export

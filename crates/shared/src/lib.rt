@@ -5,6 +5,7 @@ mod admission;
 mod cause;
 mod columns;
 pub mod entry;
+mod export;
 mod held;
 pub mod laws;
 mod nulls;

@@ -1,7 +1,8 @@
 //! What a table holds at a moment.
 
-ghost use Rattle.std.specs.Prelude.{ℕ, ◌≡◌, ◌<◌, ◌≤◌, ◌^◌, All, Some, length, map, option_map, slice_get, slice_index_or, []};
+ghost use Rattle.std.specs.Prelude.{ℕ, ◌≡◌, ◌<◌, ◌≤◌, ◌^◌, All, IfOk, Some, length, map, option_map, slice_get, slice_index_or, []};
 ghost use Rattle.std.specs.Arc.{arc_value};
+ghost use Rattle.std.specs.List.{AllByRecursion};
 ghost use Rattle.arrays.specs.Batch.{rows_of, column};
 ghost use Rattle.arrays.specs.Shape.{FieldShape, kind_of_field};
 ghost use Rattle.group.specs.Summary.{AreStats};
@@ -11,9 +12,12 @@ ghost use Rattle.shared.specs.History.{book, rows};
 ghost use Rattle.shared.specs.Lawful.{EndsWithEntry, IsStored, NamesFronts, dictionaries_of, table_of};
 
 use crate::entry::Entry;
+use crate::export::file_of;
 use crate::held::Held;
-use arrays::{RecordBatch, Schema, Words};
+use arrays::{File, RecordBatch, Schema, Words};
+use colbits::NoMemory;
 use group::ColumnStats;
+use std::alloc::Global;
 use std::marker::Model;
 use std::sync::Arc;
 
@@ -104,6 +108,17 @@ impl Version {
             Some(words) => Some(words),
             None => None,
         }
+    }
+
+    /// The stored schema, and one batch for each entry of the book: what each call added, in its order. A batch that one
+    /// call added whole is shared; the rows of an entry that are a part of one are copied, save that dictionaries are shared.
+    /// `NoMemory` where a growth was refused.
+    pub fn export(&self, alloc: Global) -> Result<File, NoMemory>
+        ensures fields { IfOk result (λ f. f.fields ≡ self.now.fields) }
+        ensures tables { IfOk result (λ f. map rows_of f.batches ≡ map (λ e. e.1) self.now.history) }
+        ensures under { IfOk result (λ f. AllByRecursion (λ b. b.fields ≡ f.fields) f.batches) }
+    {
+        file_of(alloc, &self.held)
     }
 
     /// How many entries the book has: one for each accepted call.

@@ -1,0 +1,41 @@
+use Rattle.std.proofs.Common.{◌≡◌, ◌∙◌, ◌+◌, ◌≤◌, All, None, ap, arith, length, List, map, subst, sym}
+use Rattle.std.specs.Arc.{arc_value}
+use Rattle.arrays.specs.Batch.{Batch, batch_fault, rows_of}
+use Rattle.arrays.specs.Seen.{Seen}
+use Rattle.arrays.specs.Shape.{FieldShape}
+use Rattle.shared.specs.Export.{copied}
+use Rattle.shared.proofs.ExportLemmas.{part-lawful, rows-of-all, rows-of-part, slots-within}
+use Rattle.shared.proofs.export.part_of.Goals as goal
+
+pub returns-then-rows-clause-rows : goal.returns-then-rows-clause-rows
+returns-then-rows-clause-rows c =
+    ap rows_of c.in_ok-clone.ensures.cases
+    ∙ rows-of-all (arc_value c.args.batch.now) c.args.start c.args.rows c.requires (c.if-rows.true ∙ c.rows.ensures ∙ ap (λ (b : Batch). b.rows) c.deref.ensures)
+
+pub columns_of-requires : goal.columns_of-requires
+columns_of-requires c =
+    let b = c.deref-2.result.now in
+    let within : c.args.start + c.args.rows ≤ b.rows = omega (arith, c.requires, ap (λ (b : Batch). b.rows) c.deref-2.ensures) in
+    subst (All (λ (s : Seen). c.args.start + c.args.rows ≤ length s.items)) (sym c.columns.ensures.value)
+    (slots-within b c.args.start c.args.rows within c.columns.ensures.lawful)
+
+pub unreachable-requires : goal.unreachable-requires
+unreachable-requires c =
+    let b = c.deref-2.result.now in
+    let within : c.args.start + c.args.rows ≤ b.rows = omega (arith, c.requires, ap (λ (b : Batch). b.rows) c.deref-2.ensures) in
+    let none : batch_fault b.fields c.args.rows (map (copied c.args.start c.args.rows) b.columns) ≡ None = part-lawful b c.args.start c.args.rows within c.columns.ensures.lawful in
+    let fields = c.in_ok-copy.ensures ∙ c.schema.ensures ∙ ap (λ (b : Batch). b.fields) (c.deref-3.ensures ∙ sym c.deref-2.ensures) in
+    let columns = c.in_ok-columns.ensures ∙ ap (map (copied c.args.start c.args.rows)) c.columns.ensures.value in
+    cc
+    (sym c.in_default.ensures.err
+    ∙ ap (λ (f : List FieldShape). batch_fault f c.args.rows c.in_ok-columns.columns.items) fields
+    ∙ ap (batch_fault b.fields c.args.rows) columns
+    ∙ none)
+
+pub returns-clause-rows : goal.returns-clause-rows
+returns-clause-rows c =
+    let b = arc_value c.args.batch.now in
+    let made = c.in-Ok.ensures.ok in
+    let columns = c.in_ok-columns.ensures ∙ ap (map (copied c.args.start c.args.rows)) (c.columns.ensures.value ∙ ap (λ (b : Batch). b.columns) c.deref-2.ensures) in
+    ap rows_of c.in_ok-new.ensures.ok
+    ∙ rows-of-part b c.in-Ok.part c.args.start c.args.rows c.requires made.1 (made.2 ∙ columns)
