@@ -6,3 +6,6 @@ pub mod ListLemmas
 pub mod ChosenLemmas
 pub mod JoinLemmas
 pub mod JoinedCodes
+pub mod StoredLemmas
+pub mod WordLemmas
+pub mod JoinedNumbers
