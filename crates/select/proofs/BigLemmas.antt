@@ -1,5 +1,5 @@
 -- Results that are too big.
-use Rattle.std.proofs.Common.{◌≡◌, ◌∙◌, ℕ, ◌+◌, ◌≤◌, List, [], ◌∷◌, ◌++◌, take, Bool, true, Option, Some, Result, Ok, Err, IfErr, IsErrAnd, ap, sym, arith, inl, inr, ◌⊎◌}
+use Rattle.std.proofs.Common.{◌≡◌, ◌∙◌, ℕ, ◌+◌, ◌≤◌, List, [], ◌∷◌, ◌++◌, take, Bool, true, Option, Some, Result, Ok, Err, IfErr, IsErrAnd, ap, sym, arith, inl, inr}
 use Rattle.std.specs.Prelude.{slice_get}
 use Rattle.std.proofs.lemmas.Bool.{ltb-true, lt-ltb}
 use Rattle.std.proofs.lemmas.List.{take-map}
@@ -7,7 +7,6 @@ use Rattle.std.proofs.lemmas.List.Sums.{sum_by-take-le}
 use Rattle.arrays.specs.Item.{Item}
 use Rattle.arrays.specs.Lengths.{IsBuildFault, is_past, text_bytes, text_length}
 use Rattle.arrays.specs.declared.builder.fault.BuildFault.{BuildFault}
-use Rattle.arrays.specs.declared.builder.fault.BuildFault.TheVariants as build
 use Rattle.select.specs.declared.fault.SelectFault.{SelectFault}
 use Rattle.select.specs.Fault.{IsFull, of_build}
 use Rattle.select.specs.Picked.{picked, picked_at}

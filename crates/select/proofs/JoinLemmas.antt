@@ -10,7 +10,7 @@ use Rattle.std.proofs.lemmas.Option.{slice_get-get_or}
 use Rattle.std.proofs.lemmas.Result.{IfErr-weaker}
 use Rattle.arrays.specs.Item.{Item, null}
 use Rattle.arrays.specs.Kind as kind
-use Rattle.arrays.specs.Kind.{Kind, depth, same_kind}
+use Rattle.arrays.specs.Kind.{Kind, same_kind}
 use Rattle.arrays.specs.Lengths.{cut, inner_items, is_past, items_in, list_length, text_bytes, text_length, total}
 use Rattle.arrays.specs.Seen.{Seen}
 use Rattle.arrays.specs.Shown.{shown}

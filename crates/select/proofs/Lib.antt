@@ -7,3 +7,6 @@ pub mod ChosenLemmas
 pub mod JoinLemmas
 pub mod JoinedCodes
 pub mod SizeLemmas
+pub mod StoredLemmas
+pub mod WordLemmas
+pub mod JoinedNumbers

@@ -1,7 +1,11 @@
 -- Picked rows.
-use Rattle.std.proofs.Common.{◌≡◌, ◌∙◌, ℕ, ◌+◌, ◌<◌, ◌≤◌, ℤ, List, [], ◌∷◌, ◌++◌, length, take, map, Bool, true, false, cond, Option, None, Some, ap, sym, refl, arith, get_or}
+use Rattle.std.proofs.Common.{◌≡◌, ◌∙◌, ℕ, ◌+◌, ◌<◌, ◌≤◌, ℤ, List, [], ◌∷◌, ◌++◌, length, take, map, Bool, true, false, cond, Option, None, Some, ap, sym, refl, arith, get_or, zero-add}
 use Rattle.std.specs.Prelude.{slice_get, All}
 use Rattle.std.proofs.lemmas.List.{map-append, take_more, take_all}
+use Rattle.std.specs.List.{range_with_len}
+use Rattle.std.proofs.lemmas.Simd.{map-map}
+use Rattle.arrays.proofs.ListLemmas.{map-range-below}
+use Rattle.std.proofs.lemmas.List.FromFn.{fill_by_all}
 use Rattle.std.proofs.lemmas.Option.{slice_get_within, slice_get-get_or, get_or_from_slice_get}
 use Rattle.types.specs.declared.int_type.IntType.{IntType}
 use Rattle.arrays.specs.Slot.{item_of}
@@ -55,3 +59,16 @@ pub stored-row : (t : IntType) (bytes : List ℕ) (validity : Option (List Bool)
 stored-row t bytes validity s i r has same within is =
     slice_get-get_or s.items i null within
     ∙ ap (λ x. Some x) (sym (ap item_of is ∙ ap (λ v. item_of (stored t bytes v (Some i))) same ∙ item_of-stored t bytes s (Some i) has within))
+
+-- a list mapped, place by place
+pub by_place : {A B : Type 0} (g : A → B) (xs : List A) (f : ℕ → B) (d : A) → ((j : ℕ) → j < length xs → f j ≡ g (get_or xs j d)) → map f (range_with_len 0 (length xs)) ≡ map g xs
+by_place g xs f d each =
+    let h = λ (j : ℕ). g (get_or xs j d) in
+    map-range-below f h 0 (length xs) (λ j below. ap f (zero-add j) ∙ each j below ∙ ap h (sym (zero-add j)))
+    ∙ sym (map-map g (λ j. get_or xs j d) (range_with_len 0 (length xs)))
+    ∙ ap (map g) (sym (fill_by_all (λ j. get_or xs j d) xs (length xs) d refl (λ k h. refl)))
+
+-- the picked items, place by place
+pub picked-by_place : (items : List Item) (picks : List (Option ℕ)) (f : ℕ → Item) → ((j : ℕ) → j < length picks → f j ≡ picked_at items (get_or picks j None))
+    → map f (range_with_len 0 (length picks)) ≡ picked items picks
+picked-by_place items picks f each = by_place (picked_at items) picks f None each

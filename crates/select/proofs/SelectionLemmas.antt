@@ -1,26 +1,29 @@
 -- Rows that a mask or indices pick.
-use Rattle.std.proofs.Common.{◌≡◌, ◌∙◌, ℕ, zero, suc, ◌+◌, ◌<◌, ◌≤◌, ◌&&◌, ◌⊎◌, inl, inr, List, [], ◌∷◌, ◌++◌, length, take, map, filter, zip, position, Bool, true, false, not, cond, Option, None, Some, option_map, ap, sym, refl, arith, subst, get_or, append-nil}
+use Rattle.std.proofs.Common.{◌≡◌, ◌∙◌, ℕ, zero, suc, ◌+◌, ◌<◌, ◌≤◌, ◌&&◌, ◌⊎◌, inl, inr, List, [], ◌∷◌, ◌++◌, length, take, map, filter, zip, position, Bool, true, false, not, cond, Option, None, Some, option_map, ap, sym, refl, arith, subst, get_or, append-nil, append_assoc, add-zero}
 use Rattle.std.specs.Prelude.{slice_get, All}
 use Rattle.std.specs.List.{position_or_len}
 use Rattle.std.specs.Prelude.{◌==◌}
 use Rattle.std.proofs.lemmas.Bool.{cases_lt, lt-ltb, le-ltb}
-use Rattle.std.proofs.lemmas.List.{map-append, take_all, length-take-le}
+use Rattle.std.proofs.lemmas.List.{map-append, take_all, length-take-le, get_or_past}
 use Rattle.std.proofs.lemmas.List.Elements.{All-append, filter-append}
 use Rattle.std.proofs.lemmas.List.Sums.{position_or_len_is}
 use Rattle.std.proofs.lemmas.Option.{slice_get_within, slice_get-get_or, get_or_from_slice_get}
+use Rattle.colbits.specs.Bit.{bit_in}
+use Rattle.colbits.specs.Bitmap.{bit_of}
 use Rattle.types.specs.declared.int_type.IntType.{IntType}
 use Rattle.arrays.specs.Kind as kind
 use Rattle.arrays.specs.Kind.{same_kind}
 use Rattle.arrays.specs.Item as item
 use Rattle.arrays.specs.Item.{Item, null}
 use Rattle.arrays.specs.Dictionary.{is_code, looked_up}
-use Rattle.arrays.specs.Seen.{Seen, valid_at}
+use Rattle.arrays.specs.Seen.{Seen, valid_at, valid_in}
 use Rattle.arrays.specs.Values.{HasBits}
 use Rattle.arrays.proofs.PartLemmas.{item_slot}
-use Rattle.select.specs.Picked.{picked, picked_at, IsPick}
+use Rattle.select.specs.Picked.{picked, picked_at, rows_in, IsPick}
 use Rattle.select.specs.Selection.{filter_fault, indices_fault, is_int, is_true, kept, outside, take_fault, taken}
 use Rattle.select.specs.declared.fault.SelectFault.TheVariants.{IndexOutOfRange, LengthsDiffer, WrongKind}
 use Rattle.select.proofs.PickLemmas.{take-one}
+use Rattle.select.proofs.WordLemmas.{rows_in-more}
 
 -- ---- the rows where a mask is true
 
@@ -96,6 +99,56 @@ pub Filtered-all : (mask items : List Item) (i : ℕ) (picks : List (Option ℕ)
 Filtered-all mask items i picks is past h =
     is.rows items h ∙ ap (λ xs. kept xs (take i mask)) (take_all i items (omega (arith, past, h))) ∙ ap (kept items) (take_all i mask past)
 
+-- past the end of the mask there is no row
+Filtered-past : (mask : List Item) (i : ℕ) (picks : List (Option ℕ)) → Filtered mask i picks → length mask ≤ i → Filtered mask (i + 1) picks
+Filtered-past mask i picks is past = record {
+  within = is.within;
+  rows = λ items h. Filtered-all mask items i picks is past h ∙ sym (ap (λ xs. kept xs (take (i + 1) mask)) (take_all (i + 1) items (omega (arith, past, h))) ∙ ap (kept items) (take_all (i + 1) mask (omega (arith, past))));
+  room = omega (arith, is.room);
+}
+
+Filtered-bit : (mask : List Item) (i : ℕ) (b : Bool) (old new : List (Option ℕ)) → Filtered mask i old → b ≡ is_true (get_or mask i null) → new ≡ old ++ cond b (Some i ∷ []) [] → Filtered mask (i + 1) new
+Filtered-bit mask i b old new is bit more =
+    elim (cases_lt i (length mask)) [
+      | inl below ↦ there b bit more (slice_get-get_or mask i null below)
+      | inr past ↦ (
+          let none : b ≡ false = bit ∙ ap is_true (get_or_past mask i null past) in
+          subst (Filtered mask (i + 1)) (sym (more ∙ ap (λ b. old ++ cond b (Some i ∷ []) []) none ∙ append-nil old)) (Filtered-past mask i old is past))
+    ]
+  where
+    there : (b : Bool) → b ≡ is_true (get_or mask i null) → new ≡ old ++ cond b (Some i ∷ []) [] → slice_get mask i ≡ Some (get_or mask i null) → Filtered mask (i + 1) new
+    there true bit more at = Filtered-true mask i (get_or mask i null) old new is at (sym bit) more
+    there false bit more at = subst (Filtered mask (i + 1)) (sym (more ∙ append-nil old)) (Filtered-false mask i (get_or mask i null) old is at (sym bit))
+
+-- the rows of the first bits of a word
+Filtered-bits : (mask : List Item) (i word n : ℕ) (picks : List (Option ℕ)) → Filtered mask i picks → n ≤ 64 → ((j : ℕ) → j < 64 → bit_in word j ≡ is_true (get_or mask (i + j) null))
+    → Filtered mask (i + n) (picks ++ rows_in i word n)
+Filtered-bits mask i word zero picks is few bits =
+    subst (λ k. Filtered mask k (picks ++ [])) (sym (add-zero i)) (subst (Filtered mask i) (sym (append-nil picks)) is)
+Filtered-bits mask i word (suc n) picks is few bits =
+    let before = Filtered-bits mask i word n picks is (omega (arith, few)) bits in
+    let one : suc n ≡ n + 1 = omega arith in
+    let more : picks ++ rows_in i word (suc n) ≡ (picks ++ rows_in i word n) ++ cond (bit_in word n) (Some (i + n) ∷ []) [] =
+    ap (λ m. picks ++ rows_in i word m) one
+    ∙ ap (λ l. picks ++ l) (rows_in-more i word n)
+    ∙ sym (append_assoc picks (rows_in i word n) (cond (bit_in word n) (Some (i + n) ∷ []) [])) in
+    let next : i + n + 1 ≡ i + suc n = omega arith in
+    subst (λ k. Filtered mask k (picks ++ rows_in i word (suc n))) next
+    (Filtered-bit mask (i + n) (bit_in word n) (picks ++ rows_in i word n) (picks ++ rows_in i word (suc n)) before (bits n (omega (arith, few))) more)
+
+-- the rows of a word
+pub Filtered-word : (mask : List Item) (i word : ℕ) (old new : List (Option ℕ)) → Filtered mask i old → ((j : ℕ) → j < 64 → bit_in word j ≡ is_true (get_or mask (i + j) null))
+    → new ≡ old ++ rows_in i word 64 → Filtered mask (i + 64) new
+Filtered-word mask i word old new is bits more = subst (Filtered mask (i + 64)) (sym more) (Filtered-bits mask i word 64 old is (omega arith) bits)
+
+-- a row that is true is one of the mask
+pub true_within : (mask : List Item) (i : ℕ) → is_true (get_or mask i null) ≡ true → i < length mask
+true_within mask i here =
+    elim (cases_lt i (length mask)) [
+      | inl below ↦ below
+      | inr past ↦ let none = ap is_true (get_or_past mask i null past) in cc
+    ]
+
 -- a row of the mask is true where its bit and its validity are
 pub is_true-bit : (bits : List Bool) (s : Seen) (i : ℕ) (b : Bool) → HasBits bits s → slice_get bits i ≡ Some b → i < length s.items
     → (m : Item) × (slice_get s.items i ≡ Some m) × (is_true m ≡ (b && valid_at s i))
@@ -111,6 +164,20 @@ is_true-bit bits s i b has at below =
     shown true false y h = cc
     shown false x true h = refl
     shown false x false h = refl
+
+-- the same of a bit that may lie past the end
+pub is_true-word : (bits : List Bool) (validity : Option (List Bool)) (s : Seen) (i : ℕ) (b : Bool) → HasBits bits s → validity ≡ s.validity → b ≡ (bit_of bits i && valid_in validity i)
+    → b ≡ is_true (get_or s.items i null)
+is_true-word bits validity s i b has same is =
+    elim (cases_lt i (length s.items)) [
+      | inl below ↦ (
+          let row = is_true-bit bits s i (get_or bits i false) has (slice_get-get_or bits i false (omega (arith, below, has.size))) below in
+          is ∙ ap (λ v. bit_of bits i && valid_in v i) same ∙ sym row.2 ∙ ap is_true (sym (get_or_from_slice_get s.items i row.0 null row.1)))
+      | inr past ↦ (
+          is
+          ∙ ap (λ x. x && valid_in validity i) (get_or_past bits i false (omega (arith, past, has.size)))
+          ∙ sym (ap is_true (get_or_past s.items i null past)))
+    ]
 
 -- ---- the rows that indices name
 

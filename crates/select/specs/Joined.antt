@@ -1,11 +1,13 @@
 -- Columns one after the other.
-use Rattle.std.specs.Prelude.{◌≡◌, ℕ, ◌+◌, ◌+ℤ◌, pos, ◌||◌, List, [], ◌∷◌, ◌++◌, map, flat_map, length, Bool, true, Option, Some, None, if◌then◌else◌}
-use Rattle.std.specs.List.{All, list_all}
+use Rattle.std.specs.Prelude.{◌≡◌, ℕ, ◌+◌, ◌*◌, ◌<◌, ◌+ℤ◌, pos, ◌||◌, List, [], ◌∷◌, ◌++◌, map, flat_map, length, take, slice_index_or, Bool, true, false, not, Option, Some, None, if◌then◌else◌}
+use Rattle.std.specs.List.{All, list_all, range_with_len}
+use Rattle.types.specs.declared.int_type.IntType.{IntType}
 use Rattle.arrays.specs.Dictionary.{entries_shown, is_code, looked_up}
-use Rattle.arrays.specs.Item.{Item, int}
-use Rattle.arrays.specs.Kind.{Kind, dict, same_kind, utf8}
+use Rattle.arrays.specs.Item.{Item, int, is_null, null}
+use Rattle.arrays.specs.Kind.{Kind, bytes_of, dict, same_kind, utf8}
 use Rattle.arrays.specs.Lengths.{is_past}
-use Rattle.arrays.specs.Seen.{Seen}
+use Rattle.arrays.specs.Number.{number_at}
+use Rattle.arrays.specs.Seen.{Seen, valid_at}
 use Rattle.arrays.specs.Shown.{shown, validity_of}
 use Rattle.select.specs.Big.{is_too_big}
 use Rattle.select.specs.declared.fault.SelectFault.{SelectFault}
@@ -14,6 +16,30 @@ use Rattle.select.specs.declared.fault.SelectFault.TheVariants.{TypesDiffer}
 -- The items of all columns.
 abbrev pub joined_items : List Seen → List Item
 joined_items columns = flat_map (λ s. s.items) columns
+
+-- Which slots of all columns are valid, by their validity alone.
+abbrev pub joined_valid : List Seen → List Bool
+joined_valid columns = flat_map (λ s. map (valid_at s) (range_with_len 0 (length s.items))) columns
+
+-- The validity alone tells which items are null.
+abbrev pub TellsNulls : Seen → Type 0
+TellsNulls s = (j : ℕ) → j < length s.items → is_null (slice_index_or s.items j null) ≡ not (valid_at s j)
+
+-- The values have a number for each item: the item itself, where it isn't null.
+pub record AreNumbersOf (t : IntType) (items : List Item) (values : List ℕ) : Type 0 where
+  pub size : length values ≡ length items * bytes_of t.bits
+  pub numbers : (j : ℕ) → j < length items → is_null (slice_index_or items j null) ≡ false → slice_index_or items j null ≡ int (number_at t values j)
+
+-- How many slots of all columns come before each of the first n columns.
+pub record AreStarts (columns : List Seen) (n : ℕ) (starts : List ℕ) : Type 0 where
+  pub count : length starts ≡ n
+  pub each : (k : ℕ) → k < n → slice_index_or starts k 0 ≡ length (joined_items (take k columns))
+
+-- Slot i of all columns is slot j of column k.
+pub record IsPlace (columns : List Seen) (i k j : ℕ) : Type 0 where
+  pub column : k < length columns
+  pub start : length (joined_items (take k columns)) + j ≡ i
+  pub end : i < length (joined_items (take (k + 1) columns))
 
 -- The entries of all dictionaries.
 abbrev pub joined_entries : List Seen → List Item

@@ -1,6 +1,7 @@
 -- Numbers as they lie in a column.
-use Rattle.std.specs.Prelude.{ℕ, ℤ, List, Bool, Option, Some, None, if◌then◌else◌}
+use Rattle.std.specs.Prelude.{◌≡◌, ℕ, ◌*◌, ◌<◌, ℤ, List, Bool, false, length, Option, Some, None, IfSome, slice_index_or, if◌then◌else◌}
 use Rattle.types.specs.declared.int_type.IntType.{IntType}
+use Rattle.arrays.specs.Kind.{bytes_of}
 use Rattle.arrays.specs.Number.{number_at}
 use Rattle.arrays.specs.Seen.{valid_in}
 
@@ -8,3 +9,13 @@ use Rattle.arrays.specs.Seen.{valid_in}
 abbrev pub stored : IntType → List ℕ → Option (List Bool) → Option ℕ → Option ℤ
 stored t bytes validity None = None
 stored t bytes validity (Some i) = if valid_in validity i then Some (number_at t bytes i) else None
+
+-- Whether a row is picked, and its slot is valid.
+abbrev pub is_stored : Option (List Bool) → Option ℕ → Bool
+is_stored validity None = false
+is_stored validity (Some i) = valid_in validity i
+
+-- The values have a number for each of the first n picks: where a row is picked, the one that lies there.
+pub record AreStored (t : IntType) (bytes : List ℕ) (picks : List (Option ℕ)) (n : ℕ) (values : List ℕ) : Type 0 where
+  pub size : length values ≡ n * bytes_of t.bits
+  pub numbers : (j : ℕ) → j < n → IfSome (slice_index_or picks j None) (λ i. number_at t values j ≡ number_at t bytes i)

@@ -13,6 +13,7 @@ mod bools;
 mod lists;
 mod numbers;
 mod texts;
+mod valid;
 
 use crate::fault::SelectFault;
 use crate::picks::Picks;

@@ -14,6 +14,7 @@ mod dicts;
 mod lists;
 mod numbers;
 mod texts;
+mod valid;
 
 use crate::fault::SelectFault;
 use arrays::{Array, View, ViewType};
@@ -79,7 +80,7 @@ fn join(
     ensures err { IfErr result (IsFull (is_content_too_big (view_kind ty.entry) views.now)) }
 {
     match ty {
-        ViewType::Int(ty) => Ok(numbers::of_type(alloc, ty, views, slots)?),
+        ViewType::Int(ty) => Ok(numbers::join(alloc, ty, views, slots)?),
         ViewType::Bool => Ok(bools::join(alloc, views, slots)?),
         ViewType::Utf8 => texts::join(alloc, views, slots),
         ViewType::List(item) => {

@@ -1,9 +1,11 @@
 //! Rows that are picked, one for each slot of a result.
 
-ghost use Rattle.std.specs.Prelude.{◌≡◌, ◌+◌, ◌<◌, ◌≤◌, [], ◌∷◌, ◌++◌, Some, map, length, slice_get, IfErr, IfOk, IfSome, OnErr, OnOk};
+ghost use Rattle.std.specs.Prelude.{◌≡◌, ℕ, ◌+◌, ◌<◌, ◌≤◌, [], ◌∷◌, ◌++◌, None, Some, map, length, slice_get, slice_index_or, true, IsTrue, IfErr, IfOk, IfSome, OnErr, OnOk};
 ghost use Rattle.std.specs.List.{range_with_len};
+ghost use Rattle.colbits.specs.Bit.{bit_in};
 ghost use Rattle.arrays.specs.Lengths.{is_past};
 ghost use Rattle.select.specs.Fault.{IsFull};
+ghost use Rattle.select.specs.Picked.{is_row, rows_in};
 
 use crate::fault::SelectFault;
 use colbits::NoMemory;
@@ -62,6 +64,18 @@ impl Picks {
         self.rows.len()
     }
 
+    /// Whether there is a row for each slot.
+    pub(crate) fn are_rows(&self) -> bool
+        ensures { IsTrue result → (j : ℕ) → j < length self.now → is_row (slice_index_or self.now j None) ≡ true }
+    {
+        for j in 0..self.len() {
+            if self.get(j).is_none() {
+                return false;
+            }
+        }
+        true
+    }
+
     /// The row of slot `j`, or none.
     #[inline(always)]
     pub(crate) fn get(&self, j: usize) -> Option<usize>
@@ -103,6 +117,25 @@ impl Picks {
         }
         for i in start..start + count {
             self.push(Some(i))?;
+        }
+        Ok(())
+    }
+
+    /// Adds a slot for each of 64 neighbouring rows whose bit of the word is 1, the first row's the least significant.
+    #[inline(always)]
+    pub(crate) fn push_ones(&mut self, start: usize, word: u64) -> Result<(), NoMemory>
+        requires room { length self.old ≤ start }
+        requires small { (j : ℕ) → j < 64 → bit_in word j ≡ true → start + j < 2147483647 }
+        ensures { OnOk result (self.new ≡ self.old ++ rows_in start word 64) }
+    {
+        let mut rest = word;
+        for _done in 0..u64::BITS {
+            if rest == 0 {
+                return Ok(());
+            }
+            let j = rest.trailing_zeros();
+            self.push(Some(start + j as usize))?;
+            rest &= !(1 << j);
         }
         Ok(())
     }

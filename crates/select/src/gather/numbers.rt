@@ -1,20 +1,21 @@
 //! Picked numbers.
 
-ghost use Rattle.std.specs.Prelude.{◌≡◌, ◌*◌, ◌≤◌, IfOk, length};
+ghost use Rattle.std.specs.Prelude.{◌≡◌, ◌*◌, ◌≤◌, IfOk, IfSome, length};
 ghost use Rattle.std.specs.List.{All};
 ghost use Rattle.std.specs.Option.{ForSome};
 ghost use Rattle.arrays.specs.Kind as kind;
 ghost use Rattle.arrays.specs.Kind.{bytes_of};
-ghost use Rattle.arrays.specs.Number.{IsOfType};
+ghost use Rattle.arrays.specs.Number.{IsOfType, number_at};
 ghost use Rattle.arrays.specs.Shown.{shown};
 ghost use Rattle.arrays.specs.Values.{HasNumbers};
 ghost use Rattle.select.specs.Picked.{IsPick, picked};
-ghost use Rattle.select.specs.Stored.{stored};
+ghost use Rattle.select.specs.Stored.{AreStored, stored};
 
+use super::valid::picked_validity;
 use crate::picks::Picks;
-use arrays::validity::is_valid;
-use arrays::{Array, IntBuilder, IntType, Integer, View, Width};
-use colbits::{Bits, NoMemory};
+use arrays::validity::{buffer_of, is_valid};
+use arrays::{Array, IntType, Integer, View, Width};
+use colbits::{Bits, Buffer, NoMemory};
 use std::alloc::Global;
 use std::marker::PhantomData;
 
@@ -52,11 +53,35 @@ pub(super) fn gather<T: Integer>(
     ensures { IfOk result (λ r. r ≡ shown (kind.int T.ty) (picked view.now.items picks.now)) }
 {
     let numbers = Numbers::<T>::of(view);
-    let mut builder = IntBuilder::with_capacity(alloc, T::ty(), picks.len())?;
-    for j in 0..picks.len() {
-        builder.push_as::<T>(numbers.at(picks.get(j)))?;
+    let validity = picked_validity(alloc, &numbers.validity, picks)?;
+    let values = Buffer::from_vec(picked_numbers(alloc, &numbers, picks)?)?;
+    Array::from_numbers(
+        alloc,
+        T::ty(),
+        picks.len() as u32,
+        buffer_of(validity),
+        values,
+    )
+}
+
+/// The numbers that lie in the picked rows, one behind the other: any number where a slot isn't valid or no row is
+/// picked.
+fn picked_numbers<T: Integer>(
+    alloc: Global,
+    numbers: &Numbers<'_, T>,
+    picks: &Picks,
+) -> Result<Vec<u8>, NoMemory>
+    requires { All (IsPick numbers.now.slots) picks.now }
+    ensures { IfOk result (λ v. AreStored T.ty numbers.now.values.now picks.now (length picks.now) v.items) }
+{
+    let count = picks.len();
+
+    // A buffer is padded by at most 63 bytes, so that the numbers aren't copied again.
+    let mut values = Vec::with_capacity(alloc, count * T::ty().bits.bytes() + 63)?;
+    for j in 0..count {
+        T::push(&mut values, numbers.under(picks.get(j)))?;
     }
-    builder.finish()
+    Ok(values)
 }
 
 /// The numbers of a view.
@@ -95,6 +120,19 @@ impl<'a, T: Integer> Numbers<'a, T> {
         match pick {
             Some(i) if is_valid(&self.validity, i) => Some(T::at(self.values, i)),
             _ => None,
+        }
+    }
+
+    /// The number that lies in the picked row, whether the slot is valid or not; 0 where there is no row.
+    #[inline(always)]
+    fn under(&self, pick: Option<usize>) -> i128
+        requires { IsPick self.now.slots pick }
+        ensures value { IfSome pick (λ i. result ≡ number_at T.ty self.now.values.now i) }
+        ensures of_type { IsOfType T.ty result }
+    {
+        match pick {
+            Some(i) => T::at(self.values, i),
+            None => 0,
         }
     }
 }

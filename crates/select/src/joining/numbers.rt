@@ -5,14 +5,16 @@ ghost use Rattle.std.specs.List.{All};
 ghost use Rattle.arrays.specs.Kind as kind;
 ghost use Rattle.arrays.specs.Seen.{Seen};
 ghost use Rattle.arrays.specs.Shown.{shown};
-ghost use Rattle.select.specs.Joined.{joined_items};
+ghost use Rattle.select.specs.Joined.{AreNumbersOf, TellsNulls, joined_items};
 
-use arrays::{Array, IntBuilder, IntType, Integer, View, Width};
-use colbits::NoMemory;
+use super::valid::joined_validity;
+use arrays::validity::buffer_of;
+use arrays::{Array, IntType, View};
+use colbits::{Buffer, NoMemory};
 use std::alloc::Global;
 
 /// The numbers of views of an integer type, which have so many slots together.
-pub(super) fn of_type(
+pub(super) fn join(
     alloc: Global,
     ty: IntType,
     views: &[View<'_>],
@@ -23,28 +25,27 @@ pub(super) fn of_type(
     requires short { slots ≤ 2147483647 }
     ensures { IfOk result (λ r. r ≡ shown (kind.int ty) (joined_items views.now)) }
 {
-    match (ty.bits, ty.signed) {
-        (Width::W8, true) => join::<i8>(alloc, views, slots),
-        (Width::W8, false) => join::<u8>(alloc, views, slots),
-        (Width::W16, true) => join::<i16>(alloc, views, slots),
-        (Width::W16, false) => join::<u16>(alloc, views, slots),
-        (Width::W32, true) => join::<i32>(alloc, views, slots),
-        (Width::W32, false) => join::<u32>(alloc, views, slots),
-        (Width::W64, true) => join::<i64>(alloc, views, slots),
-        (Width::W64, false) => join::<u64>(alloc, views, slots),
-    }
+    let values = Buffer::from_vec(joined_numbers(alloc, ty, views, slots)?)?;
+    let validity = joined_validity(alloc, views, slots)?;
+    Array::from_numbers(alloc, ty, slots as u32, buffer_of(validity), values)
 }
 
-/// The numbers of views of type `T`.
-fn join<T: Integer>(alloc: Global, views: &[View<'_>], slots: usize) -> Result<Array, NoMemory>
-    requires kinds { All (λ (s : Seen). s.kind ≡ kind.int T.ty) views.now }
-    requires slots { slots ≡ length (joined_items views.now) }
+/// The numbers that lie in all views, whether their slots are valid or not.
+fn joined_numbers(
+    alloc: Global,
+    ty: IntType,
+    views: &[View<'_>],
+    slots: usize,
+) -> Result<Vec<u8>, NoMemory>
+    requires kinds { All (λ (s : Seen). s.kind ≡ kind.int ty) views.now }
     requires short { slots ≤ 2147483647 }
-    ensures { IfOk result (λ r. r ≡ shown (kind.int T.ty) (joined_items views.now)) }
+    ensures numbers { IfOk result (λ v. AreNumbersOf ty (joined_items views.now) v.items) }
+    ensures told { IfOk result (λ v. All TellsNulls views.now) }
 {
-    let mut builder = IntBuilder::with_capacity(alloc, T::ty(), slots)?;
+    // A buffer is padded by at most 63 bytes, so that the numbers aren't copied again.
+    let mut values = Vec::with_capacity(alloc, slots * ty.bits.bytes() + 63)?;
     for view in views {
-        builder = builder.extended::<T>(view)?;
+        values.extend_from_slice(view.numbers(ty))?;
     }
-    builder.finish()
+    Ok(values)
 }

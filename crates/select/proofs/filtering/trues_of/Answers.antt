@@ -1,20 +1,13 @@
-use Rattle.std.proofs.Common.{arith, ◌≡◌, ◌∙◌, true, false, ◌+◌, ◌<◌, length, sym, subst}
-use Rattle.select.specs.Selection.{is_true}
-use Rattle.select.proofs.SelectionLemmas.{Filtered, Filtered-false, Filtered-true, is_true-bit}
+use Rattle.std.proofs.Common.{◌≡◌, ◌+◌, ◌*◌, subst, arith}
+use Rattle.select.proofs.SelectionLemmas.{Filtered, Filtered-word, is_true-word}
 use Rattle.select.proofs.filtering.trues_of.Goals as goal
-use Rattle.select.proofs.filtering.trues_of.Goals.{then-get-is_valid+in_ok-push, else-get-is_valid}
 
-pub loop-i-preserved : goal.loop-i-preserved
-loop-i-preserved c =
+pub loop-w-preserved : goal.loop-w-preserved
+loop-w-preserved c =
     let s = c.args.mask.now in
-    let i = c.loop-i.i in
-    let below : i < length s.items = omega (arith, c.loop-i-test.true, c.slots-i-end.ensures.count) in
-    let row = is_true-bit c.bool_bits-bits.result s i c.get.result c.bool_bits-bits.ensures c.get.ensures below in
-    elim c.if-get-is_valid.branch [
-      | then-get-is_valid+in_ok-push w ↦ (
-          let here : is_true row.0 ≡ true = cc (row.2, w.if-get-is_valid.true, c.is_valid.ensures, c.validity-validity.ensures) in
-          Filtered-true s.items i row.0 c.loop-i.picks c.if-get-is_valid.picks c.loop-i.invariant row.1 here (w.picks-is ∙ w.in_ok-push.ensures.ok))
-      | else-get-is_valid w ↦ (
-          let isnt : is_true row.0 ≡ false = cc (row.2, w.if-get-is_valid.false, c.is_valid.ensures, c.validity-validity.ensures) in
-          subst (Filtered s.items (i + 1)) (sym w.picks-is) (Filtered-false s.items i row.0 c.loop-i.picks c.loop-i.invariant row.1 isnt))
-    ]
+    let start = 64 * c.loop-w.w in
+    let next : start + 64 ≡ 64 * (c.loop-w.w + 1) = omega arith in
+    subst (λ i. Filtered s.items i c.push_ones.new.self) next
+    (Filtered-word s.items start c.true_word.result c.loop-w.picks c.push_ones.new.self c.loop-w.invariant
+    (λ j h. is_true-word c.bool_bits-bits.result c.validity-validity.result s (start + j) _ c.bool_bits-bits.ensures c.validity-validity.ensures (c.true_word.ensures j h))
+    c.in_ok-push_ones.ensures)

@@ -1,5 +1,6 @@
+use Rattle.std.proofs.Common.{◌*◌}
 use Rattle.select.proofs.SelectionLemmas.{Filtered}
 use Rattle.select.proofs.filtering.trues_of.Given as goal
 
-abbrev pub invariant-loop-i : goal.invariant-loop-i
-invariant-loop-i l = Filtered l.mask.items l.i l.picks
+abbrev pub invariant-loop-w : goal.invariant-loop-w
+invariant-loop-w l = Filtered l.mask.items (64 * l.w) l.picks

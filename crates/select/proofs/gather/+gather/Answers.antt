@@ -3,7 +3,7 @@ use Rattle.std.specs.Arc.{arc_value}
 use Rattle.arrays.specs.Dictionary.{entries_shown, is_code}
 use Rattle.arrays.specs.Item.{Item}
 use Rattle.arrays.specs.Kind as kind
-use Rattle.arrays.specs.Kind.{Kind, int32, kind_of}
+use Rattle.arrays.specs.Kind.{int32}
 use Rattle.arrays.specs.Lengths.{cut, inner_items, list_length, total}
 use Rattle.arrays.specs.Seen.{Entries, Seen}
 use Rattle.arrays.specs.Shape.{field_of, kind_of_field}

@@ -1,16 +1,30 @@
-use Rattle.std.proofs.Common.{◌∙◌, ap, subst, sym}
-use Rattle.select.specs.Picked.{IsPick}
-use Rattle.select.proofs.PickLemmas.{all-at, item_of-stored, pushed}
+use Rattle.std.proofs.Common.{◌∙◌, ℕ, None, ap, get_or, length, map, sym}
+use Rattle.std.specs.List.{range_with_len}
+use Rattle.std.proofs.lemmas.Result.{IfOk-weaker}
+use Rattle.arrays.specs.FromParts.{show_numbers}
+use Rattle.arrays.specs.Shown.{kept}
+use Rattle.arrays.proofs.ValidityLemmas.{kept_buffer}
+use Rattle.select.specs.Stored.{is_stored}
+use Rattle.select.proofs.StoredLemmas.{numbers-picked}
 use Rattle.select.proofs.gather.numbers.gather.Goals as goal
 
-pub loop-j-preserved : goal.loop-j-preserved
-loop-j-preserved g c =
+pub from_numbers-requires-clause-bits : goal.from_numbers-requires-clause-bits
+from_numbers-requires-clause-bits g c =
+    let picks = c.args.picks.now in
+    let f = λ (j : ℕ). is_stored c.of-numbers.result.validity (get_or picks j None) in
+    (kept_buffer c.len.result f c.buffer_of.result c.in_ok-validity.validity
+    (c.in_ok-validity.ensures ∙ ap (λ n. kept (map f (range_with_len 0 n))) (sym c.len.ensures.count)) c.buffer_of.ensures).long
+
+pub returns : goal.returns
+returns g c =
+    let t = g.T.Integer.ty in
     let s = c.args.view.now in
-    let n = c.of-numbers.result in
-    let pick = c.get.result in
-    let within = all-at (IsPick (Rattle.std.proofs.Common.length s.items)) c.args.picks.now c.loop-j.j pick c.requires.within c.get.ensures in
-    let item = ap Rattle.arrays.specs.Slot.item_of (c.at.ensures.value ∙ ap (λ v. Rattle.select.specs.Stored.stored g.T.Integer.ty n.values.now v pick) c.of-numbers.ensures.validity)
-    ∙ item_of-stored g.T.Integer.ty n.values.now s pick c.of-numbers.ensures.values within in (
-      c.in_ok-push_as.ensures.kept ∙ c.loop-j.invariant.0,
-      pushed s.items c.args.picks.now c.loop-j.j pick c.loop-j.builder.items c.push_as.new.self.items (Rattle.arrays.specs.Slot.item_of c.at.result) c.get.ensures c.loop-j.invariant.1 item c.in_ok-push_as.ensures.ok,
-    )
+    let picks = c.args.picks.now in
+    let numbers = c.of-numbers.result in
+    let valid = c.in_ok-validity.ensures ∙ ap (λ v. kept (map (λ j. is_stored v (get_or picks j None)) (range_with_len 0 (length picks)))) c.of-numbers.ensures.validity in
+    IfOk-weaker c.from_numbers.result _ _
+    (λ a is. is
+    ∙ ap (λ t. show_numbers t c.len.result c.buffer_of.result c.in_ok-values.values) c.ty.ensures
+    ∙ numbers-picked t numbers.values.now s picks c.len.result c.in_ok-picked_numbers.field-0.items c.in_ok-values.values c.in_ok-validity.validity c.buffer_of.result
+    c.of-numbers.ensures.values c.requires.within c.len.ensures.count valid c.buffer_of.ensures c.in_ok-picked_numbers.ensures c.in_ok-values.ensures)
+    c.from_numbers.ensures

@@ -1,0 +1,6 @@
+use Rattle.std.proofs.Common.{◌≡◌, length, take}
+use Rattle.select.specs.Joined.{AreStarts, joined_items}
+use Rattle.select.proofs.joining.valid.starts_of.Given as goal
+
+abbrev pub invariant-loop-view : goal.invariant-loop-view
+invariant-loop-view l = (l.slots ≡ length (joined_items (take l.view-index l.views))) × AreStarts l.views l.view-index l.starts.items
