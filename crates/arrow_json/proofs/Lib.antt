@@ -5,6 +5,7 @@ pub mod JsonItems
 pub mod JsonSchemas
 pub mod JsonColumnFaults
 pub mod JsonSlots
+pub mod JsonLists
 pub mod JsonBatches
 pub mod JsonRecordBatches
 pub mod JsonResults
