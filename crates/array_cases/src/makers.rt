@@ -5,7 +5,7 @@ ghost use Rattle.arrays.specs.Item.{int, null};
 ghost use Rattle.arrays.specs.Kind as kind;
 ghost use Rattle.arrays.specs.Kind.{int32};
 
-use arrays::{Array, DataType, IntBuilder, ViewType, Words, validate};
+use arrays::{Array, DataType, IntBuilder, LayoutFault, ViewType, Words, validate};
 use colbits::Buffer;
 use samples::{
     INT16, INT32, Positions, checked, field, has_item, lists_of, raw, shows_bools, shows_lists,
@@ -76,6 +76,52 @@ fn makes_and_copies_lists_with_their_items_field(rt: HostRuntime) -> Result<(), 
             assert!(rt; shows_lists(&view, &[Some(&[Some(1)]), None, Some(&[])]));
             assert!(rt; has_item(&view, name, nullable));
         }
+    }
+    Ok(())
+}
+
+/// Lists over the numbers 1, 2 and 3, of which the second is null, with these offsets from outside.
+fn tried(alloc: Global, offsets: &[u8]) -> Result<Result<Array, LayoutFault>, Fail> {
+    let values = Buffer::from_bytes(alloc, &[1, 0, 2, 0, 3, 0])?;
+    let child = Array::from_numbers(alloc, INT16, 3, None, values)?;
+    let item = field(alloc, "item", true, DataType::Int(INT16))?;
+    let validity = Buffer::from_bytes(alloc, &[0x05])?;
+    let offsets = Buffer::from_bytes(alloc, offsets)?;
+    Ok(Array::try_list(alloc, item, 3, Some(validity), offsets, child))
+}
+
+/// The offsets 1, 2, 3 and 3.
+const LATE: &[u8] = &[1, 0, 0, 0, 2, 0, 0, 0, 3, 0, 0, 0, 3, 0, 0, 0];
+
+#[test]
+fn makes_lists_of_offsets_from_outside(rt: HostRuntime) -> Result<(), Fail> {
+    let array = tried(rt.alloc(), LATE)??;
+    assert_eq!(rt; array.view().null_count(), 1);
+    assert!(rt; shows_lists(&array.view(), &[Some(&[Some(2)]), None, Some(&[])]));
+    assert!(rt; has_item(&array.view(), "item", true));
+    Ok(())
+}
+
+/// Offsets of which the third is below 0, the third is below the second, the last is past the numbers, and one is
+/// missing.
+const NEGATIVE: &[u8] = &[0, 0, 0, 0, 1, 0, 0, 0, 0xff, 0xff, 0xff, 0xff, 3, 0, 0, 0];
+
+const DECREASING: &[u8] = &[0, 0, 0, 0, 2, 0, 0, 0, 1, 0, 0, 0, 3, 0, 0, 0];
+
+const PAST: &[u8] = &[0, 0, 0, 0, 1, 0, 0, 0, 3, 0, 0, 0, 4, 0, 0, 0];
+
+const SHORT: &[u8] = &[0, 0, 0, 0, 1, 0, 0, 0, 3, 0, 0, 0];
+
+#[test]
+fn tells_what_is_wrong_with_offsets(rt: HostRuntime) -> Result<(), Fail> {
+    let cases = [
+        (NEGATIVE, LayoutFault::OffsetNegative),
+        (DECREASING, LayoutFault::OffsetDecreases { row: 1 }),
+        (PAST, LayoutFault::OffsetPastEnd),
+        (SHORT, LayoutFault::BufferTooShort),
+    ];
+    for (offsets, fault) in cases {
+        assert_eq!(rt; tried(rt.alloc(), offsets)?.err(), Some(fault));
     }
     Ok(())
 }

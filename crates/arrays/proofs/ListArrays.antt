@@ -1,6 +1,7 @@
 -- A list column over a child, made of parts that are known to be lawful.
 use Rattle.std.proofs.Common.{◌≡◌, ◌∙◌, ℕ, suc, ◌<◌, ◌≤◌, List, [], ◌∷◌, map, Bool, true, false, not, cond, length, Option, Some, None, option_map, ap, sym, refl, arith, le-ltb, eq-eqb}
-use Rattle.layout.specs.declared.raw.RawArray.{RawArray}
+use Rattle.layout.specs.declared.fault.LayoutFault.{LayoutFault}
+use Rattle.layout.specs.declared.raw.RawArray.{RawArray, RawArray-F, roll-RawArray, out-roll-RawArray}
 use Rattle.std.specs.Arc.{arc_value}
 use Rattle.types.specs.Kind as kind
 use Rattle.types.specs.Kind.{Kind, bytes_of, depth, kind_of, same_int, same_kind}
@@ -11,10 +12,11 @@ use Rattle.layout.specs.Reading.{Reading, read_parts, reading, inner_of}
 use Rattle.types.specs.First.{first}
 use Rattle.layout.specs.Fault.{Inner, do_parts_differ, is_validity_short, own_fault}
 use Rattle.layout.specs.Offsets.{AreOffsets, start_of}
-use Rattle.arrays.specs.FromParts.{show_lists}
+use Rattle.layout.specs.Inner.{inner_children, inner_dictionary, own_fault_of}
+use Rattle.arrays.specs.FromParts.{show_lists, list_parts}
 use Rattle.arrays.specs.declared.array.Array.TheInside.{Inside}
 use Rattle.layout.specs.Layout.{Buffers, column}
-use Rattle.layout.proofs.FirstFaultLemmas.{own_fault-whole}
+use Rattle.layout.proofs.FirstFaultLemmas.{own_fault-whole, held-reading}
 use Rattle.arrays.proofs.FromPartsLemmas.{offsets_pass}
 use Rattle.layout.proofs.SeenLemmas.{seen-kind}
 use Rattle.layout.proofs.LawfulLemmas.{either_false, no_dictionary, parts_agree, reading-again}
@@ -97,3 +99,31 @@ pub show_read_lists : (n : ℕ) (validity : Option (List ℕ)) (offsets : List �
     → (read_parts (kind.list child.kind) n None (validity ∷ Some offsets ∷ []) (checked child ∷ []) None).seen ≡ show_lists n validity offsets child
 unfolding read_parts column
 show_read_lists n validity offsets child = refl
+
+-- ---- lists of parts that are checked
+
+alone : (o : Option LayoutFault) → o ≡ first (o ∷ None ∷ None ∷ [])
+alone None = refl
+alone (Some fault) = refl
+
+own_fault-roll : (r : RawArray-F RawArray)
+    → own_fault_of (roll-RawArray r) ≡ own_fault (kind_of r.ty) r.length r.null_count r.buffers.items (inner_children r.children.items) (inner_dictionary r.dictionary)
+own_fault-roll r =
+    ap (λ (q : RawArray-F RawArray). own_fault (kind_of q.ty) q.length q.null_count q.buffers.items (inner_children q.children.items) (inner_dictionary q.dictionary)) (out-roll-RawArray r)
+
+-- a list over a lawful child has no fault but its own
+pub own_over : (r : RawArray-F RawArray) (below : RawArray) (k : Kind) (n : ℕ) (validity : Option (List ℕ)) (offsets : List ℕ) (child : Seen)
+    → kind_of r.ty ≡ kind.list k → r.length ≡ n → r.null_count ≡ None → r.buffers.items ≡ validity ∷ Some offsets ∷ [] → r.children.items ≡ below ∷ [] → r.dictionary ≡ None
+    → reading below ≡ checked child → own_fault_of (roll-RawArray r) ≡ (list_parts k n validity offsets child).fault
+unfolding read_parts
+own_over r below k n validity offsets child kind_is len_is unstated buffers_are one wordless is =
+    let parts = validity ∷ Some offsets ∷ [] in
+    own_fault-roll r
+    ∙ ap (λ l. own_fault l r.length r.null_count r.buffers.items (inner_children r.children.items) (inner_dictionary r.dictionary)) kind_is
+    ∙ ap (λ m. own_fault (kind.list k) m r.null_count r.buffers.items (inner_children r.children.items) (inner_dictionary r.dictionary)) len_is
+    ∙ ap (λ stated. own_fault (kind.list k) n stated r.buffers.items (inner_children r.children.items) (inner_dictionary r.dictionary)) unstated
+    ∙ ap (λ b. own_fault (kind.list k) n None b (inner_children r.children.items) (inner_dictionary r.dictionary)) buffers_are
+    ∙ ap (λ cs. own_fault (kind.list k) n None parts (inner_children cs) (inner_dictionary r.dictionary)) one
+    ∙ ap (λ d. own_fault (kind.list k) n None parts (inner_children (below ∷ [])) (inner_dictionary d)) wordless
+    ∙ ap (λ c. own_fault (kind.list k) n None parts (c ∷ []) None) (sym (held-reading below) ∙ ap inner_of is)
+    ∙ alone (own_fault (kind.list k) n None parts (inner_of (checked child) ∷ []) None)

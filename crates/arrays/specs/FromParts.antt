@@ -1,5 +1,5 @@
--- What parts show that are known to be lawful, slot by slot (Arrow columnar format, "Physical memory layout").
-use Rattle.std.specs.Prelude.{◌≡◌, ℕ, ◌<◌, List, [], map, true, Option, option_map, if◌then◌else◌}
+-- What parts are and show, slot by slot (Arrow columnar format, "Physical memory layout").
+use Rattle.std.specs.Prelude.{◌≡◌, ℕ, ◌<◌, List, [], ◌∷◌, map, true, Option, Some, None, option_map, if◌then◌else◌}
 use Rattle.std.specs.List.{range_with_len}
 use Rattle.std.specs.Str.{IsUtf8}
 use Rattle.colbits.specs.Bit.{bit, bits}
@@ -11,6 +11,8 @@ use Rattle.layout.specs.Layout.{is_valid_in}
 use Rattle.types.specs.Number.{number_at}
 use Rattle.layout.specs.Offsets.{of_slot}
 use Rattle.layout.specs.Seen.{Seen, no_entries}
+use Rattle.layout.specs.Reading.{Reading, read_parts}
+use Rattle.layout.specs.Checked.{checked}
 
 -- A column of n slots: slot j holds value j where its bit of the validity is 1 or there is no validity, else null.
 abbrev pub show_slots : Kind → ℕ → Option (List ℕ) → (ℕ → Item) → Seen
@@ -42,3 +44,7 @@ show_texts n validity offsets bytes = show_slots kind.utf8 n validity (λ j. tex
 abbrev pub show_lists : ℕ → Option (List ℕ) → List ℕ → Seen → Seen
 show_lists n validity offsets child =
     show_slots (kind.list child.kind) n validity (λ j. list (list_of (of_slot offsets child.items j)))
+
+-- The parts of an array of lists over a child that is lawful: their fault, if there is one, and what they show.
+abbrev pub list_parts : Kind → ℕ → Option (List ℕ) → List ℕ → Seen → Reading
+list_parts k n validity offsets child = read_parts (kind.list k) n None (validity ∷ Some offsets ∷ []) (checked child ∷ []) None

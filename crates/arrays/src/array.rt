@@ -7,6 +7,7 @@ ghost use Rattle.types.specs.Kind.{int32, kind_of};
 ghost use Rattle.layout.specs.Reading.{fault, read_parts, reading};
 
 mod from_parts;
+mod list_parts;
 
 use crate::view::{View, ViewType};
 use crate::words::Words;

@@ -57,7 +57,7 @@ tells_flags n d e f g t at there up = tells_under (ListFault n e) (FlagsFault n 
 pub ruleset flags_told = (tells_flags)
 
 -- flags that are there are as many as the slots
-has_flags : {R : Type 0} (now : R → List Value) (n : ℕ) (flags : Option R) → IfSome flags (λ fs. length (now fs) ≡ n) → HasFlags n (option_map (λ fs. items_view (now fs)) flags)
+pub has_flags : {R : Type 0} (now : R → List Value) (n : ℕ) (flags : Option R) → IfSome flags (λ fs. length (now fs) ≡ n) → HasFlags n (option_map (λ fs. items_view (now fs)) flags)
 has_flags now n None h = tt
 has_flags now n (Some fs) h = items_len-items_view (now fs) ∙ h
 

@@ -21,3 +21,8 @@ error_made P W Q (Err e) (Ok y) f (Err g) cases is w same under = absurd cases
 error_made P W Q (Err e) (Err h) f (Err g) cases is w same under =
     let e_made : h ≡ f = cc in
     subst P (sym same) (under e w (subst (Q e) e_made cases))
+
+-- an error that goes on as it is
+pub error_kept : {B F : Type 0} (P : F → Type 0) (f : F) (made : Result B F) → IsErrAnd made (λ g. g ≡ f) → P f → IfErr made P
+error_kept P f (Ok z) same p = absurd same
+error_kept P f (Err g) same p = subst P (sym same) p

@@ -5,8 +5,10 @@ pub mod JsonItems
 pub mod JsonSchemas
 pub mod JsonColumnFaults
 pub mod JsonSlots
+pub mod JsonLists
 pub mod JsonBatches
 pub mod JsonRecordBatches
 pub mod JsonResults
 pub mod JsonFiles
+pub mod SchemaLaws
 pub mod JsonLaws

@@ -11,6 +11,7 @@ use Rattle.serde_json.specs.Events.{items_len}
 use Rattle.arrow_json.specs.JsonNumber.{count_of}
 use Rattle.arrow_json.specs.JsonMember.{member_of}
 use Rattle.arrow_json.specs.JsonColumn.{ReadsPlain, numbers, truths, texts}
+use Rattle.arrow_json.specs.JsonList.{ReadsList}
 use Rattle.arrow_json.specs.JsonTable.{Table}
 use Rattle.arrow_json.specs.declared.path.Member.TheVariants as member
 
@@ -18,12 +19,12 @@ use Rattle.arrow_json.specs.declared.path.Member.TheVariants as member
 abbrev pub table_of : Batch → Table
 table_of b = record { rows = b.rows; columns = map (λ s. s.items) b.columns }
 
--- The column object of n items of the kind. Lists and dictionaries aren't read.
+-- The column object of n items of the kind. Dictionaries aren't read.
 abbrev pub ReadsColumn : Kind → ℕ → Data → List Item → Type 0
 ReadsColumn (int t) n d items = ReadsPlain (numbers t) n d items
 ReadsColumn boolean n d items = ReadsPlain truths n d items
 ReadsColumn utf8 n d items = ReadsPlain texts n d items
-ReadsColumn (list k) n d items = ⊥
+ReadsColumn (list k) n d items = ReadsList (ReadsColumn k) k n d items
 ReadsColumn dict n d items = ⊥
 
 -- An array that is the column of the kind.

@@ -8,6 +8,7 @@ use Rattle.arrow_json.specs.JsonNumber.{count_of}
 use Rattle.arrow_json.specs.JsonMember.{member_of, Unlike, MemberFault, ListFault}
 use Rattle.arrow_json.specs.JsonColumn.{numbers, truths, texts}
 use Rattle.arrow_json.specs.JsonColumnFault.{ColumnFault}
+use Rattle.arrow_json.specs.JsonListFault.{ListsFault}
 use Rattle.arrow_json.specs.declared.path.Member.TheVariants as member
 use Rattle.arrow_json.specs.declared.path.Step.{Step}
 use Rattle.arrow_json.specs.declared.path.Step.TheVariants as step
@@ -22,7 +23,7 @@ abbrev pub KindFault : Kind → ℕ → Data → JsonFaultKind → List Step →
 KindFault (int t) n d kind path = ColumnFault (numbers t) n d kind path
 KindFault boolean n d kind path = ColumnFault truths n d kind path
 KindFault utf8 n d kind path = ColumnFault texts n d kind path
-KindFault (list k) n d kind path = Unread kind path
+KindFault (list k) n d kind path = ListsFault (KindFault k) k n d kind path
 KindFault dict n d kind path = Unread kind path
 
 -- Some column is wrong.

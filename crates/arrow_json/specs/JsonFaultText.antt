@@ -6,7 +6,7 @@ use Rattle.layout.specs.declared.fault.LayoutFault.TheVariants as layout
 use Rattle.arrow_json.specs.JsonPath.{pointer}
 use Rattle.arrow_json.specs.declared.path.Step.{Step}
 use Rattle.arrow_json.specs.declared.fault.JsonFaultKind.{JsonFaultKind}
-use Rattle.arrow_json.specs.declared.fault.JsonFaultKind.TheVariants.{NotJson, MissingMember, WrongMember, UnsupportedType, BadNumber, CountDiffers, Layout, NoMemory}
+use Rattle.arrow_json.specs.declared.fault.JsonFaultKind.TheVariants.{NotJson, MissingMember, WrongMember, UnsupportedType, BadNumber, BadOffset, CountDiffers, Layout, NoMemory}
 
 -- The number and the name.
 abbrev pub kind_name : JsonFaultKind → List ℕ
@@ -15,6 +15,7 @@ kind_name MissingMember = codes "J2 MissingMember"
 kind_name WrongMember = codes "J3 WrongMember"
 kind_name UnsupportedType = codes "J4 UnsupportedType"
 kind_name BadNumber = codes "J5 BadNumber"
+kind_name BadOffset = codes "J6 BadOffset"
 kind_name CountDiffers = codes "J7 CountDiffers"
 kind_name (Layout fault) = codes "J10 Layout"
 kind_name NoMemory = codes "J11 NoMemory"

@@ -22,6 +22,7 @@ member_name member.Batches = codes "batches"
 member_name member.Count = codes "count"
 member_name member.Columns = codes "columns"
 member_name member.Validity = codes "VALIDITY"
+member_name member.Offset = codes "OFFSET"
 member_name member.Data = codes "DATA"
 
 -- A slash, and the member's name or the item's number.

@@ -8,7 +8,11 @@ pub mod JsonSchema
 pub mod JsonSchemaFault
 pub mod JsonColumn
 pub mod JsonColumnFault
+pub mod JsonList
+pub mod JsonListFault
 pub mod SlotParts
+pub mod ListParts
+pub mod ListBuffers
 pub mod Unfit
 pub mod JsonTable
 pub mod JsonBatch

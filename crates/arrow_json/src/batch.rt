@@ -9,6 +9,7 @@ ghost use Rattle.arrow_json.specs.JsonFault.{Tells};
 
 use crate::column::{list_member, read_numbers, read_texts, read_truths};
 use crate::fault::{JsonFault, JsonFaultKind};
+use crate::list::read_list;
 use crate::member::{check_object, count_member, push};
 use crate::path::{Member, Step};
 use arrays::{Array, DataType, Field, RecordBatch, Schema};
@@ -16,8 +17,13 @@ use serde_json::Value;
 use std::alloc::Global;
 
 /// The column of a field.
-#[tactic(auto)]
-fn read_array(alloc: Global, field: &Field, rows: u32, column: &Value) -> Result<Array, JsonFault>
+#[cycle(columns)]
+pub(crate) fn read_array(
+    alloc: Global,
+    field: &Field,
+    rows: u32,
+    column: &Value,
+) -> Result<Array, JsonFault>
     requires small { rows < 2 ^ 31 }
     ensures ok { IfOk result (HoldsColumn (kind_of (out-Field field.now).ty) rows (view column.now)) }
     ensures err { IfErr result (Tells (KindFault (kind_of (out-Field field.now).ty) rows (view column.now))) }
@@ -26,7 +32,7 @@ fn read_array(alloc: Global, field: &Field, rows: u32, column: &Value) -> Result
         DataType::Int(int) => read_numbers(alloc, *int, rows, column),
         DataType::Bool => read_truths(alloc, rows, column),
         DataType::Utf8 => read_texts(alloc, rows, column),
-        DataType::List(_) => Err(JsonFault::at(alloc, JsonFaultKind::UnsupportedType, &[])),
+        DataType::List(item) => read_list(alloc, item, rows, column),
         DataType::Dict => Err(JsonFault::at(alloc, JsonFaultKind::UnsupportedType, &[])),
     }
 }

@@ -24,7 +24,7 @@ use std::alloc::Global;
 
 /// That the column's count is what the batch has.
 #[tactic(auto, using(crate::proofs::JsonColumnFaults::count_told))]
-fn check_count(alloc: Global, column: &Value, count: u32) -> Result<(), JsonFault>
+pub(crate) fn check_count(alloc: Global, column: &Value, count: u32) -> Result<(), JsonFault>
     requires { IsObject (view column.now) }
     ensures ok { OnOk result
         (option_and_then count_of (member_of member.Count (view column.now)) ≡ Some count) }
@@ -83,7 +83,11 @@ pub(crate) fn list_member<'v>(
 
 /// The flags of a column, none where all its slots are valid.
 #[tactic(auto, using(crate::proofs::JsonColumnFaults::flags_told))]
-fn flags<'v>(alloc: Global, column: &'v Value, count: u32) -> Result<Option<&'v [Value]>, JsonFault>
+pub(crate) fn flags<'v>(
+    alloc: Global,
+    column: &'v Value,
+    count: u32,
+) -> Result<Option<&'v [Value]>, JsonFault>
     ensures flags { IfOk result (λ flags. flags_of (member_of member.Validity (view column.now))
         ≡ Some (option_map (λ fs. items_view fs.now) flags)) }
     ensures whole { IfOk result (λ flags. IfSome flags (λ fs. length fs.now ≡ count)) }

@@ -22,9 +22,11 @@ pub enum JsonFaultKind {
     UnsupportedType,
     /// Under a valid slot of an int column, something that is no integer of its type.
     BadNumber,
+    /// An item of a list's `OFFSET` is no integer of 32 signed bits.
+    BadOffset,
     /// The length of an array, or a column's count, isn't what is stated.
     CountDiffers,
-    /// The column is no lawful array. Its texts may be too long for 32-bit offsets.
+    /// The column is no lawful array: its texts are too long for 32-bit offsets, or its offsets are none of its child.
     Layout(LayoutFault),
     /// A growth was refused. The path is empty.
     NoMemory,
@@ -41,6 +43,7 @@ impl JsonFaultKind {
             JsonFaultKind::WrongMember => "J3 WrongMember",
             JsonFaultKind::UnsupportedType => "J4 UnsupportedType",
             JsonFaultKind::BadNumber => "J5 BadNumber",
+            JsonFaultKind::BadOffset => "J6 BadOffset",
             JsonFaultKind::CountDiffers => "J7 CountDiffers",
             JsonFaultKind::Layout(_) => "J10 Layout",
             JsonFaultKind::NoMemory => "J11 NoMemory",

@@ -6,6 +6,7 @@ mod column;
 pub mod fault;
 pub mod file;
 pub mod laws;
+mod list;
 mod member;
 mod number;
 pub mod path;

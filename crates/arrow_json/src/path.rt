@@ -22,6 +22,7 @@ pub enum Member {
     Count,
     Columns,
     Validity,
+    Offset,
     Data,
 }
 
@@ -44,6 +45,7 @@ impl Member {
             Member::Count => "count",
             Member::Columns => "columns",
             Member::Validity => "VALIDITY",
+            Member::Offset => "OFFSET",
             Member::Data => "DATA",
         }
     }

@@ -194,7 +194,7 @@ reading-roll r =
     ∙ ap (read_parts (kind_of r.ty) r.length r.null_count r.buffers.items (map reading r.children.items)) (entries-map reading r.dictionary)
 
 -- What an array knows of its child is what the child's reading holds.
-held-reading : (raw : RawArray) → inner_of (reading raw) ≡ inner_raw raw
+pub held-reading : (raw : RawArray) → inner_of (reading raw) ≡ inner_raw raw
 unfolding read_parts
 held-reading raw = ap inner_of (reading-raw raw)
 

@@ -14,4 +14,4 @@ pub mod validator;
 pub use dropping::release;
 pub use fault::LayoutFault;
 pub use raw::RawArray;
-pub use validator::first_fault;
+pub use validator::{first_fault, own_fault};

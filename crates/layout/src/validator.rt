@@ -68,8 +68,8 @@ fn content_fault(raw: &RawArray) -> Option<LayoutFault>
     None
 }
 
-/// The first fault of an array itself, whatever its child and its dictionary hold.
-fn own_fault(raw: &RawArray) -> Option<LayoutFault>
+/// The first fault of an array itself, whatever its child and its dictionary hold. It takes no memory.
+pub fn own_fault(raw: &RawArray) -> Option<LayoutFault>
     ensures { result ≡ own_fault_of raw.now }
 {
     if let Some(fault) = shape_fault(raw) {

@@ -113,7 +113,7 @@ impl Array {
     }
 
     /// The parts of an array that has no dictionary.
-    fn into_raw(self) -> RawArray
+    pub(super) fn into_raw(self) -> RawArray
         requires { same_kind self.kind dict ≡ false }
         ensures { reading result ≡ checked self }
     {

@@ -1,0 +1,11 @@
+use Rattle.std.proofs.Common.{sym, arith}
+use Rattle.arrow_json.specs.ListBuffers.{IsFlag}
+use Rattle.arrow_json.proofs.JsonItems.{each_pushed, each_done}
+use Rattle.arrow_json.proofs.list.read_flags.Goals as goal
+
+pub loop-index-preserved : goal.loop-index-preserved
+loop-index-preserved c =
+    rw c.in-Ok.ensures.ok (each_pushed IsFlag _ _ _ _ _ c.loop-index.invariant (omega arith) c.index-flags-index.is (sym c.in-Some.ensures))
+
+pub returns-clause-ok : goal.returns-clause-ok
+returns-clause-ok c = each_done _ _ _ _ c.loop-index.invariant (omega arith)
