@@ -9,4 +9,5 @@ pub mod JsonBatches
 pub mod JsonRecordBatches
 pub mod JsonResults
 pub mod JsonFiles
+pub mod SchemaLaws
 pub mod JsonLaws
