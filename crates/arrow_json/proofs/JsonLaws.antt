@@ -154,7 +154,6 @@ batch_law fields d t k p h (bad_columns rows ds k' p' at_rows at_list f) =
     let b : ds ≡ h.found = cc (at_list, h.listed) in
     columns_law fields d t k' p' h (subst (λ x. ColumnsFault fields x h.found k' p') a (subst (λ y. ColumnsFault fields rows y k' p') b f))
 
-
 file_law : (d : Data) (f : FileData) (k : JsonFaultKind) (p : List Step) → ReadsFile d f → FileFault d k p → ⊥
 file_law d f k p h (no_file_object k' p' u) = no_object as_array member.Batches d h.batches h.at_batches (not_unlike as_object d _ _ u)
 file_law d f k p h (bad_schema k' p' w) = under_law member.Schema SchemaFault d h.schema.schema _ _ h.schema.at_schema (λ k p w. schema_law h.schema.schema f.fields k p h.schema.reads w) w
