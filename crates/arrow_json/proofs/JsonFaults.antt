@@ -1,5 +1,5 @@
 -- Why a fault that is told stands: one lemma for each way in which it came about.
-use Rattle.std.proofs.Common.{◌≡◌, ◌≢◌, inl, inr, ◌∙◌, ℕ, ◌<◌, length, get_or, List, [], ◌∷◌, Option, Some, None, option_and_then, false, codes, sym, ap, subst}
+use Rattle.std.proofs.Common.{◌≡◌, ◌≢◌, inl, inr, ◌∙◌, ℕ, zero, suc, ◌<◌, length, get_or, List, [], ◌∷◌, Option, Some, None, option_and_then, false, codes, refl, sym, ap, subst, arith}
 use Rattle.serde_json.specs.Data.{Data, Items, Num}
 use Rattle.serde_json.specs.Find.{get_item, as_array, as_bool, as_null, as_number, as_object, as_str}
 use Rattle.serde_json.proofs.Views.{items_len-items_view, get_item_within}
@@ -15,8 +15,8 @@ use Rattle.arrow_json.specs.declared.fault.JsonFaultKind.TheVariants.{MissingMem
 use Rattle.arrow_json.specs.JsonFault.{no_memory, IsFault, IsUnder, Tells, stands, wants}
 use Rattle.arrow_json.specs.JsonMember.{member_of, IsObject, Unlike, unlike, Missing, missing, MemberFault, absent, wrong, EachFault, item}
 use Rattle.arrow_json.specs.JsonNumber.{width_of}
-use Rattle.arrow_json.specs.JsonSchema.{type_name, is_childless}
-use Rattle.arrow_json.specs.JsonSchemaFault.{TypeFault, no_type_object, bad_type_name, other_type, bad_width, other_width, bad_sign, FieldFault, no_field_object, bad_field_name, bad_nullable, bad_type, no_dictionary_object, encoded, has_children, SchemaFault, no_schema_object, bad_fields, bad_field}
+use Rattle.arrow_json.specs.JsonSchema.{type_name, named_type, is_childless, only_item, only_child}
+use Rattle.arrow_json.specs.JsonSchemaFault.{TypeFault, no_type_object, bad_type_name, other_type, bad_width, other_width, bad_sign, FieldFault, no_field_object, bad_field_name, bad_nullable, bad_type, no_dictionary_object, encoded, encoded_item, has_children, no_child, ninth_list, bad_child, SchemaFault, no_schema_object, bad_fields, bad_field}
 
 abbrev Faults : Type 1
 Faults = JsonFaultKind → List Step → Type 0
@@ -36,6 +36,14 @@ pub tells_under : (S R : JsonFaultKind → List Step → Type 0) (x : Step) (f g
 tells_under S R x f g h t (inr e) = wants e
 tells_under S R x f g h (stands s) (inl e) = let P : JsonFault → Type 0 = λ a. R a.kind a.path in stands (subst P (sym e.1) (h f.kind f.path s))
 tells_under S R x f g h (wants w) (inl e) = absurd (e.0 (ap (λ a. a.kind) w))
+
+-- a fault of the first item of an array
+data UnderItem (W : JsonFaultKind → List Step → Type 0) : JsonFaultKind → List Step → Type 0 where
+  under_item : (kind : JsonFaultKind) (path : List Step) → W kind path → UnderItem W kind (step.Item 0 ∷ path)
+
+under_child : (n m : ℕ) (d e : Data) (k : JsonFaultKind) (p : List Step) → m ≡ suc n → named_type d ≡ Some (codes "list") → only_child d ≡ Some e → UnderItem (FieldFault m e) k p
+    → FieldFault n d k (step.Member member.Children ∷ p)
+under_child n m d e k p deeper list at (under_item k' p' w) = bad_child n d e k' p' list at (subst (λ x. FieldFault x e k' p') deeper w)
 
 pub tells_unlike : {A : Type 0} (wanted : Data → Option A) (d : Data) (f : JsonFault) → wanted d ≡ None → IsFault WrongMember [] f → Tells (Unlike wanted d) f
 tells_unlike wanted d f h is = tells_at (Unlike wanted d) WrongMember [] f (unlike h) is
@@ -58,8 +66,9 @@ type_object d f t = tells_as (Unlike as_object d) (TypeFault d) f (λ k p h. no_
 pub type_name_told : (d : Data) (f : JsonFault) → Tells (MemberFault member.Name (Unlike as_str) d) f → Tells (TypeFault d) f
 type_name_told d f t = tells_as (MemberFault member.Name (Unlike as_str) d) (TypeFault d) f (λ k p h. bad_type_name k p h) t
 
-pub type_other_name : (d : Data) (f : JsonFault) (bytes : List ℕ) → type_name d ≡ Some bytes → bytes ≢ codes "int" → bytes ≢ codes "bool" → bytes ≢ codes "utf8" → IsFault UnsupportedType [] f → Tells (TypeFault d) f
-type_other_name d f bytes at int bool utf8 is = tells_at (TypeFault d) UnsupportedType [] f (other_type bytes at int bool utf8) is
+pub type_other_name : (d : Data) (f : JsonFault) (bytes : List ℕ) → type_name d ≡ Some bytes → bytes ≢ codes "int" → bytes ≢ codes "bool" → bytes ≢ codes "utf8" → bytes ≢ codes "list"
+    → IsFault UnsupportedType [] f → Tells (TypeFault d) f
+type_other_name d f bytes at int bool utf8 list is = tells_at (TypeFault d) UnsupportedType [] f (other_type bytes at int bool utf8 list) is
 
 pub type_width : (d : Data) (f : JsonFault) → Tells (MemberFault member.BitWidth (Unlike as_number) d) f → type_name d ≡ Some (codes "int") → Tells (TypeFault d) f
 type_width d f t int = tells_as (MemberFault member.BitWidth (Unlike as_number) d) (TypeFault d) f (λ k p h. bad_width k p int h) t
@@ -73,36 +82,82 @@ type_sign d f t int = tells_as (MemberFault member.IsSigned (Unlike as_bool) d) 
 
 -- ---- fields
 
-pub field_object : (d : Data) (f : JsonFault) → Tells (Unlike as_object d) f → Tells (FieldFault d) f
-field_object d f t = tells_as (Unlike as_object d) (FieldFault d) f (λ k p h. no_field_object k p h) t
+pub field_object : (n : ℕ) (d : Data) (f : JsonFault) → Tells (Unlike as_object d) f → Tells (FieldFault n d) f
+field_object n d f t = tells_as (Unlike as_object d) (FieldFault n d) f (λ k p h. no_field_object n d k p h) t
 
-pub field_name_told : (d : Data) (f : JsonFault) → Tells (MemberFault member.Name (Unlike as_str) d) f → Tells (FieldFault d) f
-field_name_told d f t = tells_as (MemberFault member.Name (Unlike as_str) d) (FieldFault d) f (λ k p h. bad_field_name k p h) t
+pub field_name_told : (n : ℕ) (d : Data) (f : JsonFault) → Tells (MemberFault member.Name (Unlike as_str) d) f → Tells (FieldFault n d) f
+field_name_told n d f t = tells_as (MemberFault member.Name (Unlike as_str) d) (FieldFault n d) f (λ k p h. bad_field_name n d k p h) t
 
-pub field_nullable_told : (d : Data) (f : JsonFault) → Tells (MemberFault member.Nullable (Unlike as_bool) d) f → Tells (FieldFault d) f
-field_nullable_told d f t = tells_as (MemberFault member.Nullable (Unlike as_bool) d) (FieldFault d) f (λ k p h. bad_nullable k p h) t
+pub field_nullable_told : (n : ℕ) (d : Data) (f : JsonFault) → Tells (MemberFault member.Nullable (Unlike as_bool) d) f → Tells (FieldFault n d) f
+field_nullable_told n d f t = tells_as (MemberFault member.Nullable (Unlike as_bool) d) (FieldFault n d) f (λ k p h. bad_nullable n d k p h) t
 
-pub field_no_type : (d : Data) (f : JsonFault) → Tells (Missing member.DataType d) f → Tells (FieldFault d) f
-field_no_type d f t = tells_as (Missing member.DataType d) (FieldFault d) f (λ k p h. bad_type k p (absent k p h)) t
+pub field_no_type : (n : ℕ) (d : Data) (f : JsonFault) → Tells (Missing member.DataType d) f → Tells (FieldFault n d) f
+field_no_type n d f t = tells_as (Missing member.DataType d) (FieldFault n d) f (λ k p h. bad_type n d k p (absent k p h)) t
 
-pub field_type_told : (d e : Data) (f g : JsonFault) → Tells (TypeFault e) f → member_of member.DataType d ≡ Some e → IsUnder (step.Member member.DataType) f g → Tells (FieldFault d) g
-field_type_told d e f g t at up =
-    tells_under (TypeFault e) (FieldFault d) (step.Member member.DataType) f g (λ k p h. bad_type k (step.Member member.DataType ∷ p) (wrong e k p at h)) t up
+pub field_type_told : (n : ℕ) (d e : Data) (f g : JsonFault) → Tells (TypeFault e) f → member_of member.DataType d ≡ Some e → IsUnder (step.Member member.DataType) f g → Tells (FieldFault n d) g
+field_type_told n d e f g t at up =
+    tells_under (TypeFault e) (FieldFault n d) (step.Member member.DataType) f g (λ k p h. bad_type n d k (step.Member member.DataType ∷ p) (wrong e k p at h)) t up
 
-pub field_encoded : (d e : Data) (f : JsonFault) → member_of member.Dictionary d ≡ Some e → IsObject e → IsFault UnsupportedType (step.Member member.DataType ∷ []) f → Tells (FieldFault d) f
-field_encoded d e f at object is = tells_at (FieldFault d) UnsupportedType (step.Member member.DataType ∷ []) f (encoded e at object) is
+pub field_encoded : (n : ℕ) (d e : Data) (f : JsonFault) → member_of member.Dictionary d ≡ Some e → IsObject e → n ≡ 0 → IsFault UnsupportedType (step.Member member.DataType ∷ []) f → Tells (FieldFault n d) f
+field_encoded zero d e f at object is told = tells_at (FieldFault 0 d) UnsupportedType (step.Member member.DataType ∷ []) f (encoded d e at object) told
+field_encoded (suc n) d e f at object is told = absurd (omega (arith, is))
 
-pub field_no_dictionary : (d e : Data) (f g : JsonFault) → Tells (Unlike as_object e) f → member_of member.Dictionary d ≡ Some e → as_null e ≡ None
-    → IsUnder (step.Member member.Dictionary) f g → Tells (FieldFault d) g
-field_no_dictionary d e f g t at some up = tells_under (Unlike as_object e) (FieldFault d) (step.Member member.Dictionary) f g (λ k p h. no_dictionary_object e k p at some h) t up
+pub field_encoded_item : (n : ℕ) (d e : Data) (f : JsonFault) → member_of member.Dictionary d ≡ Some e → IsObject e → n ≢ 0 → IsFault UnsupportedType [] f → Tells (FieldFault n d) f
+field_encoded_item zero d e f at object is told = absurd (is refl)
+field_encoded_item (suc n) d e f at object is told = tells_at (FieldFault (suc n) d) UnsupportedType [] f (encoded_item n d e at object) told
 
-pub field_children : (d : Data) (f : JsonFault) → is_childless (member_of member.Children d) ≡ false → IsFault WrongMember (step.Member member.Children ∷ []) f → Tells (FieldFault d) f
-field_children d f h is = tells_at (FieldFault d) WrongMember (step.Member member.Children ∷ []) f (has_children h) is
+pub field_no_dictionary : (n : ℕ) (d e : Data) (f g : JsonFault) → Tells (Unlike as_object e) f → member_of member.Dictionary d ≡ Some e → as_null e ≡ None
+    → IsUnder (step.Member member.Dictionary) f g → Tells (FieldFault n d) g
+field_no_dictionary n d e f g t at some up = tells_under (Unlike as_object e) (FieldFault n d) (step.Member member.Dictionary) f g (λ k p h. no_dictionary_object n d e k p at some h) t up
+
+-- what a field's type object is called
+pub named_by : (d e : Data) (o : Option (List ℕ)) → member_of member.DataType d ≡ Some e → type_name e ≡ o → named_type d ≡ o
+named_by d e o at named = ap (option_and_then type_name) at ∙ named
+
+-- a type that isn't a list's isn't called so
+pub not_named : (d e : Data) → member_of member.DataType d ≡ Some e → type_name e ≢ Some (codes "list") → named_type d ≢ Some (codes "list")
+not_named d e at other is = other (sym (named_by d e (type_name e) at refl) ∙ is)
+
+pub field_children : (n : ℕ) (d : Data) (f : JsonFault) → named_type d ≢ Some (codes "list") → is_childless (member_of member.Children d) ≡ false → IsFault WrongMember (step.Member member.Children ∷ []) f
+    → Tells (FieldFault n d) f
+field_children n d f flat h is = tells_at (FieldFault n d) WrongMember (step.Member member.Children ∷ []) f (has_children n d flat h) is
+
+pub field_no_child : (n : ℕ) (d : Data) (f : JsonFault) → Tells (Missing member.Children d) f → named_type d ≡ Some (codes "list") → Tells (FieldFault n d) f
+field_no_child n d f t list = tells_as (Missing member.Children d) (FieldFault n d) f (λ k p h. no_child n d k p list (absent k p h)) t
+
+pub field_other_child : (n : ℕ) (d e : Data) (f : JsonFault) → member_of member.Children d ≡ Some e → only_item e ≡ None → named_type d ≡ Some (codes "list")
+    → IsFault WrongMember (step.Member member.Children ∷ []) f → Tells (FieldFault n d) f
+field_other_child n d e f at none list is =
+    tells_at (FieldFault n d) WrongMember (step.Member member.Children ∷ []) f (no_child n d WrongMember (step.Member member.Children ∷ []) list (wrong e WrongMember [] at (unlike none))) is
+
+pub field_ninth : (n : ℕ) (d : Data) (f : JsonFault) → named_type d ≡ Some (codes "list") → n ≡ 8 → IsFault UnsupportedType [] f → Tells (FieldFault n d) f
+field_ninth n d f list eight is = subst (λ m. Tells (FieldFault m d) f) (sym eight) (tells_at (FieldFault 8 d) UnsupportedType [] f (ninth_list d list) is)
+
+-- twice under: the child's place among the children, and these
+pub field_child : (n m : ℕ) (d e : Data) (f g h : JsonFault) → Tells (FieldFault m e) f → m ≡ suc n → named_type d ≡ Some (codes "list") → only_child d ≡ Some e → IsUnder (step.Item 0) f g
+    → IsUnder (step.Member member.Children) g h → Tells (FieldFault n d) h
+field_child n m d e f g h t deeper list at first up =
+    tells_under (UnderItem (FieldFault m e)) (FieldFault n d) (step.Member member.Children) g h
+    (λ k p under. under_child n m d e k p deeper list at under)
+    (tells_under (FieldFault m e) (UnderItem (FieldFault m e)) (step.Item 0) f g (λ k p w. under_item k p w) t first) up
 
 pub tells_wants : (S : JsonFaultKind → List Step → Type 0) (f : JsonFault) → f ≡ no_memory → Tells S f
 tells_wants S f h = wants h
 
 pub ruleset lengths = (items_len-items_view)
+
+-- the item of an array of exactly one
+pub only_of-one : (d : Data) (vs : List Value) (v : Value) → as_array d ≡ Some (items_view vs) → length vs ≡ 1 → v ≡ get_or vs 0 v → only_item d ≡ Some (view v)
+only_of-one d [] v at len is = absurd (omega (arith, len))
+only_of-one d (x ∷ []) v at len is = rw at (ap (λ y. Some (view y)) (sym is))
+only_of-one d (x ∷ y ∷ vs) v at len is = absurd (omega (arith, len))
+
+pub only_of-other : (d : Data) (vs : List Value) → as_array d ≡ Some (items_view vs) → length vs ≢ 1 → only_item d ≡ None
+only_of-other d [] at len = rw at refl
+only_of-other d (x ∷ []) at len = absurd (len refl)
+only_of-other d (x ∷ y ∷ vs) at len = rw at refl
+
+pub ruleset only_items = (only_of-one, only_of-other)
 
 -- ---- schemas
 
@@ -120,14 +175,14 @@ schema_object d f t = tells_as (Unlike as_object d) (SchemaFault d) f (λ k p h.
 pub schema_fields : (d : Data) (f : JsonFault) → Tells (MemberFault member.Fields (Unlike as_array) d) f → Tells (SchemaFault d) f
 schema_fields d f t = tells_as (MemberFault member.Fields (Unlike as_array) d) (SchemaFault d) f (λ k p h. bad_fields k p h) t
 
-pub schema_field : (d : Data) (ds : Items) (f g : JsonFault) → Tells (EachFault FieldFault ds) f → option_and_then as_array (member_of member.Fields d) ≡ Some ds
+pub schema_field : (d : Data) (ds : Items) (f g : JsonFault) → Tells (EachFault (FieldFault 0) ds) f → option_and_then as_array (member_of member.Fields d) ≡ Some ds
     → IsUnder (step.Member member.Fields) f g → Tells (SchemaFault d) g
-schema_field d ds f g t at up = tells_under (EachFault FieldFault ds) (SchemaFault d) (step.Member member.Fields) f g (λ k p h. bad_field ds k p at h) t up
+schema_field d ds f g t at up = tells_under (EachFault (FieldFault 0) ds) (SchemaFault d) (step.Member member.Fields) f g (λ k p h. bad_field ds k p at h) t up
 
 pub ruleset schema_told = (tells_item_at, schema_object, schema_fields, schema_field, tells_wants)
 
 pub ruleset type_told = (type_object, type_name_told, type_other_name, type_width, type_other_width, type_sign)
 
-pub ruleset field_told = (field_object, field_name_told, field_nullable_told, field_no_type, field_type_told, field_encoded, field_no_dictionary, field_children, tells_wants)
+pub ruleset field_told = (field_object, field_name_told, field_nullable_told, field_no_type, field_type_told, field_encoded, field_encoded_item, field_no_dictionary, named_by, not_named, field_children, field_no_child, field_other_child, field_ninth, field_child, tells_wants)
 
 pub ruleset told = (tells_unlike, tells_missing, tells_absent, tells_unlike_member)

@@ -3,31 +3,44 @@ use Rattle.std.proofs.Common.{◌≡◌, ◌∙◌, ℕ, zero, suc, ◌+◌, ◌
 use Rattle.std.specs.List.{slice_get, position_or_len}
 use Rattle.std.proofs.lemmas.Bool.Decides.{nat_tests}
 use Rattle.std.proofs.lemmas.Option.{slice_get_within}
-use Rattle.arrays.specs.Shape.{FieldShape, int, boolean, utf8, list, dict, field}
+use Rattle.arrays.specs.Kind.{ends_in_dict}
+use Rattle.arrays.specs.Shape.{Shape, FieldShape, int, boolean, utf8, list, dict, field, kind_of_field, kind_of_shape}
 use Rattle.arrays.specs.Schema.{schema_fault, is_deep, holds_dict}
 use Rattle.serde_json.specs.Data.{Data, Items, no_items, item}
 use Rattle.serde_json.specs.Find.{get_item}
 use Rattle.serde_json.specs.Events.{items_len}
 use Rattle.arrow_json.specs.JsonMember.{ReadsEach}
-use Rattle.arrow_json.specs.JsonSchema.{ReadsField}
+use Rattle.arrow_json.specs.JsonSchema.{ReadsField, IsFieldOf, HasChildren}
 
 pub get_item_some : (ds : Items) (i : ℕ) → i < items_len ds → (d : Data) × (get_item i ds ≡ Some d)
 get_item_some no_items i h = absurd (omega arith)
 get_item_some (item d ds) zero h = (d, refl)
 get_item_some (item d ds) (suc i) h = get_item_some ds i (omega arith)
 
--- what is read is neither too deep nor a dictionary
-flat : (d : Data) (f : FieldShape) → ReadsField d f → (is_deep f ≡ false) × (holds_dict f ≡ false)
-flat d (field bytes b (int t)) h = (refl, refl)
-flat d (field bytes b boolean) h = (refl, refl)
-flat d (field bytes b utf8) h = (refl, refl)
-flat d (field bytes b (list f)) h = absurd h.ty.reads
-flat d (field bytes b dict) h = absurd h.ty.reads
+-- what is read is no dictionary, nor a list of such
+mutual
+  no_dict : (d : Data) (f : FieldShape) → IsFieldOf d f → ends_in_dict (kind_of_field f) ≡ false
+  no_dict d (field bytes b s) h = no_dict_shape d s h.1
+
+  no_dict_shape : (d : Data) (s : Shape) → HasChildren d s → ends_in_dict (kind_of_shape s) ≡ false
+  no_dict_shape d (int t) h = refl
+  no_dict_shape d boolean h = refl
+  no_dict_shape d utf8 h = refl
+  no_dict_shape d (list f) h = no_dict h.0 f h.2
+  no_dict_shape d dict h = absurd h
+
+holds_none : (d : Data) (f : FieldShape) → IsFieldOf d f → holds_dict f ≡ false
+holds_none d (field bytes b (int t)) h = refl
+holds_none d (field bytes b boolean) h = refl
+holds_none d (field bytes b utf8) h = refl
+holds_none d (field bytes b (list f)) h = no_dict h.1.0 f h.1.2
+holds_none d (field bytes b dict) h = refl
 
 flat_at : (ds : Items) (fields : List FieldShape) (i : ℕ) (f : FieldShape) → ReadsEach ReadsField ds fields → slice_get fields i ≡ Some f → (is_deep f ≡ false) × (holds_dict f ≡ false)
 flat_at ds fields i f h at =
     let found = get_item_some ds i (omega (arith, slice_get_within fields i f at, h.len)) in
-    flat found.0 f (h.each i found.0 f found.1 at)
+    let reads = h.each i found.0 f found.1 at in
+    (reads.shallow, holds_none found.0 f reads.object)
 
 position_or_len-none : {A : Type 0} (p : A → Bool) (xs : List A) → ((i : ℕ) (x : A) → slice_get xs i ≡ Some x → p x ≡ false) → position_or_len p xs ≡ length xs
 position_or_len-none p [] h = refl

@@ -1,8 +1,9 @@
 -- The schema of a file. (Arrow integration testing, "JSON test data format", Schema and Field)
-use Rattle.std.specs.Prelude.{◌≡◌, ℕ, ◌==◌, List, codes, Bool, true, Option, Some, None, is_some, option_map, option_and_then, unwrap_or}
+use Rattle.std.specs.Prelude.{◌≡◌, ℕ, ◌==◌, List, codes, Bool, true, false, Option, Some, None, is_some, option_map, option_and_then, unwrap_or}
 use Rattle.types.specs.declared.int_type.IntType.{IntType}
+use Rattle.arrays.specs.Schema.{is_deep}
 use Rattle.arrays.specs.Shape.{Shape, FieldShape, int, boolean, utf8, list, dict, field}
-use Rattle.serde_json.specs.Data.{Data, Items}
+use Rattle.serde_json.specs.Data.{Data, Items, no_items, item}
 use Rattle.serde_json.specs.Find.{as_null, as_bool, as_number, as_str, as_array}
 use Rattle.serde_json.specs.Events.{items_len}
 use Rattle.arrow_json.specs.JsonNumber.{width_of}
@@ -21,12 +22,12 @@ pub record ReadsInt (d : Data) (t : IntType) : Type 0 where
   pub width : option_and_then width_of (option_and_then as_number (member_of member.BitWidth d)) ≡ Some t.bits
   pub sign : option_and_then as_bool (member_of member.IsSigned d) ≡ Some t.signed
 
--- The type object of a type. Lists and dictionaries aren't read.
+-- The type object of a type, whatever the items of a list are. Dictionaries aren't read.
 abbrev pub ReadsShape : Data → Shape → Type 0
 ReadsShape d (int t) = ReadsInt d t
 ReadsShape d boolean = type_name d ≡ Some (codes "bool")
 ReadsShape d utf8 = type_name d ≡ Some (codes "utf8")
-ReadsShape d (list f) = ⊥
+ReadsShape d (list f) = type_name d ≡ Some (codes "list")
 ReadsShape d dict = ⊥
 
 -- ---- fields
@@ -41,21 +42,52 @@ abbrev pub is_childless : Option Data → Bool
 is_childless None = true
 is_childless (Some d) = unwrap_or (option_map (λ ds. items_len ds == 0) (as_array d)) (is_some (as_null d))
 
+-- The item of an array of exactly one.
+abbrev pub only_of : Items → Option Data
+only_of no_items = None
+only_of (item d no_items) = Some d
+only_of (item d (item e ds)) = None
+
+abbrev pub only_item : Data → Option Data
+only_item d = option_and_then only_of (as_array d)
+
+-- The one child of a field.
+abbrev pub only_child : Data → Option Data
+only_child d = option_and_then only_item (member_of member.Children d)
+
+-- The name of a field's type.
+abbrev pub named_type : Data → Option (List ℕ)
+named_type d = option_and_then type_name (member_of member.DataType d)
+
 -- The field's type object is that of the type.
 pub record HasType (d : Data) (shape : Shape) : Type 0 where
   pub object : Data
   pub at_type : member_of member.DataType d ≡ Some object
   pub reads : ReadsShape object shape
 
+-- A field object, its children apart.
 pub record HasField (d : Data) (bytes : List ℕ) (b : Bool) (shape : Shape) : Type 0 where
   pub name : option_and_then as_str (member_of member.Name d) ≡ Some bytes
   pub nullable : option_and_then as_bool (member_of member.Nullable d) ≡ Some b
   pub ty : HasType d shape
   pub plain : is_without (member_of member.Dictionary d) ≡ true
-  pub childless : is_childless (member_of member.Children d) ≡ true
 
-abbrev pub ReadsField : Data → FieldShape → Type 0
-ReadsField d (field bytes b shape) = HasField d bytes b shape
+-- The field object of a field: a list's has one child, the field of its items, and others have none.
+abbrev mutual
+  pub IsFieldOf : Data → FieldShape → Type 0
+  IsFieldOf d (field bytes b shape) = HasField d bytes b shape × HasChildren d shape
+
+  pub HasChildren : Data → Shape → Type 0
+  HasChildren d (int t) = is_childless (member_of member.Children d) ≡ true
+  HasChildren d boolean = is_childless (member_of member.Children d) ≡ true
+  HasChildren d utf8 = is_childless (member_of member.Children d) ≡ true
+  HasChildren d (list f) = (child : Data) × (only_child d ≡ Some child) × IsFieldOf child f
+  HasChildren d dict = ⊥
+
+-- A field with at most 8 lists in one another.
+pub record ReadsField (d : Data) (f : FieldShape) : Type 0 where
+  pub object : IsFieldOf d f
+  pub shallow : is_deep f ≡ false
 
 -- ---- schemas
 

@@ -6,6 +6,7 @@ pub mod JsonNumber
 pub mod JsonMember
 pub mod JsonSchema
 pub mod JsonSchemaFault
+pub mod BareField
 pub mod JsonColumn
 pub mod JsonColumnFault
 pub mod JsonList

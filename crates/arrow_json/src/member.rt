@@ -45,7 +45,7 @@ pub(crate) fn required<'v>(
 /// The fault of a member that is another thing than it is to be.
 #[tactic(auto, using(crate::proofs::JsonFaults::told))]
 #[cold]
-fn unlike(alloc: Global, member: Member) -> JsonFault
+pub(crate) fn unlike(alloc: Global, member: Member) -> JsonFault
     ensures { IsFault WrongMember (step.Member member ∷ []) result }
 {
     JsonFault::at(alloc, JsonFaultKind::WrongMember, &[Step::Member(member)])

@@ -1,15 +1,18 @@
-ghost use Rattle.std.specs.Prelude.{◌≡◌, ◌≤◌, true, false, IfOk, IfErr, OnOk, Some, codes};
+ghost use Rattle.std.specs.Prelude.{◌≡◌, ◌+◌, ◌<◌, ◌≤◌, true, false, IfOk, IfErr, OnOk, Some, codes, option_map};
 ghost use Rattle.serde_json.specs.View.{view, items_view};
-ghost use Rattle.arrays.specs.Shape.{field_of, fields_of, shape_of};
-ghost use Rattle.arrow_json.specs.JsonFault.{Tells};
+ghost use Rattle.arrays.specs.Kind.{depth};
+ghost use Rattle.arrays.specs.Shape as shape;
+ghost use Rattle.arrays.specs.Shape.{field_of, fields_of, kind_of_field, shape_of};
+ghost use Rattle.arrow_json.specs.JsonFault.{Tells, no_memory};
+ghost use Rattle.arrow_json.specs.BareField.{IsTypeRead, IsFieldType, IsBare};
 ghost use Rattle.arrow_json.specs.JsonMember.{member_of, EachFault, IsObject, ReadsEach};
-ghost use Rattle.arrow_json.specs.JsonSchema.{type_name, HasType, ReadsInt, ReadsShape, ReadsField, ReadsSchema, is_without, is_childless};
+ghost use Rattle.arrow_json.specs.JsonSchema.{type_name, named_type, only_item, only_child, IsFieldOf, ReadsInt, ReadsField, ReadsSchema, is_without, is_childless};
 ghost use Rattle.arrow_json.specs.JsonSchemaFault.{TypeFault, FieldFault, SchemaFault};
 ghost use Rattle.arrow_json.specs.declared.path.Member.TheVariants as member;
 
 use crate::fault::{JsonFault, JsonFaultKind};
 use crate::member::{
-    array_member, check_object, number_member, push, required, text_member, truth_member,
+    array_member, check_object, number_member, push, required, text_member, truth_member, unlike,
 };
 use crate::number::width;
 use crate::path::{Member, Step};
@@ -17,17 +20,21 @@ use arrays::{DataType, Field, IntType, Schema};
 use serde_json::Value;
 use std::alloc::Global;
 
-/// The type that a type object names.
+/// How many lists may stand in one another.
+const MOST_LISTS: u32 = 8;
+
+/// The type that a type object names, none where it is a list: of what, its field's children tell.
 #[tactic(auto, using(crate::proofs::JsonFaults::type_told))]
-pub(crate) fn read_type(alloc: Global, object: &Value) -> Result<DataType, JsonFault>
-    ensures ok { IfOk result (λ t. ReadsShape (view object.now) (shape_of t)) }
+fn read_type(alloc: Global, object: &Value) -> Result<Option<DataType>, JsonFault>
+    ensures ok { IfOk result (IsTypeRead (view object.now)) }
     ensures err { IfErr result (Tells (TypeFault (view object.now))) }
 {
     check_object(alloc, object)?;
     match text_member(alloc, object, Member::Name)? {
-        "int" => Ok(DataType::Int(read_int(alloc, object)?)),
-        "bool" => Ok(DataType::Bool),
-        "utf8" => Ok(DataType::Utf8),
+        "int" => Ok(Some(DataType::Int(read_int(alloc, object)?))),
+        "bool" => Ok(Some(DataType::Bool)),
+        "utf8" => Ok(Some(DataType::Utf8)),
+        "list" => Ok(None),
         _ => Err(JsonFault::at(alloc, JsonFaultKind::UnsupportedType, &[])),
     }
 }
@@ -47,23 +54,11 @@ fn read_int(alloc: Global, object: &Value) -> Result<IntType, JsonFault>
     Ok(IntType { bits, signed })
 }
 
-/// The type of a field.
-#[tactic(auto, using(crate::proofs::JsonFaults::field_told))]
-fn field_type(alloc: Global, field: &Value) -> Result<DataType, JsonFault>
-    requires { IsObject (view field.now) }
-    ensures ok { IfOk result (λ t. HasType (view field.now) (shape_of t)) }
-    ensures err { IfErr result (Tells (FieldFault (view field.now))) }
-{
-    let object = required(alloc, field, Member::DataType)?;
-    read_type(alloc, object).map_err(|fault| fault.under(alloc, Step::Member(Member::DataType)))
-}
-
 /// That a field has no dictionary: it is absent or null. Dictionaries aren't read.
 #[tactic(auto, using(crate::proofs::JsonFaults::field_told))]
-fn check_dictionary(alloc: Global, field: &Value) -> Result<(), JsonFault>
-    requires { IsObject (view field.now) }
+fn check_dictionary(alloc: Global, within: u32, field: &Value) -> Result<(), JsonFault>
     ensures ok { OnOk result (is_without (member_of member.Dictionary (view field.now)) ≡ true) }
-    ensures err { IfErr result (Tells (FieldFault (view field.now))) }
+    ensures err { IfErr result (Tells (FieldFault within (view field.now))) }
 {
     let Some(found) = field.get(Member::Dictionary.name()) else {
         return Ok(());
@@ -73,11 +68,11 @@ fn check_dictionary(alloc: Global, field: &Value) -> Result<(), JsonFault>
     }
     let object = check_object(alloc, found);
     object.map_err(|fault| fault.under(alloc, Step::Member(Member::Dictionary)))?;
-    Err(JsonFault::at(
-        alloc,
-        JsonFaultKind::UnsupportedType,
-        &[Step::Member(Member::DataType)],
-    ))
+    if within == 0 {
+        let at_type = Step::Member(Member::DataType);
+        return Err(JsonFault::at(alloc, JsonFaultKind::UnsupportedType, &[at_type]));
+    }
+    Err(JsonFault::at(alloc, JsonFaultKind::UnsupportedType, &[]))
 }
 
 /// Whether the field has no children: they are absent, null or empty.
@@ -94,26 +89,124 @@ fn is_childless(field: &Value) -> bool
     }
 }
 
-/// The field of a schema.
+/// The type of a field, none where it is a list. Others have no children.
 #[tactic(auto, using(crate::proofs::JsonFaults::field_told))]
-pub(crate) fn read_field(alloc: Global, field: &Value) -> Result<Field, JsonFault>
-    ensures ok { IfOk result (λ f. ReadsField (view field.now) (field_of f)) }
-    ensures err { IfErr result (Tells (FieldFault (view field.now))) }
+fn field_type(alloc: Global, within: u32, field: &Value) -> Result<Option<DataType>, JsonFault>
+    requires { IsObject (view field.now) }
+    ensures ok { IfOk result (IsFieldType (view field.now)) }
+    ensures err { IfErr result (Tells (FieldFault within (view field.now))) }
+{
+    let object = required(alloc, field, Member::DataType)?;
+    let read = match read_type(alloc, object) {
+        Ok(read) => read,
+        Err(fault) => return Err(fault.under(alloc, Step::Member(Member::DataType))),
+    };
+    if read.is_some() && !is_childless(field) {
+        return Err(unlike(alloc, Member::Children));
+    }
+    Ok(read)
+}
+
+/// The item of an array of exactly one.
+#[tactic(auto, using(crate::proofs::JsonFaults::only_items))]
+fn only_item(value: &Value) -> Option<&Value>
+    ensures { option_map (λ v. view v.now) result ≡ only_item (view value.now) }
+{
+    let items = value.as_array()?;
+    if items.len() == 1 {
+        Some(&items[0])
+    } else {
+        None
+    }
+}
+
+/// The one child of a list's field.
+#[tactic(auto, using(crate::proofs::JsonFaults::field_told))]
+fn list_child<'v>(alloc: Global, within: u32, field: &'v Value) -> Result<&'v Value, JsonFault>
+    requires object { IsObject (view field.now) }
+    requires few { within ≤ 8 }
+    requires list { named_type (view field.now) ≡ Some (codes "list") }
+    ensures few { OnOk result (within < 8) }
+    ensures child { IfOk result (λ child. only_child (view field.now) ≡ Some (view child.now)) }
+    ensures err { IfErr result (Tells (FieldFault within (view field.now))) }
+{
+    if within == MOST_LISTS {
+        return Err(JsonFault::at(alloc, JsonFaultKind::UnsupportedType, &[]));
+    }
+    match only_item(required(alloc, field, Member::Children)?) {
+        Some(child) => Ok(child),
+        None => Err(unlike(alloc, Member::Children)),
+    }
+}
+
+/// A field without its children: its type is none where it is a list.
+#[derive(Drop)]
+struct Bare {
+    name: String,
+    nullable: bool,
+    ty: Option<DataType>,
+}
+
+/// What a field's object says within so many lists, its children apart.
+#[tactic(auto, using(crate::proofs::JsonFaults::field_told))]
+fn read_bare(alloc: Global, within: u32, field: &Value) -> Result<Bare, JsonFault>
+    ensures object { OnOk result (IsObject (view field.now)) }
+    ensures ok { IfOk result (IsBare (view field.now)) }
+    ensures err { IfErr result (Tells (FieldFault within (view field.now))) }
 {
     check_object(alloc, field)?;
     let name = text_member(alloc, field, Member::Name)?;
     let nullable = truth_member(alloc, field, Member::Nullable)?;
-    let ty = field_type(alloc, field)?;
-    check_dictionary(alloc, field)?;
-    if !is_childless(field) {
-        return Err(JsonFault::at(
-            alloc,
-            JsonFaultKind::WrongMember,
-            &[Step::Member(Member::Children)],
-        ));
-    }
+    let ty = field_type(alloc, within, field)?;
+    check_dictionary(alloc, within, field)?;
     let name = String::from_str(alloc, name).map_err(|_| JsonFault::no_memory(alloc))?;
-    Ok(Field { name, nullable, ty })
+    Ok(Bare { name, nullable, ty })
+}
+
+/// The type of lists of the item's field.
+fn list_of(alloc: Global, item: Field) -> Result<DataType, JsonFault>
+    ensures ok { IfOk result (λ t. shape_of t ≡ shape.list (field_of item)) }
+    ensures err { IfErr result (λ f. f ≡ no_memory) }
+{
+    match Box::new(alloc, item) {
+        Ok(item) => Ok(DataType::List(item)),
+        Err(_) => Err(JsonFault::no_memory(alloc)),
+    }
+}
+
+/// The field of a schema, or of a list's items, within so many lists.
+#[tactic(auto, using(crate::proofs::JsonFaults::field_told))]
+fn read_within(alloc: Global, within: u32, field: &Value) -> Result<Field, JsonFault>
+    requires { within ≤ 8 }
+    ensures object { IfOk result (λ f. IsFieldOf (view field.now) (field_of f)) }
+    ensures shallow { IfOk result (λ f. within + depth (kind_of_field (field_of f)) ≤ 8) }
+    ensures err { IfErr result (Tells (FieldFault within (view field.now))) }
+{
+    let Bare { name, nullable, ty } = read_bare(alloc, within, field)?;
+    if let Some(ty) = ty {
+        return Ok(Field { name, nullable, ty });
+    }
+    let child = list_child(alloc, within, field)?;
+    match read_within(alloc, within + 1, child) {
+        Ok(item) => Ok(Field {
+            name,
+            nullable,
+            ty: list_of(alloc, item)?,
+        }),
+        Err(fault) => {
+            let item = fault.under(alloc, Step::Item(0));
+            Err(item.under(alloc, Step::Member(Member::Children)))
+        }
+    }
+}
+
+/// The field of a schema.
+#[tactic(auto, using(crate::proofs::JsonFaults::field_told))]
+pub(crate) fn read_field(alloc: Global, field: &Value) -> Result<Field, JsonFault>
+    ensures ok { IfOk result (λ f. ReadsField (view field.now) (field_of f)) }
+    ensures err { IfErr result (Tells (FieldFault 0 (view field.now))) }
+{
+    read_within(alloc, 0, field)
 }
 
 /// The fields of a schema.
@@ -121,7 +214,7 @@ pub(crate) fn read_field(alloc: Global, field: &Value) -> Result<Field, JsonFaul
 fn read_fields(alloc: Global, values: &[Value]) -> Result<Vec<Field>, JsonFault>
     ensures ok { IfOk result (λ fields.
         ReadsEach ReadsField (items_view values.now) (fields_of fields.items)) }
-    ensures err { IfErr result (Tells (EachFault FieldFault (items_view values.now))) }
+    ensures err { IfErr result (Tells (EachFault (FieldFault 0) (items_view values.now))) }
 {
     let mut fields = Vec::new(alloc);
     for (index, value) in values.iter().enumerate() {

@@ -1,5 +1,6 @@
 //! Files of JSON: what is told of those that can't be read.
 
+mod lists;
 mod values;
 
 use arrow_json::{fault_text, read_file};

@@ -118,7 +118,7 @@ const VALUES: [(&str, &str, &str); 15] = [
     (
         "list",
         r#""DATA":[]"#,
-        "J4 UnsupportedType at /schema/fields/0/type",
+        "J2 MissingMember at /schema/fields/0/children",
     ),
 ];
 
@@ -225,12 +225,13 @@ fn reads_the_values(rt: HostRuntime) -> Result<(), Fail> {
 }
 
 /// Each kind of fault, and how it is told.
-const KINDS: [(JsonFaultKind, &str); 20] = [
+const KINDS: [(JsonFaultKind, &str); 21] = [
     (JsonFaultKind::NotJson, "J1 NotJson"),
     (JsonFaultKind::MissingMember, "J2 MissingMember"),
     (JsonFaultKind::WrongMember, "J3 WrongMember"),
     (JsonFaultKind::UnsupportedType, "J4 UnsupportedType"),
     (JsonFaultKind::BadNumber, "J5 BadNumber"),
+    (JsonFaultKind::BadOffset, "J6 BadOffset"),
     (JsonFaultKind::CountDiffers, "J7 CountDiffers"),
     (
         JsonFaultKind::Layout(LayoutFault::MissingBuffer),
