@@ -1,13 +1,12 @@
 -- What a column of lists is, and why its faults stand.
-use Rattle.std.proofs.Common.{◌≡◌, ◌⊎◌, inl, inr, ◌∙◌, ℕ, zero, suc, ◌+◌, ◌<◌, ℤ, Bool, true, false, cond, List, [], ◌∷◌, ◌++◌, length, get_or, map, Option, Some, None, option_map, option_and_then, IfSome, refl, sym, ap, subst, arith}
-use Rattle.std.specs.List.{slice_get, range_with_len}
+use Rattle.std.proofs.Common.{◌≡◌, ◌⊎◌, inl, inr, ◌∙◌, ℕ, ◌<◌, ℤ, Bool, true, false, cond, List, [], ◌∷◌, ◌++◌, length, get_or, map, Option, Some, None, option_and_then, IfSome, refl, sym, ap, subst, arith}
+use Rattle.std.specs.List.{range_with_len}
 use Rattle.std.proofs.lemmas.Grind.{flat_map-append}
 use Rattle.std.proofs.lemmas.List.FromFn.{fill_by_all, get_or-map-range_with_len, length-map-range_with_len}
 use Rattle.std.proofs.lemmas.List.{append-nil}
-use Rattle.std.proofs.lemmas.Option.{slice_get-get_or, get_or_from_slice_get}
+use Rattle.std.proofs.lemmas.Option.{slice_get-get_or}
 use Rattle.layout.specs.declared.fault.LayoutFault.{LayoutFault}
 use Rattle.layout.specs.declared.fault.LayoutFault.TheVariants as layout
-use Rattle.layout.proofs.SeenLemmas.{seen-kind}
 use Rattle.types.specs.declared.data_type.Field.{Field, out-Field}
 use Rattle.types.proofs.ShapeLemmas.{kind_of_field-field_of}
 use Rattle.arrays.specs.Fault.{own_fault, is_validity_short}
@@ -28,7 +27,7 @@ use Rattle.types.specs.First.{first}
 use Rattle.arrays.proofs.ListArrays.{show_read_lists}
 use Rattle.arrays.proofs.ValidityLemmas.{IsKept, kept_buffer}
 use Rattle.serde_json.specs.Data.{Data, Items, no_items, item}
-use Rattle.serde_json.specs.Find.{get_item, as_array, as_object}
+use Rattle.serde_json.specs.Find.{as_array, as_object}
 use Rattle.serde_json.specs.View.{view, items_view}
 use Rattle.serde_json.specs.declared.value.Value.{Value}
 use Rattle.serde_json.proofs.Views.{items_len-items_view}
@@ -43,16 +42,14 @@ use Rattle.arrow_json.specs.JsonFault.{Tells, IsFault, IsUnder, no_memory}
 use Rattle.arrow_json.specs.JsonMember as at
 use Rattle.arrow_json.specs.JsonMember.{member_of, Unlike, unlike, MemberFault, ListFault, EachFault, ReadsEach}
 use Rattle.arrow_json.specs.JsonNumber.{integer_of, count_of, flag_of}
-use Rattle.arrow_json.specs.JsonColumn.{flags_of, HasFlags, valid_at}
+use Rattle.arrow_json.specs.JsonColumn.{flags_of, valid_at}
 use Rattle.arrow_json.specs.JsonColumnFault.{CountFault, FlagsFault}
-use Rattle.arrow_json.specs.JsonList.{Spells, offset_bytes, are_enough, lists_fault, list_slot, ReadsLists, HasLists, ReadsList}
+use Rattle.arrow_json.specs.JsonList.{offset_bytes, are_enough, lists_fault, list_slot, ReadsLists, HasLists}
 use Rattle.arrow_json.specs.JsonListFault.{OffsetsFault, no_offsets, not_enough, NoLists, no_list_object, bad_list_count, bad_list_flags, bad_offsets, bad_children, NoOffset, no_offset, NoFlags, no_flag_at, ChildFault, no_child_object, bad_child_count, bad_child_column, NotLawful, not_lawful, ListsFault, no_lists, no_flags_of_lists, bad_offset, bad_child, bad_lists}
 use Rattle.arrow_json.specs.ListParts.{list_flags, list_offsets, list_child}
 use Rattle.arrow_json.specs.ListBuffers.{IsFlag, HoldsFlags, HoldsOffsets}
 use Rattle.arrow_json.specs.JsonBatch.{ReadsColumn, HoldsColumn}
-use Rattle.arrow_json.specs.JsonBatchFault.{KindFault}
 use Rattle.arrow_json.proofs.JsonFaults.{tells_at, tells_as, tells_under, tells_wants}
-use Rattle.arrow_json.proofs.JsonItems.{get_item_at}
 use Rattle.arrow_json.proofs.JsonSchemas.{get_item_some}
 use Rattle.arrow_json.proofs.JsonColumnFaults.{has_flags, at_index}
 

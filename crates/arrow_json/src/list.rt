@@ -119,11 +119,7 @@ fn read_flags(alloc: Global, flags: &[Value]) -> Result<ValidityBuilder, JsonFau
 
 /// The validity of `count` lists by their flags.
 #[tactic(auto, using(crate::proofs::JsonLists::validity_told))]
-fn read_validity(
-    alloc: Global,
-    parts: &ListParts,
-    count: u32,
-) -> Result<Option<Buffer>, JsonFault>
+fn read_validity(alloc: Global, parts: &ListParts, count: u32) -> Result<Option<Buffer>, JsonFault>
     requires short { count < 2 ^ 31 }
     requires whole { IfSome parts.now.flags (λ fs. length fs.now ≡ count) }
     ensures ok { IfOk result (HoldsFlags (list_flags parts.now) count) }

@@ -1,5 +1,4 @@
 use Rattle.std.proofs.Common.{◌≡◌, ◌∙◌, ap, sym}
-use Rattle.types.specs.declared.data_type.Field.{Field}
 use Rattle.arrays.specs.FromParts.{list_parts}
 use Rattle.arrays.specs.Kind.{kind_of}
 use Rattle.arrow_json.proofs.JsonLists.{kind_copied, lists_fault-is, tells_tried}

@@ -1,4 +1,3 @@
-use Rattle.std.proofs.Common.{IfSome}
 use Rattle.arrow_json.proofs.JsonLists.{flags_hold}
 use Rattle.arrow_json.proofs.JsonResults.{value_kept}
 use Rattle.arrow_json.proofs.list.read_validity.Goals as goal
