@@ -1,4 +1,5 @@
-//! The kernels of `bench_kernels` as plain Rust loops with the same checks: `kernels KERNEL ROWS TIMES`.
+//! The kernels of `bench_kernels` in plain Rust with the same checks, as Arrow's libraries write them: validities by words
+//! of 64 bits, values without a branch a slot. `kernels KERNEL ROWS TIMES`.
 
 use indexmap::IndexSet;
 use std::env::args;
@@ -8,34 +9,52 @@ fn spread(place: u32) -> u32 {
     place.wrapping_mul(2_654_435_761)
 }
 
-struct Bitmap(Vec<u8>);
+/// Bits in words of 64, the first of them least significant; those past the last row are 0.
+struct Bitmap(Vec<u64>);
 
 impl Bitmap {
     fn new(rows: usize, bit: impl Fn(usize) -> bool) -> Bitmap {
-        let mut bytes = vec![0; rows.div_ceil(8)];
-        for i in 0..rows {
-            bytes[i / 8] |= u8::from(bit(i)) << (i % 8);
-        }
-        Bitmap(bytes)
+        let word = |first: usize| (first..rows.min(first + 64)).fold(0, |word, i| word | u64::from(bit(i)) << (i - first));
+        Bitmap((0..rows).step_by(64).map(word).collect())
     }
 
     fn get(&self, i: usize) -> bool {
-        self.0[i / 8] >> (i % 8) & 1 == 1
+        self.0[i / 64] >> (i % 64) & 1 == 1
     }
 
-    fn set(&mut self, i: usize, bit: bool) {
-        self.0[i / 8] |= u8::from(bit) << (i % 8);
-    }
-
-    fn push(&mut self, i: usize, bit: bool) {
-        if i % 8 == 0 {
-            self.0.push(0);
-        }
-        self.set(i, bit);
+    /// The words of what is made of each two.
+    fn with(&self, other: &Bitmap, both: impl Fn(u64, u64) -> u64) -> Bitmap {
+        Bitmap(self.0.iter().zip(&other.0).map(|(a, b)| both(*a, *b)).collect())
     }
 
     fn zeros(&self, rows: usize) -> usize {
-        (0..rows).filter(|i| !self.get(*i)).count()
+        rows - ones(self.0.iter().copied())
+    }
+}
+
+/// Bits that come word by word, of which so many are used of each.
+struct Bits {
+    words: Vec<u64>,
+    len: usize,
+}
+
+impl Bits {
+    fn with_capacity(len: usize) -> Bits {
+        Bits { words: Vec::with_capacity(len.div_ceil(64) + 1), len: 0 }
+    }
+
+    /// The first bits of the word, behind those that are there. The bits behind them are 0.
+    fn push(&mut self, word: u64, bits: usize) {
+        let used = self.len % 64;
+        if used == 0 {
+            self.words.push(word);
+        } else {
+            *self.words.last_mut().expect("a word in use") |= word << used;
+            if used + bits > 64 {
+                self.words.push(word >> (64 - used));
+            }
+        }
+        self.len += bits;
     }
 }
 
@@ -86,8 +105,8 @@ fn places(count: usize) -> Vec<u32> {
 }
 
 fn truths(rows: usize, salt: u32) -> Truths {
-    let bytes = (0..rows as u32 / 8 + 1).map(|k| (spread(k.wrapping_add(salt)) >> 24) as u8).collect();
-    Truths { validity: validity(rows, salt), values: Bitmap(bytes) }
+    let byte = |i: usize| (spread((i as u32 / 8).wrapping_add(salt)) >> 24) as u8;
+    Truths { validity: validity(rows, salt), values: Bitmap::new(rows, |i| byte(i) >> (i % 8) & 1 == 1) }
 }
 
 /// The digits of a number for each row.
@@ -111,96 +130,99 @@ fn repeated_texts(rows: usize, salt: u32, distinct: u32) -> Texts {
 
 /// The sums, or the least row whose sum overflows.
 fn add(a: &Numbers, b: &Numbers) -> Result<Numbers, usize> {
-    let rows = a.values.len();
-    let mut validity = Bitmap(vec![0; rows.div_ceil(8)]);
-    let mut values = Vec::with_capacity(rows);
-    for i in 0..rows {
-        if a.validity.get(i) && b.validity.get(i) {
-            values.push(a.values[i].checked_add(b.values[i]).ok_or(i)?);
-            validity.set(i, true);
-        } else {
-            values.push(0);
+    let validity = a.validity.with(&b.validity, |a, b| a & b);
+    let mut values = Vec::with_capacity(a.values.len());
+    for (k, (a, b)) in a.values.chunks(64).zip(b.values.chunks(64)).enumerate() {
+        let mut past = 0;
+        for (a, b) in a.iter().zip(b) {
+            let sum = a.wrapping_add(*b);
+            past |= (a ^ sum) & (b ^ sum);
+            values.push(sum);
+        }
+        if past < 0 {
+            let overflows = |i: &usize| validity.get(64 * k + i) && a[*i].checked_add(b[*i]).is_none();
+            if let Some(i) = (0..a.len()).find(overflows) {
+                return Err(64 * k + i);
+            }
         }
     }
     Ok(Numbers { validity, values })
 }
 
 fn less(a: &Numbers, b: &Numbers) -> Truths {
-    let rows = a.values.len();
-    let mut validity = Bitmap(vec![0; rows.div_ceil(8)]);
-    let mut values = Bitmap(vec![0; rows.div_ceil(8)]);
-    for i in 0..rows {
-        validity.set(i, a.validity.get(i) && b.validity.get(i));
-        values.set(i, a.values[i] < b.values[i]);
-    }
-    Truths { validity, values }
+    let word = |(a, b): (&[i64], &[i64])| a.iter().zip(b).enumerate().fold(0, |word, (i, (a, b))| word | u64::from(a < b) << i);
+    let values = Bitmap(a.values.chunks(64).zip(b.values.chunks(64)).map(word).collect());
+    Truths { validity: a.validity.with(&b.validity, |a, b| a & b), values }
 }
 
 fn equal(a: &Texts, b: &Texts) -> Truths {
     let rows = a.offsets.len() - 1;
-    let mut validity = Bitmap(vec![0; rows.div_ceil(8)]);
-    let mut values = Bitmap(vec![0; rows.div_ceil(8)]);
-    for i in 0..rows {
-        if a.validity.get(i) && b.validity.get(i) {
-            validity.set(i, true);
-            values.set(i, a.get(i) == b.get(i));
-        }
-    }
-    Truths { validity, values }
+    let values = Bitmap::new(rows, |i| a.get(i) == b.get(i));
+    Truths { validity: a.validity.with(&b.validity, |a, b| a & b), values }
 }
 
-fn and(a: &Truths, b: &Truths, rows: usize) -> Truths {
-    let mut validity = Bitmap(vec![0; rows.div_ceil(8)]);
-    let mut values = Bitmap(vec![0; rows.div_ceil(8)]);
-    for i in 0..rows {
-        let (known_a, known_b) = (a.validity.get(i), b.validity.get(i));
-        let (true_a, true_b) = (a.values.get(i), b.values.get(i));
+fn and(a: &Truths, b: &Truths) -> Truths {
+    let (mut validity, mut values) = (Vec::with_capacity(a.values.0.len()), Vec::with_capacity(a.values.0.len()));
+    let sides = a.validity.0.iter().zip(&a.values.0).zip(b.validity.0.iter().zip(&b.values.0));
+    for ((known_a, true_a), (known_b, true_b)) in sides {
         let both = known_a & true_a & known_b & true_b;
-        validity.set(i, both | (known_a & !true_a) | (known_b & !true_b));
-        values.set(i, both);
+        validity.push(both | (known_a & !true_a) | (known_b & !true_b));
+        values.push(both);
     }
-    Truths { validity, values }
+    Truths { validity: Bitmap(validity), values: Bitmap(values) }
 }
 
 /// The numbers where the mask is true.
 fn filter(a: &Numbers, mask: &Truths) -> Numbers {
-    let mut validity = Bitmap(Vec::new());
-    let mut values = Vec::new();
-    for i in 0..a.values.len() {
-        if mask.validity.get(i) && mask.values.get(i) {
-            validity.push(values.len(), a.validity.get(i));
-            values.push(a.values[i]);
+    let mask = mask.validity.with(&mask.values, |known, value| known & value);
+    let count = ones(mask.0.iter().copied());
+    let mut validity = Bits::with_capacity(count);
+    let mut values = Vec::with_capacity(count);
+    for (k, word) in mask.0.iter().enumerate() {
+        let numbers = &a.values[64 * k..];
+        if *word == u64::MAX {
+            values.extend_from_slice(&numbers[..64]);
+            validity.push(a.validity.0[k], 64);
+            continue;
+        }
+        let (mut left, mut valid, mut kept) = (*word, 0, 0);
+        while left > 0 {
+            let i = left.trailing_zeros() as usize;
+            values.push(numbers[i]);
+            valid |= (a.validity.0[k] >> i & 1) << kept;
+            kept += 1;
+            left &= left - 1;
+        }
+        if kept > 0 {
+            validity.push(valid, kept);
         }
     }
-    Numbers { validity, values }
+    Numbers { validity: Bitmap(validity.words), values }
 }
 
 /// The numbers at the rows, or the least place of a row that isn't there.
 fn take(a: &ShortNumbers, rows: &[u32]) -> Result<ShortNumbers, usize> {
-    let mut validity = Bitmap(vec![0; rows.len().div_ceil(8)]);
-    let mut values = Vec::with_capacity(rows.len());
-    for (j, row) in rows.iter().enumerate() {
-        values.push(*a.values.get(*row as usize).ok_or(j)?);
-        validity.set(j, a.validity.get(*row as usize));
+    if let Some(j) = rows.iter().position(|row| *row as usize >= a.values.len()) {
+        return Err(j);
     }
+    let values = rows.iter().map(|row| a.values[*row as usize]).collect();
+    let validity = Bitmap::new(rows.len(), |j| a.validity.get(rows[j] as usize));
     Ok(ShortNumbers { validity, values })
 }
 
 /// The texts at the rows, or the least place of a row that isn't there.
 fn take_texts(a: &Texts, rows: &[u32]) -> Result<Texts, usize> {
     let count = a.offsets.len() - 1;
-    let mut validity = Bitmap(vec![0; rows.len().div_ceil(8)]);
+    if let Some(j) = rows.iter().position(|row| *row as usize >= count) {
+        return Err(j);
+    }
+    let validity = Bitmap::new(rows.len(), |j| a.validity.get(rows[j] as usize));
     let mut offsets = Vec::with_capacity(rows.len() + 1);
     let mut bytes = String::new();
     offsets.push(0);
     for (j, row) in rows.iter().enumerate() {
-        let row = *row as usize;
-        if row >= count {
-            return Err(j);
-        }
-        if a.validity.get(row) {
-            bytes += a.get(row);
-            validity.set(j, true);
+        if validity.get(j) {
+            bytes += a.get(*row as usize);
         }
         offsets.push(bytes.len().try_into().map_err(|_| j)?);
     }
@@ -210,15 +232,15 @@ fn take_texts(a: &Texts, rows: &[u32]) -> Result<Texts, usize> {
 /// The columns behind one another.
 fn concat(pieces: &[Numbers]) -> Numbers {
     let rows: usize = pieces.iter().map(|piece| piece.values.len()).sum();
-    let mut validity = Bitmap(vec![0; rows.div_ceil(8)]);
+    let mut validity = Bits::with_capacity(rows);
     let mut values = Vec::with_capacity(rows);
     for piece in pieces {
-        for i in 0..piece.values.len() {
-            validity.set(values.len() + i, piece.validity.get(i));
+        for (k, word) in piece.validity.0.iter().enumerate() {
+            validity.push(*word, (piece.values.len() - 64 * k).min(64));
         }
         values.extend_from_slice(&piece.values);
     }
-    Numbers { validity, values }
+    Numbers { validity: Bitmap(validity.words), values }
 }
 
 /// The places of the texts in a pool of their own, or the row whose text the pool can't have.
@@ -226,48 +248,49 @@ fn recode(a: &Texts) -> Result<ShortNumbers, usize> {
     let rows = a.offsets.len() - 1;
     let mut pool = IndexSet::new();
     let mut bytes = 0;
-    let mut validity = Bitmap(vec![0; rows.div_ceil(8)]);
     let mut values = Vec::with_capacity(rows);
     for i in 0..rows {
-        if a.validity.get(i) {
-            let text = a.get(i);
-            let code = match pool.get_index_of(text) {
-                Some(code) => code,
-                None => {
-                    bytes += text.len();
-                    if bytes > i32::MAX as usize {
-                        return Err(i);
-                    }
-                    pool.insert_full(text.to_string()).0
-                }
-            };
-            values.push(code.try_into().map_err(|_| i)?);
-            validity.set(i, true);
-        } else {
+        if !a.validity.get(i) {
             values.push(0);
+            continue;
         }
+        let text = a.get(i);
+        let code = match pool.get_index_of(text) {
+            Some(code) => code,
+            None => {
+                bytes += text.len();
+                if bytes > i32::MAX as usize {
+                    return Err(i);
+                }
+                pool.insert_full(text.to_string()).0
+            }
+        };
+        values.push(code.try_into().map_err(|_| i)?);
     }
-    Ok(ShortNumbers { validity, values })
+    Ok(ShortNumbers { validity: Bitmap(a.validity.0.clone()), values })
 }
 
 struct Stats {
     nulls: usize,
     sum: i128,
-    ends: Option<(i64, i64)>,
+    least: i64,
+    greatest: i64,
 }
 
 fn stats(a: &Numbers) -> Stats {
-    let mut stats = Stats { nulls: 0, sum: 0, ends: None };
-    for (i, number) in a.values.iter().enumerate() {
-        if a.validity.get(i) {
-            stats.sum += i128::from(*number);
-            stats.ends = match stats.ends {
-                Some((least, greatest)) => Some((least.min(*number), greatest.max(*number))),
-                None => Some((*number, *number)),
-            };
-        } else {
-            stats.nulls += 1;
+    let mut stats = Stats { nulls: a.validity.zeros(a.values.len()), sum: 0, least: i64::MAX, greatest: i64::MIN };
+    for (numbers, valid) in a.values.chunks(64).zip(&a.validity.0) {
+        // the halves of 64 numbers add up without an overflow
+        let (mut low, mut high) = (0, 0);
+        for (i, number) in numbers.iter().enumerate() {
+            let is_valid = valid >> i & 1 == 1;
+            let added = if is_valid { *number } else { 0 };
+            low += added & 0xFFFF_FFFF;
+            high += added >> 32;
+            stats.least = stats.least.min(if is_valid { *number } else { i64::MAX });
+            stats.greatest = stats.greatest.max(if is_valid { *number } else { i64::MIN });
         }
+        stats.sum += (i128::from(high) << 32) + i128::from(low);
     }
     stats
 }
@@ -379,12 +402,11 @@ fn main() {
         "stats-of" => {
             let a = numbers(rows, 3);
             let stats = last_of(times, || stats(black_box(&a)));
-            let (least, greatest) = stats.ends.unwrap_or((0, 0));
-            println!("{} {} {least} {greatest}", stats.nulls, stats.sum);
+            println!("{} {} {} {}", stats.nulls, stats.sum, stats.least, stats.greatest);
             return;
         }
         "null-count" => {
-            let mut bytes = validity(rows, 3).0;
+            let mut bytes: Vec<u8> = validity(rows, 3).0.iter().flat_map(|word| word.to_le_bytes()).collect();
             bytes.resize(rows / 8 + 9, 0);
             let bits = Packed { bytes, start: 0, len: rows };
             last_of(times, || null_count(black_box(&bits)))
@@ -401,7 +423,7 @@ fn main() {
         }
         _ => {
             let (a, b) = (truths(rows, 3), truths(rows, 8));
-            last_of(times, || and(black_box(&a), black_box(&b), rows)).validity.zeros(rows)
+            last_of(times, || and(black_box(&a), black_box(&b))).validity.zeros(rows)
         }
     };
     println!("{nulls}");
