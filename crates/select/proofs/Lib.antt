@@ -9,3 +9,4 @@ pub mod JoinedCodes
 pub mod StoredLemmas
 pub mod WordLemmas
 pub mod JoinedNumbers
+pub mod NamedLemmas

@@ -4,8 +4,10 @@
 pub mod fault;
 pub mod filtering;
 mod gather;
+mod indices;
 mod joining;
 mod picks;
+mod rows;
 pub mod taking;
 
 pub use fault::SelectFault;
