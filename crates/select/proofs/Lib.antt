@@ -10,3 +10,4 @@ pub mod SizeLemmas
 pub mod StoredLemmas
 pub mod WordLemmas
 pub mod JoinedNumbers
+pub mod NamedLemmas

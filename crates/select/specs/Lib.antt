@@ -7,3 +7,4 @@ pub mod Ranges
 pub mod Stored
 pub mod Joined
 pub mod Children
+pub mod Named

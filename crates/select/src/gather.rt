@@ -19,7 +19,7 @@ use crate::fault::SelectFault;
 use crate::picks::Picks;
 use arrays::{Array, View, ViewType};
 pub(crate) use lists::spread_out;
-pub(crate) use numbers::Numbers;
+pub(crate) use numbers::{Numbers, gather_numbers};
 use std::alloc::Global;
 
 /// The array of the picked rows. Of a dictionary-encoded view it shares the dictionary.
@@ -30,7 +30,7 @@ pub(crate) fn gather(alloc: Global, view: &View<'_>, picks: &Picks) -> Result<Ar
     ensures err { IfErr result (IsFull (is_too_big view.now.kind (picked view.now.items picks.now))) }
 {
     match view.ty() {
-        ViewType::Int(ty) => Ok(numbers::of_type(alloc, ty, view, picks)?),
+        ViewType::Int(ty) => Ok(gather_numbers(alloc, ty, view, picks)?),
         ViewType::Bool => Ok(bools::gather(alloc, view, picks)?),
         ViewType::Utf8 => texts::gather(alloc, view, picks),
         ViewType::List(item) => {
@@ -40,7 +40,7 @@ pub(crate) fn gather(alloc: Global, view: &View<'_>, picks: &Picks) -> Result<Ar
             Ok(spread.lengths.finish(item.copy(alloc)?, child)?)
         }
         ViewType::Dict => {
-            let codes = numbers::gather::<i32>(alloc, &view.codes(), picks)?;
+            let codes = numbers::gather::<i32, Picks>(alloc, &view.codes(), picks)?;
             Ok(Array::dict(codes, view.dictionary().clone()?))
         }
     }

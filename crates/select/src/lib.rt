@@ -5,8 +5,10 @@ pub mod copying;
 pub mod fault;
 pub mod filtering;
 mod gather;
+mod indices;
 mod joining;
 mod picks;
+mod rows;
 pub mod taking;
 
 pub use copying::copy;

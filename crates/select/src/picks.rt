@@ -5,7 +5,7 @@ ghost use Rattle.std.specs.List.{range_with_len};
 ghost use Rattle.colbits.specs.Bit.{bit_in};
 ghost use Rattle.arrays.specs.Lengths.{is_past};
 ghost use Rattle.select.specs.Fault.{IsFull};
-ghost use Rattle.select.specs.Picked.{is_row, rows_in};
+ghost use Rattle.select.specs.Picked.{rows_in};
 
 use crate::fault::SelectFault;
 use colbits::NoMemory;
@@ -62,18 +62,6 @@ impl Picks {
         ensures short { result ≤ 2147483647 }
     {
         self.rows.len()
-    }
-
-    /// Whether there is a row for each slot.
-    pub(crate) fn are_rows(&self) -> bool
-        ensures { IsTrue result → (j : ℕ) → j < length self.now → is_row (slice_index_or self.now j None) ≡ true }
-    {
-        for j in 0..self.len() {
-            if self.get(j).is_none() {
-                return false;
-            }
-        }
-        true
     }
 
     /// The row of slot `j`, or none.

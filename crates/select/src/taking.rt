@@ -13,7 +13,8 @@ ghost use Rattle.select.specs.Picked.{IsPick, picked, picked_at};
 ghost use Rattle.select.specs.Selection.{indices_fault, outside, take_fault, taken};
 
 use crate::fault::SelectFault;
-use crate::gather::{Numbers, gather};
+use crate::gather::{Numbers, gather, gather_numbers};
+use crate::indices::Indices;
 use crate::picks::Picks;
 use arrays::{Array, IntType, Integer, View, ViewType, Width};
 use std::alloc::Global;
@@ -31,8 +32,34 @@ pub fn take(alloc: Global, view: &View<'_>, indices: &View<'_>) -> Result<Array,
     let ViewType::Int(ty) = indices.ty() else {
         return Err(SelectFault::WrongKind);
     };
+    if let (ViewType::Int(numbers), None) = (view.ty(), indices.validity()) {
+        match (ty.bits, ty.signed) {
+            (Width::W32, true) => return take_numbers::<i32>(alloc, numbers, view, indices),
+            (Width::W32, false) => return take_numbers::<u32>(alloc, numbers, view, indices),
+            _ => {}
+        }
+    }
     let picks = picks_of(alloc, ty, indices, view.slots() as usize)?;
     gather(alloc, view, &picks)
+}
+
+/// The numbers at the indices, which are of type `T` and have no null: they are read where they lie.
+fn take_numbers<T: Integer>(
+    alloc: Global,
+    ty: IntType,
+    view: &View<'_>,
+    indices: &View<'_>,
+) -> Result<Array, SelectFault>
+    requires kind { view.now.kind ≡ kind.int ty }
+    requires indices { indices.now.kind ≡ kind.int T.ty }
+    requires valid { indices.now.validity ≡ None }
+    ensures ok { IfOk result (λ r. (take_fault view.now indices.now ≡ None)
+        × (r ≡ chosen view.now.kind (λ items. taken items indices.now.items) view.now)) }
+    ensures err { IfErr result (IsSelectFault (indices_fault indices.now) (take_fault view.now indices.now)
+        (is_too_big view.now.kind (taken view.now.items indices.now.items))) }
+{
+    let rows = Indices::<T>::of(indices, view.slots() as usize)?;
+    Ok(gather_numbers(alloc, ty, view, &rows)?)
 }
 
 /// The rows that indices of an integer type name, each of `len` rows.

@@ -12,7 +12,7 @@ ghost use Rattle.select.specs.Picked.{IsPick, picked};
 ghost use Rattle.select.specs.Stored.{AreStored, stored};
 
 use super::valid::picked_validity;
-use crate::picks::Picks;
+use crate::rows::Rows;
 use arrays::validity::{buffer_of, is_valid};
 use arrays::{Array, IntType, Integer, View, Width};
 use colbits::{Bits, Buffer, NoMemory};
@@ -20,66 +20,60 @@ use std::alloc::Global;
 use std::marker::PhantomData;
 
 /// The picked rows of a view of integers.
-pub(super) fn of_type(
+pub(crate) fn gather_numbers<R: Rows>(
     alloc: Global,
     ty: IntType,
     view: &View<'_>,
-    picks: &Picks,
+    rows: &R,
 ) -> Result<Array, NoMemory>
     requires kind { view.now.kind ≡ kind.int ty }
-    requires within { All (IsPick (length view.now.items)) picks.now }
-    ensures { IfOk result (λ r. r ≡ shown (kind.int ty) (picked view.now.items picks.now)) }
+    requires within { All (IsPick (length view.now.items)) (R.picks rows.now) }
+    ensures { IfOk result (λ r. r ≡ shown (kind.int ty) (picked view.now.items (R.picks rows.now))) }
 {
     match (ty.bits, ty.signed) {
-        (Width::W8, true) => gather::<i8>(alloc, view, picks),
-        (Width::W8, false) => gather::<u8>(alloc, view, picks),
-        (Width::W16, true) => gather::<i16>(alloc, view, picks),
-        (Width::W16, false) => gather::<u16>(alloc, view, picks),
-        (Width::W32, true) => gather::<i32>(alloc, view, picks),
-        (Width::W32, false) => gather::<u32>(alloc, view, picks),
-        (Width::W64, true) => gather::<i64>(alloc, view, picks),
-        (Width::W64, false) => gather::<u64>(alloc, view, picks),
+        (Width::W8, true) => gather::<i8, R>(alloc, view, rows),
+        (Width::W8, false) => gather::<u8, R>(alloc, view, rows),
+        (Width::W16, true) => gather::<i16, R>(alloc, view, rows),
+        (Width::W16, false) => gather::<u16, R>(alloc, view, rows),
+        (Width::W32, true) => gather::<i32, R>(alloc, view, rows),
+        (Width::W32, false) => gather::<u32, R>(alloc, view, rows),
+        (Width::W64, true) => gather::<i64, R>(alloc, view, rows),
+        (Width::W64, false) => gather::<u64, R>(alloc, view, rows),
     }
 }
 
 /// The picked rows of a view of integers of type `T`.
-pub(super) fn gather<T: Integer>(
+pub(super) fn gather<T: Integer, R: Rows>(
     alloc: Global,
     view: &View<'_>,
-    picks: &Picks,
+    rows: &R,
 ) -> Result<Array, NoMemory>
     requires kind { view.now.kind ≡ kind.int T.ty }
-    requires within { All (IsPick (length view.now.items)) picks.now }
-    ensures { IfOk result (λ r. r ≡ shown (kind.int T.ty) (picked view.now.items picks.now)) }
+    requires within { All (IsPick (length view.now.items)) (R.picks rows.now) }
+    ensures { IfOk result (λ r. r ≡ shown (kind.int T.ty) (picked view.now.items (R.picks rows.now))) }
 {
     let numbers = Numbers::<T>::of(view);
-    let validity = picked_validity(alloc, &numbers.validity, picks)?;
-    let values = Buffer::from_vec(picked_numbers(alloc, &numbers, picks)?)?;
-    Array::from_numbers(
-        alloc,
-        T::ty(),
-        picks.len() as u32,
-        buffer_of(validity),
-        values,
-    )
+    let validity = picked_validity(alloc, &numbers.validity, rows)?;
+    let values = Buffer::from_vec(picked_numbers(alloc, &numbers, rows)?)?;
+    Array::from_numbers(alloc, T::ty(), rows.slots(), buffer_of(validity), values)
 }
 
 /// The numbers that lie in the picked rows, one behind the other: any number where a slot isn't valid or no row is
 /// picked.
-fn picked_numbers<T: Integer>(
+fn picked_numbers<T: Integer, R: Rows>(
     alloc: Global,
     numbers: &Numbers<'_, T>,
-    picks: &Picks,
+    rows: &R,
 ) -> Result<Vec<u8>, NoMemory>
-    requires { All (IsPick numbers.now.slots) picks.now }
-    ensures { IfOk result (λ v. AreStored T.ty numbers.now.values.now picks.now (length picks.now) v.items) }
+    requires { All (IsPick numbers.now.slots) (R.picks rows.now) }
+    ensures { IfOk result (λ v. AreStored T.ty numbers.now.values.now (R.picks rows.now) (length (R.picks rows.now)) v.items) }
 {
-    let count = picks.len();
+    let count = rows.slots() as usize;
 
     // A buffer is padded by at most 63 bytes, so that the numbers aren't copied again.
     let mut values = Vec::with_capacity(alloc, count * T::ty().bits.bytes() + 63)?;
     for j in 0..count {
-        T::push(&mut values, numbers.under(picks.get(j)))?;
+        T::push(&mut values, numbers.under(rows.row(j)))?;
     }
     Ok(values)
 }

@@ -1,6 +1,6 @@
 use Rattle.std.proofs.Common.{◌≡◌, ◌<◌, ℕ, None, true, get_or}
 use Rattle.select.specs.Picked.{is_row}
-use Rattle.select.proofs.picks.Picks.are_rows.Given as goal
+use Rattle.select.proofs.rows.PicksRows.are_rows.Given as goal
 
 -- the slots so far have a row
 abbrev pub invariant-loop-j : goal.invariant-loop-j
