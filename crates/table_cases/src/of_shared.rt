@@ -1,5 +1,6 @@
 //! The table of one thread: what it keeps of the batches that it takes, and which it refuses.
 
+mod export;
 mod refusals;
 mod texts;
 
