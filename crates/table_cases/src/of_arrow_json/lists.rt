@@ -230,7 +230,7 @@ fn reads_lists_in_lists(rt: HostRuntime) -> Result<(), Fail> {
     assert!(rt; matches!(view.ty(), ViewType::List(_)) && view.len() == 3);
     match (view.list_at(0), view.list_at(1), view.list_at(2)) {
         (Some(first), None, Some(last)) => {
-            assert!(rt; last.is_empty());
+            assert!(rt; last.len() == 0);
             assert!(rt; matches!(first.ty(), ViewType::List(_)) && first.len() == 2);
             match (first.list_at(0), first.list_at(1)) {
                 (Some(numbers), None) => assert_numbers(&rt, &numbers, &[Some(3)]),
