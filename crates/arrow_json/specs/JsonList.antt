@@ -57,7 +57,7 @@ pub record HasLists (n : ℕ) (d : Data) (flags : Option Items) (offsets : Items
   pub enough : are_enough n (items_len offsets) ≡ true
   pub children : option_and_then as_array (member_of member.Children d) ≡ Some (item child no_items)
 
--- The column object of n lists over a child of m items, which are read so.
+-- The column object of n lists over the items of a child. The child is a column of m items, as `Reads` says, whichever of them the lists hold.
 pub record ReadsList (Reads : ℕ → Data → List Item → Type 0) (k : Kind) (n : ℕ) (d : Data) (items : List Item) : Type 0 where
   pub flags : Option Items
   pub offsets : Items

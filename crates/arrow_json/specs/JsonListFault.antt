@@ -43,7 +43,7 @@ pub data ChildFault (Wrong : ℕ → Data → JsonFaultKind → List Step → Ty
   bad_child_count : (kind : JsonFaultKind) (path : List Step) → MemberFault member.Count (Unlike count_of) d kind path → ChildFault Wrong d kind path
   bad_child_column : (m : ℕ) (kind : JsonFaultKind) (path : List Step) → option_and_then count_of (member_of member.Count d) ≡ Some m → Wrong m d kind path → ChildFault Wrong d kind path
 
--- The offsets are none of so many lists over a child of so many items.
+-- The layout refuses the offsets of n lists over a child of m items.
 pub data NotLawful (k : Kind) (n : ℕ) (offsets : List ℕ) (m : ℕ) : JsonFaultKind → List Step → Type 0 where
   not_lawful : (fault : LayoutFault) → lists_fault k n offsets m ≡ Some fault → NotLawful k n offsets m (Layout fault) []
 

@@ -26,7 +26,8 @@ pub enum JsonFaultKind {
     BadOffset,
     /// The length of an array, or a column's count, isn't what is stated.
     CountDiffers,
-    /// The column is no lawful array: its texts are too long for 32-bit offsets, or its offsets are none of its child.
+    /// The column is no lawful array: its texts are too long for 32-bit offsets, or the offsets of its lists are below
+    /// 0, fall, or lead past its child.
     Layout(LayoutFault),
     /// A growth was refused. The path is empty.
     NoMemory,
