@@ -88,7 +88,8 @@ fn the_fields_are_those_that_are_stored(rt: HostRuntime) -> Result<(), Fail> {
     };
     assert!(rt; ViewType::of(&fields[0].ty).is_same(ViewType::Int(int8)));
     assert!(rt; ViewType::of(&fields[1].ty).is_same(ViewType::of(&DataType::Dict)));
-    assert!(rt; file.batches().len() == 1);
-    assert_rows(&rt, &file.batches()[0], &[], &[]);
+    let batches = file.batches();
+    assert!(rt; batches.len() == 1);
+    assert_rows(&rt, &batches[0], &[], &[]);
     Ok(())
 }
