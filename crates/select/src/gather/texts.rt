@@ -1,6 +1,6 @@
 //! Picked texts.
 
-ghost use Rattle.std.specs.Prelude.{◌≡◌, IfErr, IfOk, length};
+ghost use Rattle.std.specs.Prelude.{◌≡◌, ◌≤◌, IfErr, IfOk, length};
 ghost use Rattle.std.specs.List.{All};
 ghost use Rattle.std.specs.Option.{option_copied};
 ghost use Rattle.arrays.specs.Kind as kind;
@@ -12,8 +12,12 @@ ghost use Rattle.select.specs.Picked.{IsPick, picked, picked_at};
 
 use crate::fault::SelectFault;
 use crate::picks::Picks;
+use arrays::validity::is_valid;
 use arrays::{Array, TextBuilder, View};
 use std::alloc::Global;
+
+/// The most bytes that texts may have together.
+const MOST: usize = 2147483647;
 
 /// The picked rows of a view of texts without a dictionary.
 pub(super) fn gather(alloc: Global, view: &View<'_>, picks: &Picks) -> Result<Array, SelectFault>
@@ -22,11 +26,30 @@ pub(super) fn gather(alloc: Global, view: &View<'_>, picks: &Picks) -> Result<Ar
     ensures ok { IfOk result (λ r. r ≡ shown kind.utf8 (picked view.now.items picks.now)) }
     ensures err { IfErr result (IsFull (is_past (text_bytes (picked view.now.items picks.now)))) }
 {
-    let mut builder = TextBuilder::with_capacity(alloc, picks.len(), 0)?;
+    let bytes = picked_bytes(view, picks);
+    let mut builder = TextBuilder::with_capacity(alloc, picks.len(), bytes)?;
     for j in 0..picks.len() {
         builder.push(text_at(view, picks.get(j)))?;
     }
     Ok(builder.finish()?)
+}
+
+/// How many bytes the picked texts have together, and no more than offsets can count.
+fn picked_bytes(view: &View<'_>, picks: &Picks) -> usize
+    requires kind { view.now.kind ≡ kind.utf8 }
+    requires within { All (IsPick (length view.now.items)) picks.now }
+    ensures { result ≤ 2147483647 }
+{
+    let texts = view.texts();
+    let validity = view.validity();
+    let mut bytes: usize = 0;
+    for j in 0..picks.len() {
+        match picks.get(j) {
+            Some(i) if is_valid(&validity, i) => bytes = bytes.saturating_add(texts.get(i).len()),
+            _ => {}
+        }
+    }
+    bytes.min(MOST)
 }
 
 /// The text of the picked row, none where there is none.
