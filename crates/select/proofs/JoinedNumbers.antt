@@ -60,12 +60,6 @@ item_is t bytes s j has below = get_or_from_slice_get s.items j _ null (item_slo
 pub TellsNulls-numbers : (t : IntType) (bytes : List ℕ) (s : Seen) → HasNumbers t bytes s → TellsNulls s
 TellsNulls-numbers t bytes s has = λ j below. ap is_null (item_is t bytes s j has below) ∙ null_slot (valid_at s j) (number_at t bytes j)
 
-pub AreNumbersOf-none : (t : IntType) (values : List ℕ) → values ≡ [] → AreNumbersOf t [] values
-AreNumbersOf-none t values none = record {
-  size = omega (arith, ap length none);
-  numbers = λ j below. absurd (omega (arith, below));
-}
-
 more_slots : (n m w a b : ℕ) → a ≡ n * w → b ≡ m * w → a + b ≡ (n + m) * w
 more_slots n m w a b at first = omega arith
 

@@ -1,5 +1,5 @@
 -- The numbers of picked rows, as they lie in a column.
-use Rattle.std.proofs.Common.{◌≡◌, ◌∙◌, ℕ, ◌+◌, ◌*◌, ◌<◌, ◌≤◌, ℤ, pos, FitsSigned, List, ◌++◌, length, map, Bool, true, false, cond, Option, None, Some, IfSome, is_some, ap, sym, refl, arith, subst, get_or, length-append, zero-add}
+use Rattle.std.proofs.Common.{◌≡◌, ◌∙◌, ℕ, ◌+◌, ◌*◌, ◌<◌, ◌≤◌, ℤ, FitsSigned, List, ◌++◌, length, map, Bool, true, false, cond, Option, None, Some, IfSome, is_some, ap, sym, refl, arith, subst, get_or, length-append, zero-add}
 use Rattle.std.specs.Prelude.{All}
 use Rattle.std.specs.List.{range_with_len}
 use Rattle.std.specs.Int.{w128}
@@ -29,20 +29,6 @@ use Rattle.select.specs.Stored.{AreStored, is_stored}
 use Rattle.select.proofs.PickLemmas.{picked-by_place}
 
 -- ---- one number more
-
-zero_of : (w : Width) (signed : Bool) → IsOfType (record { bits = w; signed = signed }) (pos 0)
-zero_of W8 true = omega (arith, ints)
-zero_of W8 false = omega (arith, ints)
-zero_of W16 true = omega (arith, ints)
-zero_of W16 false = omega (arith, ints)
-zero_of W32 true = omega (arith, ints)
-zero_of W32 false = omega (arith, ints)
-zero_of W64 true = omega (arith, ints)
-zero_of W64 false = omega (arith, ints)
-
--- 0 is a number of each type
-pub IsOfType-zero : (t : IntType) → IsOfType t (pos 0)
-IsOfType-zero t = zero_of t.bits t.signed
 
 wide : (w : Width) (signed : Bool) (z : ℤ) → IsOfType (record { bits = w; signed = signed }) z → FitsSigned w128 z
 wide W8 true z h = omega (arith, ints)

@@ -1,6 +1,6 @@
 //! Tests of rows that a mask keeps.
 
-use crate::testing::{NUMBERS, TRUTHS, has_items, is_result_of_codes};
+use crate::testing::{NUMBERS, TRUTHS, has_items, is_result_of_codes, repeated, repeats_numbers};
 use arrays::ViewType;
 use samples::{
     Flat, NAMES, Parts, built, coded, is_result_of_bools, is_result_of_numbers, lists, shows_lists,
@@ -23,6 +23,23 @@ fn filters_from_any_slot(rt: HostRuntime) -> Result<(), Fail> {
     assert_eq!(rt; answer.err(), Some(SelectFault::WrongKind));
     let kept = filter(rt.alloc(), &no_numbers, &no_truths)?;
     assert!(rt; is_result_of_numbers(&kept, &[]));
+    Ok(())
+}
+
+#[test]
+fn filters_more_rows_than_a_word_has(rt: HostRuntime) -> Result<(), Fail> {
+    let numbers = built(rt.alloc(), NUMBERS)?;
+    let truths = built(rt.alloc(), TRUTHS)?;
+    let numbers = repeated(rt.alloc(), &numbers, (3, 5), 60)?;
+    let mask = repeated(rt.alloc(), &truths, (3, 5), 60)?;
+    let kept = filter(rt.alloc(), &numbers.view(), &mask.view())?;
+    assert!(rt; repeats_numbers(&kept.view(), 120, &[Some(4), None]));
+    let kept = filter(
+        rt.alloc(),
+        &slots_of(&numbers, 4, 290),
+        &slots_of(&mask, 4, 290),
+    )?;
+    assert!(rt; repeats_numbers(&kept.view(), 116, &[None, Some(4)]));
     Ok(())
 }
 

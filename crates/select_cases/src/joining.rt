@@ -1,6 +1,6 @@
 //! Tests of views that are joined.
 
-use crate::testing::{NUMBERS, TRUTHS, has_items, is_result_of_codes};
+use crate::testing::{NUMBERS, TRUTHS, has_items, is_result_of_codes, repeated, repeats_numbers};
 use arrays::{Array, DataType, View, ViewType, validate};
 use colbits::Buffer;
 use samples::{
@@ -34,6 +34,25 @@ fn joins_numbers_and_truths_from_any_slot(rt: HostRuntime) -> Result<(), Fail> {
     let joined = concat(rt.alloc(), &pieces)?;
     let (f, t) = (Some(false), Some(true));
     assert!(rt; is_result_of_bools(&joined, &[t, None, f, None, f, t]));
+    Ok(())
+}
+
+#[test]
+fn joins_long_columns_from_any_slot(rt: HostRuntime) -> Result<(), Fail> {
+    let numbers = built(rt.alloc(), NUMBERS)?;
+    let long = repeated(rt.alloc(), &numbers, (3, 3), 70)?;
+    assert!(rt; repeats_numbers(&long.view(), 210, &[Some(4), None, Some(6)]));
+    let pieces = [
+        slots_of(&long, 5, 100),
+        slots_of(&long, 0, 3),
+        slots_of(&long, 0, 200),
+    ];
+    let joined = concat(rt.alloc(), &pieces)?;
+    assert_eq!(rt; joined.view().len(), 303);
+    let first = slots_of(&joined, 0, 100);
+    assert!(rt; repeats_numbers(&first, 100, &[Some(6), Some(4), None]));
+    let others = slots_of(&joined, 100, 203);
+    assert!(rt; repeats_numbers(&others, 203, &[Some(4), None, Some(6)]));
     Ok(())
 }
 

@@ -1,13 +1,13 @@
 //! Tests of rows that indices name.
 
-use crate::testing::{NUMBERS, TRUTHS, has_items, is_result_of_codes};
+use crate::testing::{NUMBERS, TRUTHS, has_items, is_result_of_codes, repeated, repeats_numbers};
 use arrays::{Array, DataType, ViewType, validate};
 use colbits::Buffer;
 use samples::{
-    Flat, INT8, INT16, Parts, UINT8, built, coded, is_result_of_bools, is_result_of_numbers, item,
-    lists, lists_of_lists, raw, shows_lists, shows_texts, slots_of,
+    Flat, INT8, INT16, INT32, Parts, Positions, UINT8, UINT32, built, coded, is_result_of_bools,
+    is_result_of_numbers, item, lists, lists_of_lists, raw, shows_lists, shows_texts, slots_of,
 };
-use select::take;
+use select::{SelectFault, take};
 use std::alloc::Global;
 use std::test::Fail;
 
@@ -29,6 +29,27 @@ fn takes_from_any_slot(rt: HostRuntime) -> Result<(), Fail> {
     let rows = take(rt.alloc(), &slots_of(&truths, 3, 3), &indices)?;
     let expected = [Some(false), None, None, Some(true)];
     assert!(rt; is_result_of_bools(&rows, &expected));
+    Ok(())
+}
+
+/// The indices 2, 0, 1.
+const THREE: Positions = &[None, Some(b"\x02\0\0\0\0\0\0\0\x01\0\0\0")];
+
+#[test]
+fn takes_numbers_by_many_indices_of_32_bits(rt: HostRuntime) -> Result<(), Fail> {
+    let numbers = built(rt.alloc(), NUMBERS)?;
+    for ty in [INT32, UINT32] {
+        let indices = built(rt.alloc(), (Flat::Int(ty), 3, THREE))?;
+        let indices = repeated(rt.alloc(), &indices, (0, 3), 50)?;
+        let rows = take(rt.alloc(), &slots_of(&numbers, 3, 3), &indices.view())?;
+        assert!(rt; repeats_numbers(&rows.view(), 150, &[Some(6), Some(4), None]));
+        let rows = take(rt.alloc(), &slots_of(&numbers, 0, 3), &indices.view())?;
+        assert!(rt; repeats_numbers(&rows.view(), 150, &[Some(3), Some(1), Some(2)]));
+        let few = slots_of(&numbers, 3, 2);
+        let answer = take(rt.alloc(), &few, &slots_of(&indices, 1, 149));
+        let fault = SelectFault::IndexOutOfRange { row: 2 };
+        assert_eq!(rt; answer.err(), Some(fault));
+    }
     Ok(())
 }
 

@@ -1,7 +1,12 @@
 //! What several tests select from, and what they compare selections with.
 
 use arrays::{Array, View, ViewType};
-use samples::{Flat, INT8, Parts, has_offsets, has_validity_only_where_null, shows_encoded};
+use samples::{
+    Flat, INT8, Parts, has_offsets, has_validity_only_where_null, shows_encoded, slots_of,
+};
+use select::concat;
+use std::alloc::Global;
+use std::test::Fail;
 
 pub(crate) const INT8S: Flat = Flat::Int(INT8);
 
@@ -29,4 +34,37 @@ pub(crate) fn is_result_of_codes(
 ) -> bool {
     shows_encoded(&column.view(), codes, entries, texts)
         && has_validity_only_where_null(&column.view())
+}
+
+/// The `len` slots from slot `start` on, so many times one behind the other.
+pub(crate) fn repeated(
+    alloc: Global,
+    array: &Array,
+    (start, len): (usize, usize),
+    times: u32,
+) -> Result<Array, Fail> {
+    let mut views = Vec::new(alloc);
+    for _ in 0..times {
+        views.push(slots_of(array, start, len))?;
+    }
+    if views.is_empty() {
+        return Ok(array.copy(alloc)?);
+    }
+    Ok(concat(alloc, &views)?)
+}
+
+/// Whether a view has so many slots, which hold these numbers over and over again.
+pub(crate) fn repeats_numbers(view: &View<'_>, slots: usize, numbers: &[Option<i128>]) -> bool {
+    let ViewType::Int(_) = view.ty() else {
+        return false;
+    };
+    if numbers.is_empty() || view.len() != slots {
+        return false;
+    }
+    for i in 0..view.len() {
+        if view.int_at(i) != numbers[i % numbers.len()] {
+            return false;
+        }
+    }
+    has_validity_only_where_null(view)
 }
