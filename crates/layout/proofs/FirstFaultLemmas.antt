@@ -148,6 +148,18 @@ data-enough raw buffers h same =
     ap (is_data_short (kind_of r.ty) r.length) same
     ∙ (shape_faults-none (kind_of r.ty) r.length r.buffers.items (inner_children r.children.items) (inner_dictionary r.dictionary) h).1
 
+-- .. and so is its bitmap.
+pub validity-enough : (raw : RawArray) (buffers : Buffers) → first (shape_faults_of raw) ≡ None → buffers ≡ (out-RawArray raw).buffers.items
+    → is_validity_short (out-RawArray raw).length (buffer_at buffers 0) ≡ false
+validity-enough raw buffers h same =
+    let r = out-RawArray raw in
+    let k = kind_of r.ty in
+    let children = inner_children r.children.items in
+    let dictionary = inner_dictionary r.dictionary in
+    let bitmap = buffer_at r.buffers.items 0 in
+    let s = shaped (nat_lt 2147483647 r.length) (nat_lt 8 (depth k)) (is_missing k r.buffers.items) (nat_lt (positions k) (length r.buffers.items)) (do_parts_differ k children dictionary) (is_validity_short r.length bitmap) (is_data_short k r.length r.buffers.items) h in
+    ap (λ b. is_validity_short r.length (buffer_at b 0)) same ∙ s.validity_enough
+
 -- Where an array has no fault of its own, each test has passed.
 pub own_fault-none : (k : Kind) (n : ℕ) (stated : Option ℕ) (buffers : Buffers) (children : List Inner) (dictionary : Option Inner)
     → own_fault k n stated buffers children dictionary ≡ None → IsWhole k n stated buffers children dictionary

@@ -1,13 +1,17 @@
 -- Tests of rows 0, 1, ..: whether some row passes, the least that does, and how many do.
-use Rattle.std.proofs.Common.{◌≡◌, ℕ, zero, suc, ◌+◌, ◌<◌, ◌∙◌, Bool, true, false, ◌||◌, not, cond, List, Some, None, length, nat_lt, ap, refl, arith, add-zero, lt-ltb, le-ltb, IsTrue, IsUtf8, ◌↔◌}
+use Rattle.std.proofs.Common.{◌≡◌, ℕ, zero, suc, ◌+◌, ◌-◌, ◌<◌, ◌∙◌, Bool, true, false, ◌||◌, ◌&&◌, not, cond, List, Some, None, length, map, take, drop, nat_lt, ap, refl, subst, arith, add-zero, lt-ltb, le-ltb, ltb-true, IsTrue, IsUtf8, IsCharBoundary, ◌↔◌}
 use Rattle.std.specs.List.{list_any, range_with_len, position_or_len, count_by, sum_by}
 use Rattle.std.proofs.lemmas.List.FromFn.{length-range_with_len}
 use Rattle.std.specs.Str.{is_utf8}
 use Rattle.std.proofs.lemmas.Bool.Decides.{same_from_decides}
 use Rattle.std.proofs.lemmas.List.Sums.{sum_by-cons}
-use Rattle.std.proofs.lemmas.Str.{IsUtf8-from_is_utf8, is_utf8-from_IsUtf8}
-use Rattle.layout.specs.Layout.{Buffers, buffer_at, is_valid_in}
-use Rattle.layout.specs.Fault.{least_row, null_count}
+use Rattle.std.proofs.lemmas.Bool.{ltb-false}
+use Rattle.std.proofs.Math.Bool.{and-false}
+use Rattle.std.proofs.lemmas.Str.{IsUtf8-from_is_utf8, is_utf8-from_IsUtf8, IsUtf8-nil, IsUtf8-between}
+use Rattle.colbits.specs.Bit.{bit, bits}
+use Rattle.colbits.specs.Slice.{slice}
+use Rattle.layout.specs.Layout.{Buffers, buffer_at, bytes_at, is_valid, is_valid_in, start_at}
+use Rattle.layout.specs.Fault.{is_no_text, least_row, null_count}
 
 -- every row from a on that is below n fails
 abbrev pub AllFail : (ℕ → Bool) → ℕ → ℕ → Type 0
@@ -68,32 +72,6 @@ least_none test n h =
 
 -- ---- how many rows
 
-sum_by-range_more : (f : ℕ → ℕ) (a n : ℕ) → sum_by f (range_with_len a (suc n)) ≡ sum_by f (range_with_len a n) + f (a + n)
-sum_by-range_more f a zero =
-    let same : f a ≡ f (a + 0) = ap f (omega arith) in
-    omega arith
-sum_by-range_more f a (suc n) =
-    let longer = sum_by-cons f a (range_with_len (a + 1) (suc n)) in
-    let shorter = sum_by-cons f a (range_with_len (a + 1) n) in
-    let there = sum_by-range_more f (a + 1) n in
-    let same : f (a + 1 + n) ≡ f (a + suc n) = ap f (omega arith) in
-    omega arith
-
-count_more : (test : ℕ → Bool) (n : ℕ) (b : Bool) → test n ≡ b → count_by test (range_with_len 0 (n + 1)) ≡ count_by test (range_with_len 0 n) + cond b 1 0
-count_more test n b h =
-    let next : n + 1 ≡ suc n = omega arith in
-    let place : 0 + n ≡ n = omega arith in
-    ap (λ m. count_by test (range_with_len 0 m)) next
-    ∙ sum_by-range_more (λ j. cond (test j) 1 0) 0 n
-    ∙ ap (λ i. count_by test (range_with_len 0 n) + cond (test i) 1 0) place
-    ∙ ap (λ v. count_by test (range_with_len 0 n) + cond v 1 0) h
-
-pub count_more_yes : (test : ℕ → Bool) (n : ℕ) → test n ≡ true → count_by test (range_with_len 0 (n + 1)) ≡ count_by test (range_with_len 0 n) + 1
-count_more_yes test n h = count_more test n true h
-
-pub count_more_no : (test : ℕ → Bool) (n : ℕ) → test n ≡ false → count_by test (range_with_len 0 (n + 1)) ≡ count_by test (range_with_len 0 n)
-count_more_no test n h = count_more test n false h ∙ add-zero (count_by test (range_with_len 0 n))
-
 -- no row of none counts
 pub count_none : (a n : ℕ) → count_by (λ (j : ℕ). false) (range_with_len a n) ≡ 0
 count_none a zero = refl
@@ -109,3 +87,42 @@ null_count-absent buffers n absent =
 -- the test of a text, by what a test of UTF-8 tells
 pub is_utf8-same : (b : Bool) (bytes : List ℕ) → IsTrue b ↔ IsUtf8 bytes → b ≡ is_utf8 bytes
 is_utf8-same b bytes h = same_from_decides b (is_utf8 bytes) h (IsUtf8-from_is_utf8 bytes, is_utf8-from_IsUtf8 bytes)
+
+-- the slots of zeros are those that aren't ones
+zeros_from : (bytes : List ℕ) (a n : ℕ) → count_by (λ b. b) (map (bit bytes) (range_with_len a n)) + count_by (λ j. not (bit bytes j)) (range_with_len a n) ≡ n
+zeros_from bytes a zero = refl
+zeros_from bytes a (suc n) =
+    let ones = sum_by-cons (λ b. cond b 1 0) (bit bytes a) (map (bit bytes) (range_with_len (a + 1) n)) in
+    let zeros = sum_by-cons (λ j. cond (not (bit bytes j)) 1 0) a (range_with_len (a + 1) n) in
+    let rest = zeros_from bytes (a + 1) n in
+    one_of (bit bytes a) _ _ _ _ n ones zeros rest
+  where
+    one_of : (b : Bool) (x y p q n : ℕ) → x ≡ cond b 1 0 + p → y ≡ cond (not b) 1 0 + q → p + q ≡ n → x + y ≡ suc n
+    one_of true x y p q n e f g = omega arith
+    one_of false x y p q n e f g = omega arith
+
+pub zeros-bits : (bytes : List ℕ) (n : ℕ) → n - count_by (λ b. b) (bits bytes 0 n) ≡ count_by (λ j. not (bit bytes j)) (range_with_len 0 n)
+unfolding bits
+zeros-bits bytes n =
+    let whole = zeros_from bytes 0 n in
+    omega arith
+
+-- ---- texts
+
+-- what lies between two places of a text at which a character begins is a text, and so is nothing
+utf8-between : (bytes : List ℕ) (s e : ℕ) (b : Bool) → nat_lt e s ≡ b → IsUtf8 bytes → IsCharBoundary bytes s → IsCharBoundary bytes e
+    → IsUtf8 (slice bytes s (e - s))
+utf8-between bytes s e true falls text begins ends =
+    let below : e < s = ltb-true e s falls in
+    let none : 0 ≡ e - s = omega arith in
+    subst (λ k. IsUtf8 (take k (drop s bytes))) none IsUtf8-nil
+utf8-between bytes s e false rises text begins ends = IsUtf8-between bytes s e text (ltb-false e s rises) begins ends
+
+pub no_text-between : (buffers : Buffers) (j : ℕ) → IsUtf8 (bytes_at buffers 2) → IsCharBoundary (bytes_at buffers 2) (start_at buffers j)
+    → IsCharBoundary (bytes_at buffers 2) (start_at buffers (j + 1)) → is_no_text buffers j ≡ false
+no_text-between buffers j text begins ends =
+    let bytes = bytes_at buffers 2 in
+    let s = start_at buffers j in
+    let e = start_at buffers (j + 1) in
+    let between = utf8-between bytes s e (nat_lt e s) refl text begins ends in
+    ap (λ b. is_valid buffers j && not b) (is_utf8-from_IsUtf8 (slice bytes s (e - s)) between) ∙ and-false (is_valid buffers j)

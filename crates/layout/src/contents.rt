@@ -1,19 +1,19 @@
 //! The tests of what the buffers hold, one function a fault: each gives what its definition says, where
 //! the buffers are long enough.
 
-ghost use Rattle.std.specs.Prelude.{◌≡◌, ◌+◌, ◌*◌, ◌<◌, ◌≤◌, false, not, length, int_lt};
+ghost use Rattle.std.specs.Prelude.{◌≡◌, ℕ, ◌+◌, ◌*◌, ◌<◌, ◌≤◌, false, not, length, int_lt, IsTrue};
 ghost use Rattle.std.specs.List.{count_by, list_any, range_with_len};
 ghost use Rattle.colbits.specs.Bit.{bit};
 ghost use Rattle.layout.specs.Inner.{HasOffsets, inner_children, inner_dictionary};
 ghost use Rattle.types.specs.Kind.{kind_of};
-ghost use Rattle.layout.specs.Fault.{bad_code_row, bad_text_row, decreasing_row, does_count_differ, has_negative_offset, has_offsets, is_data_short, is_no_code, is_no_text, is_past_end, least_row, null_count};
+ghost use Rattle.layout.specs.Fault.{bad_code_row, bad_text_row, decreasing_row, does_count_differ, has_negative_offset, has_offsets, is_data_short, is_no_code, is_no_text, is_past_end, is_validity_short, least_row, null_count};
 ghost use Rattle.types.specs.Number.{is_negative};
-ghost use Rattle.layout.specs.Layout.{bytes_at, offset_at};
+ghost use Rattle.layout.specs.Layout.{buffer_at, bytes_at, offset_at};
 
 use crate::buffers::{bit, buffer_at, bytes_at, is_valid, offset_at, start_at, text_at};
 use crate::raw::RawArray;
 use crate::shapes::{child_length, entry_count};
-use colbits::Buffer;
+use colbits::{Bits, Buffer};
 use types::{DataType, int32_at};
 
 /// Whether offset `j` is below 0.
@@ -64,19 +64,15 @@ fn least_decreasing(buffers: &[Option<Buffer>], n: usize) -> Option<usize>
 
 /// How many of the first `n` bits are 0.
 fn zero_bits(bytes: &[u8], n: usize) -> usize
+    requires { n ≤ 8 * length bytes.now }
     ensures { result ≡ count_by (λ j. not (bit bytes.now j)) (range_with_len 0 n) }
 {
-    let mut zeros = 0;
-    for j in 0..n {
-        if !bit(bytes, j) {
-            zeros += 1;
-        }
-    }
-    zeros
+    n - Bits::new(bytes, 0, n).count_ones()
 }
 
 /// How many of `n` slots aren't valid: none where there is no bitmap.
 fn null_count(buffers: &[Option<Buffer>], n: usize) -> usize
+    requires { is_validity_short n (buffer_at buffers.now 0) ≡ false }
     ensures { result ≡ null_count n buffers.now }
 {
     match buffer_at(buffers, 0) {
@@ -100,12 +96,34 @@ fn least_no_text(buffers: &[Option<Buffer>], n: usize) -> Option<usize>
     requires short { n < 2147483648 }
     ensures { result ≡ least_row (is_no_text buffers.now) n }
 {
+    if are_texts(buffers, n) {
+        return None;
+    }
     for j in 0..n {
         if is_no_text(buffers, j) {
             return Some(j);
         }
     }
     None
+}
+
+/// Whether all bytes are UTF-8 as one text, and `n` slots begin and end between its characters: then each slot is a text,
+/// whether it is valid or not, and one pass over the bytes has told it.
+fn are_texts(buffers: &[Option<Buffer>], n: usize) -> bool
+    requires enough { HasOffsets n (bytes_at buffers.now 1) }
+    requires short { n < 2147483648 }
+    ensures { IsTrue result → (j : ℕ) → j < n → is_no_text buffers.now j ≡ false }
+{
+    let Ok(text) = simdutf8::basic::from_utf8(bytes_at(buffers, 2)) else {
+        return false;
+    };
+    let edges = n + 1;
+    for edge in 0..edges {
+        if !text.is_char_boundary(start_at(buffers, edge)) {
+            return false;
+        }
+    }
+    true
 }
 
 /// Whether slot `j` is valid and its index is negative or not below the number of entries.
@@ -182,6 +200,7 @@ pub(crate) fn is_past_end(
 
 /// Whether a null count is stated and isn't the number of slots that aren't valid.
 pub(crate) fn does_count_differ(stated: Option<u64>, n: usize, buffers: &[Option<Buffer>]) -> bool
+    requires { is_validity_short n (buffer_at buffers.now 0) ≡ false }
     ensures { result ≡ does_count_differ stated n buffers.now }
 {
     match stated {

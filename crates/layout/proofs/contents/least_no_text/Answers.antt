@@ -11,3 +11,6 @@ returns-then-is_no_text c =
 pub returns : goal.returns
 returns c =
     sym (least_none (is_no_text c.args.buffers.now) c.args.n (λ k below. c.loop-j.invariant k (omega arith)))
+
+pub returns-then-are_texts : goal.returns-then-are_texts
+returns-then-are_texts c = sym (least_none (is_no_text c.args.buffers.now) c.args.n (c.are_texts.ensures c.if-are_texts.true))

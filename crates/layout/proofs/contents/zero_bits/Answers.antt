@@ -1,17 +1,14 @@
-use Rattle.std.proofs.Common.{◌≡◌, ℕ, ◌∙◌, ◌+◌, Bool, true, false, not, ap, sym, arith}
-use Rattle.colbits.specs.Bit.{bit}
-use Rattle.layout.proofs.RowLemmas.{count_more_yes, count_more_no}
+use Rattle.std.proofs.Common.{◌∙◌, ◌-◌, ap, count_by, length, arith}
+use Rattle.std.proofs.lemmas.List.Sums.{count_by-le-length}
+use Rattle.colbits.proofs.BitLemmas.{length-bits}
+use Rattle.layout.proofs.RowLemmas.{zeros-bits}
 use Rattle.layout.proofs.contents.zero_bits.Goals as goal
-use Rattle.layout.proofs.contents.zero_bits.Goals.{then-not-bit, else-not-bit}
 
-pub loop-j-preserved : goal.loop-j-preserved
-loop-j-preserved c =
-    let test : ℕ → Bool = λ j. not (bit c.args.bytes.now j) in
-    elim c.if-not-bit.branch [
-      | then-not-bit w ↦
-          let here : test c.loop-j.j ≡ true = cc in
-          (w.zeros-is ∙ ap (λ n. n + 1) c.loop-j.invariant.0 ∙ sym (count_more_yes test c.loop-j.j here), omega arith)
-      | else-not-bit w ↦
-          let here : test c.loop-j.j ≡ false = cc in
-          (w.zeros-is ∙ c.loop-j.invariant.0 ∙ sym (count_more_no test c.loop-j.j here), omega arith)
-    ]
+pub returns : goal.returns
+returns c =
+    ap (λ k. c.args.n - k) (c.count_ones.ensures ∙ ap (count_by (λ b. b)) c.new.ensures)
+    ∙ zeros-bits c.args.bytes.now c.args.n
+
+pub overflow_sub-result : goal.overflow_sub-result
+overflow_sub-result c =
+    omega (arith, c.count_ones.ensures, count_by-le-length (λ b. b) c.new.result, ap length c.new.ensures, length-bits c.args.bytes.now 0 c.args.n)

@@ -1,4 +1,4 @@
-use Rattle.layout.proofs.FirstFaultLemmas.{data-enough}
+use Rattle.layout.proofs.FirstFaultLemmas.{data-enough, validity-enough}
 use Rattle.layout.proofs.validator.content_fault.Goals as goal
 
 pub has_negative_offset-requires-clause-enough : goal.has_negative_offset-requires-clause-enough
@@ -15,3 +15,6 @@ bad_text_row-requires-clause-enough c = data-enough c.args.raw.now _ c.requires 
 
 pub bad_code_row-requires : goal.bad_code_row-requires
 bad_code_row-requires c = data-enough c.args.raw.now _ c.requires c.deref-7.ensures.value
+
+pub does_count_differ-requires : goal.does_count_differ-requires
+does_count_differ-requires c = validity-enough c.args.raw.now _ c.requires c.deref-5.ensures.value
