@@ -16,7 +16,7 @@ use Rattle.arrays.specs.Values.{HasBits, HasNumbers, HasTexts, valid_values}
 use Rattle.types.specs.declared.int_type.IntType.{IntType}
 use Rattle.kernels.specs.Lift.{item_at, lifted}
 use Rattle.kernels.specs.Order.{compared, meets, order}
-use Rattle.kernels.specs.Truth.{truth_at}
+use Rattle.truths.specs.Truth.{truth_at}
 use Rattle.kernels.specs.Wanted.{decisions, wants}
 use Rattle.kernels.specs.declared.comparison.CmpOp.{CmpOp}
 use Rattle.kernels.specs.declared.comparison.wanted.Wanted.{Wanted}

@@ -13,10 +13,10 @@ use Rattle.arrays.specs.Values.{HasBits}
 use Rattle.arrays.proofs.ListLemmas.{map-range-below}
 use Rattle.kernels.specs.Kleene.{truth_of, negation, truths_fault}
 use Rattle.kernels.specs.Known.{truth_in, stored_truth, knows_false, knows_true}
-use Rattle.kernels.specs.Truth.{truth_at, truths_of}
+use Rattle.truths.specs.Truth.{truth_at, truths_of}
 use Rattle.kernels.specs.declared.fault.KernelFault.{KernelFault}
 use Rattle.kernels.specs.declared.fault.KernelFault.TheVariants.{TypesDiffer}
-use Rattle.kernels.proofs.TruthLemmas.{listed}
+use Rattle.truths.proofs.TruthLemmas.{listed}
 
 -- ---- views of truth values
 

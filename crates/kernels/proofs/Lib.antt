@@ -1,6 +1,5 @@
 -- What the proofs of this crate share.
-pub mod ValidityLemmas
-pub mod TruthLemmas
+pub mod NullLemmas
 pub mod ComparisonLemmas
 pub mod KleeneLemmas
 pub mod PackedLemmas

@@ -24,7 +24,7 @@ use Rattle.types.proofs.SchemaLemmas.{position-map}
 use Rattle.kernels.specs.Lift.{item_at, lifted}
 use Rattle.arrays.specs.Packed.{IsBufferOf}
 use Rattle.arrays.specs.Shown.{kept, shown}
-use Rattle.kernels.specs.Valid.{valid_in_both, both_valid}
+use Rattle.truths.specs.Valid.{valid_in_both, both_valid}
 use Rattle.kernels.specs.Fault.{IsKernelFault, shape_fault}
 use Rattle.kernels.specs.Arithmetic.{exact, results, is_outside, first_bad, are_one_int, operands_fault, arithmetic_fault}
 use Rattle.kernels.specs.Computed.{result_at, AreOfType, AreResults, IsLeastOutside, StopsAt}

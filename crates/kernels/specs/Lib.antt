@@ -5,7 +5,5 @@ pub mod Computed
 pub mod Order
 pub mod Kleene
 pub mod Nulls
-pub mod Valid
-pub mod Truth
 pub mod Wanted
 pub mod Known

@@ -4,7 +4,7 @@ use Rattle.std.specs.declared.cmp.Ordering.{Ordering}
 use Rattle.std.specs.declared.cmp.Ordering.TheVariants.{Less, Equal, Greater}
 use Rattle.arrays.specs.Item.{Item}
 use Rattle.kernels.specs.Order.{meets}
-use Rattle.kernels.specs.Truth.{truths_of}
+use Rattle.truths.specs.Truth.{truths_of}
 use Rattle.kernels.specs.declared.comparison.CmpOp.{CmpOp}
 use Rattle.kernels.specs.declared.comparison.wanted.Wanted.{Wanted}
 

@@ -13,11 +13,11 @@ ghost use Rattle.kernels.specs.Fault.{IsKernelFault};
 ghost use Rattle.arrays.specs.Shown.{shown};
 
 use crate::fault::KernelFault;
-use crate::validity::both_valid;
 use arrays::validity::{buffer_of, is_valid};
 use arrays::{Array, IntType, Integer, View, ViewType, Width};
 use colbits::{BitmapBuf, Bits, Buffer};
 use std::alloc::Global;
+use truths::both_valid;
 
 /// The sums of two columns of one integer type: null where either is null, else the exact sum, which has to be of
 /// the type. `TypesDiffer` unless both columns are of one integer type; else `LengthsDiffer` unless they are of one

@@ -14,13 +14,12 @@ mod pairs;
 mod wanted;
 
 use crate::fault::KernelFault;
-use crate::truths::{Truths, array_of};
-use crate::validity::BothValid;
 use arrays::{Array, IntType, Integer, View, ViewType, Width};
 use colbits::NoMemory;
 use pairs::{Bools, Numbers, Pairs, Shown, Utf8s};
 use std::alloc::Global;
 use std::marker::PhantomData;
+use truths::{BothValid, Truths, array_of};
 use wanted::Wanted;
 
 /// A comparison.

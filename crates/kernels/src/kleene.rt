@@ -11,14 +11,13 @@ ghost use Rattle.kernels.specs.Known.{are_both, is_either, knows_false, knows_tr
 ghost use Rattle.arrays.specs.Shown.{shown};
 
 use crate::fault::KernelFault;
-use crate::truths::{Truths, array_of};
-use crate::validity::{valid_lanes, valid_word};
 use arrays::validity::is_valid;
 use arrays::{Array, View, ViewType};
 use colbits::Bits;
 use colbits::lanes::{both, either, flipped};
 use std::alloc::Global;
 use std::simd::prelude::*;
+use truths::{Truths, array_of, valid_lanes, valid_word};
 
 /// False where either is false, true where both are true, else null. It fails where the views aren't both of
 /// truth values, then where their lengths differ, and else for want of memory alone.

@@ -6,8 +6,6 @@ pub mod comparison;
 pub mod fault;
 pub mod kleene;
 pub mod nulls;
-mod truths;
-mod validity;
 
 pub use arithmetic::{add, mul, sub};
 pub use comparison::{CmpOp, compare};

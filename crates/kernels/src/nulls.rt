@@ -7,9 +7,9 @@ ghost use Rattle.kernels.specs.Nulls.{nulls};
 ghost use Rattle.arrays.specs.Shown.{shown};
 
 use crate::fault::KernelFault;
-use crate::truths::{Truths, array_of};
 use arrays::{Array, View};
 use std::alloc::Global;
+use truths::{Truths, array_of};
 
 /// True where the view has no item: where the slot isn't valid, and of a dictionary-encoded view also where its
 /// entry isn't. It fails for want of memory alone.

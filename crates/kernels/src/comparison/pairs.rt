@@ -16,11 +16,11 @@ ghost use Rattle.kernels.specs.Wanted.{wants};
 
 use super::packed::{are_equal, are_less, chosen};
 use super::wanted::Wanted;
-use crate::validity::{BothValid, valid_word};
 use arrays::validity::is_valid;
 use arrays::{Integer, Texts, View};
 use colbits::Bits;
 use std::marker::PhantomData;
+use truths::{BothValid, valid_word};
 
 /// Two items at each place, where both are there.
 pub(crate) trait Pairs {

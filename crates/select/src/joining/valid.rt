@@ -3,14 +3,15 @@
 ghost use Rattle.std.specs.Prelude.{◌≡◌, ℕ, ◌+◌, ◌<◌, ◌≤◌, Option, false, is_some, length, not, slice_index_or, IfOk};
 ghost use Rattle.std.specs.List.{list_all};
 ghost use Rattle.colbits.specs.Bit.{bit_in};
-ghost use Rattle.arrays.specs.Seen.{Seen, valid_in};
+ghost use Rattle.arrays.specs.Seen.{Seen};
 ghost use Rattle.arrays.specs.Shown.{kept};
 ghost use Rattle.select.specs.Joined.{AreStarts, IsPlace, joined_items, joined_valid};
 
 use arrays::View;
 use arrays::validity::validity_of;
-use colbits::{BitmapBuf, Bits, NoMemory, Places};
+use colbits::{BitmapBuf, NoMemory, Places};
 use std::alloc::Global;
+use truths::valid_word;
 
 /// The validity of the slots of views, which have so many together: none where each of them is valid.
 pub(super) fn joined_validity(
@@ -123,16 +124,5 @@ impl<'a, 'b> Places for JoinedSlots<'a, 'b> {
         } else {
             self.bit_by_bit(i)
         }
-    }
-}
-
-/// Which of slots `i` to `i + 63` are valid, the first of them least significant.
-#[inline(always)]
-fn valid_word(validity: &Option<Bits<'_>>, i: usize) -> u64
-    ensures { (j : ℕ) → j < 64 → bit_in result j ≡ valid_in validity.now (i + j) }
-{
-    match validity {
-        None => u64::MAX,
-        Some(bits) => bits.word(i),
     }
 }

@@ -4,7 +4,7 @@ use Rattle.arrays.specs.FromParts.{show_numbers}
 use Rattle.kernels.specs.Arithmetic.{operands_fault, arithmetic_fault}
 use Rattle.arrays.specs.Packed.{IsBufferOf}
 use Rattle.arrays.specs.Shown.{kept}
-use Rattle.kernels.specs.Valid.{both_valid}
+use Rattle.truths.specs.Valid.{both_valid}
 use Rattle.kernels.proofs.ResultLemmas.{told, told_on, computed, AreOperands}
 use Rattle.kernels.proofs.arithmetic.computed.Goals as goal
 

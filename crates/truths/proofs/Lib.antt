@@ -1,0 +1,3 @@
+-- What the proofs of this crate share, and those above it cite.
+pub mod TruthLemmas
+pub mod ValidityLemmas

@@ -1,0 +1,9 @@
+//! Arrays of truth values told place by place, and the validity of two views together. Users name `kernels`; this is for the
+//! crates that compute on views.
+#![tactic(auto)]
+
+pub mod array;
+pub mod validity;
+
+pub use array::{Truths, array_of};
+pub use validity::{BothValid, both_valid, valid_lanes, valid_word};
