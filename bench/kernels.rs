@@ -352,6 +352,23 @@ fn null_count(bits: &Packed) -> usize {
     bits.len - ones(bits.words()) - bits.rest().count_ones() as usize
 }
 
+/// Whether the parts of a column of numbers are long enough and have so many nulls.
+fn are_numbers(values: &[i64], validity: &Bitmap, rows: usize, nulls: usize) -> bool {
+    values.len() >= rows && validity.0.len() >= rows.div_ceil(64) && validity.zeros(rows) == nulls
+}
+
+/// Whether the parts of a column of texts are: offsets that begin at no less than 0, rise, and end within the bytes, each between two characters
+/// of what is a text as a whole, and so many nulls.
+fn are_texts(offsets: &[i32], bytes: &[u8], validity: &Bitmap, rows: usize, nulls: usize) -> bool {
+    if offsets.len() != rows + 1 || offsets[0] < 0 || offsets.windows(2).any(|pair| pair[1] < pair[0]) || offsets[rows] as usize > bytes.len() {
+        return false;
+    }
+    let Ok(text) = std::str::from_utf8(bytes) else {
+        return false;
+    };
+    offsets.iter().all(|offset| text.is_char_boundary(*offset as usize)) && validity.zeros(rows) == nulls
+}
+
 /// The result of the last of so many calls.
 fn last_of<T>(times: u32, mut work: impl FnMut() -> T) -> T {
     let mut last = None;
@@ -410,6 +427,18 @@ fn main() {
             bytes.resize(rows / 8 + 9, 0);
             let bits = Packed { bytes, start: 0, len: rows };
             last_of(times, || null_count(black_box(&bits)))
+        }
+        "validate-numbers" => {
+            let a = numbers(rows, 3);
+            let nulls = a.validity.zeros(rows);
+            assert!(last_of(times, || are_numbers(black_box(&a.values), black_box(&a.validity), rows, nulls)));
+            nulls
+        }
+        "validate-texts" => {
+            let a = texts(rows, 3);
+            let nulls = a.validity.zeros(rows);
+            assert!(last_of(times, || are_texts(black_box(&a.offsets), black_box(a.bytes.as_bytes()), black_box(&a.validity), rows, nulls)));
+            nulls
         }
         "bits-and" | "bits-or" | "bits-not" | "bits-and-within" => {
             let (first, second) = if words[1] == "bits-and-within" { (3, 5) } else { (0, 0) };

@@ -8,6 +8,11 @@ use std::alloc::Global;
 
 /// Numbers of 64 bits, each twentieth of them null; none where memory ran out.
 pub fn numbers(alloc: Global, rows: u32, salt: u32) -> Option<Array> {
+    validate(alloc, number_parts(alloc, rows, salt)?).ok()
+}
+
+/// The parts of such a column.
+pub fn number_parts(alloc: Global, rows: u32, salt: u32) -> Option<RawArray> {
     let mut bytes = Vec::with_capacity(alloc, 8 * rows as usize + 63).ok()?;
     for row in 0..rows {
         let number = i64::from(spread(row.wrapping_add(salt)));
@@ -17,7 +22,10 @@ pub fn numbers(alloc: Global, rows: u32, salt: u32) -> Option<Array> {
         bits: Width::W64,
         signed: true,
     });
-    column(alloc, ty, rows, salt, bytes)
+    let (validity, nulls) = validity(alloc, rows, salt)?;
+    let values = Some(Buffer::from_vec(bytes).ok()?);
+    let buffers = vec![in alloc; validity, values].ok()?;
+    Some(parts(alloc, ty, rows, nulls, buffers))
 }
 
 /// Numbers of 32 bits, each twentieth of them null.
@@ -47,7 +55,7 @@ pub fn rows(alloc: Global, count: u32) -> Option<Array> {
     });
     let values = Some(Buffer::from_vec(bytes).ok()?);
     let buffers = vec![in alloc; None, values].ok()?;
-    checked(alloc, ty, count, buffers)
+    checked(alloc, ty, count, 0, buffers)
 }
 
 /// Truth values, each twentieth of them null.
@@ -68,11 +76,16 @@ pub fn noise(alloc: Global, count: u32, salt: u32) -> Option<Vec<u8>> {
 
 /// Texts of up to six digits, each twentieth of them null. Mostly two neighbours are the same.
 pub fn texts(alloc: Global, rows: u32, salt: u32) -> Option<Array> {
+    validate(alloc, text_parts(alloc, rows, salt)?).ok()
+}
+
+/// The parts of such a column.
+pub fn text_parts(alloc: Global, rows: u32, salt: u32) -> Option<RawArray> {
     let mut digits = Digits::new(alloc, rows)?;
     for row in 0..rows {
         digits.push(alloc, spread(row / 2 + salt % 2) % 1_000_000)?;
     }
-    digits.column(alloc, rows, salt)
+    digits.parts(alloc, rows, salt)
 }
 
 /// Texts of which at most so many differ, in no order, each twentieth of them null.
@@ -83,7 +96,7 @@ pub fn repeated_texts(alloc: Global, rows: u32, salt: u32, distinct: u32) -> Opt
     for row in 0..rows {
         digits.push(alloc, spread(row.wrapping_add(salt)) % distinct)?;
     }
-    digits.column(alloc, rows, salt)
+    validate(alloc, digits.parts(alloc, rows, salt)?).ok()
 }
 
 /// The digits of numbers as texts in the making: where each of them ends, and their bytes.
@@ -111,38 +124,57 @@ impl Digits {
         Some(())
     }
 
-    fn column(self, alloc: Global, rows: u32, salt: u32) -> Option<Array> {
-        let validity = validity(alloc, rows, salt)?;
+    fn parts(self, alloc: Global, rows: u32, salt: u32) -> Option<RawArray> {
+        let (validity, nulls) = validity(alloc, rows, salt)?;
         let offsets = Some(Buffer::from_vec(self.offsets).ok()?);
         let bytes = Some(Buffer::from_vec(self.bytes).ok()?);
         let buffers = vec![in alloc; validity, offsets, bytes].ok()?;
-        checked(alloc, DataType::Utf8, rows, buffers)
+        Some(parts(alloc, DataType::Utf8, rows, nulls, buffers))
     }
 }
 
 /// A column of values that lie behind one another, each twentieth of them null.
 fn column(alloc: Global, ty: DataType, rows: u32, salt: u32, values: Vec<u8>) -> Option<Array> {
-    let validity = validity(alloc, rows, salt)?;
+    let (validity, nulls) = validity(alloc, rows, salt)?;
     let values = Some(Buffer::from_vec(values).ok()?);
     let buffers = vec![in alloc; validity, values].ok()?;
-    checked(alloc, ty, rows, buffers)
+    checked(alloc, ty, rows, nulls, buffers)
 }
 
-fn validity(alloc: Global, rows: u32, salt: u32) -> Option<Option<Buffer>> {
+/// A bitmap of all rows but each twentieth, and how many these are.
+fn validity(alloc: Global, rows: u32, salt: u32) -> Option<(Option<Buffer>, u64)> {
     let bitmap = BitmapBuf::from_places(alloc, &Sparse { rows, salt }).ok()?;
-    Some(Some(bitmap.into_buffer()))
+    let ones = bitmap.bits().count_ones() as u64;
+    let nulls = u64::from(rows).saturating_sub(ones);
+    Some((Some(bitmap.into_buffer()), nulls))
 }
 
-fn checked(alloc: Global, ty: DataType, rows: u32, buffers: Vec<Option<Buffer>>) -> Option<Array> {
-    let raw = RawArray {
+fn checked(
+    alloc: Global,
+    ty: DataType,
+    rows: u32,
+    nulls: u64,
+    buffers: Vec<Option<Buffer>>,
+) -> Option<Array> {
+    validate(alloc, parts(alloc, ty, rows, nulls, buffers)).ok()
+}
+
+/// The parts of an array with this null count.
+fn parts(
+    alloc: Global,
+    ty: DataType,
+    rows: u32,
+    nulls: u64,
+    buffers: Vec<Option<Buffer>>,
+) -> RawArray {
+    RawArray {
         ty,
         length: u64::from(rows),
-        null_count: None,
+        null_count: Some(nulls),
         buffers,
         children: Vec::new(alloc),
         dictionary: None,
-    };
-    validate(alloc, raw).ok()
+    }
 }
 
 /// A number of 32 bits that follows from its place.

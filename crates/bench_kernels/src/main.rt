@@ -4,7 +4,8 @@
 //! sixteen columns of so many rows together behind one another, `bench_kernels stats-of ROWS TIMES` prints the
 //! statistics of one column, and `bench_kernels null-count ROWS TIMES` how many of its slots are null.
 //! `bench_kernels BITS ROWS TIMES`, with `bits-and`, `bits-or`, `bits-not` or `bits-and-within` (a byte) for BITS, makes a bitmap
-//! of two of so many bits, and prints how many bits of the last are 1.
+//! of two of so many bits, and prints how many bits of the last are 1. `bench_kernels PARTS ROWS TIMES`, with `validate-numbers` or
+//! `validate-texts` for PARTS, checks the parts of a column, and prints how many nulls they state.
 //!
 //! Without arguments it runs each kernel once, on few rows.
 #![tactic(auto)]
@@ -14,6 +15,7 @@ mod columns;
 mod kernel;
 mod pieces;
 mod statistics;
+mod validation;
 
 use bitmaps::{Bitwise, nulls_counted};
 use group::Scalar;
@@ -21,6 +23,7 @@ use kernel::Kernel;
 use statistics::stats_after;
 use std::env;
 use std::process::ExitCode;
+use validation::Parts;
 
 /// How many rows the kernels run on without arguments.
 const FEW: u32 = 1000;
@@ -67,6 +70,14 @@ fn main(rt: HostRuntime) -> ExitCode {
 fn tell_bits(rt: &HostRuntime, name: &str, len: u32, times: u32) -> ExitCode {
     match Bitwise::of_name(name) {
         Some(bitwise) => tell(rt, bitwise.ones_after(rt.alloc(), len, times)),
+        None => tell_parts(rt, name, len, times),
+    }
+}
+
+// Checks the parts of a column so many times and prints how many nulls they state.
+fn tell_parts(rt: &HostRuntime, name: &str, rows: u32, times: u32) -> ExitCode {
+    match Parts::of_name(name) {
+        Some(parts) => tell(rt, parts.nulls_after(rt.alloc(), rows, times)),
         None => refused(rt),
     }
 }
@@ -99,7 +110,18 @@ fn try_each_bitwise(rt: &HostRuntime) -> ExitCode {
             return ExitCode::FAILURE;
         }
     }
-    tell(rt, nulls_counted(rt.alloc(), FEW, 1))
+    if tell(rt, nulls_counted(rt.alloc(), FEW, 1)) != ExitCode::SUCCESS {
+        return ExitCode::FAILURE;
+    }
+    try_each_parts(rt)
+}
+
+// Checks the parts of each column once.
+fn try_each_parts(rt: &HostRuntime) -> ExitCode {
+    if tell(rt, Parts::Numbers.nulls_after(rt.alloc(), FEW, 1)) != ExitCode::SUCCESS {
+        return ExitCode::FAILURE;
+    }
+    tell(rt, Parts::Texts.nulls_after(rt.alloc(), FEW, 1))
 }
 
 // Prints how many nulls the result has, or how many ones, if there is one.
