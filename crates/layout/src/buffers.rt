@@ -5,7 +5,10 @@ ghost use Rattle.std.specs.Option.{option_copied};
 ghost use Rattle.colbits.specs.Bit.{bit};
 ghost use Rattle.colbits.specs.Slice.{slice};
 ghost use Rattle.layout.specs.Inner.{HasOffsets};
-ghost use Rattle.layout.specs.Layout.{bytes_at, buffer_at, is_valid, offset_at, start_at, length_at};
+ghost use Rattle.layout.specs.Layout.{bytes_at, buffer_at, is_valid, start_at, length_at};
+ghost use Rattle.layout.specs.Offsets.{start_of};
+ghost use Rattle.types.specs.Kind.{int32};
+ghost use Rattle.types.specs.Number.{number_at};
 
 use colbits::Buffer;
 use types::int32_at;
@@ -43,11 +46,11 @@ pub fn is_valid(buffers: &[Option<Buffer>], j: usize) -> bool
 }
 
 /// Offset `j` of a text or list array: 0 where there are no bytes at all.
-pub(crate) fn offset_at(buffers: &[Option<Buffer>], j: usize) -> i32
-    requires { HasOffsets j (bytes_at buffers.now 1) }
-    ensures { result ≡ offset_at buffers.now j }
+#[inline(always)]
+pub(crate) fn offset_in(offsets: &[u8], j: usize) -> i32
+    requires { HasOffsets j offsets.now }
+    ensures { result ≡ number_at int32 offsets.now j }
 {
-    let offsets = bytes_at(buffers, 1);
     if offsets.is_empty() {
         0
     } else {
@@ -56,12 +59,21 @@ pub(crate) fn offset_at(buffers: &[Option<Buffer>], j: usize) -> i32
 }
 
 /// Where slot `j` of a text or list array begins, 0 for a negative offset.
+#[inline(always)]
+pub(crate) fn start_in(offsets: &[u8], j: usize) -> usize
+    requires { HasOffsets j offsets.now }
+    ensures { result ≡ start_of offsets.now j }
+{
+    let offset = offset_in(offsets, j);
+    if offset < 0 { 0 } else { offset as usize }
+}
+
+/// The same, by the buffers of the array.
 pub(crate) fn start_at(buffers: &[Option<Buffer>], j: usize) -> usize
     requires { HasOffsets j (bytes_at buffers.now 1) }
     ensures { result ≡ start_at buffers.now j }
 {
-    let offset = offset_at(buffers, j);
-    if offset < 0 { 0 } else { offset as usize }
+    start_in(bytes_at(buffers, 1), j)
 }
 
 /// The `len` bytes from `start` on, fewer where the bytes end before.

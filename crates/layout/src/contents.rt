@@ -1,46 +1,50 @@
 //! The tests of what the buffers hold, one function a fault: each gives what its definition says, where
 //! the buffers are long enough.
 
-ghost use Rattle.std.specs.Prelude.{◌≡◌, ℕ, ◌+◌, ◌*◌, ◌<◌, ◌≤◌, false, not, length, int_lt, IsTrue};
+ghost use Rattle.std.specs.Prelude.{◌≡◌, ℕ, ◌+◌, ◌*◌, ◌<◌, ◌≤◌, true, false, not, length, int_lt, IsTrue};
 ghost use Rattle.std.specs.List.{count_by, list_any, range_with_len};
 ghost use Rattle.colbits.specs.Bit.{bit};
 ghost use Rattle.layout.specs.Inner.{HasOffsets, inner_children, inner_dictionary};
-ghost use Rattle.types.specs.Kind.{kind_of};
+ghost use Rattle.types.specs.Kind.{int32, kind_of};
 ghost use Rattle.layout.specs.Fault.{bad_code_row, bad_text_row, decreasing_row, does_count_differ, has_negative_offset, has_offsets, is_data_short, is_no_code, is_no_text, is_past_end, is_validity_short, least_row, null_count};
-ghost use Rattle.types.specs.Number.{is_negative};
-ghost use Rattle.layout.specs.Layout.{buffer_at, bytes_at, offset_at};
+ghost use Rattle.layout.specs.Offsets.{of_slot};
+ghost use Rattle.types.specs.Number.{is_negative, number_at};
+ghost use Rattle.std.specs.Str.{is_utf8};
+ghost use Rattle.layout.specs.Layout.{buffer_at, bytes_at};
 
-use crate::buffers::{bit, buffer_at, bytes_at, is_valid, offset_at, start_at, text_at};
+use crate::buffers::{buffer_at, bytes_at, is_valid, offset_in, start_at, start_in, text_at};
 use crate::raw::RawArray;
 use crate::shapes::{child_length, entry_count};
 use colbits::{Bits, Buffer};
 use types::{DataType, int32_at};
 
 /// Whether offset `j` is below 0.
-fn is_negative(buffers: &[Option<Buffer>], j: usize) -> bool
-    requires { HasOffsets j (bytes_at buffers.now 1) }
-    ensures { result ≡ is_negative (offset_at buffers.now j) }
+#[inline(always)]
+fn is_negative(offsets: &[u8], j: usize) -> bool
+    requires { HasOffsets j offsets.now }
+    ensures { result ≡ is_negative (number_at int32 offsets.now j) }
 {
-    offset_at(buffers, j) < 0
+    offset_in(offsets, j) < 0
 }
 
 /// Whether the offset after slot `j`'s is below it.
-fn is_decreasing(buffers: &[Option<Buffer>], j: usize) -> bool
-    requires enough { HasOffsets (j + 1) (bytes_at buffers.now 1) }
+#[inline(always)]
+fn is_decreasing(offsets: &[u8], j: usize) -> bool
+    requires enough { HasOffsets (j + 1) offsets.now }
     requires short { j < 2147483648 }
-    ensures { result ≡ int_lt (offset_at buffers.now (j + 1)) (offset_at buffers.now j) }
+    ensures { result ≡ int_lt (number_at int32 offsets.now (j + 1)) (number_at int32 offsets.now j) }
 {
-    offset_at(buffers, j + 1) < offset_at(buffers, j)
+    offset_in(offsets, j + 1) < offset_in(offsets, j)
 }
 
 /// Whether some offset of `n` slots is below 0.
-fn is_some_negative(buffers: &[Option<Buffer>], n: usize) -> bool
-    requires enough { HasOffsets n (bytes_at buffers.now 1) }
+fn is_some_negative(offsets: &[u8], n: usize) -> bool
+    requires enough { HasOffsets n offsets.now }
     requires short { n < 2147483648 }
-    ensures { result ≡ list_any (λ j. is_negative (offset_at buffers.now j)) (range_with_len 0 (n + 1)) }
+    ensures { result ≡ list_any (λ j. is_negative (number_at int32 offsets.now j)) (range_with_len 0 (n + 1)) }
 {
     for j in 0..n + 1 {
-        if is_negative(buffers, j) {
+        if is_negative(offsets, j) {
             return true;
         }
     }
@@ -48,14 +52,14 @@ fn is_some_negative(buffers: &[Option<Buffer>], n: usize) -> bool
 }
 
 /// The least slot that ends before it begins.
-fn least_decreasing(buffers: &[Option<Buffer>], n: usize) -> Option<usize>
-    requires enough { HasOffsets n (bytes_at buffers.now 1) }
+fn least_decreasing(offsets: &[u8], n: usize) -> Option<usize>
+    requires enough { HasOffsets n offsets.now }
     requires short { n < 2147483648 }
     ensures { result
-        ≡ least_row (λ j. int_lt (offset_at buffers.now (j + 1)) (offset_at buffers.now j)) n }
+        ≡ least_row (λ j. int_lt (number_at int32 offsets.now (j + 1)) (number_at int32 offsets.now j)) n }
 {
     for j in 0..n {
-        if is_decreasing(buffers, j) {
+        if is_decreasing(offsets, j) {
             return Some(j);
         }
     }
@@ -96,7 +100,7 @@ fn least_no_text(buffers: &[Option<Buffer>], n: usize) -> Option<usize>
     requires short { n < 2147483648 }
     ensures { result ≡ least_row (is_no_text buffers.now) n }
 {
-    if are_texts(buffers, n) {
+    if are_texts(bytes_at(buffers, 1), bytes_at(buffers, 2), n) {
         return None;
     }
     for j in 0..n {
@@ -109,17 +113,17 @@ fn least_no_text(buffers: &[Option<Buffer>], n: usize) -> Option<usize>
 
 /// Whether all bytes are UTF-8 as one text, and `n` slots begin and end between its characters: then each slot is a text,
 /// whether it is valid or not, and one pass over the bytes has told it.
-fn are_texts(buffers: &[Option<Buffer>], n: usize) -> bool
-    requires enough { HasOffsets n (bytes_at buffers.now 1) }
+fn are_texts(offsets: &[u8], bytes: &[u8], n: usize) -> bool
+    requires enough { HasOffsets n offsets.now }
     requires short { n < 2147483648 }
-    ensures { IsTrue result → (j : ℕ) → j < n → is_no_text buffers.now j ≡ false }
+    ensures { IsTrue result → (j : ℕ) → j < n → is_utf8 (of_slot offsets.now bytes.now j) ≡ true }
 {
-    let Ok(text) = simdutf8::basic::from_utf8(bytes_at(buffers, 2)) else {
+    let Ok(text) = simdutf8::basic::from_utf8(bytes) else {
         return false;
     };
     let edges = n + 1;
     for edge in 0..edges {
-        if !text.is_char_boundary(start_at(buffers, edge)) {
+        if !text.is_char_boundary(start_in(offsets, edge)) {
             return false;
         }
     }
@@ -164,7 +168,7 @@ pub(crate) fn has_negative_offset(ty: &DataType, n: usize, buffers: &[Option<Buf
     requires enough { is_data_short (kind_of ty.now) n buffers.now ≡ false }
     ensures { result ≡ has_negative_offset (kind_of ty.now) n buffers.now }
 {
-    has_offsets(ty) && is_some_negative(buffers, n)
+    has_offsets(ty) && is_some_negative(bytes_at(buffers, 1), n)
 }
 
 /// The least slot that ends before it begins.
@@ -174,7 +178,7 @@ pub(crate) fn decreasing_row(ty: &DataType, n: usize, buffers: &[Option<Buffer>]
     ensures { result ≡ decreasing_row (kind_of ty.now) n buffers.now }
 {
     if has_offsets(ty) {
-        least_decreasing(buffers, n)
+        least_decreasing(bytes_at(buffers, 1), n)
     } else {
         None
     }

@@ -10,6 +10,7 @@ use crate::int_type::{IntType, Width};
 use colbits::NoMemory;
 
 /// Number `j` of a buffer of offsets or indices: little-endian, two's complement, 32 bits each.
+#[inline(always)]
 pub fn int32_at(bytes: &[u8], j: usize) -> i32
     requires { 4 * j + 4 ≤ length bytes.now }
     ensures { result ≡ number_at int32 bytes.now j }
