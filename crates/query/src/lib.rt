@@ -1,0 +1,9 @@
+//! Queries over the columns of a table: which rows, by which keys, and what of each group. Columns are called by name as a
+//! query is written, and by position as it is answered.
+#![tactic(auto)]
+
+pub mod expr;
+pub mod queries;
+
+pub use expr::{Agg, Expr, Op};
+pub use queries::{Query, QueryText};
