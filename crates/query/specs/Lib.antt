@@ -1,1 +1,4 @@
 -- What the contracts of this crate speak of.
+pub mod Tree
+pub mod FaultText
+pub mod Sorts

@@ -2,8 +2,12 @@
 //! query is written, and by position as it is answered.
 #![tactic(auto)]
 
+pub mod depth;
 pub mod expr;
+pub mod fault;
 pub mod queries;
+pub mod sort;
 
 pub use expr::{Agg, Expr, Op};
+pub use fault::{QueryFault, query_fault_text};
 pub use queries::{Query, QueryText};
