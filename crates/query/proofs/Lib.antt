@@ -1,1 +1,3 @@
 pub mod DepthLemmas
+pub mod CheckLemmas
+pub mod TreeLemmas

@@ -2,3 +2,4 @@
 pub mod Tree
 pub mod FaultText
 pub mod Sorts
+pub mod Checked

@@ -2,6 +2,7 @@
 //! query is written, and by position as it is answered.
 #![tactic(auto)]
 
+pub mod check;
 pub mod depth;
 pub mod expr;
 pub mod fault;
