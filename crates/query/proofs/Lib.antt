@@ -1,3 +1,4 @@
 pub mod DepthLemmas
 pub mod CheckLemmas
 pub mod TreeLemmas
+pub mod ColumnLemmas

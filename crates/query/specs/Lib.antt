@@ -3,3 +3,4 @@ pub mod Tree
 pub mod FaultText
 pub mod Sorts
 pub mod Checked
+pub mod Columns

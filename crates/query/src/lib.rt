@@ -3,6 +3,7 @@
 #![tactic(auto)]
 
 pub mod check;
+pub mod columns;
 pub mod depth;
 pub mod expr;
 pub mod fault;
