@@ -16,7 +16,7 @@ err-more (Ok ss) s = refl
 err-more (Err e) s = refl
 
 three : (o : Op) (r s t : Result Sort QueryFault) (rest : Result (List Sort) QueryFault)
-    → result_err (and_then r (λ a. and_then (and_then s (λ b. and_then (and_then t (λ c. and_then rest (λ ss. Ok (c ∷ ss)))) (λ ss. Ok (b ∷ ss)))) (λ ss. Ok (a ∷ ss)))) ≡ None
+    → None ≡ result_err (and_then r (λ a. and_then (and_then s (λ b. and_then (and_then t (λ c. and_then rest (λ ss. Ok (c ∷ ss)))) (λ ss. Ok (b ∷ ss)))) (λ ss. Ok (a ∷ ss))))
     → and_then (and_then r (λ a. and_then (and_then s (λ b. and_then (and_then t (λ c. and_then rest (λ ss. Ok (c ∷ ss)))) (λ ss. Ok (b ∷ ss)))) (λ ss. Ok (a ∷ ss)))) (λ sorts. ok_or (sort_of_operator o sorts) WrongKind) ≡ Err WrongKind
 three o (Err e) s t rest h = cc
 three o (Ok a) (Err e) t rest h = cc
@@ -26,7 +26,7 @@ three o (Ok a) (Ok b) (Ok c) (Ok ss) h = refl
 
 -- an operator takes one operand or two
 pub wrong_count : {C : Type 0} (sort_at : C → Result Sort QueryFault) (o : Op) (xs : List (Expr C)) → length xs ≢ 1 → length xs ≢ 2
-    → result_err (all_checked sort_at (trees (map tree_of xs))) ≡ None
+    → None ≡ result_err (all_checked sort_at (trees (map tree_of xs)))
     → and_then (all_checked sort_at (trees (map tree_of xs))) (λ sorts. ok_or (sort_of_operator o sorts) WrongKind) ≡ Err WrongKind
 wrong_count sort_at o [] one two h = refl
 wrong_count sort_at o (x ∷ []) one two h = absurd (one refl)

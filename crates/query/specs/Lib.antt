@@ -4,3 +4,5 @@ pub mod FaultText
 pub mod Sorts
 pub mod Checked
 pub mod Columns
+pub mod Asked
+pub mod Fault

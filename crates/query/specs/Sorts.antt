@@ -45,6 +45,13 @@ abbrev pub is_truth : Sort → Bool
 is_truth Truth = true
 is_truth s = false
 
+-- Of an integer type, a truth value or a text.
+abbrev pub is_plain : Sort → Bool
+is_plain (Int t) = true
+is_plain Truth = true
+is_plain Text = true
+is_plain s = false
+
 -- Two of one integer type, two truth values, or two texts.
 abbrev pub is_alike : Sort → Sort → Bool
 is_alike (Int s) (Int t) = same_int s t

@@ -7,6 +7,7 @@ pub mod columns;
 pub mod depth;
 pub mod expr;
 pub mod fault;
+pub mod kinds;
 pub mod queries;
 pub mod sort;
 

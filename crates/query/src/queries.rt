@@ -1,8 +1,14 @@
 //! Whole queries, by name and by position.
 
+ghost use Rattle.std.specs.Prelude.{◌≡◌};
+ghost use Rattle.query.specs.Asked.{asked};
+ghost use Rattle.query.specs.Fault.{fits};
+
 use crate::expr::{Agg, Expr};
+use crate::kinds::{check_parts, is_too_deep};
 use arrayvec::ArrayVec;
 use std::alloc::Global;
+use types::Schema;
 
 /// A query as it is written: columns are called by name.
 #[derive(Debug)]
@@ -24,6 +30,17 @@ pub struct Query {
     pub by: ArrayVec<u32, 4>,
     /// What is told of each group.
     pub aggs: Vec<Agg<u32>>,
+}
+
+impl Query {
+    /// Whether it is a query over the fields of the schema: each position is that of a field, all kinds are right, and no path
+    /// of the filter has more than 32 expressions. It takes no memory, and goes down 33 levels at most.
+    pub fn fits(&self, schema: &Schema) -> bool
+        ensures { result ≡ fits schema.now (asked self.now) }
+    {
+        !is_too_deep(&self.filter)
+            && check_parts(&self.filter, &self.by, &self.aggs, schema).is_ok()
+    }
 }
 
 impl Drop for QueryText {

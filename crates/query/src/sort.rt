@@ -38,7 +38,7 @@ pub(crate) fn sort_of_type(ty: &DataType) -> Sort
 }
 
 impl Sort {
-    ghost use Rattle.query.specs.Sorts.{is_int, is_truth, is_alike, type_beside, settled};
+    ghost use Rattle.query.specs.Sorts.{is_int, is_plain, is_truth, is_alike, type_beside, settled};
 
     /// Whether it is of an integer type and no literal.
     pub(crate) fn is_int(self) -> bool
@@ -52,6 +52,13 @@ impl Sort {
         ensures { result ≡ is_truth self }
     {
         matches!(self, Sort::Truth)
+    }
+
+    /// Whether it is of an integer type, a truth value or a text, as keys are.
+    pub(crate) fn is_plain(self) -> bool
+        ensures { result ≡ is_plain self }
+    {
+        matches!(self, Sort::Int(_) | Sort::Truth | Sort::Text)
     }
 
     /// Whether both are of one integer type, both truth values, or both texts.
