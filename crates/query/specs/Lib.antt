@@ -6,3 +6,4 @@ pub mod Checked
 pub mod Columns
 pub mod Asked
 pub mod Fault
+pub mod Resolved

@@ -8,9 +8,11 @@ pub mod depth;
 pub mod expr;
 pub mod fault;
 pub mod kinds;
+pub mod positions;
 pub mod queries;
 pub mod sort;
 
 pub use expr::{Agg, Expr, Op};
 pub use fault::{QueryFault, query_fault_text};
+pub use positions::resolve;
 pub use queries::{Query, QueryText};
