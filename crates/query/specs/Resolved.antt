@@ -46,6 +46,10 @@ written q = record { filter = option_map tree_of q.filter; by = q.by.items; aggs
 abbrev pub named : QueryText → Asked (List ℕ)
 named q = renamed_query string_bytes (written q)
 
+-- The position that the name of a column becomes.
+abbrev pub place_in : List FieldShape → String Global → ℕ
+place_in fields name = place_of fields (string_bytes name)
+
 -- Where no fault stands, the first of all coming first, each name is replaced by its column's position.
 abbrev pub unless_fault : Option QueryFault → Asked ℕ → Result (Asked ℕ) QueryFault
 unless_fault None q = Ok q

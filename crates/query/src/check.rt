@@ -58,7 +58,8 @@ pub(crate) fn checked<C: Column>(expr: &Expr<C>, schema: &Schema) -> Result<Sort
 #[cycle(check)]
 #[tactic(auto, using(crate::proofs::CheckLemmas::operands))]
 fn walk<C: Column>(operands: &[Expr<C>], schema: &Schema) -> Result<(), QueryFault>
-    ensures { result_err result ≡ result_err (all_checked (C.sort_in schema.now) (trees (map tree_of operands.now))) }
+    ensures { result_err result
+        ≡ result_err (all_checked (C.sort_in schema.now) (trees (map tree_of operands.now))) }
 {
     for operand in operands {
         checked(operand, schema)?;

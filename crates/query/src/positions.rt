@@ -1,11 +1,11 @@
 //! Queries by name become queries by position.
 
-ghost use Rattle.std.specs.Prelude.{◌≡◌, ◌⊎◌, true, map, option_map, IfOk, IfErr, IsOk, Ok, Err, string_bytes};
+ghost use Rattle.std.specs.Prelude.{◌≡◌, ◌⊎◌, true, map, option_map, IfOk, IfErr, IsOk, Ok, Err};
 ghost use Rattle.types.specs.Shape.{fields_of};
 ghost use Rattle.query.specs.Asked.{asked};
 ghost use Rattle.query.specs.Columns.{place_of};
 ghost use Rattle.query.specs.Fault.{fits};
-ghost use Rattle.query.specs.Resolved.{named, renamed, renamed_agg, renamed_query, resolved, written};
+ghost use Rattle.query.specs.Resolved.{named, place_in, renamed, renamed_agg, renamed_query, resolved, written};
 ghost use Rattle.query.specs.Tree.{tree_of};
 
 use crate::columns::place_of;
@@ -36,7 +36,8 @@ pub fn resolve(alloc: Global, text: &QueryText, schema: &Schema) -> Result<Query
 
 /// The query with each name replaced by its column's position.
 fn placed_query(alloc: Global, text: &QueryText, fields: &[Field]) -> Result<Query, NoMemory>
-    ensures { IfOk result (λ q. asked q ≡ renamed_query (λ name. place_of (fields_of fields.now) (string_bytes name)) (written text.now)) }
+    ensures { IfOk result (λ q. asked q ≡ renamed_query (place_in (fields_of fields.now))
+        (written text.now)) }
 {
     Ok(Query {
         filter: placed_filter(alloc, &text.filter, fields)?,
@@ -55,7 +56,8 @@ fn position(fields: &[Field], name: &str) -> Result<u32, NoMemory>
 /// The expression with each name replaced by its column's position.
 #[cycle(place)]
 fn placed(alloc: Global, expr: &Expr<String>, fields: &[Field]) -> Result<Expr<u32>, NoMemory>
-    ensures { IfOk result (λ e. tree_of e ≡ renamed (λ name. place_of (fields_of fields.now) (string_bytes name)) (tree_of expr.now)) }
+    ensures { IfOk result (λ e. tree_of e ≡ renamed (place_in (fields_of fields.now))
+        (tree_of expr.now)) }
 {
     match expr {
         Expr::Column(name) => Ok(Expr::Column(position(fields, name)?)),
@@ -72,7 +74,8 @@ fn all_placed(
     operands: &[Expr<String>],
     fields: &[Field],
 ) -> Result<Vec<Expr<u32>>, NoMemory>
-    ensures { IfOk result (λ v. map tree_of v.items ≡ map (renamed (λ name. place_of (fields_of fields.now) (string_bytes name))) (map tree_of operands.now)) }
+    ensures { IfOk result (λ v. map tree_of v.items
+        ≡ map (renamed (place_in (fields_of fields.now))) (map tree_of operands.now)) }
 {
     let mut placed_operands = Vec::with_capacity(alloc, operands.len())?;
     for operand in operands {
@@ -86,7 +89,7 @@ fn placed_keys(
     by: &ArrayVec<String, 4, Global>,
     fields: &[Field],
 ) -> Result<ArrayVec<u32, 4>, NoMemory>
-    ensures { IfOk result (λ v. v.items ≡ map (λ name. place_of (fields_of fields.now) (string_bytes name)) by.now.items) }
+    ensures { IfOk result (λ v. v.items ≡ map (place_in (fields_of fields.now)) by.now.items) }
 {
     let names = by.as_slice();
     let mut keys = ArrayVec::new();
@@ -98,7 +101,7 @@ fn placed_keys(
 
 /// The aggregate with its name replaced by its column's position.
 fn placed_agg(agg: &Agg<String>, fields: &[Field]) -> Result<Agg<u32>, NoMemory>
-    ensures { IfOk result (λ a. a ≡ renamed_agg (λ name. place_of (fields_of fields.now) (string_bytes name)) agg.now) }
+    ensures { IfOk result (λ a. a ≡ renamed_agg (place_in (fields_of fields.now)) agg.now) }
 {
     match agg {
         Agg::Rows => Ok(Agg::Rows),
@@ -115,7 +118,8 @@ fn placed_aggs(
     aggs: &[Agg<String>],
     fields: &[Field],
 ) -> Result<Vec<Agg<u32>>, NoMemory>
-    ensures { IfOk result (λ v. v.items ≡ map (renamed_agg (λ name. place_of (fields_of fields.now) (string_bytes name))) aggs.now) }
+    ensures { IfOk result (λ v. v.items
+        ≡ map (renamed_agg (place_in (fields_of fields.now))) aggs.now) }
 {
     let mut placed_aggs = Vec::with_capacity(alloc, aggs.len())?;
     for agg in aggs {
@@ -130,7 +134,8 @@ fn placed_filter(
     filter: &Option<Expr<String>>,
     fields: &[Field],
 ) -> Result<Option<Expr<u32>>, NoMemory>
-    ensures { IfOk result (λ o. option_map tree_of o ≡ option_map (renamed (λ name. place_of (fields_of fields.now) (string_bytes name))) (option_map tree_of filter.now)) }
+    ensures { IfOk result (λ o. option_map tree_of o
+        ≡ option_map (renamed (place_in (fields_of fields.now))) (option_map tree_of filter.now)) }
 {
     match filter {
         Some(expr) => Ok(Some(placed(alloc, expr, fields)?)),

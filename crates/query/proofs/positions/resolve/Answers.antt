@@ -1,8 +1,7 @@
-use Rattle.std.proofs.Common.{◌≡◌, ◌∙◌, Some, None, Ok, inl, inr, ap, refl, sym, string_bytes}
+use Rattle.std.proofs.Common.{◌≡◌, ◌∙◌, Some, None, Ok, inl, inr, ap, refl, sym}
 use Rattle.query.specs.Asked.{asked}
-use Rattle.query.specs.Columns.{place_of}
 use Rattle.query.specs.Fault.{fits}
-use Rattle.query.specs.Resolved.{renamed_query, written}
+use Rattle.query.specs.Resolved.{place_in, renamed_query, written}
 use Rattle.query.proofs.ResolvedLemmas.{fault-written, fits-placed, handed_on, IsOk-query, resolved-deep, resolved-shallow}
 use Rattle.query.proofs.positions.resolve.Goals as goal
 
@@ -32,8 +31,8 @@ returns-clause-ok c =
     let fields = c.args.schema.now in
     let text = c.args.text.now in
     let told = fault-written fields text c.deref.result.now c.deref-2.result.now None c.in_ok-check_parts.ensures c.deref.ensures.0 c.deref-2.ensures.value in
-    let placed : asked c.in_ok-placed_query.field-0 ≡ renamed_query (λ name. place_of fields (string_bytes name)) (written text) =
-    c.in_ok-placed_query.ensures ∙ ap (λ fs. renamed_query (λ name. place_of fs (string_bytes name)) (written text)) c.fields.ensures.value in
+    let placed : asked c.in_ok-placed_query.field-0 ≡ renamed_query (place_in fields) (written text) =
+    c.in_ok-placed_query.ensures ∙ ap (λ fs. renamed_query (place_in fs) (written text)) c.fields.ensures.value in
     resolved-shallow fields (written text) None (sym c.is_too_deep.ensures ∙ c.if-is_too_deep.false) told ∙ ap Ok (sym placed)
 
 pub returns-clause-fits : goal.returns-clause-fits
@@ -41,6 +40,6 @@ returns-clause-fits c =
     let fields = c.args.schema.now in
     let text = c.args.text.now in
     let told = fault-written fields text c.deref.result.now c.deref-2.result.now None c.in_ok-check_parts.ensures c.deref.ensures.0 c.deref-2.ensures.value in
-    let placed : asked c.in_ok-placed_query.field-0 ≡ renamed_query (λ name. place_of fields (string_bytes name)) (written text) =
-    c.in_ok-placed_query.ensures ∙ ap (λ fs. renamed_query (λ name. place_of fs (string_bytes name)) (written text)) c.fields.ensures.value in
+    let placed : asked c.in_ok-placed_query.field-0 ≡ renamed_query (place_in fields) (written text) =
+    c.in_ok-placed_query.ensures ∙ ap (λ fs. renamed_query (place_in fs) (written text)) c.fields.ensures.value in
     ap (fits fields) placed ∙ fits-placed fields (written text) (sym c.is_too_deep.ensures ∙ c.if-is_too_deep.false) told
