@@ -11,7 +11,7 @@ use crate::sort::{Sort, sort_of_one, sort_of_two};
 use types::Schema;
 
 /// What calls a column of a schema: its name, or its position.
-pub trait Column {
+pub(crate) trait Column {
     ghost use Rattle.std.specs.Prelude.{List, Result};
     ghost use Rattle.types.specs.Shape.{FieldShape};
     ghost use Rattle.query.specs.declared.fault.QueryFault.{QueryFault};

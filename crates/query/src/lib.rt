@@ -2,15 +2,15 @@
 //! query is written, and by position as it is answered.
 #![tactic(auto)]
 
-pub mod check;
-pub mod columns;
+mod check;
+mod columns;
 pub mod depth;
 pub mod expr;
 pub mod fault;
-pub mod kinds;
-pub mod positions;
+mod kinds;
+mod positions;
 pub mod queries;
-pub mod sort;
+mod sort;
 
 pub use expr::{Agg, Expr, Op};
 pub use fault::{QueryFault, query_fault_text};
