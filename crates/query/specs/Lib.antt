@@ -1,0 +1,9 @@
+-- What the contracts of this crate speak of.
+pub mod Tree
+pub mod FaultText
+pub mod Sorts
+pub mod Checked
+pub mod Columns
+pub mod Asked
+pub mod Fault
+pub mod Resolved

@@ -1,0 +1,18 @@
+//! Queries over the columns of a table: which rows, by which keys, and what of each group. Columns are called by name as a
+//! query is written, and by position as it is answered.
+#![tactic(auto)]
+
+mod check;
+mod columns;
+pub mod depth;
+pub mod expr;
+pub mod fault;
+mod kinds;
+mod positions;
+pub mod queries;
+mod sort;
+
+pub use expr::{Agg, Expr, Op};
+pub use fault::{QueryFault, query_fault_text};
+pub use positions::resolve;
+pub use queries::{Query, QueryText};
