@@ -1,1 +1,3 @@
 -- What the proofs of this crate share.
+pub mod Steps
+pub mod Shapes
