@@ -1,3 +1,4 @@
 -- What the proofs of this crate share.
 pub mod Steps
 pub mod Shapes
+pub mod Ranges

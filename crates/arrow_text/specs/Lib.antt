@@ -1,3 +1,4 @@
 -- The words of this crate's contracts.
 pub mod Written
 pub mod SchemaData
+pub mod ColumnData
