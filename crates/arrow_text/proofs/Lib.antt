@@ -2,3 +2,4 @@
 pub mod Steps
 pub mod Shapes
 pub mod Ranges
+pub mod Items

@@ -2,3 +2,4 @@
 pub mod Written
 pub mod SchemaData
 pub mod ColumnData
+pub mod Slots

@@ -4,3 +4,4 @@
 mod number;
 mod output;
 mod schema;
+mod slots;
