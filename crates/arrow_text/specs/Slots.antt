@@ -1,6 +1,7 @@
 -- What is written of slots, and of columns one behind the other.
-use Rattle.std.specs.Prelude.{◌≡◌, ℕ, ◌+◌, List, [], ◌∷◌, ◌++◌, Bool, true, false, ⊤}
+use Rattle.std.specs.Prelude.{◌≡◌, ℕ, ◌+◌, List, [], ◌∷◌, ◌++◌, Bool, true, false, position, unwrap_or, ⊤}
 use Rattle.std.specs.List.{flat_map}
+use Rattle.std.specs.Str.{bytes_eq}
 use Rattle.arrays.specs.Item.{Item}
 use Rattle.arrays.specs.Kind as kind
 use Rattle.arrays.specs.Kind.{Kind}
@@ -8,14 +9,19 @@ use Rattle.arrays.specs.Seen.{Seen}
 use Rattle.json.specs.Token.{Token}
 use Rattle.serde_json.specs.Data.{Data}
 use Rattle.arrow_text.specs.Written.{natural, tokens_of}
-use Rattle.arrow_text.specs.ColumnData.{item_length, number_data, text_data, truth_data, valid_data}
+use Rattle.arrow_text.specs.ColumnData.{code_data, item_length, number_data, text_data, truth_data, valid_data}
 use Rattle.arrow_text.specs.declared.slots.Part.{Part}
-use Rattle.arrow_text.specs.declared.slots.Part.TheVariants.{Numbers, Truths, Texts, Flags}
+use Rattle.arrow_text.specs.declared.slots.Part.TheVariants.{Numbers, Truths, Texts, Codes, Flags}
+
+-- The place of the text among these; 0 where it isn't one of them.
+abbrev pub code_in : List (List ℕ) → List ℕ → ℕ
+code_in texts bytes = unwrap_or (position (bytes_eq bytes) texts) 0
 
 abbrev pub part_data : Part → Item → Data
 part_data (Numbers t) = number_data t
 part_data Truths = truth_data
 part_data Texts = text_data
+part_data (Codes texts) = code_data (code_in texts.now)
 part_data Flags = valid_data
 
 -- The part is one of a column of the kind.
@@ -23,6 +29,7 @@ abbrev pub IsPartOf : Kind → Part → Type 0
 IsPartOf k (Numbers t) = k ≡ kind.int t
 IsPartOf k Truths = k ≡ kind.boolean
 IsPartOf k Texts = k ≡ kind.utf8
+IsPartOf k (Codes texts) = k ≡ kind.dict
 IsPartOf k Flags = ⊤
 
 -- The items of columns one behind the other.

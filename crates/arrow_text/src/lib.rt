@@ -1,7 +1,9 @@
 //! Prints files as Arrow's JSON integration format has them.
 #![tactic(auto)]
 
+mod column;
 mod number;
 mod output;
 mod schema;
 mod slots;
+mod text_set;
