@@ -1,4 +1,4 @@
--- A loop that writes a value for each element of a list.
+-- Loops that make something of each element of a list.
 use Rattle.std.proofs.Common.{◌≡◌, ◌∙◌, ℕ, suc, ◌+◌, ◌<◌, List, [], ◌∷◌, ◌++◌, length, drop, get_or, sum_by, refl, sym, ap, subst, append_assoc, add-one, add-zero, add_assoc}
 use Rattle.std.proofs.Math.Seq.{drop-cons}
 use Rattle.std.proofs.lemmas.List.Elements.{All-get_or}
@@ -13,13 +13,19 @@ use Rattle.arrow_text.specs.ColumnData.{each, item_length, offsets_data}
 use Rattle.arrow_text.specs.Slots.{starts_tokens}
 use Rattle.arrow_text.specs.Written.{natural, tokens_of}
 
--- What is left to write after the element at i, if what is written of a list begins with what is written of its first element.
-pub step : {A : Type 0} (before after : List A → List Token) (xs : List A) (i : ℕ) (x : A) (tokens old new all : List Token)
-    → ((ys : List A) → before (x ∷ ys) ≡ tokens ++ after ys) → i < length xs → x ≡ get_or xs i x → new ≡ old ++ tokens → old ++ before (drop i xs) ≡ all
+-- What is left after an element, if what is made of a list begins with what is made of its first element.
+pub moved : {A B : Type 0} (before after : List A → List B) (xs : List A) (i : ℕ) (x : A) (made old new all : List B)
+    → ((ys : List A) → before (x ∷ ys) ≡ made ++ after ys) → drop i xs ≡ x ∷ drop (suc i) xs → new ≡ old ++ made → old ++ before (drop i xs) ≡ all
     → new ++ after (drop (i + 1) xs) ≡ all
-step before after xs i x tokens old new all begins within is grown whole =
-    let left : drop i xs ≡ x ∷ drop (suc i) xs = drop-cons xs i x within ∙ ap (λ y. y ∷ drop (suc i) xs) (sym is) in
-    rw (add-one, grown, append_assoc old tokens (after (drop (suc i) xs)), ← begins (drop (suc i) xs), ← left) whole
+moved before after xs i x made old new all begins left grown whole =
+    rw (add-one, grown, append_assoc old made (after (drop (suc i) xs)), ← begins (drop (suc i) xs), ← left) whole
+
+-- The same at an element that was read.
+pub step : {A B : Type 0} (before after : List A → List B) (xs : List A) (i : ℕ) (x : A) (made old new all : List B)
+    → ((ys : List A) → before (x ∷ ys) ≡ made ++ after ys) → i < length xs → x ≡ get_or xs i x → new ≡ old ++ made → old ++ before (drop i xs) ≡ all
+    → new ++ after (drop (i + 1) xs) ≡ all
+step before after xs i x made old new all begins within is grown whole =
+    moved before after xs i x made old new all begins (drop-cons xs i x within ∙ ap (λ y. y ∷ drop (suc i) xs) (sym is)) grown whole
 
 -- The values of one list and then those of another.
 pub each_append : (value : Item → Data) (xs ys : List Item) → items_tokens (items_outline (each value (xs ++ ys))) ≡ flat_map (λ x. tokens_of (value x)) xs ++ items_tokens (items_outline (each value ys))

@@ -87,10 +87,14 @@ plain_column value name items = object (member (codes "DATA") (array (each value
 abbrev pub text_column : List ℕ → List Item → Data
 text_column name items = object (member (codes "DATA") (array (each text_data items)) (member (codes "OFFSET") (offsets items) (member (codes "VALIDITY") (flags items) (sized (length items) name))))
 
+-- An array of one.
+abbrev pub only : Data → Data
+only d = array (item d no_items)
+
 -- One of lists, over the column of their items.
 abbrev pub list_column : Data → List ℕ → List Item → Data
 list_column child name items =
-    object (member (codes "OFFSET") (offsets items) (member (codes "VALIDITY") (flags items) (member (codes "children") (array (item child no_items)) (sized (length items) name))))
+    object (member (codes "OFFSET") (offsets items) (member (codes "VALIDITY") (flags items) (member (codes "children") (only child) (sized (length items) name))))
 
 -- The column of a field: its items alone decide. The items of a list column's child are those of the lists that are there, one list
 -- behind the other. A dictionary-encoded column has the codes of its texts.

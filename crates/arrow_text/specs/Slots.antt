@@ -1,6 +1,6 @@
 -- What is written of slots, and of columns one behind the other.
 use Rattle.std.specs.Prelude.{◌≡◌, ℕ, ◌+◌, List, [], ◌∷◌, ◌++◌, Bool, true, false, position, unwrap_or, ⊤}
-use Rattle.std.specs.List.{flat_map}
+use Rattle.std.specs.List.{All, flat_map}
 use Rattle.std.specs.Str.{bytes_eq}
 use Rattle.arrays.specs.Item.{Item}
 use Rattle.arrays.specs.Kind as kind
@@ -52,3 +52,7 @@ is_sized kind.dict = false
 abbrev pub starts_tokens : ℕ → List Item → List Token
 starts_tokens start [] = []
 starts_tokens start (x ∷ xs) = tokens_of (natural start) ++ starts_tokens (start + item_length x) xs
+
+-- Columns of one kind.
+abbrev pub AreOf : Kind → List Seen → Type 0
+AreOf k columns = All (λ c. c.kind ≡ k) columns

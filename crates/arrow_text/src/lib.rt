@@ -2,6 +2,7 @@
 #![tactic(auto)]
 
 mod column;
+mod lists;
 mod number;
 mod output;
 mod schema;
