@@ -1,0 +1,5 @@
+-- The words of this crate's contracts.
+pub mod Written
+pub mod SchemaData
+pub mod ColumnData
+pub mod Slots

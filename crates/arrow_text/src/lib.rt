@@ -1,0 +1,10 @@
+//! Prints files as Arrow's JSON integration format has them.
+#![tactic(auto)]
+
+mod column;
+mod lists;
+mod number;
+mod output;
+mod schema;
+mod slots;
+mod text_set;
