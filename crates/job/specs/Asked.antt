@@ -6,7 +6,7 @@ use Rattle.clap.specs.declared.error.Error.{Error}
 use Rattle.clap.specs.declared.error.kind.ErrorKind.TheVariants.{OutOfMemory}
 use Rattle.job.specs.CommandLine.{arrowtab}
 use Rattle.job.specs.declared.asked.Command.{Command}
-use Rattle.job.specs.declared.asked.Command.TheVariants.{Stats}
+use Rattle.job.specs.declared.asked.Command.TheVariants.{Stats, Export}
 use Rattle.job.specs.declared.asked.Job.{Job}
 use Rattle.job.specs.declared.fault.JobFault.{JobFault}
 use Rattle.job.specs.declared.fault.JobFault.TheVariants.{Line, Unread, NoMemory}
@@ -14,6 +14,7 @@ use Rattle.job.specs.declared.fault.JobFault.TheVariants.{Line, Unread, NoMemory
 -- The word of a command.
 abbrev pub word_of : Command → Text
 word_of Stats = codes "stats"
+word_of Export = codes "export"
 
 -- The names of the files.
 abbrev pub names_of : List (String Global) → List Text

@@ -1,5 +1,5 @@
 -- The commands of the program, as `clap` knows them.
-use Rattle.std.specs.Prelude.{true, Some, codes}
+use Rattle.std.specs.Prelude.{ℕ, List, true, Some, codes}
 use Rattle.clap.specs.Lexer.{usize_max}
 use Rattle.clap.specs.Words.{App, Rule, new_app, new_rule, with_rule, with_subcommand}
 use Rattle.clap.specs.Simple.{on_top}
@@ -11,12 +11,14 @@ files = record (new_rule (codes "FILE")) {
   required = true;
 }
 
--- stats FILE..
-abbrev pub stats : App
-stats = with_rule (new_app (codes "stats")) files
+-- NAME FILE..
+abbrev pub over_files : List ℕ → App
+over_files name = with_rule (new_app name) files
 
--- The program. Without a word it shows its help, and one of its commands has to be there.
+-- The program alone. Without a word it shows its help, and one of its commands has to be there.
+abbrev pub alone : App
+alone = on_top (λ top. record top { arg_required_else_help = true; subcommand_required = true }) (new_app (codes "arrowtab"))
+
+-- stats FILE.., and export FILE..
 abbrev pub arrowtab : App
-arrowtab = with_subcommand
-    (on_top (λ top. record top { arg_required_else_help = true; subcommand_required = true }) (new_app (codes "arrowtab")))
-    stats.top
+arrowtab = with_subcommand (with_subcommand alone (over_files (codes "stats")).top) (over_files (codes "export")).top

@@ -5,6 +5,8 @@
 pub enum Command {
     /// Prints rows, workers and the statistics of each column.
     Stats,
+    /// Prints the table as one file, with a batch for each that was added.
+    Export,
 }
 
 /// A command, and the files that it is about.

@@ -1,7 +1,7 @@
 //! The commands of the program, as `clap` reads them.
 ghost use Rattle.std.specs.Prelude.{◌≡◌, IfOk, false};
 ghost use Rattle.clap.specs.Words.{app_of, rule_of};
-ghost use Rattle.job.specs.CommandLine.{arrowtab, files, stats};
+ghost use Rattle.job.specs.CommandLine.{arrowtab, files, over_files};
 ghost use Rattle.clap.specs.declared.builder.command.Command.TheViews.{out-Command};
 
 use clap::{Arg, Command};
@@ -11,27 +11,37 @@ use std::alloc::{AllocError, Global};
 pub(crate) fn arrowtab<'a>(alloc: Global) -> Result<Command<'a>, AllocError>
     ensures { IfOk result (λ command. app_of command ≡ arrowtab) }
 {
-    let stats = stats(alloc)?;
+    let stats = over_files(
+        alloc,
+        "stats",
+        "Print rows, nulls, sum, least and greatest of each column",
+    )?;
+    let export = over_files(
+        alloc,
+        "export",
+        "Print the table as one file, each text once in its dictionary",
+    )?;
     let bare = Command::new(alloc, "arrowtab");
     let described = bare.about(
-        "Prints exact statistics of files in Apache Arrow's JSON integration format",
+        "Tells what files in Apache Arrow's JSON integration format hold, as one table",
     );
     let explained = described.after_help(
         "Exit status: 0 if all was done; 1 for a fault in a file, the output or memory;\n2 for a mistake in the arguments.",
     );
     let required = explained.subcommand_required(true);
     let helpful = required.arg_required_else_help(true);
-    helpful.subcommand(stats)
+    let with_stats = helpful.subcommand(stats)?;
+    with_stats.subcommand(export)
 }
 
-/// `stats FILE..`
-fn stats<'a>(alloc: Global) -> Result<Command<'a>, AllocError>
-    ensures line { IfOk result (λ command. app_of command ≡ stats) }
+/// `NAME FILE..`
+fn over_files<'a>(alloc: Global, name: &'a str, about: &'a str) -> Result<Command<'a>, AllocError>
+    ensures line { IfOk result (λ command. app_of command ≡ over_files name.now) }
     ensures local { IfOk result (λ command. (out-Command command).has_globals ≡ false) }
 {
     let files = files(alloc);
-    let bare = Command::new(alloc, "stats");
-    let described = bare.about("Print rows, nulls, sum, least and greatest of each column");
+    let bare = Command::new(alloc, name);
+    let described = bare.about(about);
     described.arg(files)
 }
 

@@ -62,6 +62,7 @@ fn command_of(word: &str) -> Option<Command>
 {
     match word {
         "stats" => Some(Command::Stats),
+        "export" => Some(Command::Export),
         _ => None,
     }
 }

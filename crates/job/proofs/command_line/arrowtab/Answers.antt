@@ -3,6 +3,7 @@ use Rattle.std.proofs.lemmas.Result.{IfOk-weaker}
 use Rattle.std.specs.Prelude.{codes}
 use Rattle.clap.specs.Simple.{App, app_of_fields, on_top}
 use Rattle.clap.specs.Words.{app_of, new_app, with_subcommand}
+use Rattle.job.specs.CommandLine.{alone, over_files}
 use Rattle.job.proofs.command_line.arrowtab.Goals as goal
 
 abbrev required : App → App
@@ -19,5 +20,7 @@ returns c =
     ap app_of_fields c.subcommand_required-required.ensures ∙ ap required explained in
     let with_help : app_of c.arg_required_else_help-helpful.result ≡ helpful (required (new_app (codes "arrowtab"))) =
     ap app_of_fields c.arg_required_else_help-helpful.ensures ∙ ap helpful with_command in
-    IfOk-weaker c.subcommand.result _ _ (λ command added.
-    added.shape c.in_ok-stats.ensures.local ∙ ap₂ with_subcommand with_help (ap (λ (a : App). a.top) c.in_ok-stats.ensures.line)) c.subcommand.ensures
+    let with_stats : app_of c.in_ok-with_stats.with_stats ≡ with_subcommand alone (over_files (codes "stats")).top =
+    c.in_ok-with_stats.ensures.shape c.in_ok-stats.ensures.local ∙ ap₂ with_subcommand with_help (ap (λ (a : App). a.top) c.in_ok-stats.ensures.line) in
+    IfOk-weaker c.subcommand-2.result _ _ (λ command added.
+    added.shape c.in_ok-export.ensures.local ∙ ap₂ with_subcommand with_stats (ap (λ (a : App). a.top) c.in_ok-export.ensures.line)) c.subcommand-2.ensures

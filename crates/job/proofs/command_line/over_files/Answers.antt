@@ -3,12 +3,11 @@ use Rattle.std.proofs.lemmas.Result.{IfOk-weaker}
 use Rattle.clap.specs.Simple.{app_of_fields}
 use Rattle.clap.specs.Words.{app_of, new_app, with_rule}
 use Rattle.clap.specs.declared.builder.command.Command.TheViews.{out-Command}
-use Rattle.std.specs.Prelude.{codes}
-use Rattle.job.proofs.command_line.stats.Goals as goal
+use Rattle.job.proofs.command_line.over_files.Goals as goal
 
 pub returns : goal.returns
 returns c =
-    let described : app_of c.about-described.result ≡ new_app (codes "stats") = ap app_of_fields c.about-described.ensures ∙ c.new-bare.ensures.app in
+    let described : app_of c.about-described.result ≡ new_app c.args.name.now = ap app_of_fields c.about-described.ensures ∙ c.new-bare.ensures.app in
     let local : (out-Command c.about-described.result).has_globals ≡ false = ap (λ f. f.has_globals) c.about-described.ensures ∙ c.new-bare.ensures.local in
     record {
       line = IfOk-weaker c.arg.result _ _ (λ command added. added.shape c.files-files.ensures.local ∙ ap₂ with_rule described c.files-files.ensures.rule) c.arg.ensures;
