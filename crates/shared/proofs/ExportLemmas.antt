@@ -22,7 +22,7 @@ use Rattle.arrays.specs.Kind.{same_kind}
 use Rattle.arrays.specs.Seen.{Seen, part}
 use Rattle.arrays.specs.Shape.{FieldShape, kind_of_field}
 use Rattle.select.proofs.ChosenLemmas.{items-chosen, kind-chosen}
-use Rattle.shared.specs.Export.{HasMore, IsPlace, IsUnder, copied, passed, rows_before}
+use Rattle.shared.specs.Export.{HasMore, IsLawful, IsPlace, IsUnder, copied, passed, rows_before}
 use Rattle.shared.specs.Held.{IsHeld, batches_of, book_of, pair_of, show}
 use Rattle.shared.specs.History.{cut}
 use Rattle.shared.specs.Lawful.{EndsWithEntry, counted, table_of}
@@ -198,13 +198,18 @@ slots-within b start n within lawful =
 
 pub are-batches : (fields : List FieldShape) (batches : List Shared) → All (λ (b : Shared). IsUnder fields (arc_value b)) batches → AreBatchesOf fields (map (λ (b : Shared). arc_value b) batches)
 are-batches fields [] all i b at = absurd cc
-are-batches fields (x ∷ batches) all zero b at = ap (λ (c : Batch). kinds_of c.fields) (sym (same_Some (arc_value x) b at)) ∙ ap kinds_of (all 0 x (omega arith))
+are-batches fields (x ∷ batches) all zero b at = ap (λ (c : Batch). kinds_of c.fields) (sym (same_Some (arc_value x) b at)) ∙ ap kinds_of (all 0 x (omega arith)).0
 are-batches fields (x ∷ batches) all (suc i) b at = are-batches fields batches (λ k d below. all (suc k) d (omega (arith, below))) i b at
 
 pub are-under : (fields : List FieldShape) (batches : List Shared) → All (λ (b : Shared). IsUnder fields (arc_value b)) batches
     → AllByRecursion (λ (b : Batch). b.fields ≡ fields) (map (λ (b : Shared). arc_value b) batches)
 are-under fields [] all = tt
-are-under fields (x ∷ batches) all = (all 0 x (omega arith), are-under fields batches (λ k d below. all (suc k) d (omega (arith, below))))
+are-under fields (x ∷ batches) all = ((all 0 x (omega arith)).0, are-under fields batches (λ k d below. all (suc k) d (omega (arith, below))))
+
+pub are-lawful : (fields : List FieldShape) (batches : List Shared) → All (λ (b : Shared). IsUnder fields (arc_value b)) batches
+    → AllByRecursion IsLawful (map (λ (b : Shared). arc_value b) batches)
+are-lawful fields [] all = tt
+are-lawful fields (x ∷ batches) all = ((all 0 x (omega arith)).1, are-lawful fields batches (λ k d below. all (suc k) d (omega (arith, below))))
 
 -- ---- where an entry's rows are
 
@@ -271,7 +276,7 @@ lies-there h is k e p x at there =
       within = below;
       fits = fits;
       small = few b.rows (whole b.fields b.rows b.columns stored.lawful).small;
-      under = stored.same;
+      under = (stored.same, stored.lawful);
       place = omega (arith, fits, rows_before-next (batches_of h) p.batch (arc_value x) at.within);
       behind = omega (arith, at.same, counted-next (book_of h) k e at.entry);
       table = λ t rows. entry-table h k e p (arc_value x) t at fits rows;

@@ -1,6 +1,6 @@
 -- A table given out part by part, one for each entry of its book.
-use Rattle.std.specs.Prelude.{◌≡◌, ℕ, ◌+◌, ◌<◌, ◌≤◌, List, length, take}
-use Rattle.arrays.specs.Batch.{Batch}
+use Rattle.std.specs.Prelude.{◌≡◌, ℕ, ◌+◌, ◌<◌, ◌≤◌, List, length, take, None}
+use Rattle.arrays.specs.Batch.{Batch, batch_fault}
 use Rattle.arrays.specs.Seen.{Seen, part}
 use Rattle.arrays.specs.Shape.{FieldShape}
 use Rattle.select.specs.Chosen.{chosen}
@@ -23,9 +23,13 @@ IsPlace batches p = passed batches p ≤ rows_before batches (p.batch + 1)
 abbrev pub HasMore : List Batch → Place → Type 0
 HasMore batches p = passed batches p < rows_before batches (p.batch + 1)
 
--- The batch is under these fields.
+-- The batch has no fault.
+abbrev pub IsLawful : Batch → Type 0
+IsLawful b = batch_fault b.fields b.rows b.columns ≡ None
+
+-- It is one under these fields.
 abbrev pub IsUnder : List FieldShape → Batch → Type 0
-IsUnder fields b = b.fields ≡ fields
+IsUnder fields b = (b.fields ≡ fields) × IsLawful b
 
 -- The n slots of a column from slot start on, as a column of their own.
 abbrev pub copied : ℕ → ℕ → Seen → Seen

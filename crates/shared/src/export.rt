@@ -5,7 +5,7 @@ ghost use Rattle.std.specs.Arc.{arc_value};
 ghost use Rattle.std.specs.List.{AllByRecursion};
 ghost use Rattle.colbits.specs.Slice.{slice};
 ghost use Rattle.arrays.specs.Batch.{rows_of};
-ghost use Rattle.shared.specs.Export.{HasMore, IsPlace, IsUnder, copied, passed};
+ghost use Rattle.shared.specs.Export.{HasMore, IsLawful, IsPlace, IsUnder, copied, passed};
 ghost use Rattle.shared.specs.Held.{IsHeld, show};
 ghost use Rattle.shared.specs.Lawful.{table_of};
 
@@ -29,6 +29,7 @@ pub(crate) fn file_of(alloc: Global, held: &Held) -> Result<File, NoMemory>
     ensures fields { IfOk result (λ f. f.fields ≡ (show held.now).fields) }
     ensures tables { IfOk result (λ f. map rows_of f.batches ≡ map (λ e. e.1) (show held.now).history) }
     ensures under { IfOk result (λ f. AllByRecursion (λ b. b.fields ≡ f.fields) f.batches) }
+    ensures lawful { IfOk result (λ f. AllByRecursion IsLawful f.batches) }
 {
     let batches = entry_batches(alloc, held)?;
     Ok(File::new(held.schema.copy(alloc)?, batches))
@@ -85,11 +86,13 @@ fn part_of(
     requires { start + rows ≤ (arc_value batch.now).rows }
     ensures fields { IfOk result (λ b. (arc_value b).fields ≡ (arc_value batch.now).fields) }
     ensures rows { IfOk result (λ b. rows_of (arc_value b) ≡ slice (rows_of (arc_value batch.now)) start rows) }
+    ensures lawful { IfOk result (λ b. IsLawful (arc_value b)) }
 {
+    let whole = batch.columns();
     if rows == batch.rows() {
         return Ok(batch.clone()?);
     }
-    let columns = columns_of(alloc, batch.columns(), start, rows)?;
+    let columns = columns_of(alloc, whole, start, rows)?;
     let Ok(part) = RecordBatch::new(batch.schema().copy(alloc)?, rows, columns) else {
         // The columns are of the same types, and as long as is said.
         unreachable!();

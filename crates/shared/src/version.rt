@@ -6,6 +6,7 @@ ghost use Rattle.std.specs.List.{AllByRecursion};
 ghost use Rattle.arrays.specs.Batch.{rows_of, column};
 ghost use Rattle.arrays.specs.Shape.{FieldShape, kind_of_field};
 ghost use Rattle.group.specs.Summary.{AreStats};
+ghost use Rattle.shared.specs.Export.{IsLawful};
 ghost use Rattle.shared.specs.Cause.{IsLegal};
 ghost use Rattle.shared.specs.Held.{IsHeld, pair_of, show};
 ghost use Rattle.shared.specs.History.{book, rows};
@@ -117,6 +118,7 @@ impl Version {
         ensures fields { IfOk result (λ f. f.fields ≡ self.now.fields) }
         ensures tables { IfOk result (λ f. map rows_of f.batches ≡ map (λ e. e.1) self.now.history) }
         ensures under { IfOk result (λ f. AllByRecursion (λ b. b.fields ≡ f.fields) f.batches) }
+        ensures lawful { IfOk result (λ f. AllByRecursion IsLawful f.batches) }
     {
         file_of(alloc, &self.held)
     }

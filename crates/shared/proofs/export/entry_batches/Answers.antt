@@ -51,7 +51,7 @@ loop-entry-preserved c =
           ∙ map-append rows old (part ∷ [])
           ∙ ap (λ (l : List Table). l ++ rows_of (arc_value part) ∷ []) c.loop-entry.invariant.0
           ∙ sym (here.table (rows_of (arc_value part)) c.in_ok-part_of.ensures.rows),
-      subst (All IsOne) (sym c.in_ok-push.ensures.items) (All-push IsOne old part c.loop-entry.invariant.1 (c.in_ok-part_of.ensures.fields ∙ here.under)),
+      subst (All IsOne) (sym c.in_ok-push.ensures.items) (All-push IsOne old part c.loop-entry.invariant.1 (c.in_ok-part_of.ensures.fields ∙ here.under.0, c.in_ok-part_of.ensures.lawful)),
       here.behind,
       here.place,
       omega (arith, here.within),

@@ -5,8 +5,9 @@ use Rattle.std.specs.List.{AllByRecursion}
 use Rattle.arrays.specs.Batch.{Batch, rows_of}
 use Rattle.arrays.specs.File.{File}
 use Rattle.arrays.specs.Shape.{FieldShape}
-use Rattle.shared.specs.Export.{IsUnder}
-use Rattle.shared.proofs.ExportLemmas.{Shared, are-batches, are-under}
+use Rattle.shared.specs.Held.{show}
+use Rattle.shared.specs.Export.{IsLawful, IsUnder}
+use Rattle.shared.proofs.ExportLemmas.{Shared, are-batches, are-lawful, are-under}
 use Rattle.shared.proofs.export.file_of.Goals as goal
 
 pub new-requires : goal.new-requires
@@ -27,3 +28,8 @@ returns-clause-under c =
     subst (λ (f : File). AllByRecursion (λ (b : Batch). b.fields ≡ f.fields) f.batches) (sym c.new.ensures)
     (are-under c.in_ok-copy.field-0 batches
     (subst (λ (f : List FieldShape). All (λ (b : Shared). IsUnder f (arc_value b)) batches) (sym (c.in_ok-copy.ensures ∙ c.deref.ensures)) c.in_ok-batches.ensures.under))
+
+pub returns-clause-lawful : goal.returns-clause-lawful
+returns-clause-lawful c =
+    subst (λ (f : File). AllByRecursion IsLawful f.batches) (sym c.new.ensures)
+    (are-lawful (show c.args.held.now).fields c.in_ok-batches.batches.items c.in_ok-batches.ensures.under)
