@@ -1,7 +1,11 @@
 //! Prints files as Arrow's JSON integration format has them.
 #![tactic(auto)]
 
+mod batch;
 mod column;
+mod dictionaries;
+mod entry;
+mod file;
 mod lists;
 mod number;
 mod output;
