@@ -90,8 +90,8 @@ encoded_all fields batches place f same within is_f is k d here =
     let shape = field_of f in
     let there : place < length (fields_of fields) = subst (λ n. place < n) (sym (length-map fields field_of)) within in
     let one : get_or (kinds_of (fields_of fields)) place dict ≡ dict =
-        get_or-map kind_of_field (fields_of fields) place shape dict there
-        ∙ ap kind_of_field (get_or-map field_of fields place f shape within ∙ ap field_of (sym is_f)) ∙ kind_of_field-field_of f ∙ is in
+    get_or-map kind_of_field (fields_of fields) place shape dict there
+    ∙ ap kind_of_field (get_or-map field_of fields place f shape within ∙ ap field_of (sym is_f)) ∙ kind_of_field-field_of f ∙ is in
     let size : place < length (kinds_of (fields_of fields)) = subst (λ n. place < n) (sym (length-map (fields_of fields) kind_of_field)) there in
     ap (λ ks. slice_get ks place) (same k (get_or batches k d) (slice_get-get_or batches k d here))
     ∙ slice_get-get_or (kinds_of (fields_of fields)) place dict size ∙ ap (λ x. Some x) one

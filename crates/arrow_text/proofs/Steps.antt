@@ -44,7 +44,7 @@ offsets_append start [] ys = ap (λ n. items_tokens (items_outline (offsets_data
 offsets_append start (x ∷ xs) ys =
     ap (λ ts. tokens_of (natural start) ++ ts)
     (offsets_append (start + item_length x) xs ys
-     ∙ ap (λ n. starts_tokens (start + item_length x) xs ++ items_tokens (items_outline (offsets_data n ys))) (add_assoc start (item_length x) (sum_by item_length xs) ∙ ap (λ n. start + n) (sym (sum_by-cons item_length x xs))))
+    ∙ ap (λ n. starts_tokens (start + item_length x) xs ++ items_tokens (items_outline (offsets_data n ys))) (add_assoc start (item_length x) (sum_by item_length xs) ∙ ap (λ n. start + n) (sym (sum_by-cons item_length x xs))))
 
 -- The same of what is made of each element.
 pub All-mapped : {A B : Type 0} (P : B → Type 0) (f : A → B) (xs : List A) (i : ℕ) (x : A) → All P (map f xs) → i < length xs → x ≡ get_or xs i x → P (f x)

@@ -2,11 +2,12 @@
 use Rattle.std.proofs.Common.{◌≡◌, ◌∙◌, ℕ, List, [], ◌∷◌, ◌++◌, ◌+◌, ◌<◌, suc, length, map, drop, get_or, refl, sym, ap, append_assoc, append-nil, add-one}
 use Rattle.std.proofs.Math.Seq.{drop-cons}
 use Rattle.arrays.specs.Batch.{Batch}
+use Rattle.arrays.specs.Shape.{FieldShape}
 use Rattle.arrays.specs.Item.{Item, null, int, boolean, text, list}
 use Rattle.pool.specs.Texts.{firsts, texts_of}
 use Rattle.pool.proofs.TextLemmas.{firsts-push}
-use Rattle.arrow_text.specs.BatchData.{table_of, tables_of}
-use Rattle.arrow_text.specs.Dictionaries.{column_at, column_items, with_item, with_items}
+use Rattle.arrow_text.specs.BatchData.{Table, table_of, tables_of}
+use Rattle.arrow_text.specs.Dictionaries.{column_at, column_items, dictionaries_from, with_item, with_items}
 
 pub with_items-append : (texts : List (List ℕ)) (xs ys : List Item) → with_items texts (xs ++ ys) ≡ with_items (with_items texts xs) ys
 with_items-append texts [] ys = refl
@@ -35,3 +36,8 @@ texts_step f place xs i x old new all within is grown whole =
     let rest = column_items place (tables_of (map f (drop (suc i) xs))) in
     let first : column_items place (tables_of (map f (drop i xs))) ≡ here ++ rest = rw left refl in
     rw (add-one, grown, ← with_items-append old here rest, ← first) whole
+
+-- There is a dictionary for each field.
+pub length-dictionaries_from : (place : ℕ) (fields : List FieldShape) (tables : List Table) → length (dictionaries_from place fields tables) ≡ length fields
+length-dictionaries_from place [] tables = refl
+length-dictionaries_from place (f ∷ fields) tables = ap suc (length-dictionaries_from (suc place) fields tables)

@@ -47,7 +47,13 @@ fn write_columns(
         out.old out.new) }
 {
     for place in 0..fields.len() {
-        write_array(alloc, out, &dictionaries[place], &fields[place], &columns[place])?;
+        write_array(
+            alloc,
+            out,
+            &dictionaries[place],
+            &fields[place],
+            &columns[place],
+        )?;
     }
     out.end_array()
 }

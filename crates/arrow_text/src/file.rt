@@ -63,3 +63,47 @@ fn write_schema_member(out: &mut Output, schema: &Schema) -> Result<(), NoMemory
     write_schema(out, schema)?;
     out.end_object()
 }
+
+/// Writes the dictionaries, where there are any, the schema, and the end of the file.
+fn write_last_members(
+    out: &mut Output,
+    dictionaries: &[TextSet],
+    schema: &Schema,
+) -> Result<(), NoMemory>
+    requires { length dictionaries.now ≡ length schema.now }
+    ensures { OnOk result (AddsMembers (last_members (has_dictionary schema.now) dictionaries.now schema.now) out.old out.new) }
+{
+    let fields = schema.fields();
+    if !has_dictionary(fields) {
+        return write_schema_member(out, schema);
+    }
+    out.key("dictionaries")?;
+    out.begin_array()?;
+    write_entries(out, dictionaries, fields)?;
+    write_schema_member(out, schema)
+}
+
+/// Writes a file.
+fn write_file(alloc: Global, out: &mut Output, file: &File) -> Result<(), NoMemory>
+    ensures { OnOk result (Adds (document file.now.fields (tables_of file.now.batches)) out.old out.new) }
+{
+    let fields = file.schema().fields();
+    let dictionaries = dictionaries_of(alloc, fields, file.batches())?;
+    out.begin_object()?;
+    out.key("batches")?;
+    out.begin_array()?;
+    write_batches(alloc, out, &dictionaries, fields, file.batches())?;
+    write_last_members(out, &dictionaries, file.schema())
+}
+
+/// The text of a file, as Arrow's integration tests exchange it: JSON without a space and without a newline behind
+/// it. It depends on the schema and on the items of the batches alone, so a dictionary-encoded column has a dictionary
+/// made anew.
+#[tactic(auto, using(crate::proofs::Printed::printed))]
+pub fn print_file(alloc: Global, file: &File) -> Result<String, NoMemory>
+    ensures { IfOk result (λ printed. string_bytes printed ≡ text file.now) }
+{
+    let mut out = Output::new(alloc);
+    write_file(alloc, &mut out, file)?;
+    Ok(out.into_text())
+}

@@ -5,10 +5,12 @@ mod batch;
 mod column;
 mod dictionaries;
 mod entry;
-mod file;
+pub mod file;
 mod lists;
 mod number;
 mod output;
 mod schema;
 mod slots;
 mod text_set;
+
+pub use file::print_file;
