@@ -47,7 +47,8 @@ impl File {
 
     /// The batches, in order.
     pub fn batches(&self) -> &[Arc<RecordBatch>]
-        ensures { map arc_value result.now ≡ self.now.batches }
+        ensures value { map arc_value result.now ≡ self.now.batches }
+        ensures types { AreBatchesOf self.now.fields self.now.batches }
     {
         &self.batches
     }

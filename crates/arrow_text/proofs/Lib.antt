@@ -3,3 +3,6 @@ pub mod Steps
 pub mod Shapes
 pub mod Ranges
 pub mod Items
+pub mod Batches
+pub mod Texts
+pub mod Printed

@@ -1,6 +1,7 @@
 -- Loops that make something of each element of a list.
-use Rattle.std.proofs.Common.{◌≡◌, ◌∙◌, ℕ, suc, ◌+◌, ◌<◌, List, [], ◌∷◌, ◌++◌, length, drop, get_or, sum_by, refl, sym, ap, subst, append_assoc, add-one, add-zero, add_assoc}
+use Rattle.std.proofs.Common.{◌≡◌, ◌∙◌, ℕ, suc, ◌+◌, ◌<◌, List, [], ◌∷◌, ◌++◌, length, map, drop, get_or, sum_by, refl, sym, ap, subst, append_assoc, add-one, add-zero, add_assoc}
 use Rattle.std.proofs.Math.Seq.{drop-cons}
+use Rattle.std.proofs.lemmas.List.{get_or-map, length-map}
 use Rattle.std.proofs.lemmas.List.Elements.{All-get_or}
 use Rattle.std.proofs.lemmas.List.Sums.{sum_by-cons}
 use Rattle.std.specs.List.{All, flat_map}
@@ -43,4 +44,9 @@ offsets_append start [] ys = ap (λ n. items_tokens (items_outline (offsets_data
 offsets_append start (x ∷ xs) ys =
     ap (λ ts. tokens_of (natural start) ++ ts)
     (offsets_append (start + item_length x) xs ys
-     ∙ ap (λ n. starts_tokens (start + item_length x) xs ++ items_tokens (items_outline (offsets_data n ys))) (add_assoc start (item_length x) (sum_by item_length xs) ∙ ap (λ n. start + n) (sym (sum_by-cons item_length x xs))))
+    ∙ ap (λ n. starts_tokens (start + item_length x) xs ++ items_tokens (items_outline (offsets_data n ys))) (add_assoc start (item_length x) (sum_by item_length xs) ∙ ap (λ n. start + n) (sym (sum_by-cons item_length x xs))))
+
+-- The same of what is made of each element.
+pub All-mapped : {A B : Type 0} (P : B → Type 0) (f : A → B) (xs : List A) (i : ℕ) (x : A) → All P (map f xs) → i < length xs → x ≡ get_or xs i x → P (f x)
+All-mapped P f xs i x all within is =
+    subst P (get_or-map f xs i x (f x) within ∙ ap f (sym is)) (All-get_or P (map f xs) i (f x) (subst (λ n. i < n) (sym (length-map xs f)) within) all)

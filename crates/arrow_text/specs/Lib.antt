@@ -3,3 +3,7 @@ pub mod Written
 pub mod SchemaData
 pub mod ColumnData
 pub mod Slots
+pub mod BatchData
+pub mod Dictionaries
+pub mod DictionaryData
+pub mod Text

@@ -20,7 +20,7 @@ use colbits::NoMemory;
 use std::alloc::Global;
 
 /// Writes the members with which each column ends.
-fn write_sized(out: &mut Output, count: u64, name: &str) -> Result<(), NoMemory>
+pub(crate) fn write_sized(out: &mut Output, count: u64, name: &str) -> Result<(), NoMemory>
     ensures { OnOk result (AddsMembers (sized count name.now) out.old out.new) }
 {
     out.key("count")?;

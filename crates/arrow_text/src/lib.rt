@@ -1,10 +1,16 @@
 //! Prints files as Arrow's JSON integration format has them.
 #![tactic(auto)]
 
+mod batch;
 mod column;
+mod dictionaries;
+mod entry;
+pub mod file;
 mod lists;
 mod number;
 mod output;
 mod schema;
 mod slots;
 mod text_set;
+
+pub use file::print_file;

@@ -76,7 +76,11 @@ fn write_slots(out: &mut Output, part: Part<'_>, view: &View<'_>) -> Result<(), 
 }
 
 /// Writes an array of a part of each slot of the columns, one column behind the other.
-pub(crate) fn write_array(out: &mut Output, part: Part<'_>, columns: &[View<'_>]) -> Result<(), NoMemory>
+pub(crate) fn write_array(
+    out: &mut Output,
+    part: Part<'_>,
+    columns: &[View<'_>],
+) -> Result<(), NoMemory>
     requires { All (λ c. IsPartOf c.kind part) columns.now }
     ensures { OnOk result (Adds (array (each (part_data part.entry) (joined columns.now))) out.old out.new) }
 {
@@ -120,7 +124,9 @@ fn write_starts(out: &mut Output, view: &View<'_>, start: u64) -> Result<u64, No
     let mut end = start;
     for i in 0..view.len() {
         out.number(end)?;
-        end = end.checked_add(item_length(view, i) as u64).ok_or(NoMemory)?;
+        end = end
+            .checked_add(item_length(view, i) as u64)
+            .ok_or(NoMemory)?;
     }
     Ok(end)
 }
@@ -153,7 +159,9 @@ pub(crate) fn slot_count(columns: &[View<'_>]) -> Result<u64, NoMemory>
 {
     let mut count = 0u64;
     for column in columns {
-        count = count.checked_add(u64::from(column.slots())).ok_or(NoMemory)?;
+        count = count
+            .checked_add(u64::from(column.slots()))
+            .ok_or(NoMemory)?;
     }
     Ok(count)
 }

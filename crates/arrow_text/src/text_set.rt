@@ -1,8 +1,10 @@
 //! The texts of a dictionary, each once.
 
-ghost use Rattle.std.specs.Prelude.{◌≡◌, [], position};
+ghost use Rattle.std.specs.Prelude.{◌≡◌, ◌++◌, ◌∷◌, [], OnOk, false, map, position, string_bytes};
 ghost use Rattle.std.specs.Str.{bytes_eq};
+ghost use Rattle.pool.specs.Texts.{is_among, with_text};
 
+use colbits::NoMemory;
 use indexmap::IndexSet;
 use std::alloc::Global;
 use std::marker::Model;
@@ -41,5 +43,32 @@ impl TextSet {
         ensures { result ≡ position (bytes_eq text.now) self.now }
     {
         self.texts.get_index_of(text)
+    }
+
+    /// The texts.
+    pub(crate) fn texts(&self) -> &[String]
+        ensures { map string_bytes result.now ≡ self.now }
+    {
+        self.texts.as_slice()
+    }
+
+    /// Puts a text at the end, unless it is in the set.
+    pub(crate) fn add(&mut self, alloc: Global, text: &str) -> Result<(), NoMemory>
+        ensures { OnOk result (self.new ≡ with_text self.old text.now) }
+    {
+        match self.place_of(text) {
+            Some(_) => Ok(()),
+            None => self.add_new(alloc, text),
+        }
+    }
+
+    /// Puts a text at the end that isn't in the set.
+    fn add_new(&mut self, alloc: Global, text: &str) -> Result<(), NoMemory>
+        requires { is_among self.old text.now ≡ false }
+        ensures { OnOk result (self.new ≡ self.old ++ text.now ∷ []) }
+    {
+        let copy = String::from_str(alloc, text)?;
+        self.texts.insert(copy)?;
+        Ok(())
     }
 }

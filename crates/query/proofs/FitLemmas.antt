@@ -59,7 +59,7 @@ is_too_deep-renamed f (Some t) = ap (nat_lt 32) (depth-renamed f t)
 
 -- ---- no fault by one reading of the columns, none by another
 
-and_then-ok : {A B : Type 0} (r : Result A QueryFault) (k : A → Result B QueryFault) (y : B) → and_then r k ≡ Ok y → (x : A) × (r ≡ Ok x) × (k x ≡ Ok y)
+pub and_then-ok : {A B : Type 0} (r : Result A QueryFault) (k : A → Result B QueryFault) (y : B) → and_then r k ≡ Ok y → (x : A) × (r ≡ Ok x) × (k x ≡ Ok y)
 and_then-ok (Ok x) k y h = (x, refl, h)
 and_then-ok (Err e) k y h = absurd cc
 

@@ -5,3 +5,5 @@ pub mod ColumnLemmas
 pub mod ResolveLemmas
 pub mod FitLemmas
 pub mod ResolvedLemmas
+pub mod NamedLemmas
+pub mod NameFaultLemmas

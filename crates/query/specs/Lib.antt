@@ -7,3 +7,4 @@ pub mod Columns
 pub mod Asked
 pub mod Fault
 pub mod Resolved
+pub mod Named

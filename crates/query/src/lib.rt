@@ -8,6 +8,7 @@ pub mod depth;
 pub mod expr;
 pub mod fault;
 mod kinds;
+pub mod laws;
 mod positions;
 pub mod queries;
 mod sort;

@@ -13,7 +13,7 @@ loop-column-preserved c =
     let rest = λ (cs : List Seen). inner_items (joined cs) in
     record {
       items =
-        step rest rest c.args.columns.now c.loop-column.column-index column _ (joined c.loop-column.lists.items) _ _
-        (λ cs. flat_map-append items_in column.items (joined cs)) (omega arith) c.column-item.is c.in_ok-push_lists.ensures.items c.loop-column.invariant.items;
+          step rest rest c.args.columns.now c.loop-column.column-index column _ (joined c.loop-column.lists.items) _ _
+          (λ cs. flat_map-append items_in column.items (joined cs)) (omega arith) c.column-item.is c.in_ok-push_lists.ensures.items c.loop-column.invariant.items;
       kinds = λ k all. c.in_ok-push_lists.ensures.kinds k (All-read (λ s. s.kind ≡ kind.list k) c.args.columns.now _ column all (omega arith) c.column-item.is) (c.loop-column.invariant.kinds k all);
     }

@@ -9,7 +9,7 @@ use Rattle.arrow_text.proofs.lists.push_lists.Goals as goal
 pub loop-i-preserved : goal.loop-i-preserved
 loop-i-preserved c = record {
   items =
-    moved inner_items inner_items c.args.column.now.items c.loop-i.i (get_or c.args.column.now.items c.loop-i.i null) _ (joined c.loop-i.lists.items) _ _
-    (λ ys. refl) (drop-cons c.args.column.now.items c.loop-i.i null (omega arith)) c.in_ok-push_list.ensures.items c.loop-i.invariant.items;
+      moved inner_items inner_items c.args.column.now.items c.loop-i.i (get_or c.args.column.now.items c.loop-i.i null) _ (joined c.loop-i.lists.items) _ _
+      (λ ys. refl) (drop-cons c.args.column.now.items c.loop-i.i null (omega arith)) c.in_ok-push_list.ensures.items c.loop-i.invariant.items;
   kinds = λ k is old. c.in_ok-push_list.ensures.kinds k is (c.loop-i.invariant.kinds k is old);
 }

@@ -16,4 +16,4 @@ returns-in_ok-write_dictionary-in-Dict c =
     let is : shape_of c.args.field.now.ty ≡ dict = ap shape_of c.in-Dict.is ∙ shape_of-Dict in
     IfOk-equal c.write_named_members.result _ _ _ c.write_named_members.ensures
     (simp (c.in_ok-write_dictionary-in-Dict.ensures, c.in_ok-key-in-Dict.ensures, append_assoc)
-     (ap (λ ms. c.args.out.now ++ members_tokens (members_outline ms)) (sym (dictionary_first c.args.id _ _ _ is))))
+    (ap (λ ms. c.args.out.now ++ members_tokens (members_outline ms)) (sym (dictionary_first c.args.id _ _ _ is))))
