@@ -19,7 +19,8 @@ use Rattle.arrowtab.specs.Alone.{AreAlike, IsRefusedIn, Shows, Stops, alone, bat
 use Rattle.arrowtab.specs.Explained.{Explains}
 use Rattle.arrowtab.specs.Loaded.{FileBatch, IsLoaded, IsStopped, added_by, batches_of, tables_of}
 use Rattle.arrowtab.specs.Plan.{planned}
-use Rattle.arrowtab.specs.Shown.{shown}
+use Rattle.job.specs.declared.asked.Command.{Command}
+use Rattle.arrowtab.specs.Output.{output}
 use Rattle.arrowtab.specs.Run.{Answers, AreRead, Inputs, Refuses, table_fields}
 use Rattle.arrowtab.specs.declared.run_fault.FileFault.TheVariants.{CannotRead, Json, Refused}
 use Rattle.arrowtab.specs.declared.run_fault.RunFault.{RunFault}
@@ -126,15 +127,15 @@ IsLoaded-alone fields files kept alike legal = record {
   legal = legal;
 }
 
-pub Answers-shown : (inputs : Inputs) (files : List File) (text : List ℕ) → AreRead inputs (data_of files) → AreKept files → Shows (fields_for files) files text → Answers inputs text
-Answers-shown inputs files text read kept shows =
+pub Answers-shown : (command : Command) (inputs : Inputs) (files : List File) (text : List ℕ) → AreRead inputs (data_of files) → AreKept files → Shows command (fields_for files) files text → Answers command inputs text
+Answers-shown command inputs files text read kept shows =
     let same = fields-same files in
     record {
       files = data_of files;
       read = read;
       history = alone (batches_in files);
       loaded = subst (λ (fs : List FieldShape). IsLoaded 1 (listed files) fs (alone (batches_in files))) (sym same) (IsLoaded-alone (fields_for files) files kept shows.alike shows.legal);
-      shows = shows.text ∙ ap (λ (fs : List FieldShape). shown 1 fs (alone (batches_in files))) (sym same);
+      shows = shows.text ∙ ap (λ (fs : List FieldShape). output command 1 fs (alone (batches_in files))) (sym same);
     }
 
 -- ---- what stopped it
@@ -204,10 +205,10 @@ Explains-stopped inputs before after files (OfFile f CannotRead) read kept stops
 Explains-stopped inputs before after files (OfFile f (Json g)) read kept stops = absurd stops
 Explains-stopped inputs before after files (OfFile f (Refused number refusal)) read kept stops = Refuses-stopped inputs files f number refusal read kept stops
 
-pub ok_answers : {A : Type 0} (inputs : Inputs) (files : List File) (r : Result A RunFault) (text : A → List ℕ) → AreRead inputs (data_of files) → AreKept files
-    → IfOk r (λ t. Shows (fields_for files) files (text t)) → IfOk r (λ t. Answers inputs (text t))
-ok_answers inputs files (Ok t) text read kept shows = Answers-shown inputs files (text t) read kept shows
-ok_answers inputs files (Err fault) text read kept shows = tt
+pub ok_answers : {A : Type 0} (command : Command) (inputs : Inputs) (files : List File) (r : Result A RunFault) (text : A → List ℕ) → AreRead inputs (data_of files) → AreKept files
+    → IfOk r (λ t. Shows command (fields_for files) files (text t)) → IfOk r (λ t. Answers command inputs (text t))
+ok_answers command inputs files (Ok t) text read kept shows = Answers-shown command inputs files (text t) read kept shows
+ok_answers command inputs files (Err fault) text read kept shows = tt
 
 pub err_explains : {A : Type 0} (inputs : Inputs) (before after : List ℕ) (files : List File) (r : Result A RunFault) → AreRead inputs (data_of files) → AreKept files
     → IfErr r (Stops (fields_for files) files) → IfErr r (Explains inputs before after)

@@ -4,3 +4,4 @@ mod LoadLemmas
 mod ReadLemmas
 mod AnswerLemmas
 mod RunLemmas
+mod ExportLemmas

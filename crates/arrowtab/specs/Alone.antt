@@ -7,7 +7,8 @@ use Rattle.arrays.specs.Shape.{FieldShape}
 use Rattle.shared.specs.History.{History}
 use Rattle.shared.specs.Stored.{stored_fields}
 use Rattle.shared.specs.Cause.{batch_cause, difference, IsLegal}
-use Rattle.arrowtab.specs.Shown.{shown}
+use Rattle.job.specs.declared.asked.Command.{Command}
+use Rattle.arrowtab.specs.Output.{output}
 use Rattle.shared.specs.declared.refusal.Refusal.{Refusal}
 use Rattle.arrowtab.specs.declared.run_fault.FileFault.TheVariants.{CannotRead, Json, Refused}
 use Rattle.arrowtab.specs.declared.run_fault.RunFault.{RunFault}
@@ -71,8 +72,8 @@ Stops fields files (OfFile f CannotRead) = ⊥
 Stops fields files (OfFile f (Json fault)) = ⊥
 Stops fields files (OfFile f (Refused number refusal)) = IsRefusedIn fields files f number refusal
 
--- The text is that of the files' batches, of a legal history.
-pub record Shows (fields : List FieldShape) (files : List File) (output : List ℕ) : Type 0 where
+-- The text is the command's output for the files' batches, of a legal history.
+pub record Shows (command : Command) (fields : List FieldShape) (files : List File) (printed : List ℕ) : Type 0 where
   pub alike : AllByRecursion (λ f. AreAlike fields f.batches) files
   pub legal : IsLegal fields (alone (batches_in files))
-  pub text : output ≡ shown 1 fields (alone (batches_in files))
+  pub text : printed ≡ output command 1 fields (alone (batches_in files))

@@ -2,6 +2,7 @@
 pub mod Plan
 pub mod RefusalText
 pub mod Shown
+pub mod Output
 pub mod Loaded
 pub mod Lines
 pub mod Told

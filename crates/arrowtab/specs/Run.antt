@@ -7,7 +7,8 @@ use Rattle.ends.specs.Sink.{AppendsFront}
 use Rattle.arrays.specs.Shape.{FieldShape}
 use Rattle.shared.specs.History.{History}
 use Rattle.shared.specs.Stored.{stored_fields}
-use Rattle.arrowtab.specs.Shown.{shown}
+use Rattle.job.specs.declared.asked.Command.{Command}
+use Rattle.arrowtab.specs.Output.{output}
 use Rattle.arrowtab.specs.Lines.{unread_line, file_line, refusal_line}
 use Rattle.arrowtab.specs.Loaded.{IsLoaded, IsStopped, batches_of}
 use Rattle.arrow_json.specs.JsonFile.{Reads, BytesFault}
@@ -29,14 +30,14 @@ abbrev pub table_fields : List FileData → List FieldShape
 table_fields [] = []
 table_fields (file ∷ files) = stored_fields file.fields
 
--- The text is the output of `stats` for the files of these sources and one worker: a legal history has the worker add
+-- The text is the command's output for the files of these sources and one worker: a legal history has the worker add
 -- their batches, each in order.
-pub record Answers (inputs : Inputs) (text : List ℕ) : Type 0 where
+pub record Answers (command : Command) (inputs : Inputs) (text : List ℕ) : Type 0 where
   pub files : List FileData
   pub read : AreRead inputs files
   pub history : History
   pub loaded : IsLoaded 1 (map batches_of files) (table_fields files) history
-  pub shows : text ≡ shown 1 (table_fields files) history
+  pub shows : text ≡ output command 1 (table_fields files) history
 
 -- The sources' bytes are read, and a cause stands for a batch of a file, after those before it.
 pub record Refuses (inputs : Inputs) (file number : ℕ) (refusal : Refusal) : Type 0 where
@@ -47,13 +48,13 @@ pub record Refuses (inputs : Inputs) (file number : ℕ) (refusal : Refusal) : T
 -- ---- a run, where its ends tell their bytes. An end that doesn't tell them is none here.
 
 -- The whole output was written.
-abbrev pub Wrote : Inputs → Option (List ℕ) → Option (List ℕ) → Type 0
-Wrote inputs old new = (text : List ℕ) × Answers inputs text × Appends old new text
+abbrev pub Wrote : Command → Inputs → Option (List ℕ) → Option (List ℕ) → Type 0
+Wrote command inputs old new = (text : List ℕ) × Answers command inputs text × Appends old new text
 
 -- The output took nothing, or a beginning of the text and a write failed.
-pub data WroteFront (inputs : Inputs) (old new : Option (List ℕ)) (failed failures : ℕ) : Type 0 where
-  nothing : Keeps old new → WroteFront inputs old new failed failures
-  front : (text : List ℕ) → Answers inputs text → AppendsFront old new text → failed < failures → WroteFront inputs old new failed failures
+pub data WroteFront (command : Command) (inputs : Inputs) (old new : Option (List ℕ)) (failed failures : ℕ) : Type 0 where
+  nothing : Keeps old new → WroteFront command inputs old new failed failures
+  front : (text : List ℕ) → Answers command inputs text → AppendsFront old new text → failed < failures → WroteFront command inputs old new failed failures
 
 -- A file's source failed in this call.
 pub record FailedRead (before after : List ℕ) (file : ℕ) : Type 0 where

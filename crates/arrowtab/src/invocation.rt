@@ -32,11 +32,11 @@ pub fn run<S: Source, O: Sink, E: Sink>(
     ensures status { result < 2 }
 
     // Status 0: all of the output was written, and nothing was told.
-    ensures done { result ≡ 0 → Wrote (map S.remaining sources.old) (O.taken out.old) (O.taken out.new) }
+    ensures done { result ≡ 0 → Wrote job.now.command (map S.remaining sources.old) (O.taken out.old) (O.taken out.new) }
     ensures silent { result ≡ 0 → err.new ≡ err.old }
 
     // Status 1: none of it was, or a beginning of it where the output failed ..
-    ensures quiet { result ≡ 1 → WroteFront (map S.remaining sources.old)
+    ensures quiet { result ≡ 1 → WroteFront job.now.command (map S.remaining sources.old)
         (O.taken out.old) (O.taken out.new) (O.failures out.old) (O.failures out.new) }
 
     // .. and there is a cause, whose line the error sink took.
@@ -45,7 +45,7 @@ pub fn run<S: Source, O: Sink, E: Sink>(
         (O.failures out.old) (O.failures out.new) (E.failures err.old) (E.failures err.new)
         (E.taken err.old) (E.taken err.new) }
 {
-    match answer(alloc, sources) {
+    match answer(alloc, job.command, sources) {
         Ok(text) => match write_whole(out, text.as_bytes()) {
             Ok(()) => 0,
             Err(_) => {

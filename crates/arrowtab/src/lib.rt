@@ -3,6 +3,7 @@
 #![tactic(auto)]
 
 mod answer;
+mod export;
 mod invocation;
 mod load;
 mod reading;

@@ -119,6 +119,7 @@ impl Version {
         ensures tables { IfOk result (λ f. map rows_of f.batches ≡ map (λ e. e.1) self.now.history) }
         ensures under { IfOk result (λ f. AllByRecursion (λ b. b.fields ≡ f.fields) f.batches) }
         ensures lawful { IfOk result (λ f. AllByRecursion IsLawful f.batches) }
+        ensures legal { IsLegal self.now.fields self.now.history }
     {
         file_of(alloc, &self.held)
     }

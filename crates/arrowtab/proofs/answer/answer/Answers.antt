@@ -9,7 +9,7 @@ answer_files-requires g c =
     omega (arith, some_files inputs c.in-Ok.files.items c.in-Ok.ensures.read, length-map c.args.sources.now g.S.Source.remaining, c.requires.some)
 
 pub returns-in-Ok-clause-ok : goal.returns-in-Ok-clause-ok
-returns-in-Ok-clause-ok g c = ok_answers _ c.in-Ok.files.items c.answer_files.result string_bytes c.in-Ok.ensures.read c.in-Ok.ensures.under c.answer_files.ensures.ok
+returns-in-Ok-clause-ok g c = ok_answers c.args.command _ c.in-Ok.files.items c.answer_files.result string_bytes c.in-Ok.ensures.read c.in-Ok.ensures.under c.answer_files.ensures.ok
 
 pub returns-in-Ok-clause-err : goal.returns-in-Ok-clause-err
 returns-in-Ok-clause-err g c = err_explains _ _ _ c.in-Ok.files.items c.answer_files.result c.in-Ok.ensures.read c.in-Ok.ensures.under c.answer_files.ensures.err
