@@ -16,7 +16,7 @@ use Rattle.arrow_json.specs.JsonFault.{no_memory, IsFault, IsUnder, Tells, stand
 use Rattle.arrow_json.specs.JsonMember.{member_of, IsObject, Unlike, unlike, Missing, missing, MemberFault, absent, wrong, EachFault, item}
 use Rattle.arrow_json.specs.JsonNumber.{width_of}
 use Rattle.arrow_json.specs.JsonSchema.{type_name, named_type, is_childless, only_item, only_child}
-use Rattle.arrow_json.specs.JsonSchemaFault.{TypeFault, no_type_object, bad_type_name, other_type, bad_width, other_width, bad_sign, FieldFault, no_field_object, bad_field_name, bad_nullable, bad_type, no_dictionary_object, encoded, encoded_item, has_children, no_child, ninth_list, bad_child, SchemaFault, no_schema_object, bad_fields, bad_field}
+use Rattle.arrow_json.specs.JsonSchemaFault.{TypeFault, no_type_object, bad_type_name, other_type, bad_width, other_width, bad_sign, FieldFault, no_field_object, bad_field_name, bad_nullable, bad_type, no_dictionary_object, encoded, encoded_item, has_children, no_child, ninth_list, bad_child, IndexFault, bad_index_type, other_index, SchemaFault, no_schema_object, bad_fields, bad_field}
 
 abbrev Faults : Type 1
 Faults = JsonFaultKind → List Step → Type 0
@@ -79,6 +79,14 @@ type_other_width d f width int at other is = tells_at (TypeFault d) UnsupportedT
 
 pub type_sign : (d : Data) (f : JsonFault) → Tells (MemberFault member.IsSigned (Unlike as_bool) d) f → type_name d ≡ Some (codes "int") → Tells (TypeFault d) f
 type_sign d f t int = tells_as (MemberFault member.IsSigned (Unlike as_bool) d) (TypeFault d) f (λ k p h. bad_sign k p int h) t
+
+-- ---- types of indices
+
+pub index_type : (d : Data) (f : JsonFault) → Tells (TypeFault d) f → Tells (IndexFault d) f
+index_type d f t = tells_as (TypeFault d) (IndexFault d) f (λ k p h. bad_index_type k p h) t
+
+pub index_other : (d : Data) (f : JsonFault) (bytes : List ℕ) → type_name d ≡ Some bytes → bytes ≢ codes "int" → IsFault UnsupportedType [] f → Tells (IndexFault d) f
+index_other d f bytes at other is = tells_at (IndexFault d) UnsupportedType [] f (other_index bytes at other) is
 
 -- ---- fields
 
@@ -182,6 +190,8 @@ schema_field d ds f g t at up = tells_under (EachFault (FieldFault 0) ds) (Schem
 pub ruleset schema_told = (tells_item_at, schema_object, schema_fields, schema_field, tells_wants)
 
 pub ruleset type_told = (type_object, type_name_told, type_other_name, type_width, type_other_width, type_sign)
+
+pub ruleset index_told = (type_object, type_name_told, index_type, index_other)
 
 pub ruleset field_told = (field_object, field_name_told, field_nullable_told, field_no_type, field_type_told, field_encoded, field_encoded_item, field_no_dictionary, named_by, not_named, field_children, field_no_child, field_other_child, field_ninth, field_child, tells_wants)
 

@@ -1,6 +1,7 @@
 -- What the proofs of this crate share.
 pub mod JsonNumbers
 pub mod JsonFaults
+pub mod JsonEncodings
 pub mod JsonItems
 pub mod JsonSchemas
 pub mod JsonColumnFaults

@@ -21,6 +21,12 @@ pub data TypeFault (d : Data) : JsonFaultKind → List Step → Type 0 where
       → TypeFault d UnsupportedType []
   bad_sign : (kind : JsonFaultKind) (path : List Step) → type_name d ≡ Some (codes "int") → MemberFault member.IsSigned (Unlike as_bool) d kind path → TypeFault d kind path
 
+-- Of the type object of a dictionary's indices.
+pub data IndexFault (d : Data) : JsonFaultKind → List Step → Type 0 where
+  bad_index_type : (kind : JsonFaultKind) (path : List Step) → TypeFault d kind path → IndexFault d kind path
+  -- indices are integers
+  other_index : (bytes : List ℕ) → type_name d ≡ Some bytes → bytes ≢ codes "int" → IndexFault d UnsupportedType []
+
 -- Of a field within so many lists.
 pub data FieldFault : ℕ → Data → JsonFaultKind → List Step → Type 0 where
   no_field_object : (within : ℕ) (d : Data) (kind : JsonFaultKind) (path : List Step) → Unlike as_object d kind path → FieldFault within d kind path

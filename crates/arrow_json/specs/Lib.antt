@@ -7,6 +7,9 @@ pub mod JsonMember
 pub mod JsonSchema
 pub mod JsonSchemaFault
 pub mod BareField
+pub mod JsonEncoding
+pub mod JsonEncodingFault
+pub mod EncodingParts
 pub mod JsonColumn
 pub mod JsonColumnFault
 pub mod JsonList

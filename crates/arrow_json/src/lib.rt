@@ -3,6 +3,7 @@
 
 mod batch;
 mod column;
+mod encoding;
 pub mod fault;
 pub mod file;
 pub mod laws;
@@ -11,6 +12,7 @@ mod member;
 mod number;
 pub mod path;
 mod schema;
+mod type_object;
 
 pub use fault::{JsonFault, JsonFaultKind, fault_text};
 pub use file::{read_file, read_file_from_vec};

@@ -4,55 +4,22 @@ ghost use Rattle.arrays.specs.Kind.{depth};
 ghost use Rattle.arrays.specs.Shape as shape;
 ghost use Rattle.arrays.specs.Shape.{field_of, fields_of, kind_of_field, shape_of};
 ghost use Rattle.arrow_json.specs.JsonFault.{Tells, no_memory};
-ghost use Rattle.arrow_json.specs.BareField.{IsTypeRead, IsFieldType, IsBare};
+ghost use Rattle.arrow_json.specs.BareField.{IsFieldType, IsBare};
 ghost use Rattle.arrow_json.specs.JsonMember.{member_of, EachFault, IsObject, ReadsEach};
-ghost use Rattle.arrow_json.specs.JsonSchema.{type_name, named_type, only_item, only_child, IsFieldOf, ReadsInt, ReadsField, ReadsSchema, is_without, is_childless};
-ghost use Rattle.arrow_json.specs.JsonSchemaFault.{TypeFault, FieldFault, SchemaFault};
+ghost use Rattle.arrow_json.specs.JsonSchema.{named_type, only_item, only_child, IsFieldOf, ReadsField, ReadsSchema, is_without, is_childless};
+ghost use Rattle.arrow_json.specs.JsonSchemaFault.{FieldFault, SchemaFault};
 ghost use Rattle.arrow_json.specs.declared.path.Member.TheVariants as member;
 
 use crate::fault::{JsonFault, JsonFaultKind};
-use crate::member::{
-    array_member, check_object, number_member, push, required, text_member, truth_member, unlike,
-};
-use crate::number::width;
+use crate::member::{array_member, check_object, push, required, text_member, truth_member, unlike};
 use crate::path::{Member, Step};
-use arrays::{DataType, Field, IntType, Schema};
+use crate::type_object::read_type;
+use arrays::{DataType, Field, Schema};
 use serde_json::Value;
 use std::alloc::Global;
 
 /// How many lists may stand in one another.
 const MOST_LISTS: u32 = 8;
-
-/// The type that a type object names, none where it is a list: of what, its field's children tell.
-#[tactic(auto, using(crate::proofs::JsonFaults::type_told))]
-fn read_type(alloc: Global, object: &Value) -> Result<Option<DataType>, JsonFault>
-    ensures ok { IfOk result (IsTypeRead (view object.now)) }
-    ensures err { IfErr result (Tells (TypeFault (view object.now))) }
-{
-    check_object(alloc, object)?;
-    match text_member(alloc, object, Member::Name)? {
-        "int" => Ok(Some(DataType::Int(read_int(alloc, object)?))),
-        "bool" => Ok(Some(DataType::Bool)),
-        "utf8" => Ok(Some(DataType::Utf8)),
-        "list" => Ok(None),
-        _ => Err(JsonFault::at(alloc, JsonFaultKind::UnsupportedType, &[])),
-    }
-}
-
-/// The integer type that a type object of the name describes.
-#[tactic(auto, using(crate::proofs::JsonFaults::type_told))]
-fn read_int(alloc: Global, object: &Value) -> Result<IntType, JsonFault>
-    requires object { IsObject (view object.now) }
-    requires name { type_name (view object.now) ≡ Some (codes "int") }
-    ensures ok { IfOk result (ReadsInt (view object.now)) }
-    ensures err { IfErr result (Tells (TypeFault (view object.now))) }
-{
-    let Some(bits) = width(number_member(alloc, object, Member::BitWidth)?) else {
-        return Err(JsonFault::at(alloc, JsonFaultKind::UnsupportedType, &[]));
-    };
-    let signed = truth_member(alloc, object, Member::IsSigned)?;
-    Ok(IntType { bits, signed })
-}
 
 /// That a field has no dictionary: it is absent or null. Dictionaries aren't read.
 #[tactic(auto, using(crate::proofs::JsonFaults::field_told))]
@@ -109,7 +76,7 @@ fn field_type(alloc: Global, within: u32, field: &Value) -> Result<Option<DataTy
 
 /// The item of an array of exactly one.
 #[tactic(auto, using(crate::proofs::JsonFaults::only_items))]
-fn only_item(value: &Value) -> Option<&Value>
+pub(crate) fn only_item(value: &Value) -> Option<&Value>
     ensures { option_map (λ v. view v.now) result ≡ only_item (view value.now) }
 {
     let items = value.as_array()?;
