@@ -7,6 +7,8 @@ pub mod JsonSchemas
 pub mod JsonColumnFaults
 pub mod JsonSlots
 pub mod JsonLists
+pub mod JsonCodes
+pub mod JsonDictionaries
 pub mod JsonBatches
 pub mod JsonRecordBatches
 pub mod JsonResults

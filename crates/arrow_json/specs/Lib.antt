@@ -12,6 +12,11 @@ pub mod JsonEncodingFault
 pub mod EncodingParts
 pub mod JsonColumn
 pub mod JsonColumnFault
+pub mod JsonCodes
+pub mod JsonCodesFault
+pub mod CodeParts
+pub mod JsonDictionary
+pub mod JsonDictionaryFault
 pub mod JsonList
 pub mod JsonListFault
 pub mod SlotParts

@@ -2,7 +2,9 @@
 #![tactic(auto)]
 
 mod batch;
+mod codes;
 mod column;
+mod dictionary;
 mod encoding;
 pub mod fault;
 pub mod file;
