@@ -1,5 +1,5 @@
 -- What a column of indices is, and why its faults stand.
-use Rattle.std.proofs.Common.{◌≡◌, ◌∙◌, ℕ, zero, suc, ◌+◌, ◌<◌, ◌≤◌, ℤ, pos, negsuc, Bool, true, false, List, [], ◌∷◌, ◌++◌, length, get_or, map, Option, Some, None, option_and_then, IfSome, refl, sym, ap, subst, arith}
+use Rattle.std.proofs.Common.{◌≡◌, ◌∙◌, ℕ, zero, suc, ◌+◌, ◌≤◌, ℤ, pos, negsuc, true, false, List, [], ◌∷◌, ◌++◌, length, get_or, map, Option, Some, None, option_and_then, refl, sym, ap, subst, arith}
 use Rattle.std.specs.List.{All, slice_get}
 use Rattle.std.proofs.lemmas.Bool.Decides.{nat_tests}
 use Rattle.std.proofs.lemmas.Int.{ints}
@@ -9,11 +9,10 @@ use Rattle.std.proofs.lemmas.Option.{slice_get-get_or}
 use Rattle.types.specs.declared.int_type.IntType.{IntType}
 use Rattle.layout.specs.declared.fault.LayoutFault.TheVariants as layout
 use Rattle.arrays.specs.Column.{Column}
-use Rattle.arrays.specs.Dictionary.{encoded, is_code, looked_up}
+use Rattle.arrays.specs.Dictionary.{is_code, looked_up}
 use Rattle.arrays.specs.Item.{Item, null, int}
 use Rattle.arrays.specs.Kind.{int32}
 use Rattle.arrays.specs.Number.{IsOfType, natural}
-use Rattle.arrays.specs.Slot.{item_of}
 use Rattle.serde_json.specs.Data.{Data, Items}
 use Rattle.serde_json.specs.Find.{get_item}
 use Rattle.arrow_json.specs.declared.path.Member.TheVariants as member
@@ -23,7 +22,7 @@ use Rattle.arrow_json.specs.declared.fault.JsonFaultKind.TheVariants.{WrongMembe
 use Rattle.arrow_json.specs.CodeParts.{HoldsCodes}
 use Rattle.arrow_json.specs.JsonFault.{IsFault, Tells}
 use Rattle.arrow_json.specs.JsonNumber.{integer_of}
-use Rattle.arrow_json.specs.JsonColumn.{valid_at, is_full, ReadsSlots, HasSlots}
+use Rattle.arrow_json.specs.JsonColumn.{valid_at, ReadsSlots, HasSlots}
 use Rattle.arrow_json.specs.JsonColumnFault.{NoSlots}
 use Rattle.arrow_json.specs.JsonCodes.{entry_at, indices, ReadsCodes}
 use Rattle.arrow_json.specs.JsonCodesFault.{IndicesFault, no_index_flag, no_index, past_dictionary, CodesFault, no_code_slots, bad_codes}

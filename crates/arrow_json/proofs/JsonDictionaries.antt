@@ -1,5 +1,5 @@
 -- Why a fault of a dictionary stands.
-use Rattle.std.proofs.Common.{◌≡◌, ℕ, List, [], ◌∷◌, Some, None, option_and_then, subst}
+use Rattle.std.proofs.Common.{◌≡◌, ℕ, List, [], ◌∷◌, Some, None, option_and_then}
 use Rattle.arrays.specs.Seen.{Seen}
 use Rattle.arrays.specs.Kind as kind
 use Rattle.serde_json.specs.Data.{Data, item, no_items}
@@ -17,7 +17,7 @@ use Rattle.arrow_json.specs.JsonSchema.{only_item}
 use Rattle.arrow_json.specs.JsonColumn.{texts}
 use Rattle.arrow_json.specs.JsonColumnFault.{ColumnFault}
 use Rattle.arrow_json.specs.JsonBatch.{HoldsColumn}
-use Rattle.arrow_json.specs.JsonDictionary.{ReadsTexts, HasTexts, bare, wrapped}
+use Rattle.arrow_json.specs.JsonDictionary.{ReadsTexts}
 use Rattle.arrow_json.specs.JsonDictionaryFault.{TextsFault, no_texts_object, bad_texts_count, bad_texts_list, bad_texts, HeldFault, no_batch, bad_bare, bad_wrapped, EntryFault}
 use Rattle.arrow_json.proofs.JsonFaults.{tells_at, tells_as, tells_under}
 

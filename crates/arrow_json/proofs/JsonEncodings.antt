@@ -1,5 +1,5 @@
 -- Why a fault of an encoding stands.
-use Rattle.std.proofs.Common.{◌≡◌, List, ◌∷◌, Some, None}
+use Rattle.std.proofs.Common.{◌≡◌, ◌∷◌, Some, None}
 use Rattle.serde_json.specs.Data.{Data}
 use Rattle.serde_json.specs.Find.{as_null, as_object}
 use Rattle.arrow_json.specs.declared.path.Member.TheVariants as member
@@ -10,7 +10,7 @@ use Rattle.arrow_json.specs.JsonMember.{member_of, Unlike, Missing, MemberFault,
 use Rattle.arrow_json.specs.JsonEncoding.{id_of}
 use Rattle.arrow_json.specs.JsonEncodingFault.{EncodingFault, bad_id, bad_index, EncodedFault, no_encoding_object, bad_encoding}
 use Rattle.arrow_json.specs.JsonSchemaFault.{IndexFault}
-use Rattle.arrow_json.proofs.JsonFaults.{tells_as, tells_under, tells_wants}
+use Rattle.arrow_json.proofs.JsonFaults.{tells_as, tells_under}
 
 pub encoding_id : (d : Data) (f : JsonFault) → Tells (MemberFault member.Id (Unlike id_of) d) f → Tells (EncodingFault d) f
 encoding_id d f t = tells_as (MemberFault member.Id (Unlike id_of) d) (EncodingFault d) f (λ k p h. bad_id k p h) t

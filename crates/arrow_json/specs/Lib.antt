@@ -17,6 +17,9 @@ pub mod JsonCodesFault
 pub mod CodeParts
 pub mod JsonDictionary
 pub mod JsonDictionaryFault
+pub mod JsonBook
+pub mod JsonBookFault
+pub mod BookParts
 pub mod JsonList
 pub mod JsonListFault
 pub mod SlotParts

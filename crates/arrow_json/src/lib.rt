@@ -2,6 +2,7 @@
 #![tactic(auto)]
 
 mod batch;
+mod book;
 mod codes;
 mod column;
 mod dictionary;

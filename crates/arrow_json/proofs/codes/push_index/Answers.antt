@@ -1,11 +1,9 @@
-use Rattle.std.proofs.Common.{◌≡◌, ◌∙◌, ◌++◌, ◌∷◌, [], Some, None, true, false, length, ap, sym, rules}
+use Rattle.std.proofs.Common.{◌≡◌, ◌∙◌, ◌++◌, ◌∷◌, [], true, false, length, ap, sym, rules}
 use Rattle.std.specs.Int.{w128}
 use Rattle.std.specs.Prelude.{FitsSigned}
 use Rattle.std.proofs.lemmas.Int.{to_z-of_z}
 use Rattle.arrays.specs.Dictionary.{is_code}
 use Rattle.arrays.specs.Item.{int}
-use Rattle.serde_json.specs.View.{view}
-use Rattle.arrow_json.specs.JsonNumber.{integer_of}
 use Rattle.arrow_json.specs.SlotParts.{flags_in, values_in}
 use Rattle.arrow_json.proofs.JsonCodes.{index_added, tells_no_index, tells_past}
 use Rattle.arrow_json.proofs.JsonItems.{get_item_at}

@@ -1,4 +1,4 @@
-use Rattle.std.proofs.Common.{◌≡◌, ◌∙◌, length, map, ap, subst, sym}
+use Rattle.std.proofs.Common.{◌≡◌, ◌∙◌, length, map, ap, subst}
 use Rattle.std.specs.Arc.{arc_value}
 use Rattle.arrays.specs.Dictionary.{looked_up}
 use Rattle.arrays.specs.Seen.{Seen}
