@@ -29,6 +29,7 @@ use Rattle.arrow_json.specs.JsonBook as book
 use Rattle.arrow_json.specs.JsonBook.{listed_fields, HasId, HasEntries, IsOnly, HasDictionary, IsCoded, HasCoding, HasBook}
 use Rattle.arrow_json.specs.JsonBookFault.{NoId, no_entry_object, bad_entry_id, EntriesFault, no_entries, bad_numbers, NamedFault, nowhere, again, bad_entry, CodingsFault, bad_coding, Names, BookFault, bad_encodings, bad_entries, bad_named}
 use Rattle.arrow_json.proofs.JsonFaults.{tells_at, tells_as, tells_under, tells_wants}
+use Rattle.arrow_json.proofs.JsonNames.{has_object}
 use Rattle.arrow_json.proofs.JsonItems.{slice_get-front, slice_get-last}
 use Rattle.arrow_json.proofs.JsonSchemas.{get_item_some}
 
@@ -58,15 +59,6 @@ pub second_found : (ids : List ℤ) (id : ℤ) (n m i : ℕ) → IsFirst ids id 
 second_found ids id n m i h at = (i, h.0, h.1, at)
 
 -- ---- the entry of a number
-
--- what has a member is an object
-has_object : {A : Type 0} (w : Data → Option A) (m : Member) (d : Data) (x : A) → option_and_then w (member_of m d) ≡ Some x → IsObject d
-has_object w m data'.null x h = absurd cc
-has_object w m (data'.boolean b) x h = absurd cc
-has_object w m (data'.number n) x h = absurd cc
-has_object w m (data'.string s) x h = absurd cc
-has_object w m (data'.array ds) x h = absurd cc
-has_object w m (data'.object ms) x h = refl
 
 -- the entry at the place of a number
 pub entry_within : (vs : List Value) (ids : List ℤ) (id : ℤ) (i : ℕ) → ReadsEach HasId (items_view vs) ids → slice_get ids i ≡ Some id → i < length vs

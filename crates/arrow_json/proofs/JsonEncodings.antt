@@ -6,7 +6,7 @@ use Rattle.arrow_json.specs.declared.path.Member.TheVariants as member
 use Rattle.arrow_json.specs.declared.path.Step.TheVariants as step
 use Rattle.arrow_json.specs.declared.fault.JsonFault.{JsonFault}
 use Rattle.arrow_json.specs.JsonFault.{IsUnder, Tells}
-use Rattle.arrow_json.specs.JsonMember.{member_of, Unlike, Missing, MemberFault, absent, wrong}
+use Rattle.arrow_json.specs.JsonMember.{IsObject, member_of, Unlike, Missing, MemberFault, absent, wrong}
 use Rattle.arrow_json.specs.JsonEncoding.{id_of}
 use Rattle.arrow_json.specs.JsonEncodingFault.{EncodingFault, bad_id, bad_index, EncodedFault, no_encoding_object, bad_encoding}
 use Rattle.arrow_json.specs.JsonSchemaFault.{IndexFault}
@@ -29,7 +29,7 @@ pub encoded_object : (d e : Data) (f g : JsonFault) → Tells (Unlike as_object 
 encoded_object d e f g t at there up =
     tells_under (Unlike as_object e) (EncodedFault d) (step.Member member.Dictionary) f g (λ k p h. no_encoding_object e k p at there h) t up
 
-pub encoded_encoding : (d e : Data) (f g : JsonFault) → Tells (EncodingFault e) f → member_of member.Dictionary d ≡ Some e → IsUnder (step.Member member.Dictionary) f g → Tells (EncodedFault d) g
-encoded_encoding d e f g t at up = tells_under (EncodingFault e) (EncodedFault d) (step.Member member.Dictionary) f g (λ k p h. bad_encoding e k p at h) t up
+pub encoded_encoding : (d e : Data) (f g : JsonFault) → Tells (EncodingFault e) f → member_of member.Dictionary d ≡ Some e → IsObject e → IsUnder (step.Member member.Dictionary) f g → Tells (EncodedFault d) g
+encoded_encoding d e f g t at object up = tells_under (EncodingFault e) (EncodedFault d) (step.Member member.Dictionary) f g (λ k p h. bad_encoding e k p at object h) t up
 
 pub ruleset encoded_told = (encoded_object, encoded_encoding)

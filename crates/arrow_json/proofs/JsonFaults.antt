@@ -16,7 +16,7 @@ use Rattle.arrow_json.specs.JsonFault.{no_memory, IsFault, IsUnder, Tells, stand
 use Rattle.arrow_json.specs.JsonMember.{member_of, IsObject, Unlike, unlike, Missing, missing, MemberFault, absent, wrong, EachFault, item}
 use Rattle.arrow_json.specs.JsonNumber.{width_of}
 use Rattle.arrow_json.specs.JsonSchema.{type_name, named_type, is_childless, only_item, only_child}
-use Rattle.arrow_json.specs.JsonSchemaFault.{TypeFault, no_type_object, bad_type_name, other_type, bad_width, other_width, bad_sign, FieldFault, no_field_object, bad_field_name, bad_nullable, bad_type, no_dictionary_object, encoded, encoded_item, has_children, no_child, ninth_list, bad_child, IndexFault, bad_index_type, other_index, SchemaFault, no_schema_object, bad_fields, bad_field}
+use Rattle.arrow_json.specs.JsonSchemaFault.{TypeFault, no_type_object, bad_type_name, other_type, bad_width, other_width, bad_sign, FieldFault, no_field_object, bad_field_name, bad_nullable, bad_type, no_dictionary_object, encoded_item, has_children, no_child, ninth_list, bad_child, IndexFault, bad_index_type, other_index}
 
 abbrev Faults : Type 1
 Faults = JsonFaultKind → List Step → Type 0
@@ -106,10 +106,6 @@ pub field_type_told : (n : ℕ) (d e : Data) (f g : JsonFault) → Tells (TypeFa
 field_type_told n d e f g t at up =
     tells_under (TypeFault e) (FieldFault n d) (step.Member member.DataType) f g (λ k p h. bad_type n d k (step.Member member.DataType ∷ p) (wrong e k p at h)) t up
 
-pub field_encoded : (n : ℕ) (d e : Data) (f : JsonFault) → member_of member.Dictionary d ≡ Some e → IsObject e → n ≡ 0 → IsFault UnsupportedType (step.Member member.DataType ∷ []) f → Tells (FieldFault n d) f
-field_encoded zero d e f at object is told = tells_at (FieldFault 0 d) UnsupportedType (step.Member member.DataType ∷ []) f (encoded d e at object) told
-field_encoded (suc n) d e f at object is told = absurd (omega (arith, is))
-
 pub field_encoded_item : (n : ℕ) (d e : Data) (f : JsonFault) → member_of member.Dictionary d ≡ Some e → IsObject e → n ≢ 0 → IsFault UnsupportedType [] f → Tells (FieldFault n d) f
 field_encoded_item zero d e f at object is told = absurd (is refl)
 field_encoded_item (suc n) d e f at object is told = tells_at (FieldFault (suc n) d) UnsupportedType [] f (encoded_item n d e at object) told
@@ -177,22 +173,10 @@ pub tells_item_at : (W : Data → JsonFaultKind → List Step → Type 0) (vs : 
     → IsUnder (step.Item i) f g → Tells (EachFault W (items_view vs)) g
 tells_item_at W vs i v f g t within is up = tells_item W (items_view vs) i (view v) f g t (sym (get_item_within vs i v within) ∙ ap (λ w. Some (view w)) (sym is)) up
 
-pub schema_object : (d : Data) (f : JsonFault) → Tells (Unlike as_object d) f → Tells (SchemaFault d) f
-schema_object d f t = tells_as (Unlike as_object d) (SchemaFault d) f (λ k p h. no_schema_object k p h) t
-
-pub schema_fields : (d : Data) (f : JsonFault) → Tells (MemberFault member.Fields (Unlike as_array) d) f → Tells (SchemaFault d) f
-schema_fields d f t = tells_as (MemberFault member.Fields (Unlike as_array) d) (SchemaFault d) f (λ k p h. bad_fields k p h) t
-
-pub schema_field : (d : Data) (ds : Items) (f g : JsonFault) → Tells (EachFault (FieldFault 0) ds) f → option_and_then as_array (member_of member.Fields d) ≡ Some ds
-    → IsUnder (step.Member member.Fields) f g → Tells (SchemaFault d) g
-schema_field d ds f g t at up = tells_under (EachFault (FieldFault 0) ds) (SchemaFault d) (step.Member member.Fields) f g (λ k p h. bad_field ds k p at h) t up
-
-pub ruleset schema_told = (tells_item_at, schema_object, schema_fields, schema_field, tells_wants)
-
 pub ruleset type_told = (type_object, type_name_told, type_other_name, type_width, type_other_width, type_sign)
 
 pub ruleset index_told = (type_object, type_name_told, index_type, index_other)
 
-pub ruleset field_told = (field_object, field_name_told, field_nullable_told, field_no_type, field_type_told, field_encoded, field_encoded_item, field_no_dictionary, named_by, not_named, field_children, field_no_child, field_other_child, field_ninth, field_child, tells_wants)
+pub ruleset field_told = (field_object, field_name_told, field_nullable_told, field_no_type, field_type_told, field_encoded_item, field_no_dictionary, named_by, not_named, field_children, field_no_child, field_other_child, field_ninth, field_child, tells_wants)
 
 pub ruleset told = (tells_unlike, tells_missing, tells_absent, tells_unlike_member)

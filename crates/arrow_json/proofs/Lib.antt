@@ -1,7 +1,9 @@
 -- What the proofs of this crate share.
 pub mod JsonNumbers
+pub mod JsonNames
 pub mod JsonFaults
 pub mod JsonEncodings
+pub mod JsonFields
 pub mod JsonItems
 pub mod JsonSchemas
 pub mod JsonColumnFaults
@@ -15,4 +17,6 @@ pub mod JsonRecordBatches
 pub mod JsonResults
 pub mod JsonFiles
 pub mod SchemaLaws
+pub mod ColumnLaws
+pub mod BookLaws
 pub mod JsonLaws

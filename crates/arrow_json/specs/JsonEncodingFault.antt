@@ -2,7 +2,7 @@
 use Rattle.std.specs.Prelude.{◌≡◌, List, ◌∷◌, Some, None}
 use Rattle.serde_json.specs.Data.{Data}
 use Rattle.serde_json.specs.Find.{as_null, as_object}
-use Rattle.arrow_json.specs.JsonMember.{member_of, Unlike, MemberFault}
+use Rattle.arrow_json.specs.JsonMember.{IsObject, member_of, Unlike, MemberFault}
 use Rattle.arrow_json.specs.JsonEncoding.{id_of}
 use Rattle.arrow_json.specs.JsonSchemaFault.{IndexFault}
 use Rattle.arrow_json.specs.declared.path.Member.TheVariants as member
@@ -19,5 +19,5 @@ pub data EncodingFault (d : Data) : JsonFaultKind → List Step → Type 0 where
 pub data EncodedFault (d : Data) : JsonFaultKind → List Step → Type 0 where
   no_encoding_object : (e : Data) (kind : JsonFaultKind) (path : List Step) → member_of member.Dictionary d ≡ Some e → as_null e ≡ None → Unlike as_object e kind path
       → EncodedFault d kind (step.Member member.Dictionary ∷ path)
-  bad_encoding : (e : Data) (kind : JsonFaultKind) (path : List Step) → member_of member.Dictionary d ≡ Some e → EncodingFault e kind path
+  bad_encoding : (e : Data) (kind : JsonFaultKind) (path : List Step) → member_of member.Dictionary d ≡ Some e → IsObject e → EncodingFault e kind path
       → EncodedFault d kind (step.Member member.Dictionary ∷ path)

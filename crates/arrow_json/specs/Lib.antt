@@ -9,6 +9,8 @@ pub mod JsonSchemaFault
 pub mod BareField
 pub mod JsonEncoding
 pub mod JsonEncodingFault
+pub mod JsonFields
+pub mod JsonFieldsFault
 pub mod EncodingParts
 pub mod JsonColumn
 pub mod JsonColumnFault

@@ -1,6 +1,6 @@
 //! The objects of types.
 
-ghost use Rattle.std.specs.Prelude.{◌≡◌, IfOk, IfErr, Some, codes};
+ghost use Rattle.std.specs.Prelude.{◌≡◌, IfOk, IfErr, OnOk, Some, codes};
 ghost use Rattle.serde_json.specs.View.{view};
 ghost use Rattle.arrow_json.specs.BareField.{IsTypeRead};
 ghost use Rattle.arrow_json.specs.JsonFault.{Tells};
@@ -16,14 +16,24 @@ use arrays::{DataType, IntType};
 use serde_json::Value;
 use std::alloc::Global;
 
+/// The name that a type object has.
+#[tactic(auto, using(crate::proofs::JsonFaults::type_told))]
+pub(crate) fn type_name(alloc: Global, object: &Value) -> Result<&str, JsonFault>
+    ensures object { OnOk result (IsObject (view object.now)) }
+    ensures ok { IfOk result (λ name. type_name (view object.now) ≡ Some name.now) }
+    ensures err { IfErr result (Tells (TypeFault (view object.now))) }
+{
+    check_object(alloc, object)?;
+    text_member(alloc, object, Member::Name)
+}
+
 /// The type that a type object names, none where it is a list: of what, its field's children tell.
 #[tactic(auto, using(crate::proofs::JsonFaults::type_told))]
 pub(crate) fn read_type(alloc: Global, object: &Value) -> Result<Option<DataType>, JsonFault>
     ensures ok { IfOk result (IsTypeRead (view object.now)) }
     ensures err { IfErr result (Tells (TypeFault (view object.now))) }
 {
-    check_object(alloc, object)?;
-    match text_member(alloc, object, Member::Name)? {
+    match type_name(alloc, object)? {
         "int" => Ok(Some(DataType::Int(read_int(alloc, object)?))),
         "bool" => Ok(Some(DataType::Bool)),
         "utf8" => Ok(Some(DataType::Utf8)),
@@ -53,8 +63,7 @@ pub(crate) fn read_index(alloc: Global, object: &Value) -> Result<IntType, JsonF
     ensures ok { IfOk result (ReadsInt (view object.now)) }
     ensures err { IfErr result (Tells (IndexFault (view object.now))) }
 {
-    check_object(alloc, object)?;
-    match text_member(alloc, object, Member::Name)? {
+    match type_name(alloc, object)? {
         "int" => read_int(alloc, object),
         _ => Err(JsonFault::at(alloc, JsonFaultKind::UnsupportedType, &[])),
     }
