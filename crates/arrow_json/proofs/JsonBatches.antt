@@ -1,7 +1,9 @@
 -- What a batch's columns are, and why its faults stand.
-use Rattle.std.proofs.Common.{◌≡◌, ◌∙◌, ℕ, ◌+◌, ◌<◌, List, [], ◌∷◌, ◌++◌, length, get_or, Some, option_map, option_and_then, refl, sym, ap, subst, arith, length-append, below_more}
+use Rattle.std.proofs.Common.{◌≡◌, ◌∙◌, ℕ, ◌+◌, ◌<◌, List, [], ◌∷◌, ◌++◌, length, get_or, map, Option, Some, None, IfSome, option_map, option_and_then, refl, sym, ap, subst, arith, length-append, below_more}
 use Rattle.std.specs.List.{slice_get}
+use Rattle.std.proofs.lemmas.List.{length-map}
 use Rattle.std.proofs.lemmas.Option.{slice_get-map, slice_get_within, slice_get_read}
+use Rattle.arrays.specs.Kind as kind
 use Rattle.arrays.specs.Kind.{kind_of, Kind}
 use Rattle.arrays.specs.Shape.{FieldShape, field_of, fields_of, kind_of_field}
 use Rattle.types.specs.declared.data_type.Field.{Field, out-Field}
@@ -20,8 +22,12 @@ use Rattle.serde_json.specs.Data.{Data, Items}
 use Rattle.arrow_json.specs.declared.fault.JsonFault.{JsonFault}
 use Rattle.arrow_json.specs.declared.fault.JsonFaultKind.TheVariants.{UnsupportedType}
 use Rattle.arrow_json.specs.JsonFault.{Tells, IsFault, IsUnder}
-use Rattle.arrow_json.specs.JsonBatch.{HoldsColumn, HoldsColumns}
-use Rattle.arrow_json.specs.JsonBatchFault.{KindFault, Unread, unread, ColumnsFault, bad_column, BatchFault, no_batch_object, bad_rows, bad_list, bad_columns}
+use Rattle.arrow_json.specs.JsonBatch.{HoldsColumn, HoldsTop, HoldsColumns, IsBookOf}
+use Rattle.arrow_json.specs.JsonBook.{Coding}
+use Rattle.arrow_json.specs.JsonCodes.{ReadsCodes}
+use Rattle.arrow_json.specs.BookParts.{coding_of}
+use Rattle.arrow_json.specs.declared.book.Coding as reader
+use Rattle.arrow_json.specs.JsonBatchFault.{KindFault, CodedFault, Unread, unread, ColumnsFault, bad_column, BatchFault, no_batch_object, bad_rows, bad_list, bad_columns}
 use Rattle.arrow_json.proofs.JsonFaults.{tells_at, tells_as, tells_under, tells_wants}
 
 pub tells_unread : (k : Kind) (n : ℕ) (d : Data) (f : JsonFault) → (Unread UnsupportedType [] → KindFault k n d UnsupportedType []) → IsFault UnsupportedType [] f → Tells (KindFault k n d) f
@@ -37,58 +43,93 @@ field_at fs i f within is = slice_get-map field_of fs i ∙ ap (option_map field
 
 -- ---- columns
 
-pub tells_column : (fs : List Field) (n : ℕ) (vs : List Value) (i : ℕ) (f : Field) (v : Value) (g h : JsonFault) → Tells (KindFault (kind_of (out-Field f).ty) n (view v)) g
-    → i < length fs → f ≡ get_or fs i f → i < length vs → v ≡ get_or vs i v → IsUnder (step.Item i) g h → Tells (ColumnsFault (fields_of fs) n (items_view vs)) h
-tells_column fs n vs i f v g h told at_field is_field at_value is_value up =
-    tells_under (KindFault (kind_of (out-Field f).ty) n (view v)) (ColumnsFault (fields_of fs) n (items_view vs)) (step.Item i) g h
-    (λ k p w. bad_column i (field_of f) (view v) k p (field_at fs i f at_field is_field) (at_index vs i v at_value is_value)
-    (subst (λ a. KindFault a n (view v) k p) (sym (kind_of_field-field_of f)) w))
+-- the coding of a field
+pub coding_at : (cs : List (Option reader.Coding)) (i : ℕ) (c : Option reader.Coding) → i < length cs → c ≡ get_or cs i c → slice_get (map (option_map coding_of) cs) i ≡ Some (option_map coding_of c)
+coding_at cs i c within is = slice_get-map (option_map coding_of) cs i ∙ ap (option_map (option_map coding_of)) (slice_get_from_get_or cs i c within is)
+
+pub tells_column : (fs : List Field) (cs : List (Option reader.Coding)) (n : ℕ) (vs : List Value) (i : ℕ) (f : Field) (c : Option reader.Coding) (v : Value) (g h : JsonFault)
+    → Tells (CodedFault (kind_of (out-Field f).ty) (option_map coding_of c) n (view v)) g → i < length fs → f ≡ get_or fs i f → i < length cs → c ≡ get_or cs i c → i < length vs → v ≡ get_or vs i v
+    → IsUnder (step.Item i) g h → Tells (ColumnsFault (fields_of fs) (map (option_map coding_of) cs) n (items_view vs)) h
+tells_column fs cs n vs i f c v g h told at_field is_field at_coding is_coding at_value is_value up =
+    tells_under (CodedFault (kind_of (out-Field f).ty) (option_map coding_of c) n (view v)) (ColumnsFault (fields_of fs) (map (option_map coding_of) cs) n (items_view vs)) (step.Item i) g h
+    (λ k p w. bad_column i (field_of f) (option_map coding_of c) (view v) k p (field_at fs i f at_field is_field) (coding_at cs i c at_coding is_coding) (at_index vs i v at_value is_value)
+    (subst (λ a. CodedFault a (option_map coding_of c) n (view v) k p) (sym (kind_of_field-field_of f)) w))
     told up
 
-held : (fields : List FieldShape) (n : ℕ) (f g : FieldShape) (d e : Data) (s t : Seen) → HoldsColumn (kind_of_field f) n d s → Some f ≡ Some g → Some d ≡ Some e → Some s ≡ Some t
-    → HoldsColumn (kind_of_field g) n e t
-held fields n f g d e s t h p q r =
+held : (n : ℕ) (f g : FieldShape) (c b : Option Coding) (d e : Data) (s t : Seen) → HoldsTop (kind_of_field f) c n d s → Some f ≡ Some g → Some c ≡ Some b → Some d ≡ Some e → Some s ≡ Some t
+    → HoldsTop (kind_of_field g) b n e t
+held n f g c b d e s t h p q r u =
     let a : f ≡ g = cc in
-    let b : d ≡ e = cc in
-    let c : s ≡ t = cc in
-    subst (λ x. HoldsColumn (kind_of_field x) n e t) a (subst (λ x. HoldsColumn (kind_of_field f) n x t) b (subst (λ x. HoldsColumn (kind_of_field f) n d x) c h))
+    let a' : c ≡ b = cc in
+    let b' : d ≡ e = cc in
+    let c' : s ≡ t = cc in
+    subst (λ x. HoldsTop (kind_of_field x) b n e t) a (subst (λ x. HoldsTop (kind_of_field f) x n e t) a' (subst (λ x. HoldsTop (kind_of_field f) c n x t) b' (subst (λ x. HoldsTop (kind_of_field f) c n d x) c' h)))
 
-pub column_pushed : (fields : List FieldShape) (n : ℕ) (ds : Items) (m : ℕ) (columns : List Seen) (f : FieldShape) (d : Data) (s : Seen) → HoldsColumns fields n ds m columns
-    → slice_get fields m ≡ Some f → get_item m ds ≡ Some d → HoldsColumn (kind_of_field f) n d s → HoldsColumns fields n ds (m + 1) (columns ++ s ∷ [])
-column_pushed fields n ds m columns f d s h at_field at_item column = record {
+pub column_pushed : (fields : List FieldShape) (book : List (Option Coding)) (n : ℕ) (ds : Items) (m : ℕ) (columns : List Seen) (f : FieldShape) (b : Option Coding) (d : Data) (s : Seen)
+    → HoldsColumns fields book n ds m columns → slice_get fields m ≡ Some f → slice_get book m ≡ Some b → get_item m ds ≡ Some d → HoldsTop (kind_of_field f) b n d s
+    → HoldsColumns fields book n ds (m + 1) (columns ++ s ∷ [])
+column_pushed fields book n ds m columns f b d s h at_field at_coding at_item column = record {
   len = omega (arith, length-append columns (s ∷ []), h.len);
-  each = λ i g e t field found got.
-      below_more (λ k. (g : FieldShape) (e : Data) (t : Seen) → slice_get fields k ≡ Some g → get_item k ds ≡ Some e → slice_get (columns ++ s ∷ []) k ≡ Some t → HoldsColumn (kind_of_field g) n e t) m
-      (λ k within g e t field found got. h.each k g e t field found (sym (slice_get-front columns (s ∷ []) k (omega (arith, h.len))) ∙ got))
-      (λ g e t field found got. held fields n f g d e s t column (sym at_field ∙ field) (sym at_item ∙ found) (sym (slice_get-last columns s) ∙ (ap (slice_get (columns ++ s ∷ [])) h.len ∙ got)))
-      i (omega (arith, slice_get_within (columns ++ s ∷ []) i t got, length-append columns (s ∷ []), h.len)) g e t field found got;
+  each = λ i g c e t field coding found got.
+      below_more
+      (λ k. (g : FieldShape) (c : Option Coding) (e : Data) (t : Seen) → slice_get fields k ≡ Some g → slice_get book k ≡ Some c → get_item k ds ≡ Some e → slice_get (columns ++ s ∷ []) k ≡ Some t
+      → HoldsTop (kind_of_field g) c n e t)
+      m
+      (λ k within g c e t field coding found got. h.each k g c e t field coding found (sym (slice_get-front columns (s ∷ []) k (omega (arith, h.len))) ∙ got))
+      (λ g c e t field coding found got. held n f g b c d e s t column (sym at_field ∙ field) (sym at_coding ∙ coding) (sym at_item ∙ found) (sym (slice_get-last columns s) ∙ (ap (slice_get (columns ++ s ∷ [])) h.len ∙ got)))
+      i (omega (arith, slice_get_within (columns ++ s ∷ []) i t got, length-append columns (s ∷ []), h.len)) g c e t field coding found got;
 }
 
 -- the loop's step
-pub columns_pushed : (fs : List Field) (n : ℕ) (vs : List Value) (m : ℕ) (columns : List Seen) (f : Field) (v : Value) (s : Seen) → HoldsColumns (fields_of fs) n (items_view vs) m columns
-    → m < length fs → f ≡ get_or fs m f → m < length vs → v ≡ get_or vs m v → HoldsColumn (kind_of (out-Field f).ty) n (view v) s
-    → HoldsColumns (fields_of fs) n (items_view vs) (m + 1) (columns ++ s ∷ [])
-columns_pushed fs n vs m columns f v s h at_field is_field at_value is_value column =
-    column_pushed (fields_of fs) n (items_view vs) m columns (field_of f) (view v) s h (field_at fs m f at_field is_field) (at_index vs m v at_value is_value)
-    (subst (λ a. HoldsColumn a n (view v) s) (sym (kind_of_field-field_of f)) column)
+pub columns_pushed : (fs : List Field) (cs : List (Option reader.Coding)) (n : ℕ) (vs : List Value) (m : ℕ) (columns : List Seen) (f : Field) (c : Option reader.Coding) (v : Value) (s : Seen)
+    → HoldsColumns (fields_of fs) (map (option_map coding_of) cs) n (items_view vs) m columns → m < length fs → f ≡ get_or fs m f → m < length cs → c ≡ get_or cs m c → m < length vs
+    → v ≡ get_or vs m v → HoldsTop (kind_of (out-Field f).ty) (option_map coding_of c) n (view v) s
+    → HoldsColumns (fields_of fs) (map (option_map coding_of) cs) n (items_view vs) (m + 1) (columns ++ s ∷ [])
+columns_pushed fs cs n vs m columns f c v s h at_field is_field at_coding is_coding at_value is_value column =
+    column_pushed (fields_of fs) (map (option_map coding_of) cs) n (items_view vs) m columns (field_of f) (option_map coding_of c) (view v) s h (field_at fs m f at_field is_field)
+    (coding_at cs m c at_coding is_coding) (at_index vs m v at_value is_value)
+    (subst (λ a. HoldsTop a (option_map coding_of c) n (view v) s) (sym (kind_of_field-field_of f)) column)
+
+-- the codings are as many as the fields, and those that are encoded are dictionaries
+pub book_count : (fs : List Field) (cs : List (Option reader.Coding)) → IsBookOf (fields_of fs) (map (option_map coding_of) cs) → length cs ≡ length fs
+book_count fs cs h = omega (arith, length-map cs (option_map coding_of), length-map fs field_of, h.len)
+
+encoded_by : (k : Kind) (c : Option reader.Coding) → ((x : Coding) → option_map coding_of c ≡ Some x → k ≡ kind.dict) → IfSome c (λ _. k ≡ kind.dict)
+encoded_by k None h = tt
+encoded_by k (Some c) h = h (coding_of c) refl
+
+pub encoded_field_at : (fs : List Field) (cs : List (Option reader.Coding)) (i : ℕ) (f : Field) (c : Option reader.Coding) → IsBookOf (fields_of fs) (map (option_map coding_of) cs)
+    → i < length fs → f ≡ get_or fs i f → i < length cs → c ≡ get_or cs i c → IfSome c (λ _. kind_of (out-Field f).ty ≡ kind.dict)
+encoded_field_at fs cs i f c h at_field is_field at_coding is_coding =
+    encoded_by (kind_of (out-Field f).ty) c
+    (λ x is. sym (kind_of_field-field_of f) ∙ h.encoded i (field_of f) x (field_at fs i f at_field is_field) (coding_at cs i c at_coding is_coding ∙ ap Some is))
+
+-- a column that isn't encoded, and one that is
+pub top_plain : (k : Kind) (n : ℕ) (d : Data) (s : Seen) → HoldsColumn k n d s → HoldsTop k None n d s
+top_plain k n d s h = record { kind = h.kind; len = h.len; reads = h.reads }
+
+pub top_coded : (k : Kind) (c : Coding) (n : ℕ) (d : Data) (s : Seen) → k ≡ kind.dict → s.kind ≡ kind.dict → ReadsCodes c.index c.texts n d s.items → HoldsTop k (Some c) n d s
+top_coded k c n d s is same h = record { kind = same ∙ sym is; len = h.slots.len; reads = h }
+
+pub ruleset coded_told = (top_plain, top_coded)
 
 pub ruleset columns_told = (tells_column, tells_wants)
 
 -- ---- batches
 
-pub batch_object : (fields : List FieldShape) (d : Data) (f : JsonFault) → Tells (Unlike as_object d) f → Tells (BatchFault fields d) f
-batch_object fields d f h = tells_as (Unlike as_object d) (BatchFault fields d) f (λ k p w. no_batch_object k p w) h
+pub batch_object : (fields : List FieldShape) (book : List (Option Coding)) (d : Data) (f : JsonFault) → Tells (Unlike as_object d) f → Tells (BatchFault fields book d) f
+batch_object fields book d f h = tells_as (Unlike as_object d) (BatchFault fields book d) f (λ k p w. no_batch_object k p w) h
 
-pub batch_rows : (fields : List FieldShape) (d : Data) (f : JsonFault) → Tells (MemberFault member.Count (Unlike count_of) d) f → Tells (BatchFault fields d) f
-batch_rows fields d f h = tells_as (MemberFault member.Count (Unlike count_of) d) (BatchFault fields d) f (λ k p w. bad_rows k p w) h
+pub batch_rows : (fields : List FieldShape) (book : List (Option Coding)) (d : Data) (f : JsonFault) → Tells (MemberFault member.Count (Unlike count_of) d) f → Tells (BatchFault fields book d) f
+batch_rows fields book d f h = tells_as (MemberFault member.Count (Unlike count_of) d) (BatchFault fields book d) f (λ k p w. bad_rows k p w) h
 
-pub batch_list : (fields : List FieldShape) (d : Data) (f : JsonFault) → Tells (MemberFault member.Columns (ListFault (length fields)) d) f → Tells (BatchFault fields d) f
-batch_list fields d f h = tells_as (MemberFault member.Columns (ListFault (length fields)) d) (BatchFault fields d) f (λ k p w. bad_list k p w) h
+pub batch_list : (fields : List FieldShape) (book : List (Option Coding)) (d : Data) (f : JsonFault) → Tells (MemberFault member.Columns (ListFault (length fields)) d) f → Tells (BatchFault fields book d) f
+batch_list fields book d f h = tells_as (MemberFault member.Columns (ListFault (length fields)) d) (BatchFault fields book d) f (λ k p w. bad_list k p w) h
 
-pub batch_columns : (fields : List FieldShape) (d : Data) (rows : ℕ) (ds : Items) (f g : JsonFault) → Tells (ColumnsFault fields rows ds) f
+pub batch_columns : (fields : List FieldShape) (book : List (Option Coding)) (d : Data) (rows : ℕ) (ds : Items) (f g : JsonFault) → Tells (ColumnsFault fields book rows ds) f
     → option_and_then count_of (member_of member.Count d) ≡ Some rows → option_and_then as_array (member_of member.Columns d) ≡ Some ds → IsUnder (step.Member member.Columns) f g
-    → Tells (BatchFault fields d) g
-batch_columns fields d rows ds f g told at_rows at_list up =
-    tells_under (ColumnsFault fields rows ds) (BatchFault fields d) (step.Member member.Columns) f g (λ k p w. bad_columns rows ds k p at_rows at_list w) told up
+    → Tells (BatchFault fields book d) g
+batch_columns fields book d rows ds f g told at_rows at_list up =
+    tells_under (ColumnsFault fields book rows ds) (BatchFault fields book d) (step.Member member.Columns) f g (λ k p w. bad_columns rows ds k p at_rows at_list w) told up
 
 pub ruleset batch_told = (batch_object, batch_rows, batch_list, batch_columns)

@@ -16,7 +16,7 @@ use Rattle.arrow_json.specs.JsonFault.{no_memory, IsFault, IsUnder, Tells, stand
 use Rattle.arrow_json.specs.JsonMember.{member_of, IsObject, Unlike, unlike, Missing, missing, MemberFault, absent, wrong, EachFault, item}
 use Rattle.arrow_json.specs.JsonNumber.{width_of}
 use Rattle.arrow_json.specs.JsonSchema.{type_name, named_type, is_childless, only_item, only_child}
-use Rattle.arrow_json.specs.JsonSchemaFault.{TypeFault, no_type_object, bad_type_name, other_type, bad_width, other_width, bad_sign, FieldFault, no_field_object, bad_field_name, bad_nullable, bad_type, no_dictionary_object, encoded, encoded_item, has_children, no_child, ninth_list, bad_child, SchemaFault, no_schema_object, bad_fields, bad_field}
+use Rattle.arrow_json.specs.JsonSchemaFault.{TypeFault, no_type_object, bad_type_name, other_type, bad_width, other_width, bad_sign, FieldFault, no_field_object, bad_field_name, bad_nullable, bad_type, no_dictionary_object, encoded_item, has_children, no_child, ninth_list, bad_child, IndexFault, bad_index_type, other_index}
 
 abbrev Faults : Type 1
 Faults = JsonFaultKind → List Step → Type 0
@@ -80,6 +80,14 @@ type_other_width d f width int at other is = tells_at (TypeFault d) UnsupportedT
 pub type_sign : (d : Data) (f : JsonFault) → Tells (MemberFault member.IsSigned (Unlike as_bool) d) f → type_name d ≡ Some (codes "int") → Tells (TypeFault d) f
 type_sign d f t int = tells_as (MemberFault member.IsSigned (Unlike as_bool) d) (TypeFault d) f (λ k p h. bad_sign k p int h) t
 
+-- ---- types of indices
+
+pub index_type : (d : Data) (f : JsonFault) → Tells (TypeFault d) f → Tells (IndexFault d) f
+index_type d f t = tells_as (TypeFault d) (IndexFault d) f (λ k p h. bad_index_type k p h) t
+
+pub index_other : (d : Data) (f : JsonFault) (bytes : List ℕ) → type_name d ≡ Some bytes → bytes ≢ codes "int" → IsFault UnsupportedType [] f → Tells (IndexFault d) f
+index_other d f bytes at other is = tells_at (IndexFault d) UnsupportedType [] f (other_index bytes at other) is
+
 -- ---- fields
 
 pub field_object : (n : ℕ) (d : Data) (f : JsonFault) → Tells (Unlike as_object d) f → Tells (FieldFault n d) f
@@ -97,10 +105,6 @@ field_no_type n d f t = tells_as (Missing member.DataType d) (FieldFault n d) f 
 pub field_type_told : (n : ℕ) (d e : Data) (f g : JsonFault) → Tells (TypeFault e) f → member_of member.DataType d ≡ Some e → IsUnder (step.Member member.DataType) f g → Tells (FieldFault n d) g
 field_type_told n d e f g t at up =
     tells_under (TypeFault e) (FieldFault n d) (step.Member member.DataType) f g (λ k p h. bad_type n d k (step.Member member.DataType ∷ p) (wrong e k p at h)) t up
-
-pub field_encoded : (n : ℕ) (d e : Data) (f : JsonFault) → member_of member.Dictionary d ≡ Some e → IsObject e → n ≡ 0 → IsFault UnsupportedType (step.Member member.DataType ∷ []) f → Tells (FieldFault n d) f
-field_encoded zero d e f at object is told = tells_at (FieldFault 0 d) UnsupportedType (step.Member member.DataType ∷ []) f (encoded d e at object) told
-field_encoded (suc n) d e f at object is told = absurd (omega (arith, is))
 
 pub field_encoded_item : (n : ℕ) (d e : Data) (f : JsonFault) → member_of member.Dictionary d ≡ Some e → IsObject e → n ≢ 0 → IsFault UnsupportedType [] f → Tells (FieldFault n d) f
 field_encoded_item zero d e f at object is told = absurd (is refl)
@@ -169,20 +173,10 @@ pub tells_item_at : (W : Data → JsonFaultKind → List Step → Type 0) (vs : 
     → IsUnder (step.Item i) f g → Tells (EachFault W (items_view vs)) g
 tells_item_at W vs i v f g t within is up = tells_item W (items_view vs) i (view v) f g t (sym (get_item_within vs i v within) ∙ ap (λ w. Some (view w)) (sym is)) up
 
-pub schema_object : (d : Data) (f : JsonFault) → Tells (Unlike as_object d) f → Tells (SchemaFault d) f
-schema_object d f t = tells_as (Unlike as_object d) (SchemaFault d) f (λ k p h. no_schema_object k p h) t
-
-pub schema_fields : (d : Data) (f : JsonFault) → Tells (MemberFault member.Fields (Unlike as_array) d) f → Tells (SchemaFault d) f
-schema_fields d f t = tells_as (MemberFault member.Fields (Unlike as_array) d) (SchemaFault d) f (λ k p h. bad_fields k p h) t
-
-pub schema_field : (d : Data) (ds : Items) (f g : JsonFault) → Tells (EachFault (FieldFault 0) ds) f → option_and_then as_array (member_of member.Fields d) ≡ Some ds
-    → IsUnder (step.Member member.Fields) f g → Tells (SchemaFault d) g
-schema_field d ds f g t at up = tells_under (EachFault (FieldFault 0) ds) (SchemaFault d) (step.Member member.Fields) f g (λ k p h. bad_field ds k p at h) t up
-
-pub ruleset schema_told = (tells_item_at, schema_object, schema_fields, schema_field, tells_wants)
-
 pub ruleset type_told = (type_object, type_name_told, type_other_name, type_width, type_other_width, type_sign)
 
-pub ruleset field_told = (field_object, field_name_told, field_nullable_told, field_no_type, field_type_told, field_encoded, field_encoded_item, field_no_dictionary, named_by, not_named, field_children, field_no_child, field_other_child, field_ninth, field_child, tells_wants)
+pub ruleset index_told = (type_object, type_name_told, index_type, index_other)
+
+pub ruleset field_told = (field_object, field_name_told, field_nullable_told, field_no_type, field_type_told, field_encoded_item, field_no_dictionary, named_by, not_named, field_children, field_no_child, field_other_child, field_ninth, field_child, tells_wants)
 
 pub ruleset told = (tells_unlike, tells_missing, tells_absent, tells_unlike_member)

@@ -1,8 +1,10 @@
 -- What a file's batches are, and why its faults stand.
-use Rattle.std.proofs.Common.{◌≡◌, ℕ, ◌+◌, ◌<◌, List, [], ◌∷◌, ◌++◌, length, get_or, map, Some, None, option_and_then, IsUtf8, sym, subst}
+use Rattle.std.proofs.Common.{◌≡◌, ℕ, ◌+◌, ◌<◌, List, [], ◌∷◌, ◌++◌, length, get_or, map, Option, Some, None, option_and_then, IsUtf8, refl, sym, ap, subst, arith, ◌∙◌}
 use Rattle.std.specs.List.{AllByRecursion}
 use Rattle.std.proofs.lemmas.List.{map-append}
-use Rattle.arrays.specs.Shape.{FieldShape}
+use Rattle.std.proofs.lemmas.Option.{slice_get_within}
+use Rattle.arrays.specs.Kind as kind
+use Rattle.arrays.specs.Shape.{FieldShape, kind_of_field}
 use Rattle.arrays.specs.Batch.{Batch}
 use Rattle.serde_json.specs.Data.{Data, Items}
 use Rattle.serde_json.specs.Find.{as_array, as_object}
@@ -14,23 +16,28 @@ use Rattle.arrow_json.specs.declared.path.Step.TheVariants as step
 use Rattle.arrow_json.specs.declared.fault.JsonFault.{JsonFault}
 use Rattle.arrow_json.specs.declared.fault.JsonFaultKind.TheVariants.{NotJson}
 use Rattle.arrow_json.specs.JsonFault.{Tells, IsFault, IsUnder}
-use Rattle.arrow_json.specs.JsonMember.{member_of, Unlike, Missing, MemberFault, absent, wrong, EachFault, ReadsFirst}
-use Rattle.arrow_json.specs.JsonSchemaFault.{SchemaFault}
-use Rattle.arrow_json.specs.JsonBatch.{ReadsBatch, table_of}
+use Rattle.arrow_json.specs.JsonMember.{member_of, Unlike, Missing, MemberFault, absent, wrong, EachFault, ReadsFirst, ReadsEach}
+use Rattle.arrow_json.specs.JsonFieldsFault.{SchemaFault}
+use Rattle.arrow_json.specs.JsonBatch.{IsBookOf, ReadsBatch, table_of}
+use Rattle.arrow_json.specs.JsonBook.{Coding, HasBook, HasCoding, listed_fields}
+use Rattle.arrow_json.specs.JsonBookFault.{BookFault}
+use Rattle.arrow_json.specs.JsonFields.{ReadsField, plain_field, encoded_field}
 use Rattle.arrow_json.specs.JsonBatchFault.{BatchFault}
-use Rattle.arrow_json.specs.JsonFile.{AreUnder, HasSchema, FileFault, no_file_object, bad_schema, bad_batches, bad_batch, BytesFault, no_json, bad_file}
+use Rattle.arrow_json.specs.JsonFile.{AreUnder, HasSchema, FileFault, no_file_object, bad_schema, bad_book, bad_batches, bad_batch, BytesFault, no_json, bad_file}
 use Rattle.arrow_json.proofs.JsonFaults.{tells_at, tells_as, tells_under, tells_wants, tells_item_at}
 use Rattle.arrow_json.proofs.JsonItems.{each_pushed}
+use Rattle.arrow_json.proofs.JsonSchemas.{get_item_some}
+use Rattle.arrow_json.proofs.SchemaLaws.{not_plain}
 
-pub tells_batch : (fields : List FieldShape) (vs : List Value) (i : ℕ) (v : Value) (f g : JsonFault) → Tells (BatchFault fields (view v)) f → i < length vs → v ≡ get_or vs i v
-    → IsUnder (step.Item i) f g → Tells (EachFault (BatchFault fields) (items_view vs)) g
-tells_batch fields vs i v f g t within is up = tells_item_at (BatchFault fields) vs i v f g t within is up
+pub tells_batch : (fields : List FieldShape) (book : List (Option Coding)) (vs : List Value) (i : ℕ) (v : Value) (f g : JsonFault) → Tells (BatchFault fields book (view v)) f → i < length vs → v ≡ get_or vs i v
+    → IsUnder (step.Item i) f g → Tells (EachFault (BatchFault fields book) (items_view vs)) g
+tells_batch fields book vs i v f g t within is up = tells_item_at (BatchFault fields book) vs i v f g t within is up
 
 -- the loop's step
-pub batch_pushed : (fields : List FieldShape) (vs : List Value) (n : ℕ) (bs : List Batch) (v : Value) (b : Batch) → ReadsFirst (ReadsBatch fields) (items_view vs) n (map table_of bs)
-    → n < length vs → v ≡ get_or vs n v → ReadsBatch fields (view v) (table_of b) → ReadsFirst (ReadsBatch fields) (items_view vs) (n + 1) (map table_of (bs ++ b ∷ []))
-batch_pushed fields vs n bs v b h within is batch =
-    rw (map-append table_of bs (b ∷ [])) (each_pushed (ReadsBatch fields) vs n (map table_of bs) v (table_of b) h within is batch)
+pub batch_pushed : (fields : List FieldShape) (book : List (Option Coding)) (vs : List Value) (n : ℕ) (bs : List Batch) (v : Value) (b : Batch) → ReadsFirst (ReadsBatch fields book) (items_view vs) n (map table_of bs)
+    → n < length vs → v ≡ get_or vs n v → ReadsBatch fields book (view v) (table_of b) → ReadsFirst (ReadsBatch fields book) (items_view vs) (n + 1) (map table_of (bs ++ b ∷ []))
+batch_pushed fields book vs n bs v b h within is batch =
+    rw (map-append table_of bs (b ∷ [])) (each_pushed (ReadsBatch fields book) vs n (map table_of bs) v (table_of b) h within is batch)
 
 pub ruleset batches_told = (tells_batch, tells_wants)
 
@@ -44,15 +51,39 @@ pub file_schema : (d e : Data) (f g : JsonFault) → Tells (SchemaFault e) f →
 file_schema d e f g t at up =
     tells_under (SchemaFault e) (FileFault d) (step.Member member.Schema) f g (λ k p h. bad_schema k (step.Member member.Schema ∷ p) (wrong e k p at h)) t up
 
+pub file_book : (d : Data) (f : JsonFault) → Tells (BookFault d) f → Tells (FileFault d) f
+file_book d f t = tells_as (BookFault d) (FileFault d) f (λ k p h. bad_book k p h) t
+
+-- the objects of the fields
+pub fields_listed : (d schema : Data) (ds : Items) → member_of member.Schema d ≡ Some schema → option_and_then as_array (member_of member.Fields schema) ≡ Some ds → listed_fields d ≡ Some ds
+fields_listed d schema ds at found = ap (λ o. option_and_then as_array (option_and_then (member_of member.Fields) o)) at ∙ found
+
+-- the book of a file's fields
+coding_kind : (d e : Data) (f : FieldShape) (c : Coding) → ReadsField e f → HasCoding d e (Some c) → kind_of_field f ≡ kind.dict
+coding_kind d e f c (plain_field g object shallow) h = absurd (not_plain e f record { id = h.id; index = c.index } object h.encoding)
+coding_kind d e f c (encoded_field bytes b g) h = refl
+
+pub book_of : (d : Data) (fields : List FieldShape) (book : List (Option Coding)) → HasSchema d fields → HasBook d book → IsBookOf fields book
+book_of d fields book h g =
+    let listed = fields_listed d h.schema h.reads.fields.0 h.at_schema h.reads.fields.1 in
+    let same : g.fields ≡ h.reads.fields.0 = cc (listed, g.listed) in
+    let each = subst (λ ds. ReadsEach (HasCoding d) ds book) same g.each in
+    record {
+      len = each.len ∙ sym h.reads.fields.2.len;
+      encoded = λ i f c at_field at_coding.
+          let e = get_item_some h.reads.fields.0 i (omega (arith, slice_get_within fields i f at_field, h.reads.fields.2.len)) in
+          coding_kind d e.0 f c (h.reads.fields.2.each i e.0 f e.1 at_field) (each.each i e.0 (Some c) e.1 at_coding);
+    }
+
 pub file_batches : (d : Data) (f : JsonFault) → Tells (MemberFault member.Batches (Unlike as_array) d) f → Tells (FileFault d) f
 file_batches d f t = tells_as (MemberFault member.Batches (Unlike as_array) d) (FileFault d) f (λ k p h. bad_batches k p h) t
 
-pub file_batch : (d : Data) (fields : List FieldShape) (ds : Items) (f g : JsonFault) → Tells (EachFault (BatchFault fields) ds) f → HasSchema d fields
+pub file_batch : (d : Data) (fields : List FieldShape) (book : List (Option Coding)) (ds : Items) (f g : JsonFault) → Tells (EachFault (BatchFault fields book) ds) f → HasSchema d fields → HasBook d book
     → option_and_then as_array (member_of member.Batches d) ≡ Some ds → IsUnder (step.Member member.Batches) f g → Tells (FileFault d) g
-file_batch d fields ds f g t schema at up =
-    tells_under (EachFault (BatchFault fields) ds) (FileFault d) (step.Member member.Batches) f g (λ k p h. bad_batch fields ds k p schema at h) t up
+file_batch d fields book ds f g t schema coded at up =
+    tells_under (EachFault (BatchFault fields book) ds) (FileFault d) (step.Member member.Batches) f g (λ k p h. bad_batch fields book ds k p schema coded at h) t up
 
-pub ruleset file_told = (file_object, file_no_schema, file_schema, file_batches, file_batch)
+pub ruleset file_told = (file_object, file_no_schema, file_schema, fields_listed, file_book, book_of, file_batches, file_batch)
 
 pub bytes_no_json : (bytes : List ℕ) (f : JsonFault) → (IsUtf8 bytes → read bytes ≡ None) → IsFault NotJson [] f → Tells (BytesFault bytes) f
 bytes_no_json bytes f h is = tells_at (BytesFault bytes) NotJson [] f (no_json h) is

@@ -73,10 +73,10 @@ one_value [] v h = absurd (omega arith)
 one_value (x ∷ []) v h = refl
 one_value (x ∷ y ∷ vs) v h = absurd (omega arith)
 
-pub one_child : (o : Option Items) (vs : List Value) (v : Value) → o ≡ Some (items_view vs) → length vs ≡ 1 → o ≡ Some (item (view (get_or vs 0 v)) no_items)
-one_child o vs v found one = found ∙ ap Some (one_value vs v one)
+pub one_item : (o : Option Items) (vs : List Value) (v : Value) → o ≡ Some (items_view vs) → length vs ≡ 1 → o ≡ Some (item (view (get_or vs 0 v)) no_items)
+one_item o vs v found one = found ∙ ap Some (one_value vs v one)
 
-pub ruleset child_found = (one_child)
+pub ruleset single_found = (one_item)
 
 pub parts_object : (n : ℕ) (d : Data) (f : JsonFault) → Tells (Unlike as_object d) f → Tells (NoLists n d) f
 parts_object n d f t = tells_as (Unlike as_object d) (NoLists n d) f (λ k p h. no_list_object k p h) t

@@ -10,7 +10,8 @@ use Rattle.serde_json.specs.Data.{Data, Items, no_items, item}
 use Rattle.serde_json.specs.Find.{get_item}
 use Rattle.serde_json.specs.Events.{items_len}
 use Rattle.arrow_json.specs.JsonMember.{ReadsEach}
-use Rattle.arrow_json.specs.JsonSchema.{ReadsField, IsFieldOf, HasChildren}
+use Rattle.arrow_json.specs.JsonSchema.{IsFieldOf, HasChildren}
+use Rattle.arrow_json.specs.JsonFields.{ReadsField, plain_field, encoded_field}
 
 pub get_item_some : (ds : Items) (i : ℕ) → i < items_len ds → (d : Data) × (get_item i ds ≡ Some d)
 get_item_some no_items i h = absurd (omega arith)
@@ -36,11 +37,14 @@ holds_none d (field bytes b utf8) h = refl
 holds_none d (field bytes b (list f)) h = no_dict h.1.0 f h.1.2
 holds_none d (field bytes b dict) h = refl
 
+field_flat : (d : Data) (f : FieldShape) → ReadsField d f → (is_deep f ≡ false) × (holds_dict f ≡ false)
+field_flat d f (plain_field g object shallow) = (shallow, holds_none d f object)
+field_flat d f (encoded_field bytes b h) = (refl, refl)
+
 flat_at : (ds : Items) (fields : List FieldShape) (i : ℕ) (f : FieldShape) → ReadsEach ReadsField ds fields → slice_get fields i ≡ Some f → (is_deep f ≡ false) × (holds_dict f ≡ false)
 flat_at ds fields i f h at =
     let found = get_item_some ds i (omega (arith, slice_get_within fields i f at, h.len)) in
-    let reads = h.each i found.0 f found.1 at in
-    (reads.shallow, holds_none found.0 f reads.object)
+    field_flat found.0 f (h.each i found.0 f found.1 at)
 
 position_or_len-none : {A : Type 0} (p : A → Bool) (xs : List A) → ((i : ℕ) (x : A) → slice_get xs i ≡ Some x → p x ≡ false) → position_or_len p xs ≡ length xs
 position_or_len-none p [] h = refl

@@ -33,7 +33,7 @@ nothing [] = refl
 nothing (x ∷ xs) = nothing xs
 
 -- a column without offsets is never full
-never_full : (xs : List Item) → is_past (sum_by (λ (x : Item). 0) xs) ≡ false
+pub never_full : (xs : List Item) → is_past (sum_by (λ (x : Item). 0) xs) ≡ false
 never_full xs = ap is_past (nothing xs)
 
 -- a null takes none of the offsets
@@ -77,7 +77,7 @@ pub ruleset taken = (number_taken, truth_taken, text_taken, no_number, no_truth,
 
 -- ---- a slot is added
 
-slots_pushed : (s : Spelling) (flags : Option Items) (values : Items) (n : ℕ) (items : List Item) (x : Item) → ReadsSlots s flags values n items
+pub slots_pushed : (s : Spelling) (flags : Option Items) (values : Items) (n : ℕ) (items : List Item) (x : Item) → ReadsSlots s flags values n items
     → slot_of s (valid_at flags n) (get_item n values) ≡ Some x → ReadsSlots s flags values (n + 1) (items ++ x ∷ [])
 slots_pushed s flags values n items x h at = record {
   len = omega (arith, length-append items (x ∷ []), h.len);
@@ -86,11 +86,11 @@ slots_pushed s flags values n items x h at = record {
       (ap (slice_get (items ++ x ∷ [])) (sym h.len) ∙ (slice_get-last items x ∙ sym at));
 }
 
-valid_slot : (s : Spelling) (flags : Option Items) (values : Items) (i : ℕ) (d : Data) (x : Item) → valid_at flags i ≡ Some true → get_item i values ≡ Some d → s.spelled d ≡ Some x
+pub valid_slot : (s : Spelling) (flags : Option Items) (values : Items) (i : ℕ) (d : Data) (x : Item) → valid_at flags i ≡ Some true → get_item i values ≡ Some d → s.spelled d ≡ Some x
     → slot_of s (valid_at flags i) (get_item i values) ≡ Some x
 valid_slot s flags values i d x valid found is = rw (valid, found) is
 
-null_slot : (s : Spelling) (flags : Option Items) (values : Items) (i : ℕ) (d : Data) → valid_at flags i ≡ Some false → get_item i values ≡ Some d
+pub null_slot : (s : Spelling) (flags : Option Items) (values : Items) (i : ℕ) (d : Data) → valid_at flags i ≡ Some false → get_item i values ≡ Some d
     → slot_of s (valid_at flags i) (get_item i values) ≡ Some column.null
 null_slot s flags values i d null found = rw (null, found) refl
 

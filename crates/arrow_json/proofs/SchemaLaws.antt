@@ -1,6 +1,5 @@
 -- Where a fault of a schema stands, no schema is read, and two readings of one schema are one.
 use Rattle.std.proofs.Common.{◌≡◌, ◌≢◌, ◌∙◌, ℕ, zero, suc, ◌+◌, ◌<◌, ◌≤◌, Bool, true, false, nat_lt, List, [], ◌∷◌, length, Option, Some, None, option_and_then, codes, refl, sym, ap, subst, arith}
-use Rattle.std.proofs.lemmas.Bool.{false≢true}
 use Rattle.std.proofs.lemmas.Bool.Decides.{nat_tests}
 use Rattle.std.specs.List.{slice_get}
 use Rattle.types.specs.declared.int_type.IntType.{IntType}
@@ -17,8 +16,13 @@ use Rattle.arrow_json.specs.declared.fault.JsonFaultKind.{JsonFaultKind}
 use Rattle.arrow_json.specs.JsonMember as at
 use Rattle.arrow_json.specs.JsonMember.{IsObject, member_of, Unlike, unlike, Missing, missing, MemberFault, absent, wrong, ListFault, no_array, length_differs, EachFault, ReadsEach}
 use Rattle.arrow_json.specs.JsonNumber.{width_of}
-use Rattle.arrow_json.specs.JsonSchema.{type_name, named_type, is_childless, only_item, only_child, ReadsInt, ReadsShape, HasType, HasField, HasChildren, IsFieldOf, ReadsField, ReadsSchema}
-use Rattle.arrow_json.specs.JsonSchemaFault.{TypeFault, no_type_object, bad_type_name, other_type, bad_width, other_width, bad_sign, FieldFault, no_field_object, bad_field_name, bad_nullable, bad_type, no_dictionary_object, encoded, encoded_item, has_children, no_child, ninth_list, bad_child, SchemaFault, no_schema_object, bad_fields, bad_field}
+use Rattle.arrow_json.specs.JsonSchema.{type_name, named_type, is_childless, only_item, only_child, ReadsInt, ReadsShape, HasType, HasField, HasChildren, IsFieldOf, is_without}
+use Rattle.arrow_json.specs.JsonEncoding.{Encoding, HasEncoding, IsEncoding, id_of}
+use Rattle.arrow_json.specs.JsonEncodingFault.{EncodingFault, bad_id, bad_index, EncodedFault, no_encoding_object, bad_encoding}
+use Rattle.arrow_json.specs.JsonFields.{IsEncodedField, ReadsField, plain_field, encoded_field, ReadsSchema}
+use Rattle.arrow_json.specs.JsonFieldsFault.{TopFault, bad_top, bad_encoded, other_values, SchemaFault, no_schema_object, bad_fields, bad_field}
+use Rattle.arrow_json.proofs.JsonNames.{has_object, no_null, head, not_list}
+use Rattle.arrow_json.specs.JsonSchemaFault.{TypeFault, no_type_object, bad_type_name, other_type, bad_width, other_width, bad_sign, FieldFault, no_field_object, bad_field_name, bad_nullable, bad_type, no_dictionary_object, encoded_item, has_children, no_child, ninth_list, bad_child, IndexFault, bad_index_type, other_index}
 use Rattle.arrow_json.proofs.JsonSchemas.{get_item_some}
 use Rattle.arrow_json.specs.JsonFile.{HasSchema}
 
@@ -81,10 +85,6 @@ named_law d bytes k p h no_int known (bad_width k' p' name f) = no_int cc
 named_law d bytes k p h no_int known (other_width width name at none) = no_int cc
 named_law d bytes k p h no_int known (bad_sign k' p' name f) = no_int cc
 
-abbrev head : List ℕ → ℕ
-head [] = 0
-head (x ∷ xs) = x
-
 shape_law : (d : Data) (s : Shape) (k : JsonFaultKind) (p : List Step) → ReadsShape d s → TypeFault d k p → ⊥
 shape_law d (int t) k p h f = type_law d t k p h f
 shape_law d boolean k p h f = named_law d (codes "bool") k p h (λ e. let n : 98 ≡ 105 = ap head e in omega (arith, n)) (λ no_bool no_utf8 no_list. no_bool refl) f
@@ -100,47 +100,40 @@ under_law m W d e k p found law (wrong g k' p' at w) =
     let same : g ≡ e = cc (found, at) in
     law k' p' (subst (λ x. W x k' p') same w)
 
--- an object isn't null
-no_null : (e : Data) → IsObject e → as_null e ≡ None
-no_null data'.null h = absurd (false≢true h)
-no_null (data'.boolean b) h = refl
-no_null (data'.number n) h = refl
-no_null (data'.string s) h = refl
-no_null (data'.array ds) h = refl
-no_null (data'.object ms) h = refl
-
--- a type that is called otherwise is no list
-not_list : (d : Data) (s : Shape) (bytes : List ℕ) → (h : HasType d s) → type_name h.object ≡ Some bytes → head bytes ≢ 108 → named_type d ≡ Some (codes "list") → ⊥
-not_list d s bytes h called other is_list =
-    let found : Some bytes ≡ Some (codes "list") = sym called ∙ (sym (ap (option_and_then type_name) h.at_type) ∙ is_list) in
-    let same : bytes ≡ codes "list" = cc in
-    other (ap head same)
-
--- of a field whose child has no fault within these lists
-has_law : (n : ℕ) (d : Data) (bytes : List ℕ) (b : Bool) (s : Shape) (k : JsonFaultKind) (p : List Step) → HasField d bytes b s
+-- of a field that a dictionary makes no fault of, and whose child has no fault within these lists
+has_law : (n : ℕ) (d : Data) (bytes : List ℕ) (b : Bool) (s : Shape) (k : JsonFaultKind) (p : List Step) → option_and_then as_str (member_of member.Name d) ≡ Some bytes
+    → option_and_then as_bool (member_of member.Nullable d) ≡ Some b → HasType d s
+    → ((e : Data) → member_of member.Dictionary d ≡ Some e → as_null e ≡ None → as_object e ≡ None → ⊥)
+    → ((m : ℕ) (e : Data) → n ≡ suc m → member_of member.Dictionary d ≡ Some e → IsObject e → ⊥)
     → (named_type d ≢ Some (codes "list") → is_childless (member_of member.Children d) ≡ false → ⊥)
     → ((k : JsonFaultKind) (p : List Step) → named_type d ≡ Some (codes "list") → MemberFault member.Children (Unlike only_item) d k p → ⊥)
     → (named_type d ≡ Some (codes "list") → n ≡ 8 → ⊥)
     → ((child : Data) (k : JsonFaultKind) (p : List Step) → named_type d ≡ Some (codes "list") → only_child d ≡ Some child → FieldFault (suc n) child k p → ⊥)
     → FieldFault n d k p → ⊥
-has_law n d bytes b s k p h some one ninth inside (no_field_object n' d' k' p' u) = no_object as_str member.Name d _ h.name (not_unlike as_object d _ _ u)
-has_law n d bytes b s k p h some one ninth inside (bad_field_name n' d' k' p' f) = no_member as_str member.Name d _ _ _ h.name f
-has_law n d bytes b s k p h some one ninth inside (bad_nullable n' d' k' p' f) = no_member as_bool member.Nullable d _ _ _ h.nullable f
-has_law n d bytes b s k p h some one ninth inside (bad_type n' d' k' p' f) =
-    under_law member.DataType TypeFault d h.ty.object _ _ h.ty.at_type (λ k p w. shape_law h.ty.object s k p h.ty.reads w) f
-has_law n d bytes b s k p h some one ninth inside (no_dictionary_object n' d' e k' p' at none u) = cc (at, none, h.plain)
-has_law n d bytes b s k p h some one ninth inside (encoded d' e at object) = cc (at, no_null e object, h.plain)
-has_law n d bytes b s k p h some one ninth inside (encoded_item n' d' e at object) = cc (at, no_null e object, h.plain)
-has_law n d bytes b s k p h some one ninth inside (has_children n' d' flat e) = some flat e
-has_law n d bytes b s k p h some one ninth inside (no_child n' d' k' p' is_list f) = one _ _ is_list f
-has_law n d bytes b s k p h some one ninth inside (ninth_list d' is_list) = ninth is_list refl
-has_law n d bytes b s k p h some one ninth inside (bad_child n' d' child k' p' is_list at f) = inside child _ _ is_list at f
+has_law n d bytes b s k p name nullable ty encoded nested some one ninth inside (no_field_object n' d' k' p' u) = no_object as_str member.Name d _ name (not_unlike as_object d _ _ u)
+has_law n d bytes b s k p name nullable ty encoded nested some one ninth inside (bad_field_name n' d' k' p' f) = no_member as_str member.Name d _ _ _ name f
+has_law n d bytes b s k p name nullable ty encoded nested some one ninth inside (bad_nullable n' d' k' p' f) = no_member as_bool member.Nullable d _ _ _ nullable f
+has_law n d bytes b s k p name nullable ty encoded nested some one ninth inside (bad_type n' d' k' p' f) =
+    under_law member.DataType TypeFault d ty.object _ _ ty.at_type (λ k p w. shape_law ty.object s k p ty.reads w) f
+has_law n d bytes b s k p name nullable ty encoded nested some one ninth inside (no_dictionary_object n' d' e k' p' at none u) = encoded e at none (not_unlike as_object e _ _ u)
+has_law n d bytes b s k p name nullable ty encoded nested some one ninth inside (encoded_item n' d' e at object) = nested n' e refl at object
+has_law n d bytes b s k p name nullable ty encoded nested some one ninth inside (has_children n' d' flat e) = some flat e
+has_law n d bytes b s k p name nullable ty encoded nested some one ninth inside (no_child n' d' k' p' is_list f) = one _ _ is_list f
+has_law n d bytes b s k p name nullable ty encoded nested some one ninth inside (ninth_list d' is_list) = ninth is_list refl
+has_law n d bytes b s k p name nullable ty encoded nested some one ninth inside (bad_child n' d' child k' p' is_list at f) = inside child _ _ is_list at f
+
+-- a dictionary that is absent or null
+pub without_law : (d e : Data) → is_without (member_of member.Dictionary d) ≡ true → member_of member.Dictionary d ≡ Some e → as_null e ≡ None → ⊥
+without_law d e plain at none = cc (at, none, plain)
 
 -- of a field that is no list
 flat_law : (n : ℕ) (d : Data) (bytes : List ℕ) (b : Bool) (s : Shape) (k : JsonFaultKind) (p : List Step) → HasField d bytes b s → is_childless (member_of member.Children d) ≡ true
     → (named_type d ≡ Some (codes "list") → ⊥) → FieldFault n d k p → ⊥
 flat_law n d bytes b s k p h none flat w =
-    has_law n d bytes b s k p h (λ other some. cc (none, some)) (λ k p is_list f. flat is_list) (λ is_list eight. flat is_list) (λ child k p is_list at f. flat is_list) w
+    has_law n d bytes b s k p h.name h.nullable h.ty
+    (λ e at there object. without_law d e h.plain at there)
+    (λ m e is at object. without_law d e h.plain at (no_null e object))
+    (λ other some. cc (none, some)) (λ k p is_list f. flat is_list) (λ is_list eight. flat is_list) (λ child k p is_list at f. flat is_list) w
 
 -- a field that is read has no fault within as many lists as leave room for its own
 within_law : (n : ℕ) (d : Data) (f : FieldShape) (k : JsonFaultKind) (p : List Step) → IsFieldOf d f → n + depth (kind_of_field f) ≤ 8 → FieldFault n d k p → ⊥
@@ -148,7 +141,9 @@ within_law n d (field bytes b (int t)) k p h room w = flat_law n d bytes b (int 
 within_law n d (field bytes b boolean) k p h room w = flat_law n d bytes b boolean k p h.0 h.1 (not_list d boolean (codes "bool") h.0.ty h.0.ty.reads (λ e. omega (arith, e))) w
 within_law n d (field bytes b utf8) k p h room w = flat_law n d bytes b utf8 k p h.0 h.1 (not_list d utf8 (codes "utf8") h.0.ty h.0.ty.reads (λ e. omega (arith, e))) w
 within_law n d (field bytes b (list f)) k p h room w =
-    has_law n d bytes b (list f) k p h.0
+    has_law n d bytes b (list f) k p h.0.name h.0.nullable h.0.ty
+    (λ e at there object. without_law d e h.0.plain at there)
+    (λ m e is at object. without_law d e h.0.plain at (no_null e object))
     (λ other some. other (ap (option_and_then type_name) h.0.ty.at_type ∙ h.0.ty.reads))
     (λ k p is_list f. no_member only_item member.Children d h.1.0 k p h.1.1 f)
     (λ is_list eight. omega (arith, room, eight))
@@ -161,8 +156,56 @@ within_law n d (field bytes b dict) k p h room w = absurd h.1
 shallow_room : (n : ℕ) → nat_lt 8 n ≡ false → 0 + n ≤ 8
 shallow_room n h = grind (arith, nat_tests)
 
-field_law : (d : Data) (f : FieldShape) (k : JsonFaultKind) (p : List Step) → ReadsField d f → FieldFault 0 d k p → ⊥
-field_law d f k p h w = within_law 0 d f k p h.object (shallow_room (depth (kind_of_field f)) h.shallow) w
+-- a field that is encoded has a dictionary object
+pub encoding_object : (d : Data) (e : Encoding) → HasEncoding d (Some e) → (object : Data) × (member_of member.Dictionary d ≡ Some object) × IsObject object
+encoding_object d e h = (h.0, h.1, has_object id_of member.Id h.0 e.id h.2.id)
+
+-- such an object has no fault as one
+object_law : (d e : Data) (x : Encoding) → HasEncoding d (Some x) → member_of member.Dictionary d ≡ Some e → as_object e ≡ None → ⊥
+object_law d e x h at none =
+    let same : e ≡ h.0 = cc (at, h.1) in
+    no_object id_of member.Id e x.id (ap (λ a. option_and_then id_of (member_of member.Id a)) same ∙ h.2.id) none
+
+index_law : (d : Data) (t : IntType) (k : JsonFaultKind) (p : List Step) → ReadsInt d t → IndexFault d k p → ⊥
+index_law d t k p h (bad_index_type k' p' w) = type_law d t _ _ h w
+index_law d t k p h (other_index bytes found other) =
+    let same : bytes ≡ codes "int" = cc (found, h.name) in
+    other same
+
+encoding_law : (d : Data) (e : Encoding) (k : JsonFaultKind) (p : List Step) → IsEncoding d e → EncodingFault d k p → ⊥
+encoding_law d e k p h (bad_id k' p' f) = no_member id_of member.Id d e.id _ _ h.id f
+encoding_law d e k p h (bad_index k' p' f) = under_law member.IndexType IndexFault d h.object _ _ h.at_index (λ k p w. index_law h.object e.index k p h.index w) f
+
+pub encoded_law : (d : Data) (o : Option Encoding) (k : JsonFaultKind) (p : List Step) → HasEncoding d o → EncodedFault d k p → ⊥
+encoded_law d None k p h (no_encoding_object e k' p' at none u) = without_law d e h at none
+encoded_law d None k p h (bad_encoding e k' p' at object w) = without_law d e h at (no_null e object)
+encoded_law d (Some x) k p h (no_encoding_object e k' p' at none u) = object_law d e x h at (not_unlike as_object e _ _ u)
+encoded_law d (Some x) k p h (bad_encoding e k' p' at object w) =
+    let same : e ≡ h.0 = cc (at, h.1) in
+    encoding_law h.0 x k' p' h.2 (subst (λ a. EncodingFault a k' p') same w)
+
+encoded_field_law : (d : Data) (bytes : List ℕ) (b : Bool) (k : JsonFaultKind) (p : List Step) → IsEncodedField d bytes b → FieldFault 0 d k p → ⊥
+encoded_field_law d bytes b k p h w =
+    let flat = not_list d utf8 (codes "utf8") h.ty h.ty.reads (λ e. omega (arith, e)) in
+    has_law 0 d bytes b utf8 k p h.name h.nullable h.ty
+    (λ e at there none. object_law d e h.encoded_as h.encoding at none)
+    (λ m e is at object. omega (arith, is))
+    (λ other some. cc (h.childless, some)) (λ k p is_list f. flat is_list) (λ is_list eight. flat is_list) (λ child k p is_list at f. flat is_list) w
+
+-- a plain field has no dictionary
+plain_of : (d : Data) (f : FieldShape) → IsFieldOf d f → is_without (member_of member.Dictionary d) ≡ true
+plain_of d (field bytes b s) h = h.0.plain
+
+field_law : (d : Data) (f : FieldShape) (k : JsonFaultKind) (p : List Step) → ReadsField d f → TopFault d k p → ⊥
+field_law d f k p (plain_field g object shallow) (bad_top k' p' w) = within_law 0 d f _ _ object (shallow_room (depth (kind_of_field f)) shallow) w
+field_law d f k p (plain_field g object shallow) (bad_encoded k' p' w) = encoded_law d None _ _ (plain_of d f object) w
+field_law d f k p (plain_field g object shallow) (other_values e bytes at is_object named other) = without_law d e (plain_of d f object) at (no_null e is_object)
+field_law d f k p (encoded_field bytes b h) (bad_top k' p' w) = encoded_field_law d bytes b _ _ h w
+field_law d f k p (encoded_field bytes b h) (bad_encoded k' p' w) = encoded_law d (Some h.encoded_as) _ _ h.encoding w
+field_law d f k p (encoded_field bytes' b h) (other_values e bytes at is_object named other) =
+    let utf8_named : named_type d ≡ Some (codes "utf8") = ap (option_and_then type_name) h.ty.at_type ∙ h.ty.reads in
+    let same : bytes ≡ codes "utf8" = cc in
+    other same
 
 pub get_item-within : (ds : Items) (i : ℕ) (d : Data) → get_item i ds ≡ Some d → i < items_len ds
 get_item-within no_items i d h = absurd cc
@@ -190,11 +233,11 @@ schema_law d fields k p h (no_schema_object k' p' u) = no_object as_array member
 schema_law d fields k p h (bad_fields k' p' f) = no_member as_array member.Fields d _ _ _ h.fields.1 f
 schema_law d fields k p h (bad_field ds k' p' found f) =
     let same : ds ≡ h.fields.0 = cc (found, h.fields.1) in
-    each_law ReadsField (FieldFault 0) h.fields.0 fields k' p' h.fields.2 field_law (subst (λ x. EachFault (FieldFault 0) x k' p') same f)
+    each_law ReadsField TopFault h.fields.0 fields k' p' h.fields.2 field_law (subst (λ x. EachFault TopFault x k' p') same f)
 
 -- ---- two readings of one schema are one
 
-same_int : (d : Data) (s t : IntType) → ReadsInt d s → ReadsInt d t → s ≡ t
+pub same_int : (d : Data) (s t : IntType) → ReadsInt d s → ReadsInt d t → s ≡ t
 same_int d s t h g =
     let width : s.bits ≡ t.bits = cc (h.width, g.width) in
     let sign : s.signed ≡ t.signed = cc (h.sign, g.sign) in
@@ -239,8 +282,23 @@ mutual
       let shape : s ≡ s' = same_types d g.0.ty.object s s' (subst (λ e. ReadsShape e s) place h.0.ty.reads) g.0.ty.reads h.1 g.1 in
       cc (name, nullable, shape)
 
+-- a plain field isn't encoded
+pub not_plain : (d : Data) (f : FieldShape) (e : Encoding) → IsFieldOf d f → HasEncoding d (Some e) → ⊥
+not_plain d f e h g =
+    let o = encoding_object d e g in
+    without_law d o.0 (plain_of d f h) o.1 (no_null o.0 o.2)
+
+one_way : (d : Data) (f : FieldShape) (bytes : List ℕ) (b : Bool) → IsFieldOf d f → IsEncodedField d bytes b → ⊥
+one_way d f bytes b h g = not_plain d f g.encoded_as h g.encoding
+
 same_field : (d : Data) (f g : FieldShape) → ReadsField d f → ReadsField d g → f ≡ g
-same_field d f g h k = same_within d f g h.object k.object
+same_field d f g (plain_field f' h shallow) (plain_field g' k shallow') = same_within d f g h k
+same_field d f g (plain_field f' h shallow) (encoded_field bytes b k) = absurd (one_way d f bytes b h k)
+same_field d f g (encoded_field bytes b h) (plain_field g' k shallow) = absurd (one_way d g bytes b k h)
+same_field d f g (encoded_field bytes b h) (encoded_field bytes' b' k) =
+    let name : bytes ≡ bytes' = cc (h.name, k.name) in
+    let nullable : b ≡ b' = cc (h.nullable, k.nullable) in
+    cc (name, nullable)
 
 pub same_lists : {A : Type 0} (xs ys : List A) → length xs ≡ length ys → ((i : ℕ) (x y : A) → slice_get xs i ≡ Some x → slice_get ys i ≡ Some y → x ≡ y) → xs ≡ ys
 same_lists [] [] len h = refl

@@ -6,7 +6,7 @@ use Rattle.layout.specs.declared.fault.LayoutFault.TheVariants as layout
 use Rattle.arrow_json.specs.JsonPath.{pointer}
 use Rattle.arrow_json.specs.declared.path.Step.{Step}
 use Rattle.arrow_json.specs.declared.fault.JsonFaultKind.{JsonFaultKind}
-use Rattle.arrow_json.specs.declared.fault.JsonFaultKind.TheVariants.{NotJson, MissingMember, WrongMember, UnsupportedType, BadNumber, BadOffset, CountDiffers, Layout, NoMemory}
+use Rattle.arrow_json.specs.declared.fault.JsonFaultKind.TheVariants.{NotJson, MissingMember, WrongMember, UnsupportedType, BadNumber, BadOffset, CountDiffers, NoDictionary, DictionaryTwice, Layout, NoMemory}
 
 -- The number and the name.
 abbrev pub kind_name : JsonFaultKind → List ℕ
@@ -17,6 +17,8 @@ kind_name UnsupportedType = codes "J4 UnsupportedType"
 kind_name BadNumber = codes "J5 BadNumber"
 kind_name BadOffset = codes "J6 BadOffset"
 kind_name CountDiffers = codes "J7 CountDiffers"
+kind_name NoDictionary = codes "J8 NoDictionary"
+kind_name DictionaryTwice = codes "J9 DictionaryTwice"
 kind_name (Layout fault) = codes "J10 Layout"
 kind_name NoMemory = codes "J11 NoMemory"
 

@@ -1,13 +1,12 @@
 -- The schema of a file. (Arrow integration testing, "JSON test data format", Schema and Field)
 use Rattle.std.specs.Prelude.{◌≡◌, ℕ, ◌==◌, List, codes, Bool, true, false, Option, Some, None, is_some, option_map, option_and_then, unwrap_or}
 use Rattle.types.specs.declared.int_type.IntType.{IntType}
-use Rattle.arrays.specs.Schema.{is_deep}
 use Rattle.arrays.specs.Shape.{Shape, FieldShape, int, boolean, utf8, list, dict, field}
 use Rattle.serde_json.specs.Data.{Data, Items, no_items, item}
 use Rattle.serde_json.specs.Find.{as_null, as_bool, as_number, as_str, as_array}
 use Rattle.serde_json.specs.Events.{items_len}
 use Rattle.arrow_json.specs.JsonNumber.{width_of}
-use Rattle.arrow_json.specs.JsonMember.{member_of, ReadsEach}
+use Rattle.arrow_json.specs.JsonMember.{member_of}
 use Rattle.arrow_json.specs.declared.path.Member.TheVariants as member
 
 -- ---- types
@@ -22,7 +21,7 @@ pub record ReadsInt (d : Data) (t : IntType) : Type 0 where
   pub width : option_and_then width_of (option_and_then as_number (member_of member.BitWidth d)) ≡ Some t.bits
   pub sign : option_and_then as_bool (member_of member.IsSigned d) ≡ Some t.signed
 
--- The type object of a type, whatever the items of a list are. Dictionaries aren't read.
+-- The type object of a type, whatever the items of a list are. None names a dictionary: that its column is encoded, the field says.
 abbrev pub ReadsShape : Data → Shape → Type 0
 ReadsShape d (int t) = ReadsInt d t
 ReadsShape d boolean = type_name d ≡ Some (codes "bool")
@@ -65,14 +64,14 @@ pub record HasType (d : Data) (shape : Shape) : Type 0 where
   pub at_type : member_of member.DataType d ≡ Some object
   pub reads : ReadsShape object shape
 
--- A field object, its children apart.
+-- The object of a field that isn't encoded, its children apart.
 pub record HasField (d : Data) (bytes : List ℕ) (b : Bool) (shape : Shape) : Type 0 where
   pub name : option_and_then as_str (member_of member.Name d) ≡ Some bytes
   pub nullable : option_and_then as_bool (member_of member.Nullable d) ≡ Some b
   pub ty : HasType d shape
   pub plain : is_without (member_of member.Dictionary d) ≡ true
 
--- The field object of a field: a list's has one child, the field of its items, and others have none.
+-- The object of such a field: a list's has one child, the field of its items, and others have none.
 abbrev mutual
   pub IsFieldOf : Data → FieldShape → Type 0
   IsFieldOf d (field bytes b shape) = HasField d bytes b shape × HasChildren d shape
@@ -83,13 +82,3 @@ abbrev mutual
   HasChildren d utf8 = is_childless (member_of member.Children d) ≡ true
   HasChildren d (list f) = (child : Data) × (only_child d ≡ Some child) × IsFieldOf child f
   HasChildren d dict = ⊥
-
--- A field with at most 8 lists in one another.
-pub record ReadsField (d : Data) (f : FieldShape) : Type 0 where
-  pub object : IsFieldOf d f
-  pub shallow : is_deep f ≡ false
-
--- ---- schemas
-
-pub record ReadsSchema (d : Data) (shapes : List FieldShape) : Type 0 where
-  pub fields : (ds : Items) × (option_and_then as_array (member_of member.Fields d) ≡ Some ds) × ReadsEach ReadsField ds shapes

@@ -1,9 +1,9 @@
 -- What can be wrong with a schema.
 use Rattle.std.specs.Prelude.{◌≡◌, ◌≢◌, ℕ, suc, List, [], ◌∷◌, codes, false, Some, None, option_and_then}
-use Rattle.serde_json.specs.Data.{Data, Items, Num}
-use Rattle.serde_json.specs.Find.{as_bool, as_null, as_number, as_str, as_array, as_object}
+use Rattle.serde_json.specs.Data.{Data, Num}
+use Rattle.serde_json.specs.Find.{as_bool, as_null, as_number, as_str, as_object}
 use Rattle.arrow_json.specs.JsonNumber.{width_of}
-use Rattle.arrow_json.specs.JsonMember.{IsObject, member_of, Unlike, MemberFault, EachFault}
+use Rattle.arrow_json.specs.JsonMember.{IsObject, member_of, Unlike, MemberFault}
 use Rattle.arrow_json.specs.JsonSchema.{type_name, named_type, is_childless, only_item, only_child}
 use Rattle.arrow_json.specs.declared.path.Member.TheVariants as member
 use Rattle.arrow_json.specs.declared.path.Step.{Step}
@@ -21,7 +21,13 @@ pub data TypeFault (d : Data) : JsonFaultKind → List Step → Type 0 where
       → TypeFault d UnsupportedType []
   bad_sign : (kind : JsonFaultKind) (path : List Step) → type_name d ≡ Some (codes "int") → MemberFault member.IsSigned (Unlike as_bool) d kind path → TypeFault d kind path
 
--- Of a field within so many lists.
+-- Of the type object of a dictionary's indices.
+pub data IndexFault (d : Data) : JsonFaultKind → List Step → Type 0 where
+  bad_index_type : (kind : JsonFaultKind) (path : List Step) → TypeFault d kind path → IndexFault d kind path
+  -- indices are integers
+  other_index : (bytes : List ℕ) → type_name d ≡ Some bytes → bytes ≢ codes "int" → IndexFault d UnsupportedType []
+
+-- Of a field within so many lists, whose column isn't encoded.
 pub data FieldFault : ℕ → Data → JsonFaultKind → List Step → Type 0 where
   no_field_object : (within : ℕ) (d : Data) (kind : JsonFaultKind) (path : List Step) → Unlike as_object d kind path → FieldFault within d kind path
   bad_field_name : (within : ℕ) (d : Data) (kind : JsonFaultKind) (path : List Step) → MemberFault member.Name (Unlike as_str) d kind path → FieldFault within d kind path
@@ -29,8 +35,6 @@ pub data FieldFault : ℕ → Data → JsonFaultKind → List Step → Type 0 wh
   bad_type : (within : ℕ) (d : Data) (kind : JsonFaultKind) (path : List Step) → MemberFault member.DataType TypeFault d kind path → FieldFault within d kind path
   no_dictionary_object : (within : ℕ) (d e : Data) (kind : JsonFaultKind) (path : List Step) → member_of member.Dictionary d ≡ Some e → as_null e ≡ None → Unlike as_object e kind path
       → FieldFault within d kind (step.Member member.Dictionary ∷ path)
-  -- dictionaries aren't read
-  encoded : (d e : Data) → member_of member.Dictionary d ≡ Some e → IsObject e → FieldFault 0 d UnsupportedType (step.Member member.DataType ∷ [])
   -- a dictionary inside a list
   encoded_item : (within : ℕ) (d e : Data) → member_of member.Dictionary d ≡ Some e → IsObject e → FieldFault (suc within) d UnsupportedType []
   -- only lists have children
@@ -42,9 +46,3 @@ pub data FieldFault : ℕ → Data → JsonFaultKind → List Step → Type 0 wh
   ninth_list : (d : Data) → named_type d ≡ Some (codes "list") → FieldFault 8 d UnsupportedType []
   bad_child : (within : ℕ) (d child : Data) (kind : JsonFaultKind) (path : List Step) → named_type d ≡ Some (codes "list") → only_child d ≡ Some child → FieldFault (suc within) child kind path
       → FieldFault within d kind (step.Member member.Children ∷ step.Item 0 ∷ path)
-
-pub data SchemaFault (d : Data) : JsonFaultKind → List Step → Type 0 where
-  no_schema_object : (kind : JsonFaultKind) (path : List Step) → Unlike as_object d kind path → SchemaFault d kind path
-  bad_fields : (kind : JsonFaultKind) (path : List Step) → MemberFault member.Fields (Unlike as_array) d kind path → SchemaFault d kind path
-  bad_field : (ds : Items) (kind : JsonFaultKind) (path : List Step) → option_and_then as_array (member_of member.Fields d) ≡ Some ds → EachFault (FieldFault 0) ds kind path
-      → SchemaFault d kind (step.Member member.Fields ∷ path)

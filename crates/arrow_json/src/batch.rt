@@ -1,12 +1,16 @@
-ghost use Rattle.std.specs.Prelude.{◌≡◌, ◌<◌, ◌^◌, length, IfOk, IfErr};
+ghost use Rattle.std.specs.Prelude.{◌≡◌, ◌<◌, ◌^◌, length, map, option_map, IfOk, IfErr, IfSome};
+ghost use Rattle.arrays.specs.Kind as kind;
 ghost use Rattle.arrays.specs.Kind.{kind_of};
 ghost use Rattle.arrays.specs.Shape.{fields_of};
 ghost use Rattle.types.specs.declared.data_type.Field.{out-Field};
 ghost use Rattle.serde_json.specs.View.{view, items_view};
-ghost use Rattle.arrow_json.specs.JsonBatch.{HoldsColumn, HoldsColumns, ReadsBatch, table_of};
-ghost use Rattle.arrow_json.specs.JsonBatchFault.{BatchFault, ColumnsFault, KindFault};
+ghost use Rattle.arrow_json.specs.BookParts.{coding_of};
+ghost use Rattle.arrow_json.specs.JsonBatch.{HoldsColumn, HoldsColumns, HoldsTop, IsBookOf, ReadsBatch, table_of};
+ghost use Rattle.arrow_json.specs.JsonBatchFault.{BatchFault, CodedFault, ColumnsFault, KindFault};
 ghost use Rattle.arrow_json.specs.JsonFault.{Tells};
 
+use crate::book::Coding;
+use crate::codes::read_codes;
 use crate::column::{list_member, read_numbers, read_texts, read_truths};
 use crate::fault::{JsonFault, JsonFaultKind};
 use crate::list::read_list;
@@ -37,24 +41,49 @@ pub(crate) fn read_array(
     }
 }
 
+/// The column of a field, by its coding where it is encoded.
+#[tactic(auto, using(crate::proofs::JsonBatches::coded_told))]
+fn read_coded(
+    alloc: Global,
+    field: &Field,
+    coding: &Option<Coding>,
+    rows: u32,
+    column: &Value,
+) -> Result<Array, JsonFault>
+    requires small { rows < 2 ^ 31 }
+    requires encoded { IfSome coding.now (λ _. kind_of (out-Field field.now).ty ≡ kind.dict) }
+    ensures ok { IfOk result
+        (HoldsTop (kind_of (out-Field field.now).ty) (option_map coding_of coding.now) rows (view column.now)) }
+    ensures err { IfErr result
+        (Tells (CodedFault (kind_of (out-Field field.now).ty) (option_map coding_of coding.now) rows (view column.now))) }
+{
+    match coding {
+        None => read_array(alloc, field, rows, column),
+        Some(coding) => read_codes(alloc, coding.index, &coding.words, rows, column),
+    }
+}
+
 /// The columns of a batch, one for each field.
 #[tactic(auto, using(crate::proofs::JsonBatches::columns_told))]
 fn read_columns(
     alloc: Global,
     fields: &[Field],
+    book: &[Option<Coding>],
     rows: u32,
     values: &[Value],
 ) -> Result<Vec<Array>, JsonFault>
     requires small { rows < 2 ^ 31 }
     requires whole { length values.now ≡ length fields.now }
+    requires book { IsBookOf (fields_of fields.now) (map (option_map coding_of) book.now) }
     ensures ok { IfOk result (λ columns.
-        HoldsColumns (fields_of fields.now) rows (items_view values.now) (length fields.now) columns.items) }
+        HoldsColumns (fields_of fields.now) (map (option_map coding_of) book.now) rows (items_view values.now)
+            (length fields.now) columns.items) }
     ensures err { IfErr result
-        (Tells (ColumnsFault (fields_of fields.now) rows (items_view values.now))) }
+        (Tells (ColumnsFault (fields_of fields.now) (map (option_map coding_of) book.now) rows (items_view values.now))) }
 {
     let mut columns = Vec::new(alloc);
     for index in 0..fields.len() {
-        let read = read_array(alloc, &fields[index], rows, &values[index]);
+        let read = read_coded(alloc, &fields[index], &book[index], rows, &values[index]);
         let column = read.map_err(|fault| fault.under(alloc, Step::Item(index)))?;
         push(alloc, &mut columns, column)?;
     }
@@ -66,16 +95,18 @@ fn read_columns(
 pub(crate) fn read_batch(
     alloc: Global,
     schema: Schema,
+    book: &[Option<Coding>],
     batch: &Value,
 ) -> Result<RecordBatch, JsonFault>
+    requires { IsBookOf schema (map (option_map coding_of) book.now) }
     ensures fields { IfOk result (λ b. b.fields ≡ schema) }
-    ensures ok { IfOk result (λ b. ReadsBatch schema (view batch.now) (table_of b)) }
-    ensures err { IfErr result (Tells (BatchFault schema (view batch.now))) }
+    ensures ok { IfOk result (λ b. ReadsBatch schema (map (option_map coding_of) book.now) (view batch.now) (table_of b)) }
+    ensures err { IfErr result (Tells (BatchFault schema (map (option_map coding_of) book.now) (view batch.now))) }
 {
     check_object(alloc, batch)?;
     let rows = count_member(alloc, batch, Member::Count)?;
     let values = list_member(alloc, batch, Member::Columns, schema.len())?;
-    let read = read_columns(alloc, schema.fields(), rows, values);
+    let read = read_columns(alloc, schema.fields(), book, rows, values);
     let columns = read.map_err(|fault| fault.under(alloc, Step::Member(Member::Columns)))?;
     match RecordBatch::new(schema, rows, columns) {
         Ok(batch) => Ok(batch),

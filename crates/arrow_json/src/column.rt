@@ -1,6 +1,7 @@
 ghost use Rattle.std.specs.Prelude.{◌≡◌, ◌+◌, ◌<◌, ◌^◌, ◌∷◌, ◌++◌, [], length, false, Option, Some, None, IfOk, IfErr, IfSome, OnOk, option_map, option_and_then};
 ghost use Rattle.arrays.specs.Item.{null};
 ghost use Rattle.arrays.specs.Kind as kind;
+ghost use Rattle.serde_json.specs.Data.{item, no_items};
 ghost use Rattle.serde_json.specs.Find.{as_array};
 ghost use Rattle.serde_json.specs.View.{view, items_view};
 ghost use Rattle.arrow_json.specs.JsonBatch.{HoldsColumn};
@@ -81,6 +82,22 @@ pub(crate) fn list_member<'v>(
     list_of(alloc, found, len).map_err(|fault| fault.under(alloc, Step::Member(member)))
 }
 
+/// The item of a member of an object, an array that is to have exactly one.
+#[tactic(auto, using(crate::proofs::JsonLists::single_found))]
+pub(crate) fn single_member(
+    alloc: Global,
+    object: &Value,
+    member: Member,
+) -> Result<&Value, JsonFault>
+    requires { IsObject (view object.now) }
+    ensures single { IfOk result (λ found.
+        option_and_then as_array (member_of member (view object.now)) ≡ Some (item (view found.now) no_items)) }
+    ensures err { IfErr result (Tells (MemberFault member (ListFault 1) (view object.now))) }
+{
+    let items = list_member(alloc, object, member, 1)?;
+    Ok(&items[0])
+}
+
 /// The flags of a column, none where all its slots are valid.
 #[tactic(auto, using(crate::proofs::JsonColumnFaults::flags_told))]
 pub(crate) fn flags<'v>(
@@ -106,17 +123,17 @@ pub(crate) fn flags<'v>(
 
 /// The flags and values of a column's slots.
 #[derive(Drop)]
-struct Slots<'v> {
+pub(crate) struct Slots<'v> {
     /// None where all slots are valid.
-    flags: Option<&'v [Value]>,
-    values: &'v [Value],
+    pub flags: Option<&'v [Value]>,
+    pub values: &'v [Value],
 }
 
 impl Slots<'_> {
     /// Whether a slot is valid; none where its flag is no flag.
     #[inline]
     #[tactic(auto, using(crate::proofs::JsonSlots::flags_read))]
-    fn valid_at(&self, index: usize) -> Option<bool>
+    pub(crate) fn valid_at(&self, index: usize) -> Option<bool>
         requires short { index < 2 ^ 31 }
         requires within { IfSome self.now.flags (λ fs. index < length fs.now) }
         ensures { result ≡ valid_at (flags_in self.now) index }
@@ -130,7 +147,11 @@ impl Slots<'_> {
 
 /// The flags and values of a column of `count` slots.
 #[tactic(auto, using(crate::proofs::JsonColumnFaults::no_slots_told))]
-fn read_slots<'v>(alloc: Global, count: u32, column: &'v Value) -> Result<Slots<'v>, JsonFault>
+pub(crate) fn read_slots<'v>(
+    alloc: Global,
+    count: u32,
+    column: &'v Value,
+) -> Result<Slots<'v>, JsonFault>
     ensures given { IfOk result (λ s. HasSlots count (view column.now) (flags_in s) (values_in s)) }
     ensures flagged { IfOk result (λ s. IfSome s.flags (λ fs. length fs.now ≡ count)) }
     ensures whole { IfOk result (λ s. length s.values.now ≡ count) }

@@ -26,8 +26,12 @@ pub enum JsonFaultKind {
     BadOffset,
     /// The length of an array, or a column's count, isn't what is stated.
     CountDiffers,
-    /// The column is no lawful array: its texts are too long for 32-bit offsets, or the offsets of its lists are below
-    /// 0, fall, or lead past its child.
+    /// No dictionary has the number that a field names.
+    NoDictionary,
+    /// A second dictionary has the number that a field names.
+    DictionaryTwice,
+    /// The column is no lawful array: its texts are too long for 32-bit offsets, the offsets of its lists are below
+    /// 0, fall, or lead past its child, or an index is past the dictionary.
     Layout(LayoutFault),
     /// A growth was refused. The path is empty.
     NoMemory,
@@ -46,6 +50,8 @@ impl JsonFaultKind {
             JsonFaultKind::BadNumber => "J5 BadNumber",
             JsonFaultKind::BadOffset => "J6 BadOffset",
             JsonFaultKind::CountDiffers => "J7 CountDiffers",
+            JsonFaultKind::NoDictionary => "J8 NoDictionary",
+            JsonFaultKind::DictionaryTwice => "J9 DictionaryTwice",
             JsonFaultKind::Layout(_) => "J10 Layout",
             JsonFaultKind::NoMemory => "J11 NoMemory",
         }

@@ -1,19 +1,22 @@
-ghost use Rattle.std.specs.Prelude.{◌≡◌, Some, IfOk, IfErr, OnOk, IsUtf8, map};
+ghost use Rattle.std.specs.Prelude.{◌≡◌, Some, IfOk, IfErr, OnOk, IsUtf8, map, option_map};
 ghost use Rattle.std.specs.Arc.{arc_value};
 ghost use Rattle.serde_json.specs.Read.{read};
 ghost use Rattle.serde_json.specs.View.{view, items_view};
-ghost use Rattle.arrow_json.specs.JsonBatch.{ReadsBatch, table_of};
+ghost use Rattle.arrow_json.specs.BookParts.{coding_of};
+ghost use Rattle.arrow_json.specs.JsonBook.{listed_fields};
+ghost use Rattle.arrow_json.specs.JsonBatch.{IsBookOf, ReadsBatch, table_of};
 ghost use Rattle.arrow_json.specs.JsonBatchFault.{BatchFault};
 ghost use Rattle.arrow_json.specs.JsonFault.{Tells};
 ghost use Rattle.arrow_json.specs.JsonMember.{EachFault, IsObject, ReadsEach, member_of};
-ghost use Rattle.arrow_json.specs.JsonSchema.{ReadsSchema};
+ghost use Rattle.arrow_json.specs.JsonFields.{ReadsSchema};
 ghost use Rattle.arrow_json.specs.JsonFile.{AreUnder, BytesFault, FileFault, HasSchema, Reads, ReadsFile, file_of};
 
 use crate::batch::read_batch;
+use crate::book::{Coding, read_book};
 use crate::fault::{JsonFault, JsonFaultKind};
 use crate::member::{array_member, check_object, push, required};
 use crate::path::{Member, Step};
-use crate::schema::read_schema;
+use crate::schema::{field_values, read_schema};
 use arrays::{File, RecordBatch, Schema};
 use serde_json::Value;
 use std::alloc::Global;
@@ -21,23 +24,35 @@ use std::sync::Arc;
 
 /// The batch that a batch object holds, under a copy of the schema.
 #[tactic(auto, using(crate::proofs::JsonFiles::batches_told))]
-fn read_under(alloc: Global, schema: &Schema, batch: &Value) -> Result<RecordBatch, JsonFault>
+fn read_under(
+    alloc: Global,
+    schema: &Schema,
+    book: &[Option<Coding>],
+    batch: &Value,
+) -> Result<RecordBatch, JsonFault>
+    requires { IsBookOf schema.now (map (option_map coding_of) book.now) }
     ensures fields { IfOk result (λ b. b.fields ≡ schema.now) }
-    ensures ok { IfOk result (λ b. ReadsBatch schema.now (view batch.now) (table_of b)) }
-    ensures err { IfErr result (Tells (BatchFault schema.now (view batch.now))) }
+    ensures ok { IfOk result (λ b. ReadsBatch schema.now (map (option_map coding_of) book.now) (view batch.now) (table_of b)) }
+    ensures err { IfErr result (Tells (BatchFault schema.now (map (option_map coding_of) book.now) (view batch.now))) }
 {
     let copy = schema.copy(alloc).map_err(|_| JsonFault::no_memory(alloc))?;
-    read_batch(alloc, copy, batch)
+    read_batch(alloc, copy, book, batch)
 }
 
 /// The same, to be shared.
 #[tactic(auto, using(crate::proofs::JsonFiles::batches_told))]
-fn read_shared(alloc: Global, schema: &Schema, batch: &Value) -> Result<Arc<RecordBatch>, JsonFault>
+fn read_shared(
+    alloc: Global,
+    schema: &Schema,
+    book: &[Option<Coding>],
+    batch: &Value,
+) -> Result<Arc<RecordBatch>, JsonFault>
+    requires { IsBookOf schema.now (map (option_map coding_of) book.now) }
     ensures fields { IfOk result (λ b. (arc_value b).fields ≡ schema.now) }
-    ensures ok { IfOk result (λ b. ReadsBatch schema.now (view batch.now) (table_of (arc_value b))) }
-    ensures err { IfErr result (Tells (BatchFault schema.now (view batch.now))) }
+    ensures ok { IfOk result (λ b. ReadsBatch schema.now (map (option_map coding_of) book.now) (view batch.now) (table_of (arc_value b))) }
+    ensures err { IfErr result (Tells (BatchFault schema.now (map (option_map coding_of) book.now) (view batch.now))) }
 {
-    let batch = read_under(alloc, schema, batch)?;
+    let batch = read_under(alloc, schema, book, batch)?;
     Arc::new(alloc, batch).map_err(|_| JsonFault::no_memory(alloc))
 }
 
@@ -46,16 +61,19 @@ fn read_shared(alloc: Global, schema: &Schema, batch: &Value) -> Result<Arc<Reco
 fn read_batches(
     alloc: Global,
     schema: &Schema,
+    book: &[Option<Coding>],
     values: &[Value],
 ) -> Result<Vec<Arc<RecordBatch>>, JsonFault>
+    requires { IsBookOf schema.now (map (option_map coding_of) book.now) }
     ensures under { IfOk result (λ batches. AreUnder schema.now (map arc_value batches.items)) }
-    ensures ok { IfOk result (λ batches. ReadsEach (ReadsBatch schema.now) (items_view values.now)
-        (map table_of (map arc_value batches.items))) }
-    ensures err { IfErr result (Tells (EachFault (BatchFault schema.now) (items_view values.now))) }
+    ensures ok { IfOk result (λ batches. ReadsEach (ReadsBatch schema.now (map (option_map coding_of) book.now))
+        (items_view values.now) (map table_of (map arc_value batches.items))) }
+    ensures err { IfErr result (Tells (EachFault (BatchFault schema.now (map (option_map coding_of) book.now))
+        (items_view values.now))) }
 {
     let mut batches = Vec::new(alloc);
     for (index, value) in values.iter().enumerate() {
-        let read = read_shared(alloc, schema, value);
+        let read = read_shared(alloc, schema, book, value);
         let batch = read.map_err(|fault| fault.under(alloc, Step::Item(index)))?;
         push(alloc, &mut batches, batch)?;
     }
@@ -73,6 +91,20 @@ fn file_schema(alloc: Global, document: &Value) -> Result<Schema, JsonFault>
     read_schema(alloc, schema).map_err(|fault| fault.under(alloc, Step::Member(Member::Schema)))
 }
 
+/// The objects of the fields of a document.
+#[tactic(auto, using(crate::proofs::JsonFiles::file_told))]
+fn listed_fields(alloc: Global, document: &Value) -> Result<&[Value], JsonFault>
+    requires { IsObject (view document.now) }
+    ensures ok { IfOk result (λ fields. listed_fields (view document.now) ≡ Some (items_view fields.now)) }
+    ensures err { IfErr result (Tells (FileFault (view document.now))) }
+{
+    let schema = required(alloc, document, Member::Schema)?;
+    match field_values(alloc, schema) {
+        Ok(fields) => Ok(fields),
+        Err(fault) => Err(fault.under(alloc, Step::Member(Member::Schema))),
+    }
+}
+
 /// The file of a document.
 #[tactic(auto, using(crate::proofs::JsonFiles::file_told))]
 fn read_document(alloc: Global, document: &Value) -> Result<File, JsonFault>
@@ -82,8 +114,10 @@ fn read_document(alloc: Global, document: &Value) -> Result<File, JsonFault>
 {
     check_object(alloc, document)?;
     let schema = file_schema(alloc, document)?;
+    let fields = listed_fields(alloc, document)?;
+    let book = read_book(alloc, document, fields)?;
     let values = array_member(alloc, document, Member::Batches)?;
-    let read = read_batches(alloc, &schema, values);
+    let read = read_batches(alloc, &schema, &book, values);
     let batches = read.map_err(|fault| fault.under(alloc, Step::Member(Member::Batches)))?;
     Ok(File::new(schema, batches))
 }

@@ -6,7 +6,6 @@ ghost use Rattle.arrays.specs.FromParts.{list_parts};
 ghost use Rattle.arrays.specs.Kind as kind;
 ghost use Rattle.arrays.specs.Kind.{kind_of, same_kind};
 ghost use Rattle.types.specs.declared.data_type.Field.{out-Field};
-ghost use Rattle.serde_json.specs.Data.{item, no_items};
 ghost use Rattle.serde_json.specs.Find.{as_array};
 ghost use Rattle.serde_json.specs.View.{view, items_view};
 ghost use Rattle.arrow_json.specs.JsonBatch.{HoldsColumn};
@@ -14,7 +13,7 @@ ghost use Rattle.arrow_json.specs.JsonBatchFault.{KindFault};
 ghost use Rattle.arrow_json.specs.JsonFault.{Tells, IsFault, no_memory};
 ghost use Rattle.arrow_json.specs.JsonList.{HasLists, are_enough, lists_fault};
 ghost use Rattle.arrow_json.specs.JsonListFault.{ChildFault, ListsFault, NoFlags, NoLists, NoOffset, NotLawful, OffsetsFault};
-ghost use Rattle.arrow_json.specs.JsonMember.{EachFault, IsObject, ListFault, MemberFault, ReadsEach, Unlike, member_of};
+ghost use Rattle.arrow_json.specs.JsonMember.{EachFault, IsObject, ReadsEach, Unlike, member_of};
 ghost use Rattle.arrow_json.specs.JsonNumber.{flag_of};
 ghost use Rattle.arrow_json.specs.ListParts.{list_child, list_flags, list_offsets};
 ghost use Rattle.arrow_json.specs.ListBuffers.{HoldsFlags, HoldsOffsets, IsFlag};
@@ -22,7 +21,7 @@ ghost use Rattle.arrow_json.specs.declared.fault.JsonFaultKind.TheVariants.{Layo
 ghost use Rattle.arrow_json.specs.declared.path.Member.TheVariants as member;
 
 use crate::batch::read_array;
-use crate::column::{check_count, flags, list_member};
+use crate::column::{check_count, flags, single_member};
 use crate::fault::{JsonFault, JsonFaultKind};
 use crate::member::{array_member, check_object, count_member};
 use crate::number::{flag, integer};
@@ -67,18 +66,6 @@ fn offsets_member<'v>(
     }
 }
 
-/// The one child of a column of lists.
-#[tactic(auto, using(crate::proofs::JsonLists::child_found))]
-fn only_child(alloc: Global, column: &Value) -> Result<&Value, JsonFault>
-    requires { IsObject (view column.now) }
-    ensures child { IfOk result (λ child.
-        option_and_then as_array (member_of member.Children (view column.now)) ≡ Some (item (view child.now) no_items)) }
-    ensures err { IfErr result (Tells (MemberFault member.Children (ListFault 1) (view column.now))) }
-{
-    let children = list_member(alloc, column, Member::Children, 1)?;
-    Ok(&children[0])
-}
-
 /// The parts of a column of `count` lists.
 #[tactic(auto, using(crate::proofs::JsonLists::parts_found))]
 fn read_parts(alloc: Global, count: u32, column: &Value) -> Result<ListParts<'_>, JsonFault>
@@ -90,7 +77,7 @@ fn read_parts(alloc: Global, count: u32, column: &Value) -> Result<ListParts<'_>
     check_count(alloc, column, count)?;
     let flags = flags(alloc, column, count)?;
     let offsets = offsets_member(alloc, column, count)?;
-    let child = only_child(alloc, column)?;
+    let child = single_member(alloc, column, Member::Children)?;
     Ok(ListParts {
         flags,
         offsets,

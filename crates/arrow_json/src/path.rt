@@ -18,6 +18,12 @@ pub enum Member {
     IsSigned,
     Children,
     Dictionary,
+    /// `id`, the number of a dictionary.
+    Id,
+    IndexType,
+    Dictionaries,
+    /// `data` of an entry of `dictionaries`: the batch of its texts.
+    Texts,
     Batches,
     Count,
     Columns,
@@ -41,6 +47,10 @@ impl Member {
             Member::IsSigned => "isSigned",
             Member::Children => "children",
             Member::Dictionary => "dictionary",
+            Member::Id => "id",
+            Member::IndexType => "indexType",
+            Member::Dictionaries => "dictionaries",
+            Member::Texts => "data",
             Member::Batches => "batches",
             Member::Count => "count",
             Member::Columns => "columns",

@@ -1,62 +1,35 @@
-ghost use Rattle.std.specs.Prelude.{◌≡◌, ◌+◌, ◌<◌, ◌≤◌, true, false, IfOk, IfErr, OnOk, Some, codes, option_map};
+ghost use Rattle.std.specs.Prelude.{◌≡◌, ◌+◌, ◌<◌, ◌≤◌, true, false, IfOk, IfErr, OnOk, Some, codes, option_map, option_and_then};
+ghost use Rattle.serde_json.specs.Find.{as_array};
 ghost use Rattle.serde_json.specs.View.{view, items_view};
 ghost use Rattle.arrays.specs.Kind.{depth};
 ghost use Rattle.arrays.specs.Shape as shape;
 ghost use Rattle.arrays.specs.Shape.{field_of, fields_of, kind_of_field, shape_of};
 ghost use Rattle.arrow_json.specs.JsonFault.{Tells, no_memory};
-ghost use Rattle.arrow_json.specs.BareField.{IsTypeRead, IsFieldType, IsBare};
+ghost use Rattle.arrow_json.specs.BareField.{IsFieldType, IsBare};
 ghost use Rattle.arrow_json.specs.JsonMember.{member_of, EachFault, IsObject, ReadsEach};
-ghost use Rattle.arrow_json.specs.JsonSchema.{type_name, named_type, only_item, only_child, IsFieldOf, ReadsInt, ReadsField, ReadsSchema, is_without, is_childless};
-ghost use Rattle.arrow_json.specs.JsonSchemaFault.{TypeFault, FieldFault, SchemaFault};
+ghost use Rattle.arrow_json.specs.JsonSchema.{HasType, named_type, only_item, only_child, IsFieldOf, is_without, is_childless};
+ghost use Rattle.arrow_json.specs.JsonSchemaFault.{FieldFault};
+ghost use Rattle.arrow_json.specs.EncodingParts.{HasSomeEncoding};
+ghost use Rattle.arrow_json.specs.JsonFields.{ReadsField, ReadsSchema};
+ghost use Rattle.arrow_json.specs.JsonFieldsFault.{SchemaFault, TopFault};
 ghost use Rattle.arrow_json.specs.declared.path.Member.TheVariants as member;
 
+use crate::encoding::read_encoded;
 use crate::fault::{JsonFault, JsonFaultKind};
-use crate::member::{
-    array_member, check_object, number_member, push, required, text_member, truth_member, unlike,
-};
-use crate::number::width;
+use crate::member::{array_member, check_object, push, required, text_member, truth_member, unlike};
 use crate::path::{Member, Step};
-use arrays::{DataType, Field, IntType, Schema};
+use crate::type_object::{read_type, type_name};
+use arrays::{DataType, Field, Schema};
 use serde_json::Value;
 use std::alloc::Global;
 
 /// How many lists may stand in one another.
 const MOST_LISTS: u32 = 8;
 
-/// The type that a type object names, none where it is a list: of what, its field's children tell.
-#[tactic(auto, using(crate::proofs::JsonFaults::type_told))]
-fn read_type(alloc: Global, object: &Value) -> Result<Option<DataType>, JsonFault>
-    ensures ok { IfOk result (IsTypeRead (view object.now)) }
-    ensures err { IfErr result (Tells (TypeFault (view object.now))) }
-{
-    check_object(alloc, object)?;
-    match text_member(alloc, object, Member::Name)? {
-        "int" => Ok(Some(DataType::Int(read_int(alloc, object)?))),
-        "bool" => Ok(Some(DataType::Bool)),
-        "utf8" => Ok(Some(DataType::Utf8)),
-        "list" => Ok(None),
-        _ => Err(JsonFault::at(alloc, JsonFaultKind::UnsupportedType, &[])),
-    }
-}
-
-/// The integer type that a type object of the name describes.
-#[tactic(auto, using(crate::proofs::JsonFaults::type_told))]
-fn read_int(alloc: Global, object: &Value) -> Result<IntType, JsonFault>
-    requires object { IsObject (view object.now) }
-    requires name { type_name (view object.now) ≡ Some (codes "int") }
-    ensures ok { IfOk result (ReadsInt (view object.now)) }
-    ensures err { IfErr result (Tells (TypeFault (view object.now))) }
-{
-    let Some(bits) = width(number_member(alloc, object, Member::BitWidth)?) else {
-        return Err(JsonFault::at(alloc, JsonFaultKind::UnsupportedType, &[]));
-    };
-    let signed = truth_member(alloc, object, Member::IsSigned)?;
-    Ok(IntType { bits, signed })
-}
-
-/// That a field has no dictionary: it is absent or null. Dictionaries aren't read.
+/// That a field within lists has no dictionary: it is absent or null.
 #[tactic(auto, using(crate::proofs::JsonFaults::field_told))]
-fn check_dictionary(alloc: Global, within: u32, field: &Value) -> Result<(), JsonFault>
+fn check_plain(alloc: Global, within: u32, field: &Value) -> Result<(), JsonFault>
+    requires { within ≡ 0 → is_without (member_of member.Dictionary (view field.now)) ≡ true }
     ensures ok { OnOk result (is_without (member_of member.Dictionary (view field.now)) ≡ true) }
     ensures err { IfErr result (Tells (FieldFault within (view field.now))) }
 {
@@ -68,10 +41,6 @@ fn check_dictionary(alloc: Global, within: u32, field: &Value) -> Result<(), Jso
     }
     let object = check_object(alloc, found);
     object.map_err(|fault| fault.under(alloc, Step::Member(Member::Dictionary)))?;
-    if within == 0 {
-        let at_type = Step::Member(Member::DataType);
-        return Err(JsonFault::at(alloc, JsonFaultKind::UnsupportedType, &[at_type]));
-    }
     Err(JsonFault::at(alloc, JsonFaultKind::UnsupportedType, &[]))
 }
 
@@ -109,7 +78,7 @@ fn field_type(alloc: Global, within: u32, field: &Value) -> Result<Option<DataTy
 
 /// The item of an array of exactly one.
 #[tactic(auto, using(crate::proofs::JsonFaults::only_items))]
-fn only_item(value: &Value) -> Option<&Value>
+pub(crate) fn only_item(value: &Value) -> Option<&Value>
     ensures { option_map (λ v. view v.now) result ≡ only_item (view value.now) }
 {
     let items = value.as_array()?;
@@ -150,6 +119,7 @@ struct Bare {
 /// What a field's object says within so many lists, its children apart.
 #[tactic(auto, using(crate::proofs::JsonFaults::field_told))]
 fn read_bare(alloc: Global, within: u32, field: &Value) -> Result<Bare, JsonFault>
+    requires { within ≡ 0 → is_without (member_of member.Dictionary (view field.now)) ≡ true }
     ensures object { OnOk result (IsObject (view field.now)) }
     ensures ok { IfOk result (IsBare (view field.now)) }
     ensures err { IfErr result (Tells (FieldFault within (view field.now))) }
@@ -158,7 +128,7 @@ fn read_bare(alloc: Global, within: u32, field: &Value) -> Result<Bare, JsonFaul
     let name = text_member(alloc, field, Member::Name)?;
     let nullable = truth_member(alloc, field, Member::Nullable)?;
     let ty = field_type(alloc, within, field)?;
-    check_dictionary(alloc, within, field)?;
+    check_plain(alloc, within, field)?;
     let name = String::from_str(alloc, name).map_err(|_| JsonFault::no_memory(alloc))?;
     Ok(Bare { name, nullable, ty })
 }
@@ -174,10 +144,11 @@ fn list_of(alloc: Global, item: Field) -> Result<DataType, JsonFault>
     }
 }
 
-/// The field of a schema, or of a list's items, within so many lists.
+/// The field of a schema that isn't encoded, or of a list's items, within so many lists.
 #[tactic(auto, using(crate::proofs::JsonFaults::field_told))]
 fn read_within(alloc: Global, within: u32, field: &Value) -> Result<Field, JsonFault>
-    requires { within ≤ 8 }
+    requires few { within ≤ 8 }
+    requires plain { within ≡ 0 → is_without (member_of member.Dictionary (view field.now)) ≡ true }
     ensures object { IfOk result (λ f. IsFieldOf (view field.now) (field_of f)) }
     ensures shallow { IfOk result (λ f. within + depth (kind_of_field (field_of f)) ≤ 8) }
     ensures err { IfErr result (Tells (FieldFault within (view field.now))) }
@@ -200,21 +171,70 @@ fn read_within(alloc: Global, within: u32, field: &Value) -> Result<Field, JsonF
     }
 }
 
-/// The field of a schema.
-#[tactic(auto, using(crate::proofs::JsonFaults::field_told))]
-pub(crate) fn read_field(alloc: Global, field: &Value) -> Result<Field, JsonFault>
-    ensures ok { IfOk result (λ f. ReadsField (view field.now) (field_of f)) }
-    ensures err { IfErr result (Tells (FieldFault 0 (view field.now))) }
+/// That the values of a field's dictionary are texts: the field's type is theirs.
+#[tactic(auto, using(crate::proofs::JsonFields::top_told))]
+fn check_values(alloc: Global, field: &Value) -> Result<(), JsonFault>
+    requires object { IsObject (view field.now) }
+    requires encoded { HasSomeEncoding (view field.now) }
+    ensures ok { OnOk result (HasType (view field.now) shape.utf8) }
+    ensures err { IfErr result (Tells (TopFault (view field.now))) }
 {
-    read_within(alloc, 0, field)
+    let object = required(alloc, field, Member::DataType)?;
+    let name = match type_name(alloc, object) {
+        Ok(name) => name,
+        Err(fault) => return Err(fault.under(alloc, Step::Member(Member::DataType))),
+    };
+    match name {
+        "utf8" => Ok(()),
+        _ => {
+            let place = [Step::Member(Member::DataType)];
+            Err(JsonFault::at(alloc, JsonFaultKind::UnsupportedType, &place))
+        }
+    }
+}
+
+/// The field of a schema whose column is encoded.
+#[tactic(auto, using(crate::proofs::JsonFields::top_told))]
+fn read_encoded_field(alloc: Global, field: &Value) -> Result<Field, JsonFault>
+    requires { HasSomeEncoding (view field.now) }
+    ensures ok { IfOk result (λ f. ReadsField (view field.now) (field_of f)) }
+    ensures err { IfErr result (Tells (TopFault (view field.now))) }
+{
+    check_object(alloc, field)?;
+    let name = text_member(alloc, field, Member::Name)?;
+    let nullable = truth_member(alloc, field, Member::Nullable)?;
+    check_values(alloc, field)?;
+    if !is_childless(field) {
+        return Err(unlike(alloc, Member::Children));
+    }
+    match String::from_str(alloc, name) {
+        Ok(name) => Ok(Field {
+            name,
+            nullable,
+            ty: DataType::Dict,
+        }),
+        Err(_) => Err(JsonFault::no_memory(alloc)),
+    }
+}
+
+/// The field of a schema.
+#[tactic(auto, using(crate::proofs::JsonFields::top_told))]
+fn read_field(alloc: Global, field: &Value) -> Result<Field, JsonFault>
+    ensures ok { IfOk result (λ f. ReadsField (view field.now) (field_of f)) }
+    ensures err { IfErr result (Tells (TopFault (view field.now))) }
+{
+    match read_encoded(alloc, field)? {
+        None => read_within(alloc, 0, field),
+        Some(_) => read_encoded_field(alloc, field),
+    }
 }
 
 /// The fields of a schema.
-#[tactic(auto, using(crate::proofs::JsonFaults::schema_told))]
+#[tactic(auto, using(crate::proofs::JsonFields::schema_told))]
 fn read_fields(alloc: Global, values: &[Value]) -> Result<Vec<Field>, JsonFault>
     ensures ok { IfOk result (λ fields.
         ReadsEach ReadsField (items_view values.now) (fields_of fields.items)) }
-    ensures err { IfErr result (Tells (EachFault (FieldFault 0) (items_view values.now))) }
+    ensures err { IfErr result (Tells (EachFault TopFault (items_view values.now))) }
 {
     let mut fields = Vec::new(alloc);
     for (index, value) in values.iter().enumerate() {
@@ -225,14 +245,24 @@ fn read_fields(alloc: Global, values: &[Value]) -> Result<Vec<Field>, JsonFault>
     Ok(fields)
 }
 
+/// The objects of a schema's fields.
+#[tactic(auto, using(crate::proofs::JsonFields::schema_told))]
+pub(crate) fn field_values(alloc: Global, schema: &Value) -> Result<&[Value], JsonFault>
+    ensures ok { IfOk result (λ values.
+        option_and_then as_array (member_of member.Fields (view schema.now)) ≡ Some (items_view values.now)) }
+    ensures err { IfErr result (Tells (SchemaFault (view schema.now))) }
+{
+    check_object(alloc, schema)?;
+    array_member(alloc, schema, Member::Fields)
+}
+
 /// The schema of a file.
-#[tactic(auto, using(crate::proofs::JsonFaults::schema_told))]
+#[tactic(auto, using(crate::proofs::JsonFields::schema_told))]
 pub(crate) fn read_schema(alloc: Global, schema: &Value) -> Result<Schema, JsonFault>
     ensures ok { IfOk result (ReadsSchema (view schema.now)) }
     ensures err { IfErr result (Tells (SchemaFault (view schema.now))) }
 {
-    check_object(alloc, schema)?;
-    let values = array_member(alloc, schema, Member::Fields)?;
+    let values = field_values(alloc, schema)?;
     let read = read_fields(alloc, values);
     let fields = read.map_err(|fault| fault.under(alloc, Step::Member(Member::Fields)))?;
     match Schema::new(fields) {

@@ -14,7 +14,7 @@ loop-index-preserved c =
     let reads = value_kept _ _ c.read_shared-read.result c.map_err.result c.in_ok-batch.batch c.map_err.ensures.cases c.in_ok-batch.was c.read_shared-read.ensures.ok in
     let fields = value_kept _ _ c.read_shared-read.result c.map_err.result c.in_ok-batch.batch c.map_err.ensures.cases c.in_ok-batch.was c.read_shared-read.ensures.fields in
     let grown = ap (map arc_value) c.in_ok-push.ensures.ok ∙ map-append arc_value c.loop-index.batches.items (c.in_ok-batch.batch ∷ []) in (
-      rw grown (batch_pushed _ _ _ _ _ _ c.loop-index.invariant.0 (omega arith) c.index-values-index.is reads),
+      rw grown (batch_pushed _ _ _ _ _ _ _ c.loop-index.invariant.0 (omega arith) c.index-values-index.is reads),
       AreUnder-push _ _ _ _ c.loop-index.invariant.1 fields grown,
     )
 
@@ -22,7 +22,7 @@ pub returns-in_err-batch-clause-err : goal.returns-in_err-batch-clause-err
 returns-in_err-batch-clause-err c =
     let cases : MatchResult c.read_shared-read.result (λ y. c.map_err.result ≡ Ok y) (λ e. IsErrAnd c.map_err.result (IsUnder (step.Item c.loop-index.index-counter) e)) = search rules in
     error_made _ _ _ _ _ _ _ cases c.in_err-batch.was c.read_shared-read.ensures.err c.from_residual.ensures.1
-    (λ _ told under. tells_batch _ _ _ _ _ _ told (omega arith) c.index-values-index.is under)
+    (λ _ told under. tells_batch _ _ _ _ _ _ _ told (omega arith) c.index-values-index.is under)
 
 pub returns-clause-ok : goal.returns-clause-ok
 returns-clause-ok c = each_done _ _ _ _ c.loop-index.invariant.0 (omega arith)

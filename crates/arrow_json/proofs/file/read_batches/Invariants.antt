@@ -1,5 +1,6 @@
-use Rattle.std.proofs.Common.{map}
+use Rattle.std.proofs.Common.{map, option_map}
 use Rattle.std.specs.Arc.{arc_value}
+use Rattle.arrow_json.specs.BookParts.{coding_of}
 use Rattle.serde_json.specs.View.{items_view}
 use Rattle.arrow_json.specs.JsonMember.{ReadsFirst}
 use Rattle.arrow_json.specs.JsonFile.{AreUnder}
@@ -9,4 +10,4 @@ use Rattle.arrow_json.proofs.file.read_batches.Given as goal
 -- the batches so far are read
 abbrev pub invariant-loop-index : goal.invariant-loop-index
 invariant-loop-index l =
-    ReadsFirst (ReadsBatch l.schema) (items_view l.values) l.index-counter (map table_of (map arc_value l.batches.items)) × AreUnder l.schema (map arc_value l.batches.items)
+    ReadsFirst (ReadsBatch l.schema (map (option_map coding_of) l.book)) (items_view l.values) l.index-counter (map table_of (map arc_value l.batches.items)) × AreUnder l.schema (map arc_value l.batches.items)

@@ -2,8 +2,8 @@ use Rattle.std.proofs.Common.{◌≡◌, Ok, arith, rules}
 use Rattle.std.specs.Result.{MatchResult, IsErrAnd}
 use Rattle.arrow_json.specs.JsonFault.{IsUnder}
 use Rattle.arrow_json.specs.declared.path.Step.TheVariants as step
-use Rattle.arrow_json.specs.JsonSchema.{ReadsField}
-use Rattle.arrow_json.specs.JsonSchemaFault.{FieldFault}
+use Rattle.arrow_json.specs.JsonFields.{ReadsField}
+use Rattle.arrow_json.specs.JsonFieldsFault.{TopFault}
 use Rattle.arrow_json.proofs.JsonFaults.{tells_item_at}
 use Rattle.arrow_json.proofs.JsonItems.{each_pushed, each_done, fields_of-push}
 use Rattle.arrow_json.proofs.JsonResults.{value_kept, error_made}
@@ -13,7 +13,7 @@ pub returns-in_err-field-clause-err : goal.returns-in_err-field-clause-err
 returns-in_err-field-clause-err c =
     let cases : MatchResult c.read_field-read.result (λ y. c.map_err.result ≡ Ok y) (λ e. IsErrAnd c.map_err.result (IsUnder (step.Item c.loop-index.index-counter) e)) = search rules in
     error_made _ _ _ _ _ _ _ cases c.in_err-field.was c.read_field-read.ensures.err c.from_residual.ensures.1
-    (λ _ told under. tells_item_at (FieldFault 0) _ _ _ _ _ told (omega arith) c.index-values-index.is under)
+    (λ _ told under. tells_item_at TopFault _ _ _ _ _ told (omega arith) c.index-values-index.is under)
 
 pub loop-index-preserved : goal.loop-index-preserved
 loop-index-preserved c =

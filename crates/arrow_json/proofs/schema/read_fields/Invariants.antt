@@ -1,7 +1,7 @@
 use Rattle.serde_json.specs.View.{items_view}
 use Rattle.arrays.specs.Shape.{fields_of}
 use Rattle.arrow_json.specs.JsonMember.{ReadsFirst}
-use Rattle.arrow_json.specs.JsonSchema.{ReadsField}
+use Rattle.arrow_json.specs.JsonFields.{ReadsField}
 use Rattle.arrow_json.proofs.schema.read_fields.Given as goal
 
 -- the fields so far are read

@@ -1,0 +1,214 @@
+-- What the dictionaries are that fields name, and why their faults stand.
+use Rattle.std.proofs.Common.{◌≡◌, ◌≢◌, ◌∙◌, ℕ, ◌+◌, ◌<◌, ◌≤◌, ℤ, true, false, is_some, List, [], ◌∷◌, ◌++◌, length, get_or, map, Option, Some, None, option_and_then, option_map, refl, sym, ap, subst, arith, below_more, length-append}
+use Rattle.std.specs.List.{slice_get}
+use Rattle.std.proofs.lemmas.List.{length-map}
+use Rattle.std.proofs.lemmas.Option.{slice_get_within, slice_get-get_or, slice_get-map}
+use Rattle.serde_json.specs.Data as data'
+use Rattle.serde_json.specs.Data.{Data, Items}
+use Rattle.serde_json.specs.Find.{get_item, as_array, as_object}
+use Rattle.serde_json.specs.View.{items_view}
+use Rattle.serde_json.specs.declared.value.Value.{Value}
+use Rattle.serde_json.proofs.Views.{items_len-items_view}
+use Rattle.arrow_json.specs.declared.path.Member.{Member}
+use Rattle.arrow_json.specs.declared.path.Member.TheVariants as member
+use Rattle.arrow_json.specs.declared.path.Step.{Step}
+use Rattle.arrow_json.specs.declared.path.Step.TheVariants as step
+use Rattle.arrow_json.specs.EncodingParts.{parts_of}
+use Rattle.arrow_json.specs.declared.encoding.Encoding as reader
+use Rattle.arrow_json.specs.declared.book.Place.TheVariants.{Nowhere, Again}
+use Rattle.arrow_json.specs.declared.fault.JsonFault.{JsonFault}
+use Rattle.arrow_json.specs.declared.fault.JsonFaultKind.{JsonFaultKind}
+use Rattle.arrow_json.specs.declared.fault.JsonFaultKind.TheVariants.{NoDictionary, DictionaryTwice}
+use Rattle.arrow_json.specs.BookParts.{IsPlace, IsFirst, IsNoDictionary, HasSome, IsCoding, IsCodingAt, AreCodings}
+use Rattle.arrow_json.specs.JsonFault.{IsFault, IsUnder, Tells}
+use Rattle.arrow_json.specs.JsonMember.{member_of, IsObject, Unlike, MemberFault, EachFault, ReadsEach}
+use Rattle.arrow_json.specs.JsonEncoding.{Encoding, HasEncoding, id_of}
+use Rattle.arrow_json.specs.JsonEncodingFault.{EncodedFault}
+use Rattle.arrow_json.specs.JsonDictionaryFault.{EntryFault}
+use Rattle.arrow_json.specs.JsonBook as book
+use Rattle.arrow_json.specs.JsonBook.{listed_fields, HasId, HasEntries, IsOnly, HasDictionary, IsCoded, HasCoding, HasBook}
+use Rattle.arrow_json.specs.JsonBookFault.{NoId, no_entry_object, bad_entry_id, EntriesFault, no_entries, bad_numbers, NamedFault, nowhere, again, bad_entry, CodingsFault, bad_coding, Names, BookFault, bad_encodings, bad_entries, bad_named}
+use Rattle.arrow_json.proofs.JsonFaults.{tells_at, tells_as, tells_under, tells_wants}
+use Rattle.arrow_json.proofs.JsonNames.{has_object}
+use Rattle.arrow_json.proofs.JsonItems.{slice_get-front, slice_get-last}
+use Rattle.arrow_json.proofs.JsonSchemas.{get_item_some}
+
+-- ---- numbers of entries
+
+pub id_object : (d : Data) (f : JsonFault) → Tells (Unlike as_object d) f → Tells (NoId d) f
+id_object d f t = tells_as (Unlike as_object d) (NoId d) f (λ k p h. no_entry_object k p h) t
+
+pub id_bad : (d : Data) (f : JsonFault) → Tells (MemberFault member.Id (Unlike id_of) d) f → Tells (NoId d) f
+id_bad d f t = tells_as (MemberFault member.Id (Unlike id_of) d) (NoId d) f (λ k p h. bad_entry_id k p h) t
+
+pub ruleset id_told = (id_object, id_bad, tells_wants)
+
+pub no_place_yet : (ids : List ℤ) (id : ℤ) → IsFirst ids id 0 None
+no_place_yet ids id = λ j below at. omega (arith, below)
+
+-- another number stands there
+pub first_kept : (ids : List ℤ) (id x : ℤ) (n : ℕ) (o : Option ℕ) → IsFirst ids id n o → slice_get ids n ≡ Some x → x ≢ id → IsFirst ids id (n + 1) o
+first_kept ids id x n None h at other = below_more (λ j. slice_get ids j ≡ Some id → ⊥) n h (λ found. other cc)
+first_kept ids id x n (Some i) h at other =
+    (omega (arith, h.0), record { here = h.1.here; only = below_more (λ j. slice_get ids j ≡ Some id → j ≡ i) n h.1.only (λ found. absurd (other cc)) })
+
+pub first_found : (ids : List ℤ) (id : ℤ) (n : ℕ) → IsFirst ids id n None → slice_get ids n ≡ Some id → IsFirst ids id (n + 1) (Some n)
+first_found ids id n h at = (omega arith, record { here = at; only = below_more (λ j. slice_get ids j ≡ Some id → j ≡ n) n (λ j below found. absurd (h j below found)) (λ found. refl) })
+
+pub second_found : (ids : List ℤ) (id : ℤ) (n m i : ℕ) → IsFirst ids id n (Some i) → slice_get ids n ≡ Some id → IsPlace ids id m (Again n)
+second_found ids id n m i h at = (i, h.0, h.1, at)
+
+-- ---- the entry of a number
+
+-- the entry at the place of a number
+pub entry_within : (vs : List Value) (ids : List ℤ) (id : ℤ) (i : ℕ) → ReadsEach HasId (items_view vs) ids → slice_get ids i ≡ Some id → i < length vs
+entry_within vs ids id i h at = omega (arith, slice_get_within ids i id at, h.len, items_len-items_view vs)
+
+pub entry_object : (entries : Items) (ids : List ℤ) (id : ℤ) (i : ℕ) (d : Data) → ReadsEach HasId entries ids → slice_get ids i ≡ Some id → get_item i entries ≡ Some d → IsObject d
+entry_object entries ids id i d h at found = has_object id_of member.Id d id (h.each i d id found at)
+
+pub tells_nowhere : (entries : Items) (ids : List ℤ) (i : ℕ) (id : ℤ) (f : JsonFault) → IsPlace ids id (length ids) Nowhere → IsNoDictionary i f → Tells (NamedFault entries ids i id) f
+tells_nowhere entries ids i id f h is =
+    tells_at (NamedFault entries ids i id) NoDictionary (step.Member member.Schema ∷ step.Member member.Fields ∷ step.Item i ∷ step.Member member.Dictionary ∷ step.Member member.Id ∷ []) f
+    (nowhere (λ j at. h j (slice_get_within ids j id at) at)) is
+
+pub tells_again : (entries : Items) (ids : List ℤ) (i : ℕ) (id : ℤ) (n k : ℕ) (f : JsonFault) → IsPlace ids id n (Again k)
+    → IsFault DictionaryTwice (step.Member member.Dictionaries ∷ step.Item k ∷ step.Member member.Id ∷ []) f → Tells (NamedFault entries ids i id) f
+tells_again entries ids i id n k f h is =
+    tells_at (NamedFault entries ids i id) DictionaryTwice (step.Member member.Dictionaries ∷ step.Item k ∷ step.Member member.Id ∷ []) f (again h.0 k h.1 h.2 h.3) is
+
+pub tells_entry : (entries : Items) (ids : List ℤ) (i : ℕ) (id : ℤ) (j : ℕ) (d : Data) (f g h : JsonFault) → Tells (EntryFault d) f → slice_get ids j ≡ Some id → get_item j entries ≡ Some d
+    → IsUnder (step.Item j) f g → IsUnder (step.Member member.Dictionaries) g h → Tells (NamedFault entries ids i id) h
+tells_entry entries ids i id j d f g h t at found up up_again =
+    let Inside : JsonFaultKind → List Step → Type 0 = λ k p. NamedFault entries ids i id k (step.Member member.Dictionaries ∷ p) in
+    tells_under Inside (NamedFault entries ids i id) (step.Member member.Dictionaries) g h (λ k p w. w)
+    (tells_under (EntryFault d) Inside (step.Item j) f g (λ k p w. bad_entry j d k p at found w) t up)
+    up_again
+
+pub ruleset named_told = (tells_nowhere, tells_again, tells_wants)
+
+-- ---- entries
+
+pub entries_absent : (d : Data) (f : JsonFault) → Tells (MemberFault member.Dictionaries (Unlike as_array) d) f → Tells (EntriesFault d) f
+entries_absent d f t = tells_as (MemberFault member.Dictionaries (Unlike as_array) d) (EntriesFault d) f (λ k p h. no_entries k p h) t
+
+pub entries_bad : (d : Data) (entries : Items) (f g : JsonFault) → Tells (EachFault NoId entries) f → option_and_then as_array (member_of member.Dictionaries d) ≡ Some entries
+    → IsUnder (step.Member member.Dictionaries) f g → Tells (EntriesFault d) g
+entries_bad d entries f g t at up = tells_under (EachFault NoId entries) (EntriesFault d) (step.Member member.Dictionaries) f g (λ k p h. bad_numbers entries k p at h) t up
+
+pub ruleset entries_told = (entries_absent, entries_bad)
+
+pub ruleset encodings_told = (tells_wants)
+
+-- ---- columns that are encoded
+
+pub encoded_at : (es : List (Option reader.Encoding)) (i : ℕ) (o : Option reader.Encoding) → i < length es → get_or es i None ≡ o
+    → slice_get (map (option_map parts_of) es) i ≡ Some (option_map parts_of o)
+encoded_at es i o within is = slice_get-map (option_map parts_of) es i ∙ ap (option_map (option_map parts_of)) (slice_get-get_or es i None within ∙ ap Some is)
+
+is_there : (o : Option reader.Encoding) → true ≡ is_some o → (e : reader.Encoding) × (o ≡ Some e)
+is_there None h = absurd cc
+is_there (Some e) h = (e, refl)
+
+isnt_there : (o : Option reader.Encoding) → false ≡ is_some o → o ≡ None
+isnt_there None h = refl
+isnt_there (Some e) h = absurd cc
+
+pub some_at : (es : List (Option reader.Encoding)) (i : ℕ) → i < length es → true ≡ is_some (get_or es i None) → HasSome (map (option_map parts_of) es)
+some_at es i within h =
+    let e = is_there (get_or es i None) h in
+    record { i = i; encoding = parts_of e.0; at = encoded_at es i (Some e.0) within e.1 }
+
+pub none_at : (es : List (Option reader.Encoding)) (n : ℕ) → ((i : ℕ) → i < n → (e : Encoding) → slice_get (map (option_map parts_of) es) i ≡ Some (Some e) → ⊥) → n < length es
+    → false ≡ is_some (get_or es n None) → (i : ℕ) → i < n + 1 → (e : Encoding) → slice_get (map (option_map parts_of) es) i ≡ Some (Some e) → ⊥
+none_at es n before within h =
+    below_more (λ i. (e : Encoding) → slice_get (map (option_map parts_of) es) i ≡ Some (Some e) → ⊥) n before
+    (λ e at. cc (encoded_at es n None within (isnt_there (get_or es n None) h), at))
+
+pub none_of : (es : List (Option reader.Encoding)) (n : ℕ) → ((i : ℕ) → i < n → (e : Encoding) → slice_get (map (option_map parts_of) es) i ≡ Some (Some e) → ⊥) → length es ≤ n
+    → HasSome (map (option_map parts_of) es) → ⊥
+none_of es n before all h =
+    before h.i (omega (arith, slice_get_within (map (option_map parts_of) es) h.i (Some h.encoding) h.at, length-map es (option_map parts_of), all)) h.encoding h.at
+
+-- ---- codings
+
+pub tells_coding : (entries : Items) (ids : List ℤ) (encodings : List (Option Encoding)) (i : ℕ) (e : Encoding) (f : JsonFault) → Tells (NamedFault entries ids i e.id) f
+    → slice_get encodings i ≡ Some (Some e) → Tells (CodingsFault entries ids encodings) f
+tells_coding entries ids encodings i e f t at = tells_as (NamedFault entries ids i e.id) (CodingsFault entries ids encodings) f (λ k p h. bad_coding i e k p at h) t
+
+pub codings_pushed : (entries : Items) (ids : List ℤ) (encodings : List (Option Encoding)) (n : ℕ) (cs : List (Option book.Coding)) (c : Option book.Coding) → AreCodings entries ids encodings n cs
+    → IsCodingAt entries ids encodings n c → AreCodings entries ids encodings (n + 1) (cs ++ c ∷ [])
+codings_pushed entries ids encodings n cs c h at = record {
+  len = omega (arith, length-append cs (c ∷ []), h.len);
+  each = λ i x found.
+      below_more (λ k. (x : Option book.Coding) → slice_get (cs ++ c ∷ []) k ≡ Some x → IsCodingAt entries ids encodings k x) n
+      (λ k within x found. h.each k x (sym (slice_get-front cs (c ∷ []) k (omega (arith, h.len))) ∙ found))
+      (λ x found.
+      let last : Some c ≡ Some x = sym (slice_get-last cs c) ∙ (ap (slice_get (cs ++ c ∷ [])) h.len ∙ found) in
+      let same : c ≡ x = cc in
+      subst (IsCodingAt entries ids encodings n) same at)
+      i (omega (arith, slice_get_within (cs ++ c ∷ []) i x found, length-append cs (c ∷ []), h.len)) x found;
+}
+
+pub ruleset codings_told = (tells_wants)
+
+-- ---- the book
+
+pub book_encodings : (d : Data) (fields : Items) (f g h : JsonFault) → Tells (EachFault EncodedFault fields) f → listed_fields d ≡ Some fields → IsUnder (step.Member member.Fields) f g
+    → IsUnder (step.Member member.Schema) g h → Tells (BookFault d) h
+book_encodings d fields f g h t listed up up_again =
+    let Inside : JsonFaultKind → List Step → Type 0 = λ k p. BookFault d k (step.Member member.Schema ∷ p) in
+    tells_under Inside (BookFault d) (step.Member member.Schema) g h (λ k p w. w)
+    (tells_under (EachFault EncodedFault fields) Inside (step.Member member.Fields) f g (λ k p w. bad_encodings fields k p listed w) t up)
+    up_again
+
+-- a column that is encoded is that of a field
+named_at : (d : Data) (fields : Items) (encodings : List (Option Encoding)) (i : ℕ) (e : Encoding) → listed_fields d ≡ Some fields → ReadsEach HasEncoding fields encodings
+    → slice_get encodings i ≡ Some (Some e) → Names d i e
+named_at d fields encodings i e listed h at =
+    let field = get_item_some fields i (omega (arith, slice_get_within encodings i (Some e) at, h.len)) in
+    record { fields = fields; listed = listed; field = field.0; found = field.1; encoding = h.each i field.0 (Some e) field.1 at }
+
+pub book_entries : (d : Data) (fields : Items) (encodings : List (Option Encoding)) (f : JsonFault) → Tells (EntriesFault d) f → HasSome encodings → listed_fields d ≡ Some fields
+    → ReadsEach HasEncoding fields encodings → Tells (BookFault d) f
+book_entries d fields encodings f t some listed h =
+    tells_as (EntriesFault d) (BookFault d) f (λ k p w. bad_entries some.i some.encoding k p (named_at d fields encodings some.i some.encoding listed h some.at) w) t
+
+book_coding : (d : Data) (fields : Items) (encodings : List (Option Encoding)) (entries : Items) (ids : List ℤ) (k : JsonFaultKind) (p : List Step) → (HasSome encodings → HasEntries d entries ids)
+    → listed_fields d ≡ Some fields → ReadsEach HasEncoding fields encodings → CodingsFault entries ids encodings k p → BookFault d k p
+book_coding d fields encodings entries ids k p given listed h (bad_coding i e k' p' at w) =
+    bad_named i e entries ids k' p' (named_at d fields encodings i e listed h at) (given record { i = i; encoding = e; at = at }) w
+
+pub book_codings : (d : Data) (fields : Items) (encodings : List (Option Encoding)) (entries : Items) (ids : List ℤ) (f : JsonFault) → Tells (CodingsFault entries ids encodings) f
+    → (HasSome encodings → HasEntries d entries ids) → listed_fields d ≡ Some fields → ReadsEach HasEncoding fields encodings → Tells (BookFault d) f
+book_codings d fields encodings entries ids f t given listed h =
+    tells_as (CodingsFault entries ids encodings) (BookFault d) f (λ k p w. book_coding d fields encodings entries ids k p given listed h w) t
+
+coding_read : (d field : Data) (entries : Items) (ids : List ℤ) (e : Option Encoding) (c : Option book.Coding) → HasEncoding field e → ((x : Encoding) → e ≡ Some x → HasEntries d entries ids)
+    → IsCoding entries ids e c → HasCoding d field c
+coding_read d field entries ids None None h given is = h
+coding_read d field entries ids (Some e) (Some c) h given is = record {
+  id = e.id;
+  encoding = subst (λ t. HasEncoding field (Some (record { id = e.id; index = t }))) (sym is.0) h;
+  entries = entries;
+  ids = ids;
+  given = given e refl;
+  dictionary = is.1;
+}
+coding_read d field entries ids None (Some c) h given is = absurd is
+coding_read d field entries ids (Some e) None h given is = absurd is
+
+pub book_read : (d : Data) (fields : Items) (encodings : List (Option Encoding)) (entries : Items) (ids : List ℤ) (n : ℕ) (cs : List (Option book.Coding)) → listed_fields d ≡ Some fields
+    → ReadsEach HasEncoding fields encodings → (HasSome encodings → HasEntries d entries ids) → n ≡ length encodings → AreCodings entries ids encodings n cs → HasBook d cs
+book_read d fields encodings entries ids n cs listed h given len are = record {
+  fields = fields;
+  listed = listed;
+  each = record {
+    len = are.len ∙ (len ∙ h.len);
+    each = λ i field c found at.
+        let e = are.each i c at in
+        coding_read d field entries ids e.0 c (h.each i field e.0 found e.1) (λ x is. given record { i = i; encoding = x; at = e.1 ∙ ap Some is }) e.2;
+  };
+}
+
+pub ruleset book_told = (book_encodings, book_entries, book_codings)

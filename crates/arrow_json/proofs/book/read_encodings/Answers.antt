@@ -1,0 +1,27 @@
+use Rattle.std.proofs.Common.{◌≡◌, ◌∷◌, [], Ok, arith, option_map, rules}
+use Rattle.std.proofs.lemmas.List.{map-append}
+use Rattle.std.specs.Result.{MatchResult, IsErrAnd}
+use Rattle.arrow_json.specs.EncodingParts.{parts_of}
+use Rattle.arrow_json.specs.JsonEncoding.{HasEncoding}
+use Rattle.arrow_json.specs.JsonEncodingFault.{EncodedFault}
+use Rattle.arrow_json.specs.JsonFault.{IsUnder}
+use Rattle.arrow_json.specs.declared.path.Step.TheVariants as step
+use Rattle.arrow_json.proofs.JsonFaults.{tells_item_at}
+use Rattle.arrow_json.proofs.JsonItems.{each_pushed, each_done}
+use Rattle.arrow_json.proofs.JsonResults.{value_kept, error_made}
+use Rattle.arrow_json.proofs.book.read_encodings.Goals as goal
+
+pub returns-in_err-encoding-clause-err : goal.returns-in_err-encoding-clause-err
+returns-in_err-encoding-clause-err c =
+    let cases : MatchResult c.read_encoded-read.result (λ y. c.map_err.result ≡ Ok y) (λ e. IsErrAnd c.map_err.result (IsUnder (step.Item c.loop-index.index-counter) e)) = search rules in
+    error_made _ _ _ _ _ _ _ cases c.in_err-encoding.was c.read_encoded-read.ensures.err c.from_residual.ensures.1
+    (λ _ told under. tells_item_at EncodedFault _ _ _ _ _ told (omega arith) c.index-fields-index.is under)
+
+pub loop-index-preserved : goal.loop-index-preserved
+loop-index-preserved c =
+    let encoding = value_kept _ _ c.read_encoded-read.result c.map_err.result c.in_ok-encoding.encoding c.map_err.ensures.cases c.in_ok-encoding.was c.read_encoded-read.ensures.ok in
+    rw (c.in_ok-push.ensures.ok, map-append (option_map parts_of) c.loop-index.encodings.items (c.in_ok-encoding.encoding ∷ []))
+    (each_pushed HasEncoding _ _ _ _ _ c.loop-index.invariant (omega arith) c.index-fields-index.is encoding)
+
+pub returns-clause-ok : goal.returns-clause-ok
+returns-clause-ok c = each_done _ _ _ _ c.loop-index.invariant (omega arith)

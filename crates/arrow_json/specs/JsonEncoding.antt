@@ -1,0 +1,33 @@
+-- How the column of a field is encoded. (Arrow integration testing, "JSON test data format", Field and DictionaryType)
+use Rattle.std.specs.Prelude.{◌≡◌, ℤ, true, Option, Some, None, option_and_then}
+use Rattle.types.specs.declared.int_type.IntType.{IntType}
+use Rattle.types.specs.declared.int_type.Width.TheVariants.{W64}
+use Rattle.serde_json.specs.Data.{Data}
+use Rattle.arrow_json.specs.JsonNumber.{integer_of}
+use Rattle.arrow_json.specs.JsonMember.{member_of}
+use Rattle.arrow_json.specs.JsonSchema.{ReadsInt, is_without}
+use Rattle.arrow_json.specs.declared.path.Member.TheVariants as member
+
+-- A column is indices of this type into the dictionary of this number.
+pub record Encoding : Type 0 where
+  pub id : ℤ
+  pub index : IntType
+
+abbrev pub int64 : IntType
+int64 = record { bits = W64; signed = true }
+
+-- The number of a dictionary.
+abbrev pub id_of : Data → Option ℤ
+id_of d = integer_of int64 d
+
+-- The dictionary object of a field.
+pub record IsEncoding (d : Data) (e : Encoding) : Type 0 where
+  pub id : option_and_then id_of (member_of member.Id d) ≡ Some e.id
+  pub object : Data
+  pub at_index : member_of member.IndexType d ≡ Some object
+  pub index : ReadsInt object e.index
+
+-- The field has such an object, or none.
+abbrev pub HasEncoding : Data → Option Encoding → Type 0
+HasEncoding d None = is_without (member_of member.Dictionary d) ≡ true
+HasEncoding d (Some e) = (object : Data) × (member_of member.Dictionary d ≡ Some object) × IsEncoding object e

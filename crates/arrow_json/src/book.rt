@@ -1,0 +1,291 @@
+//! The dictionaries that the fields of a file name.
+
+ghost use Rattle.std.specs.Prelude.{◌≡◌, ◌<◌, length, Some, IfOk, IfErr, OnErr, map, option_map};
+ghost use Rattle.std.specs.Bool.{OnFalse, OnTrue};
+ghost use Rattle.std.specs.Arc.{arc_value};
+ghost use Rattle.serde_json.specs.View.{view, items_view};
+ghost use Rattle.arrow_json.specs.BookParts.{AreCodings, HasSome, IsCodingAt, IsNoDictionary, IsPlace, coding_of};
+ghost use Rattle.arrow_json.specs.EncodingParts.{parts_of};
+ghost use Rattle.arrow_json.specs.JsonBook.{HasBook, HasDictionary, HasEntries, HasId, listed_fields};
+ghost use Rattle.arrow_json.specs.JsonBookFault.{BookFault, CodingsFault, EntriesFault, NamedFault, NoId};
+ghost use Rattle.arrow_json.specs.JsonDictionary.{ReadsEntry};
+ghost use Rattle.arrow_json.specs.JsonDictionaryFault.{EntryFault};
+ghost use Rattle.arrow_json.specs.JsonEncoding.{HasEncoding};
+ghost use Rattle.arrow_json.specs.JsonEncodingFault.{EncodedFault};
+ghost use Rattle.arrow_json.specs.JsonFault.{Tells};
+ghost use Rattle.arrow_json.specs.JsonMember.{EachFault, IsObject, ReadsEach};
+
+use crate::dictionary::read_entry;
+use crate::encoding::{Encoding, id_member, read_encoded};
+use crate::fault::{JsonFault, JsonFaultKind};
+use crate::member::{array_member, check_object, push};
+use crate::path::{Member, Step};
+use arrays::{IntType, Words};
+use serde_json::Value;
+use std::alloc::Global;
+use std::sync::Arc;
+
+/// That a column is indices of this type into these texts.
+#[derive(Drop)]
+pub(crate) struct Coding {
+    pub index: IntType,
+    pub words: Arc<Words>,
+}
+
+/// The number of an entry.
+#[tactic(auto, using(crate::proofs::JsonBooks::id_told))]
+fn entry_id(alloc: Global, entry: &Value) -> Result<i128, JsonFault>
+    ensures ok { IfOk result (HasId (view entry.now)) }
+    ensures err { IfErr result (Tells (NoId (view entry.now))) }
+{
+    check_object(alloc, entry)?;
+    id_member(alloc, entry)
+}
+
+/// The numbers of all entries.
+#[tactic(auto, using(crate::proofs::JsonBooks::id_told))]
+fn entry_ids(alloc: Global, entries: &[Value]) -> Result<Vec<i128>, JsonFault>
+    ensures ok { IfOk result (λ ids. ReadsEach HasId (items_view entries.now) ids.items) }
+    ensures err { IfErr result (Tells (EachFault NoId (items_view entries.now))) }
+{
+    let mut ids = Vec::new(alloc);
+    for (index, entry) in entries.iter().enumerate() {
+        let read = entry_id(alloc, entry);
+        let id = read.map_err(|fault| fault.under(alloc, Step::Item(index)))?;
+        push(alloc, &mut ids, id)?;
+    }
+    Ok(ids)
+}
+
+/// Where a number stands among numbers.
+enum Place {
+    Nowhere,
+    At(usize),
+    /// It stands at two places, of which this is the second.
+    Again(usize),
+}
+
+/// Where the number stands.
+fn place_of(ids: &[i128], id: i128) -> Place
+    ensures { IsPlace ids.now id (length ids.now) result }
+{
+    let mut first = None;
+    for (index, other) in ids.iter().enumerate() {
+        if *other == id {
+            if first.is_some() {
+                return Place::Again(index);
+            }
+            first = Some(index);
+        }
+    }
+    match first {
+        Some(index) => Place::At(index),
+        None => Place::Nowhere,
+    }
+}
+
+/// The texts of an entry, to be shared.
+#[tactic(auto, using(crate::proofs::JsonBooks::named_told))]
+fn read_words(alloc: Global, entry: &Value) -> Result<Arc<Words>, JsonFault>
+    requires { IsObject (view entry.now) }
+    ensures ok { IfOk result (λ w. ReadsEntry (view entry.now) (arc_value w).items) }
+    ensures err { IfErr result (Tells (EntryFault (view entry.now))) }
+{
+    let words = read_entry(alloc, entry)?;
+    Arc::new(alloc, words).map_err(|_| JsonFault::no_memory(alloc))
+}
+
+/// The entries of a file, and the number of each.
+#[derive(Drop)]
+struct Entries<'v> {
+    values: &'v [Value],
+    ids: Vec<i128>,
+}
+
+/// The fault of a field of this index that names a dictionary that isn't there.
+#[cold]
+fn no_dictionary(alloc: Global, field: usize) -> JsonFault
+    ensures { IsNoDictionary field result }
+{
+    JsonFault::at(
+        alloc,
+        JsonFaultKind::NoDictionary,
+        &[
+            Step::Member(Member::Schema),
+            Step::Member(Member::Fields),
+            Step::Item(field),
+            Step::Member(Member::Dictionary),
+            Step::Member(Member::Id),
+        ],
+    )
+}
+
+/// The texts of the one entry of the number, which the field of this index names.
+#[tactic(auto, using(crate::proofs::JsonBooks::named_told))]
+fn read_dictionary(
+    alloc: Global,
+    entries: &Entries,
+    id: i128,
+    field: usize,
+) -> Result<Arc<Words>, JsonFault>
+    requires { ReadsEach HasId (items_view entries.now.values.now) entries.now.ids.items }
+    ensures ok { IfOk result (λ w.
+        HasDictionary (items_view entries.now.values.now) entries.now.ids.items id (arc_value w).items) }
+    ensures err { IfErr result
+        (Tells (NamedFault (items_view entries.now.values.now) entries.now.ids.items field id)) }
+{
+    match place_of(&entries.ids, id) {
+        Place::At(index) => match read_words(alloc, &entries.values[index]) {
+            Ok(words) => Ok(words),
+            Err(fault) => {
+                let entry = fault.under(alloc, Step::Item(index));
+                Err(entry.under(alloc, Step::Member(Member::Dictionaries)))
+            }
+        },
+        Place::Nowhere => Err(no_dictionary(alloc, field)),
+        Place::Again(index) => {
+            let second = [
+                Step::Member(Member::Dictionaries),
+                Step::Item(index),
+                Step::Member(Member::Id),
+            ];
+            Err(JsonFault::at(alloc, JsonFaultKind::DictionaryTwice, &second))
+        }
+    }
+}
+
+/// How the columns of all fields are encoded.
+#[tactic(auto, using(crate::proofs::JsonBooks::encodings_told))]
+fn read_encodings(alloc: Global, fields: &[Value]) -> Result<Vec<Option<Encoding>>, JsonFault>
+    ensures ok { IfOk result (λ es. ReadsEach HasEncoding (items_view fields.now) (map (option_map parts_of) es.items)) }
+    ensures err { IfErr result (Tells (EachFault EncodedFault (items_view fields.now))) }
+{
+    let mut encodings = Vec::new(alloc);
+    for (index, field) in fields.iter().enumerate() {
+        let read = read_encoded(alloc, field);
+        let encoding = read.map_err(|fault| fault.under(alloc, Step::Item(index)))?;
+        push(alloc, &mut encodings, encoding)?;
+    }
+    Ok(encodings)
+}
+
+/// The entries of a document.
+#[tactic(auto, using(crate::proofs::JsonBooks::entries_told))]
+fn read_entries(alloc: Global, document: &Value) -> Result<Entries<'_>, JsonFault>
+    requires { IsObject (view document.now) }
+    ensures ok { IfOk result (λ e. HasEntries (view document.now) (items_view e.values.now) e.ids.items) }
+    ensures err { IfErr result (Tells (EntriesFault (view document.now))) }
+{
+    let values = array_member(alloc, document, Member::Dictionaries)?;
+    match entry_ids(alloc, values) {
+        Ok(ids) => Ok(Entries { values, ids }),
+        Err(fault) => Err(fault.under(alloc, Step::Member(Member::Dictionaries))),
+    }
+}
+
+/// Whether a column is encoded.
+fn has_some(encodings: &[Option<Encoding>]) -> bool
+    ensures some { OnTrue result (HasSome (map (option_map parts_of) encodings.now)) }
+    ensures none { OnFalse result (¬ HasSome (map (option_map parts_of) encodings.now)) }
+{
+    for encoding in encodings {
+        if encoding.is_some() {
+            return true;
+        }
+    }
+    false
+}
+
+/// The entries of a document where a column is encoded. Where none is, they aren't looked at.
+fn entries_for<'v>(
+    alloc: Global,
+    document: &'v Value,
+    encodings: &[Option<Encoding>],
+) -> Result<Entries<'v>, JsonFault>
+    requires { IsObject (view document.now) }
+    ensures ok { IfOk result (λ e. HasSome (map (option_map parts_of) encodings.now) →
+        HasEntries (view document.now) (items_view e.values.now) e.ids.items) }
+    ensures needed { OnErr result (HasSome (map (option_map parts_of) encodings.now)) }
+    ensures err { IfErr result (Tells (EntriesFault (view document.now))) }
+{
+    if has_some(encodings) {
+        return read_entries(alloc, document);
+    }
+    Ok(Entries {
+        values: &[],
+        ids: Vec::new(alloc),
+    })
+}
+
+/// How the column of the field of this index is read.
+#[tactic(auto, using(crate::proofs::JsonBooks::codings_told))]
+fn read_coding(
+    alloc: Global,
+    entries: &Entries,
+    encodings: &[Option<Encoding>],
+    index: usize,
+) -> Result<Option<Coding>, JsonFault>
+    requires within { index < length encodings.now }
+    requires numbered { HasSome (map (option_map parts_of) encodings.now) →
+        ReadsEach HasId (items_view entries.now.values.now) entries.now.ids.items }
+    ensures ok { IfOk result (λ c. IsCodingAt (items_view entries.now.values.now) entries.now.ids.items
+        (map (option_map parts_of) encodings.now) index (option_map coding_of c)) }
+    ensures err { IfErr result (Tells (CodingsFault (items_view entries.now.values.now) entries.now.ids.items
+        (map (option_map parts_of) encodings.now))) }
+{
+    match encodings[index] {
+        None => Ok(None),
+        Some(encoding) => {
+            let words = read_dictionary(alloc, entries, encoding.id, index)?;
+            Ok(Some(Coding {
+                index: encoding.index,
+                words,
+            }))
+        }
+    }
+}
+
+/// How the columns of all fields are read.
+#[tactic(auto, using(crate::proofs::JsonBooks::codings_told))]
+fn read_codings(
+    alloc: Global,
+    entries: &Entries,
+    encodings: &[Option<Encoding>],
+) -> Result<Vec<Option<Coding>>, JsonFault>
+    requires { HasSome (map (option_map parts_of) encodings.now) →
+        ReadsEach HasId (items_view entries.now.values.now) entries.now.ids.items }
+    ensures ok { IfOk result (λ cs. AreCodings (items_view entries.now.values.now) entries.now.ids.items
+        (map (option_map parts_of) encodings.now) (length encodings.now) (map (option_map coding_of) cs.items)) }
+    ensures err { IfErr result (Tells (CodingsFault (items_view entries.now.values.now) entries.now.ids.items
+        (map (option_map parts_of) encodings.now))) }
+{
+    let mut codings = Vec::new(alloc);
+    for index in 0..encodings.len() {
+        let coding = read_coding(alloc, entries, encodings, index)?;
+        push(alloc, &mut codings, coding)?;
+    }
+    Ok(codings)
+}
+
+/// How the column of each field of a document is read.
+#[tactic(auto, using(crate::proofs::JsonBooks::book_told))]
+pub(crate) fn read_book(
+    alloc: Global,
+    document: &Value,
+    fields: &[Value],
+) -> Result<Vec<Option<Coding>>, JsonFault>
+    requires object { IsObject (view document.now) }
+    requires fields { listed_fields (view document.now) ≡ Some (items_view fields.now) }
+    ensures ok { IfOk result (λ cs. HasBook (view document.now) (map (option_map coding_of) cs.items)) }
+    ensures err { IfErr result (Tells (BookFault (view document.now))) }
+{
+    let encodings = match read_encodings(alloc, fields) {
+        Ok(encodings) => encodings,
+        Err(fault) => {
+            let field = fault.under(alloc, Step::Member(Member::Fields));
+            return Err(field.under(alloc, Step::Member(Member::Schema)));
+        }
+    };
+    let entries = entries_for(alloc, document, &encodings)?;
+    read_codings(alloc, &entries, &encodings)
+}

@@ -1,0 +1,70 @@
+//! The texts of a dictionary, as an entry of a file's `dictionaries` has them.
+
+ghost use Rattle.std.specs.Prelude.{◌≡◌, IfOk, IfErr};
+ghost use Rattle.arrays.specs.Kind as kind;
+ghost use Rattle.serde_json.specs.View.{view};
+ghost use Rattle.arrow_json.specs.JsonDictionary.{HasTexts, ReadsEntry, ReadsTexts};
+ghost use Rattle.arrow_json.specs.JsonDictionaryFault.{EntryFault, HeldFault, TextsFault};
+ghost use Rattle.arrow_json.specs.JsonFault.{Tells};
+ghost use Rattle.arrow_json.specs.JsonMember.{IsObject};
+
+use crate::column::{read_texts, single_member};
+use crate::fault::{JsonFault, JsonFaultKind};
+use crate::member::{check_object, count_member, required};
+use crate::path::{Member, Step};
+use crate::schema::only_item;
+use arrays::{Array, Words};
+use serde_json::Value;
+use std::alloc::Global;
+
+/// The texts of a dictionary's batch.
+#[tactic(auto, using(crate::proofs::JsonDictionaries::texts_told))]
+fn read_batch_of_texts(alloc: Global, batch: &Value) -> Result<Array, JsonFault>
+    ensures kind { IfOk result (λ a. a.kind ≡ kind.utf8) }
+    ensures ok { IfOk result (λ a. ReadsTexts (view batch.now) a.items) }
+    ensures err { IfErr result (Tells (TextsFault (view batch.now))) }
+{
+    check_object(alloc, batch)?;
+    let rows = count_member(alloc, batch, Member::Count)?;
+    let column = single_member(alloc, batch, Member::Columns)?;
+    match read_texts(alloc, rows, column) {
+        Ok(texts) => Ok(texts),
+        Err(fault) => {
+            let item = fault.under(alloc, Step::Item(0));
+            Err(item.under(alloc, Step::Member(Member::Columns)))
+        }
+    }
+}
+
+/// The texts of what an entry has as its `data`: a batch, or an array of exactly one.
+#[tactic(auto, using(crate::proofs::JsonDictionaries::held_told))]
+fn read_held(alloc: Global, held: &Value) -> Result<Array, JsonFault>
+    ensures kind { IfOk result (λ a. a.kind ≡ kind.utf8) }
+    ensures ok { IfOk result (λ a. HasTexts (view held.now) a.items) }
+    ensures err { IfErr result (Tells (HeldFault (view held.now))) }
+{
+    if held.is_object() {
+        return read_batch_of_texts(alloc, held);
+    }
+    let Some(batch) = only_item(held) else {
+        return Err(JsonFault::at(alloc, JsonFaultKind::WrongMember, &[]));
+    };
+    match read_batch_of_texts(alloc, batch) {
+        Ok(texts) => Ok(texts),
+        Err(fault) => Err(fault.under(alloc, Step::Item(0))),
+    }
+}
+
+/// The texts of a dictionary. Doubles and nulls may stand among them.
+#[tactic(auto, using(crate::proofs::JsonDictionaries::entry_told))]
+pub(crate) fn read_entry(alloc: Global, entry: &Value) -> Result<Words, JsonFault>
+    requires { IsObject (view entry.now) }
+    ensures ok { IfOk result (λ w. ReadsEntry (view entry.now) w.items) }
+    ensures err { IfErr result (Tells (EntryFault (view entry.now))) }
+{
+    let held = required(alloc, entry, Member::Texts)?;
+    match read_held(alloc, held) {
+        Ok(texts) => Ok(Words::of(texts)),
+        Err(fault) => Err(fault.under(alloc, Step::Member(Member::Texts))),
+    }
+}

@@ -1,0 +1,70 @@
+//! The objects of types.
+
+ghost use Rattle.std.specs.Prelude.{◌≡◌, IfOk, IfErr, OnOk, Some, codes};
+ghost use Rattle.serde_json.specs.View.{view};
+ghost use Rattle.arrow_json.specs.BareField.{IsTypeRead};
+ghost use Rattle.arrow_json.specs.JsonFault.{Tells};
+ghost use Rattle.arrow_json.specs.JsonMember.{IsObject};
+ghost use Rattle.arrow_json.specs.JsonSchema.{type_name, ReadsInt};
+ghost use Rattle.arrow_json.specs.JsonSchemaFault.{TypeFault, IndexFault};
+
+use crate::fault::{JsonFault, JsonFaultKind};
+use crate::member::{check_object, number_member, text_member, truth_member};
+use crate::number::width;
+use crate::path::Member;
+use arrays::{DataType, IntType};
+use serde_json::Value;
+use std::alloc::Global;
+
+/// The name that a type object has.
+#[tactic(auto, using(crate::proofs::JsonFaults::type_told))]
+pub(crate) fn type_name(alloc: Global, object: &Value) -> Result<&str, JsonFault>
+    ensures object { OnOk result (IsObject (view object.now)) }
+    ensures ok { IfOk result (λ name. type_name (view object.now) ≡ Some name.now) }
+    ensures err { IfErr result (Tells (TypeFault (view object.now))) }
+{
+    check_object(alloc, object)?;
+    text_member(alloc, object, Member::Name)
+}
+
+/// The type that a type object names, none where it is a list: of what, its field's children tell.
+#[tactic(auto, using(crate::proofs::JsonFaults::type_told))]
+pub(crate) fn read_type(alloc: Global, object: &Value) -> Result<Option<DataType>, JsonFault>
+    ensures ok { IfOk result (IsTypeRead (view object.now)) }
+    ensures err { IfErr result (Tells (TypeFault (view object.now))) }
+{
+    match type_name(alloc, object)? {
+        "int" => Ok(Some(DataType::Int(read_int(alloc, object)?))),
+        "bool" => Ok(Some(DataType::Bool)),
+        "utf8" => Ok(Some(DataType::Utf8)),
+        "list" => Ok(None),
+        _ => Err(JsonFault::at(alloc, JsonFaultKind::UnsupportedType, &[])),
+    }
+}
+
+/// The integer type that a type object of the name describes.
+#[tactic(auto, using(crate::proofs::JsonFaults::type_told))]
+pub(crate) fn read_int(alloc: Global, object: &Value) -> Result<IntType, JsonFault>
+    requires object { IsObject (view object.now) }
+    requires name { type_name (view object.now) ≡ Some (codes "int") }
+    ensures ok { IfOk result (ReadsInt (view object.now)) }
+    ensures err { IfErr result (Tells (TypeFault (view object.now))) }
+{
+    let Some(bits) = width(number_member(alloc, object, Member::BitWidth)?) else {
+        return Err(JsonFault::at(alloc, JsonFaultKind::UnsupportedType, &[]));
+    };
+    let signed = truth_member(alloc, object, Member::IsSigned)?;
+    Ok(IntType { bits, signed })
+}
+
+/// The integer type that the type object of a dictionary's indices describes.
+#[tactic(auto, using(crate::proofs::JsonFaults::index_told))]
+pub(crate) fn read_index(alloc: Global, object: &Value) -> Result<IntType, JsonFault>
+    ensures ok { IfOk result (ReadsInt (view object.now)) }
+    ensures err { IfErr result (Tells (IndexFault (view object.now))) }
+{
+    match type_name(alloc, object)? {
+        "int" => read_int(alloc, object),
+        _ => Err(JsonFault::at(alloc, JsonFaultKind::UnsupportedType, &[])),
+    }
+}
