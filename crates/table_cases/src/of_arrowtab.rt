@@ -1,6 +1,7 @@
 //! The program over memory.
 
 mod bytes;
+mod exports;
 mod runs;
 mod several;
 mod words;

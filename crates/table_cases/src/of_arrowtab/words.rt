@@ -9,11 +9,16 @@ use std::test::Fail;
 
 /// Asserts that the words ask for the statistics of these files.
 fn expect_stats(rt: &impl Abort, alloc: Global, words: &[&str], names: &[&str]) {
+    expect_job(rt, alloc, words, Command::Stats, names);
+}
+
+/// Asserts that the words ask for this of these files.
+fn expect_job(rt: &impl Abort, alloc: Global, words: &[&str], command: Command, names: &[&str]) {
     let Ok(job) = job(alloc, words) else {
         assert!(rt; false, "no job for {words:?}");
         return;
     };
-    assert_eq!(rt; job.command, Command::Stats);
+    assert_eq!(rt; job.command, command);
     assert_eq!(rt; job.workers, 1);
     assert!(rt;
         job.names
@@ -49,13 +54,25 @@ fn stats_takes_files(rt: HostRuntime) {
     );
 }
 
-const HELP: &str = "Prints exact statistics of files in Apache Arrow's JSON integration format
+#[test]
+fn export_takes_files(rt: HostRuntime) {
+    let alloc = rt.alloc();
+    for names in [["A"].as_slice(), ["B", "A", "B"].as_slice()] {
+        let mut words = ["arrowtab", "export", "", "", ""];
+        let count = names.len().min(3);
+        words[2..2 + count].copy_from_slice(&names[..count]);
+        expect_job(&rt, alloc, &words[..2 + count], Command::Export, names);
+    }
+}
+
+const HELP: &str = "Tells what files in Apache Arrow's JSON integration format hold, as one table
 
 Usage: arrowtab <COMMAND>
 
 Commands:
-  stats  Print rows, nulls, sum, least and greatest of each column
-  help   Print this message or the help of the given subcommand(s)
+  stats   Print rows, nulls, sum, least and greatest of each column
+  export  Print the table as one file, each text once in its dictionary
+  help    Print this message or the help of the given subcommand(s)
 
 Options:
   -h, --help  Print help
@@ -67,6 +84,17 @@ Exit status: 0 if all was done; 1 for a fault in a file, the output or memory;
 const STATS_HELP: &str = "Print rows, nulls, sum, least and greatest of each column
 
 Usage: arrowtab stats <FILE>...
+
+Arguments:
+  <FILE>...  Files of one table, which has the first one's schema
+
+Options:
+  -h, --help  Print help
+";
+
+const EXPORT_HELP: &str = "Print the table as one file, each text once in its dictionary
+
+Usage: arrowtab export <FILE>...
 
 Arguments:
   <FILE>...  Files of one table, which has the first one's schema
@@ -119,12 +147,13 @@ fn expect_printed(
 #[test]
 fn help_is_the_output(rt: HostRuntime) -> Result<(), Fail> {
     let alloc = rt.alloc();
-    let words: [(&[&str], &str); 5] = [
+    let words: [(&[&str], &str); 6] = [
         (&["arrowtab", "--help"], HELP),
         (&["bin/arrowtab", "-h"], HELP),
         (&["arrowtab", "help"], HELP),
         (&["arrowtab", "stats", "A", "--help"], STATS_HELP),
         (&["arrowtab", "help", "stats"], STATS_HELP),
+        (&["arrowtab", "help", "export"], EXPORT_HELP),
     ];
     for (words, help) in words {
         expect_printed(&rt, alloc, &fault_of(alloc, words)?, help, "", 0);
@@ -138,7 +167,7 @@ fn help_may_fail(rt: HostRuntime) -> Result<(), Fail> {
     let help = fault_of(alloc, &["arrowtab", "--help"])?;
     let out = MemorySink::new(alloc).in_pieces(7).failing(Plan::At(1));
     let came = told(alloc, &help, out);
-    assert_eq!(rt; came.out.taken(), b"Prints ".as_slice());
+    assert_eq!(rt; came.out.taken(), b"Tells w".as_slice());
     assert_eq!(rt; came.err.taken(), b"arrowtab: output failed\n".as_slice());
     assert_eq!(rt; came.status, 1);
     Ok(())
@@ -170,8 +199,8 @@ For more information, try '--help'.
 ",
     ),
     (
-        &["arrowtab", "export", "A"],
-        "error: unrecognized subcommand 'export'
+        &["arrowtab", "query", "A"],
+        "error: unrecognized subcommand 'query'
 
 Usage: arrowtab <COMMAND>
 
