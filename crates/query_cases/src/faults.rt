@@ -1,0 +1,20 @@
+use query::QueryFault::{AmbiguousColumn, NoColumn, NoMemory, Overflow, TooDeep, WrongKind};
+use query::query_fault_text;
+use std::test::Fail;
+
+#[test]
+fn faults_are_told_by_number_and_name(rt: HostRuntime) -> Result<(), Fail> {
+    for (fault, text) in [
+        (NoColumn, "Q1 NoColumn"),
+        (AmbiguousColumn, "Q2 AmbiguousColumn"),
+        (WrongKind, "Q3 WrongKind"),
+        (Overflow { row: 2 }, "Q4 Overflow row=2"),
+        (TooDeep, "Q5 TooDeep"),
+        (NoMemory, "Q6 NoMemory"),
+    ] {
+        let told = query_fault_text(rt.alloc(), fault)?;
+        assert_eq!(rt; told.as_str(), text);
+        assert_eq!(rt; format!(in rt.alloc(); "{fault}")?.as_str(), text);
+    }
+    Ok(())
+}
