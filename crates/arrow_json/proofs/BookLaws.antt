@@ -1,20 +1,18 @@
 -- Where a fault of a dictionary stands, none is read, and two readings of the dictionaries of one file are one.
-use Rattle.std.proofs.Common.{◌≡◌, ◌∙◌, ℕ, ◌<◌, ℤ, true, List, [], ◌∷◌, length, Option, Some, None, option_and_then, refl, sym, ap, subst, arith}
-use Rattle.std.specs.List.{slice_get}
+use Rattle.std.proofs.Common.{◌≡◌, ◌∙◌, ℕ, ℤ, List, Option, Some, None, option_and_then, refl, sym, ap, subst, arith}
 use Rattle.std.proofs.lemmas.Bool.{false≢true}
 use Rattle.types.specs.declared.int_type.IntType.{IntType}
 use Rattle.arrays.specs.Item.{Item}
 use Rattle.serde_json.specs.Data as data'
 use Rattle.serde_json.specs.Data.{Data, Items, item, no_items}
 use Rattle.serde_json.specs.Find.{get_item, as_array, as_object}
-use Rattle.arrow_json.specs.declared.path.Member.{Member}
 use Rattle.arrow_json.specs.declared.path.Member.TheVariants as member
 use Rattle.arrow_json.specs.declared.path.Step.{Step}
 use Rattle.arrow_json.specs.declared.fault.JsonFaultKind.{JsonFaultKind}
-use Rattle.arrow_json.specs.JsonMember.{IsObject, member_of, MemberFault, ListFault, EachFault, ReadsEach}
+use Rattle.arrow_json.specs.JsonMember.{IsObject, member_of, ListFault, EachFault, ReadsEach}
 use Rattle.arrow_json.specs.JsonNumber.{count_of}
 use Rattle.arrow_json.specs.JsonSchema.{ReadsInt, only_item}
-use Rattle.arrow_json.specs.JsonColumn.{texts, valid_at, slot_of, ReadsPlain}
+use Rattle.arrow_json.specs.JsonColumn.{texts, slot_of, ReadsPlain}
 use Rattle.arrow_json.specs.JsonColumnFault.{ColumnFault}
 use Rattle.arrow_json.specs.JsonCodes.{entry_at, indices, ReadsCodes}
 use Rattle.arrow_json.specs.JsonCodesFault.{IndicesFault, no_index_flag, no_index, past_dictionary, CodesFault, no_code_slots, bad_codes}
@@ -22,7 +20,7 @@ use Rattle.arrow_json.specs.JsonDictionary.{ReadsTexts, HasTexts, bare, wrapped,
 use Rattle.arrow_json.specs.JsonDictionaryFault.{TextsFault, no_texts_object, bad_texts_count, bad_texts_list, bad_texts, HeldFault, no_batch, bad_bare, bad_wrapped, EntryFault}
 use Rattle.arrow_json.specs.JsonEncoding.{Encoding, HasEncoding, IsEncoding, id_of}
 use Rattle.arrow_json.specs.JsonEncodingFault.{EncodedFault}
-use Rattle.arrow_json.specs.JsonBook.{Coding, listed_fields, HasId, HasEntries, IsOnly, HasDictionary, IsCoded, HasCoding, HasBook}
+use Rattle.arrow_json.specs.JsonBook.{Coding, HasId, HasEntries, HasDictionary, IsCoded, HasCoding, HasBook}
 use Rattle.arrow_json.specs.JsonBookFault.{NoId, no_entry_object, bad_entry_id, EntriesFault, no_entries, bad_numbers, NamedFault, nowhere, again, bad_entry, Names, BookFault, bad_encodings, bad_entries, bad_named}
 use Rattle.arrow_json.proofs.JsonNames.{has_object, no_null}
 use Rattle.arrow_json.proofs.ColumnLaws.{list_law, no_flag_law, valid_law, slot_read, no_slots_law, plain_law, same_plain}

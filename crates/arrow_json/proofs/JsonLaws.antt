@@ -1,15 +1,12 @@
 -- Where a fault stands, nothing is read.
-use Rattle.std.proofs.Common.{◌≡◌, ◌∙◌, ℕ, suc, ◌<◌, ◌≤◌, ℤ, Bool, true, false, List, [], ◌∷◌, length, Option, Some, None, option_and_then, refl, sym, ap, subst, arith}
-use Rattle.std.specs.List.{slice_get, sum_by}
-use Rattle.std.proofs.lemmas.Bool.Decides.{nat_tests}
-use Rattle.std.proofs.lemmas.List.Sums.{sum_by-cons}
+use Rattle.std.proofs.Common.{◌≡◌, ◌∙◌, ℕ, ◌<◌, ℤ, true, List, length, Option, Some, None, option_and_then, refl, sym, ap, subst, arith}
 use Rattle.arrays.specs.Kind as kind
 use Rattle.arrays.specs.Kind.{Kind}
 use Rattle.arrays.specs.Item.{Item}
 use Rattle.arrays.specs.Shape.{FieldShape, kind_of_field}
 use Rattle.serde_json.specs.Data as data'
 use Rattle.serde_json.specs.Data.{Data, Items, no_items, item}
-use Rattle.serde_json.specs.Find.{get_item, as_null, as_array, as_object}
+use Rattle.serde_json.specs.Find.{as_array, as_object}
 use Rattle.serde_json.specs.Events.{items_len}
 use Rattle.arrow_json.specs.declared.path.Member.TheVariants as member
 use Rattle.arrow_json.specs.declared.path.Step.{Step}
@@ -18,10 +15,8 @@ use Rattle.arrow_json.specs.JsonMember as at
 use Rattle.arrow_json.specs.JsonMember.{member_of, Unlike, ListFault, no_array, length_differs, EachFault, ReadsEach}
 use Rattle.arrow_json.specs.JsonNumber.{count_of, flag_of}
 use Rattle.arrow_json.specs.JsonFieldsFault.{SchemaFault}
-use Rattle.arrow_json.specs.JsonColumn.{Spelling, numbers, truths, texts, is_full, flags_of, HasFlags, valid_at, slot_of, ReadsSlots, HasSlots, ReadsPlain}
-use Rattle.arrays.specs.Lengths.{is_past}
+use Rattle.arrow_json.specs.JsonColumn.{numbers, truths, texts, HasFlags, valid_at}
 use Rattle.arrays.specs.Offsets.{of_slot}
-use Rattle.arrow_json.specs.JsonColumnFault.{CountFault, no_count, other_count, FlagsFault, no_flags, NoSlots, no_column_object, bad_count, bad_flags, bad_values, SlotsFault, no_flag, no_value, too_long, ColumnFault, no_slots, bad_slots}
 use Rattle.arrow_json.specs.JsonList.{Spells, offset_bytes, are_enough, lists_fault, list_slot, ReadsLists, HasLists, ReadsList}
 use Rattle.arrow_json.specs.JsonListFault.{OffsetsFault, no_offsets, not_enough, NoLists, no_list_object, bad_list_count, bad_list_flags, bad_offsets, bad_children, NoOffset, no_offset, no_flag_at, ChildFault, no_child_object, bad_child_count, bad_child_column, NotLawful, not_lawful, ListsFault, no_lists, no_flags_of_lists, bad_offset, bad_child, bad_lists}
 use Rattle.arrow_json.proofs.JsonLists.{column_count}
@@ -33,7 +28,7 @@ use Rattle.arrow_json.proofs.JsonSchemas.{get_item_some}
 use Rattle.arrow_json.specs.JsonFile.{ReadsFile, Reads, FileFault, no_file_object, bad_schema, bad_book, bad_batches, bad_batch, BytesFault, no_json, bad_file}
 use Rattle.arrow_json.proofs.ColumnLaws.{count_law, list_law, flags_law, plain_law, same_plain}
 use Rattle.arrow_json.proofs.BookLaws.{codes_law, book_law, same_book}
-use Rattle.arrow_json.specs.JsonBook.{Coding, HasBook}
+use Rattle.arrow_json.specs.JsonBook.{Coding}
 use Rattle.arrow_json.specs.JsonCodes.{indices}
 use Rattle.arrow_json.proofs.SchemaLaws.{inner, no_object, not_unlike, no_member, under_law, get_item-within, slice_get-within, slice_get_some, each_law, schema_law, same_lists, same_each, same_schema}
 

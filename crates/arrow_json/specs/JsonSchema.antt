@@ -1,5 +1,5 @@
 -- The schema of a file. (Arrow integration testing, "JSON test data format", Schema and Field)
-use Rattle.std.specs.Prelude.{◌≡◌, ℕ, ◌==◌, List, codes, Bool, true, false, Option, Some, None, is_some, option_map, option_and_then, unwrap_or}
+use Rattle.std.specs.Prelude.{◌≡◌, ℕ, ◌==◌, List, codes, Bool, true, Option, Some, None, is_some, option_map, option_and_then, unwrap_or}
 use Rattle.types.specs.declared.int_type.IntType.{IntType}
 use Rattle.arrays.specs.Shape.{Shape, FieldShape, int, boolean, utf8, list, dict, field}
 use Rattle.serde_json.specs.Data.{Data, Items, no_items, item}

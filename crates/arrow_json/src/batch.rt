@@ -77,7 +77,7 @@ fn read_columns(
     requires book { IsBookOf (fields_of fields.now) (map (option_map coding_of) book.now) }
     ensures ok { IfOk result (λ columns.
         HoldsColumns (fields_of fields.now) (map (option_map coding_of) book.now) rows (items_view values.now)
-            (length fields.now) columns.items) }
+        (length fields.now) columns.items) }
     ensures err { IfErr result
         (Tells (ColumnsFault (fields_of fields.now) (map (option_map coding_of) book.now) rows (items_view values.now))) }
 {

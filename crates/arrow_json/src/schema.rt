@@ -16,7 +16,9 @@ ghost use Rattle.arrow_json.specs.declared.path.Member.TheVariants as member;
 
 use crate::encoding::read_encoded;
 use crate::fault::{JsonFault, JsonFaultKind};
-use crate::member::{array_member, check_object, push, required, text_member, truth_member, unlike};
+use crate::member::{
+    array_member, check_object, push, required, text_member, truth_member, unlike,
+};
 use crate::path::{Member, Step};
 use crate::type_object::{read_type, type_name};
 use arrays::{DataType, Field, Schema};
