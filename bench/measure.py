@@ -1,7 +1,8 @@
 #!/usr/bin/env python3
-"""Measures `arrowtab stats` beside another program, on a file of integers or one of integers, texts and truth values.
+"""Measures `arrowtab stats` beside another program, on a file of integers or one of integers, texts and truth values, or
+`arrowtab export` on the latter.
 
-    bench/measure.py ints|mixed [MEGABYTES] [PEER..]
+    bench/measure.py ints|mixed|export [MEGABYTES] [PEER..]
 
 PEER is a program with its first arguments, to which the file's name is added; it has to print the same.
 The runs alternate; printed are the medians of wall time, the peak memory, and their ratios. Only ratios of
@@ -18,9 +19,10 @@ import tempfile
 import time
 
 TOP = os.path.dirname(os.path.dirname(os.path.abspath(__file__)))
-ARROWTAB = [os.path.join(TOP, "build", "arrowtab"), "stats"]
+ARROWTAB = os.path.join(TOP, "build", "arrowtab")
 INTS = [("small", "int", 16, True), ("flags", "int", 8, False), ("middle", "int", 32, True), ("large", "int", 64, True)]
-MIXES = {"ints": INTS, "mixed": INTS[2:] + [("word", "utf8"), ("truth", "bool")]}
+MIXED = INTS[2:] + [("word", "utf8"), ("truth", "bool")]
+MIXES = {"ints": INTS, "mixed": MIXED, "export": MIXED}
 ROWS = 50_000
 WORDS = [f"word-{number}" for number in range(1000)]
 
@@ -90,7 +92,8 @@ def main():
     if len(sys.argv) < 2 or sys.argv[1] not in MIXES:
         sys.exit(__doc__)
     size = float(sys.argv[2] if len(sys.argv) > 2 else 100) * 1_000_000
-    programs = [ARROWTAB] + ([sys.argv[3:]] if len(sys.argv) > 3 else [])
+    ours = [ARROWTAB, "export" if sys.argv[1] == "export" else "stats"]
+    programs = [ours] + ([sys.argv[3:]] if len(sys.argv) > 3 else [])
     with tempfile.TemporaryDirectory() as room:
         path = os.path.join(room, "columns.json")
         write(path, MIXES[sys.argv[1]], size)
