@@ -6,3 +6,4 @@ pub mod Items
 pub mod Batches
 pub mod Texts
 pub mod Printed
+pub mod ReadBack

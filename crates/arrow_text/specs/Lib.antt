@@ -7,3 +7,4 @@ pub mod BatchData
 pub mod Dictionaries
 pub mod DictionaryData
 pub mod Text
+pub mod Plain

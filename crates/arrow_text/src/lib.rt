@@ -6,6 +6,7 @@ mod column;
 mod dictionaries;
 mod entry;
 pub mod file;
+pub mod laws;
 mod lists;
 mod number;
 mod output;

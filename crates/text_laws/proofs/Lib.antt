@@ -1,0 +1,2 @@
+-- What the laws rest on.
+pub mod PlainColumns

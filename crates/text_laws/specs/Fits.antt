@@ -1,0 +1,21 @@
+-- Columns whose text has numbers of at most 64 bits, as all columns in memory are: their slots, bytes and list items are counted by
+-- 64 bits, and their numbers are of their type.
+use Rattle.std.specs.Prelude.{ℕ, ◌<◌, ◌^◌, List, length, sum_by, ⊤}
+use Rattle.std.specs.List.{AllByRecursion}
+use Rattle.arrays.specs.Item.{Item}
+use Rattle.arrays.specs.Kind as kind
+use Rattle.arrays.specs.Lengths.{inner_items}
+use Rattle.arrays.specs.Shape.{Shape, FieldShape, int, boolean, utf8, list, dict, field}
+use Rattle.arrays.specs.Typed.{IsItemOf}
+use Rattle.arrow_text.specs.ColumnData.{item_length}
+
+abbrev mutual
+  pub FitsField : FieldShape → List Item → Type 0
+  FitsField (field name nullable ty) items = (length items < 2 ^ 64) × FitsShape ty items
+
+  pub FitsShape : Shape → List Item → Type 0
+  FitsShape (int t) items = AllByRecursion (IsItemOf (kind.int t)) items
+  FitsShape boolean items = ⊤
+  FitsShape utf8 items = sum_by item_length items < 2 ^ 64
+  FitsShape (list f) items = (sum_by item_length items < 2 ^ 64) × FitsField f (inner_items items)
+  FitsShape dict items = ⊤

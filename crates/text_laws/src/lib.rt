@@ -1,0 +1,4 @@
+//! What holds of the texts of files.
+#![tactic(auto)]
+
+pub mod laws;
