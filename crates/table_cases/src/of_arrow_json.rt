@@ -1,5 +1,6 @@
 //! Files of JSON: what is told of those that can't be read.
 
+mod dictionaries;
 mod lists;
 mod values;
 
@@ -122,7 +123,7 @@ const FIELDS: [(&str, &str); 13] = [
     ),
     (
         r#","nullable":true,"type":{"name":"int","bitWidth":8,"isSigned":true},"dictionary":{}"#,
-        "J4 UnsupportedType at /schema/fields/0/type",
+        "J2 MissingMember at /schema/fields/0/dictionary/id",
     ),
 ];
 

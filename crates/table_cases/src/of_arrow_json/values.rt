@@ -225,7 +225,7 @@ fn reads_the_values(rt: HostRuntime) -> Result<(), Fail> {
 }
 
 /// Each kind of fault, and how it is told.
-const KINDS: [(JsonFaultKind, &str); 21] = [
+const KINDS: [(JsonFaultKind, &str); 23] = [
     (JsonFaultKind::NotJson, "J1 NotJson"),
     (JsonFaultKind::MissingMember, "J2 MissingMember"),
     (JsonFaultKind::WrongMember, "J3 WrongMember"),
@@ -233,6 +233,8 @@ const KINDS: [(JsonFaultKind, &str); 21] = [
     (JsonFaultKind::BadNumber, "J5 BadNumber"),
     (JsonFaultKind::BadOffset, "J6 BadOffset"),
     (JsonFaultKind::CountDiffers, "J7 CountDiffers"),
+    (JsonFaultKind::NoDictionary, "J8 NoDictionary"),
+    (JsonFaultKind::DictionaryTwice, "J9 DictionaryTwice"),
     (
         JsonFaultKind::Layout(LayoutFault::MissingBuffer),
         "J10 Layout V1 MissingBuffer",
