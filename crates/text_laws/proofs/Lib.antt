@@ -1,2 +1,4 @@
 -- What the laws rest on.
 pub mod PlainColumns
+pub mod PlainSchemas
+pub mod PlainBatches

@@ -1,12 +1,13 @@
 -- Columns whose text has numbers of at most 64 bits, as all columns in memory are: their slots, bytes and list items are counted by
 -- 64 bits, and their numbers are of their type.
-use Rattle.std.specs.Prelude.{ℕ, ◌<◌, ◌^◌, List, length, sum_by, ⊤}
+use Rattle.std.specs.Prelude.{ℕ, ◌<◌, ◌^◌, List, [], ◌∷◌, length, sum_by, ⊤}
 use Rattle.std.specs.List.{AllByRecursion}
 use Rattle.arrays.specs.Item.{Item}
 use Rattle.arrays.specs.Kind as kind
 use Rattle.arrays.specs.Lengths.{inner_items}
 use Rattle.arrays.specs.Shape.{Shape, FieldShape, int, boolean, utf8, list, dict, field}
 use Rattle.arrays.specs.Typed.{IsItemOf}
+use Rattle.arrow_text.specs.BatchData.{Table}
 use Rattle.arrow_text.specs.ColumnData.{item_length}
 
 abbrev mutual
@@ -19,3 +20,20 @@ abbrev mutual
   FitsShape utf8 items = sum_by item_length items < 2 ^ 64
   FitsShape (list f) items = (sum_by item_length items < 2 ^ 64) × FitsField f (inner_items items)
   FitsShape dict items = ⊤
+
+-- Columns under their fields.
+abbrev pub FitColumns : List FieldShape → List (List Item) → Type 0
+FitColumns [] columns = ⊤
+FitColumns (f ∷ fields) [] = ⊤
+FitColumns (f ∷ fields) (items ∷ columns) = FitsField f items × FitColumns fields columns
+
+pub record FitsTable (fields : List FieldShape) (t : Table) : Type 0 where
+  pub rows : t.rows < 2 ^ 64
+  pub columns : FitColumns fields t.columns
+
+abbrev pub FitTables : List FieldShape → List Table → Type 0
+FitTables fields tables = AllByRecursion (FitsTable fields) tables
+
+-- Each dictionary has so few texts.
+abbrev pub AreSmall : List (List (List ℕ)) → Type 0
+AreSmall dictionaries = AllByRecursion (λ texts. length texts < 2 ^ 64) dictionaries
