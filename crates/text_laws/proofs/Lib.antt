@@ -2,3 +2,4 @@
 pub mod PlainColumns
 pub mod PlainSchemas
 pub mod PlainBatches
+pub mod PlainDocuments

@@ -102,7 +102,7 @@ plain_column_plain : (value : Item → Data) (name : List ℕ) (items : List Ite
 plain_column_plain value name items few plain =
     (plain, (refl, (refl, (refl, tt))), (flags_plain items, (refl, (refl, tt)), sized_plain (length items) name few))
 
-text_column_plain : (name : List ℕ) (items : List Item) → length items < 2 ^ 64 → sum_by item_length items < 2 ^ 64 → IsPlain (text_column name items)
+pub text_column_plain : (name : List ℕ) (items : List Item) → length items < 2 ^ 64 → sum_by item_length items < 2 ^ 64 → IsPlain (text_column name items)
 text_column_plain name items few short =
     (each_plain text_data text_plain items, (refl, (refl, (refl, (refl, tt)))),
      (offsets_plain 0 items (omega (arith, short)), (refl, (refl, (refl, tt))), (flags_plain items, (refl, (refl, tt)), sized_plain (length items) name few)))

@@ -9,6 +9,7 @@ use Rattle.arrays.specs.Shape.{Shape, FieldShape, int, boolean, utf8, list, dict
 use Rattle.arrays.specs.Typed.{IsItemOf}
 use Rattle.arrow_text.specs.BatchData.{Table}
 use Rattle.arrow_text.specs.ColumnData.{item_length}
+use Rattle.arrow_text.specs.Dictionaries.{dictionaries_from}
 
 abbrev mutual
   pub FitsField : FieldShape → List Item → Type 0
@@ -37,3 +38,13 @@ FitTables fields tables = AllByRecursion (FitsTable fields) tables
 -- Each dictionary has so few texts.
 abbrev pub AreSmall : List (List (List ℕ)) → Type 0
 AreSmall dictionaries = AllByRecursion (λ texts. length texts < 2 ^ 64) dictionaries
+
+-- Each dictionary has so few texts, of so few bytes together.
+abbrev pub FitDictionaries : List (List (List ℕ)) → Type 0
+FitDictionaries dictionaries = AllByRecursion (λ texts. (length texts < 2 ^ 64) × (sum_by length texts < 2 ^ 64)) dictionaries
+
+-- A file of tables under fields.
+pub record FitsFile (fields : List FieldShape) (tables : List Table) : Type 0 where
+  pub few : length fields < 2 ^ 64
+  pub held : FitTables fields tables
+  pub coded : FitDictionaries (dictionaries_from 0 fields tables)

@@ -1,12 +1,16 @@
-ghost use Rattle.std.specs.Prelude.{ℕ, ◌<◌, ◌^◌, List, length};
+ghost use Rattle.std.specs.Prelude.{◌≡◌, ◌≤◌, Some, ℕ, ◌<◌, ◌^◌, List, length};
+ghost use Rattle.arrays.specs.File.{File};
 ghost use Rattle.arrays.specs.Item.{Item};
 ghost use Rattle.arrays.specs.Shape.{FieldShape};
-ghost use Rattle.arrow_text.specs.BatchData.{Table, batches_data};
+ghost use Rattle.arrow_text.specs.BatchData.{Table, batches_data, tables_of};
 ghost use Rattle.arrow_text.specs.ColumnData.{column_data};
 ghost use Rattle.arrow_text.specs.Plain.{ArePlain, IsPlain};
 ghost use Rattle.arrow_text.specs.SchemaData.{schema_data};
+ghost use Rattle.arrow_text.specs.Text.{document, text};
+ghost use Rattle.serde_json.specs.Data.{depth};
+ghost use Rattle.serde_json.specs.Read.{max_depth, read};
 ghost use Rattle.arrow_text.specs.Slots.{code_in};
-ghost use Rattle.text_laws.specs.Fits.{AreSmall, FitTables, FitsField};
+ghost use Rattle.text_laws.specs.Fits.{AreSmall, FitTables, FitsField, FitsFile};
 
 /// A column that fits is a plain value: its numbers are of at most 64 bits, and its members stand in the order of their names.
 #[tactic(auto, using(crate::proofs::PlainColumns::column_plain))]
@@ -28,5 +32,14 @@ pub fn schemas_are_plain()
 pub fn batches_are_plain()
     ensures { (dictionaries : List (List (List ℕ))) (fields : List FieldShape) (tables : List Table)
         → AreSmall dictionaries → FitTables fields tables → ArePlain (batches_data dictionaries fields tables) }
+{
+}
+
+/// The text of a file that fits is JSON of the file's document, where that isn't nested deeper than JSON is read.
+#[tactic(auto, using(crate::proofs::PlainDocuments::text_read_back))]
+pub fn texts_are_read_as_documents()
+    ensures { (f : File) → FitsFile f.fields (tables_of f.batches)
+        → depth (document f.fields (tables_of f.batches)) ≤ max_depth
+        → read (text f) ≡ Some (document f.fields (tables_of f.batches)) }
 {
 }
