@@ -3,3 +3,4 @@ pub mod PlainColumns
 pub mod PlainSchemas
 pub mod PlainBatches
 pub mod PlainDocuments
+pub mod Depths

@@ -1,7 +1,8 @@
-ghost use Rattle.std.specs.Prelude.{◌≡◌, ◌≤◌, Some, ℕ, ◌<◌, ◌^◌, List, length};
+ghost use Rattle.std.specs.Prelude.{◌≡◌, ◌+◌, ◌*◌, ◌≤◌, Some, ℕ, ◌<◌, ◌^◌, List, length};
 ghost use Rattle.arrays.specs.File.{File};
 ghost use Rattle.arrays.specs.Item.{Item};
-ghost use Rattle.arrays.specs.Shape.{FieldShape};
+ghost use Rattle.arrays.specs.Kind as kind;
+ghost use Rattle.arrays.specs.Shape.{FieldShape, kind_of_field};
 ghost use Rattle.arrow_text.specs.BatchData.{Table, batches_data, tables_of};
 ghost use Rattle.arrow_text.specs.ColumnData.{column_data};
 ghost use Rattle.arrow_text.specs.Plain.{ArePlain, IsPlain};
@@ -41,5 +42,13 @@ pub fn texts_are_read_as_documents()
     ensures { (f : File) → FitsFile f.fields (tables_of f.batches)
         → depth (document f.fields (tables_of f.batches)) ≤ max_depth
         → read (text f) ≡ Some (document f.fields (tables_of f.batches)) }
+{
+}
+
+/// A column is nested two deep, and two more for each list around its innermost items.
+#[tactic(auto, using(crate::proofs::Depths::column_depth))]
+pub fn columns_are_shallow()
+    ensures { (code : List ℕ → ℕ) (f : FieldShape) (items : List Item)
+        → depth (column_data code f items) ≤ 2 + 2 * kind.depth (kind_of_field f) }
 {
 }

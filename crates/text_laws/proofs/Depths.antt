@@ -1,0 +1,83 @@
+-- How deep the documents of files are.
+use Rattle.std.proofs.Common.{◌≡◌, ℕ, zero, suc, max, ◌+◌, ◌*◌, ◌≤◌, ℤ, pos, List, [], ◌∷◌, Bool, true, false, not, refl, ap₂, arith}
+use Rattle.std.specs.List.{AllByRecursion}
+use Rattle.types.specs.declared.int_type.IntType.{IntType}
+use Rattle.types.specs.declared.int_type.Width.{Width}
+use Rattle.types.specs.declared.int_type.Width.TheVariants.{W8, W16, W32, W64}
+use Rattle.arrays.specs.Item as column
+use Rattle.arrays.specs.Item.{Item, is_null}
+use Rattle.arrays.specs.Kind as kind
+use Rattle.arrays.specs.Lengths.{inner_items}
+use Rattle.arrays.specs.Shape.{Shape, FieldShape, int, boolean, utf8, list, dict, field, kind_of_field, kind_of_shape}
+use Rattle.serde_json.specs.Data.{Data, depth, items_depth}
+use Rattle.arrow_text.specs.ColumnData.{code_data, column_data, each, flag_data, int_data, item_length, list_column, number_data, offsets_data, plain_column, shaped_column, text_column, text_data, truth_data, valid_data}
+
+each_flat : (value : Item → Data) → ((x : Item) → depth (value x) ≡ 0) → (items : List Item) → items_depth (each value items) ≡ 0
+each_flat value flat [] = refl
+each_flat value flat (x ∷ xs) = ap₂ max (flat x) (each_flat value flat xs)
+
+flag_flat : (b : Bool) → depth (flag_data b) ≡ 0
+flag_flat true = refl
+flag_flat false = refl
+
+truth_flat : (x : Item) → depth (truth_data x) ≡ 0
+truth_flat column.null = refl
+truth_flat (column.int z) = refl
+truth_flat (column.boolean b) = flag_flat b
+truth_flat (column.text t) = refl
+truth_flat (column.list l) = refl
+
+text_flat : (x : Item) → depth (text_data x) ≡ 0
+text_flat column.null = refl
+text_flat (column.int z) = refl
+text_flat (column.boolean b) = refl
+text_flat (column.text t) = refl
+text_flat (column.list l) = refl
+
+int_flat : (w : Width) (z : ℤ) → depth (int_data w z) ≡ 0
+int_flat W8 z = refl
+int_flat W16 z = refl
+int_flat W32 z = refl
+int_flat W64 z = refl
+
+number_flat : (t : IntType) (x : Item) → depth (number_data t x) ≡ 0
+number_flat t column.null = int_flat t.bits (pos 0)
+number_flat t (column.int z) = int_flat t.bits z
+number_flat t (column.boolean b) = int_flat t.bits (pos 0)
+number_flat t (column.text bytes) = int_flat t.bits (pos 0)
+number_flat t (column.list l) = int_flat t.bits (pos 0)
+
+code_flat : (code : List ℕ → ℕ) (x : Item) → depth (code_data code x) ≡ 0
+code_flat code column.null = refl
+code_flat code (column.int z) = refl
+code_flat code (column.boolean b) = refl
+code_flat code (column.text t) = refl
+code_flat code (column.list l) = refl
+
+flags_flat : (items : List Item) → items_depth (each valid_data items) ≡ 0
+flags_flat = each_flat valid_data (λ x. flag_flat (not (is_null x)))
+
+offsets_flat : (start : ℕ) (items : List Item) → items_depth (offsets_data start items) ≡ 0
+offsets_flat start [] = refl
+offsets_flat start (x ∷ xs) = ap₂ max refl (offsets_flat (start + item_length x) xs)
+
+plain_depth : (value : Item → Data) (name : List ℕ) (items : List Item) → ((x : Item) → depth (value x) ≡ 0) → depth (plain_column value name items) ≤ 2
+plain_depth value name items flat = omega (arith, each_flat value flat items, flags_flat items)
+
+text_depth : (name : List ℕ) (items : List Item) → depth (text_column name items) ≤ 2
+text_depth name items = omega (arith, each_flat text_data text_flat items, offsets_flat 0 items, flags_flat items)
+
+list_depth : (child : Data) (name : List ℕ) (items : List Item) (n : ℕ) → depth child ≤ n → depth (list_column child name items) ≤ n + 2
+list_depth child name items n low = omega (arith, low, offsets_flat 0 items, flags_flat items)
+
+mutual
+  pub column_depth : (code : List ℕ → ℕ) (f : FieldShape) (items : List Item) → depth (column_data code f items) ≤ 2 + 2 * kind.depth (kind_of_field f)
+  column_depth code (field name nullable ty) items = shaped_depth code ty name items
+
+  shaped_depth : (code : List ℕ → ℕ) (ty : Shape) (name : List ℕ) (items : List Item) → depth (shaped_column code ty name items) ≤ 2 + 2 * kind.depth (kind_of_shape ty)
+  shaped_depth code (int t) name items = omega (arith, plain_depth (number_data t) name items (number_flat t))
+  shaped_depth code boolean name items = omega (arith, plain_depth truth_data name items truth_flat)
+  shaped_depth code utf8 name items = omega (arith, text_depth name items)
+  shaped_depth code (list f) name items =
+      omega (arith, list_depth (column_data code f (inner_items items)) name items (2 + 2 * kind.depth (kind_of_field f)) (column_depth code f (inner_items items)))
+  shaped_depth code dict name items = omega (arith, plain_depth (code_data code) name items (code_flat code))
