@@ -9,8 +9,15 @@ use Rattle.arrays.specs.Item.{Item, is_null}
 use Rattle.arrays.specs.Kind as kind
 use Rattle.arrays.specs.Lengths.{inner_items}
 use Rattle.arrays.specs.Shape.{Shape, FieldShape, int, boolean, utf8, list, dict, field, kind_of_field, kind_of_shape}
-use Rattle.serde_json.specs.Data.{Data, depth, items_depth}
+use Rattle.serde_json.specs.Data.{Data, Items, depth, items_depth, members_depth}
+use Rattle.arrow_text.specs.BatchData.{Table, batch_data, batches_data, columns_data}
 use Rattle.arrow_text.specs.ColumnData.{code_data, column_data, each, flag_data, int_data, item_length, list_column, number_data, offsets_data, plain_column, shaped_column, text_column, text_data, truth_data, valid_data}
+use Rattle.arrow_text.specs.Dictionaries.{dictionaries_from}
+use Rattle.arrow_text.specs.DictionaryData.{entries_data, entry_data, text_items, with_field}
+use Rattle.arrow_text.specs.SchemaData.{field_data, fields_data, schema_data}
+use Rattle.arrow_text.specs.Slots.{code_in}
+use Rattle.arrow_text.specs.Text.{document, has_dictionary, last_members}
+use Rattle.text_laws.specs.Fits.{AreShallow}
 
 each_flat : (value : Item → Data) → ((x : Item) → depth (value x) ≡ 0) → (items : List Item) → items_depth (each value items) ≡ 0
 each_flat value flat [] = refl
@@ -81,3 +88,61 @@ mutual
   shaped_depth code (list f) name items =
       omega (arith, list_depth (column_data code f (inner_items items)) name items (2 + 2 * kind.depth (kind_of_field f)) (column_depth code f (inner_items items)))
   shaped_depth code dict name items = omega (arith, plain_depth (code_data code) name items (code_flat code))
+
+-- ---- batches and dictionaries
+
+columns_depth : (dictionaries : List (List (List ℕ))) (fields : List FieldShape) (columns : List (List Item)) → AreShallow fields → items_depth (columns_data dictionaries fields columns) ≤ 18
+columns_depth [] fields columns h = omega arith
+columns_depth (texts ∷ dictionaries) [] columns h = omega arith
+columns_depth (texts ∷ dictionaries) (f ∷ fields) [] h = omega arith
+columns_depth (texts ∷ dictionaries) (f ∷ fields) (items ∷ columns) h =
+    omega (arith, column_depth (code_in texts) f items, h.0, columns_depth dictionaries fields columns h.1)
+
+batch_depth : (dictionaries : List (List (List ℕ))) (fields : List FieldShape) (t : Table) → AreShallow fields → depth (batch_data dictionaries fields t) ≤ 20
+batch_depth dictionaries fields t h = omega (arith, columns_depth dictionaries fields t.columns h)
+
+batches_depth : (dictionaries : List (List (List ℕ))) (fields : List FieldShape) (tables : List Table) → AreShallow fields → items_depth (batches_data dictionaries fields tables) ≤ 20
+batches_depth dictionaries fields [] h = omega arith
+batches_depth dictionaries fields (t ∷ tables) h = omega (arith, batch_depth dictionaries fields t h, batches_depth dictionaries fields tables h)
+
+entry_depth : (id : ℕ) (name : List ℕ) (texts : List (List ℕ)) → depth (entry_data id name texts) ≤ 5
+entry_depth id name texts = omega (arith, text_depth name (text_items texts))
+
+with_field_depth : (id : ℕ) (f : FieldShape) (texts : List (List ℕ)) (others : Items) → items_depth others ≤ 5 → items_depth (with_field id f texts others) ≤ 5
+with_field_depth id (field name nullable (int t)) texts others h = h
+with_field_depth id (field name nullable boolean) texts others h = h
+with_field_depth id (field name nullable utf8) texts others h = h
+with_field_depth id (field name nullable (list f)) texts others h = h
+with_field_depth id (field name nullable dict) texts others h = omega (arith, h, entry_depth id name texts)
+
+entries_depth : (place : ℕ) (dictionaries : List (List (List ℕ))) (fields : List FieldShape) → items_depth (entries_data place dictionaries fields) ≤ 5
+entries_depth place [] fields = omega arith
+entries_depth place (texts ∷ dictionaries) [] = omega arith
+entries_depth place (texts ∷ dictionaries) (f ∷ fields) = with_field_depth place f texts (entries_data (suc place) dictionaries fields) (entries_depth (suc place) dictionaries fields)
+
+-- ---- schemas
+
+field_depth : (id : ℕ) (f : FieldShape) → depth (field_data id f) ≤ 3 + 2 * kind.depth (kind_of_field f)
+field_depth id (field name nullable (int t)) = omega arith
+field_depth id (field name nullable boolean) = omega arith
+field_depth id (field name nullable utf8) = omega arith
+field_depth id (field name nullable (list f)) = omega (arith, field_depth id f)
+field_depth id (field name nullable dict) = omega arith
+
+fields_depth : (place : ℕ) (fields : List FieldShape) → AreShallow fields → items_depth (fields_data place fields) ≤ 19
+fields_depth place [] h = omega arith
+fields_depth place (f ∷ fields) h = omega (arith, field_depth place f, h.0, fields_depth (suc place) fields h.1)
+
+schema_depth : (fields : List FieldShape) → AreShallow fields → depth (schema_data fields) ≤ 21
+schema_depth fields h = omega (arith, fields_depth 0 fields h)
+
+-- ---- documents
+
+last_depth : (b : Bool) (dictionaries : List (List (List ℕ))) (fields : List FieldShape) → AreShallow fields → members_depth (last_members b dictionaries fields) ≤ 21
+last_depth true dictionaries fields h = omega (arith, entries_depth 0 dictionaries fields, schema_depth fields h)
+last_depth false dictionaries fields h = omega (arith, schema_depth fields h)
+
+pub document_depth : (fields : List FieldShape) (tables : List Table) → AreShallow fields → depth (document fields tables) ≤ 22
+document_depth fields tables h =
+    let dictionaries = dictionaries_from 0 fields tables in
+    omega (arith, batches_depth dictionaries fields tables h, last_depth (has_dictionary fields) dictionaries fields h)

@@ -7,7 +7,7 @@ use Rattle.arrays.specs.File.{File}
 use Rattle.arrays.specs.Item.{text}
 use Rattle.arrays.specs.Shape.{Shape, FieldShape, int, boolean, utf8, list, dict, field}
 use Rattle.serde_json.specs.Data.{Items, depth}
-use Rattle.serde_json.specs.Read.{max_depth, read}
+use Rattle.serde_json.specs.Read.{read}
 use Rattle.arrow_text.specs.BatchData.{Table, tables_of}
 use Rattle.arrow_text.specs.ColumnData.{item_length}
 use Rattle.arrow_text.specs.Dictionaries.{dictionaries_from}
@@ -17,6 +17,7 @@ use Rattle.arrow_text.specs.Text as printed
 use Rattle.arrow_text.specs.Text.{document, has_dictionary, last_members}
 use Rattle.arrow_text.proofs.ReadBack.{read_back}
 use Rattle.text_laws.specs.Fits.{AreSmall, FitDictionaries, FitTables, FitsFile}
+use Rattle.text_laws.proofs.Depths.{document_depth}
 use Rattle.text_laws.proofs.PlainBatches.{batches_plain}
 use Rattle.text_laws.proofs.PlainColumns.{text_column_plain}
 use Rattle.text_laws.proofs.PlainSchemas.{schema_plain}
@@ -68,7 +69,8 @@ document_plain fields tables h =
     let last = last_plain (has_dictionary fields) dictionaries fields h.few h.coded in
     (batches_plain dictionaries fields tables (small_all dictionaries h.coded) h.held, last.0, last.1)
 
-pub text_read_back : (f : File) → FitsFile f.fields (tables_of f.batches) → depth (document f.fields (tables_of f.batches)) ≤ max_depth
-    → read (printed.text f) ≡ Some (document f.fields (tables_of f.batches))
+pub text_read_back : (f : File) → FitsFile f.fields (tables_of f.batches) → read (printed.text f) ≡ Some (document f.fields (tables_of f.batches))
 unfolding printed.text
-text_read_back f fit shallow = read_back (document f.fields (tables_of f.batches)) (document_plain f.fields (tables_of f.batches) fit) shallow
+text_read_back f fit =
+    let low : depth (document f.fields (tables_of f.batches)) ≤ 22 = document_depth f.fields (tables_of f.batches) fit.shallow in
+    read_back (document f.fields (tables_of f.batches)) (document_plain f.fields (tables_of f.batches) fit) (omega (arith, low))

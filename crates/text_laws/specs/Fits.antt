@@ -1,11 +1,11 @@
 -- Columns whose text has numbers of at most 64 bits, as all columns in memory are: their slots, bytes and list items are counted by
 -- 64 bits, and their numbers are of their type.
-use Rattle.std.specs.Prelude.{ℕ, ◌<◌, ◌^◌, List, [], ◌∷◌, length, sum_by, ⊤}
+use Rattle.std.specs.Prelude.{ℕ, ◌<◌, ◌≤◌, ◌^◌, List, [], ◌∷◌, length, sum_by, ⊤}
 use Rattle.std.specs.List.{AllByRecursion}
 use Rattle.arrays.specs.Item.{Item}
 use Rattle.arrays.specs.Kind as kind
 use Rattle.arrays.specs.Lengths.{inner_items}
-use Rattle.arrays.specs.Shape.{Shape, FieldShape, int, boolean, utf8, list, dict, field}
+use Rattle.arrays.specs.Shape.{Shape, FieldShape, int, boolean, utf8, list, dict, field, kind_of_field}
 use Rattle.arrays.specs.Typed.{IsItemOf}
 use Rattle.arrow_text.specs.BatchData.{Table}
 use Rattle.arrow_text.specs.ColumnData.{item_length}
@@ -43,8 +43,13 @@ AreSmall dictionaries = AllByRecursion (λ texts. length texts < 2 ^ 64) diction
 abbrev pub FitDictionaries : List (List (List ℕ)) → Type 0
 FitDictionaries dictionaries = AllByRecursion (λ texts. (length texts < 2 ^ 64) × (sum_by length texts < 2 ^ 64)) dictionaries
 
+-- Each field has at most 8 lists in one another.
+abbrev pub AreShallow : List FieldShape → Type 0
+AreShallow fields = AllByRecursion (λ f. kind.depth (kind_of_field f) ≤ 8) fields
+
 -- A file of tables under fields.
 pub record FitsFile (fields : List FieldShape) (tables : List Table) : Type 0 where
   pub few : length fields < 2 ^ 64
+  pub shallow : AreShallow fields
   pub held : FitTables fields tables
   pub coded : FitDictionaries (dictionaries_from 0 fields tables)

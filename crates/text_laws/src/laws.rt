@@ -9,7 +9,7 @@ ghost use Rattle.arrow_text.specs.Plain.{ArePlain, IsPlain};
 ghost use Rattle.arrow_text.specs.SchemaData.{schema_data};
 ghost use Rattle.arrow_text.specs.Text.{document, text};
 ghost use Rattle.serde_json.specs.Data.{depth};
-ghost use Rattle.serde_json.specs.Read.{max_depth, read};
+ghost use Rattle.serde_json.specs.Read.{read};
 ghost use Rattle.arrow_text.specs.Slots.{code_in};
 ghost use Rattle.text_laws.specs.Fits.{AreSmall, FitTables, FitsField, FitsFile};
 
@@ -36,11 +36,10 @@ pub fn batches_are_plain()
 {
 }
 
-/// The text of a file that fits is JSON of the file's document, where that isn't nested deeper than JSON is read.
+/// The text of a file that fits is JSON of the file's document.
 #[tactic(auto, using(crate::proofs::PlainDocuments::text_read_back))]
 pub fn texts_are_read_as_documents()
     ensures { (f : File) → FitsFile f.fields (tables_of f.batches)
-        → depth (document f.fields (tables_of f.batches)) ≤ max_depth
         → read (text f) ≡ Some (document f.fields (tables_of f.batches)) }
 {
 }
