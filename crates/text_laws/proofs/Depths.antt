@@ -1,6 +1,5 @@
 -- How deep the documents of files are.
-use Rattle.std.proofs.Common.{◌≡◌, ℕ, zero, suc, max, ◌+◌, ◌*◌, ◌≤◌, ℤ, pos, List, [], ◌∷◌, Bool, true, false, not, refl, ap₂, arith}
-use Rattle.std.specs.List.{AllByRecursion}
+use Rattle.std.proofs.Common.{◌≡◌, ℕ, suc, max, ◌+◌, ◌*◌, ◌≤◌, ℤ, pos, List, [], ◌∷◌, Bool, true, false, not, refl, ap₂, arith}
 use Rattle.types.specs.declared.int_type.IntType.{IntType}
 use Rattle.types.specs.declared.int_type.Width.{Width}
 use Rattle.types.specs.declared.int_type.Width.TheVariants.{W8, W16, W32, W64}

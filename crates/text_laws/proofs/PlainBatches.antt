@@ -1,6 +1,5 @@
 -- Batches that fit are plain values.
-use Rattle.std.proofs.Common.{◌≡◌, ℕ, ◌<◌, ◌^◌, List, [], ◌∷◌, length, refl}
-use Rattle.std.specs.Prelude.{⊤}
+use Rattle.std.proofs.Common.{ℕ, List, [], ◌∷◌, refl}
 use Rattle.arrays.specs.Item.{Item}
 use Rattle.arrays.specs.Shape.{FieldShape}
 use Rattle.arrow_text.specs.BatchData.{Table, batch_data, batches_data, columns_data}

@@ -1,11 +1,11 @@
 -- The documents of files that fit are plain values.
-use Rattle.std.proofs.Common.{◌≡◌, ◌∙◌, ℕ, suc, ◌+◌, ◌<◌, ◌≤◌, ◌^◌, List, [], ◌∷◌, length, map, Bool, true, false, Some, codes, refl, sym, ap, subst, arith}
-use Rattle.std.specs.Prelude.{sum_by, ⊤}
+use Rattle.std.proofs.Common.{◌≡◌, ◌∙◌, ℕ, suc, ◌+◌, ◌<◌, ◌≤◌, ◌^◌, List, [], ◌∷◌, length, Bool, true, false, Some, codes, refl, sym, ap, subst, arith}
+use Rattle.std.specs.Prelude.{sum_by}
 use Rattle.std.proofs.lemmas.List.{length-map}
 use Rattle.std.proofs.lemmas.List.Sums.{sum_by-cons}
 use Rattle.arrays.specs.File.{File}
 use Rattle.arrays.specs.Item.{text}
-use Rattle.arrays.specs.Shape.{Shape, FieldShape, int, boolean, utf8, list, dict, field}
+use Rattle.arrays.specs.Shape.{FieldShape, int, boolean, utf8, list, dict, field}
 use Rattle.serde_json.specs.Data.{Items, depth}
 use Rattle.serde_json.specs.Read.{read}
 use Rattle.arrow_text.specs.BatchData.{Table, tables_of}
@@ -16,7 +16,7 @@ use Rattle.arrow_text.specs.Plain.{AreBehind, ArePlain, ArePlainMembers, IsPlain
 use Rattle.arrow_text.specs.Text as printed
 use Rattle.arrow_text.specs.Text.{document, has_dictionary, last_members}
 use Rattle.arrow_text.proofs.ReadBack.{read_back}
-use Rattle.text_laws.specs.Fits.{AreSmall, FitDictionaries, FitTables, FitsFile}
+use Rattle.text_laws.specs.Fits.{AreSmall, FitDictionaries, FitsFile}
 use Rattle.text_laws.proofs.Depths.{document_depth}
 use Rattle.text_laws.proofs.PlainBatches.{batches_plain}
 use Rattle.text_laws.proofs.PlainColumns.{text_column_plain}
@@ -34,9 +34,11 @@ bytes_of_texts (t ∷ texts) =
     sum_by-cons item_length (text t) (text_items texts) ∙ ap (λ n. length t + n) (bytes_of_texts texts) ∙ sym (sum_by-cons length t texts)
 
 text_batch_plain : (name : List ℕ) (texts : List (List ℕ)) → length texts < 2 ^ 64 → sum_by length texts < 2 ^ 64 → IsPlain (text_batch name texts)
-text_batch_plain name texts few short =
-    ((text_column_plain name (text_items texts) (subst (λ n. n < 2 ^ 64) (sym (length-map texts text)) few) (subst (λ n. n < 2 ^ 64) (sym (bytes_of_texts texts)) short), tt),
-     (refl, tt), (few, tt, tt))
+text_batch_plain name texts few short = (
+  (text_column_plain name (text_items texts) (subst (λ n. n < 2 ^ 64) (sym (length-map texts text)) few) (subst (λ n. n < 2 ^ 64) (sym (bytes_of_texts texts)) short), tt),
+  (refl, tt),
+  (few, tt, tt),
+)
 
 entry_plain : (id : ℕ) (name : List ℕ) (texts : List (List ℕ)) → id < 2 ^ 64 → length texts < 2 ^ 64 → sum_by length texts < 2 ^ 64 → IsPlain (entry_data id name texts)
 entry_plain id name texts small few short = (text_batch_plain name texts few short, (refl, tt), (small, tt, tt))

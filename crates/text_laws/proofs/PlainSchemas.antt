@@ -1,13 +1,12 @@
 -- Schemas are plain values.
-use Rattle.std.proofs.Common.{◌≡◌, ℕ, suc, ◌+◌, ◌*◌, ◌<◌, ◌≤◌, ◌^◌, List, [], ◌∷◌, length, Bool, refl, arith, lit<}
-use Rattle.std.specs.Prelude.{⊤}
+use Rattle.std.proofs.Common.{ℕ, suc, ◌+◌, ◌*◌, ◌<◌, ◌≤◌, ◌^◌, List, [], ◌∷◌, length, Bool, refl, arith, lit<}
 use Rattle.types.specs.declared.int_type.IntType.{IntType}
 use Rattle.types.specs.declared.int_type.Width.{Width}
 use Rattle.types.specs.declared.int_type.Width.TheVariants.{W8, W16, W32, W64}
 use Rattle.arrays.specs.Kind.{bytes_of, int32}
 use Rattle.arrays.specs.Shape.{Shape, FieldShape, int, boolean, utf8, list, dict, field}
 use Rattle.arrow_text.specs.Plain.{ArePlain, ArePlainMembers, IsPlain}
-use Rattle.arrow_text.specs.SchemaData.{children_data, dictionary_data, field_data, fields_data, int_type, named_members, schema_data, type_data}
+use Rattle.arrow_text.specs.SchemaData.{dictionary_data, field_data, fields_data, int_type, named_members, schema_data, type_data}
 
 width_small : (w : Width) → 8 * bytes_of w < 2 ^ 64
 width_small W8 = lit< tt

@@ -18,36 +18,31 @@ ghost use Rattle.text_laws.specs.Fits.{AreSmall, FitTables, FitsField, FitsFile}
 pub fn columns_are_plain()
     ensures { (texts : List (List ℕ)) → length texts < 2 ^ 64 → (f : FieldShape) (items : List Item) → FitsField f items
         → IsPlain (column_data (code_in texts) f items) }
-{
-}
+{}
 
 /// A schema is a plain value.
 #[tactic(auto, using(crate::proofs::PlainSchemas::schema_plain))]
 pub fn schemas_are_plain()
     ensures { (fields : List FieldShape) → length fields < 2 ^ 64 → IsPlain (schema_data fields) }
-{
-}
+{}
 
 /// Batches that fit are plain values.
 #[tactic(auto, using(crate::proofs::PlainBatches::batches_plain))]
 pub fn batches_are_plain()
     ensures { (dictionaries : List (List (List ℕ))) (fields : List FieldShape) (tables : List Table)
         → AreSmall dictionaries → FitTables fields tables → ArePlain (batches_data dictionaries fields tables) }
-{
-}
+{}
 
 /// The text of a file that fits is JSON of the file's document.
 #[tactic(auto, using(crate::proofs::PlainDocuments::text_read_back))]
 pub fn texts_are_read_as_documents()
     ensures { (f : File) → FitsFile f.fields (tables_of f.batches)
         → read (text f) ≡ Some (document f.fields (tables_of f.batches)) }
-{
-}
+{}
 
 /// A column is nested two deep, and two more for each list around its innermost items.
 #[tactic(auto, using(crate::proofs::Depths::column_depth))]
 pub fn columns_are_shallow()
     ensures { (code : List ℕ → ℕ) (f : FieldShape) (items : List Item)
         → depth (column_data code f items) ≤ 2 + 2 * kind.depth (kind_of_field f) }
-{
-}
+{}
