@@ -6,11 +6,11 @@ use Rattle.arrays.specs.Item.{Item}
 use Rattle.serde_json.specs.Data as data'
 use Rattle.serde_json.specs.Data.{Data, Items, item, no_items}
 use Rattle.serde_json.specs.Find.{get_item, as_array, as_object}
-use Rattle.arrow_json.specs.declared.path.Member.TheVariants as member
-use Rattle.arrow_json.specs.declared.path.Step.{Step}
-use Rattle.arrow_json.specs.declared.fault.JsonFaultKind.{JsonFaultKind}
+use Rattle.json_places.specs.declared.path.Member.TheVariants as member
+use Rattle.json_places.specs.declared.path.Step.{Step}
+use Rattle.json_places.specs.declared.fault.JsonFaultKind.{JsonFaultKind}
 use Rattle.arrow_json.specs.JsonMember.{IsObject, member_of, ListFault, EachFault, ReadsEach}
-use Rattle.arrow_json.specs.JsonNumber.{count_of}
+use Rattle.json_places.specs.JsonNumber.{count_of}
 use Rattle.arrow_json.specs.JsonSchema.{ReadsInt, only_item}
 use Rattle.arrow_json.specs.JsonColumn.{texts, slot_of, ReadsPlain}
 use Rattle.arrow_json.specs.JsonColumnFault.{ColumnFault}

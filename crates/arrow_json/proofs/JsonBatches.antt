@@ -11,17 +11,17 @@ use Rattle.types.proofs.ShapeLemmas.{kind_of_field-field_of}
 use Rattle.serde_json.specs.Find.{get_item, as_array, as_object}
 use Rattle.serde_json.specs.View.{view, items_view}
 use Rattle.serde_json.specs.declared.value.Value.{Value}
-use Rattle.arrow_json.specs.declared.path.Member.TheVariants as member
-use Rattle.arrow_json.specs.declared.path.Step.TheVariants as step
+use Rattle.json_places.specs.declared.path.Member.TheVariants as member
+use Rattle.json_places.specs.declared.path.Step.TheVariants as step
 use Rattle.arrow_json.specs.JsonMember.{member_of, Unlike, MemberFault, ListFault}
-use Rattle.arrow_json.specs.JsonNumber.{count_of}
+use Rattle.json_places.specs.JsonNumber.{count_of}
 use Rattle.arrow_json.proofs.JsonItems.{slice_get-front, slice_get-last}
 use Rattle.arrow_json.proofs.JsonColumnFaults.{at_index}
 use Rattle.arrays.specs.Seen.{Seen}
 use Rattle.serde_json.specs.Data.{Data, Items}
-use Rattle.arrow_json.specs.declared.fault.JsonFault.{JsonFault}
-use Rattle.arrow_json.specs.declared.fault.JsonFaultKind.TheVariants.{UnsupportedType}
-use Rattle.arrow_json.specs.JsonFault.{Tells, IsFault, IsUnder}
+use Rattle.json_places.specs.declared.fault.JsonFault.{JsonFault}
+use Rattle.json_places.specs.declared.fault.JsonFaultKind.TheVariants.{UnsupportedType}
+use Rattle.json_places.specs.JsonFault.{Tells, IsFault, IsUnder}
 use Rattle.arrow_json.specs.JsonBatch.{HoldsColumn, HoldsTop, HoldsColumns, IsBookOf}
 use Rattle.arrow_json.specs.JsonBook.{Coding}
 use Rattle.arrow_json.specs.JsonCodes.{ReadsCodes}

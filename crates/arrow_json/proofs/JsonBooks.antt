@@ -8,17 +8,17 @@ use Rattle.serde_json.specs.Find.{get_item, as_array, as_object}
 use Rattle.serde_json.specs.View.{items_view}
 use Rattle.serde_json.specs.declared.value.Value.{Value}
 use Rattle.serde_json.proofs.Views.{items_len-items_view}
-use Rattle.arrow_json.specs.declared.path.Member.TheVariants as member
-use Rattle.arrow_json.specs.declared.path.Step.{Step}
-use Rattle.arrow_json.specs.declared.path.Step.TheVariants as step
+use Rattle.json_places.specs.declared.path.Member.TheVariants as member
+use Rattle.json_places.specs.declared.path.Step.{Step}
+use Rattle.json_places.specs.declared.path.Step.TheVariants as step
 use Rattle.arrow_json.specs.EncodingParts.{parts_of}
 use Rattle.arrow_json.specs.declared.encoding.Encoding as reader
 use Rattle.arrow_json.specs.declared.book.Place.TheVariants.{Nowhere, Again}
-use Rattle.arrow_json.specs.declared.fault.JsonFault.{JsonFault}
-use Rattle.arrow_json.specs.declared.fault.JsonFaultKind.{JsonFaultKind}
-use Rattle.arrow_json.specs.declared.fault.JsonFaultKind.TheVariants.{NoDictionary, DictionaryTwice}
+use Rattle.json_places.specs.declared.fault.JsonFault.{JsonFault}
+use Rattle.json_places.specs.declared.fault.JsonFaultKind.{JsonFaultKind}
+use Rattle.json_places.specs.declared.fault.JsonFaultKind.TheVariants.{NoDictionary, DictionaryTwice}
 use Rattle.arrow_json.specs.BookParts.{IsPlace, IsFirst, IsNoDictionary, HasSome, IsCoding, IsCodingAt, AreCodings}
-use Rattle.arrow_json.specs.JsonFault.{IsFault, IsUnder, Tells}
+use Rattle.json_places.specs.JsonFault.{IsFault, IsUnder, Tells}
 use Rattle.arrow_json.specs.JsonMember.{member_of, IsObject, Unlike, MemberFault, EachFault, ReadsEach}
 use Rattle.arrow_json.specs.JsonEncoding.{Encoding, HasEncoding, id_of}
 use Rattle.arrow_json.specs.JsonEncodingFault.{EncodedFault}

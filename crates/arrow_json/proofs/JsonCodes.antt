@@ -15,13 +15,13 @@ use Rattle.arrays.specs.Kind.{int32}
 use Rattle.arrays.specs.Number.{IsOfType, natural}
 use Rattle.serde_json.specs.Data.{Data, Items}
 use Rattle.serde_json.specs.Find.{get_item}
-use Rattle.arrow_json.specs.declared.path.Member.TheVariants as member
-use Rattle.arrow_json.specs.declared.path.Step.TheVariants as step
-use Rattle.arrow_json.specs.declared.fault.JsonFault.{JsonFault}
-use Rattle.arrow_json.specs.declared.fault.JsonFaultKind.TheVariants.{WrongMember, BadNumber, Layout}
+use Rattle.json_places.specs.declared.path.Member.TheVariants as member
+use Rattle.json_places.specs.declared.path.Step.TheVariants as step
+use Rattle.json_places.specs.declared.fault.JsonFault.{JsonFault}
+use Rattle.json_places.specs.declared.fault.JsonFaultKind.TheVariants.{WrongMember, BadNumber, Layout}
 use Rattle.arrow_json.specs.CodeParts.{HoldsCodes}
-use Rattle.arrow_json.specs.JsonFault.{IsFault, Tells}
-use Rattle.arrow_json.specs.JsonNumber.{integer_of}
+use Rattle.json_places.specs.JsonFault.{IsFault, Tells}
+use Rattle.json_places.specs.JsonNumber.{integer_of}
 use Rattle.arrow_json.specs.JsonColumn.{valid_at, ReadsSlots, HasSlots}
 use Rattle.arrow_json.specs.JsonColumnFault.{NoSlots}
 use Rattle.arrow_json.specs.JsonCodes.{entry_at, indices, ReadsCodes}

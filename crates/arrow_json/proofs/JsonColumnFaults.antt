@@ -5,16 +5,16 @@ use Rattle.serde_json.specs.Find.{get_item, as_array, as_null, as_object}
 use Rattle.serde_json.proofs.Views.{items_len-items_view, get_item_within}
 use Rattle.serde_json.specs.View.{view, items_view}
 use Rattle.serde_json.specs.declared.value.Value.{Value}
-use Rattle.arrow_json.specs.declared.path.Member.{Member}
-use Rattle.arrow_json.specs.declared.path.Member.TheVariants as member
-use Rattle.arrow_json.specs.declared.path.Step.{Step}
-use Rattle.arrow_json.specs.declared.path.Step.TheVariants as step
-use Rattle.arrow_json.specs.declared.fault.JsonFault.{JsonFault}
-use Rattle.arrow_json.specs.declared.fault.JsonFaultKind.{JsonFaultKind}
-use Rattle.arrow_json.specs.declared.fault.JsonFaultKind.TheVariants.{WrongMember, CountDiffers}
-use Rattle.arrow_json.specs.JsonFault.{IsFault, IsUnder, Tells}
+use Rattle.json_places.specs.declared.path.Member.{Member}
+use Rattle.json_places.specs.declared.path.Member.TheVariants as member
+use Rattle.json_places.specs.declared.path.Step.{Step}
+use Rattle.json_places.specs.declared.path.Step.TheVariants as step
+use Rattle.json_places.specs.declared.fault.JsonFault.{JsonFault}
+use Rattle.json_places.specs.declared.fault.JsonFaultKind.{JsonFaultKind}
+use Rattle.json_places.specs.declared.fault.JsonFaultKind.TheVariants.{WrongMember, CountDiffers}
+use Rattle.json_places.specs.JsonFault.{IsFault, IsUnder, Tells}
 use Rattle.arrow_json.specs.JsonMember.{member_of, Unlike, MemberFault, wrong, ListFault, no_array, length_differs}
-use Rattle.arrow_json.specs.JsonNumber.{count_of}
+use Rattle.json_places.specs.JsonNumber.{count_of}
 use Rattle.arrays.specs.Kind as kind
 use Rattle.arrays.specs.Kind.{Kind}
 use Rattle.arrays.specs.Seen.{Seen}

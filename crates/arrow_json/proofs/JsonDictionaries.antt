@@ -4,15 +4,15 @@ use Rattle.arrays.specs.Seen.{Seen}
 use Rattle.arrays.specs.Kind as kind
 use Rattle.serde_json.specs.Data.{Data, item, no_items}
 use Rattle.serde_json.specs.Find.{as_array, as_object}
-use Rattle.arrow_json.specs.declared.path.Member.TheVariants as member
-use Rattle.arrow_json.specs.declared.path.Step.{Step}
-use Rattle.arrow_json.specs.declared.path.Step.TheVariants as step
-use Rattle.arrow_json.specs.declared.fault.JsonFault.{JsonFault}
-use Rattle.arrow_json.specs.declared.fault.JsonFaultKind.{JsonFaultKind}
-use Rattle.arrow_json.specs.declared.fault.JsonFaultKind.TheVariants.{WrongMember}
-use Rattle.arrow_json.specs.JsonFault.{IsFault, IsUnder, Tells}
+use Rattle.json_places.specs.declared.path.Member.TheVariants as member
+use Rattle.json_places.specs.declared.path.Step.{Step}
+use Rattle.json_places.specs.declared.path.Step.TheVariants as step
+use Rattle.json_places.specs.declared.fault.JsonFault.{JsonFault}
+use Rattle.json_places.specs.declared.fault.JsonFaultKind.{JsonFaultKind}
+use Rattle.json_places.specs.declared.fault.JsonFaultKind.TheVariants.{WrongMember}
+use Rattle.json_places.specs.JsonFault.{IsFault, IsUnder, Tells}
 use Rattle.arrow_json.specs.JsonMember.{IsObject, member_of, Unlike, Missing, MemberFault, ListFault, absent, wrong}
-use Rattle.arrow_json.specs.JsonNumber.{count_of}
+use Rattle.json_places.specs.JsonNumber.{count_of}
 use Rattle.arrow_json.specs.JsonSchema.{only_item}
 use Rattle.arrow_json.specs.JsonColumn.{texts}
 use Rattle.arrow_json.specs.JsonColumnFault.{ColumnFault}

@@ -5,16 +5,16 @@ use Rattle.serde_json.specs.Find.{get_item, as_array, as_bool, as_null, as_numbe
 use Rattle.serde_json.proofs.Views.{items_len-items_view, get_item_within}
 use Rattle.serde_json.specs.View.{view, items_view}
 use Rattle.serde_json.specs.declared.value.Value.{Value}
-use Rattle.arrow_json.specs.declared.path.Member.{Member}
-use Rattle.arrow_json.specs.declared.path.Member.TheVariants as member
-use Rattle.arrow_json.specs.declared.path.Step.{Step}
-use Rattle.arrow_json.specs.declared.path.Step.TheVariants as step
-use Rattle.arrow_json.specs.declared.fault.JsonFault.{JsonFault}
-use Rattle.arrow_json.specs.declared.fault.JsonFaultKind.{JsonFaultKind}
-use Rattle.arrow_json.specs.declared.fault.JsonFaultKind.TheVariants.{MissingMember, WrongMember, UnsupportedType}
-use Rattle.arrow_json.specs.JsonFault.{no_memory, IsFault, IsUnder, Tells, stands, wants}
+use Rattle.json_places.specs.declared.path.Member.{Member}
+use Rattle.json_places.specs.declared.path.Member.TheVariants as member
+use Rattle.json_places.specs.declared.path.Step.{Step}
+use Rattle.json_places.specs.declared.path.Step.TheVariants as step
+use Rattle.json_places.specs.declared.fault.JsonFault.{JsonFault}
+use Rattle.json_places.specs.declared.fault.JsonFaultKind.{JsonFaultKind}
+use Rattle.json_places.specs.declared.fault.JsonFaultKind.TheVariants.{MissingMember, WrongMember, UnsupportedType}
+use Rattle.json_places.specs.JsonFault.{no_memory, IsFault, IsUnder, Tells, stands, wants}
 use Rattle.arrow_json.specs.JsonMember.{member_of, IsObject, Unlike, unlike, Missing, missing, MemberFault, absent, wrong, EachFault, item}
-use Rattle.arrow_json.specs.JsonNumber.{width_of}
+use Rattle.json_places.specs.JsonNumber.{width_of}
 use Rattle.arrow_json.specs.JsonSchema.{type_name, named_type, is_childless, only_item, only_child}
 use Rattle.arrow_json.specs.JsonSchemaFault.{TypeFault, no_type_object, bad_type_name, other_type, bad_width, other_width, bad_sign, FieldFault, no_field_object, bad_field_name, bad_nullable, bad_type, no_dictionary_object, encoded_item, has_children, no_child, ninth_list, bad_child, IndexFault, bad_index_type, other_index}
 

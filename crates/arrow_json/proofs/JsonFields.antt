@@ -10,11 +10,11 @@ use Rattle.arrays.specs.Shape as shape
 use Rattle.arrays.specs.Shape.{Shape, FieldShape, shape_step, field_step, shape_of, field_of, kind_of_field}
 use Rattle.serde_json.specs.Data.{Data, Items}
 use Rattle.serde_json.specs.Find.{as_array, as_bool, as_object, as_str}
-use Rattle.arrow_json.specs.declared.path.Member.TheVariants as member
-use Rattle.arrow_json.specs.declared.path.Step.TheVariants as step
-use Rattle.arrow_json.specs.declared.fault.JsonFault.{JsonFault}
-use Rattle.arrow_json.specs.declared.fault.JsonFaultKind.TheVariants.{UnsupportedType, WrongMember}
-use Rattle.arrow_json.specs.JsonFault.{IsFault, IsUnder, Tells}
+use Rattle.json_places.specs.declared.path.Member.TheVariants as member
+use Rattle.json_places.specs.declared.path.Step.TheVariants as step
+use Rattle.json_places.specs.declared.fault.JsonFault.{JsonFault}
+use Rattle.json_places.specs.declared.fault.JsonFaultKind.TheVariants.{UnsupportedType, WrongMember}
+use Rattle.json_places.specs.JsonFault.{IsFault, IsUnder, Tells}
 use Rattle.arrow_json.specs.JsonMember.{IsObject, member_of, Unlike, Missing, MemberFault, EachFault}
 use Rattle.arrow_json.specs.EncodingParts.{HasSomeEncoding}
 use Rattle.arrow_json.specs.JsonEncoding.{id_of}

@@ -8,12 +8,12 @@ use Rattle.serde_json.specs.Data as data'
 use Rattle.serde_json.specs.Data.{Data, Items, no_items, item}
 use Rattle.serde_json.specs.Find.{as_array, as_object}
 use Rattle.serde_json.specs.Events.{items_len}
-use Rattle.arrow_json.specs.declared.path.Member.TheVariants as member
-use Rattle.arrow_json.specs.declared.path.Step.{Step}
-use Rattle.arrow_json.specs.declared.fault.JsonFaultKind.{JsonFaultKind}
+use Rattle.json_places.specs.declared.path.Member.TheVariants as member
+use Rattle.json_places.specs.declared.path.Step.{Step}
+use Rattle.json_places.specs.declared.fault.JsonFaultKind.{JsonFaultKind}
 use Rattle.arrow_json.specs.JsonMember as at
 use Rattle.arrow_json.specs.JsonMember.{member_of, Unlike, ListFault, no_array, length_differs, EachFault, ReadsEach}
-use Rattle.arrow_json.specs.JsonNumber.{count_of, flag_of}
+use Rattle.json_places.specs.JsonNumber.{count_of, flag_of}
 use Rattle.arrow_json.specs.JsonFieldsFault.{SchemaFault}
 use Rattle.arrow_json.specs.JsonColumn.{numbers, truths, texts, HasFlags, valid_at}
 use Rattle.arrays.specs.Offsets.{of_slot}

@@ -31,17 +31,17 @@ use Rattle.serde_json.specs.Find.{as_array, as_object}
 use Rattle.serde_json.specs.View.{view, items_view}
 use Rattle.serde_json.specs.declared.value.Value.{Value}
 use Rattle.serde_json.proofs.Views.{items_len-items_view}
-use Rattle.arrow_json.specs.declared.path.Member.TheVariants as member
-use Rattle.arrow_json.specs.declared.path.Step.{Step}
-use Rattle.arrow_json.specs.declared.path.Step.TheVariants as step
-use Rattle.arrow_json.specs.declared.fault.JsonFault.{JsonFault}
-use Rattle.arrow_json.specs.declared.fault.JsonFaultKind.{JsonFaultKind}
-use Rattle.arrow_json.specs.declared.fault.JsonFaultKind.TheVariants.{WrongMember, BadOffset, CountDiffers, Layout}
+use Rattle.json_places.specs.declared.path.Member.TheVariants as member
+use Rattle.json_places.specs.declared.path.Step.{Step}
+use Rattle.json_places.specs.declared.path.Step.TheVariants as step
+use Rattle.json_places.specs.declared.fault.JsonFault.{JsonFault}
+use Rattle.json_places.specs.declared.fault.JsonFaultKind.{JsonFaultKind}
+use Rattle.json_places.specs.declared.fault.JsonFaultKind.TheVariants.{WrongMember, BadOffset, CountDiffers, Layout}
 use Rattle.arrow_json.specs.declared.list.ListParts.{ListParts}
-use Rattle.arrow_json.specs.JsonFault.{Tells, IsFault, IsUnder, no_memory}
+use Rattle.json_places.specs.JsonFault.{Tells, IsFault, IsUnder, no_memory}
 use Rattle.arrow_json.specs.JsonMember as at
 use Rattle.arrow_json.specs.JsonMember.{member_of, Unlike, unlike, MemberFault, ListFault, EachFault, ReadsEach}
-use Rattle.arrow_json.specs.JsonNumber.{integer_of, count_of, flag_of}
+use Rattle.json_places.specs.JsonNumber.{integer_of, count_of, flag_of}
 use Rattle.arrow_json.specs.JsonColumn.{flags_of, valid_at}
 use Rattle.arrow_json.specs.JsonColumnFault.{CountFault, FlagsFault}
 use Rattle.arrow_json.specs.JsonList.{offset_bytes, are_enough, lists_fault, list_slot, ReadsLists, HasLists}

@@ -5,7 +5,7 @@ use Rattle.arrays.specs.Shape.{Shape}
 use Rattle.serde_json.specs.Data as data'
 use Rattle.serde_json.specs.Data.{Data}
 use Rattle.serde_json.specs.Find.{as_null}
-use Rattle.arrow_json.specs.declared.path.Member.{Member}
+use Rattle.json_places.specs.declared.path.Member.{Member}
 use Rattle.arrow_json.specs.JsonMember.{IsObject, member_of}
 use Rattle.arrow_json.specs.JsonSchema.{type_name, named_type, HasType}
 

@@ -18,9 +18,9 @@ use Rattle.serde_json.specs.Events.{items_len}
 use Rattle.serde_json.specs.View.{items_view}
 use Rattle.serde_json.specs.declared.value.Value.{Value}
 use Rattle.serde_json.proofs.Views.{items_len-items_view}
-use Rattle.arrow_json.specs.declared.path.Member.TheVariants as member
+use Rattle.json_places.specs.declared.path.Member.TheVariants as member
 use Rattle.arrow_json.specs.JsonMember.{member_of}
-use Rattle.arrow_json.specs.JsonNumber.{count_of}
+use Rattle.json_places.specs.JsonNumber.{count_of}
 use Rattle.arrow_json.specs.JsonBatch.{HoldsTop, HoldsColumns, ReadsTop, ReadsColumns, ReadsBatch, table_of}
 use Rattle.arrow_json.specs.JsonBook.{Coding}
 use Rattle.arrow_json.proofs.JsonSchemas.{get_item_some, position-none}

@@ -11,14 +11,14 @@ use Rattle.arrays.specs.Lengths.{is_past, text_bytes}
 use Rattle.serde_json.specs.Data.{Data, Items}
 use Rattle.serde_json.specs.Find.{get_item, as_str}
 use Rattle.layout.specs.declared.fault.LayoutFault.TheVariants as layout
-use Rattle.arrow_json.specs.declared.path.Member.TheVariants as member
-use Rattle.arrow_json.specs.declared.path.Step.TheVariants as step
-use Rattle.arrow_json.specs.declared.fault.JsonFault.{JsonFault}
-use Rattle.arrow_json.specs.declared.fault.JsonFaultKind.TheVariants.{WrongMember, BadNumber, Layout}
+use Rattle.json_places.specs.declared.path.Member.TheVariants as member
+use Rattle.json_places.specs.declared.path.Step.TheVariants as step
+use Rattle.json_places.specs.declared.fault.JsonFault.{JsonFault}
+use Rattle.json_places.specs.declared.fault.JsonFaultKind.TheVariants.{WrongMember, BadNumber, Layout}
 use Rattle.arrow_json.specs.declared.column.Unfit.{Unfit}
 use Rattle.arrow_json.specs.declared.column.Unfit.TheVariants as unfit
-use Rattle.arrow_json.specs.JsonFault.{IsFault, Tells}
-use Rattle.arrow_json.specs.JsonNumber.{integer_of, flag_of}
+use Rattle.json_places.specs.JsonFault.{IsFault, Tells}
+use Rattle.json_places.specs.JsonNumber.{integer_of, flag_of}
 use Rattle.arrow_json.specs.JsonColumn.{Spelling, numbers, truths, texts, spelling_of, is_full, valid_at, slot_of, ReadsSlots}
 use Rattle.arrow_json.specs.JsonColumnFault.{SlotsFault, no_flag, no_value, too_long}
 use Rattle.arrow_json.specs.Unfit.{IsWith, IsUnfit, spells_nothing, has_no_room, refused, IsTold}

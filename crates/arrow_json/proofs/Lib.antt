@@ -1,5 +1,4 @@
 -- What the proofs of this crate share.
-pub mod JsonNumbers
 pub mod JsonNames
 pub mod JsonFaults
 pub mod JsonEncodings

@@ -9,13 +9,13 @@ use Rattle.serde_json.specs.Data as data'
 use Rattle.serde_json.specs.Data.{Data, Items, no_items, item}
 use Rattle.serde_json.specs.Find.{get_item, as_null, as_bool, as_number, as_str, as_array, as_object}
 use Rattle.serde_json.specs.Events.{items_len}
-use Rattle.arrow_json.specs.declared.path.Member.{Member}
-use Rattle.arrow_json.specs.declared.path.Member.TheVariants as member
-use Rattle.arrow_json.specs.declared.path.Step.{Step}
-use Rattle.arrow_json.specs.declared.fault.JsonFaultKind.{JsonFaultKind}
+use Rattle.json_places.specs.declared.path.Member.{Member}
+use Rattle.json_places.specs.declared.path.Member.TheVariants as member
+use Rattle.json_places.specs.declared.path.Step.{Step}
+use Rattle.json_places.specs.declared.fault.JsonFaultKind.{JsonFaultKind}
 use Rattle.arrow_json.specs.JsonMember as at
 use Rattle.arrow_json.specs.JsonMember.{IsObject, member_of, Unlike, unlike, Missing, missing, MemberFault, absent, wrong, ListFault, no_array, length_differs, EachFault, ReadsEach}
-use Rattle.arrow_json.specs.JsonNumber.{width_of}
+use Rattle.json_places.specs.JsonNumber.{width_of}
 use Rattle.arrow_json.specs.JsonSchema.{type_name, named_type, is_childless, only_item, only_child, ReadsInt, ReadsShape, HasType, HasField, HasChildren, IsFieldOf, is_without}
 use Rattle.arrow_json.specs.JsonEncoding.{Encoding, HasEncoding, IsEncoding, id_of}
 use Rattle.arrow_json.specs.JsonEncodingFault.{EncodingFault, bad_id, bad_index, EncodedFault, no_encoding_object, bad_encoding}

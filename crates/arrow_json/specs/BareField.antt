@@ -6,7 +6,7 @@ use Rattle.serde_json.specs.Data.{Data}
 use Rattle.serde_json.specs.Find.{as_bool, as_str}
 use Rattle.arrow_json.specs.JsonMember.{member_of}
 use Rattle.arrow_json.specs.JsonSchema.{type_name, named_type, is_without, is_childless, ReadsShape, HasType}
-use Rattle.arrow_json.specs.declared.path.Member.TheVariants as member
+use Rattle.json_places.specs.declared.path.Member.TheVariants as member
 use Rattle.arrow_json.specs.declared.schema.Bare.{Bare}
 
 -- The type object is that of a type without children, or it is a list's where the type is none.

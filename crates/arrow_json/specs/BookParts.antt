@@ -5,14 +5,14 @@ use Rattle.serde_json.specs.Data.{Items}
 use Rattle.arrow_json.specs.JsonEncoding.{Encoding}
 use Rattle.arrow_json.specs.JsonBook as book
 use Rattle.arrow_json.specs.JsonBook.{HasDictionary, IsOnly}
-use Rattle.arrow_json.specs.JsonFault.{IsFault}
+use Rattle.json_places.specs.JsonFault.{IsFault}
 use Rattle.arrow_json.specs.declared.book.Coding.{Coding}
 use Rattle.arrow_json.specs.declared.book.Place.{Place}
 use Rattle.arrow_json.specs.declared.book.Place.TheVariants.{Nowhere, At, Again}
-use Rattle.arrow_json.specs.declared.path.Member.TheVariants as member
-use Rattle.arrow_json.specs.declared.path.Step.TheVariants as step
-use Rattle.arrow_json.specs.declared.fault.JsonFault.{JsonFault}
-use Rattle.arrow_json.specs.declared.fault.JsonFaultKind.TheVariants.{NoDictionary}
+use Rattle.json_places.specs.declared.path.Member.TheVariants as member
+use Rattle.json_places.specs.declared.path.Step.TheVariants as step
+use Rattle.json_places.specs.declared.fault.JsonFault.{JsonFault}
+use Rattle.json_places.specs.declared.fault.JsonFaultKind.TheVariants.{NoDictionary}
 
 abbrev pub coding_of : Coding → book.Coding
 coding_of c = record { index = c.index; texts = (arc_value c.words).items }

@@ -8,14 +8,14 @@ use Rattle.arrays.specs.Batch.{Batch}
 use Rattle.serde_json.specs.Data.{Data, Items}
 use Rattle.serde_json.specs.Find.{get_item, as_array}
 use Rattle.serde_json.specs.Events.{items_len}
-use Rattle.arrow_json.specs.JsonNumber.{count_of}
+use Rattle.json_places.specs.JsonNumber.{count_of}
 use Rattle.arrow_json.specs.JsonMember.{member_of}
 use Rattle.arrow_json.specs.JsonColumn.{ReadsPlain, numbers, truths, texts}
 use Rattle.arrow_json.specs.JsonList.{ReadsList}
 use Rattle.arrow_json.specs.JsonCodes.{ReadsCodes}
 use Rattle.arrow_json.specs.JsonBook.{Coding}
 use Rattle.arrow_json.specs.JsonTable.{Table}
-use Rattle.arrow_json.specs.declared.path.Member.TheVariants as member
+use Rattle.json_places.specs.declared.path.Member.TheVariants as member
 
 -- The columns of a batch, without where they lie in memory.
 abbrev pub table_of : Batch → Table

@@ -4,18 +4,18 @@ use Rattle.arrays.specs.Kind.{Kind, int, boolean, utf8, list, dict}
 use Rattle.arrays.specs.Shape.{FieldShape, kind_of_field}
 use Rattle.serde_json.specs.Data.{Data, Items}
 use Rattle.serde_json.specs.Find.{get_item, as_array, as_object}
-use Rattle.arrow_json.specs.JsonNumber.{count_of}
+use Rattle.json_places.specs.JsonNumber.{count_of}
 use Rattle.arrow_json.specs.JsonMember.{member_of, Unlike, MemberFault, ListFault}
 use Rattle.arrow_json.specs.JsonColumn.{numbers, truths, texts}
 use Rattle.arrow_json.specs.JsonColumnFault.{ColumnFault}
 use Rattle.arrow_json.specs.JsonListFault.{ListsFault}
 use Rattle.arrow_json.specs.JsonCodesFault.{CodesFault}
 use Rattle.arrow_json.specs.JsonBook.{Coding}
-use Rattle.arrow_json.specs.declared.path.Member.TheVariants as member
-use Rattle.arrow_json.specs.declared.path.Step.{Step}
-use Rattle.arrow_json.specs.declared.path.Step.TheVariants as step
-use Rattle.arrow_json.specs.declared.fault.JsonFaultKind.{JsonFaultKind}
-use Rattle.arrow_json.specs.declared.fault.JsonFaultKind.TheVariants.{UnsupportedType}
+use Rattle.json_places.specs.declared.path.Member.TheVariants as member
+use Rattle.json_places.specs.declared.path.Step.{Step}
+use Rattle.json_places.specs.declared.path.Step.TheVariants as step
+use Rattle.json_places.specs.declared.fault.JsonFaultKind.{JsonFaultKind}
+use Rattle.json_places.specs.declared.fault.JsonFaultKind.TheVariants.{UnsupportedType}
 
 -- A column of a kind that isn't read.
 pub data Unread : JsonFaultKind → List Step → Type 0 where

@@ -7,7 +7,7 @@ use Rattle.serde_json.specs.Find.{get_item, as_array}
 use Rattle.arrow_json.specs.JsonMember.{member_of, ReadsEach}
 use Rattle.arrow_json.specs.JsonEncoding.{HasEncoding, id_of}
 use Rattle.arrow_json.specs.JsonDictionary.{ReadsEntry}
-use Rattle.arrow_json.specs.declared.path.Member.TheVariants as member
+use Rattle.json_places.specs.declared.path.Member.TheVariants as member
 
 -- A column is indices of this type into these texts.
 pub record Coding : Type 0 where

@@ -7,11 +7,11 @@ use Rattle.arrow_json.specs.JsonEncoding.{Encoding, HasEncoding, id_of}
 use Rattle.arrow_json.specs.JsonEncodingFault.{EncodedFault}
 use Rattle.arrow_json.specs.JsonDictionaryFault.{EntryFault}
 use Rattle.arrow_json.specs.JsonBook.{listed_fields, HasEntries, IsOnly}
-use Rattle.arrow_json.specs.declared.path.Member.TheVariants as member
-use Rattle.arrow_json.specs.declared.path.Step.{Step}
-use Rattle.arrow_json.specs.declared.path.Step.TheVariants as step
-use Rattle.arrow_json.specs.declared.fault.JsonFaultKind.{JsonFaultKind}
-use Rattle.arrow_json.specs.declared.fault.JsonFaultKind.TheVariants.{NoDictionary, DictionaryTwice}
+use Rattle.json_places.specs.declared.path.Member.TheVariants as member
+use Rattle.json_places.specs.declared.path.Step.{Step}
+use Rattle.json_places.specs.declared.path.Step.TheVariants as step
+use Rattle.json_places.specs.declared.fault.JsonFaultKind.{JsonFaultKind}
+use Rattle.json_places.specs.declared.fault.JsonFaultKind.TheVariants.{NoDictionary, DictionaryTwice}
 
 -- Of an entry: it has no number.
 pub data NoId (d : Data) : JsonFaultKind → List Step → Type 0 where

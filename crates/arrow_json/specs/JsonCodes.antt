@@ -3,9 +3,9 @@ use Rattle.std.specs.Prelude.{ℕ, ℤ, pos, negsuc, List, slice_get, Option, No
 use Rattle.types.specs.declared.int_type.IntType.{IntType}
 use Rattle.arrays.specs.Item.{Item}
 use Rattle.serde_json.specs.Data.{Data}
-use Rattle.arrow_json.specs.JsonNumber.{integer_of}
+use Rattle.json_places.specs.JsonNumber.{integer_of}
 use Rattle.arrow_json.specs.JsonColumn.{Spelling, ReadsPlain}
-use Rattle.arrow_json.specs.declared.fault.JsonFaultKind.TheVariants.{BadNumber}
+use Rattle.json_places.specs.declared.fault.JsonFaultKind.TheVariants.{BadNumber}
 
 -- The entry that an index names: none below 0 and past the last.
 abbrev pub entry_at : List Item → ℤ → Option Item

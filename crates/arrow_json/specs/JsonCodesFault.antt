@@ -5,15 +5,15 @@ use Rattle.types.specs.declared.int_type.IntType.{IntType}
 use Rattle.arrays.specs.Item.{Item}
 use Rattle.serde_json.specs.Data.{Data, Items}
 use Rattle.serde_json.specs.Find.{get_item}
-use Rattle.arrow_json.specs.JsonNumber.{integer_of}
+use Rattle.json_places.specs.JsonNumber.{integer_of}
 use Rattle.arrow_json.specs.JsonColumn.{valid_at, ReadsSlots, HasSlots}
 use Rattle.arrow_json.specs.JsonColumnFault.{NoSlots}
 use Rattle.arrow_json.specs.JsonCodes.{entry_at, indices}
-use Rattle.arrow_json.specs.declared.path.Member.TheVariants as member
-use Rattle.arrow_json.specs.declared.path.Step.{Step}
-use Rattle.arrow_json.specs.declared.path.Step.TheVariants as step
-use Rattle.arrow_json.specs.declared.fault.JsonFaultKind.{JsonFaultKind}
-use Rattle.arrow_json.specs.declared.fault.JsonFaultKind.TheVariants.{WrongMember, BadNumber, Layout}
+use Rattle.json_places.specs.declared.path.Member.TheVariants as member
+use Rattle.json_places.specs.declared.path.Step.{Step}
+use Rattle.json_places.specs.declared.path.Step.TheVariants as step
+use Rattle.json_places.specs.declared.fault.JsonFaultKind.{JsonFaultKind}
+use Rattle.json_places.specs.declared.fault.JsonFaultKind.TheVariants.{WrongMember, BadNumber, Layout}
 
 -- Some slot's flag is none; or it is valid, and its value is no integer of the type, or one that names no entry while those of all slots before it do.
 pub data IndicesFault (t : IntType) (entries : List Item) (flags : Option Items) (values : Items) : JsonFaultKind → List Step → Type 0 where

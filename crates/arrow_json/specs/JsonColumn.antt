@@ -8,11 +8,11 @@ use Rattle.arrays.specs.Lengths.{is_past, text_length}
 use Rattle.serde_json.specs.Data.{Data, null, boolean, number, string, array, object, Items}
 use Rattle.serde_json.specs.Find.{get_item, as_array, as_str}
 use Rattle.serde_json.specs.Events.{items_len}
-use Rattle.arrow_json.specs.JsonNumber.{integer_of, count_of, flag_of}
+use Rattle.json_places.specs.JsonNumber.{integer_of, count_of, flag_of}
 use Rattle.arrow_json.specs.JsonMember.{member_of}
-use Rattle.arrow_json.specs.declared.path.Member.TheVariants as member
-use Rattle.arrow_json.specs.declared.fault.JsonFaultKind.{JsonFaultKind}
-use Rattle.arrow_json.specs.declared.fault.JsonFaultKind.TheVariants.{BadNumber, WrongMember, UnsupportedType}
+use Rattle.json_places.specs.declared.path.Member.TheVariants as member
+use Rattle.json_places.specs.declared.fault.JsonFaultKind.{JsonFaultKind}
+use Rattle.json_places.specs.declared.fault.JsonFaultKind.TheVariants.{BadNumber, WrongMember, UnsupportedType}
 
 -- The flags of a column, none where the member is absent or null: then all slots are valid.
 abbrev pub flags_of : Option Data → Option (Option Items)

@@ -3,11 +3,11 @@ use Rattle.std.specs.Prelude.{◌≡◌, ℕ, List, Some, option_and_then}
 use Rattle.arrays.specs.Item.{Item}
 use Rattle.serde_json.specs.Data.{Data, item, no_items}
 use Rattle.serde_json.specs.Find.{as_array}
-use Rattle.arrow_json.specs.JsonNumber.{count_of}
+use Rattle.json_places.specs.JsonNumber.{count_of}
 use Rattle.arrow_json.specs.JsonMember.{member_of}
 use Rattle.arrow_json.specs.JsonSchema.{only_item}
 use Rattle.arrow_json.specs.JsonColumn.{ReadsPlain, texts}
-use Rattle.arrow_json.specs.declared.path.Member.TheVariants as member
+use Rattle.json_places.specs.declared.path.Member.TheVariants as member
 
 -- A batch object with one column, of texts.
 pub record ReadsTexts (d : Data) (items : List Item) : Type 0 where

@@ -3,10 +3,10 @@ use Rattle.std.specs.Prelude.{◌≡◌, ℤ, true, Option, Some, None, option_a
 use Rattle.types.specs.declared.int_type.IntType.{IntType}
 use Rattle.types.specs.declared.int_type.Width.TheVariants.{W64}
 use Rattle.serde_json.specs.Data.{Data}
-use Rattle.arrow_json.specs.JsonNumber.{integer_of}
+use Rattle.json_places.specs.JsonNumber.{integer_of}
 use Rattle.arrow_json.specs.JsonMember.{member_of}
 use Rattle.arrow_json.specs.JsonSchema.{ReadsInt, is_without}
-use Rattle.arrow_json.specs.declared.path.Member.TheVariants as member
+use Rattle.json_places.specs.declared.path.Member.TheVariants as member
 
 -- A column is indices of this type into the dictionary of this number.
 pub record Encoding : Type 0 where

@@ -5,10 +5,10 @@ use Rattle.serde_json.specs.Find.{as_null, as_object}
 use Rattle.arrow_json.specs.JsonMember.{IsObject, member_of, Unlike, MemberFault}
 use Rattle.arrow_json.specs.JsonEncoding.{id_of}
 use Rattle.arrow_json.specs.JsonSchemaFault.{IndexFault}
-use Rattle.arrow_json.specs.declared.path.Member.TheVariants as member
-use Rattle.arrow_json.specs.declared.path.Step.{Step}
-use Rattle.arrow_json.specs.declared.path.Step.TheVariants as step
-use Rattle.arrow_json.specs.declared.fault.JsonFaultKind.{JsonFaultKind}
+use Rattle.json_places.specs.declared.path.Member.TheVariants as member
+use Rattle.json_places.specs.declared.path.Step.{Step}
+use Rattle.json_places.specs.declared.path.Step.TheVariants as step
+use Rattle.json_places.specs.declared.fault.JsonFaultKind.{JsonFaultKind}
 
 -- Of a dictionary object.
 pub data EncodingFault (d : Data) : JsonFaultKind → List Step → Type 0 where

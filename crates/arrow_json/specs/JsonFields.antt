@@ -7,7 +7,7 @@ use Rattle.serde_json.specs.Find.{as_bool, as_str, as_array}
 use Rattle.arrow_json.specs.JsonMember.{member_of, ReadsEach}
 use Rattle.arrow_json.specs.JsonSchema.{HasType, IsFieldOf, is_childless}
 use Rattle.arrow_json.specs.JsonEncoding.{Encoding, HasEncoding}
-use Rattle.arrow_json.specs.declared.path.Member.TheVariants as member
+use Rattle.json_places.specs.declared.path.Member.TheVariants as member
 
 -- The object of a field whose column is encoded by a dictionary: its type is that of the dictionary's values, which are texts.
 pub record IsEncodedField (d : Data) (bytes : List ℕ) (b : Bool) : Type 0 where

@@ -6,11 +6,11 @@ use Rattle.arrow_json.specs.JsonMember.{IsObject, member_of, Unlike, MemberFault
 use Rattle.arrow_json.specs.JsonSchema.{named_type}
 use Rattle.arrow_json.specs.JsonSchemaFault.{FieldFault}
 use Rattle.arrow_json.specs.JsonEncodingFault.{EncodedFault}
-use Rattle.arrow_json.specs.declared.path.Member.TheVariants as member
-use Rattle.arrow_json.specs.declared.path.Step.{Step}
-use Rattle.arrow_json.specs.declared.path.Step.TheVariants as step
-use Rattle.arrow_json.specs.declared.fault.JsonFaultKind.{JsonFaultKind}
-use Rattle.arrow_json.specs.declared.fault.JsonFaultKind.TheVariants.{UnsupportedType}
+use Rattle.json_places.specs.declared.path.Member.TheVariants as member
+use Rattle.json_places.specs.declared.path.Step.{Step}
+use Rattle.json_places.specs.declared.path.Step.TheVariants as step
+use Rattle.json_places.specs.declared.fault.JsonFaultKind.{JsonFaultKind}
+use Rattle.json_places.specs.declared.fault.JsonFaultKind.TheVariants.{UnsupportedType}
 
 -- Of a field of a schema, within no list.
 pub data TopFault (d : Data) : JsonFaultKind → List Step → Type 0 where

@@ -15,11 +15,11 @@ use Rattle.arrow_json.specs.JsonBookFault.{BookFault}
 use Rattle.arrow_json.specs.JsonTable.{FileData}
 use Rattle.arrow_json.specs.JsonBatch.{ReadsBatch, table_of}
 use Rattle.arrow_json.specs.JsonBatchFault.{BatchFault}
-use Rattle.arrow_json.specs.declared.path.Member.TheVariants as member
-use Rattle.arrow_json.specs.declared.path.Step.{Step}
-use Rattle.arrow_json.specs.declared.path.Step.TheVariants as step
-use Rattle.arrow_json.specs.declared.fault.JsonFaultKind.{JsonFaultKind}
-use Rattle.arrow_json.specs.declared.fault.JsonFaultKind.TheVariants.{NotJson}
+use Rattle.json_places.specs.declared.path.Member.TheVariants as member
+use Rattle.json_places.specs.declared.path.Step.{Step}
+use Rattle.json_places.specs.declared.path.Step.TheVariants as step
+use Rattle.json_places.specs.declared.fault.JsonFaultKind.{JsonFaultKind}
+use Rattle.json_places.specs.declared.fault.JsonFaultKind.TheVariants.{NotJson}
 
 -- What a file that was read holds, without where it lies in memory.
 abbrev pub file_of : File → FileData

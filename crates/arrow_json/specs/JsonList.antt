@@ -12,10 +12,10 @@ use Rattle.arrays.specs.Offsets.{of_slot}
 use Rattle.serde_json.specs.Data.{Data, Items, no_items, item}
 use Rattle.serde_json.specs.Find.{as_array}
 use Rattle.serde_json.specs.Events.{items_len}
-use Rattle.arrow_json.specs.JsonNumber.{integer_of, count_of}
+use Rattle.json_places.specs.JsonNumber.{integer_of, count_of}
 use Rattle.arrow_json.specs.JsonMember.{member_of, ReadsEach}
 use Rattle.arrow_json.specs.JsonColumn.{flags_of, HasFlags, valid_at}
-use Rattle.arrow_json.specs.declared.path.Member.TheVariants as member
+use Rattle.json_places.specs.declared.path.Member.TheVariants as member
 
 -- ---- offsets
 

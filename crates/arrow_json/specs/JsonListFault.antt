@@ -5,15 +5,15 @@ use Rattle.arrays.specs.Kind.{Kind, int32}
 use Rattle.serde_json.specs.Data.{Data, Items}
 use Rattle.serde_json.specs.Find.{as_array, as_object}
 use Rattle.serde_json.specs.Events.{items_len}
-use Rattle.arrow_json.specs.JsonNumber.{integer_of, count_of, flag_of}
+use Rattle.json_places.specs.JsonNumber.{integer_of, count_of, flag_of}
 use Rattle.arrow_json.specs.JsonMember.{member_of, Unlike, MemberFault, ListFault, EachFault, ReadsEach}
 use Rattle.arrow_json.specs.JsonColumnFault.{CountFault, FlagsFault}
 use Rattle.arrow_json.specs.JsonList.{Spells, offset_bytes, are_enough, lists_fault, HasLists}
-use Rattle.arrow_json.specs.declared.path.Member.TheVariants as member
-use Rattle.arrow_json.specs.declared.path.Step.{Step}
-use Rattle.arrow_json.specs.declared.path.Step.TheVariants as step
-use Rattle.arrow_json.specs.declared.fault.JsonFaultKind.{JsonFaultKind}
-use Rattle.arrow_json.specs.declared.fault.JsonFaultKind.TheVariants.{BadOffset, CountDiffers, Layout}
+use Rattle.json_places.specs.declared.path.Member.TheVariants as member
+use Rattle.json_places.specs.declared.path.Step.{Step}
+use Rattle.json_places.specs.declared.path.Step.TheVariants as step
+use Rattle.json_places.specs.declared.fault.JsonFaultKind.{JsonFaultKind}
+use Rattle.json_places.specs.declared.fault.JsonFaultKind.TheVariants.{BadOffset, CountDiffers, Layout}
 
 -- n lists are to have enough offsets.
 pub data OffsetsFault (n : ℕ) (d : Data) : JsonFaultKind → List Step → Type 0 where

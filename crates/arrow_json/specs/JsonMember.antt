@@ -3,12 +3,12 @@ use Rattle.std.specs.Prelude.{◌≡◌, ◌≢◌, ℕ, List, [], ◌∷◌, le
 use Rattle.serde_json.specs.Data.{Data, Items}
 use Rattle.serde_json.specs.Find.{get, get_item, as_array, as_object}
 use Rattle.serde_json.specs.Events.{items_len}
-use Rattle.arrow_json.specs.JsonPath.{member_name}
-use Rattle.arrow_json.specs.declared.path.Member.{Member}
-use Rattle.arrow_json.specs.declared.path.Step.{Step}
-use Rattle.arrow_json.specs.declared.path.Step.TheVariants as step
-use Rattle.arrow_json.specs.declared.fault.JsonFaultKind.{JsonFaultKind}
-use Rattle.arrow_json.specs.declared.fault.JsonFaultKind.TheVariants.{MissingMember, WrongMember, CountDiffers}
+use Rattle.json_places.specs.JsonPath.{member_name}
+use Rattle.json_places.specs.declared.path.Member.{Member}
+use Rattle.json_places.specs.declared.path.Step.{Step}
+use Rattle.json_places.specs.declared.path.Step.TheVariants as step
+use Rattle.json_places.specs.declared.fault.JsonFaultKind.{JsonFaultKind}
+use Rattle.json_places.specs.declared.fault.JsonFaultKind.TheVariants.{MissingMember, WrongMember, CountDiffers}
 
 -- The member of an object.
 abbrev pub member_of : Member → Data → Option Data

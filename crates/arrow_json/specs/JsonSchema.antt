@@ -5,9 +5,9 @@ use Rattle.arrays.specs.Shape.{Shape, FieldShape, int, boolean, utf8, list, dict
 use Rattle.serde_json.specs.Data.{Data, Items, no_items, item}
 use Rattle.serde_json.specs.Find.{as_null, as_bool, as_number, as_str, as_array}
 use Rattle.serde_json.specs.Events.{items_len}
-use Rattle.arrow_json.specs.JsonNumber.{width_of}
+use Rattle.json_places.specs.JsonNumber.{width_of}
 use Rattle.arrow_json.specs.JsonMember.{member_of}
-use Rattle.arrow_json.specs.declared.path.Member.TheVariants as member
+use Rattle.json_places.specs.declared.path.Member.TheVariants as member
 
 -- ---- types
 

@@ -2,14 +2,14 @@
 use Rattle.std.specs.Prelude.{◌≡◌, ◌≢◌, ℕ, suc, List, [], ◌∷◌, codes, false, Some, None, option_and_then}
 use Rattle.serde_json.specs.Data.{Data, Num}
 use Rattle.serde_json.specs.Find.{as_bool, as_null, as_number, as_str, as_object}
-use Rattle.arrow_json.specs.JsonNumber.{width_of}
+use Rattle.json_places.specs.JsonNumber.{width_of}
 use Rattle.arrow_json.specs.JsonMember.{IsObject, member_of, Unlike, MemberFault}
 use Rattle.arrow_json.specs.JsonSchema.{type_name, named_type, is_childless, only_item, only_child}
-use Rattle.arrow_json.specs.declared.path.Member.TheVariants as member
-use Rattle.arrow_json.specs.declared.path.Step.{Step}
-use Rattle.arrow_json.specs.declared.path.Step.TheVariants as step
-use Rattle.arrow_json.specs.declared.fault.JsonFaultKind.{JsonFaultKind}
-use Rattle.arrow_json.specs.declared.fault.JsonFaultKind.TheVariants.{WrongMember, UnsupportedType}
+use Rattle.json_places.specs.declared.path.Member.TheVariants as member
+use Rattle.json_places.specs.declared.path.Step.{Step}
+use Rattle.json_places.specs.declared.path.Step.TheVariants as step
+use Rattle.json_places.specs.declared.fault.JsonFaultKind.{JsonFaultKind}
+use Rattle.json_places.specs.declared.fault.JsonFaultKind.TheVariants.{WrongMember, UnsupportedType}
 
 pub data TypeFault (d : Data) : JsonFaultKind → List Step → Type 0 where
   no_type_object : (kind : JsonFaultKind) (path : List Step) → Unlike as_object d kind path → TypeFault d kind path

@@ -1,8 +1,4 @@
 -- The words of this crate's contracts.
-pub mod JsonPath
-pub mod JsonFault
-pub mod JsonFaultText
-pub mod JsonNumber
 pub mod JsonMember
 pub mod JsonSchema
 pub mod JsonSchemaFault

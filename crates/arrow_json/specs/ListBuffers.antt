@@ -6,7 +6,7 @@ use Rattle.serde_json.specs.Data.{Data, Items}
 use Rattle.arrow_json.specs.JsonColumn.{valid_at}
 use Rattle.arrow_json.specs.JsonList.{Spells, offset_bytes}
 use Rattle.arrow_json.specs.JsonMember.{ReadsEach}
-use Rattle.arrow_json.specs.JsonNumber.{flag_of}
+use Rattle.json_places.specs.JsonNumber.{flag_of}
 
 -- The value is a flag.
 abbrev pub IsFlag : Data → Bool → Type 0

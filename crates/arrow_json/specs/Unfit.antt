@@ -4,11 +4,11 @@ use Rattle.layout.specs.declared.fault.LayoutFault.TheVariants as layout
 use Rattle.arrays.specs.Item.{Item}
 use Rattle.serde_json.specs.Data.{Data}
 use Rattle.arrow_json.specs.JsonColumn.{Spelling, is_full}
-use Rattle.arrow_json.specs.JsonFault.{IsFault, no_memory}
-use Rattle.arrow_json.specs.declared.path.Member.TheVariants as member
-use Rattle.arrow_json.specs.declared.path.Step.TheVariants as step
-use Rattle.arrow_json.specs.declared.fault.JsonFault.{JsonFault}
-use Rattle.arrow_json.specs.declared.fault.JsonFaultKind.TheVariants.{Layout}
+use Rattle.json_places.specs.JsonFault.{IsFault, no_memory}
+use Rattle.json_places.specs.declared.path.Member.TheVariants as member
+use Rattle.json_places.specs.declared.path.Step.TheVariants as step
+use Rattle.json_places.specs.declared.fault.JsonFault.{JsonFault}
+use Rattle.json_places.specs.declared.fault.JsonFaultKind.TheVariants.{Layout}
 use Rattle.arrow_json.specs.declared.column.Unfit.{Unfit}
 use Rattle.arrow_json.specs.declared.column.Unfit.TheVariants.{Unspelled, TooLong, NoMemory}
 

@@ -7,15 +7,14 @@ ghost use Rattle.serde_json.specs.View.{view, items_view};
 ghost use Rattle.arrow_json.specs.BookParts.{coding_of};
 ghost use Rattle.arrow_json.specs.JsonBatch.{HoldsColumn, HoldsColumns, HoldsTop, IsBookOf, ReadsBatch, table_of};
 ghost use Rattle.arrow_json.specs.JsonBatchFault.{BatchFault, CodedFault, ColumnsFault, KindFault};
-ghost use Rattle.arrow_json.specs.JsonFault.{Tells};
+ghost use Rattle.json_places.specs.JsonFault.{Tells};
 
 use crate::book::Coding;
 use crate::codes::read_codes;
 use crate::column::{list_member, read_numbers, read_texts, read_truths};
-use crate::fault::{JsonFault, JsonFaultKind};
+use json_places::{JsonFault, JsonFaultKind, Member, Step};
 use crate::list::read_list;
 use crate::member::{check_object, count_member, push};
-use crate::path::{Member, Step};
 use arrays::{Array, DataType, Field, RecordBatch, Schema};
 use serde_json::Value;
 use std::alloc::Global;

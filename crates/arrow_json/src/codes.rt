@@ -10,13 +10,12 @@ ghost use Rattle.arrow_json.specs.CodeParts.{HoldsCodes};
 ghost use Rattle.arrow_json.specs.JsonCodes.{ReadsCodes};
 ghost use Rattle.arrow_json.specs.JsonCodesFault.{CodesFault, IndicesFault};
 ghost use Rattle.arrow_json.specs.JsonColumn.{valid_at};
-ghost use Rattle.arrow_json.specs.JsonFault.{Tells};
+ghost use Rattle.json_places.specs.JsonFault.{Tells};
 ghost use Rattle.arrow_json.specs.SlotParts.{flags_in, values_in};
 
 use crate::column::{Slots, read_slots};
-use crate::fault::{JsonFault, JsonFaultKind};
-use crate::number::integer;
-use crate::path::{Member, Step};
+use json_places::{JsonFault, JsonFaultKind, Member, Step};
+use json_places::number::integer;
 use arrays::{Array, IntBuilder, IntType, Integer, LayoutFault, View, Words};
 use colbits::NoMemory;
 use serde_json::Value;

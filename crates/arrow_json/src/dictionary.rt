@@ -5,13 +5,12 @@ ghost use Rattle.arrays.specs.Kind as kind;
 ghost use Rattle.serde_json.specs.View.{view};
 ghost use Rattle.arrow_json.specs.JsonDictionary.{HasTexts, ReadsEntry, ReadsTexts};
 ghost use Rattle.arrow_json.specs.JsonDictionaryFault.{EntryFault, HeldFault, TextsFault};
-ghost use Rattle.arrow_json.specs.JsonFault.{Tells};
+ghost use Rattle.json_places.specs.JsonFault.{Tells};
 ghost use Rattle.arrow_json.specs.JsonMember.{IsObject};
 
 use crate::column::{read_texts, single_member};
-use crate::fault::{JsonFault, JsonFaultKind};
+use json_places::{JsonFault, JsonFaultKind, Member, Step};
 use crate::member::{check_object, count_member, required};
-use crate::path::{Member, Step};
 use crate::schema::only_item;
 use arrays::{Array, Words};
 use serde_json::Value;

@@ -6,16 +6,15 @@ ghost use Rattle.arrow_json.specs.BookParts.{coding_of};
 ghost use Rattle.arrow_json.specs.JsonBook.{listed_fields};
 ghost use Rattle.arrow_json.specs.JsonBatch.{IsBookOf, ReadsBatch, table_of};
 ghost use Rattle.arrow_json.specs.JsonBatchFault.{BatchFault};
-ghost use Rattle.arrow_json.specs.JsonFault.{Tells};
+ghost use Rattle.json_places.specs.JsonFault.{Tells};
 ghost use Rattle.arrow_json.specs.JsonMember.{EachFault, IsObject, ReadsEach, member_of};
 ghost use Rattle.arrow_json.specs.JsonFields.{ReadsSchema};
 ghost use Rattle.arrow_json.specs.JsonFile.{AreUnder, BytesFault, FileFault, HasSchema, Reads, ReadsFile, file_of};
 
 use crate::batch::read_batch;
 use crate::book::{Coding, read_book};
-use crate::fault::{JsonFault, JsonFaultKind};
+use json_places::{JsonFault, JsonFaultKind, Member, Step};
 use crate::member::{array_member, check_object, push, required};
-use crate::path::{Member, Step};
 use crate::schema::{field_values, read_schema};
 use arrays::{File, RecordBatch, Schema};
 use serde_json::Value;

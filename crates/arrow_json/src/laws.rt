@@ -2,8 +2,8 @@
 ghost use Rattle.std.specs.Prelude.{◌≡◌, ℕ, List};
 ghost use Rattle.arrow_json.specs.JsonFile.{BytesFault, Reads};
 ghost use Rattle.arrow_json.specs.JsonTable.{FileData};
-ghost use Rattle.arrow_json.specs.declared.path.Step.{Step};
-ghost use Rattle.arrow_json.specs.declared.fault.JsonFaultKind.{JsonFaultKind};
+ghost use Rattle.json_places.specs.declared.path.Step.{Step};
+ghost use Rattle.json_places.specs.declared.fault.JsonFaultKind.{JsonFaultKind};
 
 /// Where a fault stands, nothing is read.
 pub fn read_has_no_fault()

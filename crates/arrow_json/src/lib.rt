@@ -7,16 +7,12 @@ mod codes;
 mod column;
 mod dictionary;
 mod encoding;
-pub mod fault;
 pub mod file;
 pub mod laws;
 mod list;
 mod member;
-mod number;
-pub mod path;
 mod schema;
 mod type_object;
 
-pub use fault::{JsonFault, JsonFaultKind, fault_text};
 pub use file::{read_file, read_file_from_vec};
-pub use path::{Member, Path, Step};
+pub use json_places::{JsonFault, JsonFaultKind, Member, Path, Step, fault_text};

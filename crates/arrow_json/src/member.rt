@@ -1,15 +1,14 @@
 ghost use Rattle.std.specs.Prelude.{◌≡◌, ◌<◌, ◌^◌, Some, IfOk, IfErr, OnOk, ◌∷◌, ◌++◌, [], option_and_then};
 ghost use Rattle.serde_json.specs.Find.{as_array, as_bool, as_number, as_object, as_str};
 ghost use Rattle.serde_json.specs.View.{view, items_view, number_view};
-ghost use Rattle.arrow_json.specs.JsonFault.{Tells, IsFault, no_memory};
-ghost use Rattle.arrow_json.specs.declared.path.Step.TheVariants as step;
-ghost use Rattle.arrow_json.specs.declared.fault.JsonFaultKind.TheVariants.{WrongMember};
+ghost use Rattle.json_places.specs.JsonFault.{Tells, IsFault, no_memory};
+ghost use Rattle.json_places.specs.declared.path.Step.TheVariants as step;
+ghost use Rattle.json_places.specs.declared.fault.JsonFaultKind.TheVariants.{WrongMember};
 ghost use Rattle.arrow_json.specs.JsonMember.{member_of, IsObject, Unlike, MemberFault, Missing};
-ghost use Rattle.arrow_json.specs.JsonNumber.{count_of};
+ghost use Rattle.json_places.specs.JsonNumber.{count_of};
 
-use crate::fault::{JsonFault, JsonFaultKind};
-use crate::number::count;
-use crate::path::{Member, Step};
+use json_places::{JsonFault, JsonFaultKind, Member, Step};
+use json_places::number::count;
 use serde_json::{Number, Value};
 use std::alloc::Global;
 

@@ -4,7 +4,7 @@ ghost use Rattle.serde_json.specs.View.{view, items_view};
 ghost use Rattle.arrays.specs.Kind.{depth};
 ghost use Rattle.arrays.specs.Shape as shape;
 ghost use Rattle.arrays.specs.Shape.{field_of, fields_of, kind_of_field, shape_of};
-ghost use Rattle.arrow_json.specs.JsonFault.{Tells, no_memory};
+ghost use Rattle.json_places.specs.JsonFault.{Tells, no_memory};
 ghost use Rattle.arrow_json.specs.BareField.{IsFieldType, IsBare};
 ghost use Rattle.arrow_json.specs.JsonMember.{member_of, EachFault, IsObject, ReadsEach};
 ghost use Rattle.arrow_json.specs.JsonSchema.{HasType, named_type, only_item, only_child, IsFieldOf, is_without, is_childless};
@@ -12,14 +12,13 @@ ghost use Rattle.arrow_json.specs.JsonSchemaFault.{FieldFault};
 ghost use Rattle.arrow_json.specs.EncodingParts.{HasSomeEncoding};
 ghost use Rattle.arrow_json.specs.JsonFields.{ReadsField, ReadsSchema};
 ghost use Rattle.arrow_json.specs.JsonFieldsFault.{SchemaFault, TopFault};
-ghost use Rattle.arrow_json.specs.declared.path.Member.TheVariants as member;
+ghost use Rattle.json_places.specs.declared.path.Member.TheVariants as member;
 
 use crate::encoding::read_encoded;
-use crate::fault::{JsonFault, JsonFaultKind};
+use json_places::{JsonFault, JsonFaultKind, Member, Step};
 use crate::member::{
     array_member, check_object, push, required, text_member, truth_member, unlike,
 };
-use crate::path::{Member, Step};
 use crate::type_object::{read_type, type_name};
 use arrays::{DataType, Field, Schema};
 use serde_json::Value;

@@ -3,10 +3,10 @@ use Rattle.std.specs.Prelude.{ℕ, List, ◌++◌, codes}
 use Rattle.std.specs.Fmt.{decimal}
 use Rattle.ends.specs.Line.{message}
 use Rattle.arrowtab.specs.RefusalText.{refusal_text}
-use Rattle.arrow_json.specs.JsonFaultText.{fault_text}
+use Rattle.json_places.specs.JsonFaultText.{fault_text}
 use Rattle.shared.specs.declared.refusal.Refusal.{Refusal}
-use Rattle.arrow_json.specs.declared.path.Step.{Step}
-use Rattle.arrow_json.specs.declared.fault.JsonFaultKind.{JsonFaultKind}
+use Rattle.json_places.specs.declared.path.Step.{Step}
+use Rattle.json_places.specs.declared.fault.JsonFaultKind.{JsonFaultKind}
 
 abbrev pub unread_line : List ℕ → List ℕ
 unread_line name = message (name ++ codes ": cannot be read")

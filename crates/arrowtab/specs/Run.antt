@@ -14,8 +14,8 @@ use Rattle.arrowtab.specs.Loaded.{IsLoaded, IsStopped, batches_of}
 use Rattle.arrow_json.specs.JsonFile.{Reads, BytesFault}
 use Rattle.arrow_json.specs.JsonTable.{FileData}
 use Rattle.shared.specs.declared.refusal.Refusal.{Refusal}
-use Rattle.arrow_json.specs.declared.path.Step.{Step}
-use Rattle.arrow_json.specs.declared.fault.JsonFaultKind.{JsonFaultKind}
+use Rattle.json_places.specs.declared.path.Step.{Step}
+use Rattle.json_places.specs.declared.fault.JsonFaultKind.{JsonFaultKind}
 
 -- What each source still has to give, where it tells it.
 abbrev pub Inputs : Type 0

@@ -1,6 +1,6 @@
 -- Columns that fit are plain values.
-use Rattle.std.proofs.Common.{◌≡◌, ◌∙◌, ℕ, ◌+◌, ◌-◌, ◌<◌, ◌≤◌, ◌^◌, ℤ, pos, negsuc, neg_ℤ, List, [], ◌∷◌, length, Bool, true, false, not, Option, Some, None, position, refl, sym, subst, arith, lit<}
-use Rattle.std.specs.Prelude.{◌≤ℤ◌, sum_by, unwrap_or, ⊤}
+use Rattle.std.proofs.Common.{◌≡◌, ℕ, ◌+◌, ◌-◌, ◌<◌, ◌^◌, ℤ, pos, negsuc, neg_ℤ, List, [], ◌∷◌, length, Bool, true, false, not, Option, Some, None, position, refl, arith, lit<}
+use Rattle.std.specs.Prelude.{◌≤ℤ◌, sum_by, unwrap_or}
 use Rattle.std.specs.List.{AllByRecursion}
 use Rattle.std.specs.Str.{bytes_eq}
 use Rattle.std.proofs.lemmas.Int.{ints}
@@ -102,15 +102,19 @@ plain_column_plain : (value : Item → Data) (name : List ℕ) (items : List Ite
 plain_column_plain value name items few plain =
     (plain, (refl, (refl, (refl, tt))), (flags_plain items, (refl, (refl, tt)), sized_plain (length items) name few))
 
-text_column_plain : (name : List ℕ) (items : List Item) → length items < 2 ^ 64 → sum_by item_length items < 2 ^ 64 → IsPlain (text_column name items)
-text_column_plain name items few short =
-    (each_plain text_data text_plain items, (refl, (refl, (refl, (refl, tt)))),
-     (offsets_plain 0 items (omega (arith, short)), (refl, (refl, (refl, tt))), (flags_plain items, (refl, (refl, tt)), sized_plain (length items) name few)))
+pub text_column_plain : (name : List ℕ) (items : List Item) → length items < 2 ^ 64 → sum_by item_length items < 2 ^ 64 → IsPlain (text_column name items)
+text_column_plain name items few short = (
+  each_plain text_data text_plain items,
+  (refl, (refl, (refl, (refl, tt)))),
+  (offsets_plain 0 items (omega (arith, short)), (refl, (refl, (refl, tt))), (flags_plain items, (refl, (refl, tt)), sized_plain (length items) name few)),
+)
 
 list_column_plain : (child : Data) (name : List ℕ) (items : List Item) → length items < 2 ^ 64 → sum_by item_length items < 2 ^ 64 → IsPlain child → IsPlain (list_column child name items)
-list_column_plain child name items few short plain =
-    (offsets_plain 0 items (omega (arith, short)), (refl, (refl, (refl, (refl, tt)))),
-     (flags_plain items, (refl, (refl, (refl, tt))), ((plain, tt), (refl, (refl, tt)), sized_plain (length items) name few)))
+list_column_plain child name items few short plain = (
+  offsets_plain 0 items (omega (arith, short)),
+  (refl, (refl, (refl, (refl, tt)))),
+  (flags_plain items, (refl, (refl, (refl, tt))), ((plain, tt), (refl, (refl, tt)), sized_plain (length items) name few)),
+)
 
 mutual
   pub column_plain : (texts : List (List ℕ)) → length texts < 2 ^ 64 → (f : FieldShape) (items : List Item) → FitsField f items → IsPlain (column_data (code_in texts) f items)

@@ -1,13 +1,15 @@
 -- Columns whose text has numbers of at most 64 bits, as all columns in memory are: their slots, bytes and list items are counted by
 -- 64 bits, and their numbers are of their type.
-use Rattle.std.specs.Prelude.{ℕ, ◌<◌, ◌^◌, List, length, sum_by, ⊤}
+use Rattle.std.specs.Prelude.{ℕ, ◌<◌, ◌≤◌, ◌^◌, List, [], ◌∷◌, length, sum_by, ⊤}
 use Rattle.std.specs.List.{AllByRecursion}
 use Rattle.arrays.specs.Item.{Item}
 use Rattle.arrays.specs.Kind as kind
 use Rattle.arrays.specs.Lengths.{inner_items}
-use Rattle.arrays.specs.Shape.{Shape, FieldShape, int, boolean, utf8, list, dict, field}
+use Rattle.arrays.specs.Shape.{Shape, FieldShape, int, boolean, utf8, list, dict, field, kind_of_field}
 use Rattle.arrays.specs.Typed.{IsItemOf}
+use Rattle.arrow_text.specs.BatchData.{Table}
 use Rattle.arrow_text.specs.ColumnData.{item_length}
+use Rattle.arrow_text.specs.Dictionaries.{dictionaries_from}
 
 abbrev mutual
   pub FitsField : FieldShape → List Item → Type 0
@@ -19,3 +21,35 @@ abbrev mutual
   FitsShape utf8 items = sum_by item_length items < 2 ^ 64
   FitsShape (list f) items = (sum_by item_length items < 2 ^ 64) × FitsField f (inner_items items)
   FitsShape dict items = ⊤
+
+-- Columns under their fields.
+abbrev pub FitColumns : List FieldShape → List (List Item) → Type 0
+FitColumns [] columns = ⊤
+FitColumns (f ∷ fields) [] = ⊤
+FitColumns (f ∷ fields) (items ∷ columns) = FitsField f items × FitColumns fields columns
+
+pub record FitsTable (fields : List FieldShape) (t : Table) : Type 0 where
+  pub rows : t.rows < 2 ^ 64
+  pub columns : FitColumns fields t.columns
+
+abbrev pub FitTables : List FieldShape → List Table → Type 0
+FitTables fields tables = AllByRecursion (FitsTable fields) tables
+
+-- Each dictionary has so few texts.
+abbrev pub AreSmall : List (List (List ℕ)) → Type 0
+AreSmall dictionaries = AllByRecursion (λ texts. length texts < 2 ^ 64) dictionaries
+
+-- Each dictionary has so few texts, of so few bytes together.
+abbrev pub FitDictionaries : List (List (List ℕ)) → Type 0
+FitDictionaries dictionaries = AllByRecursion (λ texts. (length texts < 2 ^ 64) × (sum_by length texts < 2 ^ 64)) dictionaries
+
+-- Each field has at most 8 lists in one another.
+abbrev pub AreShallow : List FieldShape → Type 0
+AreShallow fields = AllByRecursion (λ f. kind.depth (kind_of_field f) ≤ 8) fields
+
+-- A file of tables under fields.
+pub record FitsFile (fields : List FieldShape) (tables : List Table) : Type 0 where
+  pub few : length fields < 2 ^ 64
+  pub shallow : AreShallow fields
+  pub held : FitTables fields tables
+  pub coded : FitDictionaries (dictionaries_from 0 fields tables)

@@ -6,11 +6,11 @@ use Rattle.types.proofs.ShapeLemmas.{kind_of-List}
 use Rattle.arrays.specs.Kind as kind
 use Rattle.arrays.specs.Kind.{kind_of}
 use Rattle.arrays.proofs.DictionaryLemmas.{kind_of-Dict}
-use Rattle.arrow_json.specs.declared.fault.JsonFaultKind.TheVariants.{UnsupportedType}
+use Rattle.json_places.specs.declared.fault.JsonFaultKind.TheVariants.{UnsupportedType}
 use Rattle.arrow_json.specs.JsonBatchFault.{KindFault}
-use Rattle.arrow_json.specs.JsonFault.{Tells, IsUnder}
-use Rattle.arrow_json.specs.declared.path.Member.TheVariants as member
-use Rattle.arrow_json.specs.declared.path.Step.TheVariants as step
+use Rattle.json_places.specs.JsonFault.{Tells, IsUnder}
+use Rattle.json_places.specs.declared.path.Member.TheVariants as member
+use Rattle.json_places.specs.declared.path.Step.TheVariants as step
 use Rattle.arrow_json.proofs.JsonBatches.{tells_unread}
 use Rattle.arrow_json.proofs.JsonLists.{lists_flags, lists_offsets, lists_child}
 use Rattle.arrow_json.proofs.JsonResults.{error_kept, error_made}

@@ -1,7 +1,7 @@
 use Rattle.std.proofs.Common.{◌≡◌, ◌<◌, Ok, length, arith, rules}
 use Rattle.std.specs.Result.{MatchResult, IsErrAnd}
-use Rattle.arrow_json.specs.JsonFault.{IsUnder}
-use Rattle.arrow_json.specs.declared.path.Step.TheVariants as step
+use Rattle.json_places.specs.JsonFault.{IsUnder}
+use Rattle.json_places.specs.declared.path.Step.TheVariants as step
 use Rattle.arrow_json.proofs.JsonBatches.{book_count, columns_pushed, encoded_field_at, tells_column}
 use Rattle.arrow_json.proofs.JsonResults.{value_kept, error_made}
 use Rattle.arrow_json.proofs.batch.read_columns.Goals as goal

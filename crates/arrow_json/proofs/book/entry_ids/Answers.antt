@@ -5,8 +5,8 @@ use Rattle.std.proofs.lemmas.Int.{to_z-of_z}
 use Rattle.std.specs.Result.{MatchResult, IsErrAnd}
 use Rattle.arrow_json.specs.JsonBook.{HasId}
 use Rattle.arrow_json.specs.JsonBookFault.{NoId}
-use Rattle.arrow_json.specs.JsonFault.{IsUnder}
-use Rattle.arrow_json.specs.declared.path.Step.TheVariants as step
+use Rattle.json_places.specs.JsonFault.{IsUnder}
+use Rattle.json_places.specs.declared.path.Step.TheVariants as step
 use Rattle.arrow_json.proofs.JsonFaults.{tells_item_at}
 use Rattle.arrow_json.proofs.JsonItems.{each_pushed, each_done}
 use Rattle.arrow_json.proofs.JsonResults.{value_kept, error_made}

@@ -7,7 +7,7 @@ use Rattle.arrow_json.specs.BookParts.{AreCodings, HasSome, coding_of}
 use Rattle.arrow_json.specs.EncodingParts.{parts_of}
 use Rattle.arrow_json.specs.JsonBook.{HasEntries}
 use Rattle.arrow_json.specs.JsonBookFault.{CodingsFault}
-use Rattle.arrow_json.specs.JsonFault.{Tells}
+use Rattle.json_places.specs.JsonFault.{Tells}
 use Rattle.arrow_json.proofs.JsonBooks.{book_encodings, book_read, book_codings}
 use Rattle.arrow_json.proofs.book.read_book.Goals as goal
 

@@ -4,8 +4,8 @@ use Rattle.std.specs.Result.{MatchResult, IsErrAnd}
 use Rattle.arrow_json.specs.EncodingParts.{parts_of}
 use Rattle.arrow_json.specs.JsonEncoding.{HasEncoding}
 use Rattle.arrow_json.specs.JsonEncodingFault.{EncodedFault}
-use Rattle.arrow_json.specs.JsonFault.{IsUnder}
-use Rattle.arrow_json.specs.declared.path.Step.TheVariants as step
+use Rattle.json_places.specs.JsonFault.{IsUnder}
+use Rattle.json_places.specs.declared.path.Step.TheVariants as step
 use Rattle.arrow_json.proofs.JsonFaults.{tells_item_at}
 use Rattle.arrow_json.proofs.JsonItems.{each_pushed, each_done}
 use Rattle.arrow_json.proofs.JsonResults.{value_kept, error_made}

@@ -2,8 +2,8 @@ use Rattle.std.proofs.Common.{◌≡◌, ◌∙◌, [], ◌∷◌, Ok, map, ap, 
 use Rattle.std.proofs.lemmas.List.{map-append}
 use Rattle.std.specs.Arc.{arc_value}
 use Rattle.std.specs.Result.{MatchResult, IsErrAnd}
-use Rattle.arrow_json.specs.JsonFault.{IsUnder}
-use Rattle.arrow_json.specs.declared.path.Step.TheVariants as step
+use Rattle.json_places.specs.JsonFault.{IsUnder}
+use Rattle.json_places.specs.declared.path.Step.TheVariants as step
 use Rattle.arrow_json.proofs.JsonItems.{each_done}
 use Rattle.arrow_json.proofs.JsonFiles.{tells_batch, batch_pushed, AreUnder-push}
 use Rattle.arrow_json.proofs.JsonResults.{value_kept, error_made}

@@ -1,7 +1,7 @@
 use Rattle.std.proofs.Common.{◌≡◌, Ok, arith, rules}
 use Rattle.std.specs.Result.{MatchResult, IsErrAnd}
-use Rattle.arrow_json.specs.JsonFault.{IsUnder}
-use Rattle.arrow_json.specs.declared.path.Step.TheVariants as step
+use Rattle.json_places.specs.JsonFault.{IsUnder}
+use Rattle.json_places.specs.declared.path.Step.TheVariants as step
 use Rattle.arrow_json.specs.JsonFields.{ReadsField}
 use Rattle.arrow_json.specs.JsonFieldsFault.{TopFault}
 use Rattle.arrow_json.proofs.JsonFaults.{tells_item_at}

@@ -1,7 +1,7 @@
 use Rattle.std.proofs.Common.{get_or, arith, rules, tests}
 use Rattle.std.proofs.lemmas.Bool.Decides.{nat_tests}
-use Rattle.arrow_json.proofs.JsonNumbers.{none_from_digit, some_from_all, digit_value-digit}
-use Rattle.arrow_json.proofs.number.numeral.Goals as goal
+use Rattle.json_places.proofs.JsonNumbers.{none_from_digit, some_from_all, digit_value-digit}
+use Rattle.json_places.proofs.number.numeral.Goals as goal
 
 pub returns-in_err-checked_mul : goal.returns-in_err-checked_mul
 returns-in_err-checked_mul c =

@@ -1,14 +1,14 @@
 ghost use Rattle.std.specs.Prelude.{◌≡◌, ◌<◌, ◌^◌, option_and_then, IfSome};
 ghost use Rattle.arrays.specs.Number.{IsOfType};
 ghost use Rattle.serde_json.specs.View.{view, number_view};
-ghost use Rattle.arrow_json.specs.JsonNumber.{integer_of, fitting, spelled, narrow, numeral, below, count_of, flag_of, width_of};
+ghost use Rattle.json_places.specs.JsonNumber.{integer_of, fitting, spelled, narrow, numeral, below, count_of, flag_of, width_of};
 
 use arrays::{IntType, Width};
 use serde_json::{Number, Value};
 
 /// The integer of the type that the value spells, as a number or as a text.
 #[tactic(auto, using(crate::proofs::JsonNumbers::ranges))]
-pub(crate) fn integer(ty: IntType, value: &Value) -> Option<i128>
+pub fn integer(ty: IntType, value: &Value) -> Option<i128>
     ensures value { result ≡ integer_of ty (view value.now) }
     ensures of_type { IfSome result (IsOfType ty) }
 {
@@ -28,7 +28,7 @@ fn fitting(ty: IntType, number: i128) -> Option<i128>
 }
 
 /// A count: a whole number up to 2^31 - 1.
-pub(crate) fn count(value: &Value) -> Option<u32>
+pub fn count(value: &Value) -> Option<u32>
     ensures value { result ≡ count_of (view value.now) }
     ensures small { IfSome result (λ n. n < 2 ^ 31) }
 {
@@ -41,7 +41,7 @@ pub(crate) fn count(value: &Value) -> Option<u32>
 }
 
 /// A flag: 1, 0, true or false.
-pub(crate) fn flag(value: &Value) -> Option<bool>
+pub fn flag(value: &Value) -> Option<bool>
     ensures { result ≡ flag_of (view value.now) }
 {
     match value.as_bool() {
@@ -85,7 +85,7 @@ fn numeral(digits: &[u8]) -> Option<u64>
 }
 
 /// A width that is read.
-pub(crate) fn width(number: &Number) -> Option<Width>
+pub fn width(number: &Number) -> Option<Width>
     ensures { result ≡ width_of (number_view number.now) }
 {
     match number.as_u64()? {

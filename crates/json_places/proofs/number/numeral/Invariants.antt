@@ -2,7 +2,7 @@ use Rattle.std.proofs.Common.{◌≡◌, ◌<◌, ◌^◌, drop}
 use Rattle.std.specs.List.{list_all}
 use Rattle.std.specs.Char.{is_ascii_digit}
 use Rattle.std.specs.Str.Parse.{digits_value, digits_value_after}
-use Rattle.arrow_json.proofs.number.numeral.Given as goal
+use Rattle.json_places.proofs.number.numeral.Given as goal
 
 -- what is left decides, and goes on from the number so far
 abbrev pub invariant-loop-digit : goal.invariant-loop-digit

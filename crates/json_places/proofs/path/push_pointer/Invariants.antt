@@ -1,6 +1,6 @@
 use Rattle.std.proofs.Common.{◌≡◌, ◌++◌, take, string_bytes}
-use Rattle.arrow_json.specs.JsonPath.{pointer}
-use Rattle.arrow_json.proofs.path.push_pointer.Given as goal
+use Rattle.json_places.specs.JsonPath.{pointer}
+use Rattle.json_places.proofs.path.push_pointer.Given as goal
 
 -- the steps so far are written
 abbrev pub invariant-loop-step : goal.invariant-loop-step

@@ -3,10 +3,10 @@ use Rattle.std.specs.Prelude.{ℕ, List, [], ◌∷◌, ◌++◌, codes, Option,
 use Rattle.std.specs.Fmt.{decimal}
 use Rattle.layout.specs.declared.fault.LayoutFault.{LayoutFault}
 use Rattle.layout.specs.declared.fault.LayoutFault.TheVariants as layout
-use Rattle.arrow_json.specs.JsonPath.{pointer}
-use Rattle.arrow_json.specs.declared.path.Step.{Step}
-use Rattle.arrow_json.specs.declared.fault.JsonFaultKind.{JsonFaultKind}
-use Rattle.arrow_json.specs.declared.fault.JsonFaultKind.TheVariants.{NotJson, MissingMember, WrongMember, UnsupportedType, BadNumber, BadOffset, CountDiffers, NoDictionary, DictionaryTwice, Layout, NoMemory}
+use Rattle.json_places.specs.JsonPath.{pointer}
+use Rattle.json_places.specs.declared.path.Step.{Step}
+use Rattle.json_places.specs.declared.fault.JsonFaultKind.{JsonFaultKind}
+use Rattle.json_places.specs.declared.fault.JsonFaultKind.TheVariants.{NotJson, MissingMember, WrongMember, UnsupportedType, BadNumber, BadOffset, CountDiffers, NoDictionary, DictionaryTwice, Layout, NoMemory}
 
 -- The number and the name.
 abbrev pub kind_name : JsonFaultKind → List ℕ

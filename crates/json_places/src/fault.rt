@@ -1,5 +1,5 @@
 ghost use Rattle.std.specs.Prelude.{◌≡◌, ◌∷◌, ◌++◌, ◌≢◌, [], IfOk, OnOk, codes, string_bytes};
-ghost use Rattle.arrow_json.specs.JsonFaultText.{kind_name, kind_text, fault_text, layout_name, row_of};
+ghost use Rattle.json_places.specs.JsonFaultText.{kind_name, kind_text, fault_text, layout_name, row_of};
 
 use crate::path::{Path, Step, push_pointer};
 use arrays::LayoutFault;
@@ -102,7 +102,7 @@ fn row_of(fault: LayoutFault) -> Option<usize>
 
 impl fmt::Display for JsonFaultKind {
     ghost use Rattle.std.specs.Prelude.{Some};
-    ghost use Rattle.arrow_json.specs.JsonFaultText.{kind_text};
+    ghost use Rattle.json_places.specs.JsonFaultText.{kind_text};
 
     ghost output = { λ kind. Some (kind_text kind) };
 
@@ -130,7 +130,7 @@ pub struct JsonFault {
 }
 
 impl JsonFault {
-    ghost use Rattle.arrow_json.specs.JsonFault.{IsFault, no_memory, IsUnder};
+    ghost use Rattle.json_places.specs.JsonFault.{IsFault, no_memory, IsUnder};
 
     /// Want of memory.
     pub fn no_memory(alloc: Global) -> JsonFault

@@ -1,5 +1,5 @@
 ghost use Rattle.std.specs.Prelude.{◌≡◌, ◌∷◌, ◌++◌, [], IfOk, OnOk, string_bytes};
-ghost use Rattle.arrow_json.specs.JsonPath.{member_name, step_text, pointer};
+ghost use Rattle.json_places.specs.JsonPath.{member_name, step_text, pointer};
 
 use colbits::NoMemory;
 use std::alloc::{AllocError, Global};
@@ -76,7 +76,7 @@ pub struct Path {
 
 impl Model for Path {
     ghost use Rattle.std.specs.Prelude.{List};
-    ghost use Rattle.arrow_json.specs.declared.path.Step.{Step};
+    ghost use Rattle.json_places.specs.declared.path.Step.{Step};
 
     ghost Value = { List Step };
 

@@ -5,7 +5,7 @@ use Rattle.std.proofs.lemmas.Bool.Decides.{nat_tests}
 use Rattle.std.specs.List.{list_all}
 use Rattle.std.specs.Char.{is_ascii_digit, digit_value}
 use Rattle.std.specs.Str.Parse.{digits_value, digits_value_after}
-use Rattle.arrow_json.specs.JsonNumber.{numeral, below, is_numeral, fitting, narrow}
+use Rattle.json_places.specs.JsonNumber.{numeral, below, is_numeral, fitting, narrow}
 use Rattle.types.specs.declared.int_type.IntType.{IntType}
 use Rattle.arrays.specs.Number.{is_of_type}
 use Rattle.types.specs.declared.int_type.Width.{Width}

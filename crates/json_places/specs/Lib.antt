@@ -1,0 +1,5 @@
+-- The words of this crate's contracts.
+pub mod JsonPath
+pub mod JsonFault
+pub mod JsonFaultText
+pub mod JsonNumber
