@@ -12,10 +12,10 @@ ghost use Rattle.json_places.specs.JsonFault.{Tells};
 use crate::book::Coding;
 use crate::codes::read_codes;
 use crate::column::{list_member, read_numbers, read_texts, read_truths};
-use json_places::{JsonFault, JsonFaultKind, Member, Step};
 use crate::list::read_list;
 use crate::member::{check_object, count_member, push};
 use arrays::{Array, DataType, Field, RecordBatch, Schema};
+use json_places::{JsonFault, JsonFaultKind, Member, Step};
 use serde_json::Value;
 use std::alloc::Global;
 

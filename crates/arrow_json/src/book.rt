@@ -17,9 +17,9 @@ ghost use Rattle.arrow_json.specs.JsonMember.{EachFault, IsObject, ReadsEach};
 
 use crate::dictionary::read_entry;
 use crate::encoding::{Encoding, id_member, read_encoded};
-use json_places::{JsonFault, JsonFaultKind, Member, Step};
 use crate::member::{array_member, check_object, push};
 use arrays::{IntType, Words};
+use json_places::{JsonFault, JsonFaultKind, Member, Step};
 use serde_json::Value;
 use std::alloc::Global;
 use std::sync::Arc;

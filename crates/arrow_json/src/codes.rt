@@ -14,10 +14,10 @@ ghost use Rattle.json_places.specs.JsonFault.{Tells};
 ghost use Rattle.arrow_json.specs.SlotParts.{flags_in, values_in};
 
 use crate::column::{Slots, read_slots};
-use json_places::{JsonFault, JsonFaultKind, Member, Step};
-use json_places::number::integer;
 use arrays::{Array, IntBuilder, IntType, Integer, LayoutFault, View, Words};
 use colbits::NoMemory;
+use json_places::number::integer;
+use json_places::{JsonFault, JsonFaultKind, Member, Step};
 use serde_json::Value;
 use std::alloc::Global;
 use std::sync::Arc;

@@ -14,11 +14,11 @@ ghost use Rattle.arrow_json.specs.SlotParts.{flags_in, values_in};
 ghost use Rattle.arrow_json.specs.Unfit.{IsWith, IsUnfit, IsTold};
 ghost use Rattle.json_places.specs.declared.path.Member.TheVariants as member;
 
-use json_places::{JsonFault, JsonFaultKind, Member, Step};
 use crate::member::{check_object, count_member, required};
-use json_places::number::{flag, integer};
 use arrays::{Array, BoolBuilder, BuildFault, IntBuilder, IntType, LayoutFault, TextBuilder};
 use colbits::NoMemory;
+use json_places::number::{flag, integer};
+use json_places::{JsonFault, JsonFaultKind, Member, Step};
 use serde_json::Value;
 use std::alloc::Global;
 

@@ -9,10 +9,10 @@ ghost use Rattle.json_places.specs.JsonFault.{Tells};
 ghost use Rattle.arrow_json.specs.JsonMember.{IsObject};
 
 use crate::column::{read_texts, single_member};
-use json_places::{JsonFault, JsonFaultKind, Member, Step};
 use crate::member::{check_object, count_member, required};
 use crate::schema::only_item;
 use arrays::{Array, Words};
+use json_places::{JsonFault, JsonFaultKind, Member, Step};
 use serde_json::Value;
 use std::alloc::Global;
 

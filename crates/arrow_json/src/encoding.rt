@@ -10,11 +10,11 @@ ghost use Rattle.arrow_json.specs.JsonMember.{IsObject, MemberFault, Unlike, mem
 ghost use Rattle.arrow_json.specs.JsonSchema.{is_without};
 ghost use Rattle.json_places.specs.declared.path.Member.TheVariants as member;
 
-use json_places::{JsonFault, Member, Step};
 use crate::member::{check_object, required, unlike};
-use json_places::number::integer;
 use crate::type_object::read_index;
 use arrays::{IntType, Width};
+use json_places::number::integer;
+use json_places::{JsonFault, Member, Step};
 use serde_json::Value;
 use std::alloc::Global;
 

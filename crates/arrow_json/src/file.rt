@@ -13,10 +13,10 @@ ghost use Rattle.arrow_json.specs.JsonFile.{AreUnder, BytesFault, FileFault, Has
 
 use crate::batch::read_batch;
 use crate::book::{Coding, read_book};
-use json_places::{JsonFault, JsonFaultKind, Member, Step};
 use crate::member::{array_member, check_object, push, required};
 use crate::schema::{field_values, read_schema};
 use arrays::{File, RecordBatch, Schema};
+use json_places::{JsonFault, JsonFaultKind, Member, Step};
 use serde_json::Value;
 use std::alloc::Global;
 use std::sync::Arc;

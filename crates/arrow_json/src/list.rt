@@ -22,12 +22,12 @@ ghost use Rattle.json_places.specs.declared.path.Member.TheVariants as member;
 
 use crate::batch::read_array;
 use crate::column::{check_count, flags, single_member};
-use json_places::{JsonFault, JsonFaultKind, Member, Step};
 use crate::member::{array_member, check_object, count_member};
-use json_places::number::{flag, integer};
 use arrays::validity::buffer_of;
 use arrays::{Array, Field, Integer, LayoutFault, ValidityBuilder};
 use colbits::{Buffer, NoMemory};
+use json_places::number::{flag, integer};
+use json_places::{JsonFault, JsonFaultKind, Member, Step};
 use serde_json::Value;
 use std::alloc::Global;
 

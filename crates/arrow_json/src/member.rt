@@ -7,8 +7,8 @@ ghost use Rattle.json_places.specs.declared.fault.JsonFaultKind.TheVariants.{Wro
 ghost use Rattle.arrow_json.specs.JsonMember.{member_of, IsObject, Unlike, MemberFault, Missing};
 ghost use Rattle.json_places.specs.JsonNumber.{count_of};
 
-use json_places::{JsonFault, JsonFaultKind, Member, Step};
 use json_places::number::count;
+use json_places::{JsonFault, JsonFaultKind, Member, Step};
 use serde_json::{Number, Value};
 use std::alloc::Global;
 

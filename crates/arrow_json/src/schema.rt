@@ -15,12 +15,12 @@ ghost use Rattle.arrow_json.specs.JsonFieldsFault.{SchemaFault, TopFault};
 ghost use Rattle.json_places.specs.declared.path.Member.TheVariants as member;
 
 use crate::encoding::read_encoded;
-use json_places::{JsonFault, JsonFaultKind, Member, Step};
 use crate::member::{
     array_member, check_object, push, required, text_member, truth_member, unlike,
 };
 use crate::type_object::{read_type, type_name};
 use arrays::{DataType, Field, Schema};
+use json_places::{JsonFault, JsonFaultKind, Member, Step};
 use serde_json::Value;
 use std::alloc::Global;
 

@@ -8,10 +8,10 @@ ghost use Rattle.arrow_json.specs.JsonMember.{IsObject};
 ghost use Rattle.arrow_json.specs.JsonSchema.{type_name, ReadsInt};
 ghost use Rattle.arrow_json.specs.JsonSchemaFault.{TypeFault, IndexFault};
 
-use json_places::{JsonFault, JsonFaultKind, Member};
 use crate::member::{check_object, number_member, text_member, truth_member};
-use json_places::number::width;
 use arrays::{DataType, IntType};
+use json_places::number::width;
+use json_places::{JsonFault, JsonFaultKind, Member};
 use serde_json::Value;
 use std::alloc::Global;
 

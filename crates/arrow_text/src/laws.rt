@@ -10,5 +10,4 @@ ghost use Rattle.arrow_text.specs.Plain.{IsPlain};
 #[tactic(auto, using(crate::proofs::ReadBack::read_back))]
 pub fn plain_values_read_back()
     ensures { (d : Data) → IsPlain d → depth d ≤ max_depth → read (compact_text d) ≡ Some d }
-{
-}
+{}
