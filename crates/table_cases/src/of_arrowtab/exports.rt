@@ -1,5 +1,5 @@
 //! Files exported: the table as one file, and that it reads back as it is.
-ghost use Rattle.std.specs.Prelude.{◌≡◌, IfOk, length};
+ghost use Rattle.std.specs.Prelude.{◌≡◌, ◌^◌, ◌-◌, ◌<◌, IfOk, length};
 
 use arrowtab::memory::{MemorySink, MemorySource};
 use arrowtab::{Command, Job, run};
@@ -48,42 +48,92 @@ const BARE: &str =
 const BARE_OUT: &str =
     r#"{"batches":[{"columns":[],"count":2147483647},{"columns":[],"count":0}],"schema":{"fields":[]}}"#;
 
-/// The job `export A B ..`, of so many files.
-fn job(alloc: Global, files: usize) -> Result<Job, AllocError>
-    ensures names { IfOk result (λ j. length j.names.items ≡ files) }
+/// What a run came to.
+#[derive(Drop)]
+struct Outcome {
+    status: u8,
+    out: MemorySink,
+    err: MemorySink,
+}
+
+/// The job `export A`.
+fn job_of_one(alloc: Global) -> Result<Job, AllocError>
+    ensures name { IfOk result (λ j. length j.names.items ≡ 1) }
     ensures workers { IfOk result (λ j. j.workers ≡ 1) }
 {
-    let mut names = Vec::new(alloc);
-    for _file in 0..files {
-        names.push(String::from_str(alloc, "A")?)?;
-    }
+    let name = String::from_str(alloc, "A")?;
     Ok(Job {
         command: Command::Export,
-        names,
+        names: vec![in alloc; name]?,
         workers: 1,
     })
 }
 
-/// What `export` of a text prints, behind which it prints a newline.
-fn exported(rt: &impl Abort, alloc: Global, text: &str) -> Result<Vec<u8>, Fail> {
-    let job = job(alloc, 1)?;
-    let mut sources = [MemorySource::new(Vec::from_slice(alloc, text.as_bytes())?)];
+/// The job `export A B`.
+fn job_of_two(alloc: Global) -> Result<Job, AllocError>
+    ensures name { IfOk result (λ j. length j.names.items ≡ 2) }
+    ensures workers { IfOk result (λ j. j.workers ≡ 1) }
+{
+    let first = String::from_str(alloc, "A")?;
+    let second = String::from_str(alloc, "B")?;
+    Ok(Job {
+        command: Command::Export,
+        names: vec![in alloc; first, second]?,
+        workers: 1,
+    })
+}
+
+/// A source of a text.
+fn source(alloc: Global, text: &[u8]) -> Result<MemorySource, AllocError>
+    ensures { IfOk result (λ s. s.failures ≡ 0) }
+{
+    Ok(MemorySource::new(Vec::from_slice(alloc, text)?))
+}
+
+/// Runs `export A` from this source.
+fn ran_one(alloc: Global, source: MemorySource) -> Result<Outcome, AllocError>
+    requires { source.failures < 2 ^ 64 - 1 }
+{
+    let job = job_of_one(alloc)?;
+    let mut sources = [source];
     let mut out = MemorySink::new(alloc);
     let mut err = MemorySink::new(alloc);
     let status = run(alloc, &job, &mut sources, &mut out, &mut err);
-    assert!(rt; err.taken().is_empty(), "for {text}");
-    assert_eq!(rt; status, 0, "for {text}");
-    let mut printed = Vec::from_slice(alloc, out.taken())?;
-    assert_eq!(rt; printed.pop(), Some(b'\n'), "for {text}");
-    Ok(printed)
+    Ok(Outcome { status, out, err })
+}
+
+/// Runs `export A B` from these sources.
+fn ran_two(alloc: Global, first: MemorySource, second: MemorySource) -> Result<Outcome, AllocError>
+    requires first { first.failures < 2 ^ 64 - 1 }
+    requires second { second.failures < 2 ^ 64 - 1 }
+{
+    let job = job_of_two(alloc)?;
+    let mut sources = [first, second];
+    let mut out = MemorySink::new(alloc);
+    let mut err = MemorySink::new(alloc);
+    let status = run(alloc, &job, &mut sources, &mut out, &mut err);
+    Ok(Outcome { status, out, err })
+}
+
+/// Asserts that a run printed this, and a newline behind it.
+fn assert_printed(rt: &impl Abort, came: &Outcome, wanted: &str) {
+    assert!(rt; came.err.taken().is_empty(), "for {wanted}");
+    assert_eq!(rt; came.status, 0, "for {wanted}");
+    match came.out.taken().split_last() {
+        Some((newline, printed)) => {
+            assert_eq!(rt; *newline, b'\n', "for {wanted}");
+            assert_eq!(rt; printed, wanted.as_bytes());
+        }
+        None => panic!(rt; "nothing was printed for {wanted}"),
+    }
 }
 
 /// Asserts what is exported, and that this is exported as it is.
 fn expect(rt: &impl Abort, alloc: Global, text: &str, wanted: &str) -> Result<(), Fail> {
-    let printed = exported(rt, alloc, text)?;
-    assert_eq!(rt; printed.as_slice(), wanted.as_bytes(), "for {text}");
-    let again = exported(rt, alloc, wanted)?;
-    assert_eq!(rt; again.as_slice(), wanted.as_bytes(), "again for {text}");
+    let came = ran_one(alloc, source(alloc, text.as_bytes())?)?;
+    assert_printed(rt, &came, wanted);
+    let again = ran_one(alloc, source(alloc, wanted.as_bytes())?)?;
+    assert_printed(rt, &again, wanted);
     Ok(())
 }
 
@@ -111,21 +161,9 @@ const BOTH_OUT: &str =
 
 #[test]
 fn exports_two_files_as_one(rt: HostRuntime) -> Result<(), Fail> {
-    let alloc = rt.alloc();
-    let job = job(alloc, 2)?;
-    let mut sources = [
-        MemorySource::new(Vec::from_slice(alloc, TEXTS.as_bytes())?),
-        MemorySource::new(Vec::from_slice(alloc, MORE.as_bytes())?),
-    ];
-    let mut out = MemorySink::new(alloc);
-    let mut err = MemorySink::new(alloc);
-    let status = run(alloc, &job, &mut sources, &mut out, &mut err);
-    assert!(rt; err.taken().is_empty());
-    assert_eq!(rt; status, 0);
-    let Some((newline, printed)) = out.taken().split_last() else {
-        panic!(rt; "nothing was printed");
-    };
-    assert_eq!(rt; *newline, b'\n');
-    assert_eq!(rt; printed, BOTH_OUT.as_bytes());
+    let first = source(rt.alloc(), TEXTS.as_bytes())?;
+    let second = source(rt.alloc(), MORE.as_bytes())?;
+    let came = ran_two(rt.alloc(), first, second)?;
+    assert_printed(&rt, &came, BOTH_OUT);
     Ok(())
 }

@@ -57,12 +57,20 @@ fn stats_takes_files(rt: HostRuntime) {
 #[test]
 fn export_takes_files(rt: HostRuntime) {
     let alloc = rt.alloc();
-    for names in [["A"].as_slice(), ["B", "A", "B"].as_slice()] {
-        let mut words = ["arrowtab", "export", "", "", ""];
-        let count = names.len().min(3);
-        words[2..2 + count].copy_from_slice(&names[..count]);
-        expect_job(&rt, alloc, &words[..2 + count], Command::Export, names);
-    }
+    expect_job(
+        &rt,
+        alloc,
+        &["arrowtab", "export", "A"],
+        Command::Export,
+        &["A"],
+    );
+    expect_job(
+        &rt,
+        alloc,
+        &["arrowtab", "export", "B", "A", "B"],
+        Command::Export,
+        &["B", "A", "B"],
+    );
 }
 
 const HELP: &str = "Tells what files in Apache Arrow's JSON integration format hold, as one table
