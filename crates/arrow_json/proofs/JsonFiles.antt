@@ -18,7 +18,8 @@ use Rattle.json_places.specs.declared.fault.JsonFaultKind.TheVariants.{NotJson}
 use Rattle.json_places.specs.JsonFault.{Tells, IsFault, IsUnder}
 use Rattle.arrow_json.specs.JsonMember.{member_of, Unlike, Missing, MemberFault, absent, wrong, EachFault, ReadsFirst, ReadsEach}
 use Rattle.arrow_json.specs.JsonFieldsFault.{SchemaFault}
-use Rattle.arrow_json.specs.JsonBatch.{IsBookOf, ReadsBatch, table_of}
+use Rattle.arrow_json.specs.JsonBatch.{IsBookOf, ReadsBatch}
+use Rattle.json_places.specs.JsonTable.{table_of}
 use Rattle.arrow_json.specs.JsonBook.{Coding, HasBook, HasCoding, listed_fields}
 use Rattle.arrow_json.specs.JsonBookFault.{BookFault}
 use Rattle.arrow_json.specs.JsonFields.{ReadsField, plain_field, encoded_field}

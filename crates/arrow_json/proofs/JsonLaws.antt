@@ -20,7 +20,7 @@ use Rattle.arrays.specs.Offsets.{of_slot}
 use Rattle.arrow_json.specs.JsonList.{Spells, offset_bytes, are_enough, lists_fault, list_slot, ReadsLists, HasLists, ReadsList}
 use Rattle.arrow_json.specs.JsonListFault.{OffsetsFault, no_offsets, not_enough, NoLists, no_list_object, bad_list_count, bad_list_flags, bad_offsets, bad_children, NoOffset, no_offset, no_flag_at, ChildFault, no_child_object, bad_child_count, bad_child_column, NotLawful, not_lawful, ListsFault, no_lists, no_flags_of_lists, bad_offset, bad_child, bad_lists}
 use Rattle.arrow_json.proofs.JsonLists.{column_count}
-use Rattle.arrow_json.specs.JsonTable.{Table, FileData}
+use Rattle.json_places.specs.JsonTable.{Table, FileData}
 use Rattle.arrow_json.specs.JsonBatch.{ReadsColumn, ReadsTop, ReadsColumns, ReadsBatch}
 use Rattle.arrow_json.proofs.JsonFiles.{book_of}
 use Rattle.arrow_json.specs.JsonBatchFault.{KindFault, CodedFault, ColumnsFault, bad_column, BatchFault, no_batch_object, bad_rows, bad_list, bad_columns}

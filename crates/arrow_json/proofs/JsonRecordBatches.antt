@@ -21,7 +21,8 @@ use Rattle.serde_json.proofs.Views.{items_len-items_view}
 use Rattle.json_places.specs.declared.path.Member.TheVariants as member
 use Rattle.arrow_json.specs.JsonMember.{member_of}
 use Rattle.json_places.specs.JsonNumber.{count_of}
-use Rattle.arrow_json.specs.JsonBatch.{HoldsTop, HoldsColumns, ReadsTop, ReadsColumns, ReadsBatch, table_of}
+use Rattle.arrow_json.specs.JsonBatch.{HoldsTop, HoldsColumns, ReadsTop, ReadsColumns, ReadsBatch}
+use Rattle.json_places.specs.JsonTable.{table_of}
 use Rattle.arrow_json.specs.JsonBook.{Coding}
 use Rattle.arrow_json.proofs.JsonSchemas.{get_item_some, position-none}
 

@@ -1,10 +1,9 @@
 -- The batches of a file. (Arrow integration testing, "JSON test data format", RecordBatch)
-use Rattle.std.specs.Prelude.{◌≡◌, ℕ, List, map, length, slice_get, Option, Some, None, option_and_then}
+use Rattle.std.specs.Prelude.{◌≡◌, ℕ, List, length, slice_get, Option, Some, None, option_and_then}
 use Rattle.arrays.specs.Kind.{Kind, int, boolean, utf8, list, dict}
 use Rattle.arrays.specs.Item.{Item}
 use Rattle.arrays.specs.Shape.{FieldShape, kind_of_field}
 use Rattle.arrays.specs.Seen.{Seen}
-use Rattle.arrays.specs.Batch.{Batch}
 use Rattle.serde_json.specs.Data.{Data, Items}
 use Rattle.serde_json.specs.Find.{get_item, as_array}
 use Rattle.serde_json.specs.Events.{items_len}
@@ -14,12 +13,8 @@ use Rattle.arrow_json.specs.JsonColumn.{ReadsPlain, numbers, truths, texts}
 use Rattle.arrow_json.specs.JsonList.{ReadsList}
 use Rattle.arrow_json.specs.JsonCodes.{ReadsCodes}
 use Rattle.arrow_json.specs.JsonBook.{Coding}
-use Rattle.arrow_json.specs.JsonTable.{Table}
+use Rattle.json_places.specs.JsonTable.{Table}
 use Rattle.json_places.specs.declared.path.Member.TheVariants as member
-
--- The columns of a batch, without where they lie in memory.
-abbrev pub table_of : Batch → Table
-table_of b = record { rows = b.rows; columns = map (λ s. s.items) b.columns }
 
 -- The column object of n items of the kind, which isn't encoded.
 abbrev pub ReadsColumn : Kind → ℕ → Data → List Item → Type 0

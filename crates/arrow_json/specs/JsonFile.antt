@@ -12,8 +12,8 @@ use Rattle.arrow_json.specs.JsonFields.{ReadsSchema}
 use Rattle.arrow_json.specs.JsonFieldsFault.{SchemaFault}
 use Rattle.arrow_json.specs.JsonBook.{Coding, HasBook}
 use Rattle.arrow_json.specs.JsonBookFault.{BookFault}
-use Rattle.arrow_json.specs.JsonTable.{FileData}
-use Rattle.arrow_json.specs.JsonBatch.{ReadsBatch, table_of}
+use Rattle.json_places.specs.JsonTable.{FileData, table_of}
+use Rattle.arrow_json.specs.JsonBatch.{ReadsBatch}
 use Rattle.arrow_json.specs.JsonBatchFault.{BatchFault}
 use Rattle.json_places.specs.declared.path.Member.TheVariants as member
 use Rattle.json_places.specs.declared.path.Step.{Step}

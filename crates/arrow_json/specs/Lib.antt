@@ -24,7 +24,6 @@ pub mod SlotParts
 pub mod ListParts
 pub mod ListBuffers
 pub mod Unfit
-pub mod JsonTable
 pub mod JsonBatch
 pub mod JsonBatchFault
 pub mod JsonFile

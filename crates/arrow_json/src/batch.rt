@@ -5,7 +5,8 @@ ghost use Rattle.arrays.specs.Shape.{fields_of};
 ghost use Rattle.types.specs.declared.data_type.Field.{out-Field};
 ghost use Rattle.serde_json.specs.View.{view, items_view};
 ghost use Rattle.arrow_json.specs.BookParts.{coding_of};
-ghost use Rattle.arrow_json.specs.JsonBatch.{HoldsColumn, HoldsColumns, HoldsTop, IsBookOf, ReadsBatch, table_of};
+ghost use Rattle.arrow_json.specs.JsonBatch.{HoldsColumn, HoldsColumns, HoldsTop, IsBookOf, ReadsBatch};
+ghost use Rattle.json_places.specs.JsonTable.{table_of};
 ghost use Rattle.arrow_json.specs.JsonBatchFault.{BatchFault, CodedFault, ColumnsFault, KindFault};
 ghost use Rattle.json_places.specs.JsonFault.{Tells};
 

@@ -1,7 +1,7 @@
 //! What holds of files whatever program reads them.
 ghost use Rattle.std.specs.Prelude.{◌≡◌, ℕ, List};
 ghost use Rattle.arrow_json.specs.JsonFile.{BytesFault, Reads};
-ghost use Rattle.arrow_json.specs.JsonTable.{FileData};
+ghost use Rattle.json_places.specs.JsonTable.{FileData};
 ghost use Rattle.json_places.specs.declared.path.Step.{Step};
 ghost use Rattle.json_places.specs.declared.fault.JsonFaultKind.{JsonFaultKind};
 

@@ -16,7 +16,7 @@ use Rattle.arrays.specs.File.{AreBatchesOf, kinds_of}
 use Rattle.arrays.specs.Kind.{Kind, dict, kind_of, same_kind}
 use Rattle.arrays.specs.Seen.{Seen}
 use Rattle.arrays.specs.Shape.{FieldShape, field_of, fields_of, kind_of_field}
-use Rattle.arrow_text.specs.BatchData.{items_of, table_of}
+use Rattle.json_places.specs.JsonTable.{items_of, table_of}
 use Rattle.arrow_text.specs.Dictionaries.{IsEncodedAt, column_at}
 use Rattle.arrow_text.specs.Text.{has_dictionary, is_encoded}
 

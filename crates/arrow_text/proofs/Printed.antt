@@ -4,7 +4,7 @@ use Rattle.json.specs.Print.{print}
 use Rattle.json.specs.Token.{Token}
 use Rattle.serde_json.proofs.Texts.{print-outline}
 use Rattle.arrays.specs.File.{File}
-use Rattle.arrow_text.specs.BatchData.{tables_of}
+use Rattle.json_places.specs.JsonTable.{tables_of}
 use Rattle.arrow_text.specs.Text.{document, text}
 use Rattle.arrow_text.specs.Written.{tokens_of}
 

@@ -6,7 +6,7 @@ use Rattle.arrays.specs.Shape.{FieldShape}
 use Rattle.arrays.specs.Item.{Item, null, int, boolean, text, list}
 use Rattle.pool.specs.Texts.{firsts, texts_of}
 use Rattle.pool.proofs.TextLemmas.{firsts-push}
-use Rattle.arrow_text.specs.BatchData.{Table, table_of, tables_of}
+use Rattle.json_places.specs.JsonTable.{Table, table_of, tables_of}
 use Rattle.arrow_text.specs.Dictionaries.{column_at, column_items, dictionaries_from, with_item, with_items}
 
 pub with_items-append : (texts : List (List ℕ)) (xs ys : List Item) → with_items texts (xs ++ ys) ≡ with_items (with_items texts xs) ys

@@ -1,28 +1,12 @@
 -- The batches of a file as values. (Arrow integration testing, "JSON test data format", RecordBatch)
-use Rattle.std.specs.Prelude.{ℕ, List, [], ◌∷◌, codes, map}
-use Rattle.arrays.specs.Batch.{Batch}
+use Rattle.std.specs.Prelude.{ℕ, List, [], ◌∷◌, codes}
 use Rattle.arrays.specs.Item.{Item}
-use Rattle.arrays.specs.Seen.{Seen}
 use Rattle.arrays.specs.Shape.{FieldShape}
 use Rattle.serde_json.specs.Data.{Data, array, object, Items, no_items, item, no_members, member}
+use Rattle.json_places.specs.JsonTable.{Table}
 use Rattle.arrow_text.specs.ColumnData.{column_data}
 use Rattle.arrow_text.specs.Slots.{code_in}
 use Rattle.arrow_text.specs.Written.{natural}
-
--- A table: so many rows, and the items of each column.
-pub record Table : Type 0 where
-  pub rows : ℕ
-  pub columns : List (List Item)
-
-abbrev pub items_of : List Seen → List (List Item)
-items_of columns = map (λ c. c.items) columns
-
--- The table that a batch holds, without where it lies in memory.
-abbrev pub table_of : Batch → Table
-table_of b = record { rows = b.rows; columns = items_of b.columns }
-
-abbrev pub tables_of : List Batch → List Table
-tables_of batches = map table_of batches
 
 -- So many rows of the columns.
 abbrev pub batch_object : Items → ℕ → Data

@@ -7,7 +7,7 @@ use Rattle.arrays.specs.Item.{Item, text}
 use Rattle.arrays.specs.Kind.{Kind, dict}
 use Rattle.arrays.specs.Shape.{FieldShape, kind_of_field}
 use Rattle.pool.specs.Texts.{firsts, texts_of, with_text}
-use Rattle.arrow_text.specs.BatchData.{Table}
+use Rattle.json_places.specs.JsonTable.{Table}
 
 -- The items of the column at the place.
 abbrev pub column_at : ℕ → Table → List Item

@@ -6,7 +6,8 @@ use Rattle.arrays.specs.Kind.{Kind, int, boolean, utf8, list, dict}
 use Rattle.arrays.specs.Shape.{FieldShape, kind_of_field}
 use Rattle.serde_json.specs.Data.{Data, array, object, Members, no_members, member}
 use Rattle.serde_json.specs.Written.{compact_text}
-use Rattle.arrow_text.specs.BatchData.{Table, batches_data, tables_of}
+use Rattle.arrow_text.specs.BatchData.{batches_data}
+use Rattle.json_places.specs.JsonTable.{Table, tables_of}
 use Rattle.arrow_text.specs.Dictionaries.{dictionaries_from}
 use Rattle.arrow_text.specs.DictionaryData.{entries_data}
 use Rattle.arrow_text.specs.SchemaData.{schema_data}

@@ -10,7 +10,7 @@ ghost use Rattle.arrays.specs.Shape.{fields_of};
 ghost use Rattle.arrays.specs.Slot.{is_text};
 ghost use Rattle.types.specs.declared.data_type.Field.{out-Field};
 ghost use Rattle.pool.specs.Texts.{firsts, texts_of};
-ghost use Rattle.arrow_text.specs.BatchData.{table_of, tables_of};
+ghost use Rattle.json_places.specs.JsonTable.{table_of, tables_of};
 ghost use Rattle.arrow_text.specs.Dictionaries.{IsEncodedAt, column_at, column_items, dictionaries_from, dictionary_of, with_item, with_items};
 
 use crate::text_set::TextSet;

@@ -7,7 +7,8 @@ ghost use Rattle.arrays.specs.File.{AreBatchesOf};
 ghost use Rattle.arrays.specs.Kind.{kind_of};
 ghost use Rattle.arrays.specs.Shape.{fields_of};
 ghost use Rattle.types.specs.declared.data_type.Field.{out-Field};
-ghost use Rattle.arrow_text.specs.BatchData.{batches_data, tables_of};
+ghost use Rattle.arrow_text.specs.BatchData.{batches_data};
+ghost use Rattle.json_places.specs.JsonTable.{tables_of};
 ghost use Rattle.arrow_text.specs.Text.{document, has_dictionary, is_encoded, last_members, schema_member, text};
 ghost use Rattle.arrow_text.specs.Written.{Adds, AddsItems, AddsMembers};
 

@@ -11,10 +11,9 @@ use Rattle.arrays.specs.File.{File}
 use Rattle.arrays.specs.Item.{Item, null}
 use Rattle.arrays.specs.Seen.{Seen}
 use Rattle.arrays.specs.Shape.{FieldShape}
-use Rattle.arrow_json.specs.JsonBatch.{table_of}
 use Rattle.arrow_json.specs.JsonFile.{AreUnder, file_of}
-use Rattle.arrow_json.specs.JsonTable as read
-use Rattle.arrow_json.specs.JsonTable.{FileData}
+use Rattle.json_places.specs.JsonTable as read
+use Rattle.json_places.specs.JsonTable.{FileData, table_of}
 use Rattle.arrowtab.specs.Alone.{AreAlike, IsRefusedIn, Shows, Stops, alone, batches_in, fields_for}
 use Rattle.arrowtab.specs.Explained.{Explains}
 use Rattle.arrowtab.specs.Loaded.{FileBatch, IsLoaded, IsStopped, added_by, batches_of, tables_of}

@@ -3,7 +3,7 @@ use Rattle.std.specs.Prelude.{ℕ, List, length, map}
 use Rattle.std.specs.List.{range_with_len}
 use Rattle.arrays.specs.Batch as batch
 use Rattle.arrays.specs.Shape.{FieldShape}
-use Rattle.arrow_text.specs.BatchData.{Table}
+use Rattle.json_places.specs.JsonTable.{Table}
 use Rattle.arrow_text.specs.Text.{document}
 use Rattle.ends.specs.Line.{line}
 use Rattle.serde_json.specs.Written.{compact_text}

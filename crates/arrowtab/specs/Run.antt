@@ -12,7 +12,7 @@ use Rattle.arrowtab.specs.Output.{output}
 use Rattle.arrowtab.specs.Lines.{unread_line, file_line, refusal_line}
 use Rattle.arrowtab.specs.Loaded.{IsLoaded, IsStopped, batches_of}
 use Rattle.arrow_json.specs.JsonFile.{Reads, BytesFault}
-use Rattle.arrow_json.specs.JsonTable.{FileData}
+use Rattle.json_places.specs.JsonTable.{FileData}
 use Rattle.shared.specs.declared.refusal.Refusal.{Refusal}
 use Rattle.json_places.specs.declared.path.Step.{Step}
 use Rattle.json_places.specs.declared.fault.JsonFaultKind.{JsonFaultKind}

@@ -3,3 +3,4 @@ pub mod JsonPath
 pub mod JsonFault
 pub mod JsonFaultText
 pub mod JsonNumber
+pub mod JsonTable

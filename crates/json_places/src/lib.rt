@@ -1,4 +1,4 @@
-//! Places of a JSON document, what is wrong there, and the numbers that stand there. Users name `arrow_json`, which passes on
+//! Places of a JSON document, what is wrong there, the numbers that stand there, and what a file holds. Users name `arrow_json`, which passes on
 //! places and faults; the numbers are for the crates that read documents.
 #![tactic(auto)]
 

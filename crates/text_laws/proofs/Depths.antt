@@ -9,7 +9,8 @@ use Rattle.arrays.specs.Kind as kind
 use Rattle.arrays.specs.Lengths.{inner_items}
 use Rattle.arrays.specs.Shape.{Shape, FieldShape, int, boolean, utf8, list, dict, field, kind_of_field, kind_of_shape}
 use Rattle.serde_json.specs.Data.{Data, Items, depth, items_depth, members_depth}
-use Rattle.arrow_text.specs.BatchData.{Table, batch_data, batches_data, columns_data}
+use Rattle.arrow_text.specs.BatchData.{batch_data, batches_data, columns_data}
+use Rattle.json_places.specs.JsonTable.{Table}
 use Rattle.arrow_text.specs.ColumnData.{code_data, column_data, each, flag_data, int_data, item_length, list_column, number_data, offsets_data, plain_column, shaped_column, text_column, text_data, truth_data, valid_data}
 use Rattle.arrow_text.specs.Dictionaries.{dictionaries_from}
 use Rattle.arrow_text.specs.DictionaryData.{entries_data, entry_data, text_items, with_field}

@@ -2,7 +2,8 @@
 use Rattle.std.proofs.Common.{ℕ, List, [], ◌∷◌, refl}
 use Rattle.arrays.specs.Item.{Item}
 use Rattle.arrays.specs.Shape.{FieldShape}
-use Rattle.arrow_text.specs.BatchData.{Table, batch_data, batches_data, columns_data}
+use Rattle.arrow_text.specs.BatchData.{batch_data, batches_data, columns_data}
+use Rattle.json_places.specs.JsonTable.{Table}
 use Rattle.arrow_text.specs.Plain.{ArePlain, IsPlain}
 use Rattle.text_laws.specs.Fits.{AreSmall, FitColumns, FitTables, FitsTable}
 use Rattle.text_laws.proofs.PlainColumns.{column_plain}

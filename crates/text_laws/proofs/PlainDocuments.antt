@@ -8,7 +8,7 @@ use Rattle.arrays.specs.Item.{text}
 use Rattle.arrays.specs.Shape.{FieldShape, int, boolean, utf8, list, dict, field}
 use Rattle.serde_json.specs.Data.{Items, depth}
 use Rattle.serde_json.specs.Read.{read}
-use Rattle.arrow_text.specs.BatchData.{Table, tables_of}
+use Rattle.json_places.specs.JsonTable.{Table, tables_of}
 use Rattle.arrow_text.specs.ColumnData.{item_length}
 use Rattle.arrow_text.specs.Dictionaries.{dictionaries_from}
 use Rattle.arrow_text.specs.DictionaryData.{entries_data, entry_data, text_batch, text_items, with_field}

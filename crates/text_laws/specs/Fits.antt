@@ -7,7 +7,7 @@ use Rattle.arrays.specs.Kind as kind
 use Rattle.arrays.specs.Lengths.{inner_items}
 use Rattle.arrays.specs.Shape.{Shape, FieldShape, int, boolean, utf8, list, dict, field, kind_of_field}
 use Rattle.arrays.specs.Typed.{IsItemOf}
-use Rattle.arrow_text.specs.BatchData.{Table}
+use Rattle.json_places.specs.JsonTable.{Table}
 use Rattle.arrow_text.specs.ColumnData.{item_length}
 use Rattle.arrow_text.specs.Dictionaries.{dictionaries_from}
 

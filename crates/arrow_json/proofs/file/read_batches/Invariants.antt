@@ -4,7 +4,8 @@ use Rattle.arrow_json.specs.BookParts.{coding_of}
 use Rattle.serde_json.specs.View.{items_view}
 use Rattle.arrow_json.specs.JsonMember.{ReadsFirst}
 use Rattle.arrow_json.specs.JsonFile.{AreUnder}
-use Rattle.arrow_json.specs.JsonBatch.{ReadsBatch, table_of}
+use Rattle.arrow_json.specs.JsonBatch.{ReadsBatch}
+use Rattle.json_places.specs.JsonTable.{table_of}
 use Rattle.arrow_json.proofs.file.read_batches.Given as goal
 
 -- the batches so far are read

@@ -2,7 +2,8 @@ use Rattle.std.proofs.Common.{◌≡◌, ◌++◌, drop}
 use Rattle.arrays.specs.Shape.{fields_of}
 use Rattle.json.specs.Tree.{items_tokens}
 use Rattle.serde_json.specs.Written.{items_outline}
-use Rattle.arrow_text.specs.BatchData.{columns_data, items_of}
+use Rattle.arrow_text.specs.BatchData.{columns_data}
+use Rattle.json_places.specs.JsonTable.{items_of}
 use Rattle.arrow_text.proofs.batch.write_columns.Given as goal
 
 -- with the columns that are left all is written

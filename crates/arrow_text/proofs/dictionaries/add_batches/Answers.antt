@@ -1,7 +1,7 @@
 use Rattle.std.proofs.Common.{◌≡◌, ◌∙◌, sym, ap, subst, arith}
 use Rattle.std.specs.Arc.{arc_value}
 use Rattle.arrays.specs.Batch.{Batch}
-use Rattle.arrow_text.specs.BatchData.{table_of}
+use Rattle.json_places.specs.JsonTable.{table_of}
 use Rattle.arrow_text.specs.Dictionaries.{IsEncodedAt, column_at, with_items}
 use Rattle.arrow_text.proofs.Steps.{All-mapped}
 use Rattle.arrow_text.proofs.Texts.{texts_step}

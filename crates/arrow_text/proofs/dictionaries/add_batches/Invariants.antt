@@ -1,6 +1,6 @@
 use Rattle.std.proofs.Common.{◌≡◌, drop, map}
 use Rattle.std.specs.Arc.{arc_value}
-use Rattle.arrow_text.specs.BatchData.{tables_of}
+use Rattle.json_places.specs.JsonTable.{tables_of}
 use Rattle.arrow_text.specs.Dictionaries.{column_items, with_items}
 use Rattle.arrow_text.proofs.dictionaries.add_batches.Given as goal
 

@@ -3,7 +3,7 @@ use Rattle.std.specs.Arc.{arc_value}
 use Rattle.arrays.specs.Shape.{fields_of}
 use Rattle.types.proofs.ShapeLemmas.{kind_of_field-field_of}
 use Rattle.types.specs.declared.data_type.Field.{Field}
-use Rattle.arrow_text.specs.BatchData.{tables_of}
+use Rattle.json_places.specs.JsonTable.{tables_of}
 use Rattle.arrow_text.specs.Dictionaries.{column_items, dictionaries_from, dictionary_of}
 use Rattle.arrow_text.proofs.Batches.{encoded_all}
 use Rattle.arrow_text.proofs.Steps.{step}

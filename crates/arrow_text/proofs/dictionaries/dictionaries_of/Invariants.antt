@@ -1,7 +1,7 @@
 use Rattle.std.proofs.Common.{◌≡◌, ◌++◌, drop, map}
 use Rattle.std.specs.Arc.{arc_value}
 use Rattle.arrays.specs.Shape.{fields_of}
-use Rattle.arrow_text.specs.BatchData.{tables_of}
+use Rattle.json_places.specs.JsonTable.{tables_of}
 use Rattle.arrow_text.specs.Dictionaries.{dictionaries_from}
 use Rattle.arrow_text.proofs.dictionaries.dictionaries_of.Given as goal
 

@@ -3,7 +3,8 @@ use Rattle.std.specs.Arc.{arc_value}
 use Rattle.arrays.specs.Shape.{fields_of}
 use Rattle.json.specs.Tree.{items_tokens}
 use Rattle.serde_json.specs.Written.{items_outline}
-use Rattle.arrow_text.specs.BatchData.{batches_data, tables_of}
+use Rattle.arrow_text.specs.BatchData.{batches_data}
+use Rattle.json_places.specs.JsonTable.{tables_of}
 use Rattle.arrow_text.proofs.file.write_batches.Given as goal
 
 -- with the batches that are left all is written

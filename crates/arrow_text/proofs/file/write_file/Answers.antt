@@ -4,7 +4,7 @@ use Rattle.std.specs.Arc.{arc_value}
 use Rattle.types.specs.declared.data_type.Field.{Field}
 use Rattle.arrays.specs.File.{AreBatchesOf}
 use Rattle.arrays.specs.Shape.{FieldShape, field_of, fields_of}
-use Rattle.arrow_text.specs.BatchData.{tables_of}
+use Rattle.json_places.specs.JsonTable.{tables_of}
 use Rattle.arrow_text.specs.declared.text_set.TextSet.{TextSet}
 use Rattle.arrow_text.proofs.Texts.{length-dictionaries_from}
 use Rattle.arrow_text.proofs.file.write_file.Goals as goal
