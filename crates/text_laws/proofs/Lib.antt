@@ -1,6 +1,20 @@
 -- What the laws rest on.
+pub mod Columns
+pub mod FileFits
 pub mod PlainColumns
 pub mod PlainSchemas
 pub mod PlainBatches
 pub mod PlainDocuments
 pub mod Depths
+pub mod ReadNumbers
+pub mod ReadSlots
+pub mod ReadOffsets
+pub mod ReadLists
+pub mod ReadColumns
+pub mod ReadEach
+pub mod ReadSchema
+pub mod Utf8
+pub mod ReadCodes
+pub mod ReadBook
+pub mod Utf8Documents
+pub mod ReadFile

@@ -65,7 +65,7 @@ last_plain : (b : Bool) (dictionaries : List (List (List ℕ))) (fields : List F
 last_plain true dictionaries fields few fit = ((refl, (refl, tt)), (entries_plain 0 dictionaries fields (omega (arith, few)) fit, (refl, tt), (schema_plain fields few, tt, tt)))
 last_plain false dictionaries fields few fit = ((refl, tt), (schema_plain fields few, tt, tt))
 
-document_plain : (fields : List FieldShape) (tables : List Table) → FitsFile fields tables → IsPlain (document fields tables)
+pub document_plain : (fields : List FieldShape) (tables : List Table) → FitsFile fields tables → IsPlain (document fields tables)
 document_plain fields tables h =
     let dictionaries = dictionaries_from 0 fields tables in
     let last = last_plain (has_dictionary fields) dictionaries fields h.few h.coded in

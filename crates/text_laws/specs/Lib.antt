@@ -1,2 +1,3 @@
 -- The words of this crate's laws.
+pub mod IsFile
 pub mod Fits

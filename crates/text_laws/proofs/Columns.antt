@@ -1,0 +1,60 @@
+-- What is known of the items of a column and of its lists.
+use Rattle.std.proofs.Common.{◌≡◌, ◌∙◌, ◌+◌, List, [], ◌∷◌, ◌++◌, length, refl, sym, ap₂, length-append}
+use Rattle.std.specs.Prelude.{sum_by}
+use Rattle.std.specs.List.{AllByRecursion}
+use Rattle.std.proofs.lemmas.List.Sums.{sum_by-cons}
+use Rattle.arrays.specs.Item as column
+use Rattle.arrays.specs.Item.{Item, Items, items_of}
+use Rattle.arrays.specs.Kind as kind
+use Rattle.arrays.specs.Kind.{Kind}
+use Rattle.arrays.specs.Lengths.{inner_items, items_in, text_bytes, text_length}
+use Rattle.arrays.specs.Typed.{IsItemOf, AreItemsOf}
+use Rattle.arrow_text.specs.ColumnData.{item_length}
+
+-- ---- lengths
+
+text_size : (x : Item) → IsItemOf kind.utf8 x → item_length x ≡ text_length x
+text_size column.null h = refl
+text_size (column.int z) h = absurd h
+text_size (column.boolean b) h = absurd h
+text_size (column.text t) h = refl
+text_size (column.list l) h = absurd h
+
+-- How many bytes texts have.
+pub text_sizes : (items : List Item) → AllByRecursion (IsItemOf kind.utf8) items → sum_by item_length items ≡ text_bytes items
+text_sizes [] h = refl
+text_sizes (x ∷ xs) h = sum_by-cons item_length x xs ∙ ap₂ (λ a b. a + b) (text_size x h.0) (text_sizes xs h.1) ∙ sym (sum_by-cons text_length x xs)
+
+pub list_size : (k : Kind) (x : Item) → IsItemOf (kind.list k) x → item_length x ≡ length (items_in x)
+list_size k column.null h = refl
+list_size k (column.int z) h = absurd h
+list_size k (column.boolean b) h = absurd h
+list_size k (column.text t) h = absurd h
+list_size k (column.list l) h = refl
+
+-- How many items lists have.
+pub list_sizes : (k : Kind) (items : List Item) → AllByRecursion (IsItemOf (kind.list k)) items → sum_by item_length items ≡ length (inner_items items)
+list_sizes k [] h = refl
+list_sizes k (x ∷ xs) h =
+    sum_by-cons item_length x xs ∙ ap₂ (λ a b. a + b) (list_size k x h.0) (list_sizes k xs h.1) ∙ sym (length-append (items_in x) (inner_items xs))
+
+-- ---- the items of lists are of the inner kind
+
+pub joined : {X : Type 0} (P : X → Type 0) (xs ys : List X) → AllByRecursion P xs → AllByRecursion P ys → AllByRecursion P (xs ++ ys)
+joined P [] ys h g = g
+joined P (x ∷ xs) ys h g = (h.0, joined P xs ys h.1 g)
+
+items_typed : (k : Kind) (l : Items) → AreItemsOf k l → AllByRecursion (IsItemOf k) (items_of l)
+items_typed k column.none h = tt
+items_typed k (column.more x l) h = (h.0, items_typed k l h.1)
+
+list_typed : (k : Kind) (x : Item) → IsItemOf (kind.list k) x → AllByRecursion (IsItemOf k) (items_in x)
+list_typed k column.null h = tt
+list_typed k (column.int z) h = absurd h
+list_typed k (column.boolean b) h = absurd h
+list_typed k (column.text t) h = absurd h
+list_typed k (column.list l) h = items_typed k l h
+
+pub inner_typed : (k : Kind) (items : List Item) → AllByRecursion (IsItemOf (kind.list k)) items → AllByRecursion (IsItemOf k) (inner_items items)
+inner_typed k [] h = tt
+inner_typed k (x ∷ xs) h = joined (IsItemOf k) (items_in x) (inner_items xs) (list_typed k x h.0) (inner_typed k xs h.1)

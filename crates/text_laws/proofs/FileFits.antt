@@ -1,0 +1,52 @@
+-- A file whose dictionaries are short fits.
+use Rattle.std.proofs.Common.{ℕ, ◌<◌, ◌^◌, List, [], ◌∷◌, length, arith}
+use Rattle.std.specs.List.{AllByRecursion}
+use Rattle.std.proofs.lemmas.Bool.{ltb-false}
+use Rattle.arrays.specs.Item.{Item}
+use Rattle.arrays.specs.Kind.{depth}
+use Rattle.arrays.specs.Lengths.{inner_items}
+use Rattle.arrays.specs.Shape.{Shape, FieldShape, int, boolean, utf8, list, dict, field, kind_of_field, kind_of_shape}
+use Rattle.arrays.specs.Typed.{IsItemOf}
+use Rattle.json_places.specs.JsonTable.{Table}
+use Rattle.arrow_text.specs.Dictionaries.{dictionaries_from}
+use Rattle.text_laws.specs.IsFile.{AreColumns, AreShort, IsCounted, IsField, IsFile, IsTable}
+use Rattle.text_laws.specs.Fits.{AreShallow, FitColumns, FitDictionaries, FitTables, FitsField, FitsFile, FitsShape}
+use Rattle.text_laws.proofs.Columns.{inner_typed, list_sizes, text_sizes}
+
+mutual
+  field_fits : (f : FieldShape) (items : List Item) → length items < 2 ^ 31 → AllByRecursion (IsItemOf (kind_of_field f)) items → IsCounted (kind_of_field f) items → FitsField f items
+  field_fits (field name nullable ty) items few typed counted = (omega (arith, few), shape_fits ty items typed counted)
+
+  shape_fits : (ty : Shape) (items : List Item) → AllByRecursion (IsItemOf (kind_of_shape ty)) items → IsCounted (kind_of_shape ty) items → FitsShape ty items
+  shape_fits (int t) items typed counted = typed
+  shape_fits boolean items typed counted = tt
+  shape_fits utf8 items typed counted = omega (arith, text_sizes items typed, counted)
+  shape_fits (list f) items typed counted =
+      (omega (arith, list_sizes (kind_of_field f) items typed, counted.0), field_fits f (inner_items items) counted.0 (inner_typed (kind_of_field f) items typed) counted.1)
+  shape_fits dict items typed counted = tt
+
+columns_fit : (fields : List FieldShape) (rows : ℕ) (columns : List (List Item)) → rows < 2 ^ 31 → AreColumns fields rows columns → FitColumns fields columns
+columns_fit [] rows columns few h = tt
+columns_fit (f ∷ fields) rows [] few h = absurd h
+columns_fit (f ∷ fields) rows (items ∷ columns) few h =
+    (field_fits f items (omega (arith, few, h.0.len)) h.0.typed h.0.counted, columns_fit fields rows columns few h.1)
+
+tables_fit : (fields : List FieldShape) (tables : List Table) → AllByRecursion (IsTable fields) tables → FitTables fields tables
+tables_fit fields [] h = tt
+tables_fit fields (t ∷ tables) h = (record { rows = omega (arith, h.0.few); columns = columns_fit fields t.rows t.columns h.0.few h.0.columns }, tables_fit fields tables h.1)
+
+fields_shallow : (fields : List FieldShape) → AllByRecursion IsField fields → AreShallow fields
+fields_shallow [] h = tt
+fields_shallow (f ∷ fields) h = (ltb-false 8 (depth (kind_of_field f)) h.0.shallow, fields_shallow fields h.1)
+
+dictionaries_fit : (dictionaries : List (List (List ℕ))) → AreShort dictionaries → FitDictionaries dictionaries
+dictionaries_fit [] h = tt
+dictionaries_fit (texts ∷ dictionaries) h = ((omega (arith, h.0.0), omega (arith, h.0.1)), dictionaries_fit dictionaries h.1)
+
+pub file_fits : (fields : List FieldShape) (tables : List Table) → IsFile fields tables → AreShort (dictionaries_from 0 fields tables) → FitsFile fields tables
+file_fits fields tables h short = record {
+  few = omega (arith, h.few);
+  shallow = fields_shallow fields h.lawful;
+  held = tables_fit fields tables h.held;
+  coded = dictionaries_fit (dictionaries_from 0 fields tables) short;
+}

@@ -1,0 +1,72 @@
+-- What holds of every file in memory. (Arrow columnar format, "Physical memory layout")
+use Rattle.std.specs.Prelude.{◌≡◌, ℕ, ◌<◌, ◌^◌, List, [], ◌∷◌, length, false, IsUtf8, ⊤}
+use Rattle.std.specs.List.{AllByRecursion}
+use Rattle.arrays.specs.Item.{Item}
+use Rattle.arrays.specs.Kind as kind
+use Rattle.arrays.specs.Kind.{Kind}
+use Rattle.arrays.specs.Lengths.{inner_items, text_bytes}
+use Rattle.arrays.specs.Schema.{holds_dict, is_deep}
+use Rattle.arrays.specs.Shape.{Shape, FieldShape, int, boolean, utf8, list, dict, field, kind_of_field}
+use Rattle.arrays.specs.Typed.{IsItemOf}
+use Rattle.pool.specs.Texts.{byte_count}
+use Rattle.json_places.specs.JsonTable.{Table}
+
+-- ---- fields
+
+-- The name is UTF-8, and so are those of the fields inside.
+abbrev mutual
+  pub IsNamed : FieldShape → Type 0
+  IsNamed (field name nullable ty) = IsUtf8 name × IsNamedInside ty
+
+  pub IsNamedInside : Shape → Type 0
+  IsNamedInside (int t) = ⊤
+  IsNamedInside boolean = ⊤
+  IsNamedInside utf8 = ⊤
+  IsNamedInside (list f) = IsNamed f
+  IsNamedInside dict = ⊤
+
+-- A field has at most 8 lists in one another, and a dictionary at its top alone.
+pub record IsField (f : FieldShape) : Type 0 where
+  pub named : IsNamed f
+  pub shallow : is_deep f ≡ false
+  pub plain : holds_dict f ≡ false
+
+-- ---- columns
+
+-- Offsets are signed and of 32 bits: they count the bytes of all texts of a column, and the items of all its lists, which are a column again.
+abbrev pub IsCounted : Kind → List Item → Type 0
+IsCounted (kind.int t) items = ⊤
+IsCounted kind.boolean items = ⊤
+IsCounted kind.utf8 items = text_bytes items < 2 ^ 31
+IsCounted (kind.list k) items = (length (inner_items items) < 2 ^ 31) × IsCounted k (inner_items items)
+IsCounted kind.dict items = ⊤
+
+-- A column of the kind: an item for each row.
+pub record IsColumn (k : Kind) (rows : ℕ) (items : List Item) : Type 0 where
+  pub len : length items ≡ rows
+  pub typed : AllByRecursion (IsItemOf k) items
+  pub counted : IsCounted k items
+
+-- One for each field.
+abbrev pub AreColumns : List FieldShape → ℕ → List (List Item) → Type 0
+AreColumns [] rows [] = ⊤
+AreColumns (f ∷ fields) rows (items ∷ columns) = IsColumn (kind_of_field f) rows items × AreColumns fields rows columns
+AreColumns fields rows columns = ⊥
+
+-- ---- files
+
+pub record IsTable (fields : List FieldShape) (t : Table) : Type 0 where
+  pub few : t.rows < 2 ^ 31
+  pub columns : AreColumns fields t.rows t.columns
+
+-- Tables under fields. A field's place is its dictionary's id, and has 64 signed bits.
+pub record IsFile (fields : List FieldShape) (tables : List Table) : Type 0 where
+  pub few : length fields < 2 ^ 63
+  pub lawful : AllByRecursion IsField fields
+  pub held : AllByRecursion (IsTable fields) tables
+
+-- ---- dictionaries
+
+-- 32-bit numbers count the texts of each dictionary, and their bytes.
+abbrev pub AreShort : List (List (List ℕ)) → Type 0
+AreShort dictionaries = AllByRecursion (λ texts. (length texts < 2 ^ 31) × (byte_count texts < 2 ^ 31)) dictionaries
