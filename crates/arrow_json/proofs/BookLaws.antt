@@ -9,7 +9,7 @@ use Rattle.serde_json.specs.Find.{get_item, as_array, as_object}
 use Rattle.json_places.specs.declared.path.Member.TheVariants as member
 use Rattle.json_places.specs.declared.path.Step.{Step}
 use Rattle.json_places.specs.declared.fault.JsonFaultKind.{JsonFaultKind}
-use Rattle.arrow_json.specs.JsonMember.{IsObject, member_of, ListFault, EachFault, ReadsEach}
+use Rattle.json_places.specs.JsonMember.{IsObject, member_of, ListFault, EachFault, ReadsEach}
 use Rattle.json_places.specs.JsonNumber.{count_of}
 use Rattle.arrow_json.specs.JsonSchema.{ReadsInt, only_item}
 use Rattle.arrow_json.specs.JsonColumn.{texts, slot_of, ReadsPlain}
@@ -22,9 +22,9 @@ use Rattle.arrow_json.specs.JsonEncoding.{Encoding, HasEncoding, IsEncoding, id_
 use Rattle.arrow_json.specs.JsonEncodingFault.{EncodedFault}
 use Rattle.arrow_json.specs.JsonBook.{Coding, HasId, HasEntries, HasDictionary, IsCoded, HasCoding, HasBook}
 use Rattle.arrow_json.specs.JsonBookFault.{NoId, no_entry_object, bad_entry_id, EntriesFault, no_entries, bad_numbers, NamedFault, nowhere, again, bad_entry, Names, BookFault, bad_encodings, bad_entries, bad_named}
-use Rattle.arrow_json.proofs.JsonNames.{has_object, no_null}
+use Rattle.json_places.proofs.MemberLaws.{has_object, no_null, inner, no_object, not_unlike, no_member, under_law, get_item-within, slice_get-within, slice_get_some, each_law, same_each}
 use Rattle.arrow_json.proofs.ColumnLaws.{list_law, no_flag_law, valid_law, slot_read, no_slots_law, plain_law, same_plain}
-use Rattle.arrow_json.proofs.SchemaLaws.{inner, no_object, not_unlike, no_member, under_law, get_item-within, slice_get-within, slice_get_some, each_law, encoded_law, encoding_object, without_law, same_int, same_each}
+use Rattle.arrow_json.proofs.SchemaLaws.{encoded_law, encoding_object, without_law, same_int}
 
 -- ---- columns of indices
 

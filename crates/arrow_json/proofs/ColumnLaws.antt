@@ -11,12 +11,12 @@ use Rattle.serde_json.specs.Events.{items_len}
 use Rattle.json_places.specs.declared.path.Member.TheVariants as member
 use Rattle.json_places.specs.declared.path.Step.{Step}
 use Rattle.json_places.specs.declared.fault.JsonFaultKind.{JsonFaultKind}
-use Rattle.arrow_json.specs.JsonMember.{member_of, ListFault, no_array, length_differs}
+use Rattle.json_places.specs.JsonMember.{member_of, ListFault, no_array, length_differs}
 use Rattle.json_places.specs.JsonNumber.{count_of}
 use Rattle.arrow_json.specs.JsonColumn.{Spelling, is_full, flags_of, HasFlags, valid_at, slot_of, ReadsSlots, HasSlots, ReadsPlain}
 use Rattle.arrays.specs.Lengths.{is_past}
 use Rattle.arrow_json.specs.JsonColumnFault.{CountFault, no_count, other_count, FlagsFault, no_flags, NoSlots, no_column_object, bad_count, bad_flags, bad_values, SlotsFault, no_flag, no_value, too_long, ColumnFault, no_slots, bad_slots}
-use Rattle.arrow_json.proofs.SchemaLaws.{inner, no_object, not_unlike, no_member, under_law, get_item-within, slice_get-within, slice_get_some, same_lists}
+use Rattle.json_places.proofs.MemberLaws.{inner, no_object, not_unlike, no_member, under_law, get_item-within, slice_get-within, slice_get_some, same_lists}
 
 -- ---- columns
 

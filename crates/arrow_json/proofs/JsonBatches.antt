@@ -13,9 +13,9 @@ use Rattle.serde_json.specs.View.{view, items_view}
 use Rattle.serde_json.specs.declared.value.Value.{Value}
 use Rattle.json_places.specs.declared.path.Member.TheVariants as member
 use Rattle.json_places.specs.declared.path.Step.TheVariants as step
-use Rattle.arrow_json.specs.JsonMember.{member_of, Unlike, MemberFault, ListFault}
+use Rattle.json_places.specs.JsonMember.{member_of, Unlike, MemberFault, ListFault}
 use Rattle.json_places.specs.JsonNumber.{count_of}
-use Rattle.arrow_json.proofs.JsonItems.{slice_get-front, slice_get-last}
+use Rattle.json_places.proofs.JsonItems.{slice_get-front, slice_get-last}
 use Rattle.arrow_json.proofs.JsonColumnFaults.{at_index}
 use Rattle.arrays.specs.Seen.{Seen}
 use Rattle.serde_json.specs.Data.{Data, Items}
@@ -28,7 +28,7 @@ use Rattle.arrow_json.specs.JsonCodes.{ReadsCodes}
 use Rattle.arrow_json.specs.BookParts.{coding_of}
 use Rattle.arrow_json.specs.declared.book.Coding as reader
 use Rattle.arrow_json.specs.JsonBatchFault.{KindFault, CodedFault, Unread, unread, ColumnsFault, bad_column, BatchFault, no_batch_object, bad_rows, bad_list, bad_columns}
-use Rattle.arrow_json.proofs.JsonFaults.{tells_at, tells_as, tells_under, tells_wants}
+use Rattle.json_places.proofs.JsonTells.{tells_at, tells_as, tells_under, tells_wants}
 
 pub tells_unread : (k : Kind) (n : ℕ) (d : Data) (f : JsonFault) → (Unread UnsupportedType [] → KindFault k n d UnsupportedType []) → IsFault UnsupportedType [] f → Tells (KindFault k n d) f
 tells_unread k n d f is told = tells_at (KindFault k n d) UnsupportedType [] f (is unread) told

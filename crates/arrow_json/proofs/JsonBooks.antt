@@ -19,17 +19,16 @@ use Rattle.json_places.specs.declared.fault.JsonFaultKind.{JsonFaultKind}
 use Rattle.json_places.specs.declared.fault.JsonFaultKind.TheVariants.{NoDictionary, DictionaryTwice}
 use Rattle.arrow_json.specs.BookParts.{IsPlace, IsFirst, IsNoDictionary, HasSome, IsCoding, IsCodingAt, AreCodings}
 use Rattle.json_places.specs.JsonFault.{IsFault, IsUnder, Tells}
-use Rattle.arrow_json.specs.JsonMember.{member_of, IsObject, Unlike, MemberFault, EachFault, ReadsEach}
+use Rattle.json_places.specs.JsonMember.{member_of, IsObject, Unlike, MemberFault, EachFault, ReadsEach}
 use Rattle.arrow_json.specs.JsonEncoding.{Encoding, HasEncoding, id_of}
 use Rattle.arrow_json.specs.JsonEncodingFault.{EncodedFault}
 use Rattle.arrow_json.specs.JsonDictionaryFault.{EntryFault}
 use Rattle.arrow_json.specs.JsonBook as book
 use Rattle.arrow_json.specs.JsonBook.{listed_fields, HasId, HasEntries, IsOnly, HasDictionary, IsCoded, HasCoding, HasBook}
 use Rattle.arrow_json.specs.JsonBookFault.{NoId, no_entry_object, bad_entry_id, EntriesFault, no_entries, bad_numbers, NamedFault, nowhere, again, bad_entry, CodingsFault, bad_coding, Names, BookFault, bad_encodings, bad_entries, bad_named}
-use Rattle.arrow_json.proofs.JsonFaults.{tells_at, tells_as, tells_under, tells_wants}
-use Rattle.arrow_json.proofs.JsonNames.{has_object}
-use Rattle.arrow_json.proofs.JsonItems.{slice_get-front, slice_get-last}
-use Rattle.arrow_json.proofs.JsonSchemas.{get_item_some}
+use Rattle.json_places.proofs.JsonTells.{tells_at, tells_as, tells_under, tells_wants}
+use Rattle.json_places.proofs.MemberLaws.{has_object}
+use Rattle.json_places.proofs.JsonItems.{slice_get-front, slice_get-last, get_item_some}
 
 -- ---- numbers of entries
 

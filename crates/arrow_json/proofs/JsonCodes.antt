@@ -26,7 +26,7 @@ use Rattle.arrow_json.specs.JsonColumn.{valid_at, ReadsSlots, HasSlots}
 use Rattle.arrow_json.specs.JsonColumnFault.{NoSlots}
 use Rattle.arrow_json.specs.JsonCodes.{entry_at, indices, ReadsCodes}
 use Rattle.arrow_json.specs.JsonCodesFault.{IndicesFault, no_index_flag, no_index, past_dictionary, CodesFault, no_code_slots, bad_codes}
-use Rattle.arrow_json.proofs.JsonFaults.{tells_at, tells_as, tells_wants}
+use Rattle.json_places.proofs.JsonTells.{tells_at, tells_as, tells_wants}
 use Rattle.arrow_json.proofs.JsonSlots.{never_full, no_slots_yet, slots_pushed, valid_slot, null_slot}
 
 -- ---- entries

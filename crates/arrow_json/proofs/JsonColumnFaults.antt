@@ -13,7 +13,7 @@ use Rattle.json_places.specs.declared.fault.JsonFault.{JsonFault}
 use Rattle.json_places.specs.declared.fault.JsonFaultKind.{JsonFaultKind}
 use Rattle.json_places.specs.declared.fault.JsonFaultKind.TheVariants.{WrongMember, CountDiffers}
 use Rattle.json_places.specs.JsonFault.{IsFault, IsUnder, Tells}
-use Rattle.arrow_json.specs.JsonMember.{member_of, Unlike, MemberFault, wrong, ListFault, no_array, length_differs}
+use Rattle.json_places.specs.JsonMember.{member_of, Unlike, MemberFault, wrong, ListFault, no_array, length_differs}
 use Rattle.json_places.specs.JsonNumber.{count_of}
 use Rattle.arrays.specs.Kind as kind
 use Rattle.arrays.specs.Kind.{Kind}
@@ -24,7 +24,7 @@ use Rattle.arrow_json.specs.SlotParts.{flags_in, values_in}
 use Rattle.arrow_json.specs.JsonBatch.{HoldsColumn, ReadsColumn}
 use Rattle.arrow_json.specs.JsonColumnFault.{CountFault, no_count, other_count, FlagsFault, no_flags, NoSlots, no_column_object, bad_count, bad_flags, bad_values, SlotsFault, ColumnFault, no_slots, bad_slots}
 use Rattle.arrow_json.specs.JsonColumn.{Spelling, numbers, truths, texts, is_full, flags_of, HasFlags, ReadsSlots, HasSlots, ReadsPlain}
-use Rattle.arrow_json.proofs.JsonFaults.{tells_at, tells_as, tells_under, tells_absent, tells_wants}
+use Rattle.json_places.proofs.JsonTells.{tells_at, tells_as, tells_under, tells_absent, tells_wants}
 
 pub tells_count : (n : ℕ) (d : Data) (f : JsonFault) → Tells (MemberFault member.Count (Unlike count_of) d) f → Tells (CountFault n d) f
 tells_count n d f t = tells_as (MemberFault member.Count (Unlike count_of) d) (CountFault n d) f (λ k p h. no_count k p h) t

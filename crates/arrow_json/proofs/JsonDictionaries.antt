@@ -11,7 +11,7 @@ use Rattle.json_places.specs.declared.fault.JsonFault.{JsonFault}
 use Rattle.json_places.specs.declared.fault.JsonFaultKind.{JsonFaultKind}
 use Rattle.json_places.specs.declared.fault.JsonFaultKind.TheVariants.{WrongMember}
 use Rattle.json_places.specs.JsonFault.{IsFault, IsUnder, Tells}
-use Rattle.arrow_json.specs.JsonMember.{IsObject, member_of, Unlike, Missing, MemberFault, ListFault, absent, wrong}
+use Rattle.json_places.specs.JsonMember.{IsObject, member_of, Unlike, Missing, MemberFault, ListFault, absent, wrong}
 use Rattle.json_places.specs.JsonNumber.{count_of}
 use Rattle.arrow_json.specs.JsonSchema.{only_item}
 use Rattle.arrow_json.specs.JsonColumn.{texts}
@@ -19,7 +19,7 @@ use Rattle.arrow_json.specs.JsonColumnFault.{ColumnFault}
 use Rattle.arrow_json.specs.JsonBatch.{HoldsColumn}
 use Rattle.arrow_json.specs.JsonDictionary.{ReadsTexts}
 use Rattle.arrow_json.specs.JsonDictionaryFault.{TextsFault, no_texts_object, bad_texts_count, bad_texts_list, bad_texts, HeldFault, no_batch, bad_bare, bad_wrapped, EntryFault}
-use Rattle.arrow_json.proofs.JsonFaults.{tells_at, tells_as, tells_under}
+use Rattle.json_places.proofs.JsonTells.{tells_at, tells_as, tells_under}
 
 -- ---- a batch of texts
 

@@ -6,11 +6,11 @@ use Rattle.json_places.specs.declared.path.Member.TheVariants as member
 use Rattle.json_places.specs.declared.path.Step.TheVariants as step
 use Rattle.json_places.specs.declared.fault.JsonFault.{JsonFault}
 use Rattle.json_places.specs.JsonFault.{IsUnder, Tells}
-use Rattle.arrow_json.specs.JsonMember.{IsObject, member_of, Unlike, Missing, MemberFault, absent, wrong}
+use Rattle.json_places.specs.JsonMember.{IsObject, member_of, Unlike, Missing, MemberFault, absent, wrong}
 use Rattle.arrow_json.specs.JsonEncoding.{id_of}
 use Rattle.arrow_json.specs.JsonEncodingFault.{EncodingFault, bad_id, bad_index, EncodedFault, no_encoding_object, bad_encoding}
 use Rattle.arrow_json.specs.JsonSchemaFault.{IndexFault}
-use Rattle.arrow_json.proofs.JsonFaults.{tells_as, tells_under}
+use Rattle.json_places.proofs.JsonTells.{tells_as, tells_under}
 
 pub encoding_id : (d : Data) (f : JsonFault) → Tells (MemberFault member.Id (Unlike id_of) d) f → Tells (EncodingFault d) f
 encoding_id d f t = tells_as (MemberFault member.Id (Unlike id_of) d) (EncodingFault d) f (λ k p h. bad_id k p h) t

@@ -1,41 +1,21 @@
 -- Why a fault that is told stands: one lemma for each way in which it came about.
-use Rattle.std.proofs.Common.{◌≡◌, ◌≢◌, inl, inr, ◌∙◌, ℕ, zero, suc, ◌<◌, length, get_or, List, [], ◌∷◌, Option, Some, None, option_and_then, false, codes, refl, sym, ap, subst, arith}
-use Rattle.serde_json.specs.Data.{Data, Items, Num}
-use Rattle.serde_json.specs.Find.{get_item, as_array, as_bool, as_null, as_number, as_object, as_str}
-use Rattle.serde_json.proofs.Views.{items_len-items_view, get_item_within}
+use Rattle.std.proofs.Common.{◌≡◌, ◌≢◌, ◌∙◌, ℕ, zero, suc, length, get_or, List, [], ◌∷◌, Option, Some, None, option_and_then, false, codes, refl, sym, ap, subst, arith}
+use Rattle.serde_json.specs.Data.{Data, Num}
+use Rattle.serde_json.specs.Find.{as_array, as_bool, as_null, as_number, as_object, as_str}
 use Rattle.serde_json.specs.View.{view, items_view}
 use Rattle.serde_json.specs.declared.value.Value.{Value}
-use Rattle.json_places.specs.declared.path.Member.{Member}
 use Rattle.json_places.specs.declared.path.Member.TheVariants as member
 use Rattle.json_places.specs.declared.path.Step.{Step}
 use Rattle.json_places.specs.declared.path.Step.TheVariants as step
 use Rattle.json_places.specs.declared.fault.JsonFault.{JsonFault}
 use Rattle.json_places.specs.declared.fault.JsonFaultKind.{JsonFaultKind}
-use Rattle.json_places.specs.declared.fault.JsonFaultKind.TheVariants.{MissingMember, WrongMember, UnsupportedType}
-use Rattle.json_places.specs.JsonFault.{no_memory, IsFault, IsUnder, Tells, stands, wants}
-use Rattle.arrow_json.specs.JsonMember.{member_of, IsObject, Unlike, unlike, Missing, missing, MemberFault, absent, wrong, EachFault, item}
+use Rattle.json_places.specs.declared.fault.JsonFaultKind.TheVariants.{WrongMember, UnsupportedType}
+use Rattle.json_places.specs.JsonFault.{IsFault, IsUnder, Tells}
+use Rattle.json_places.specs.JsonMember.{member_of, IsObject, Unlike, unlike, Missing, MemberFault, absent, wrong}
 use Rattle.json_places.specs.JsonNumber.{width_of}
+use Rattle.json_places.proofs.JsonTells.{tells_at, tells_as, tells_under, tells_wants}
 use Rattle.arrow_json.specs.JsonSchema.{type_name, named_type, is_childless, only_item, only_child}
 use Rattle.arrow_json.specs.JsonSchemaFault.{TypeFault, no_type_object, bad_type_name, other_type, bad_width, other_width, bad_sign, FieldFault, no_field_object, bad_field_name, bad_nullable, bad_type, no_dictionary_object, encoded_item, has_children, no_child, ninth_list, bad_child, IndexFault, bad_index_type, other_index}
-
-abbrev Faults : Type 1
-Faults = JsonFaultKind → List Step → Type 0
-
--- a fault made at a place stands if that kind stands there
-pub tells_at : (S : JsonFaultKind → List Step → Type 0) (k : JsonFaultKind) (p : List Step) (f : JsonFault) → S k p → IsFault k p f → Tells S f
-tells_at S k p f s (inl e) = let P : JsonFault → Type 0 = λ g. S g.kind g.path in stands (subst P (sym e) s)
-tells_at S k p f s (inr e) = wants e
-
--- a fault that stands for one thing stands for another
-pub tells_as : (S R : JsonFaultKind → List Step → Type 0) (f : JsonFault) → ((k : JsonFaultKind) (p : List Step) → S k p → R k p) → Tells S f → Tells R f
-tells_as S R f h (stands s) = stands (h f.kind f.path s)
-tells_as S R f h (wants e) = wants e
-
--- a fault that stands for one thing stands for another, one step above
-pub tells_under : (S R : JsonFaultKind → List Step → Type 0) (x : Step) (f g : JsonFault) → ((k : JsonFaultKind) (p : List Step) → S k p → R k (x ∷ p)) → Tells S f → IsUnder x f g → Tells R g
-tells_under S R x f g h t (inr e) = wants e
-tells_under S R x f g h (stands s) (inl e) = let P : JsonFault → Type 0 = λ a. R a.kind a.path in stands (subst P (sym e.1) (h f.kind f.path s))
-tells_under S R x f g h (wants w) (inl e) = absurd (e.0 (ap (λ a. a.kind) w))
 
 -- a fault of the first item of an array
 data UnderItem (W : JsonFaultKind → List Step → Type 0) : JsonFaultKind → List Step → Type 0 where
@@ -44,19 +24,6 @@ data UnderItem (W : JsonFaultKind → List Step → Type 0) : JsonFaultKind → 
 under_child : (n m : ℕ) (d e : Data) (k : JsonFaultKind) (p : List Step) → m ≡ suc n → named_type d ≡ Some (codes "list") → only_child d ≡ Some e → UnderItem (FieldFault m e) k p
     → FieldFault n d k (step.Member member.Children ∷ p)
 under_child n m d e k p deeper list at (under_item k' p' w) = bad_child n d e k' p' list at (subst (λ x. FieldFault x e k' p') deeper w)
-
-pub tells_unlike : {A : Type 0} (wanted : Data → Option A) (d : Data) (f : JsonFault) → wanted d ≡ None → IsFault WrongMember [] f → Tells (Unlike wanted d) f
-tells_unlike wanted d f h is = tells_at (Unlike wanted d) WrongMember [] f (unlike h) is
-
-pub tells_missing : (m : Member) (d : Data) (f : JsonFault) → IsObject d → member_of m d ≡ None → IsFault MissingMember (step.Member m ∷ []) f → Tells (Missing m d) f
-tells_missing m d f o h is = tells_at (Missing m d) MissingMember (step.Member m ∷ []) f (missing o h) is
-
-pub tells_absent : (m : Member) (W : Data → JsonFaultKind → List Step → Type 0) (d : Data) (f : JsonFault) → Tells (Missing m d) f → Tells (MemberFault m W d) f
-tells_absent m W d f t = tells_as (Missing m d) (MemberFault m W d) f (λ k p h. absent k p h) t
-
-pub tells_unlike_member : {A : Type 0} (wanted : Data → Option A) (m : Member) (d : Data) (f : JsonFault) (e : Data) → member_of m d ≡ Some e → wanted e ≡ None
-    → IsFault WrongMember (step.Member m ∷ []) f → Tells (MemberFault m (Unlike wanted) d) f
-tells_unlike_member wanted m d f e at h is = tells_at (MemberFault m (Unlike wanted) d) WrongMember (step.Member m ∷ []) f (wrong e WrongMember [] at (unlike h)) is
 
 -- ---- types
 
@@ -145,11 +112,6 @@ field_child n m d e f g h t deeper list at first up =
     (λ k p under. under_child n m d e k p deeper list at under)
     (tells_under (FieldFault m e) (UnderItem (FieldFault m e)) (step.Item 0) f g (λ k p w. under_item k p w) t first) up
 
-pub tells_wants : (S : JsonFaultKind → List Step → Type 0) (f : JsonFault) → f ≡ no_memory → Tells S f
-tells_wants S f h = wants h
-
-pub ruleset lengths = (items_len-items_view)
-
 -- the item of an array of exactly one
 pub only_of-one : (d : Data) (vs : List Value) (v : Value) → as_array d ≡ Some (items_view vs) → length vs ≡ 1 → v ≡ get_or vs 0 v → only_item d ≡ Some (view v)
 only_of-one d [] v at len is = absurd (omega (arith, len))
@@ -163,20 +125,8 @@ only_of-other d (x ∷ y ∷ vs) at len = rw at refl
 
 pub ruleset only_items = (only_of-one, only_of-other)
 
--- ---- schemas
-
-pub tells_item : (W : Data → JsonFaultKind → List Step → Type 0) (ds : Items) (i : ℕ) (e : Data) (f g : JsonFault) → Tells (W e) f → get_item i ds ≡ Some e → IsUnder (step.Item i) f g
-    → Tells (EachFault W ds) g
-tells_item W ds i e f g t at up = tells_under (W e) (EachFault W ds) (step.Item i) f g (λ k p h. item i e k p at h) t up
-
-pub tells_item_at : (W : Data → JsonFaultKind → List Step → Type 0) (vs : List Value) (i : ℕ) (v : Value) (f g : JsonFault) → Tells (W (view v)) f → i < length vs → v ≡ get_or vs i v
-    → IsUnder (step.Item i) f g → Tells (EachFault W (items_view vs)) g
-tells_item_at W vs i v f g t within is up = tells_item W (items_view vs) i (view v) f g t (sym (get_item_within vs i v within) ∙ ap (λ w. Some (view w)) (sym is)) up
-
 pub ruleset type_told = (type_object, type_name_told, type_other_name, type_width, type_other_width, type_sign)
 
 pub ruleset index_told = (type_object, type_name_told, index_type, index_other)
 
 pub ruleset field_told = (field_object, field_name_told, field_nullable_told, field_no_type, field_type_told, field_encoded_item, field_no_dictionary, named_by, not_named, field_children, field_no_child, field_other_child, field_ninth, field_child, tells_wants)
-
-pub ruleset told = (tells_unlike, tells_missing, tells_absent, tells_unlike_member)

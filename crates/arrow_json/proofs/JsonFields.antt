@@ -1,13 +1,14 @@
 -- Why a fault of a schema's fields stands.
-use Rattle.std.proofs.Common.{◌≡◌, ◌≢◌, ◌∙◌, ℕ, ◌+◌, ◌≤◌, nat_lt, List, [], ◌∷◌, false, Some, Result, Ok, Err, option_and_then, codes, string_bytes, sym, ap, subst, arith}
+use Rattle.std.proofs.Common.{◌≡◌, ◌≢◌, ◌∙◌, ℕ, ◌+◌, ◌≤◌, nat_lt, List, [], ◌∷◌, ◌++◌, false, Some, Result, Ok, Err, option_and_then, codes, string_bytes, sym, ap, subst, arith}
 use Rattle.std.specs.Result.{IfOk}
 use Rattle.std.proofs.lemmas.Bool.Decides.{nat_tests}
 use Rattle.types.specs.declared.data_type.DataType.{DataType, fold_out-DataType, map-DataType}
 use Rattle.types.specs.declared.data_type.DataType.TheVariants.{Dict, outs-Dict}
+use Rattle.std.proofs.lemmas.List.{map-append}
 use Rattle.types.specs.declared.data_type.Field.{Field, out-Field, fold_out-Field}
 use Rattle.arrays.specs.Kind.{depth}
 use Rattle.arrays.specs.Shape as shape
-use Rattle.arrays.specs.Shape.{Shape, FieldShape, shape_step, field_step, shape_of, field_of, kind_of_field}
+use Rattle.arrays.specs.Shape.{Shape, FieldShape, shape_step, field_step, shape_of, field_of, fields_of, kind_of_field}
 use Rattle.serde_json.specs.Data.{Data, Items}
 use Rattle.serde_json.specs.Find.{as_array, as_bool, as_object, as_str}
 use Rattle.json_places.specs.declared.path.Member.TheVariants as member
@@ -15,7 +16,7 @@ use Rattle.json_places.specs.declared.path.Step.TheVariants as step
 use Rattle.json_places.specs.declared.fault.JsonFault.{JsonFault}
 use Rattle.json_places.specs.declared.fault.JsonFaultKind.TheVariants.{UnsupportedType, WrongMember}
 use Rattle.json_places.specs.JsonFault.{IsFault, IsUnder, Tells}
-use Rattle.arrow_json.specs.JsonMember.{IsObject, member_of, Unlike, Missing, MemberFault, EachFault}
+use Rattle.json_places.specs.JsonMember.{IsObject, member_of, Unlike, Missing, MemberFault, EachFault}
 use Rattle.arrow_json.specs.EncodingParts.{HasSomeEncoding}
 use Rattle.arrow_json.specs.JsonEncoding.{id_of}
 use Rattle.arrow_json.specs.JsonEncodingFault.{EncodedFault}
@@ -23,8 +24,10 @@ use Rattle.arrow_json.specs.JsonFieldsFault.{TopFault, bad_top, bad_encoded, oth
 use Rattle.arrow_json.specs.JsonSchema.{HasType, IsFieldOf, type_name, named_type, is_childless}
 use Rattle.arrow_json.specs.JsonFields.{IsEncodedField, ReadsField, plain_field, encoded_field}
 use Rattle.arrow_json.specs.JsonSchemaFault.{TypeFault, FieldFault}
-use Rattle.arrow_json.proofs.JsonFaults.{tells_at, tells_as, tells_under, tells_wants, tells_item_at, field_object, field_name_told, field_nullable_told, field_no_type, field_type_told, field_children}
-use Rattle.arrow_json.proofs.JsonNames.{has_object, not_list}
+use Rattle.json_places.proofs.JsonTells.{tells_at, tells_as, tells_under, tells_wants, tells_item_at}
+use Rattle.arrow_json.proofs.JsonFaults.{field_object, field_name_told, field_nullable_told, field_no_type, field_type_told, field_children}
+use Rattle.json_places.proofs.MemberLaws.{has_object}
+use Rattle.arrow_json.proofs.JsonNames.{not_list}
 
 pub top_plain : (d : Data) (f : JsonFault) → Tells (FieldFault 0 d) f → Tells (TopFault d) f
 top_plain d f t = tells_as (FieldFault 0 d) (TopFault d) f (λ k p h. bad_top k p h) t
@@ -65,6 +68,9 @@ top_children d f ty some is =
     top_plain d f (field_children 0 d f (λ list. not_list d shape.utf8 (codes "utf8") ty ty.reads (λ e. omega (arith, e)) list) some is)
 
 -- ---- a field that is read
+
+pub fields_of-push : (fs : List Field) (f : Field) → fields_of (fs ++ f ∷ []) ≡ fields_of fs ++ field_of f ∷ []
+fields_of-push fs f = map-append field_of fs (f ∷ [])
 
 shape_of-Dict : shape_of Dict ≡ shape.dict
 shape_of-Dict = fold_out-DataType Shape FieldShape shape_step field_step Dict ∙ ap (λ o. shape_step (map-DataType DataType Field Shape FieldShape shape_of field_of o)) outs-Dict

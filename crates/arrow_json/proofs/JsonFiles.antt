@@ -1,5 +1,5 @@
 -- What a file's batches are, and why its faults stand.
-use Rattle.std.proofs.Common.{◌≡◌, ℕ, ◌+◌, ◌<◌, List, [], ◌∷◌, ◌++◌, length, get_or, map, Option, Some, None, option_and_then, IsUtf8, refl, sym, ap, subst, arith, ◌∙◌}
+use Rattle.std.proofs.Common.{◌≡◌, ℕ, ◌+◌, ◌<◌, List, [], ◌∷◌, ◌++◌, length, get_or, map, Option, Some, option_and_then, IsUtf8, refl, sym, ap, subst, arith, ◌∙◌}
 use Rattle.std.specs.List.{AllByRecursion}
 use Rattle.std.proofs.lemmas.List.{map-append}
 use Rattle.std.proofs.lemmas.Option.{slice_get_within}
@@ -12,11 +12,12 @@ use Rattle.serde_json.specs.Read.{read}
 use Rattle.serde_json.specs.View.{view, items_view}
 use Rattle.serde_json.specs.declared.value.Value.{Value}
 use Rattle.json_places.specs.declared.path.Member.TheVariants as member
+use Rattle.json_places.specs.declared.path.Step.{Step}
 use Rattle.json_places.specs.declared.path.Step.TheVariants as step
 use Rattle.json_places.specs.declared.fault.JsonFault.{JsonFault}
-use Rattle.json_places.specs.declared.fault.JsonFaultKind.TheVariants.{NotJson}
-use Rattle.json_places.specs.JsonFault.{Tells, IsFault, IsUnder}
-use Rattle.arrow_json.specs.JsonMember.{member_of, Unlike, Missing, MemberFault, absent, wrong, EachFault, ReadsFirst, ReadsEach}
+use Rattle.json_places.specs.declared.fault.JsonFaultKind.{JsonFaultKind}
+use Rattle.json_places.specs.JsonFault.{Tells, IsUnder}
+use Rattle.json_places.specs.JsonMember.{NoDocument, no_document, member_of, Unlike, Missing, MemberFault, absent, wrong, EachFault, ReadsFirst, ReadsEach}
 use Rattle.arrow_json.specs.JsonFieldsFault.{SchemaFault}
 use Rattle.arrow_json.specs.JsonBatch.{IsBookOf, ReadsBatch}
 use Rattle.json_places.specs.JsonTable.{table_of}
@@ -25,9 +26,8 @@ use Rattle.arrow_json.specs.JsonBookFault.{BookFault}
 use Rattle.arrow_json.specs.JsonFields.{ReadsField, plain_field, encoded_field}
 use Rattle.arrow_json.specs.JsonBatchFault.{BatchFault}
 use Rattle.arrow_json.specs.JsonFile.{AreUnder, HasSchema, FileFault, no_file_object, bad_schema, bad_book, bad_batches, bad_batch, BytesFault, no_json, bad_file}
-use Rattle.arrow_json.proofs.JsonFaults.{tells_at, tells_as, tells_under, tells_wants, tells_item_at}
-use Rattle.arrow_json.proofs.JsonItems.{each_pushed}
-use Rattle.arrow_json.proofs.JsonSchemas.{get_item_some}
+use Rattle.json_places.proofs.JsonTells.{tells_as, tells_under, tells_wants, tells_item_at}
+use Rattle.json_places.proofs.JsonItems.{each_pushed, get_item_some}
 use Rattle.arrow_json.proofs.SchemaLaws.{not_plain}
 
 pub tells_batch : (fields : List FieldShape) (book : List (Option Coding)) (vs : List Value) (i : ℕ) (v : Value) (f g : JsonFault) → Tells (BatchFault fields book (view v)) f → i < length vs → v ≡ get_or vs i v
@@ -86,8 +86,11 @@ file_batch d fields book ds f g t schema coded at up =
 
 pub ruleset file_told = (file_object, file_no_schema, file_schema, fields_listed, file_book, book_of, file_batches, file_batch)
 
-pub bytes_no_json : (bytes : List ℕ) (f : JsonFault) → (IsUtf8 bytes → read bytes ≡ None) → IsFault NotJson [] f → Tells (BytesFault bytes) f
-bytes_no_json bytes f h is = tells_at (BytesFault bytes) NotJson [] f (no_json h) is
+no_file : (bytes : List ℕ) (k : JsonFaultKind) (p : List Step) → NoDocument bytes k p → BytesFault bytes k p
+no_file bytes k p (no_document h) = no_json h
+
+pub bytes_no_json : (bytes : List ℕ) (f : JsonFault) → Tells (NoDocument bytes) f → Tells (BytesFault bytes) f
+bytes_no_json bytes f t = tells_as (NoDocument bytes) (BytesFault bytes) f (no_file bytes) t
 
 pub bytes_file : (bytes : List ℕ) (d : Data) (f : JsonFault) → Tells (FileFault d) f → IsUtf8 bytes → read bytes ≡ Some d → Tells (BytesFault bytes) f
 bytes_file bytes d f t text parsed = tells_as (FileFault d) (BytesFault bytes) f (λ k p h. bad_file d k p text parsed h) t

@@ -11,8 +11,8 @@ use Rattle.serde_json.specs.Events.{items_len}
 use Rattle.json_places.specs.declared.path.Member.TheVariants as member
 use Rattle.json_places.specs.declared.path.Step.{Step}
 use Rattle.json_places.specs.declared.fault.JsonFaultKind.{JsonFaultKind}
-use Rattle.arrow_json.specs.JsonMember as at
-use Rattle.arrow_json.specs.JsonMember.{member_of, Unlike, ListFault, no_array, length_differs, EachFault, ReadsEach}
+use Rattle.json_places.specs.JsonMember as at
+use Rattle.json_places.specs.JsonMember.{member_of, Unlike, ListFault, no_array, length_differs, EachFault, ReadsEach}
 use Rattle.json_places.specs.JsonNumber.{count_of, flag_of}
 use Rattle.arrow_json.specs.JsonFieldsFault.{SchemaFault}
 use Rattle.arrow_json.specs.JsonColumn.{numbers, truths, texts, HasFlags, valid_at}
@@ -24,13 +24,14 @@ use Rattle.json_places.specs.JsonTable.{Table, FileData}
 use Rattle.arrow_json.specs.JsonBatch.{ReadsColumn, ReadsTop, ReadsColumns, ReadsBatch}
 use Rattle.arrow_json.proofs.JsonFiles.{book_of}
 use Rattle.arrow_json.specs.JsonBatchFault.{KindFault, CodedFault, ColumnsFault, bad_column, BatchFault, no_batch_object, bad_rows, bad_list, bad_columns}
-use Rattle.arrow_json.proofs.JsonSchemas.{get_item_some}
+use Rattle.json_places.proofs.JsonItems.{get_item_some}
 use Rattle.arrow_json.specs.JsonFile.{ReadsFile, Reads, FileFault, no_file_object, bad_schema, bad_book, bad_batches, bad_batch, BytesFault, no_json, bad_file}
 use Rattle.arrow_json.proofs.ColumnLaws.{count_law, list_law, flags_law, plain_law, same_plain}
 use Rattle.arrow_json.proofs.BookLaws.{codes_law, book_law, same_book}
 use Rattle.arrow_json.specs.JsonBook.{Coding}
 use Rattle.arrow_json.specs.JsonCodes.{indices}
-use Rattle.arrow_json.proofs.SchemaLaws.{inner, no_object, not_unlike, no_member, under_law, get_item-within, slice_get-within, slice_get_some, each_law, schema_law, same_lists, same_each, same_schema}
+use Rattle.json_places.proofs.MemberLaws.{inner, no_object, not_unlike, no_member, under_law, get_item-within, slice_get-within, slice_get_some, each_law, same_lists, same_each}
+use Rattle.arrow_json.proofs.SchemaLaws.{schema_law, same_schema}
 
 -- ---- columns of lists
 

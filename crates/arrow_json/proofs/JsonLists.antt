@@ -39,8 +39,8 @@ use Rattle.json_places.specs.declared.fault.JsonFaultKind.{JsonFaultKind}
 use Rattle.json_places.specs.declared.fault.JsonFaultKind.TheVariants.{WrongMember, BadOffset, CountDiffers, Layout}
 use Rattle.arrow_json.specs.declared.list.ListParts.{ListParts}
 use Rattle.json_places.specs.JsonFault.{Tells, IsFault, IsUnder, no_memory}
-use Rattle.arrow_json.specs.JsonMember as at
-use Rattle.arrow_json.specs.JsonMember.{member_of, Unlike, unlike, MemberFault, ListFault, EachFault, ReadsEach}
+use Rattle.json_places.specs.JsonMember as at
+use Rattle.json_places.specs.JsonMember.{member_of, Unlike, unlike, MemberFault, ListFault, EachFault, ReadsEach}
 use Rattle.json_places.specs.JsonNumber.{integer_of, count_of, flag_of}
 use Rattle.arrow_json.specs.JsonColumn.{flags_of, valid_at}
 use Rattle.arrow_json.specs.JsonColumnFault.{CountFault, FlagsFault}
@@ -49,8 +49,8 @@ use Rattle.arrow_json.specs.JsonListFault.{OffsetsFault, no_offsets, not_enough,
 use Rattle.arrow_json.specs.ListParts.{list_flags, list_offsets, list_child}
 use Rattle.arrow_json.specs.ListBuffers.{IsFlag, HoldsFlags, HoldsOffsets}
 use Rattle.arrow_json.specs.JsonBatch.{ReadsColumn, HoldsColumn}
-use Rattle.arrow_json.proofs.JsonFaults.{tells_at, tells_as, tells_under, tells_wants}
-use Rattle.arrow_json.proofs.JsonSchemas.{get_item_some}
+use Rattle.json_places.proofs.JsonTells.{tells_at, tells_as, tells_under, tells_wants}
+use Rattle.json_places.proofs.JsonItems.{get_item_some}
 use Rattle.arrow_json.proofs.JsonColumnFaults.{has_flags, at_index}
 
 abbrev Faults : Type 1

@@ -19,12 +19,13 @@ use Rattle.serde_json.specs.View.{items_view}
 use Rattle.serde_json.specs.declared.value.Value.{Value}
 use Rattle.serde_json.proofs.Views.{items_len-items_view}
 use Rattle.json_places.specs.declared.path.Member.TheVariants as member
-use Rattle.arrow_json.specs.JsonMember.{member_of}
+use Rattle.json_places.specs.JsonMember.{member_of}
 use Rattle.json_places.specs.JsonNumber.{count_of}
 use Rattle.arrow_json.specs.JsonBatch.{HoldsTop, HoldsColumns, ReadsTop, ReadsColumns, ReadsBatch}
 use Rattle.json_places.specs.JsonTable.{table_of}
 use Rattle.arrow_json.specs.JsonBook.{Coding}
-use Rattle.arrow_json.proofs.JsonSchemas.{get_item_some, position-none}
+use Rattle.json_places.proofs.JsonItems.{get_item_some}
+use Rattle.arrow_json.proofs.JsonSchemas.{position-none}
 
 same_int_by : (w : Width) (b : Bool) → same_int (record { bits = w; signed = b }) (record { bits = w; signed = b }) ≡ true
 same_int_by W8 true = refl

@@ -1,22 +1,16 @@
 -- A schema that is read is lawful.
-use Rattle.std.proofs.Common.{◌≡◌, ◌∙◌, ℕ, zero, suc, ◌+◌, ◌<◌, Bool, false, cond, not, nat_lt, List, [], ◌∷◌, length, Some, None, position, refl, ap, arith}
+use Rattle.std.proofs.Common.{◌≡◌, ◌∙◌, ℕ, suc, ◌+◌, Bool, false, cond, not, nat_lt, List, [], ◌∷◌, length, Some, None, position, refl, ap, arith}
 use Rattle.std.specs.List.{slice_get, position_or_len}
 use Rattle.std.proofs.lemmas.Bool.Decides.{nat_tests}
 use Rattle.std.proofs.lemmas.Option.{slice_get_within}
 use Rattle.arrays.specs.Kind.{ends_in_dict}
 use Rattle.arrays.specs.Shape.{Shape, FieldShape, int, boolean, utf8, list, dict, field, kind_of_field, kind_of_shape}
 use Rattle.arrays.specs.Schema.{schema_fault, is_deep, holds_dict}
-use Rattle.serde_json.specs.Data.{Data, Items, no_items, item}
-use Rattle.serde_json.specs.Find.{get_item}
-use Rattle.serde_json.specs.Events.{items_len}
-use Rattle.arrow_json.specs.JsonMember.{ReadsEach}
+use Rattle.serde_json.specs.Data.{Data, Items}
+use Rattle.json_places.specs.JsonMember.{ReadsEach}
+use Rattle.json_places.proofs.JsonItems.{get_item_some}
 use Rattle.arrow_json.specs.JsonSchema.{IsFieldOf, HasChildren}
 use Rattle.arrow_json.specs.JsonFields.{ReadsField, plain_field, encoded_field}
-
-pub get_item_some : (ds : Items) (i : ℕ) → i < items_len ds → (d : Data) × (get_item i ds ≡ Some d)
-get_item_some no_items i h = absurd (omega arith)
-get_item_some (item d ds) zero h = (d, refl)
-get_item_some (item d ds) (suc i) h = get_item_some ds i (omega arith)
 
 -- what is read is no dictionary, nor a list of such
 mutual

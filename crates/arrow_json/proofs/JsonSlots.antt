@@ -22,8 +22,8 @@ use Rattle.json_places.specs.JsonNumber.{integer_of, flag_of}
 use Rattle.arrow_json.specs.JsonColumn.{Spelling, numbers, truths, texts, spelling_of, is_full, valid_at, slot_of, ReadsSlots}
 use Rattle.arrow_json.specs.JsonColumnFault.{SlotsFault, no_flag, no_value, too_long}
 use Rattle.arrow_json.specs.Unfit.{IsWith, IsUnfit, spells_nothing, has_no_room, refused, IsTold}
-use Rattle.arrow_json.proofs.JsonFaults.{tells_at, tells_wants}
-use Rattle.arrow_json.proofs.JsonItems.{slice_get-front, slice_get-last}
+use Rattle.json_places.proofs.JsonTells.{tells_at, tells_wants}
+use Rattle.json_places.proofs.JsonItems.{slice_get-front, slice_get-last}
 use Rattle.arrow_json.proofs.JsonColumnFaults.{at_index}
 
 -- ---- what offsets count

@@ -3,7 +3,6 @@ pub mod JsonNames
 pub mod JsonFaults
 pub mod JsonEncodings
 pub mod JsonFields
-pub mod JsonItems
 pub mod JsonSchemas
 pub mod JsonColumnFaults
 pub mod JsonSlots
@@ -13,7 +12,6 @@ pub mod JsonDictionaries
 pub mod JsonBooks
 pub mod JsonBatches
 pub mod JsonRecordBatches
-pub mod JsonResults
 pub mod JsonFiles
 pub mod SchemaLaws
 pub mod ColumnLaws

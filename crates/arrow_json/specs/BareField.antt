@@ -4,8 +4,8 @@ use Rattle.arrays.specs.Shape.{shape_of}
 use Rattle.types.specs.declared.data_type.DataType.{DataType}
 use Rattle.serde_json.specs.Data.{Data}
 use Rattle.serde_json.specs.Find.{as_bool, as_str}
-use Rattle.arrow_json.specs.JsonMember.{member_of}
-use Rattle.arrow_json.specs.JsonSchema.{type_name, named_type, is_without, is_childless, ReadsShape, HasType}
+use Rattle.json_places.specs.JsonMember.{member_of, is_without}
+use Rattle.arrow_json.specs.JsonSchema.{type_name, named_type, is_childless, ReadsShape, HasType}
 use Rattle.json_places.specs.declared.path.Member.TheVariants as member
 use Rattle.arrow_json.specs.declared.schema.Bare.{Bare}
 

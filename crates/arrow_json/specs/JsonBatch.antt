@@ -8,7 +8,7 @@ use Rattle.serde_json.specs.Data.{Data, Items}
 use Rattle.serde_json.specs.Find.{get_item, as_array}
 use Rattle.serde_json.specs.Events.{items_len}
 use Rattle.json_places.specs.JsonNumber.{count_of}
-use Rattle.arrow_json.specs.JsonMember.{member_of}
+use Rattle.json_places.specs.JsonMember.{member_of}
 use Rattle.arrow_json.specs.JsonColumn.{ReadsPlain, numbers, truths, texts}
 use Rattle.arrow_json.specs.JsonList.{ReadsList}
 use Rattle.arrow_json.specs.JsonCodes.{ReadsCodes}

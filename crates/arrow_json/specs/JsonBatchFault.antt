@@ -5,7 +5,7 @@ use Rattle.arrays.specs.Shape.{FieldShape, kind_of_field}
 use Rattle.serde_json.specs.Data.{Data, Items}
 use Rattle.serde_json.specs.Find.{get_item, as_array, as_object}
 use Rattle.json_places.specs.JsonNumber.{count_of}
-use Rattle.arrow_json.specs.JsonMember.{member_of, Unlike, MemberFault, ListFault}
+use Rattle.json_places.specs.JsonMember.{member_of, Unlike, MemberFault, ListFault}
 use Rattle.arrow_json.specs.JsonColumn.{numbers, truths, texts}
 use Rattle.arrow_json.specs.JsonColumnFault.{ColumnFault}
 use Rattle.arrow_json.specs.JsonListFault.{ListsFault}

@@ -4,7 +4,7 @@ use Rattle.types.specs.declared.int_type.IntType.{IntType}
 use Rattle.arrays.specs.Item.{Item}
 use Rattle.serde_json.specs.Data.{Data, Items}
 use Rattle.serde_json.specs.Find.{get_item, as_array}
-use Rattle.arrow_json.specs.JsonMember.{member_of, ReadsEach}
+use Rattle.json_places.specs.JsonMember.{member_of, ReadsEach}
 use Rattle.arrow_json.specs.JsonEncoding.{HasEncoding, id_of}
 use Rattle.arrow_json.specs.JsonDictionary.{ReadsEntry}
 use Rattle.json_places.specs.declared.path.Member.TheVariants as member

@@ -2,7 +2,7 @@
 use Rattle.std.specs.Prelude.{◌≡◌, ◌≢◌, ℕ, ◌<◌, ℤ, List, [], ◌∷◌, slice_get, Option, Some, option_and_then}
 use Rattle.serde_json.specs.Data.{Data, Items}
 use Rattle.serde_json.specs.Find.{get_item, as_array, as_object}
-use Rattle.arrow_json.specs.JsonMember.{member_of, Unlike, MemberFault, EachFault}
+use Rattle.json_places.specs.JsonMember.{member_of, Unlike, MemberFault, EachFault}
 use Rattle.arrow_json.specs.JsonEncoding.{Encoding, HasEncoding, id_of}
 use Rattle.arrow_json.specs.JsonEncodingFault.{EncodedFault}
 use Rattle.arrow_json.specs.JsonDictionaryFault.{EntryFault}

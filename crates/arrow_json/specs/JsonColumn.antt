@@ -9,7 +9,7 @@ use Rattle.serde_json.specs.Data.{Data, null, boolean, number, string, array, ob
 use Rattle.serde_json.specs.Find.{get_item, as_array, as_str}
 use Rattle.serde_json.specs.Events.{items_len}
 use Rattle.json_places.specs.JsonNumber.{integer_of, count_of, flag_of}
-use Rattle.arrow_json.specs.JsonMember.{member_of}
+use Rattle.json_places.specs.JsonMember.{member_of}
 use Rattle.json_places.specs.declared.path.Member.TheVariants as member
 use Rattle.json_places.specs.declared.fault.JsonFaultKind.{JsonFaultKind}
 use Rattle.json_places.specs.declared.fault.JsonFaultKind.TheVariants.{BadNumber, WrongMember, UnsupportedType}

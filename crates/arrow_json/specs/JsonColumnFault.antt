@@ -5,7 +5,7 @@ use Rattle.arrays.specs.Item.{Item}
 use Rattle.serde_json.specs.Data.{Data, Items}
 use Rattle.serde_json.specs.Find.{get_item, as_null, as_object}
 use Rattle.json_places.specs.JsonNumber.{count_of}
-use Rattle.arrow_json.specs.JsonMember.{member_of, Unlike, MemberFault, ListFault}
+use Rattle.json_places.specs.JsonMember.{member_of, Unlike, MemberFault, ListFault}
 use Rattle.arrow_json.specs.JsonColumn.{Spelling, is_full, valid_at, ReadsSlots, HasSlots}
 use Rattle.json_places.specs.declared.path.Member.TheVariants as member
 use Rattle.json_places.specs.declared.path.Step.{Step}

@@ -4,7 +4,7 @@ use Rattle.arrays.specs.Item.{Item}
 use Rattle.serde_json.specs.Data.{Data, item, no_items}
 use Rattle.serde_json.specs.Find.{as_array}
 use Rattle.json_places.specs.JsonNumber.{count_of}
-use Rattle.arrow_json.specs.JsonMember.{member_of}
+use Rattle.json_places.specs.JsonMember.{member_of}
 use Rattle.arrow_json.specs.JsonSchema.{only_item}
 use Rattle.arrow_json.specs.JsonColumn.{ReadsPlain, texts}
 use Rattle.json_places.specs.declared.path.Member.TheVariants as member

@@ -3,7 +3,7 @@ use Rattle.std.specs.Prelude.{◌≡◌, ℕ, List, [], ◌∷◌, Some, None, o
 use Rattle.serde_json.specs.Data.{Data, item, no_items}
 use Rattle.serde_json.specs.Find.{as_array, as_object}
 use Rattle.json_places.specs.JsonNumber.{count_of}
-use Rattle.arrow_json.specs.JsonMember.{IsObject, member_of, Unlike, MemberFault, ListFault}
+use Rattle.json_places.specs.JsonMember.{IsObject, member_of, Unlike, MemberFault, ListFault}
 use Rattle.arrow_json.specs.JsonSchema.{only_item}
 use Rattle.arrow_json.specs.JsonColumn.{texts}
 use Rattle.arrow_json.specs.JsonColumnFault.{ColumnFault}

@@ -4,8 +4,8 @@ use Rattle.types.specs.declared.int_type.IntType.{IntType}
 use Rattle.types.specs.declared.int_type.Width.TheVariants.{W64}
 use Rattle.serde_json.specs.Data.{Data}
 use Rattle.json_places.specs.JsonNumber.{integer_of}
-use Rattle.arrow_json.specs.JsonMember.{member_of}
-use Rattle.arrow_json.specs.JsonSchema.{ReadsInt, is_without}
+use Rattle.json_places.specs.JsonMember.{member_of, is_without}
+use Rattle.arrow_json.specs.JsonSchema.{ReadsInt}
 use Rattle.json_places.specs.declared.path.Member.TheVariants as member
 
 -- A column is indices of this type into the dictionary of this number.

@@ -2,7 +2,7 @@
 use Rattle.std.specs.Prelude.{◌≡◌, List, ◌∷◌, Some, None}
 use Rattle.serde_json.specs.Data.{Data}
 use Rattle.serde_json.specs.Find.{as_null, as_object}
-use Rattle.arrow_json.specs.JsonMember.{IsObject, member_of, Unlike, MemberFault}
+use Rattle.json_places.specs.JsonMember.{IsObject, member_of, Unlike, MemberFault}
 use Rattle.arrow_json.specs.JsonEncoding.{id_of}
 use Rattle.arrow_json.specs.JsonSchemaFault.{IndexFault}
 use Rattle.json_places.specs.declared.path.Member.TheVariants as member

@@ -4,7 +4,7 @@ use Rattle.arrays.specs.Schema.{is_deep}
 use Rattle.arrays.specs.Shape.{FieldShape, utf8, dict, field}
 use Rattle.serde_json.specs.Data.{Data, Items}
 use Rattle.serde_json.specs.Find.{as_bool, as_str, as_array}
-use Rattle.arrow_json.specs.JsonMember.{member_of, ReadsEach}
+use Rattle.json_places.specs.JsonMember.{member_of, ReadsEach}
 use Rattle.arrow_json.specs.JsonSchema.{HasType, IsFieldOf, is_childless}
 use Rattle.arrow_json.specs.JsonEncoding.{Encoding, HasEncoding}
 use Rattle.json_places.specs.declared.path.Member.TheVariants as member

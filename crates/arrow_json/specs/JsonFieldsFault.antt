@@ -2,7 +2,7 @@
 use Rattle.std.specs.Prelude.{◌≡◌, ◌≢◌, ℕ, List, [], ◌∷◌, codes, Some, option_and_then}
 use Rattle.serde_json.specs.Data.{Data, Items}
 use Rattle.serde_json.specs.Find.{as_array, as_object}
-use Rattle.arrow_json.specs.JsonMember.{IsObject, member_of, Unlike, MemberFault, EachFault}
+use Rattle.json_places.specs.JsonMember.{IsObject, member_of, Unlike, MemberFault, EachFault}
 use Rattle.arrow_json.specs.JsonSchema.{named_type}
 use Rattle.arrow_json.specs.JsonSchemaFault.{FieldFault}
 use Rattle.arrow_json.specs.JsonEncodingFault.{EncodedFault}

@@ -7,7 +7,7 @@ use Rattle.arrays.specs.File.{File}
 use Rattle.serde_json.specs.Data.{Data, Items}
 use Rattle.serde_json.specs.Find.{as_array, as_object}
 use Rattle.serde_json.specs.Read.{read}
-use Rattle.arrow_json.specs.JsonMember.{member_of, Unlike, MemberFault, EachFault, ReadsEach}
+use Rattle.json_places.specs.JsonMember.{member_of, Unlike, MemberFault, EachFault, ReadsEach}
 use Rattle.arrow_json.specs.JsonFields.{ReadsSchema}
 use Rattle.arrow_json.specs.JsonFieldsFault.{SchemaFault}
 use Rattle.arrow_json.specs.JsonBook.{Coding, HasBook}

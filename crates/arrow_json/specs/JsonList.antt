@@ -13,7 +13,7 @@ use Rattle.serde_json.specs.Data.{Data, Items, no_items, item}
 use Rattle.serde_json.specs.Find.{as_array}
 use Rattle.serde_json.specs.Events.{items_len}
 use Rattle.json_places.specs.JsonNumber.{integer_of, count_of}
-use Rattle.arrow_json.specs.JsonMember.{member_of, ReadsEach}
+use Rattle.json_places.specs.JsonMember.{member_of, ReadsEach}
 use Rattle.arrow_json.specs.JsonColumn.{flags_of, HasFlags, valid_at}
 use Rattle.json_places.specs.declared.path.Member.TheVariants as member
 

@@ -6,7 +6,7 @@ use Rattle.serde_json.specs.Data.{Data, Items}
 use Rattle.serde_json.specs.Find.{as_array, as_object}
 use Rattle.serde_json.specs.Events.{items_len}
 use Rattle.json_places.specs.JsonNumber.{integer_of, count_of, flag_of}
-use Rattle.arrow_json.specs.JsonMember.{member_of, Unlike, MemberFault, ListFault, EachFault, ReadsEach}
+use Rattle.json_places.specs.JsonMember.{member_of, Unlike, MemberFault, ListFault, EachFault, ReadsEach}
 use Rattle.arrow_json.specs.JsonColumnFault.{CountFault, FlagsFault}
 use Rattle.arrow_json.specs.JsonList.{Spells, offset_bytes, are_enough, lists_fault, HasLists}
 use Rattle.json_places.specs.declared.path.Member.TheVariants as member

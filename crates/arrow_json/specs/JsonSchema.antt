@@ -6,7 +6,7 @@ use Rattle.serde_json.specs.Data.{Data, Items, no_items, item}
 use Rattle.serde_json.specs.Find.{as_null, as_bool, as_number, as_str, as_array}
 use Rattle.serde_json.specs.Events.{items_len}
 use Rattle.json_places.specs.JsonNumber.{width_of}
-use Rattle.arrow_json.specs.JsonMember.{member_of}
+use Rattle.json_places.specs.JsonMember.{member_of, is_without}
 use Rattle.json_places.specs.declared.path.Member.TheVariants as member
 
 -- ---- types
@@ -30,11 +30,6 @@ ReadsShape d (list f) = type_name d ≡ Some (codes "list")
 ReadsShape d dict = ⊥
 
 -- ---- fields
-
--- The member is absent or null.
-abbrev pub is_without : Option Data → Bool
-is_without None = true
-is_without (Some d) = is_some (as_null d)
 
 -- The member is absent, null or empty.
 abbrev pub is_childless : Option Data → Bool

@@ -3,7 +3,7 @@ use Rattle.std.specs.Prelude.{◌≡◌, ◌≢◌, ℕ, suc, List, [], ◌∷�
 use Rattle.serde_json.specs.Data.{Data, Num}
 use Rattle.serde_json.specs.Find.{as_bool, as_null, as_number, as_str, as_object}
 use Rattle.json_places.specs.JsonNumber.{width_of}
-use Rattle.arrow_json.specs.JsonMember.{IsObject, member_of, Unlike, MemberFault}
+use Rattle.json_places.specs.JsonMember.{IsObject, member_of, Unlike, MemberFault}
 use Rattle.arrow_json.specs.JsonSchema.{type_name, named_type, is_childless, only_item, only_child}
 use Rattle.json_places.specs.declared.path.Member.TheVariants as member
 use Rattle.json_places.specs.declared.path.Step.{Step}

@@ -1,5 +1,4 @@
 -- The words of this crate's contracts.
-pub mod JsonMember
 pub mod JsonSchema
 pub mod JsonSchemaFault
 pub mod BareField

@@ -5,7 +5,7 @@ use Rattle.arrays.specs.Layout.{is_valid_in}
 use Rattle.serde_json.specs.Data.{Data, Items}
 use Rattle.arrow_json.specs.JsonColumn.{valid_at}
 use Rattle.arrow_json.specs.JsonList.{Spells, offset_bytes}
-use Rattle.arrow_json.specs.JsonMember.{ReadsEach}
+use Rattle.json_places.specs.JsonMember.{ReadsEach}
 use Rattle.json_places.specs.JsonNumber.{flag_of}
 
 -- The value is a flag.

@@ -13,12 +13,12 @@ ghost use Rattle.arrow_json.specs.JsonDictionaryFault.{EntryFault};
 ghost use Rattle.arrow_json.specs.JsonEncoding.{HasEncoding};
 ghost use Rattle.arrow_json.specs.JsonEncodingFault.{EncodedFault};
 ghost use Rattle.json_places.specs.JsonFault.{Tells};
-ghost use Rattle.arrow_json.specs.JsonMember.{EachFault, IsObject, ReadsEach};
+ghost use Rattle.json_places.specs.JsonMember.{EachFault, IsObject, ReadsEach};
 
 use crate::dictionary::read_entry;
 use crate::encoding::{Encoding, id_member, read_encoded};
-use crate::member::{array_member, check_object, push};
 use arrays::{IntType, Words};
+use json_places::member::{array_member, check_object, push};
 use json_places::{JsonFault, JsonFaultKind, Member, Step};
 use serde_json::Value;
 use std::alloc::Global;

@@ -8,15 +8,15 @@ ghost use Rattle.arrow_json.specs.JsonBatch.{HoldsColumn};
 ghost use Rattle.arrow_json.specs.JsonColumn.{flags_of, valid_at, numbers, truths, texts, spelling_of, is_full, ReadsSlots, HasSlots};
 ghost use Rattle.arrow_json.specs.JsonColumnFault.{CountFault, FlagsFault, NoSlots, SlotsFault, ColumnFault};
 ghost use Rattle.json_places.specs.JsonFault.{Tells};
-ghost use Rattle.arrow_json.specs.JsonMember.{member_of, IsObject, ListFault, MemberFault};
+ghost use Rattle.json_places.specs.JsonMember.{member_of, IsObject, ListFault, MemberFault};
 ghost use Rattle.json_places.specs.JsonNumber.{count_of};
 ghost use Rattle.arrow_json.specs.SlotParts.{flags_in, values_in};
 ghost use Rattle.arrow_json.specs.Unfit.{IsWith, IsUnfit, IsTold};
 ghost use Rattle.json_places.specs.declared.path.Member.TheVariants as member;
 
-use crate::member::{check_object, count_member, required};
 use arrays::{Array, BoolBuilder, BuildFault, IntBuilder, IntType, LayoutFault, TextBuilder};
 use colbits::NoMemory;
+use json_places::member::{check_object, count_member, required};
 use json_places::number::{flag, integer};
 use json_places::{JsonFault, JsonFaultKind, Member, Step};
 use serde_json::Value;

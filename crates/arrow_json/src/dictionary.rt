@@ -6,12 +6,12 @@ ghost use Rattle.serde_json.specs.View.{view};
 ghost use Rattle.arrow_json.specs.JsonDictionary.{HasTexts, ReadsEntry, ReadsTexts};
 ghost use Rattle.arrow_json.specs.JsonDictionaryFault.{EntryFault, HeldFault, TextsFault};
 ghost use Rattle.json_places.specs.JsonFault.{Tells};
-ghost use Rattle.arrow_json.specs.JsonMember.{IsObject};
+ghost use Rattle.json_places.specs.JsonMember.{IsObject};
 
 use crate::column::{read_texts, single_member};
-use crate::member::{check_object, count_member, required};
 use crate::schema::only_item;
 use arrays::{Array, Words};
+use json_places::member::{check_object, count_member, required};
 use json_places::{JsonFault, JsonFaultKind, Member, Step};
 use serde_json::Value;
 use std::alloc::Global;

@@ -6,13 +6,12 @@ ghost use Rattle.arrow_json.specs.EncodingParts.{parts_of};
 ghost use Rattle.arrow_json.specs.JsonEncoding.{HasEncoding, IsEncoding, id_of};
 ghost use Rattle.arrow_json.specs.JsonEncodingFault.{EncodedFault, EncodingFault};
 ghost use Rattle.json_places.specs.JsonFault.{Tells};
-ghost use Rattle.arrow_json.specs.JsonMember.{IsObject, MemberFault, Unlike, member_of};
-ghost use Rattle.arrow_json.specs.JsonSchema.{is_without};
+ghost use Rattle.json_places.specs.JsonMember.{IsObject, MemberFault, Unlike, is_without, member_of};
 ghost use Rattle.json_places.specs.declared.path.Member.TheVariants as member;
 
-use crate::member::{check_object, required, unlike};
 use crate::type_object::read_index;
 use arrays::{IntType, Width};
+use json_places::member::{check_object, required, unlike};
 use json_places::number::integer;
 use json_places::{JsonFault, Member, Step};
 use serde_json::Value;
@@ -34,7 +33,7 @@ pub(crate) struct Encoding {
 }
 
 /// The number that an object has as its `id`.
-#[tactic(auto, using(crate::proofs::JsonFaults::told))]
+#[tactic(auto, using(json_places::proofs::JsonTells::told))]
 pub(crate) fn id_member(alloc: Global, object: &Value) -> Result<i128, JsonFault>
     requires { IsObject (view object.now) }
     ensures ok { IfOk result (λ id. option_and_then id_of (member_of member.Id (view object.now)) ≡ Some id) }

@@ -8,16 +8,17 @@ ghost use Rattle.arrow_json.specs.JsonBatch.{IsBookOf, ReadsBatch};
 ghost use Rattle.json_places.specs.JsonTable.{table_of};
 ghost use Rattle.arrow_json.specs.JsonBatchFault.{BatchFault};
 ghost use Rattle.json_places.specs.JsonFault.{Tells};
-ghost use Rattle.arrow_json.specs.JsonMember.{EachFault, IsObject, ReadsEach, member_of};
+ghost use Rattle.json_places.specs.JsonMember.{EachFault, NoDocument, IsObject, ReadsEach, member_of};
 ghost use Rattle.arrow_json.specs.JsonFields.{ReadsSchema};
 ghost use Rattle.arrow_json.specs.JsonFile.{AreUnder, BytesFault, FileFault, HasSchema, Reads, ReadsFile, file_of};
 
 use crate::batch::read_batch;
 use crate::book::{Coding, read_book};
-use crate::member::{array_member, check_object, push, required};
 use crate::schema::{field_values, read_schema};
 use arrays::{File, RecordBatch, Schema};
-use json_places::{JsonFault, JsonFaultKind, Member, Step};
+use json_places::document::parse;
+use json_places::member::{array_member, check_object, push, required};
+use json_places::{JsonFault, Member, Step};
 use serde_json::Value;
 use std::alloc::Global;
 use std::sync::Arc;
@@ -122,25 +123,11 @@ fn read_document(alloc: Global, document: &Value) -> Result<File, JsonFault>
     Ok(File::new(schema, batches))
 }
 
-/// The document that the bytes spell.
-#[tactic(auto, using(crate::proofs::JsonFiles::bytes_told))]
-fn parse(alloc: Global, bytes: &[u8]) -> Result<Value, JsonFault>
-    ensures utf8 { OnOk result (IsUtf8 bytes.now) }
-    ensures document { IfOk result (λ document. read bytes.now ≡ Some (view document)) }
-    ensures err { IfErr result (Tells (BytesFault bytes.now)) }
-{
-    Value::from_slice(alloc, bytes).map_err(|error| if error.is_memory() {
-        JsonFault::no_memory(alloc)
-    } else {
-        JsonFault::at(alloc, JsonFaultKind::NotJson, &[])
-    })
-}
-
-/// The same, and the bytes are let go of here.
+/// The document that the bytes spell, which are let go of here.
 fn parse_vec(alloc: Global, bytes: Vec<u8>) -> Result<Value, JsonFault>
     ensures utf8 { OnOk result (IsUtf8 bytes.items) }
     ensures document { IfOk result (λ document. read bytes.items ≡ Some (view document)) }
-    ensures err { IfErr result (Tells (BytesFault bytes.items)) }
+    ensures err { IfErr result (Tells (NoDocument bytes.items)) }
 {
     parse(alloc, &bytes)
 }

@@ -10,7 +10,6 @@ mod encoding;
 pub mod file;
 pub mod laws;
 mod list;
-mod member;
 mod schema;
 mod type_object;
 

@@ -6,8 +6,8 @@ ghost use Rattle.arrays.specs.Shape as shape;
 ghost use Rattle.arrays.specs.Shape.{field_of, fields_of, kind_of_field, shape_of};
 ghost use Rattle.json_places.specs.JsonFault.{Tells, no_memory};
 ghost use Rattle.arrow_json.specs.BareField.{IsFieldType, IsBare};
-ghost use Rattle.arrow_json.specs.JsonMember.{member_of, EachFault, IsObject, ReadsEach};
-ghost use Rattle.arrow_json.specs.JsonSchema.{HasType, named_type, only_item, only_child, IsFieldOf, is_without, is_childless};
+ghost use Rattle.json_places.specs.JsonMember.{member_of, is_without, EachFault, IsObject, ReadsEach};
+ghost use Rattle.arrow_json.specs.JsonSchema.{HasType, named_type, only_item, only_child, IsFieldOf, is_childless};
 ghost use Rattle.arrow_json.specs.JsonSchemaFault.{FieldFault};
 ghost use Rattle.arrow_json.specs.EncodingParts.{HasSomeEncoding};
 ghost use Rattle.arrow_json.specs.JsonFields.{ReadsField, ReadsSchema};
@@ -15,11 +15,11 @@ ghost use Rattle.arrow_json.specs.JsonFieldsFault.{SchemaFault, TopFault};
 ghost use Rattle.json_places.specs.declared.path.Member.TheVariants as member;
 
 use crate::encoding::read_encoded;
-use crate::member::{
-    array_member, check_object, push, required, text_member, truth_member, unlike,
-};
 use crate::type_object::{read_type, type_name};
 use arrays::{DataType, Field, Schema};
+use json_places::member::{
+    array_member, check_object, push, required, text_member, truth_member, unlike,
+};
 use json_places::{JsonFault, JsonFaultKind, Member, Step};
 use serde_json::Value;
 use std::alloc::Global;
@@ -46,7 +46,7 @@ fn check_plain(alloc: Global, within: u32, field: &Value) -> Result<(), JsonFaul
 }
 
 /// Whether the field has no children: they are absent, null or empty.
-#[tactic(auto, using(crate::proofs::JsonFaults::lengths))]
+#[tactic(auto, using(json_places::proofs::JsonTells::lengths))]
 fn is_childless(field: &Value) -> bool
     ensures { result ≡ is_childless (member_of member.Children (view field.now)) }
 {

@@ -4,12 +4,12 @@ ghost use Rattle.std.specs.Prelude.{◌≡◌, IfOk, IfErr, OnOk, Some, codes};
 ghost use Rattle.serde_json.specs.View.{view};
 ghost use Rattle.arrow_json.specs.BareField.{IsTypeRead};
 ghost use Rattle.json_places.specs.JsonFault.{Tells};
-ghost use Rattle.arrow_json.specs.JsonMember.{IsObject};
+ghost use Rattle.json_places.specs.JsonMember.{IsObject};
 ghost use Rattle.arrow_json.specs.JsonSchema.{type_name, ReadsInt};
 ghost use Rattle.arrow_json.specs.JsonSchemaFault.{TypeFault, IndexFault};
 
-use crate::member::{check_object, number_member, text_member, truth_member};
 use arrays::{DataType, IntType};
+use json_places::member::{check_object, number_member, text_member, truth_member};
 use json_places::number::width;
 use json_places::{JsonFault, JsonFaultKind, Member};
 use serde_json::Value;

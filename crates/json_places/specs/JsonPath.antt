@@ -7,7 +7,7 @@ use Rattle.json_places.specs.declared.path.Member.TheVariants as member
 use Rattle.json_places.specs.declared.path.Step.{Step}
 use Rattle.json_places.specs.declared.path.Step.TheVariants as step
 
--- The names of the members. (Arrow integration testing, "JSON test data format")
+-- The names of the members: of files first (Arrow integration testing, "JSON test data format"), then of queries.
 abbrev pub member_name : Member → List ℕ
 member_name member.Schema = codes "schema"
 member_name member.Fields = codes "fields"
@@ -28,6 +28,15 @@ member_name member.Columns = codes "columns"
 member_name member.Validity = codes "VALIDITY"
 member_name member.Offset = codes "OFFSET"
 member_name member.Data = codes "DATA"
+member_name member.Filter = codes "filter"
+member_name member.By = codes "by"
+member_name member.Aggs = codes "aggs"
+member_name member.Column = codes "column"
+member_name member.Int = codes "int"
+member_name member.Text = codes "text"
+member_name member.Op = codes "op"
+member_name member.Args = codes "args"
+member_name member.Agg = codes "agg"
 
 -- A slash, and the member's name or the item's number.
 abbrev pub step_text : Step → List ℕ

@@ -2,5 +2,6 @@
 pub mod JsonPath
 pub mod JsonFault
 pub mod JsonFaultText
+pub mod JsonMember
 pub mod JsonNumber
 pub mod JsonTable

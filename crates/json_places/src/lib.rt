@@ -1,8 +1,10 @@
-//! Places of a JSON document, what is wrong there, the numbers that stand there, and what a file holds. Users name `arrow_json`, which passes on
-//! places and faults; the numbers are for the crates that read documents.
+//! Places of a JSON document, what is wrong there, the members and numbers that stand there, and what a file holds. Users name `arrow_json` or
+//! `query_json`, which pass on places and faults; the rest is for the crates that read documents.
 #![tactic(auto)]
 
+pub mod document;
 pub mod fault;
+pub mod member;
 pub mod number;
 pub mod path;
 

@@ -5,7 +5,7 @@ use colbits::NoMemory;
 use std::alloc::{AllocError, Global};
 use std::marker::Model;
 
-/// The members of a file's objects that are looked at.
+/// The members of objects that are looked at: those of files up to `Data`, then those of queries.
 #[derive(Clone, Copy, Debug, PartialEq, Eq)]
 pub enum Member {
     Schema,
@@ -30,10 +30,19 @@ pub enum Member {
     Validity,
     Offset,
     Data,
+    Filter,
+    By,
+    Aggs,
+    Column,
+    Int,
+    Text,
+    Op,
+    Args,
+    Agg,
 }
 
 impl Member {
-    /// The name that the file has for it.
+    /// The name that the document has for it.
     pub fn name(self) -> &'static str
         ensures { result.now ≡ member_name self }
     {
@@ -57,6 +66,15 @@ impl Member {
             Member::Validity => "VALIDITY",
             Member::Offset => "OFFSET",
             Member::Data => "DATA",
+            Member::Filter => "filter",
+            Member::By => "by",
+            Member::Aggs => "aggs",
+            Member::Column => "column",
+            Member::Int => "int",
+            Member::Text => "text",
+            Member::Op => "op",
+            Member::Args => "args",
+            Member::Agg => "agg",
         }
     }
 }

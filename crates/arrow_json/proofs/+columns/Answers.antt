@@ -13,7 +13,7 @@ use Rattle.json_places.specs.declared.path.Member.TheVariants as member
 use Rattle.json_places.specs.declared.path.Step.TheVariants as step
 use Rattle.arrow_json.proofs.JsonBatches.{tells_unread}
 use Rattle.arrow_json.proofs.JsonLists.{lists_flags, lists_offsets, lists_child}
-use Rattle.arrow_json.proofs.JsonResults.{error_kept, error_made}
+use Rattle.json_places.proofs.JsonResults.{error_kept, error_made}
 use Rattle.arrow_json.proofs.+columns.Goals as goal
 
 pub batch::read_array-returns-in-List-clause-err : goal.batch::read_array-returns-in-List-clause-err

@@ -1,6 +1,6 @@
 use Rattle.std.proofs.Common.{◌∙◌}
 use Rattle.arrow_json.proofs.JsonRecordBatches.{batch_fault-read, reads_batch}
-use Rattle.arrow_json.proofs.JsonResults.{value_kept}
+use Rattle.json_places.proofs.JsonResults.{value_kept}
 use Rattle.arrow_json.proofs.batch.read_batch.Goals as goal
 
 pub unreachable-requires : goal.unreachable-requires

@@ -3,7 +3,7 @@ use Rattle.std.specs.Result.{MatchResult, IsErrAnd}
 use Rattle.json_places.specs.JsonFault.{IsUnder}
 use Rattle.json_places.specs.declared.path.Step.TheVariants as step
 use Rattle.arrow_json.proofs.JsonBatches.{book_count, columns_pushed, encoded_field_at, tells_column}
-use Rattle.arrow_json.proofs.JsonResults.{value_kept, error_made}
+use Rattle.json_places.proofs.JsonResults.{value_kept, error_made}
 use Rattle.arrow_json.proofs.batch.read_columns.Goals as goal
 
 pub bounds-book-index : goal.bounds-book-index

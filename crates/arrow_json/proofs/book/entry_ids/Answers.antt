@@ -7,9 +7,9 @@ use Rattle.arrow_json.specs.JsonBook.{HasId}
 use Rattle.arrow_json.specs.JsonBookFault.{NoId}
 use Rattle.json_places.specs.JsonFault.{IsUnder}
 use Rattle.json_places.specs.declared.path.Step.TheVariants as step
-use Rattle.arrow_json.proofs.JsonFaults.{tells_item_at}
-use Rattle.arrow_json.proofs.JsonItems.{each_pushed, each_done}
-use Rattle.arrow_json.proofs.JsonResults.{value_kept, error_made}
+use Rattle.json_places.proofs.JsonTells.{tells_item_at}
+use Rattle.json_places.proofs.JsonItems.{each_pushed, each_done}
+use Rattle.json_places.proofs.JsonResults.{value_kept, error_made}
 use Rattle.arrow_json.proofs.book.entry_ids.Goals as goal
 
 pub returns-in_err-id-clause-err : goal.returns-in_err-id-clause-err

@@ -1,6 +1,6 @@
 use Rattle.serde_json.specs.View.{items_view}
 use Rattle.arrow_json.specs.JsonBook.{HasId}
-use Rattle.arrow_json.specs.JsonMember.{ReadsFirst}
+use Rattle.json_places.specs.JsonMember.{ReadsFirst}
 use Rattle.arrow_json.proofs.book.entry_ids.Given as goal
 
 -- the numbers so far are read

@@ -4,7 +4,7 @@ use Rattle.std.specs.Prelude.{FitsSigned}
 use Rattle.std.proofs.lemmas.Int.{to_z-of_z}
 use Rattle.arrow_json.specs.EncodingParts.{parts_of}
 use Rattle.arrow_json.proofs.JsonBooks.{encoded_at, tells_coding}
-use Rattle.arrow_json.proofs.JsonResults.{error_kept}
+use Rattle.json_places.proofs.JsonResults.{error_kept}
 use Rattle.arrow_json.proofs.book.read_coding.Goals as goal
 
 pub read_dictionary-requires : goal.read_dictionary-requires

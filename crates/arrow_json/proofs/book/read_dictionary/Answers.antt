@@ -5,7 +5,7 @@ use Rattle.std.proofs.lemmas.Int.{to_z-of_z}
 use Rattle.arrow_json.specs.BookParts.{IsPlace}
 use Rattle.arrow_json.specs.declared.book.Place.TheVariants.{Again}
 use Rattle.arrow_json.specs.JsonBook.{IsOnly}
-use Rattle.arrow_json.proofs.JsonItems.{get_item_at}
+use Rattle.json_places.proofs.JsonItems.{get_item_at}
 use Rattle.arrow_json.proofs.JsonBooks.{entry_within, entry_object, tells_entry, tells_again}
 use Rattle.arrow_json.proofs.book.read_dictionary.Goals as goal
 

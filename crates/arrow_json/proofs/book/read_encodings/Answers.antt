@@ -6,9 +6,9 @@ use Rattle.arrow_json.specs.JsonEncoding.{HasEncoding}
 use Rattle.arrow_json.specs.JsonEncodingFault.{EncodedFault}
 use Rattle.json_places.specs.JsonFault.{IsUnder}
 use Rattle.json_places.specs.declared.path.Step.TheVariants as step
-use Rattle.arrow_json.proofs.JsonFaults.{tells_item_at}
-use Rattle.arrow_json.proofs.JsonItems.{each_pushed, each_done}
-use Rattle.arrow_json.proofs.JsonResults.{value_kept, error_made}
+use Rattle.json_places.proofs.JsonTells.{tells_item_at}
+use Rattle.json_places.proofs.JsonItems.{each_pushed, each_done}
+use Rattle.json_places.proofs.JsonResults.{value_kept, error_made}
 use Rattle.arrow_json.proofs.book.read_encodings.Goals as goal
 
 pub returns-in_err-encoding-clause-err : goal.returns-in_err-encoding-clause-err

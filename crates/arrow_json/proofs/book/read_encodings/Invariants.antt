@@ -2,7 +2,7 @@ use Rattle.std.proofs.Common.{map, option_map}
 use Rattle.serde_json.specs.View.{items_view}
 use Rattle.arrow_json.specs.EncodingParts.{parts_of}
 use Rattle.arrow_json.specs.JsonEncoding.{HasEncoding}
-use Rattle.arrow_json.specs.JsonMember.{ReadsFirst}
+use Rattle.json_places.specs.JsonMember.{ReadsFirst}
 use Rattle.arrow_json.proofs.book.read_encodings.Given as goal
 
 -- the encodings so far are read

@@ -3,7 +3,7 @@ use Rattle.serde_json.proofs.Views.{items_len-items_view}
 use Rattle.arrow_json.specs.JsonColumn.{valid_at}
 use Rattle.arrow_json.specs.SlotParts.{flags_in, values_in}
 use Rattle.arrow_json.proofs.JsonCodes.{null_added, tells_no_index_flag}
-use Rattle.arrow_json.proofs.JsonSchemas.{get_item_some}
+use Rattle.json_places.proofs.JsonItems.{get_item_some}
 use Rattle.arrow_json.proofs.codes.push_code.Goals as goal
 
 pub returns-in-Ok-clause-ok : goal.returns-in-Ok-clause-ok

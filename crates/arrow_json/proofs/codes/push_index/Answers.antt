@@ -6,7 +6,7 @@ use Rattle.arrays.specs.Dictionary.{is_code}
 use Rattle.arrays.specs.Item.{int}
 use Rattle.arrow_json.specs.SlotParts.{flags_in, values_in}
 use Rattle.arrow_json.proofs.JsonCodes.{index_added, tells_no_index, tells_past}
-use Rattle.arrow_json.proofs.JsonItems.{get_item_at}
+use Rattle.json_places.proofs.JsonItems.{get_item_at}
 use Rattle.arrow_json.proofs.codes.push_index.Goals as goal
 
 pub returns-in_default-clause-err : goal.returns-in_default-clause-err

@@ -2,8 +2,7 @@ use Rattle.std.proofs.Common.{◌≡◌, Some, None, true, false, arith}
 use Rattle.serde_json.proofs.Views.{items_len-items_view}
 use Rattle.arrow_json.specs.JsonColumn.{spelling_of, valid_at}
 use Rattle.arrow_json.specs.SlotParts.{flags_in, values_in}
-use Rattle.arrow_json.proofs.JsonItems.{get_item_at}
-use Rattle.arrow_json.proofs.JsonSchemas.{get_item_some}
+use Rattle.json_places.proofs.JsonItems.{get_item_at, get_item_some}
 use Rattle.arrow_json.proofs.JsonSlots.{value_pushed, null_pushed, tells_unfit, tells_no_flag}
 use Rattle.arrow_json.proofs.column.push_slot.Goals as goal
 

@@ -4,9 +4,9 @@ use Rattle.std.specs.Arc.{arc_value}
 use Rattle.std.specs.Result.{MatchResult, IsErrAnd}
 use Rattle.json_places.specs.JsonFault.{IsUnder}
 use Rattle.json_places.specs.declared.path.Step.TheVariants as step
-use Rattle.arrow_json.proofs.JsonItems.{each_done}
+use Rattle.json_places.proofs.JsonItems.{each_done}
 use Rattle.arrow_json.proofs.JsonFiles.{tells_batch, batch_pushed, AreUnder-push}
-use Rattle.arrow_json.proofs.JsonResults.{value_kept, error_made}
+use Rattle.json_places.proofs.JsonResults.{value_kept, error_made}
 use Rattle.arrow_json.proofs.file.read_batches.Goals as goal
 
 pub loop-index-preserved : goal.loop-index-preserved

@@ -2,7 +2,7 @@ use Rattle.std.proofs.Common.{map, option_map}
 use Rattle.std.specs.Arc.{arc_value}
 use Rattle.arrow_json.specs.BookParts.{coding_of}
 use Rattle.serde_json.specs.View.{items_view}
-use Rattle.arrow_json.specs.JsonMember.{ReadsFirst}
+use Rattle.json_places.specs.JsonMember.{ReadsFirst}
 use Rattle.arrow_json.specs.JsonFile.{AreUnder}
 use Rattle.arrow_json.specs.JsonBatch.{ReadsBatch}
 use Rattle.json_places.specs.JsonTable.{table_of}

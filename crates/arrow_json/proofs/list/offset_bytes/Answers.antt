@@ -7,7 +7,7 @@ use Rattle.arrays.specs.Number.{bytes_of_number}
 use Rattle.serde_json.specs.View.{view}
 use Rattle.arrow_json.specs.JsonList.{Spells}
 use Rattle.json_places.specs.JsonNumber.{integer_of}
-use Rattle.arrow_json.proofs.JsonItems.{each_pushed, each_done}
+use Rattle.json_places.proofs.JsonItems.{each_pushed, each_done}
 use Rattle.arrow_json.proofs.JsonLists.{offset_bytes-push, tells_no_offset}
 use Rattle.arrow_json.proofs.list.offset_bytes.Goals as goal
 

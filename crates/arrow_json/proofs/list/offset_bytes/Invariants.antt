@@ -1,7 +1,7 @@
 use Rattle.std.proofs.Common.{◌≡◌, ℤ, List}
 use Rattle.serde_json.specs.View.{items_view}
 use Rattle.arrow_json.specs.JsonList.{Spells, offset_bytes}
-use Rattle.arrow_json.specs.JsonMember.{ReadsFirst}
+use Rattle.json_places.specs.JsonMember.{ReadsFirst}
 use Rattle.arrow_json.proofs.list.offset_bytes.Given as goal
 
 -- the offsets so far are read

@@ -1,6 +1,6 @@
 use Rattle.std.proofs.Common.{sym, arith}
 use Rattle.arrow_json.specs.ListBuffers.{IsFlag}
-use Rattle.arrow_json.proofs.JsonItems.{each_pushed, each_done}
+use Rattle.json_places.proofs.JsonItems.{each_pushed, each_done}
 use Rattle.arrow_json.proofs.list.read_flags.Goals as goal
 
 pub loop-index-preserved : goal.loop-index-preserved

@@ -1,5 +1,5 @@
 use Rattle.serde_json.specs.View.{items_view}
-use Rattle.arrow_json.specs.JsonMember.{ReadsFirst}
+use Rattle.json_places.specs.JsonMember.{ReadsFirst}
 use Rattle.arrow_json.specs.ListBuffers.{IsFlag}
 use Rattle.arrow_json.proofs.list.read_flags.Given as goal
 

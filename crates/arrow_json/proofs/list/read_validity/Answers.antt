@@ -1,5 +1,5 @@
 use Rattle.arrow_json.proofs.JsonLists.{flags_hold}
-use Rattle.arrow_json.proofs.JsonResults.{value_kept}
+use Rattle.json_places.proofs.JsonResults.{value_kept}
 use Rattle.arrow_json.proofs.list.read_validity.Goals as goal
 
 pub returns-in-Ok-clause-ok : goal.returns-in-Ok-clause-ok

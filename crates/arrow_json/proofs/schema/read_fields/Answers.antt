@@ -4,9 +4,10 @@ use Rattle.json_places.specs.JsonFault.{IsUnder}
 use Rattle.json_places.specs.declared.path.Step.TheVariants as step
 use Rattle.arrow_json.specs.JsonFields.{ReadsField}
 use Rattle.arrow_json.specs.JsonFieldsFault.{TopFault}
-use Rattle.arrow_json.proofs.JsonFaults.{tells_item_at}
-use Rattle.arrow_json.proofs.JsonItems.{each_pushed, each_done, fields_of-push}
-use Rattle.arrow_json.proofs.JsonResults.{value_kept, error_made}
+use Rattle.json_places.proofs.JsonTells.{tells_item_at}
+use Rattle.json_places.proofs.JsonItems.{each_pushed, each_done}
+use Rattle.arrow_json.proofs.JsonFields.{fields_of-push}
+use Rattle.json_places.proofs.JsonResults.{value_kept, error_made}
 use Rattle.arrow_json.proofs.schema.read_fields.Goals as goal
 
 pub returns-in_err-field-clause-err : goal.returns-in_err-field-clause-err

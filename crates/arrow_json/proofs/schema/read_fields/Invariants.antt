@@ -1,6 +1,6 @@
 use Rattle.serde_json.specs.View.{items_view}
 use Rattle.arrays.specs.Shape.{fields_of}
-use Rattle.arrow_json.specs.JsonMember.{ReadsFirst}
+use Rattle.json_places.specs.JsonMember.{ReadsFirst}
 use Rattle.arrow_json.specs.JsonFields.{ReadsField}
 use Rattle.arrow_json.proofs.schema.read_fields.Given as goal
 

@@ -1,5 +1,5 @@
 use Rattle.arrow_json.proofs.JsonSchemas.{schema_fault-read}
-use Rattle.arrow_json.proofs.JsonResults.{value_kept}
+use Rattle.json_places.proofs.JsonResults.{value_kept}
 use Rattle.arrow_json.proofs.schema.read_schema.Goals as goal
 
 pub unreachable-requires : goal.unreachable-requires

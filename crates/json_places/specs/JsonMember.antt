@@ -1,18 +1,28 @@
--- What can be wrong with a member or an item, whatever is to stand there.
-use Rattle.std.specs.Prelude.{◌≡◌, ◌≢◌, ℕ, List, [], ◌∷◌, length, slice_get, Option, Some, None, IsSome}
+-- What can be wrong with a document, a member or an item, whatever is to stand there. (RFC 8259)
+use Rattle.std.specs.Prelude.{◌≡◌, ◌≢◌, ℕ, List, [], ◌∷◌, length, slice_get, Bool, true, Option, Some, None, is_some, IsSome, IsUtf8}
 use Rattle.serde_json.specs.Data.{Data, Items}
-use Rattle.serde_json.specs.Find.{get, get_item, as_array, as_object}
+use Rattle.serde_json.specs.Find.{get, get_item, as_null, as_array, as_object}
 use Rattle.serde_json.specs.Events.{items_len}
+use Rattle.serde_json.specs.Read.{read}
 use Rattle.json_places.specs.JsonPath.{member_name}
 use Rattle.json_places.specs.declared.path.Member.{Member}
 use Rattle.json_places.specs.declared.path.Step.{Step}
 use Rattle.json_places.specs.declared.path.Step.TheVariants as step
 use Rattle.json_places.specs.declared.fault.JsonFaultKind.{JsonFaultKind}
-use Rattle.json_places.specs.declared.fault.JsonFaultKind.TheVariants.{MissingMember, WrongMember, CountDiffers}
+use Rattle.json_places.specs.declared.fault.JsonFaultKind.TheVariants.{NotJson, MissingMember, WrongMember, CountDiffers}
+
+-- The bytes are no UTF-8, or no JSON that is nested at most 127 deep.
+pub data NoDocument (bytes : List ℕ) : JsonFaultKind → List Step → Type 0 where
+  no_document : (IsUtf8 bytes → read bytes ≡ None) → NoDocument bytes NotJson []
 
 -- The member of an object.
 abbrev pub member_of : Member → Data → Option Data
 member_of m d = get (member_name m) d
+
+-- The member is absent or null.
+abbrev pub is_without : Option Data → Bool
+is_without None = true
+is_without (Some d) = is_some (as_null d)
 
 abbrev pub IsObject : Data → Type 0
 IsObject d = IsSome (as_object d)

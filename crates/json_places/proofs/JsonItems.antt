@@ -1,17 +1,19 @@
 -- The items of an array read one after another.
 use Rattle.std.proofs.Common.{◌≡◌, ◌∙◌, ℕ, zero, suc, ◌+◌, ◌<◌, List, [], ◌∷◌, ◌++◌, length, get_or, Some, refl, sym, ap, subst, arith, length-append, below_more}
 use Rattle.std.specs.List.{slice_get}
-use Rattle.std.proofs.lemmas.List.{map-append}
 use Rattle.std.proofs.lemmas.Option.{slice_get_within}
-use Rattle.arrays.specs.Shape.{fields_of, field_of}
-use Rattle.types.specs.declared.data_type.Field.{Field}
-use Rattle.serde_json.specs.Data.{Data, Items}
+use Rattle.serde_json.specs.Data.{Data, Items, no_items, item}
 use Rattle.serde_json.specs.Find.{get_item}
 use Rattle.serde_json.specs.View.{view, items_view}
 use Rattle.serde_json.specs.declared.value.Value.{Value}
 use Rattle.serde_json.proofs.Views.{get_item_within, items_len-items_view}
 use Rattle.serde_json.specs.Events.{items_len}
-use Rattle.arrow_json.specs.JsonMember.{ReadsFirst}
+use Rattle.json_places.specs.JsonMember.{ReadsFirst}
+
+pub get_item_some : (ds : Items) (i : ℕ) → i < items_len ds → (d : Data) × (get_item i ds ≡ Some d)
+get_item_some no_items i h = absurd (omega arith)
+get_item_some (item d ds) zero h = (d, refl)
+get_item_some (item d ds) (suc i) h = get_item_some ds i (omega arith)
 
 pub slice_get-front : {A : Type 0} (xs ys : List A) (i : ℕ) → i < length xs → slice_get (xs ++ ys) i ≡ slice_get xs i
 slice_get-front [] ys i h = absurd (omega arith)
@@ -51,6 +53,3 @@ each_pushed R vs n xs v x h within is r = first_pushed R (items_view vs) n xs (v
 pub each_done : {A : Type 0} (R : Data → A → Type 0) (vs : List Value) (n : ℕ) (xs : List A) → ReadsFirst R (items_view vs) n xs → n ≡ length vs
     → ReadsFirst R (items_view vs) (items_len (items_view vs)) xs
 each_done R vs n xs h e = subst (λ m. ReadsFirst R (items_view vs) m xs) (e ∙ sym (items_len-items_view vs)) h
-
-pub fields_of-push : (fs : List Field) (f : Field) → fields_of (fs ++ f ∷ []) ≡ fields_of fs ++ field_of f ∷ []
-fields_of-push fs f = map-append field_of fs (f ∷ [])

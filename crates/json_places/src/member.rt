@@ -1,20 +1,21 @@
-ghost use Rattle.std.specs.Prelude.{◌≡◌, ◌<◌, ◌^◌, Some, IfOk, IfErr, OnOk, ◌∷◌, ◌++◌, [], option_and_then};
+ghost use Rattle.std.specs.Prelude.{◌≡◌, ◌<◌, ◌^◌, Some, IfOk, IfErr, OnOk, ◌∷◌, ◌++◌, [], option_and_then, string_bytes};
 ghost use Rattle.serde_json.specs.Find.{as_array, as_bool, as_number, as_object, as_str};
 ghost use Rattle.serde_json.specs.View.{view, items_view, number_view};
 ghost use Rattle.json_places.specs.JsonFault.{Tells, IsFault, no_memory};
 ghost use Rattle.json_places.specs.declared.path.Step.TheVariants as step;
 ghost use Rattle.json_places.specs.declared.fault.JsonFaultKind.TheVariants.{WrongMember};
-ghost use Rattle.arrow_json.specs.JsonMember.{member_of, IsObject, Unlike, MemberFault, Missing};
+ghost use Rattle.json_places.specs.JsonMember.{member_of, IsObject, Unlike, MemberFault, Missing};
 ghost use Rattle.json_places.specs.JsonNumber.{count_of};
 
-use json_places::number::count;
-use json_places::{JsonFault, JsonFaultKind, Member, Step};
+use crate::fault::{JsonFault, JsonFaultKind};
+use crate::number::count;
+use crate::path::{Member, Step};
 use serde_json::{Number, Value};
 use std::alloc::Global;
 
 /// That the value is an object.
-#[tactic(auto, using(crate::proofs::JsonFaults::told))]
-pub(crate) fn check_object(alloc: Global, value: &Value) -> Result<(), JsonFault>
+#[tactic(auto, using(crate::proofs::JsonTells::told))]
+pub fn check_object(alloc: Global, value: &Value) -> Result<(), JsonFault>
     ensures ok { OnOk result (IsObject (view value.now)) }
     ensures err { IfErr result (Tells (Unlike as_object (view value.now))) }
 {
@@ -25,8 +26,8 @@ pub(crate) fn check_object(alloc: Global, value: &Value) -> Result<(), JsonFault
 }
 
 /// The member of an object.
-#[tactic(auto, using(crate::proofs::JsonFaults::told))]
-pub(crate) fn required<'v>(
+#[tactic(auto, using(crate::proofs::JsonTells::told))]
+pub fn required<'v>(
     alloc: Global,
     object: &'v Value,
     member: Member,
@@ -42,17 +43,17 @@ pub(crate) fn required<'v>(
 }
 
 /// The fault of a member that is another thing than it is to be.
-#[tactic(auto, using(crate::proofs::JsonFaults::told))]
+#[tactic(auto, using(crate::proofs::JsonTells::told))]
 #[cold]
-pub(crate) fn unlike(alloc: Global, member: Member) -> JsonFault
+pub fn unlike(alloc: Global, member: Member) -> JsonFault
     ensures { IsFault WrongMember (step.Member member ∷ []) result }
 {
     JsonFault::at(alloc, JsonFaultKind::WrongMember, &[Step::Member(member)])
 }
 
 /// The member of an object, a text.
-#[tactic(auto, using(crate::proofs::JsonFaults::told))]
-pub(crate) fn text_member<'v>(
+#[tactic(auto, using(crate::proofs::JsonTells::told))]
+pub fn text_member<'v>(
     alloc: Global,
     object: &'v Value,
     member: Member,
@@ -69,8 +70,8 @@ pub(crate) fn text_member<'v>(
 }
 
 /// The member of an object, true or false.
-#[tactic(auto, using(crate::proofs::JsonFaults::told))]
-pub(crate) fn truth_member(alloc: Global, object: &Value, member: Member) -> Result<bool, JsonFault>
+#[tactic(auto, using(crate::proofs::JsonTells::told))]
+pub fn truth_member(alloc: Global, object: &Value, member: Member) -> Result<bool, JsonFault>
     requires { IsObject (view object.now) }
     ensures ok { IfOk result (λ truth.
         option_and_then as_bool (member_of member (view object.now)) ≡ Some truth) }
@@ -83,8 +84,8 @@ pub(crate) fn truth_member(alloc: Global, object: &Value, member: Member) -> Res
 }
 
 /// The member of an object, a number.
-#[tactic(auto, using(crate::proofs::JsonFaults::told))]
-pub(crate) fn number_member<'v>(
+#[tactic(auto, using(crate::proofs::JsonTells::told))]
+pub fn number_member<'v>(
     alloc: Global,
     object: &'v Value,
     member: Member,
@@ -101,8 +102,8 @@ pub(crate) fn number_member<'v>(
 }
 
 /// The member of an object, a count.
-#[tactic(auto, using(crate::proofs::JsonFaults::told))]
-pub(crate) fn count_member(alloc: Global, object: &Value, member: Member) -> Result<u32, JsonFault>
+#[tactic(auto, using(crate::proofs::JsonTells::told))]
+pub fn count_member(alloc: Global, object: &Value, member: Member) -> Result<u32, JsonFault>
     requires { IsObject (view object.now) }
     ensures ok { IfOk result (λ n.
         option_and_then count_of (member_of member (view object.now)) ≡ Some n) }
@@ -116,8 +117,8 @@ pub(crate) fn count_member(alloc: Global, object: &Value, member: Member) -> Res
 }
 
 /// The member of an object, an array.
-#[tactic(auto, using(crate::proofs::JsonFaults::told))]
-pub(crate) fn array_member<'v>(
+#[tactic(auto, using(crate::proofs::JsonTells::told))]
+pub fn array_member<'v>(
     alloc: Global,
     object: &'v Value,
     member: Member,
@@ -134,9 +135,17 @@ pub(crate) fn array_member<'v>(
 }
 
 /// Adds an item at the end.
-pub(crate) fn push<T: Drop>(alloc: Global, items: &mut Vec<T>, item: T) -> Result<(), JsonFault>
+pub fn push<T: Drop>(alloc: Global, items: &mut Vec<T>, item: T) -> Result<(), JsonFault>
     ensures ok { OnOk result (items.new.items ≡ items.old.items ++ item ∷ []) }
     ensures err { IfErr result (λ fault. fault ≡ no_memory) }
 {
     items.push(item).map_err(|_| JsonFault::no_memory(alloc))
+}
+
+/// A copy of a text.
+pub fn owned(alloc: Global, text: &str) -> Result<String, JsonFault>
+    ensures ok { IfOk result (λ copy. string_bytes copy ≡ text.now) }
+    ensures err { IfErr result (λ fault. fault ≡ no_memory) }
+{
+    String::from_str(alloc, text).map_err(|_| JsonFault::no_memory(alloc))
 }
