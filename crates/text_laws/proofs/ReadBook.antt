@@ -17,7 +17,7 @@ use Rattle.json_places.specs.declared.path.Member.TheVariants as at_member
 use Rattle.arrow_json.specs.JsonBook.{Coding, HasBook, HasCoding, HasDictionary, HasEntries, HasId, listed_fields}
 use Rattle.arrow_json.specs.JsonColumn.{ReadsPlain, texts as texts_spelled}
 use Rattle.arrow_json.specs.JsonDictionary.{ReadsEntry, bare}
-use Rattle.arrow_json.specs.JsonMember.{member_of}
+use Rattle.json_places.specs.JsonMember.{member_of}
 use Rattle.arrow_text.specs.ColumnData.{text_column}
 use Rattle.arrow_text.specs.DictionaryData.{entries_data, entry_data, text_batch, text_items, with_field}
 use Rattle.arrow_text.specs.SchemaData.{dictionary_data, field_data, fields_data, schema_data}

@@ -4,7 +4,7 @@ use Rattle.std.specs.Prelude.{slice_get, ⊤}
 use Rattle.serde_json.specs.Data.{Data, Items, no_items, item}
 use Rattle.serde_json.specs.Events.{items_len}
 use Rattle.serde_json.specs.Find.{get_item}
-use Rattle.arrow_json.specs.JsonMember.{ReadsEach}
+use Rattle.json_places.specs.JsonMember.{ReadsEach}
 
 -- As many items as values, each read as its value.
 abbrev pub AreRead : {A : Type 0} (R : Data → A → Type 0) (ds : Items) (xs : List A) → Type 0

@@ -16,7 +16,7 @@ use Rattle.serde_json.specs.Data.{Data}
 use Rattle.serde_json.specs.Events.{items_len}
 use Rattle.serde_json.specs.Find.{get_item}
 use Rattle.json_places.specs.JsonNumber.{integer_of}
-use Rattle.arrow_json.specs.JsonMember.{ReadsEach}
+use Rattle.json_places.specs.JsonMember.{ReadsEach}
 use Rattle.arrow_json.specs.JsonList.{Spells, offset_bytes}
 use Rattle.arrow_text.specs.ColumnData.{item_length, offsets_data}
 use Rattle.arrow_text.specs.Written.{natural}
