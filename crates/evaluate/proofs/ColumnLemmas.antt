@@ -1,18 +1,17 @@
 -- The columns of lawful batches.
-use Rattle.std.proofs.Common.{◌≡◌, ◌∙◌, ℕ, zero, suc, ◌+◌, ◌<◌, ◌≤◌, ◌||◌, List, [], ◌∷◌, length, map, get_or, Bool, true, false, not, cond, eqb, is_ok, position, Option, Some, None, option_map, Result, Ok, Err, ap, sym, refl, subst, arith, true≢false}
+use Rattle.std.proofs.Common.{◌≡◌, ◌∙◌, ℕ, zero, suc, ◌+◌, ◌<◌, ◌≤◌, List, [], ◌∷◌, length, get_or, Bool, true, false, not, cond, eqb, is_ok, Option, Some, None, option_map, Ok, ap, sym, refl, arith, true≢false}
 use Rattle.std.specs.Prelude.{nat_lt, slice_get, slice_index_or}
 use Rattle.std.specs.List.{zip}
 use Rattle.std.specs.Option.{option_or}
 use Rattle.std.proofs.lemmas.Bool.{eqb-true, ltb-false}
-use Rattle.std.proofs.lemmas.List.{get_or-map, length-map}
-use Rattle.std.proofs.lemmas.Option.{get_or_from_slice_get, slice_get-get_or, slice_get_within}
+use Rattle.std.proofs.lemmas.List.{get_or-map}
+use Rattle.std.proofs.lemmas.Option.{slice_get-get_or, slice_get_within}
 use Rattle.layout.proofs.ChildLemmas.{same_kinds}
 use Rattle.arrays.specs.Batch.{Batch, bad_length, batch_fault, differing_length, differing_type, row_of}
 use Rattle.arrays.specs.declared.batch.BatchFault.TheVariants.{ColumnCount, LengthsDiffer, TypeDiffers}
-use Rattle.arrays.specs.File.{kinds_of}
 use Rattle.arrays.specs.Item.{Item, null}
 use Rattle.arrays.specs.Seen.{Seen}
-use Rattle.types.specs.Kind.{Kind, dict, same_kind}
+use Rattle.types.specs.Kind.{same_kind}
 use Rattle.types.specs.Shape.{FieldShape, boolean, field, kind_of_field}
 use Rattle.colbits.specs.Slice.{slice}
 use Rattle.std.proofs.lemmas.Grind.{common_steps}
@@ -21,8 +20,6 @@ use Rattle.evaluate.specs.declared.values.Operand.TheVariants.{Borrowed}
 use Rattle.evaluate.specs.declared.values.Slots.{Slots}
 use Rattle.query.specs.Columns.{sort_at, sort_of_field}
 use Rattle.query.specs.Sorts.{sort_of_kind}
-use Rattle.query.specs.declared.fault.QueryFault.{QueryFault}
-use Rattle.query.specs.declared.sort.Sort.{Sort}
 use Rattle.evaluate.proofs.PlaceLemmas.{all_before}
 use Rattle.std.proofs.lemmas.List.Sums.{fails_before_first}
 
@@ -74,11 +71,11 @@ whole fields n columns lawful =
     record {
       count = count;
       kind = λ i c f below.
-        let here = ap is_wrong (sym (get_or-zip columns fields i c f count))
+          let here = ap is_wrong (sym (get_or-zip columns fields i c f count))
           ∙ fails_before_first is_wrong (zip columns fields) i (c, f) (omega (arith, below, length-zip columns fields count, all_before is_wrong (zip columns fields) parts.1)) in
-        same_kinds (get_or columns i c).kind (kind_of_field (get_or fields i f)) (untrue (same_kind (get_or columns i c).kind (kind_of_field (get_or fields i f))) here);
+          same_kinds (get_or columns i c).kind (kind_of_field (get_or fields i f)) (untrue (same_kind (get_or columns i c).kind (kind_of_field (get_or fields i f))) here);
       len = λ i c below.
-        eqb-true (length (get_or columns i c).items) n (untrue (eqb (length (get_or columns i c).items) n)
+          eqb-true (length (get_or columns i c).items) n (untrue (eqb (length (get_or columns i c).items) n)
           (fails_before_first (λ (s : Seen). not (eqb (length s.items) n)) columns i c (omega (arith, below, all_before (λ (s : Seen). not (eqb (length s.items) n)) columns few.1))));
       few = omega (arith, ltb-false 2147483647 n few.0);
     }
@@ -128,8 +125,8 @@ is_column b place start n s lawful ok within is starts long =
       sort = sort_there b.fields place f (field_there b.fields place ok) ∙ ap (λ k. Ok (sort_of_kind k)) (sym (ap (λ (x : Seen). x.kind) is ∙ w.kind place c f below));
       len = length-part c.items s.start s.len (omega (arith, starts, long, within, rows)) ∙ long;
       each = λ i inside.
-        row_item b.columns (start + i) place c below
-        ∙ ap (λ (x : Seen). slice_index_or x.items (start + i) null) (sym is)
-        ∙ ap (λ m. slice_index_or c.items (m + i) null) (sym starts)
-        ∙ sym (sliced c.items s.start s.len i (omega (arith, inside, long)) (omega (arith, starts, long, within, rows)));
+          row_item b.columns (start + i) place c below
+          ∙ ap (λ (x : Seen). slice_index_or x.items (start + i) null) (sym is)
+          ∙ ap (λ m. slice_index_or c.items (m + i) null) (sym starts)
+          ∙ sym (sliced c.items s.start s.len i (omega (arith, inside, long)) (omega (arith, starts, long, within, rows)));
     }

@@ -1,5 +1,5 @@
 -- What operators make of columns.
-use Rattle.std.proofs.Common.{◌≡◌, ◌∙◌, ℕ, ◌<◌, ◌&&◌, ◌==◌, ℤ, List, length, Bool, true, false, not, cond, eqb, is_some, replicate, zero-add, Option, Some, None, Result, Ok, Err, IfErr, IsErrAnd, ap, ap₂, sym, refl, subst, true≢false, eq-eqb, inl, inr}
+use Rattle.std.proofs.Common.{◌≡◌, ◌∙◌, ℕ, ◌<◌, ◌&&◌, ℤ, List, length, Bool, true, false, not, cond, eqb, is_some, replicate, zero-add, Option, Some, None, Result, Ok, Err, IfErr, IsErrAnd, ap, ap₂, sym, refl, subst, true≢false, eq-eqb, inl, inr}
 use Rattle.arrays.specs.Item.{Item, null, int, boolean, text, list, is_null}
 use Rattle.arrays.specs.Slot.{holds_at}
 use Rattle.types.specs.Number.{is_of_type}
@@ -12,7 +12,7 @@ use Rattle.arrays.specs.Seen.{Seen}
 use Rattle.arrays.specs.Shown.{shown}
 use Rattle.types.specs.Kind as kind
 use Rattle.types.specs.Kind.{Kind, same_kind}
-use Rattle.kernels.specs.Arithmetic.{are_one_int, arithmetic_fault, exact, operands_fault, results}
+use Rattle.kernels.specs.Arithmetic.{arithmetic_fault, exact, operands_fault, results}
 use Rattle.kernels.specs.Fault.{IsKernelFault}
 use Rattle.kernels.specs.Kleene.{conjunction, disjunction, negation, truth_fault, truths_fault}
 use Rattle.kernels.specs.Lift.{item_at, lifted}
@@ -21,7 +21,7 @@ use Rattle.kernels.specs.Order.{are_comparable, compared, comparison_fault, meet
 use Rattle.kernels.specs.declared.comparison.CmpOp.{CmpOp}
 use Rattle.kernels.specs.declared.comparison.CmpOp.TheVariants as cmp
 use Rattle.kernels.specs.declared.fault.KernelFault.{KernelFault}
-use Rattle.kernels.specs.declared.fault.KernelFault.TheVariants.{LengthsDiffer, NoMemory, Overflow, TypesDiffer}
+use Rattle.kernels.specs.declared.fault.KernelFault.TheVariants.{LengthsDiffer, TypesDiffer}
 use Rattle.query.specs.Sorts as sorts
 use Rattle.query.specs.Sorts.{is_alike, is_int, is_truth, sort_of_kind}
 use Rattle.query.specs.declared.expr.Op.{Op}
@@ -187,9 +187,9 @@ pub results_stop : (f : ℤ → ℤ → ℤ) (a b : Seen) (e : KernelFault) → 
 results_stop f a b e h lengths told =
     held_as (sorts.arithmetic (sort_of_kind a.kind) (sort_of_kind b.kind)) a.kind (λ i. lifted (exact f) (item_at a.items i) (item_at b.items i)) (length a.items) (stop_of e) (sole_int a.kind b.kind h)
     (sole_fault f a b lengths (one_int a.kind b.kind h) e told) where
-  held_as : (s : Option Sort) (k : Kind) (made : ℕ → Item) (n : ℕ) (e : stop.Stop) → s ≡ Some (sort_of_kind k) → StopsOutside k made n e → StopsMaking s made n e
-  held_as s k made n (stops.Bad row) is at = (at.0, ap (λ o. held_by o (made row)) is ∙ at.1)
-  held_as s k made n stops.NoMemory is at = tt
+      held_as : (s : Option Sort) (k : Kind) (made : ℕ → Item) (n : ℕ) (e : stop.Stop) → s ≡ Some (sort_of_kind k) → StopsOutside k made n e → StopsMaking s made n e
+      held_as s k made n (stops.Bad row) is at = (at.0, ap (λ o. held_by o (made row)) is ∙ at.1)
+      held_as s k made n stops.NoMemory is at = tt
 
 -- What a kernel's fault becomes.
 pub stopped : (r : Result Values stop.Stop) (e : KernelFault) (P : stop.Stop → Type 0) → IsErrAnd r (λ f. f ≡ stop_of e) → P (stop_of e) → IfErr r P

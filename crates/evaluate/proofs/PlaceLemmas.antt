@@ -1,6 +1,6 @@
 -- What kernels make, place by place.
-use Rattle.std.proofs.Common.{◌≡◌, ◌∙◌, ℕ, ◌+◌, ◌<◌, ◌≤◌, nat_lt, arith, inl, inr, ◌==◌, ℤ, List, map, length, get_or, Bool, true, false, not, cond, eqb, position, Option, Some, None, option_map, Result, Ok, Err, ap, sym, refl, subst, zero-add, true≢false, eq-eqb}
-use Rattle.std.specs.List.{position_or_len, range_with_len}
+use Rattle.std.proofs.Common.{◌≡◌, ◌∙◌, ℕ, ◌<◌, ◌≤◌, nat_lt, arith, inl, inr, ℤ, List, map, length, Bool, true, false, not, cond, eqb, position, Option, Some, None, option_map, ap, sym, refl, zero-add, true≢false, eq-eqb}
+use Rattle.std.specs.List.{position_or_len}
 use Rattle.std.specs.Option.{option_or}
 use Rattle.std.proofs.lemmas.Bool.{ltb-false}
 use Rattle.std.proofs.lemmas.List.{get_or-map, length-map}
@@ -10,17 +10,15 @@ use Rattle.std.proofs.lemmas.List.Sums.{fails_before_first}
 use Rattle.types.specs.declared.int_type.IntType.{IntType}
 use Rattle.types.specs.Kind as kind
 use Rattle.types.specs.Kind.{Kind, same_int, same_kind}
-use Rattle.arrays.specs.Item.{Item, null, int, boolean, text, list}
+use Rattle.arrays.specs.Item.{Item, null}
 use Rattle.arrays.specs.Seen.{Seen}
 use Rattle.arrays.specs.Shown.{shown}
-use Rattle.types.specs.Number.{is_of_type}
 use Rattle.kernels.specs.Arithmetic.{are_one_int, arithmetic_fault, exact, first_bad, is_outside, operands_fault, results}
-use Rattle.kernels.specs.Fault.{IsKernelFault, shape_fault}
+use Rattle.kernels.specs.Fault.{IsKernelFault}
 use Rattle.kernels.specs.Lift.{at_each_place, item_at, lifted}
 use Rattle.kernels.specs.declared.fault.KernelFault.{KernelFault}
 use Rattle.kernels.specs.declared.fault.KernelFault.TheVariants.{LengthsDiffer, NoMemory, Overflow, TypesDiffer}
 use Rattle.evaluate.specs.Slices.{IsPlaced, IsPlacedIn, StopsOutside, held_of, stop_of}
-use Rattle.evaluate.specs.Value.{held}
 
 -- ---- items one by one
 
@@ -92,16 +90,16 @@ outside_at : (f : ℤ → ℤ → ℤ) (a b : Seen) (row : ℕ) → length a.ite
 outside_at f a b row lengths kinds (inr wanting) = absurd (cc (wanting.0))
 outside_at f a b row lengths kinds (inl is) =
     outside a.kind b.kind kinds (some_row (first_bad f a.kind a.items b.items) row (sym (only_rows f a b lengths kinds) ∙ is)) where
-  outside : (k l : Kind) → are_one_int k l ≡ true → first_bad f k a.items b.items ≡ Some row
-      → (row < length a.items) × (held_of k (lifted (exact f) (item_at a.items row) (item_at b.items row)) ≡ None)
-  outside (kind.int t) l one found =
-      let h = position-Some (is_outside t) (results f a.items b.items) row null found in
-      let below : row < length a.items = omega (arith, h.0, results_long f a.items b.items) in
-      (below, ap (λ x. held_of (kind.int t) x) (sym (results_at f a.items b.items row below)) ∙ ap (λ p. cond p None (Some (item_at (results f a.items b.items) row))) h.1)
-  outside kind.boolean l one found = absurd (true≢false (sym one))
-  outside kind.utf8 l one found = absurd (true≢false (sym one))
-  outside (kind.list k) l one found = absurd (true≢false (sym one))
-  outside kind.dict l one found = absurd (true≢false (sym one))
+      outside : (k l : Kind) → are_one_int k l ≡ true → first_bad f k a.items b.items ≡ Some row
+          → (row < length a.items) × (held_of k (lifted (exact f) (item_at a.items row) (item_at b.items row)) ≡ None)
+      outside (kind.int t) l one found =
+          let h = position-Some (is_outside t) (results f a.items b.items) row null found in
+          let below : row < length a.items = omega (arith, h.0, results_long f a.items b.items) in
+          (below, ap (λ x. held_of (kind.int t) x) (sym (results_at f a.items b.items row below)) ∙ ap (λ p. cond p None (Some (item_at (results f a.items b.items) row))) h.1)
+      outside kind.boolean l one found = absurd (true≢false (sym one))
+      outside kind.utf8 l one found = absurd (true≢false (sym one))
+      outside (kind.list k) l one found = absurd (true≢false (sym one))
+      outside kind.dict l one found = absurd (true≢false (sym one))
 
 -- A fault of these two columns is a row, or want of memory.
 pub sole_fault : (f : ℤ → ℤ → ℤ) (a b : Seen) → length a.items ≡ length b.items → are_one_int a.kind b.kind ≡ true → (e : KernelFault)

@@ -1,5 +1,5 @@
 -- The values of operators by those of their operands.
-use Rattle.std.proofs.Common.{◌≡◌, ◌≢◌, ◌∙◌, ℕ, ◌<◌, List, [], ◌∷◌, map, length, get_or, Bool, true, false, is_some, is_ok, Option, Some, None, Result, Ok, Err, IfOk, IfErr, IsErrAnd, ap, ap₂, sym, subst, refl, true≢false, arith}
+use Rattle.std.proofs.Common.{◌≡◌, ◌≢◌, ◌∙◌, ℕ, List, [], ◌∷◌, map, length, get_or, true, is_some, is_ok, Option, Some, None, Result, Ok, Err, IfOk, IfErr, IsErrAnd, ap, ap₂, sym, subst, refl, true≢false, arith}
 use Rattle.std.specs.Prelude.{option_and_then}
 use Rattle.std.specs.Option.{ok_or}
 use Rattle.arrays.specs.Batch.{Batch, Row}
@@ -11,13 +11,13 @@ use Rattle.query.specs.Sorts.{sort_of_one, sort_of_two}
 use Rattle.std.specs.declared.vec.Vec.{Vec}
 use Rattle.std.specs.declared.alloc.Global.{Global}
 use Rattle.query.specs.declared.expr.Expr.{Expr}
-use Rattle.query.specs.Tree.{Tree, Trees, op, none, one, tree_of, trees}
+use Rattle.query.specs.Tree.{Tree, op, none, one, tree_of, trees}
 use Rattle.query.specs.declared.expr.Op.{Op}
 use Rattle.query.specs.declared.fault.QueryFault.{QueryFault}
 use Rattle.query.specs.declared.fault.QueryFault.TheVariants.{WrongKind}
 use Rattle.query.specs.declared.sort.Sort.{Sort}
 use Rattle.evaluate.specs.Slices.{AreMade, AreValues, StopsAt, StopsMaking, held_by, item_in, row_in, sort_in}
-use Rattle.evaluate.specs.Value.{held_in, of_one, of_operands, of_two, value, values}
+use Rattle.evaluate.specs.Value.{held_in, of_one, of_operands, of_two, value}
 use Rattle.evaluate.specs.declared.stop.Stop.{Stop}
 use Rattle.evaluate.specs.declared.stop.Stop.TheVariants.{Bad, NoMemory}
 use Rattle.evaluate.specs.declared.values.Values.{Values}
@@ -131,7 +131,7 @@ made_two batch start n o a b va vb v left right made = record {
   sort = sort_two batch.fields o a b (sort_in va) (sort_in vb) left.sort right.sort ∙ ok_some (sort_of_two o (sort_in va) (sort_in vb)) (sort_in v) made.sort;
   enough = made.enough;
   each = λ i below.
-    value_two batch.fields o a b (row_in batch start i) (sort_in va) (sort_in vb) (item_in va i) (item_in vb i) left.sort right.sort (left.each i below) (right.each i below) ∙ made.each i below;
+      value_two batch.fields o a b (row_in batch start i) (sort_in va) (sort_in vb) (item_in va i) (item_in vb i) left.sort right.sort (left.each i below) (right.each i below) ∙ made.each i below;
 }
 
 pub stops_two : (batch : Batch) (start n : ℕ) (o : Op) (a b : Tree ℕ) (va vb : Values) (e : Stop) → AreValues batch start n a va → AreValues batch start n b vb
@@ -171,13 +171,13 @@ no_sort sorts o (x ∷ []) not_one not_two h = not_one refl
 no_sort sorts o (x ∷ y ∷ []) not_one not_two h = not_two refl
 no_sort sorts o (x ∷ y ∷ z ∷ xs) not_one not_two h =
     go (checked sorts (tree_of x)) (checked sorts (tree_of y)) (checked sorts (tree_of z)) (all_checked sorts (trees (map tree_of xs))) h where
-  go : (r s t : Result Sort QueryFault) (rest : Result (List Sort) QueryFault)
-      → is_ok (and_then (and_then r (λ a. and_then (and_then s (λ b. and_then (and_then t (λ c. and_then rest (λ ss. Ok (c ∷ ss)))) (λ ss. Ok (b ∷ ss)))) (λ ss. Ok (a ∷ ss)))) (λ sorts. ok_or (sort_of_operator o sorts) WrongKind)) ≡ true → ⊥
-  go (Err e) s t rest h = true≢false (sym h)
-  go (Ok a) (Err e) t rest h = true≢false (sym h)
-  go (Ok a) (Ok b) (Err e) rest h = true≢false (sym h)
-  go (Ok a) (Ok b) (Ok c) (Err e) h = true≢false (sym h)
-  go (Ok a) (Ok b) (Ok c) (Ok ss) h = true≢false (sym h)
+      go : (r s t : Result Sort QueryFault) (rest : Result (List Sort) QueryFault)
+          → is_ok (and_then (and_then r (λ a. and_then (and_then s (λ b. and_then (and_then t (λ c. and_then rest (λ ss. Ok (c ∷ ss)))) (λ ss. Ok (b ∷ ss)))) (λ ss. Ok (a ∷ ss)))) (λ sorts. ok_or (sort_of_operator o sorts) WrongKind)) ≡ true → ⊥
+      go (Err e) s t rest h = true≢false (sym h)
+      go (Ok a) (Err e) t rest h = true≢false (sym h)
+      go (Ok a) (Ok b) (Err e) rest h = true≢false (sym h)
+      go (Ok a) (Ok b) (Ok c) (Err e) h = true≢false (sym h)
+      go (Ok a) (Ok b) (Ok c) (Ok ss) h = true≢false (sym h)
 
 -- What an operand stops with, its operator stops with.
 pub passed_on : {T : Type 0} (r : Result T Stop) (e : Stop) (P : Stop → Type 0) → IsErrAnd r (λ f. f ≡ e) → P e → IfErr r P

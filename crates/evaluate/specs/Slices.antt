@@ -1,5 +1,5 @@
 -- What an expression is at the rows of a slice of a batch.
-use Rattle.std.specs.Prelude.{◌≡◌, ℕ, ◌+◌, ◌<◌, Bool, true, false, List, length, Option, Some, None, Result, Ok, is_some, slice_index_or, ⊤}
+use Rattle.std.specs.Prelude.{◌≡◌, ℕ, ◌+◌, ◌<◌, Bool, true, false, length, Option, Some, None, Ok, is_some, slice_index_or, ⊤}
 use Rattle.arrays.specs.Batch.{Batch, Row, row_of}
 use Rattle.arrays.specs.Item as item
 use Rattle.arrays.specs.Item.{Item, null}

@@ -1,7 +1,6 @@
 //! Columns that have one value at each row.
 
 ghost use Rattle.std.specs.Prelude.{◌≡◌, ◌≤◌, IfOk, replicate};
-
 ghost use Rattle.types.specs.Kind as kind;
 ghost use Rattle.types.specs.Number.{IsOfType};
 ghost use Rattle.arrays.specs.Item as item;

@@ -15,7 +15,11 @@ use query::Expr;
 use std::alloc::Global;
 
 /// The values of an expression at the rows of a slice, or the least of them where it is bad.
-pub fn evaluate_all<'a>(alloc: Global, expr: &'a Expr<u32>, slice: Slice<'a>) -> Result<Values<'a>, Stop>
+pub fn evaluate_all<'a>(
+    alloc: Global,
+    expr: &'a Expr<u32>,
+    slice: Slice<'a>,
+) -> Result<Values<'a>, Stop>
     requires { is_ok (checked (sort_at slice.batch.now.fields) (tree_of expr.now)) ≡ true }
     ensures ok { IfOk result (AreValues slice.entry.batch.now slice.entry.start slice.entry.len (tree_of expr.now)) }
     ensures err { IfErr result (IsLeastStop slice.entry.batch.now slice.entry.start slice.entry.len (tree_of expr.now)) }

@@ -1,8 +1,8 @@
-use Rattle.std.proofs.Common.{◌≡◌, ◌≢◌, ◌∙◌, ap, sym, subst, length, map, is_ok, is_some, true, arith}
+use Rattle.std.proofs.Common.{◌≡◌, ◌≢◌, ◌∙◌, ap, sym, subst, length, map, is_ok, true, arith}
 use Rattle.query.specs.Checked.{checked}
 use Rattle.query.specs.Columns.{sort_at}
 use Rattle.query.specs.Sorts.{sort_of_one, sort_of_two}
-use Rattle.query.specs.Tree.{op, none, one, tree_of, trees}
+use Rattle.query.specs.Tree.{op, tree_of, trees}
 use Rattle.query.proofs.TreeLemmas.{tree_of-Op}
 use Rattle.evaluate.specs.Slices.{AreMade, AreValues, StopsAt, StopsMaking, item_in, sort_in}
 use Rattle.evaluate.specs.Value.{of_one, of_two}
@@ -61,7 +61,7 @@ returns-in_ok-right-in-len2-clause-ok t c =
     let tree = tree_two c.args.expr.now c.in-Op.op c.in-Op.operands c.as_slice.result.now c.left-item.result c.right-item.result (ap tree_of c.in-Op.is ∙ tree_of-Op c.in-Op.op c.in-Op.operands) c.as_slice.ensures.value (omega (arith, c.in-len2)) c.left-item.is c.right-item.is in
     made_so b c.args.slice.start c.args.slice.len (tree_of c.args.expr.now) c.of_two.result (AreMade (sort_of_two c.in-Op.op (sort_in va) (sort_in vb)) (λ i. of_two c.in-Op.op (item_in va i) (item_in vb i)) c.args.slice.len)
     (λ v made. subst (λ t. AreValues b c.args.slice.start c.args.slice.len t v) (sym tree)
-      (made_two b c.args.slice.start c.args.slice.len c.in-Op.op (tree_of c.left-item.result) (tree_of c.right-item.result) va vb v c.in_ok-left-in-len2.ensures.ok c.in_ok-right-in-len2.ensures.ok made))
+    (made_two b c.args.slice.start c.args.slice.len c.in-Op.op (tree_of c.left-item.result) (tree_of c.right-item.result) va vb v c.in_ok-left-in-len2.ensures.ok c.in_ok-right-in-len2.ensures.ok made))
     c.of_two.ensures.ok
 
 pub returns-in_ok-right-in-len2-clause-err : goal.returns-in_ok-right-in-len2-clause-err
@@ -72,7 +72,7 @@ returns-in_ok-right-in-len2-clause-err t c =
     let tree = tree_two c.args.expr.now c.in-Op.op c.in-Op.operands c.as_slice.result.now c.left-item.result c.right-item.result (ap tree_of c.in-Op.is ∙ tree_of-Op c.in-Op.op c.in-Op.operands) c.as_slice.ensures.value (omega (arith, c.in-len2)) c.left-item.is c.right-item.is in
     stopped_so b c.args.slice.start c.args.slice.len (tree_of c.args.expr.now) c.of_two.result (StopsMaking (sort_of_two c.in-Op.op (sort_in va) (sort_in vb)) (λ i. of_two c.in-Op.op (item_in va i) (item_in vb i)) c.args.slice.len)
     (λ e at. subst (λ t. StopsAt b c.args.slice.start c.args.slice.len t e) (sym tree)
-      (stops_two b c.args.slice.start c.args.slice.len c.in-Op.op (tree_of c.left-item.result) (tree_of c.right-item.result) va vb e c.in_ok-left-in-len2.ensures.ok c.in_ok-right-in-len2.ensures.ok at))
+    (stops_two b c.args.slice.start c.args.slice.len c.in-Op.op (tree_of c.left-item.result) (tree_of c.right-item.result) va vb e c.in_ok-left-in-len2.ensures.ok c.in_ok-right-in-len2.ensures.ok at))
     c.of_two.ensures.err
 
 pub unreachable-requires : goal.unreachable-requires
@@ -82,4 +82,4 @@ unreachable-requires t c =
     let not_two : length c.as_slice.result.now ≢ 2 = λ e. grind arith in
     no_sort sort_in c.in-Op.op c.as_slice.result.now not_one not_two
     (subst (λ ys. is_ok (checked sort_in (op c.in-Op.op (trees (map tree_of ys)))) ≡ true) (sym c.as_slice.ensures.value)
-      (ap (λ d. is_ok (checked sort_in d)) (sym (ap tree_of c.in-Op.is ∙ tree_of-Op c.in-Op.op c.in-Op.operands)) ∙ c.requires))
+    (ap (λ d. is_ok (checked sort_in d)) (sym (ap tree_of c.in-Op.is ∙ tree_of-Op c.in-Op.op c.in-Op.operands)) ∙ c.requires))

@@ -10,7 +10,7 @@ invariant_of-result c =
     let here : x ≡ get_or b.columns c.args.place x = c.index-columns-place.is ∙ ap (λ cs. get_or cs c.args.place x) c.columns-columns.ensures.value in
     record {
       within = subst (λ (s : Seen). c.args.slice.start + c.args.slice.len ≤ length s.items) (sym here)
-        (slots_within b c.args.place c.args.slice.start c.args.slice.len x c.columns-columns.ensures.lawful (place_within b c.args.place c.columns-columns.ensures.lawful c.requires) c.args.slice.within);
+          (slots_within b c.args.place c.args.slice.start c.args.slice.len x c.columns-columns.ensures.lawful (place_within b c.args.place c.columns-columns.ensures.lawful c.requires) c.args.slice.within);
     }
 
 pub returns : goal.returns
