@@ -11,7 +11,7 @@ mod kinds;
 pub mod laws;
 mod positions;
 pub mod queries;
-mod sort;
+pub mod sort;
 
 pub use expr::{Agg, Expr, Op};
 pub use fault::{QueryFault, query_fault_text};

@@ -9,7 +9,7 @@ use types::{DataType, IntType, Width};
 
 /// What is known of an expression's value before a row is looked at.
 #[derive(Clone, Copy, Debug, PartialEq, Eq)]
-pub(crate) enum Sort {
+pub enum Sort {
     /// A number as it is written. Its type is that of what stands beside it, or signed with 64 bits.
     Literal(i128),
     Int(IntType),

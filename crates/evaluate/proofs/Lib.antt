@@ -1,0 +1,6 @@
+-- What the proofs of this crate cite.
+pub mod PlaceLemmas
+pub mod SortLemmas
+pub mod OperatorLemmas
+pub mod ColumnLemmas
+pub mod TreeLemmas

@@ -1,0 +1,356 @@
+-- What operators make of columns.
+use Rattle.std.proofs.Common.{◌≡◌, ◌∙◌, ℕ, ◌<◌, ◌&&◌, ℤ, List, length, Bool, true, false, not, cond, eqb, is_some, replicate, zero-add, Option, Some, None, Result, Ok, Err, IfErr, IsErrAnd, ap, ap₂, sym, refl, subst, true≢false, eq-eqb, inl, inr}
+use Rattle.arrays.specs.Item.{Item, null, int, boolean, text, list, is_null}
+use Rattle.arrays.specs.Slot.{holds_at}
+use Rattle.types.specs.Number.{is_of_type}
+use Rattle.types.specs.declared.int_type.IntType.{IntType}
+use Rattle.truths.specs.Truth.{truth_at, truths_of}
+use Rattle.std.proofs.lemmas.List.{length-replicate, get_or-replicate}
+use Rattle.std.proofs.lemmas.List.FromFn.{get_or-map-range_with_len, length-map-range_with_len}
+use Rattle.std.specs.Prelude.{option_and_then}
+use Rattle.arrays.specs.Seen.{Seen}
+use Rattle.arrays.specs.Shown.{shown}
+use Rattle.types.specs.Kind as kind
+use Rattle.types.specs.Kind.{Kind, same_kind}
+use Rattle.kernels.specs.Arithmetic.{arithmetic_fault, exact, operands_fault, results}
+use Rattle.kernels.specs.Fault.{IsKernelFault}
+use Rattle.kernels.specs.Kleene.{conjunction, disjunction, negation, truth_fault, truths_fault}
+use Rattle.kernels.specs.Lift.{item_at, lifted}
+use Rattle.kernels.specs.Nulls.{nulls}
+use Rattle.kernels.specs.Order.{are_comparable, compared, comparison_fault, meets, order}
+use Rattle.kernels.specs.declared.comparison.CmpOp.{CmpOp}
+use Rattle.kernels.specs.declared.comparison.CmpOp.TheVariants as cmp
+use Rattle.kernels.specs.declared.fault.KernelFault.{KernelFault}
+use Rattle.kernels.specs.declared.fault.KernelFault.TheVariants.{LengthsDiffer, TypesDiffer}
+use Rattle.query.specs.Sorts as sorts
+use Rattle.query.specs.Sorts.{is_alike, is_int, is_truth, sort_of_kind}
+use Rattle.query.specs.declared.expr.Op.{Op}
+use Rattle.query.specs.declared.expr.Op.TheVariants as op
+use Rattle.query.specs.declared.sort.Sort.{Sort}
+use Rattle.query.specs.declared.sort.Sort.TheVariants.{Int, Literal, Text, Truth}
+use Rattle.evaluate.proofs.PlaceLemmas.{binary_placed, exact_placed, sole_fault, unary_placed}
+use Rattle.evaluate.proofs.SortLemmas.{comparable, one_int, truths}
+use Rattle.evaluate.specs.Slices.{AreEnough, AreMade, IsPlaced, IsPlacedIn, IsSettled, StopsMaking, StopsOutside, column_of, comparison_of, held_by, in_order, item_in, sort_in, stop_of}
+use Rattle.evaluate.specs.Value.{comparison, of_one, of_two}
+use Rattle.evaluate.specs.declared.stop.Stop as stop
+use Rattle.evaluate.specs.declared.stop.Stop.TheVariants as stops
+use Rattle.evaluate.specs.declared.values.Operand.{Operand}
+use Rattle.evaluate.specs.declared.values.Operand.TheVariants.{Made}
+use Rattle.evaluate.specs.declared.values.Values.{Values}
+use Rattle.evaluate.specs.declared.values.Values.TheVariants.{Column, Number}
+
+-- ---- truth values
+
+sole : (b : Bool) (s : Sort) → is_some (cond b (Some s) None) ≡ true → cond b (Some s) None ≡ Some s
+sole true s h = refl
+sole false s h = absurd (true≢false (sym h))
+
+truth_made : (s : Option Sort) (made : ℕ → Item) (n : ℕ) (a : Seen) → s ≡ Some Truth → IsPlaced kind.boolean made n a → AreMade s made n (Column (Made a))
+truth_made s made n a is placed = record {
+  sort = is ∙ ap (λ k. Some (sort_of_kind k)) (sym placed.kind);
+  enough = placed.len;
+  each = λ i below. ap (λ o. held_by o (made i)) is ∙ ap (λ x. Some x) (sym (placed.each i below));
+}
+
+no_fault : (suit : Bool) (n m : ℕ) (e : KernelFault) → suit ≡ true → n ≡ m
+    → IsKernelFault (cond (not suit) (Some TypesDiffer) (cond (not (eqb n m)) (Some LengthsDiffer) None)) (cond (not suit) (Some TypesDiffer) (cond (not (eqb n m)) (Some LengthsDiffer) None)) e → stop_of e ≡ stops.NoMemory
+no_fault suit n m e fine same (inr wanting) = ap stop_of wanting.0
+no_fault suit n m e fine same (inl is) =
+    let none : cond (not suit) (Some TypesDiffer) (cond (not (eqb n m)) (Some LengthsDiffer) None) ≡ None =
+    ap (λ b. cond (not b) (Some TypesDiffer) (cond (not (eqb n m)) (Some LengthsDiffer) None)) fine ∙ ap (λ b. cond (not b) (Some LengthsDiffer) None) (eq-eqb n m same) in
+    let never : ◌≡◌ {A = Option KernelFault} None (Some e) = sym none ∙ is in absurd (cc never)
+
+no_type_fault : (suit : Bool) (e : KernelFault) → suit ≡ true → IsKernelFault (cond suit None (Some TypesDiffer)) (cond suit None (Some TypesDiffer)) e → stop_of e ≡ stops.NoMemory
+no_type_fault suit e fine (inr wanting) = ap stop_of wanting.0
+no_type_fault suit e fine (inl is) =
+    let never : ◌≡◌ {A = Option KernelFault} None (Some e) = sym (ap (λ b. cond b None (Some TypesDiffer)) fine) ∙ is in absurd (cc never)
+
+-- ---- one column
+
+module _ (k : Kind) (xs : List Item) (r : Seen) where
+  pub not_made : is_some (sorts.of_one op.Not (sort_of_kind k)) ≡ true → r ≡ shown kind.boolean (negation xs)
+      → AreMade (sorts.of_one op.Not (sort_of_kind k)) (λ i. of_one op.Not (item_at xs i)) (length xs) (Column (Made r))
+  not_made h is =
+      truth_made (sorts.of_one op.Not (sort_of_kind k)) (λ i. of_one op.Not (item_at xs i)) (length xs) r (sole (is_truth (sort_of_kind k)) Truth h)
+      (subst (IsPlaced kind.boolean (λ i. of_one op.Not (item_at xs i)) (length xs)) (sym is) (unary_placed kind.boolean (of_one op.Not) xs))
+
+  pub nulls_made : r ≡ shown kind.boolean (nulls xs) → AreMade (sorts.of_one op.IsNull (sort_of_kind k)) (λ i. of_one op.IsNull (item_at xs i)) (length xs) (Column (Made r))
+  nulls_made is =
+      truth_made (Some Truth) (λ i. of_one op.IsNull (item_at xs i)) (length xs) r refl
+      (subst (IsPlaced kind.boolean (λ i. of_one op.IsNull (item_at xs i)) (length xs)) (sym is) (unary_placed kind.boolean (of_one op.IsNull) xs))
+
+pub not_stops : (a : Seen) (e : KernelFault) → is_some (sorts.of_one op.Not (sort_of_kind a.kind)) ≡ true → IsKernelFault (truth_fault a) (truth_fault a) e → stop_of e ≡ stops.NoMemory
+not_stops a e h told = no_type_fault (same_kind a.kind kind.boolean) e (one_truth a.kind h) told where
+  one_truth : (k : Kind) → is_some (sorts.of_one op.Not (sort_of_kind k)) ≡ true → same_kind k kind.boolean ≡ true
+  one_truth (kind.int t) h = h
+  one_truth kind.boolean h = refl
+  one_truth kind.utf8 h = h
+  one_truth (kind.list k) h = h
+  one_truth kind.dict h = h
+
+-- ---- two columns
+
+module _ (a b r : Seen) where
+  abbrev left : ℕ → Item
+  left i = item_at a.items i
+
+  abbrev right : ℕ → Item
+  right i = item_at b.items i
+
+  pub and_made : is_some (sorts.of_two op.And (sort_of_kind a.kind) (sort_of_kind b.kind)) ≡ true → r ≡ shown kind.boolean (conjunction a.items b.items)
+      → AreMade (sorts.of_two op.And (sort_of_kind a.kind) (sort_of_kind b.kind)) (λ i. of_two op.And (item_at a.items i) (item_at b.items i)) (length a.items) (Column (Made r))
+  and_made h is =
+      truth_made (sorts.of_two op.And (sort_of_kind a.kind) (sort_of_kind b.kind)) (λ i. of_two op.And (left i) (right i)) (length a.items) r (sole (is_truth (sort_of_kind a.kind) && is_truth (sort_of_kind b.kind)) Truth h)
+      (subst (IsPlaced kind.boolean (λ i. of_two op.And (left i) (right i)) (length a.items)) (sym is) (binary_placed kind.boolean (of_two op.And) a.items b.items))
+
+  pub or_made : is_some (sorts.of_two op.Or (sort_of_kind a.kind) (sort_of_kind b.kind)) ≡ true → r ≡ shown kind.boolean (disjunction a.items b.items)
+      → AreMade (sorts.of_two op.Or (sort_of_kind a.kind) (sort_of_kind b.kind)) (λ i. of_two op.Or (item_at a.items i) (item_at b.items i)) (length a.items) (Column (Made r))
+  or_made h is =
+      truth_made (sorts.of_two op.Or (sort_of_kind a.kind) (sort_of_kind b.kind)) (λ i. of_two op.Or (left i) (right i)) (length a.items) r (sole (is_truth (sort_of_kind a.kind) && is_truth (sort_of_kind b.kind)) Truth h)
+      (subst (IsPlaced kind.boolean (λ i. of_two op.Or (left i) (right i)) (length a.items)) (sym is) (binary_placed kind.boolean (of_two op.Or) a.items b.items))
+
+  pub truths_stop : (e : KernelFault) → is_some (sorts.junction (sort_of_kind a.kind) (sort_of_kind b.kind)) ≡ true → length a.items ≡ length b.items → IsKernelFault (truths_fault a b) (truths_fault a b) e → stop_of e ≡ stops.NoMemory
+  truths_stop e h lengths told =
+      let both = truths a.kind b.kind h in
+      no_fault (same_kind a.kind kind.boolean && same_kind b.kind kind.boolean) (length a.items) (length b.items) e (ap (λ k. k && same_kind b.kind kind.boolean) both.0 ∙ both.1) lengths told
+
+-- ---- comparisons
+
+comparison_sort : (o : Op) (c : CmpOp) (s t : Sort) → comparison_of o ≡ Some c → sorts.of_two o s t ≡ sorts.comparison s t
+comparison_sort op.Add c s t h = absurd cc
+comparison_sort op.Sub c s t h = absurd cc
+comparison_sort op.Mul c s t h = absurd cc
+comparison_sort op.Eq c s t h = refl
+comparison_sort op.Ne c s t h = refl
+comparison_sort op.Lt c s t h = refl
+comparison_sort op.Le c s t h = refl
+comparison_sort op.Gt c s t h = refl
+comparison_sort op.Ge c s t h = refl
+comparison_sort op.And c s t h = absurd cc
+comparison_sort op.Or c s t h = absurd cc
+comparison_sort op.Not c s t h = absurd cc
+comparison_sort op.IsNull c s t h = absurd cc
+
+same_some : (c d : CmpOp) → ◌≡◌ {A = Option CmpOp} (Some c) (Some d) → c ≡ d
+same_some c d h = cc
+
+comparison_value : (o : Op) (c : CmpOp) (x y : Item) → comparison_of o ≡ Some c → comparison c x y ≡ of_two o x y
+comparison_value op.Add c x y h = absurd cc
+comparison_value op.Sub c x y h = absurd cc
+comparison_value op.Mul c x y h = absurd cc
+comparison_value op.Eq c x y h = ap (λ d. comparison d x y) (sym (same_some cmp.Eq c h))
+comparison_value op.Ne c x y h = ap (λ d. comparison d x y) (sym (same_some cmp.Ne c h))
+comparison_value op.Lt c x y h = ap (λ d. comparison d x y) (sym (same_some cmp.Lt c h))
+comparison_value op.Le c x y h = ap (λ d. comparison d x y) (sym (same_some cmp.Le c h))
+comparison_value op.Gt c x y h = ap (λ d. comparison d x y) (sym (same_some cmp.Gt c h))
+comparison_value op.Ge c x y h = ap (λ d. comparison d x y) (sym (same_some cmp.Ge c h))
+comparison_value op.And c x y h = absurd cc
+comparison_value op.Or c x y h = absurd cc
+comparison_value op.Not c x y h = absurd cc
+comparison_value op.IsNull c x y h = absurd cc
+
+pub comparison_made : (a b r : Seen) (o : Op) (c : CmpOp) → comparison_of o ≡ Some c → is_some (sorts.of_two o (sort_of_kind a.kind) (sort_of_kind b.kind)) ≡ true → r ≡ shown kind.boolean (compared c a.items b.items)
+    → AreMade (sorts.of_two o (sort_of_kind a.kind) (sort_of_kind b.kind)) (λ i. of_two o (item_at a.items i) (item_at b.items i)) (length a.items) (Column (Made r))
+comparison_made a b r o c named h is =
+    let same = comparison_sort o c (sort_of_kind a.kind) (sort_of_kind b.kind) named in
+    let placed = subst (IsPlaced kind.boolean (λ i. comparison c (item_at a.items i) (item_at b.items i)) (length a.items)) (sym is) (binary_placed kind.boolean (comparison c) a.items b.items) in
+    truth_made (sorts.of_two o (sort_of_kind a.kind) (sort_of_kind b.kind)) (λ i. of_two o (item_at a.items i) (item_at b.items i)) (length a.items) r
+    (same ∙ sole (is_alike (sort_of_kind a.kind) (sort_of_kind b.kind)) Truth (ap is_some (sym same) ∙ h))
+    (record { kind = placed.kind; len = placed.len; each = λ i below. placed.each i below ∙ comparison_value o c (item_at a.items i) (item_at b.items i) named })
+
+pub comparison_stops : (a b : Seen) (o : Op) (c : CmpOp) (e : KernelFault) → comparison_of o ≡ Some c → is_some (sorts.of_two o (sort_of_kind a.kind) (sort_of_kind b.kind)) ≡ true → length a.items ≡ length b.items
+    → IsKernelFault (comparison_fault a b) (comparison_fault a b) e → stop_of e ≡ stops.NoMemory
+comparison_stops a b o c e named h lengths told =
+    no_fault (are_comparable a.kind b.kind) (length a.items) (length b.items) e (comparable a.kind b.kind (ap is_some (sym (comparison_sort o c (sort_of_kind a.kind) (sort_of_kind b.kind) named)) ∙ h)) lengths told
+
+-- ---- exact results
+
+sole_int : (k l : Kind) → is_some (sorts.arithmetic (sort_of_kind k) (sort_of_kind l)) ≡ true → sorts.arithmetic (sort_of_kind k) (sort_of_kind l) ≡ Some (sort_of_kind k)
+sole_int k l h = sole (is_int (sort_of_kind k) && is_alike (sort_of_kind k) (sort_of_kind l)) (sort_of_kind k) h
+
+pub results_made : (f : ℤ → ℤ → ℤ) (a b r : Seen) → is_some (sorts.arithmetic (sort_of_kind a.kind) (sort_of_kind b.kind)) ≡ true → length a.items ≡ length b.items → arithmetic_fault f a b ≡ None
+    → r ≡ shown a.kind (results f a.items b.items)
+    → AreMade (sorts.arithmetic (sort_of_kind a.kind) (sort_of_kind b.kind)) (λ i. lifted (exact f) (item_at a.items i) (item_at b.items i)) (length a.items) (Column (Made r))
+results_made f a b r h lengths none is =
+    let made : ℕ → Item = λ i. lifted (exact f) (item_at a.items i) (item_at b.items i) in
+    let placed = subst (IsPlacedIn a.kind made (length a.items)) (sym is) (exact_placed f a b lengths (one_int a.kind b.kind h) none) in
+    let sort = sole_int a.kind b.kind h in
+    record {
+      sort = sort ∙ ap (λ k. Some (sort_of_kind k)) (sym placed.kind);
+      enough = placed.len;
+      each = λ i below. ap (λ o. held_by o (made i)) sort ∙ placed.each i below;
+    }
+
+pub results_stop : (f : ℤ → ℤ → ℤ) (a b : Seen) (e : KernelFault) → is_some (sorts.arithmetic (sort_of_kind a.kind) (sort_of_kind b.kind)) ≡ true → length a.items ≡ length b.items
+    → IsKernelFault (operands_fault a b) (arithmetic_fault f a b) e
+    → StopsMaking (sorts.arithmetic (sort_of_kind a.kind) (sort_of_kind b.kind)) (λ i. lifted (exact f) (item_at a.items i) (item_at b.items i)) (length a.items) (stop_of e)
+results_stop f a b e h lengths told =
+    held_as (sorts.arithmetic (sort_of_kind a.kind) (sort_of_kind b.kind)) a.kind (λ i. lifted (exact f) (item_at a.items i) (item_at b.items i)) (length a.items) (stop_of e) (sole_int a.kind b.kind h)
+    (sole_fault f a b lengths (one_int a.kind b.kind h) e told) where
+      held_as : (s : Option Sort) (k : Kind) (made : ℕ → Item) (n : ℕ) (e : stop.Stop) → s ≡ Some (sort_of_kind k) → StopsOutside k made n e → StopsMaking s made n e
+      held_as s k made n (stops.Bad row) is at = (at.0, ap (λ o. held_by o (made row)) is ∙ at.1)
+      held_as s k made n stops.NoMemory is at = tt
+
+-- What a kernel's fault becomes.
+pub stopped : (r : Result Values stop.Stop) (e : KernelFault) (P : stop.Stop → Type 0) → IsErrAnd r (λ f. f ≡ stop_of e) → P (stop_of e) → IfErr r P
+stopped (Ok v) e P h p = absurd h
+stopped (Err f) e P h p = subst P (sym h) p
+
+-- ---- literals
+
+settled_kind : (t : IntType) (k : Kind) → sorts.settled t (sort_of_kind k) ≡ Some (sort_of_kind k)
+settled_kind t (kind.int s) = refl
+settled_kind t kind.boolean = refl
+settled_kind t kind.utf8 = refl
+settled_kind t (kind.list k) = refl
+settled_kind t kind.dict = refl
+
+pub kind_of_one : (o : Op) (k : Kind) → sorts.sort_of_one o (sort_of_kind k) ≡ sorts.of_one o (sort_of_kind k)
+kind_of_one o k = ap (option_and_then (sorts.of_one o)) (settled_kind sorts.int64 k)
+
+constant_placed : (x : Item) (n : ℕ) (r : Seen) → r ≡ shown kind.boolean (replicate n x) → IsPlaced kind.boolean (λ i. x) n r
+constant_placed x n r is = subst (IsPlaced kind.boolean (λ i. x) n) (sym is) (record { kind = refl; len = length-replicate n x; each = λ i below. get_or-replicate n i x null below })
+
+false_made : (s : Sort) (x : Item) (o : Op) (n : ℕ) (r : Seen) → is_truth s ≡ false → is_null x ≡ false → is_some (sorts.of_one o s) ≡ true → r ≡ shown kind.boolean (replicate n (boolean false))
+    → AreMade (sorts.of_one o s) (λ i. of_one o x) n (Column (Made r))
+false_made s x op.Not n r untrue item h is = absurd (true≢false (sym h ∙ ap (λ b. is_some (cond b (Some Truth) None)) untrue))
+false_made s x op.IsNull n r untrue item h is =
+    truth_made (Some Truth) (λ i. of_one op.IsNull x) n r refl
+    (let placed = constant_placed (boolean false) n r is in record { kind = placed.kind; len = placed.len; each = λ i below. placed.each i below ∙ ap (λ b. boolean b) (sym item) })
+false_made s x op.Add n r untrue item h is = absurd (true≢false (sym h))
+false_made s x op.Sub n r untrue item h is = absurd (true≢false (sym h))
+false_made s x op.Mul n r untrue item h is = absurd (true≢false (sym h))
+false_made s x op.Eq n r untrue item h is = absurd (true≢false (sym h))
+false_made s x op.Ne n r untrue item h is = absurd (true≢false (sym h))
+false_made s x op.Lt n r untrue item h is = absurd (true≢false (sym h))
+false_made s x op.Le n r untrue item h is = absurd (true≢false (sym h))
+false_made s x op.Gt n r untrue item h is = absurd (true≢false (sym h))
+false_made s x op.Ge n r untrue item h is = absurd (true≢false (sym h))
+false_made s x op.And n r untrue item h is = absurd (true≢false (sym h))
+false_made s x op.Or n r untrue item h is = absurd (true≢false (sym h))
+
+-- A number isn't null.
+pub number_made : (z : ℤ) (o : Op) (n : ℕ) (r : Seen) → is_some (sorts.sort_of_one o (Literal z)) ≡ true → r ≡ shown kind.boolean (replicate n (boolean false))
+    → AreMade (sorts.sort_of_one o (Literal z)) (λ i. of_one o (int z)) n (Column (Made r))
+number_made z o n r h is = go (is_of_type sorts.int64 z) h where
+  go : (b : Bool) → is_some (option_and_then (sorts.of_one o) (cond b (Some (Int sorts.int64)) None)) ≡ true
+      → AreMade (option_and_then (sorts.of_one o) (cond b (Some (Int sorts.int64)) None)) (λ i. of_one o (int z)) n (Column (Made r))
+  go true h = false_made (Int sorts.int64) (int z) o n r refl refl h is
+  go false h = absurd (true≢false (sym h))
+
+-- Neither is a text.
+pub text_made : (t : List ℕ) (o : Op) (n : ℕ) (r : Seen) → is_some (sorts.sort_of_one o Text) ≡ true → r ≡ shown kind.boolean (replicate n (boolean false))
+    → AreMade (sorts.sort_of_one o Text) (λ i. of_one o (text t)) n (Column (Made r))
+text_made t o n r h is = false_made Text (text t) o n r refl refl h is
+
+-- ---- beside a text
+
+text_first : (o : Op) (k : Kind) → sorts.sort_of_two o Text (sort_of_kind k) ≡ sorts.of_two o Text (sort_of_kind k)
+text_first o k = ap (λ s. option_and_then (λ b. sorts.of_two o Text b) s) (settled_kind sorts.int64 k)
+
+text_last : (o : Op) (k : Kind) → sorts.sort_of_two o (sort_of_kind k) Text ≡ sorts.of_two o (sort_of_kind k) Text
+text_last o k = ap (λ s. option_and_then (λ a. sorts.of_two o a Text) s) (settled_kind sorts.int64 k)
+
+compared_sort : (first : Bool) (o : Op) (c : CmpOp) (k : Kind) → comparison_of o ≡ Some c → is_some (in_order first (sorts.sort_of_two o) Text (sort_of_kind k)) ≡ true
+    → in_order first (sorts.sort_of_two o) Text (sort_of_kind k) ≡ Some Truth
+compared_sort true o c k named h =
+    let same = text_first o k ∙ comparison_sort o c Text (sort_of_kind k) named in same ∙ sole (is_alike Text (sort_of_kind k)) Truth (ap is_some (sym same) ∙ h)
+compared_sort false o c k named h =
+    let same = text_last o k ∙ comparison_sort o c (sort_of_kind k) Text named in same ∙ sole (is_alike (sort_of_kind k) Text) Truth (ap is_some (sym same) ∙ h)
+
+compared_item : (first : Bool) (o : Op) (c : CmpOp) (t : List ℕ) (x : Item) → comparison_of o ≡ Some c
+    → cond (not (is_null x)) (boolean (meets c (in_order first order (text t) x))) null ≡ in_order first (of_two o) (text t) x
+compared_item true o c t null named = comparison_value o c (text t) null named
+compared_item true o c t (int z) named = comparison_value o c (text t) (int z) named
+compared_item true o c t (boolean b) named = comparison_value o c (text t) (boolean b) named
+compared_item true o c t (text u) named = comparison_value o c (text t) (text u) named
+compared_item true o c t (list l) named = comparison_value o c (text t) (list l) named
+compared_item false o c t null named = comparison_value o c null (text t) named
+compared_item false o c t (int z) named = comparison_value o c (int z) (text t) named
+compared_item false o c t (boolean b) named = comparison_value o c (boolean b) (text t) named
+compared_item false o c t (text u) named = comparison_value o c (text u) (text t) named
+compared_item false o c t (list l) named = comparison_value o c (list l) (text t) named
+
+-- A column of texts beside a text.
+pub beside_made : (first : Bool) (o : Op) (c : CmpOp) (t : List ℕ) (v r : Seen) → comparison_of o ≡ Some c → is_some (in_order first (sorts.sort_of_two o) Text (sort_of_kind v.kind)) ≡ true
+    → r ≡ shown kind.boolean (truths_of (λ i. holds_at v i) (λ i. meets c (in_order first order (text t) (item_at v.items i))) (length v.items))
+    → AreMade (in_order first (sorts.sort_of_two o) Text (sort_of_kind v.kind)) (λ i. in_order first (of_two o) (text t) (item_at v.items i)) (length v.items) (Column (Made r))
+beside_made first o c t v r named h is =
+    let made : ℕ → Item = truth_at (λ i. holds_at v i) (λ i. meets c (in_order first order (text t) (item_at v.items i))) in
+    truth_made (in_order first (sorts.sort_of_two o) Text (sort_of_kind v.kind)) (λ i. in_order first (of_two o) (text t) (item_at v.items i)) (length v.items) r (compared_sort first o c v.kind named h)
+    (subst (IsPlaced kind.boolean (λ i. in_order first (of_two o) (text t) (item_at v.items i)) (length v.items)) (sym is) (record {
+      kind = refl;
+      len = length-map-range_with_len made 0 (length v.items);
+      each = λ i below. get_or-map-range_with_len made 0 (length v.items) i i null below (zero-add i) ∙ compared_item first o c t (item_at v.items i) named;
+    }))
+
+-- Two texts.
+pub texts_made : (first : Bool) (o : Op) (c : CmpOp) (t u : List ℕ) (n : ℕ) (r : Seen) → comparison_of o ≡ Some c → is_some (in_order first (sorts.sort_of_two o) Text Text) ≡ true
+    → r ≡ shown kind.boolean (replicate n (boolean (meets c (in_order first order (text t) (text u)))))
+    → AreMade (in_order first (sorts.sort_of_two o) Text Text) (λ i. in_order first (of_two o) (text t) (text u)) n (Column (Made r))
+texts_made first o c t u n r named h is =
+    let x : Item = boolean (meets c (in_order first order (text t) (text u))) in
+    let placed = constant_placed x n r is in
+    truth_made (in_order first (sorts.sort_of_two o) Text Text) (λ i. in_order first (of_two o) (text t) (text u)) n r (compared_sort first o c kind.utf8 named h)
+    (record { kind = placed.kind; len = placed.len; each = λ i below. placed.each i below ∙ compared_item first o c t (text u) named })
+
+-- ---- literals that become columns
+
+pub number_settled : (t : IntType) (z : ℤ) (n : ℕ) (r : Seen) → is_some (sorts.settled t (Literal z)) ≡ true → r ≡ shown (kind.int t) (replicate n (int z)) → IsSettled t (Number z) n (Made r)
+number_settled t z n r h is = record {
+  sort = sole (is_of_type t z) (Int t) h ∙ ap (λ (s : Seen). Some (sort_of_kind s.kind)) (sym is);
+  len = ap (λ (s : Seen). length s.items) is ∙ length-replicate n (int z);
+  each = λ i below. ap (λ (s : Seen). item_at s.items i) is ∙ get_or-replicate n i (int z) null below;
+}
+
+pub number_fits : (t : IntType) (z : ℤ) → is_some (sorts.settled t (Literal z)) ≡ true → is_of_type t z ≡ true
+number_fits t z h = go (is_of_type t z) h where
+  go : (b : Bool) → is_some (cond b (Some (Int t)) None) ≡ true → b ≡ true
+  go true h = refl
+  go false h = h
+
+pub column_settled : (t : IntType) (o : Operand) (n : ℕ) → length (column_of o).items ≡ n → IsSettled t (Column o) n o
+column_settled t o n long = record { sort = settled_kind t (column_of o).kind; len = long; each = λ i below. refl }
+
+-- What an operator makes of what two operands become.
+pub settled_sort : (o : Op) (s t a b : Sort) → sorts.settled (sorts.type_beside t) s ≡ Some a → sorts.settled (sorts.type_beside s) t ≡ Some b → sorts.sort_of_two o s t ≡ sorts.of_two o a b
+settled_sort o s t a b left right =
+    ap (λ x. option_and_then (λ a. option_and_then (λ b. sorts.of_two o a b) (sorts.settled (sorts.type_beside s) t)) x) left ∙ ap (λ y. option_and_then (λ b. sorts.of_two o a b) y) right
+
+pub left_fits : (o : Op) (s t : Sort) → is_some (sorts.sort_of_two o s t) ≡ true → is_some (sorts.settled (sorts.type_beside t) s) ≡ true
+left_fits o s t h = go (sorts.settled (sorts.type_beside t) s) h where
+  go : (a : Option Sort) → is_some (option_and_then (λ a. option_and_then (λ b. sorts.of_two o a b) (sorts.settled (sorts.type_beside s) t)) a) ≡ true → is_some a ≡ true
+  go None h = h
+  go (Some a) h = refl
+
+pub right_fits : (o : Op) (s t : Sort) → is_some (sorts.sort_of_two o s t) ≡ true → is_some (sorts.settled (sorts.type_beside s) t) ≡ true
+right_fits o s t h = go (sorts.settled (sorts.type_beside t) s) (sorts.settled (sorts.type_beside s) t) h where
+  go : (a b : Option Sort) → is_some (option_and_then (λ a. option_and_then (λ b. sorts.of_two o a b) b) a) ≡ true → is_some b ≡ true
+  go None b h = absurd (true≢false (sym h))
+  go (Some a) None h = h
+  go (Some a) (Some b) h = refl
+
+module _ (o : Op) (n : ℕ) (v w : Values) (p q : Operand) (left : IsSettled (sorts.type_beside (sort_in w)) v n p) (right : IsSettled (sorts.type_beside (sort_in v)) w n q) where
+  abbrev of_both : Option Sort
+  of_both = sorts.of_two o (sort_of_kind (column_of p).kind) (sort_of_kind (column_of q).kind)
+
+  abbrev items_both : ℕ → Item
+  items_both i = of_two o (item_at (column_of p).items i) (item_at (column_of q).items i)
+
+  pub sort_both : sorts.sort_of_two o (sort_in v) (sort_in w) ≡ of_both
+  sort_both = settled_sort o (sort_in v) (sort_in w) (sort_of_kind (column_of p).kind) (sort_of_kind (column_of q).kind) left.sort right.sort
+
+  item_both : (i : ℕ) → i < n → of_two o (item_in v i) (item_in w i) ≡ items_both i
+  item_both i below = ap₂ (of_two o) (sym (left.each i below)) (sym (right.each i below))
+
+  pub both_made : (r : Values) → AreMade of_both items_both (length (column_of p).items) r → AreMade (sorts.sort_of_two o (sort_in v) (sort_in w)) (λ i. of_two o (item_in v i) (item_in w i)) n r
+  both_made r made = record {
+    sort = sort_both ∙ made.sort;
+    enough = subst (λ m. AreEnough m r) left.len made.enough;
+    each = λ i below. ap₂ held_by sort_both (item_both i below) ∙ made.each i (subst (λ m. i < m) (sym left.len) below);
+  }
+
+  pub both_stop : (e : stop.Stop) → StopsMaking of_both items_both (length (column_of p).items) e → StopsMaking (sorts.sort_of_two o (sort_in v) (sort_in w)) (λ i. of_two o (item_in v i) (item_in w i)) n e
+  both_stop (stops.Bad row) at =
+      let below : row < n = subst (λ m. row < m) left.len at.0 in (below, ap₂ held_by sort_both (item_both row below) ∙ at.1)
+  both_stop stops.NoMemory at = tt

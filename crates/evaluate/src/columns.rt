@@ -1,0 +1,155 @@
+//! Operators over columns, place by place.
+
+ghost use Rattle.std.specs.Prelude.{◌≡◌, true, length, is_some, IfOk, IfErr};
+ghost use Rattle.kernels.specs.Lift.{item_at};
+ghost use Rattle.query.specs.Sorts as sorts;
+ghost use Rattle.query.specs.Sorts.{sort_of_kind};
+ghost use Rattle.query.specs.declared.expr.Op.TheVariants as op;
+ghost use Rattle.evaluate.specs.Value.{of_one, of_two};
+ghost use Rattle.evaluate.specs.Slices.{AreMade, StopsMaking, comparison_of};
+
+use crate::stop::Stop;
+use crate::values::{Operand, Values};
+use arrays::View;
+use kernels::CmpOp;
+use query::Op;
+use std::alloc::Global;
+
+/// What an operator makes of two columns of one length.
+pub(crate) fn of_two<'a>(
+    alloc: Global,
+    op: Op,
+    a: &View<'_>,
+    b: &View<'_>,
+) -> Result<Values<'a>, Stop>
+    requires sorts { is_some (sorts.of_two op (sort_of_kind a.now.kind) (sort_of_kind b.now.kind)) ≡ true }
+    requires lengths { length a.now.items ≡ length b.now.items }
+    ensures ok { IfOk result (AreMade (sorts.of_two op (sort_of_kind a.now.kind) (sort_of_kind b.now.kind))
+        (λ i. of_two op (item_at a.now.items i) (item_at b.now.items i)) (length a.now.items)) }
+    ensures err { IfErr result (StopsMaking (sorts.of_two op (sort_of_kind a.now.kind) (sort_of_kind b.now.kind))
+        (λ i. of_two op (item_at a.now.items i) (item_at b.now.items i)) (length a.now.items)) }
+{
+    match op {
+        Op::Add => sum(alloc, a, b),
+        Op::Sub => difference(alloc, a, b),
+        Op::Mul => product(alloc, a, b),
+        Op::And => both(alloc, a, b),
+        Op::Or => either(alloc, a, b),
+        _ => compare(alloc, op, a, b),
+    }
+}
+
+/// The truth values that aren't so.
+pub(crate) fn not<'a>(alloc: Global, column: &View<'_>) -> Result<Values<'a>, Stop>
+    requires { is_some (sorts.of_one op.Not (sort_of_kind column.now.kind)) ≡ true }
+    ensures ok { IfOk result (AreMade (sorts.of_one op.Not (sort_of_kind column.now.kind))
+        (λ i. of_one op.Not (item_at column.now.items i)) (length column.now.items)) }
+    ensures err { IfErr result (λ e. e ≡ Stop.NoMemory) }
+{
+    let array = kernels::kleene_not(alloc, column)?;
+    Ok(Values::Column(Operand::Made(array)))
+}
+
+/// Where there is no item.
+pub(crate) fn is_null<'a>(alloc: Global, column: &View<'_>) -> Result<Values<'a>, Stop>
+    ensures ok { IfOk result (AreMade (sorts.of_one op.IsNull (sort_of_kind column.now.kind))
+        (λ i. of_one op.IsNull (item_at column.now.items i)) (length column.now.items)) }
+    ensures err { IfErr result (λ e. e ≡ Stop.NoMemory) }
+{
+    let array = kernels::is_null(alloc, column)?;
+    Ok(Values::Column(Operand::Made(array)))
+}
+
+/// Whether both are true.
+fn both<'a>(alloc: Global, a: &View<'_>, b: &View<'_>) -> Result<Values<'a>, Stop>
+    requires sorts { is_some (sorts.of_two op.And (sort_of_kind a.now.kind) (sort_of_kind b.now.kind)) ≡ true }
+    requires lengths { length a.now.items ≡ length b.now.items }
+    ensures ok { IfOk result (AreMade (sorts.of_two op.And (sort_of_kind a.now.kind) (sort_of_kind b.now.kind))
+        (λ i. of_two op.And (item_at a.now.items i) (item_at b.now.items i)) (length a.now.items)) }
+    ensures err { IfErr result (λ e. e ≡ Stop.NoMemory) }
+{
+    let array = kernels::kleene_and(alloc, a, b)?;
+    Ok(Values::Column(Operand::Made(array)))
+}
+
+/// Whether either is true.
+fn either<'a>(alloc: Global, a: &View<'_>, b: &View<'_>) -> Result<Values<'a>, Stop>
+    requires sorts { is_some (sorts.of_two op.Or (sort_of_kind a.now.kind) (sort_of_kind b.now.kind)) ≡ true }
+    requires lengths { length a.now.items ≡ length b.now.items }
+    ensures ok { IfOk result (AreMade (sorts.of_two op.Or (sort_of_kind a.now.kind) (sort_of_kind b.now.kind))
+        (λ i. of_two op.Or (item_at a.now.items i) (item_at b.now.items i)) (length a.now.items)) }
+    ensures err { IfErr result (λ e. e ≡ Stop.NoMemory) }
+{
+    let array = kernels::kleene_or(alloc, a, b)?;
+    Ok(Values::Column(Operand::Made(array)))
+}
+
+/// The sums.
+fn sum<'a>(alloc: Global, a: &View<'_>, b: &View<'_>) -> Result<Values<'a>, Stop>
+    requires sorts { is_some (sorts.of_two op.Add (sort_of_kind a.now.kind) (sort_of_kind b.now.kind)) ≡ true }
+    requires lengths { length a.now.items ≡ length b.now.items }
+    ensures ok { IfOk result (AreMade (sorts.of_two op.Add (sort_of_kind a.now.kind) (sort_of_kind b.now.kind))
+        (λ i. of_two op.Add (item_at a.now.items i) (item_at b.now.items i)) (length a.now.items)) }
+    ensures err { IfErr result (StopsMaking (sorts.of_two op.Add (sort_of_kind a.now.kind) (sort_of_kind b.now.kind))
+        (λ i. of_two op.Add (item_at a.now.items i) (item_at b.now.items i)) (length a.now.items)) }
+{
+    let array = kernels::add(alloc, a, b)?;
+    Ok(Values::Column(Operand::Made(array)))
+}
+
+/// The differences.
+fn difference<'a>(alloc: Global, a: &View<'_>, b: &View<'_>) -> Result<Values<'a>, Stop>
+    requires sorts { is_some (sorts.of_two op.Sub (sort_of_kind a.now.kind) (sort_of_kind b.now.kind)) ≡ true }
+    requires lengths { length a.now.items ≡ length b.now.items }
+    ensures ok { IfOk result (AreMade (sorts.of_two op.Sub (sort_of_kind a.now.kind) (sort_of_kind b.now.kind))
+        (λ i. of_two op.Sub (item_at a.now.items i) (item_at b.now.items i)) (length a.now.items)) }
+    ensures err { IfErr result (StopsMaking (sorts.of_two op.Sub (sort_of_kind a.now.kind) (sort_of_kind b.now.kind))
+        (λ i. of_two op.Sub (item_at a.now.items i) (item_at b.now.items i)) (length a.now.items)) }
+{
+    let array = kernels::sub(alloc, a, b)?;
+    Ok(Values::Column(Operand::Made(array)))
+}
+
+/// The products.
+fn product<'a>(alloc: Global, a: &View<'_>, b: &View<'_>) -> Result<Values<'a>, Stop>
+    requires sorts { is_some (sorts.of_two op.Mul (sort_of_kind a.now.kind) (sort_of_kind b.now.kind)) ≡ true }
+    requires lengths { length a.now.items ≡ length b.now.items }
+    ensures ok { IfOk result (AreMade (sorts.of_two op.Mul (sort_of_kind a.now.kind) (sort_of_kind b.now.kind))
+        (λ i. of_two op.Mul (item_at a.now.items i) (item_at b.now.items i)) (length a.now.items)) }
+    ensures err { IfErr result (StopsMaking (sorts.of_two op.Mul (sort_of_kind a.now.kind) (sort_of_kind b.now.kind))
+        (λ i. of_two op.Mul (item_at a.now.items i) (item_at b.now.items i)) (length a.now.items)) }
+{
+    let array = kernels::mul(alloc, a, b)?;
+    Ok(Values::Column(Operand::Made(array)))
+}
+
+/// Whether the items stand so to each other.
+fn compare<'a>(alloc: Global, op: Op, a: &View<'_>, b: &View<'_>) -> Result<Values<'a>, Stop>
+    requires op { is_some (comparison_of op) ≡ true }
+    requires sorts { is_some (sorts.of_two op (sort_of_kind a.now.kind) (sort_of_kind b.now.kind)) ≡ true }
+    requires lengths { length a.now.items ≡ length b.now.items }
+    ensures ok { IfOk result (AreMade (sorts.of_two op (sort_of_kind a.now.kind) (sort_of_kind b.now.kind))
+        (λ i. of_two op (item_at a.now.items i) (item_at b.now.items i)) (length a.now.items)) }
+    ensures err { IfErr result (λ e. e ≡ Stop.NoMemory) }
+{
+    let Some(comparison) = comparison_of(op) else {
+        unreachable!()
+    };
+    let array = kernels::compare(alloc, comparison, a, b)?;
+    Ok(Values::Column(Operand::Made(array)))
+}
+
+/// The comparison that an operator is.
+pub(crate) fn comparison_of(op: Op) -> Option<CmpOp>
+    ensures { result ≡ comparison_of op }
+{
+    match op {
+        Op::Eq => Some(CmpOp::Eq),
+        Op::Ne => Some(CmpOp::Ne),
+        Op::Lt => Some(CmpOp::Lt),
+        Op::Le => Some(CmpOp::Le),
+        Op::Gt => Some(CmpOp::Gt),
+        Op::Ge => Some(CmpOp::Ge),
+        _ => None,
+    }
+}

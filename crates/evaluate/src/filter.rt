@@ -1,0 +1,51 @@
+//! Filters at the rows of a slice, and the least row where one is bad.
+
+ghost use Rattle.std.specs.Prelude.{◌≡◌, ◌+◌, ◌<◌, true, None, is_ok, IfOk, IfErr};
+ghost use Rattle.query.specs.Checked.{checked};
+ghost use Rattle.query.specs.Columns.{sort_at};
+ghost use Rattle.query.specs.Tree.{tree_of};
+ghost use Rattle.evaluate.specs.Value.{value};
+ghost use Rattle.evaluate.specs.Slices.{AreValues, IsLeastStop, row_in};
+
+use crate::evaluation::evaluate;
+use crate::slice::Slice;
+use crate::stop::Stop;
+use crate::values::Values;
+use query::Expr;
+use std::alloc::Global;
+
+/// The values of an expression at the rows of a slice, or the least of them where it is bad.
+pub fn evaluate_all<'a>(
+    alloc: Global,
+    expr: &'a Expr<u32>,
+    slice: Slice<'a>,
+) -> Result<Values<'a>, Stop>
+    requires { is_ok (checked (sort_at slice.batch.now.fields) (tree_of expr.now)) ≡ true }
+    ensures ok { IfOk result (AreValues slice.entry.batch.now slice.entry.start slice.entry.len (tree_of expr.now)) }
+    ensures err { IfErr result (IsLeastStop slice.entry.batch.now slice.entry.start slice.entry.len (tree_of expr.now)) }
+{
+    match evaluate(alloc, expr, slice) {
+        Ok(values) => Ok(values),
+        Err(Stop::Bad(row)) => Err(least_bad(alloc, expr, slice, row)),
+        Err(Stop::NoMemory) => Err(Stop::NoMemory),
+    }
+}
+
+/// The least bad row of a slice in which this row is one: those before it are evaluated anew until none is bad.
+fn least_bad(alloc: Global, expr: &Expr<u32>, slice: Slice<'_>, bad: usize) -> Stop
+    requires fits { is_ok (checked (sort_at slice.batch.now.fields) (tree_of expr.now)) ≡ true }
+    requires within { bad < slice.len }
+    requires bad { value slice.batch.now.fields (row_in slice.batch.now slice.start bad) (tree_of expr.now) ≡ None }
+    ensures { IsLeastStop slice.entry.batch.now slice.entry.start slice.entry.len (tree_of expr.now) result }
+{
+    let before = Slice {
+        batch: slice.batch,
+        start: slice.start,
+        len: bad,
+    };
+    match evaluate(alloc, expr, before) {
+        Ok(_) => Stop::Bad(bad),
+        Err(Stop::Bad(earlier)) => least_bad(alloc, expr, slice, earlier),
+        Err(Stop::NoMemory) => Stop::NoMemory,
+    }
+}

@@ -1,0 +1,12 @@
+//! The values of expressions, column by column.
+#![tactic(auto)]
+
+mod columns;
+mod constant;
+pub mod evaluation;
+pub mod filter;
+mod operators;
+pub mod slice;
+pub mod stop;
+mod text;
+pub mod values;

@@ -1,0 +1,174 @@
+//! Operators over the values of their operands.
+
+ghost use Rattle.std.specs.Prelude.{◌≡◌, ◌≤◌, true, false, is_some, length, IfOk, IfErr};
+ghost use Rattle.arrays.specs.Item as item;
+ghost use Rattle.kernels.specs.Lift.{item_at};
+ghost use Rattle.query.specs.Sorts as sorts;
+ghost use Rattle.query.specs.declared.sort.Sort.TheVariants as sort;
+ghost use Rattle.query.specs.Sorts.{settled, sort_of_kind, sort_of_one, sort_of_two, type_beside};
+ghost use Rattle.evaluate.specs.Value.{of_one, of_two};
+ghost use Rattle.evaluate.specs.Slices.{AreEnough, AreMade, IsSettled, StopsMaking, column_of, in_order, is_text_alone, item_in, sort_in};
+
+use crate::columns;
+use crate::constant::{repeated_number, repeated_truth};
+use crate::stop::Stop;
+use crate::text::{compare_texts, compare_with_text};
+use crate::values::{Operand, Values};
+use arrays::{IntType, View, ViewType, Width};
+use colbits::NoMemory;
+use query::Op;
+use std::alloc::Global;
+
+/// Signed numbers of 64 bits.
+const INT64: IntType = IntType {
+    bits: Width::W64,
+    signed: true,
+};
+
+/// What an operator makes of one operand.
+pub(crate) fn of_one<'a>(
+    alloc: Global,
+    op: Op,
+    operand: Values<'a>,
+    len: usize,
+) -> Result<Values<'a>, Stop>
+    requires short { len ≤ 2147483647 }
+    requires sort { is_some (sort_of_one op (sort_in operand)) ≡ true }
+    requires enough { AreEnough len operand }
+    ensures ok { IfOk result (AreMade (sort_of_one op (sort_in operand.entry)) (λ i. of_one op (item_in operand.entry i)) len) }
+    ensures err { IfErr result (λ e. e ≡ Stop.NoMemory) }
+{
+    match operand {
+        Values::Column(column) => of_column(alloc, op, &column),
+
+        // A literal isn't null.
+        Values::Number(_) | Values::Text(_) => {
+            let array = repeated_truth(alloc, false, len)?;
+            Ok(Values::Column(Operand::Made(array)))
+        }
+    }
+}
+
+/// What an operator makes of a column.
+fn of_column<'a>(alloc: Global, op: Op, column: &Operand<'_>) -> Result<Values<'a>, Stop>
+    requires { is_some (sorts.of_one op (sort_of_kind (column_of column.now).kind)) ≡ true }
+    ensures ok { IfOk result (AreMade (sorts.of_one op (sort_of_kind (column_of column.now).kind))
+        (λ i. of_one op (item_at (column_of column.now).items i)) (length (column_of column.now).items)) }
+    ensures err { IfErr result (λ e. e ≡ Stop.NoMemory) }
+{
+    match op {
+        Op::Not => columns::not(alloc, &column.view()),
+        Op::IsNull => columns::is_null(alloc, &column.view()),
+        _ => unreachable!(),
+    }
+}
+
+/// What an operator makes of two operands.
+pub(crate) fn of_two<'a>(
+    alloc: Global,
+    op: Op,
+    left: Values<'a>,
+    right: Values<'a>,
+    len: usize,
+) -> Result<Values<'a>, Stop>
+    requires short { len ≤ 2147483647 }
+    requires sort { is_some (sort_of_two op (sort_in left) (sort_in right)) ≡ true }
+    requires left { AreEnough len left }
+    requires right { AreEnough len right }
+    ensures ok { IfOk result (AreMade (sort_of_two op (sort_in left.entry) (sort_in right.entry)) (λ i. of_two op (item_in left.entry i) (item_in right.entry i)) len) }
+    ensures err { IfErr result (StopsMaking (sort_of_two op (sort_in left.entry) (sort_in right.entry)) (λ i. of_two op (item_in left.entry i) (item_in right.entry i)) len) }
+{
+    match left {
+        Values::Text(text) => beside_text(alloc, op, text, right, true, len),
+        left => match right {
+            Values::Text(text) => beside_text(alloc, op, text, left, false, len),
+            right => of_columns(alloc, op, left, right, len),
+        },
+    }
+}
+
+/// What an operator makes of a text and what stands beside it, behind the text or before it.
+fn beside_text<'a>(
+    alloc: Global,
+    op: Op,
+    text: &'a str,
+    other: Values<'a>,
+    is_first: bool,
+    len: usize,
+) -> Result<Values<'a>, Stop>
+    requires short { len ≤ 2147483647 }
+    requires sort { is_some (in_order is_first (sort_of_two op) sort.Text (sort_in other)) ≡ true }
+    requires enough { AreEnough len other }
+    ensures ok { IfOk result (AreMade (in_order is_first (sort_of_two op) sort.Text (sort_in other.entry))
+        (λ i. in_order is_first (of_two op) (item.text text.entry.now) (item_in other.entry i)) len) }
+    ensures err { IfErr result (λ e. e ≡ Stop.NoMemory) }
+{
+    match other {
+        Values::Text(other) => compare_texts(alloc, op, text, other, is_first, len),
+        Values::Column(column) => compare_with_text(alloc, op, &column.view(), text, is_first),
+        Values::Number(_) => unreachable!(),
+    }
+}
+
+/// What an operator makes of two operands that are columns, or literals that become columns.
+fn of_columns<'a>(
+    alloc: Global,
+    op: Op,
+    left: Values<'a>,
+    right: Values<'a>,
+    len: usize,
+) -> Result<Values<'a>, Stop>
+    requires short { len ≤ 2147483647 }
+    requires sort { is_some (sort_of_two op (sort_in left) (sort_in right)) ≡ true }
+    requires left { AreEnough len left }
+    requires right { AreEnough len right }
+    requires left_column { is_text_alone left ≡ false }
+    requires right_column { is_text_alone right ≡ false }
+    ensures ok { IfOk result (AreMade (sort_of_two op (sort_in left.entry) (sort_in right.entry)) (λ i. of_two op (item_in left.entry i) (item_in right.entry i)) len) }
+    ensures err { IfErr result (StopsMaking (sort_of_two op (sort_in left.entry) (sort_in right.entry)) (λ i. of_two op (item_in left.entry i) (item_in right.entry i)) len) }
+{
+    let (beside_left, beside_right) = (type_beside(&left), type_beside(&right));
+    let a = settled(alloc, left, beside_right, len)?;
+    let b = settled(alloc, right, beside_left, len)?;
+    columns::of_two(alloc, op, &a.view(), &b.view())
+}
+
+/// The type of a literal directly beside the values.
+fn type_beside(values: &Values<'_>) -> IntType
+    ensures { result ≡ type_beside (sort_in values.now) }
+{
+    match values {
+        Values::Column(column) => type_beside_column(&column.view()),
+        Values::Number(_) | Values::Text(_) => INT64,
+    }
+}
+
+/// The type of a literal directly beside a column.
+fn type_beside_column(column: &View<'_>) -> IntType
+    ensures { result ≡ type_beside (sort_of_kind column.now.kind) }
+{
+    match column.ty() {
+        ViewType::Int(ty) => ty,
+        _ => INT64,
+    }
+}
+
+/// The values as a column, a literal as one of the type.
+fn settled<'a>(
+    alloc: Global,
+    values: Values<'a>,
+    ty: IntType,
+    len: usize,
+) -> Result<Operand<'a>, NoMemory>
+    requires short { len ≤ 2147483647 }
+    requires fits { is_some (settled ty (sort_in values)) ≡ true }
+    requires column { is_text_alone values ≡ false }
+    requires enough { AreEnough len values }
+    ensures { IfOk result (IsSettled ty values.entry len) }
+{
+    match values {
+        Values::Number(number) => Ok(Operand::Made(repeated_number(alloc, ty, number, len)?)),
+        Values::Text(_) => unreachable!(),
+        Values::Column(column) => Ok(column),
+    }
+}

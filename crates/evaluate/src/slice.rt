@@ -1,0 +1,15 @@
+//! Neighbouring rows of a batch.
+
+ghost use Rattle.std.specs.Prelude.{◌≡◌, ◌+◌, ◌≤◌};
+
+use arrays::RecordBatch;
+
+/// The `len` rows of a batch from row `start` on.
+#[derive(Clone, Copy)]
+pub struct Slice<'a> {
+    pub batch: &'a RecordBatch,
+    pub start: usize,
+    pub len: usize,
+    ghost within: { start + len ≤ batch.now.rows },
+    ghost few: { len ≤ 2147483647 },
+}

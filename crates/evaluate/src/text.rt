@@ -1,0 +1,136 @@
+//! Comparisons with a text that is the same at each row.
+
+ghost use Rattle.std.specs.Prelude.{◌≡◌, ◌≤◌, ℕ, true, is_some, length, Some, IfOk, IfErr};
+ghost use Rattle.arrays.specs.Item as item;
+ghost use Rattle.arrays.specs.Slot.{holds_at, is_text};
+ghost use Rattle.kernels.specs.Lift.{item_at};
+ghost use Rattle.kernels.specs.Order.{meets, order};
+ghost use Rattle.query.specs.Sorts.{sort_of_kind, sort_of_two};
+ghost use Rattle.query.specs.declared.sort.Sort.TheVariants as sort;
+ghost use Rattle.evaluate.specs.Value.{of_two};
+ghost use Rattle.evaluate.specs.Slices.{AreMade, in_order};
+
+use crate::columns::comparison_of;
+use crate::constant::repeated_truth;
+use crate::stop::Stop;
+use crate::values::{Operand, Values};
+use arrays::View;
+use kernels::CmpOp;
+use query::Op;
+use std::alloc::Global;
+use std::cmp::Ordering;
+use truths::{Truths, array_of};
+
+/// A comparison of two texts, the first of which may stand behind the other, at each row.
+pub(crate) fn compare_texts<'a>(
+    alloc: Global,
+    op: Op,
+    text: &str,
+    other: &str,
+    is_first: bool,
+    len: usize,
+) -> Result<Values<'a>, Stop>
+    requires short { len ≤ 2147483647 }
+    requires sort { is_some (in_order is_first (sort_of_two op) sort.Text sort.Text) ≡ true }
+    ensures ok { IfOk result (AreMade (in_order is_first (sort_of_two op) sort.Text sort.Text)
+        (λ i. in_order is_first (of_two op) (item.text text.now) (item.text other.now)) len) }
+    ensures err { IfErr result (λ e. e ≡ Stop.NoMemory) }
+{
+    let Some(comparison) = comparison_of(op) else {
+        unreachable!()
+    };
+    let order = order_of(text, other, is_first);
+    let array = repeated_truth(alloc, meets(comparison, order), len)?;
+    Ok(Values::Column(Operand::Made(array)))
+}
+
+/// A comparison of a column of texts with a text, which stands before the column or behind it.
+pub(crate) fn compare_with_text<'a>(
+    alloc: Global,
+    op: Op,
+    view: &View<'_>,
+    text: &str,
+    is_first: bool,
+) -> Result<Values<'a>, Stop>
+    requires sort { is_some (in_order is_first (sort_of_two op) sort.Text (sort_of_kind view.now.kind)) ≡ true }
+    ensures ok { IfOk result (AreMade (in_order is_first (sort_of_two op) sort.Text (sort_of_kind view.now.kind))
+        (λ i. in_order is_first (of_two op) (item.text text.now) (item_at view.now.items i)) (length view.now.items)) }
+    ensures err { IfErr result (λ e. e ≡ Stop.NoMemory) }
+{
+    let Some(op) = comparison_of(op) else {
+        unreachable!()
+    };
+    let beside = BesideText {
+        view,
+        text,
+        op,
+        is_first,
+    };
+    let array = array_of(alloc, &beside)?;
+    Ok(Values::Column(Operand::Made(array)))
+}
+
+/// How a text and another stand to each other, or the other and the text.
+fn order_of(text: &str, other: &str, is_first: bool) -> Ordering
+    ensures { result ≡ in_order is_first order (item.text text.now) (item.text other.now) }
+{
+    if is_first {
+        text.cmp(other)
+    } else {
+        other.cmp(text)
+    }
+}
+
+/// Whether two texts that stand so to each other meet the comparison.
+fn meets(op: CmpOp, order: Ordering) -> bool
+    ensures { result ≡ meets op order }
+{
+    match op {
+        CmpOp::Eq => order.is_eq(),
+        CmpOp::Ne => order.is_ne(),
+        CmpOp::Lt => order.is_lt(),
+        CmpOp::Le => order.is_le(),
+        CmpOp::Gt => order.is_gt(),
+        CmpOp::Ge => order.is_ge(),
+    }
+}
+
+/// A column of texts beside a text.
+#[derive(Drop)]
+struct BesideText<'a, 'b> {
+    view: &'a View<'b>,
+    text: &'a str,
+    op: CmpOp,
+    is_first: bool,
+    ghost texts: { is_text view.now.kind ≡ true },
+}
+
+impl<'a, 'b> Truths for BesideText<'a, 'b> {
+    ghost use Rattle.evaluate.specs.Slices.{in_order};
+
+    ghost count = { λ b. length b.view.now.items };
+
+    ghost known = { λ b i. holds_at b.view.now i };
+
+    ghost value = { λ b i. meets b.op (in_order b.is_first order (item.text b.text.now) (item_at b.view.now.items i)) };
+
+    fn slots(&self) -> u32 {
+        self.view.slots()
+    }
+
+    fn are_known(&self) -> bool {
+        false
+    }
+
+    fn known(&self, i: usize) -> bool {
+        self.view.holds(i)
+    }
+
+    fn value(&self, i: usize) -> bool {
+        let order = match self.view.text_at(i) {
+            Some(other) => order_of(self.text, other, self.is_first),
+            None => Ordering::Equal,
+        };
+        meets(self.op, order)
+    }
+}
