@@ -22,7 +22,7 @@ const UNSIGNED_64: IntType = IntType {
 };
 
 /// What an expression's object is: which of the four members it has.
-#[derive(Clone, Copy, Debug, PartialEq, Eq)]
+#[derive(Clone, Copy, Debug)]
 pub enum Form {
     Column,
     Int,

@@ -1,4 +1,4 @@
-use Rattle.std.proofs.Common.{◌≡◌, ◌∙◌, Some, Ok, ap, sym, arith, rules}
+use Rattle.std.proofs.Common.{◌≡◌, ◌<◌, length, ◌∙◌, Some, Ok, ap, sym, arith, rules}
 use Rattle.std.specs.Result.{MatchResult, IsErrAnd}
 use Rattle.serde_json.specs.View.{view, items_view}
 use Rattle.json_places.specs.JsonFault.{IsUnder}
@@ -19,9 +19,10 @@ read_all-loop-index-preserved t c =
 
 pub read_all-returns-in_err-expr-clause-err : goal.read_all-returns-in_err-expr-clause-err
 read_all-returns-in_err-expr-clause-err t c =
+    let within : c.loop-index.index-counter < length c.args.values.now = omega arith in
     let cases : MatchResult c.read_expr-read.result (λ y. c.map_err.result ≡ Ok y) (λ e. IsErrAnd c.map_err.result (IsUnder (step.Item c.loop-index.index-counter) e)) = search rules in
     error_made _ _ _ _ _ _ _ cases c.in_err-expr.was c.read_expr-read.ensures.err c.from_residual.ensures.1
-    (λ _ told under. tells_item_at _ _ _ _ _ _ told (omega arith) c.index-values-index.is under)
+    (λ _ told under. tells_item_at _ _ _ _ _ _ told within c.index-values-index.is under)
 
 pub read_all-returns-clause-ok : goal.read_all-returns-clause-ok
 read_all-returns-clause-ok t c = each_done _ _ _ _ c.loop-index.invariant (omega arith)

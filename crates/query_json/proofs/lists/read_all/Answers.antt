@@ -1,4 +1,4 @@
-use Rattle.std.proofs.Common.{◌≡◌, Ok, arith, rules}
+use Rattle.std.proofs.Common.{◌≡◌, ◌<◌, length, Ok, arith, rules}
 use Rattle.std.specs.Result.{MatchResult, IsErrAnd}
 use Rattle.json_places.specs.JsonFault.{IsUnder}
 use Rattle.json_places.specs.declared.path.Step.TheVariants as step
@@ -15,9 +15,10 @@ loop-index-preserved c =
 
 pub returns-in_err-agg-clause-err : goal.returns-in_err-agg-clause-err
 returns-in_err-agg-clause-err c =
+    let within : c.loop-index.index-counter < length c.args.values.now = omega arith in
     let cases : MatchResult c.read_agg-read.result (λ y. c.map_err.result ≡ Ok y) (λ e. IsErrAnd c.map_err.result (IsUnder (step.Item c.loop-index.index-counter) e)) = search rules in
     error_made _ _ _ _ _ _ _ cases c.in_err-agg.was c.read_agg-read.ensures.err c.from_residual.ensures.1
-    (λ _ told under. tells_item_at _ _ _ _ _ _ told (omega arith) c.index-values-index.is under)
+    (λ _ told under. tells_item_at _ _ _ _ _ _ told within c.index-values-index.is under)
 
 pub returns-clause-ok : goal.returns-clause-ok
 returns-clause-ok c = each_done _ _ _ _ c.loop-index.invariant (omega arith)
