@@ -19,7 +19,7 @@ use Rattle.arrow_json.specs.JsonBook.{Coding, listed_fields}
 use Rattle.arrow_json.specs.JsonCodes.{ReadsCodes}
 use Rattle.arrow_json.specs.JsonFile.{Reads, ReadsFile, file_of}
 use Rattle.json_places.specs.JsonMember.{member_of}
-use Rattle.arrow_json.proofs.SchemaLaws.{slice_get_some}
+use Rattle.json_places.proofs.MemberLaws.{slice_get_some}
 use Rattle.arrow_text.specs.BatchData.{batch_data, batches_data, columns_data}
 use Rattle.arrow_text.specs.ColumnData.{code_data, column_data, plain_column}
 use Rattle.arrow_text.specs.Dictionaries.{column_at, column_items, dictionaries_from, dictionary_of}
