@@ -18,3 +18,6 @@ pub mod ReadCodes
 pub mod ReadBook
 pub mod Utf8Documents
 pub mod ReadFile
+pub mod WholeFields
+pub mod WholeCounts
+pub mod WholeTables

@@ -1,15 +1,17 @@
 -- What holds of every file in memory. (Arrow columnar format, "Physical memory layout")
 use Rattle.std.specs.Prelude.{◌≡◌, ℕ, ◌<◌, ◌^◌, List, [], ◌∷◌, length, false, IsUtf8, ⊤}
 use Rattle.std.specs.List.{AllByRecursion}
+use Rattle.arrays.specs.Batch.{Batch}
 use Rattle.arrays.specs.Item.{Item}
 use Rattle.arrays.specs.Kind as kind
 use Rattle.arrays.specs.Kind.{Kind}
 use Rattle.arrays.specs.Lengths.{inner_items, text_bytes}
 use Rattle.arrays.specs.Schema.{holds_dict, is_deep}
+use Rattle.arrays.specs.Seen.{Seen}
 use Rattle.arrays.specs.Shape.{Shape, FieldShape, int, boolean, utf8, list, dict, field, kind_of_field}
 use Rattle.arrays.specs.Typed.{IsItemOf}
 use Rattle.pool.specs.Texts.{byte_count}
-use Rattle.json_places.specs.JsonTable.{Table}
+use Rattle.json_places.specs.JsonTable.{Table, table_of}
 
 -- ---- fields
 
@@ -47,6 +49,10 @@ pub record IsColumn (k : Kind) (rows : ℕ) (items : List Item) : Type 0 where
   pub typed : AllByRecursion (IsItemOf k) items
   pub counted : IsCounted k items
 
+-- A column of its own kind, in rows as many as its items.
+abbrev pub IsHeld : Seen → Type 0
+IsHeld c = IsColumn c.kind (length c.items) c.items
+
 -- One for each field.
 abbrev pub AreColumns : List FieldShape → ℕ → List (List Item) → Type 0
 AreColumns [] rows [] = ⊤
@@ -58,6 +64,10 @@ AreColumns fields rows columns = ⊥
 pub record IsTable (fields : List FieldShape) (t : Table) : Type 0 where
   pub few : t.rows < 2 ^ 31
   pub columns : AreColumns fields t.rows t.columns
+
+-- The table of a batch, under the batch's own fields.
+abbrev pub IsBatch : Batch → Type 0
+IsBatch b = IsTable b.fields (table_of b)
 
 -- Tables under fields. A field's place is its dictionary's id, and has 64 signed bits.
 pub record IsFile (fields : List FieldShape) (tables : List Table) : Type 0 where
