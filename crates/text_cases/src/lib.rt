@@ -3,3 +3,5 @@
 
 #[cfg(test)]
 mod printed;
+#[cfg(test)]
+mod shipped;
