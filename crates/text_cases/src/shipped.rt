@@ -53,21 +53,21 @@ fn has_same_rows(batches: &[Arc<RecordBatch>], others: &[Arc<RecordBatch>]) -> b
 }
 
 #[test]
-fn dictionaries_reads_back(rt: HostRuntime) -> Result<(), Fail> {
+fn dictionaries_read_back(rt: HostRuntime) -> Result<(), Fail> {
     expect_read_back(&rt, rt.alloc(), DICTIONARIES)
 }
 
 #[test]
-fn lists_reads_back(rt: HostRuntime) -> Result<(), Fail> {
+fn lists_read_back(rt: HostRuntime) -> Result<(), Fail> {
     expect_read_back(&rt, rt.alloc(), LISTS)
 }
 
 #[test]
-fn mixed_reads_back(rt: HostRuntime) -> Result<(), Fail> {
+fn mixed_columns_read_back(rt: HostRuntime) -> Result<(), Fail> {
     expect_read_back(&rt, rt.alloc(), MIXED)
 }
 
 #[test]
-fn primitive_reads_back(rt: HostRuntime) -> Result<(), Fail> {
+fn numbers_read_back(rt: HostRuntime) -> Result<(), Fail> {
     expect_read_back(&rt, rt.alloc(), PRIMITIVE)
 }
