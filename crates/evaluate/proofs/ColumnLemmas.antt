@@ -15,7 +15,7 @@ use Rattle.types.specs.Kind.{same_kind}
 use Rattle.types.specs.Shape.{FieldShape, boolean, field, kind_of_field}
 use Rattle.colbits.specs.Slice.{slice}
 use Rattle.std.proofs.lemmas.Grind.{common_steps}
-use Rattle.evaluate.specs.Slices.{IsColumn}
+use Rattle.evaluate.specs.Making.{IsColumn}
 use Rattle.evaluate.specs.declared.values.Operand.TheVariants.{Borrowed}
 use Rattle.evaluate.specs.declared.values.Slots.{Slots}
 use Rattle.query.specs.Columns.{sort_at, sort_of_field}

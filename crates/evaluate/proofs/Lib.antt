@@ -3,4 +3,5 @@ pub mod PlaceLemmas
 pub mod SortLemmas
 pub mod OperatorLemmas
 pub mod ColumnLemmas
+pub mod FilterLemmas
 pub mod TreeLemmas

@@ -28,9 +28,10 @@ use Rattle.query.specs.declared.expr.Op.{Op}
 use Rattle.query.specs.declared.expr.Op.TheVariants as op
 use Rattle.query.specs.declared.sort.Sort.{Sort}
 use Rattle.query.specs.declared.sort.Sort.TheVariants.{Int, Literal, Text, Truth}
-use Rattle.evaluate.proofs.PlaceLemmas.{binary_placed, exact_placed, sole_fault, unary_placed}
+use Rattle.evaluate.proofs.PlaceLemmas.{IsPlaced, IsPlacedIn, StopsOutside, binary_placed, exact_placed, sole_fault, unary_placed}
 use Rattle.evaluate.proofs.SortLemmas.{comparable, one_int, truths}
-use Rattle.evaluate.specs.Slices.{AreEnough, AreMade, IsPlaced, IsPlacedIn, IsSettled, StopsMaking, StopsOutside, column_of, comparison_of, held_by, in_order, item_in, sort_in, stop_of}
+use Rattle.evaluate.specs.Making.{AreMade, IsSettled, StopsMaking, comparison_of, held_by, in_order, stop_of}
+use Rattle.evaluate.specs.Slices.{AreEnough, column_of, item_in, sort_in}
 use Rattle.evaluate.specs.Value.{comparison, of_one, of_two}
 use Rattle.evaluate.specs.declared.stop.Stop as stop
 use Rattle.evaluate.specs.declared.stop.Stop.TheVariants as stops

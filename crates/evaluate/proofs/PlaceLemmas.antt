@@ -2,6 +2,7 @@
 use Rattle.std.proofs.Common.{◌≡◌, ◌∙◌, ℕ, ◌<◌, ◌≤◌, nat_lt, arith, inl, inr, ℤ, List, map, length, Bool, true, false, not, cond, eqb, position, Option, Some, None, option_map, ap, sym, refl, zero-add, true≢false, eq-eqb}
 use Rattle.std.specs.List.{position_or_len}
 use Rattle.std.specs.Option.{option_or}
+use Rattle.std.specs.Prelude.{⊤}
 use Rattle.std.proofs.lemmas.Bool.{ltb-false}
 use Rattle.std.proofs.lemmas.List.{get_or-map, length-map}
 use Rattle.std.proofs.lemmas.List.FromFn.{get_or-map-range_with_len, length-map-range_with_len}
@@ -18,7 +19,33 @@ use Rattle.kernels.specs.Fault.{IsKernelFault}
 use Rattle.kernels.specs.Lift.{at_each_place, item_at, lifted}
 use Rattle.kernels.specs.declared.fault.KernelFault.{KernelFault}
 use Rattle.kernels.specs.declared.fault.KernelFault.TheVariants.{LengthsDiffer, NoMemory, Overflow, TypesDiffer}
-use Rattle.evaluate.specs.Slices.{IsPlaced, IsPlacedIn, StopsOutside, held_of, stop_of}
+use Rattle.query.specs.Sorts.{sort_of_kind}
+use Rattle.evaluate.specs.Making.{stop_of}
+use Rattle.evaluate.specs.Value.{held}
+use Rattle.evaluate.specs.declared.stop.Stop.{Stop}
+use Rattle.evaluate.specs.declared.stop.Stop.TheVariants as stop
+
+-- ---- columns in the making
+
+-- The array has what is made at each of n places.
+pub record IsPlaced (k : Kind) (made : ℕ → Item) (n : ℕ) (a : Seen) : Type 0 where
+  pub kind : a.kind ≡ k
+  pub len : length a.items ≡ n
+  pub each : (i : ℕ) → i < n → item_at a.items i ≡ made i
+
+-- An item of the kind: it isn't outside an integer type.
+abbrev pub held_of : Kind → Item → Option Item
+held_of k x = held (sort_of_kind k) x
+
+-- The same, and none of the items is outside the kind.
+pub record IsPlacedIn (k : Kind) (made : ℕ → Item) (n : ℕ) (a : Seen) : Type 0 where
+  pub kind : a.kind ≡ k
+  pub len : length a.items ≡ n
+  pub each : (i : ℕ) → i < n → held_of k (made i) ≡ Some (item_at a.items i)
+
+abbrev pub StopsOutside : Kind → (ℕ → Item) → ℕ → Stop → Type 0
+StopsOutside k made n (stop.Bad row) = (row < n) × (held_of k (made row) ≡ None)
+StopsOutside k made n stop.NoMemory = ⊤
 
 -- ---- items one by one
 

@@ -16,7 +16,8 @@ use Rattle.query.specs.declared.expr.Op.{Op}
 use Rattle.query.specs.declared.fault.QueryFault.{QueryFault}
 use Rattle.query.specs.declared.fault.QueryFault.TheVariants.{WrongKind}
 use Rattle.query.specs.declared.sort.Sort.{Sort}
-use Rattle.evaluate.specs.Slices.{AreMade, AreValues, StopsAt, StopsMaking, held_by, item_in, row_in, sort_in}
+use Rattle.evaluate.specs.Making.{AreMade, StopsAt, StopsMaking, held_by}
+use Rattle.evaluate.specs.Slices.{AreValues, item_in, row_in, sort_in}
 use Rattle.evaluate.specs.Value.{held_in, of_one, of_operands, of_two, value}
 use Rattle.evaluate.specs.declared.stop.Stop.{Stop}
 use Rattle.evaluate.specs.declared.stop.Stop.TheVariants.{Bad, NoMemory}

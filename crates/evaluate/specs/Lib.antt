@@ -1,3 +1,4 @@
 -- What the contracts of this crate speak of.
 pub mod Value
 pub mod Slices
+pub mod Making

@@ -6,7 +6,7 @@ ghost use Rattle.query.specs.Sorts as sorts;
 ghost use Rattle.query.specs.Sorts.{sort_of_kind};
 ghost use Rattle.query.specs.declared.expr.Op.TheVariants as op;
 ghost use Rattle.evaluate.specs.Value.{of_one, of_two};
-ghost use Rattle.evaluate.specs.Slices.{AreMade, StopsMaking, comparison_of};
+ghost use Rattle.evaluate.specs.Making.{AreMade, StopsMaking, comparison_of};
 
 use crate::stop::Stop;
 use crate::values::{Operand, Values};

@@ -4,7 +4,8 @@ ghost use Rattle.std.specs.Prelude.{◌≡◌, true, is_ok, IfOk, IfErr};
 ghost use Rattle.query.specs.Checked.{checked};
 ghost use Rattle.query.specs.Columns.{sort_at};
 ghost use Rattle.query.specs.Tree.{tree_of};
-ghost use Rattle.evaluate.specs.Slices.{AreValues, IsColumn, StopsAt};
+ghost use Rattle.evaluate.specs.Making.{IsColumn, StopsAt};
+ghost use Rattle.evaluate.specs.Slices.{AreValues};
 
 use crate::operators::{of_one, of_two};
 use crate::slice::Slice;
@@ -14,7 +15,7 @@ use query::Expr;
 use std::alloc::Global;
 
 /// The values of an expression at the rows of a slice, or one of them where it is bad.
-pub fn evaluate<'a>(
+pub(crate) fn evaluate<'a>(
     alloc: Global,
     expr: &'a Expr<u32>,
     slice: Slice<'a>,

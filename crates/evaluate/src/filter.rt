@@ -1,21 +1,41 @@
 //! Filters at the rows of a slice, and the least row where one is bad.
 
 ghost use Rattle.std.specs.Prelude.{◌≡◌, ◌+◌, ◌<◌, true, None, is_ok, IfOk, IfErr};
+ghost use Rattle.query.specs.Asked.{asked};
 ghost use Rattle.query.specs.Checked.{checked};
 ghost use Rattle.query.specs.Columns.{sort_at};
+ghost use Rattle.query.specs.Fault.{fits};
 ghost use Rattle.query.specs.Tree.{tree_of};
 ghost use Rattle.evaluate.specs.Value.{value};
-ghost use Rattle.evaluate.specs.Slices.{AreValues, IsLeastStop, row_in};
+ghost use Rattle.evaluate.specs.Slices.{AreFilterValues, AreValues, IsFilterStop, IsLeastStop, row_in};
 
 use crate::evaluation::evaluate;
 use crate::slice::Slice;
 use crate::stop::Stop;
 use crate::values::Values;
-use query::Expr;
+use query::{Expr, Query};
 use std::alloc::Global;
 
+/// The truth values of a query's filter at the rows of a slice; none, where the query has no filter. `Bad` at the least of
+/// these rows where any arithmetic part of the filter is outside its type, whatever stands round that part. `NoMemory`
+/// where a growth was refused. It goes down as deep as the filter is: 32 levels at most, since the query fits.
+pub fn evaluate_filter<'a>(
+    alloc: Global,
+    query: &'a Query,
+    slice: Slice<'a>,
+) -> Result<Option<Values<'a>>, Stop>
+    requires { fits slice.batch.now.fields (asked query.now) ≡ true }
+    ensures ok { IfOk result (AreFilterValues slice.entry.batch.now slice.entry.start slice.entry.len (asked query.now).filter) }
+    ensures err { IfErr result (IsFilterStop slice.entry.batch.now slice.entry.start slice.entry.len (asked query.now).filter) }
+{
+    match &query.filter {
+        None => Ok(None),
+        Some(filter) => Ok(Some(evaluate_all(alloc, filter, slice)?)),
+    }
+}
+
 /// The values of an expression at the rows of a slice, or the least of them where it is bad.
-pub fn evaluate_all<'a>(
+fn evaluate_all<'a>(
     alloc: Global,
     expr: &'a Expr<u32>,
     slice: Slice<'a>,

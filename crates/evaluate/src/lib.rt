@@ -3,7 +3,7 @@
 
 mod columns;
 mod constant;
-pub mod evaluation;
+mod evaluation;
 pub mod filter;
 mod operators;
 pub mod slice;

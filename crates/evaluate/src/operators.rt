@@ -7,23 +7,19 @@ ghost use Rattle.query.specs.Sorts as sorts;
 ghost use Rattle.query.specs.declared.sort.Sort.TheVariants as sort;
 ghost use Rattle.query.specs.Sorts.{settled, sort_of_kind, sort_of_one, sort_of_two, type_beside};
 ghost use Rattle.evaluate.specs.Value.{of_one, of_two};
-ghost use Rattle.evaluate.specs.Slices.{AreEnough, AreMade, IsSettled, StopsMaking, column_of, in_order, is_text_alone, item_in, sort_in};
+ghost use Rattle.evaluate.specs.Making.{AreMade, IsSettled, StopsMaking, in_order, is_text_alone};
+ghost use Rattle.evaluate.specs.Slices.{AreEnough, column_of, item_in, sort_in};
 
 use crate::columns;
 use crate::constant::{repeated_number, repeated_truth};
 use crate::stop::Stop;
 use crate::text::{compare_texts, compare_with_text};
 use crate::values::{Operand, Values};
-use arrays::{IntType, View, ViewType, Width};
+use arrays::{IntType, View, ViewType};
 use colbits::NoMemory;
 use query::Op;
+use query::sort::INT64;
 use std::alloc::Global;
-
-/// Signed numbers of 64 bits.
-const INT64: IntType = IntType {
-    bits: Width::W64,
-    signed: true,
-};
 
 /// What an operator makes of one operand.
 pub(crate) fn of_one<'a>(

@@ -26,7 +26,7 @@ impl From<NoMemory> for Stop {
 /// Where types and lengths are right, all that a kernel refuses is a row.
 impl From<KernelFault> for Stop {
     ghost use Rattle.std.specs.Prelude.{◌≡◌};
-    ghost use Rattle.evaluate.specs.Slices.{stop_of};
+    ghost use Rattle.evaluate.specs.Making.{stop_of};
 
     ghost from_gives = { λ f e. e ≡ stop_of f };
 

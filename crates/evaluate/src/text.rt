@@ -8,7 +8,7 @@ ghost use Rattle.kernels.specs.Order.{meets, order};
 ghost use Rattle.query.specs.Sorts.{sort_of_kind, sort_of_two};
 ghost use Rattle.query.specs.declared.sort.Sort.TheVariants as sort;
 ghost use Rattle.evaluate.specs.Value.{of_two};
-ghost use Rattle.evaluate.specs.Slices.{AreMade, in_order};
+ghost use Rattle.evaluate.specs.Making.{AreMade, in_order};
 
 use crate::columns::comparison_of;
 use crate::constant::repeated_truth;
@@ -106,7 +106,7 @@ struct BesideText<'a, 'b> {
 }
 
 impl<'a, 'b> Truths for BesideText<'a, 'b> {
-    ghost use Rattle.evaluate.specs.Slices.{in_order};
+    ghost use Rattle.evaluate.specs.Making.{in_order};
 
     ghost count = { λ b. length b.view.now.items };
 

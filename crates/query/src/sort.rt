@@ -19,8 +19,8 @@ pub enum Sort {
     List,
 }
 
-/// Signed numbers of 64 bits.
-const INT64: IntType = IntType {
+/// Signed numbers of 64 bits: what a literal is unless what stands beside it is of another integer type.
+pub const INT64: IntType = IntType {
     bits: Width::W64,
     signed: true,
 };

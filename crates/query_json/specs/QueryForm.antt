@@ -5,6 +5,7 @@ use Rattle.types.specs.declared.int_type.IntType.{IntType}
 use Rattle.types.specs.declared.int_type.Width.TheVariants.{W64}
 use Rattle.query.specs.declared.expr.Op.{Op}
 use Rattle.query.specs.declared.expr.Op.TheVariants as op
+use Rattle.query.specs.Sorts.{int64}
 use Rattle.serde_json.specs.Data.{Data}
 use Rattle.json_places.specs.JsonMember.{member_of}
 use Rattle.json_places.specs.JsonNumber.{integer_of}
@@ -32,15 +33,12 @@ form_of d = only_form (has member.Column d) (has member.Int d) (has member.Text 
 
 -- ---- whole numbers
 
-abbrev pub signed_64 : IntType
-signed_64 = record { bits = W64; signed = true }
-
-abbrev pub unsigned_64 : IntType
-unsigned_64 = record { bits = W64; signed = false }
+abbrev pub uint64 : IntType
+uint64 = record { bits = W64; signed = false }
 
 -- A whole number from -2^63 to 2^64 - 1, spelled as a number or as a text: an integer of signed or of unsigned 64 bits.
 abbrev pub literal_of : Data → Option ℤ
-literal_of d = option_or (integer_of signed_64 d) (integer_of unsigned_64 d)
+literal_of d = option_or (integer_of int64 d) (integer_of uint64 d)
 
 -- ---- operators
 

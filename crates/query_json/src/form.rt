@@ -8,15 +8,11 @@ ghost use Rattle.query_json.specs.QueryForm.{form_of, has, literal_of, op_name, 
 use json_places::Member;
 use json_places::number::integer;
 use query::Op;
+use query::sort::INT64;
 use serde_json::Value;
 use types::{IntType, Width};
 
-const SIGNED_64: IntType = IntType {
-    bits: Width::W64,
-    signed: true,
-};
-
-const UNSIGNED_64: IntType = IntType {
+const UINT64: IntType = IntType {
     bits: Width::W64,
     signed: false,
 };
@@ -57,9 +53,9 @@ pub(crate) fn form_of(object: &Value) -> Option<Form>
 pub(crate) fn literal(value: &Value) -> Option<i128>
     ensures { result ≡ literal_of (view value.now) }
 {
-    match integer(SIGNED_64, value) {
+    match integer(INT64, value) {
         Some(number) => Some(number),
-        None => integer(UNSIGNED_64, value),
+        None => integer(UINT64, value),
     }
 }
 

@@ -4,7 +4,8 @@ use Rattle.query.specs.Columns.{sort_at}
 use Rattle.query.specs.Sorts.{sort_of_one, sort_of_two}
 use Rattle.query.specs.Tree.{op, tree_of, trees}
 use Rattle.query.proofs.TreeLemmas.{tree_of-Op}
-use Rattle.evaluate.specs.Slices.{AreMade, AreValues, StopsAt, StopsMaking, item_in, sort_in}
+use Rattle.evaluate.specs.Making.{AreMade, StopsAt, StopsMaking}
+use Rattle.evaluate.specs.Slices.{AreValues, item_in, sort_in}
 use Rattle.evaluate.specs.Value.{of_one, of_two}
 use Rattle.evaluate.proofs.TreeLemmas.{made_one, made_so, made_two, no_sort, outer_one, outer_two, passed_on, stopped_so, stops_left, stops_right, stops_two, tree_one, tree_two}
 use Rattle.evaluate.proofs.evaluation.+evaluate.Goals as goal
