@@ -12,7 +12,7 @@ ghost use Rattle.select.specs.Fault.{IsFull};
 ghost use Rattle.select.specs.Picked.{IsPick, picked, picked_at};
 
 use crate::fault::SelectFault;
-use crate::picks::Picks;
+use crate::rows::Rows;
 use arrays::validity::is_valid;
 use arrays::{Array, TextBuilder, Texts, View};
 use colbits::Bits;
@@ -23,33 +23,41 @@ use std::str::from_utf8_unchecked;
 const MOST: usize = 2147483647;
 
 /// The picked rows of a view of texts without a dictionary.
-pub(super) fn gather(alloc: Global, view: &View<'_>, picks: &Picks) -> Result<Array, SelectFault>
+pub(super) fn gather<R: Rows>(
+    alloc: Global,
+    view: &View<'_>,
+    rows: &R,
+) -> Result<Array, SelectFault>
     requires kind { view.now.kind ≡ kind.utf8 }
-    requires within { All (IsPick (length view.now.items)) picks.now }
-    ensures ok { IfOk result (λ r. r ≡ shown kind.utf8 (picked view.now.items picks.now)) }
-    ensures err { IfErr result (IsFull (is_past (text_bytes (picked view.now.items picks.now)))) }
+    requires within { All (IsPick (length view.now.items)) (R.picks rows.now) }
+    ensures ok { IfOk result (λ r. r ≡ shown kind.utf8 (picked view.now.items (R.picks rows.now))) }
+    ensures err { IfErr result (IsFull (is_past (text_bytes (picked view.now.items (R.picks rows.now))))) }
 {
-    let bytes = picked_bytes(view, picks);
-    let mut builder = TextBuilder::with_capacity(alloc, picks.len(), bytes)?;
+    let bytes = picked_bytes(view, rows);
+    let count = rows.slots() as usize;
+    let mut builder = TextBuilder::with_capacity(alloc, count, bytes)?;
     let texts = view.texts();
     let validity = view.validity();
-    for j in 0..picks.len() {
-        builder.push(text_at(view, &texts, &validity, picks.get(j)))?;
+    let mut place = rows.first();
+    for _slot in 0..count {
+        let row = rows.next(&mut place);
+        builder.push(text_at(view, &texts, &validity, row))?;
     }
     Ok(builder.finish()?)
 }
 
 /// How many bytes the picked texts have together, and no more than offsets can count.
-fn picked_bytes(view: &View<'_>, picks: &Picks) -> usize
+fn picked_bytes<R: Rows>(view: &View<'_>, rows: &R) -> usize
     requires kind { view.now.kind ≡ kind.utf8 }
-    requires within { All (IsPick (length view.now.items)) picks.now }
+    requires within { All (IsPick (length view.now.items)) (R.picks rows.now) }
     ensures { result ≤ 2147483647 }
 {
     let texts = view.texts();
     let validity = view.validity();
     let mut bytes: usize = 0;
-    for j in 0..picks.len() {
-        match picks.get(j) {
+    let mut place = rows.first();
+    for _slot in 0..rows.slots() {
+        match rows.next(&mut place) {
             Some(i) if is_valid(&validity, i) => bytes = bytes.saturating_add(texts.get(i).len()),
             _ => {}
         }
