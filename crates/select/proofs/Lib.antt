@@ -8,6 +8,7 @@ pub mod SelectionLemmas
 pub mod ListLemmas
 pub mod ChosenLemmas
 pub mod GatherLemmas
+pub mod TextLemmas
 pub mod JoinLemmas
 pub mod JoinedCodes
 pub mod SizeLemmas

@@ -9,3 +9,4 @@ pub mod Joined
 pub mod Children
 pub mod Named
 pub mod Masked
+pub mod Texts

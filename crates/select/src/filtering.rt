@@ -1,7 +1,6 @@
 //! The rows of a view where a mask is true.
 
 ghost use Rattle.std.specs.Prelude.{◌≡◌, ◌<◌, ◌&&◌, None, true, length, IfErr, IfOk};
-
 ghost use Rattle.colbits.specs.Bitmap.{bit_of};
 ghost use Rattle.arrays.specs.Kind as kind;
 ghost use Rattle.select.specs.Big.{is_too_big};

@@ -1,32 +1,42 @@
-use Rattle.std.proofs.Common.{arith, length}
-use Rattle.select.specs.Picked.{IsPick}
-use Rattle.select.proofs.BigLemmas.{past-picked, told_of_all}
-use Rattle.select.proofs.PickLemmas.{all-at, pushed}
-use Rattle.select.proofs.RestLemmas.{is_next, some_left}
+use Rattle.std.proofs.Common.{◌∙◌}
+use Rattle.select.proofs.TextLemmas.{texts_done}
 use Rattle.select.proofs.gather.texts.gather.Goals as goal
 
-pub next-row-requires : goal.next-row-requires
-next-row-requires g c =
-    some_left _ (g.R.Rows.picks c.args.rows.now) c.loop-slot._slot c.loop-slot.invariant.told (omega (arith, c.slots-count.ensures.count, c.loop-slot-test.true))
+pub picked_bytes-requires-clause-size : goal.picked_bytes-requires-clause-size
+picked_bytes-requires-clause-size g c = c.in_ok-laid.ensures.ok.fresh.short
 
-pub text_at-requires-clause-within : goal.text_at-requires-clause-within
-text_at-requires-clause-within g c =
-    let picks = g.R.Rows.picks c.args.rows.now in
-    let next = is_next picks c.loop-slot._slot c.next-row.result _ _ c.loop-slot.invariant.told c.next-row.ensures in
-    all-at (IsPick (length c.args.view.now.items)) picks c.loop-slot._slot c.next-row.result c.requires.within next.here
+pub from_texts-requires-clause-offsets : goal.from_texts-requires-clause-offsets
+from_texts-requires-clause-offsets g c =
+    let texts = c.texts-texts.result in
+    let done =
+    texts_done texts.offsets.now texts.bytes.now c.args.view.now (g.R.Rows.picks c.args.rows.now) c.slots.result c.in_ok-laid.laid.end c.in_ok-laid.laid.offsets.items c.in_ok-offsets.offsets c.in_ok-filled.filled.items
+    c.in_ok-bytes.bytes c.validity-valid.result c.in_ok-validity.validity c.texts-texts.ensures.texts c.requires.within c.in_ok-laid.ensures.ok c.slots.ensures.count c.slots.ensures.short c.validity-valid.ensures
+    c.in_ok-validity.ensures c.in_ok-offsets.ensures c.in_ok-filled.ensures c.in_ok-bytes.ensures in
+    done.bounds
 
-pub returns-in_err-push-clause-err : goal.returns-in_err-push-clause-err
-returns-in_err-push-clause-err g c =
-    let picks = g.R.Rows.picks c.args.rows.now in
-    let next = is_next picks c.loop-slot._slot c.next-row.result _ _ c.loop-slot.invariant.told c.next-row.ensures in
-    told_of_all c.from_residual-in_err-push.result c.in_err-push.field-0.0 _ _ c.from_residual-in_err-push.ensures.1 c.in_err-push.ensures.fault
-    (past-picked c.args.view.now.items picks c.loop-slot._slot c.next-row.result c.loop-slot.builder _ next.here c.loop-slot.invariant.pushed c.text_at.ensures)
+pub from_texts-requires-clause-texts : goal.from_texts-requires-clause-texts
+from_texts-requires-clause-texts g c =
+    let texts = c.texts-texts.result in
+    let done =
+    texts_done texts.offsets.now texts.bytes.now c.args.view.now (g.R.Rows.picks c.args.rows.now) c.slots.result c.in_ok-laid.laid.end c.in_ok-laid.laid.offsets.items c.in_ok-offsets.offsets c.in_ok-filled.filled.items
+    c.in_ok-bytes.bytes c.validity-valid.result c.in_ok-validity.validity c.texts-texts.ensures.texts c.requires.within c.in_ok-laid.ensures.ok c.slots.ensures.count c.slots.ensures.short c.validity-valid.ensures
+    c.in_ok-validity.ensures c.in_ok-offsets.ensures c.in_ok-filled.ensures c.in_ok-bytes.ensures in
+    done.texts
 
-pub loop-slot-preserved : goal.loop-slot-preserved
-loop-slot-preserved g c =
-    let picks = g.R.Rows.picks c.args.rows.now in
-    let next = is_next picks c.loop-slot._slot c.next-row.result _ _ c.loop-slot.invariant.told c.next-row.ensures in
-    record {
-      told = next.rest;
-      pushed = pushed c.args.view.now.items picks c.loop-slot._slot c.next-row.result c.loop-slot.builder c.push.new.self _ next.here c.loop-slot.invariant.pushed c.text_at.ensures c.in_ok-push.ensures.ok;
-    }
+pub from_texts-requires-clause-validity : goal.from_texts-requires-clause-validity
+from_texts-requires-clause-validity g c =
+    let texts = c.texts-texts.result in
+    let done =
+    texts_done texts.offsets.now texts.bytes.now c.args.view.now (g.R.Rows.picks c.args.rows.now) c.slots.result c.in_ok-laid.laid.end c.in_ok-laid.laid.offsets.items c.in_ok-offsets.offsets c.in_ok-filled.filled.items
+    c.in_ok-bytes.bytes c.validity-valid.result c.in_ok-validity.validity c.texts-texts.ensures.texts c.requires.within c.in_ok-laid.ensures.ok c.slots.ensures.count c.slots.ensures.short c.validity-valid.ensures
+    c.in_ok-validity.ensures c.in_ok-offsets.ensures c.in_ok-filled.ensures c.in_ok-bytes.ensures in
+    done.long
+
+pub returns-clause-ok : goal.returns-clause-ok
+returns-clause-ok g c =
+    let texts = c.texts-texts.result in
+    let done =
+    texts_done texts.offsets.now texts.bytes.now c.args.view.now (g.R.Rows.picks c.args.rows.now) c.slots.result c.in_ok-laid.laid.end c.in_ok-laid.laid.offsets.items c.in_ok-offsets.offsets c.in_ok-filled.filled.items
+    c.in_ok-bytes.bytes c.validity-valid.result c.in_ok-validity.validity c.texts-texts.ensures.texts c.requires.within c.in_ok-laid.ensures.ok c.slots.ensures.count c.slots.ensures.short c.validity-valid.ensures
+    c.in_ok-validity.ensures c.in_ok-offsets.ensures c.in_ok-filled.ensures c.in_ok-bytes.ensures in
+    c.in_ok-from_texts.ensures ∙ done.shows
