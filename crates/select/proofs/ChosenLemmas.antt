@@ -10,7 +10,7 @@ use Rattle.arrays.specs.Seen.{Entries, Seen}
 use Rattle.arrays.specs.Shown.{shown, validity_of}
 use Rattle.select.specs.declared.fault.SelectFault.{SelectFault}
 use Rattle.select.specs.Chosen.{chosen}
-use Rattle.select.specs.Selection.{filter_fault, kept}
+use Rattle.select.specs.Selection.{kept}
 use Rattle.select.specs.Picked.{picked, picked_at, IsPick}
 use Rattle.select.proofs.ListLemmas.{get_or-map-any}
 
@@ -85,10 +85,10 @@ pub list-injective : (k l : Kind) → kind.list k ≡ kind.list l → k ≡ l
 list-injective k l h = cc
 
 -- rows picked by a mask are those that it keeps
-pub chosen-kept : (s mask : Seen) (picks : List (Option ℕ)) (r : Result Seen SelectFault) → filter_fault s mask ≡ None → length mask.items ≡ length s.items
+pub chosen-kept : (s mask : Seen) (picks : List (Option ℕ)) (r : Result Seen SelectFault) → length mask.items ≡ length s.items
     → ((items : List Item) → length items ≡ length mask.items → picked items picks ≡ kept items mask.items)
     → IfOk r (λ a. a ≡ chosen s.kind (λ items. picked items picks) s) → IfOk r (λ a. same_kind s.kind kind.dict ≡ true → length s.codes ≡ length s.items)
-    → IfOk r (λ a. (filter_fault s mask ≡ None) × (a ≡ chosen s.kind (λ items. kept items mask.items) s))
-chosen-kept s mask picks (Err e) none same rows is codes = tt
-chosen-kept s mask picks (Ok a) none same rows is codes =
-    (none, is ∙ chosen-same s.kind (λ items. picked items picks) (λ items. kept items mask.items) s (rows s.items (sym same)) (λ d. rows s.codes (codes d ∙ sym same)))
+    → IfOk r (λ a. a ≡ chosen s.kind (λ items. kept items mask.items) s)
+chosen-kept s mask picks (Err e) same rows is codes = tt
+chosen-kept s mask picks (Ok a) same rows is codes =
+    is ∙ chosen-same s.kind (λ items. picked items picks) (λ items. kept items mask.items) s (rows s.items (sym same)) (λ d. rows s.codes (codes d ∙ sym same))

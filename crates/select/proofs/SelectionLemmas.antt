@@ -1,14 +1,14 @@
 -- Rows that a mask or indices pick.
-use Rattle.std.proofs.Common.{◌≡◌, ◌∙◌, ℕ, zero, suc, ◌+◌, ◌<◌, ◌≤◌, ◌&&◌, ◌⊎◌, inl, inr, List, [], ◌∷◌, ◌++◌, length, take, map, filter, zip, position, Bool, true, false, not, cond, Option, None, Some, option_map, ap, sym, refl, arith, subst, get_or, append-nil, append_assoc, add-zero}
+use Rattle.std.proofs.Common.{◌≡◌, ◌∙◌, ℕ, zero, suc, ◌+◌, ◌<◌, ◌≤◌, ◌&&◌, ◌⊎◌, inl, inr, List, [], ◌∷◌, ◌++◌, length, take, map, filter, zip, position, Bool, true, false, not, cond, Option, None, Some, option_map, ap, sym, refl, arith, subst, get_or, append-nil, zero-add}
 use Rattle.std.specs.Prelude.{slice_get, All}
-use Rattle.std.specs.List.{position_or_len}
+use Rattle.std.specs.List.{position_or_len, range_with_len}
 use Rattle.std.specs.Prelude.{◌==◌}
 use Rattle.std.proofs.lemmas.Bool.{cases_lt, lt-ltb, le-ltb}
 use Rattle.std.proofs.lemmas.List.{map-append, take_all, length-take-le, get_or_past}
 use Rattle.std.proofs.lemmas.List.Elements.{All-append, filter-append}
+use Rattle.std.proofs.lemmas.List.FromFn.{get_or-map-range_with_len, length-map-range_with_len}
 use Rattle.std.proofs.lemmas.List.Sums.{position_or_len_is}
 use Rattle.std.proofs.lemmas.Option.{slice_get_within, slice_get-get_or, get_or_from_slice_get}
-use Rattle.colbits.specs.Bit.{bit_in}
 use Rattle.colbits.specs.Bitmap.{bit_of}
 use Rattle.types.specs.declared.int_type.IntType.{IntType}
 use Rattle.arrays.specs.Kind as kind
@@ -19,11 +19,12 @@ use Rattle.arrays.specs.Dictionary.{is_code, looked_up}
 use Rattle.arrays.specs.Seen.{Seen, valid_at, valid_in}
 use Rattle.arrays.specs.Values.{HasBits}
 use Rattle.arrays.proofs.PartLemmas.{item_slot}
-use Rattle.select.specs.Picked.{picked, picked_at, rows_in, IsPick}
+use Rattle.select.specs.Masked.{AreTrue}
+use Rattle.select.specs.Picked.{picked, picked_at, rows_of_ones, rows_where, IsPick}
 use Rattle.select.specs.Selection.{filter_fault, indices_fault, is_int, is_true, kept, outside, take_fault, taken}
 use Rattle.select.specs.declared.fault.SelectFault.TheVariants.{IndexOutOfRange, LengthsDiffer, WrongKind}
 use Rattle.select.proofs.PickLemmas.{take-one}
-use Rattle.select.proofs.WordLemmas.{rows_in-more}
+use Rattle.select.proofs.OnesLemmas.{rows_where-more, rows_where-nothing}
 
 -- ---- the rows where a mask is true
 
@@ -52,13 +53,11 @@ kept-more xs ms x m h =
 pub record Filtered (mask : List Item) (i : ℕ) (picks : List (Option ℕ)) : Type 0 where
   pub within : All (IsPick (length mask)) picks
   pub rows : (items : List Item) → length items ≡ length mask → picked items picks ≡ kept (take i items) (take i mask)
-  pub room : length picks ≤ i
 
 pub Filtered-none : (mask : List Item) (picks : List (Option ℕ)) → picks ≡ [] → Filtered mask 0 picks
 Filtered-none mask picks none = record {
   within = subst (All (IsPick (length mask))) (sym none) (λ k d below. absurd (omega (arith, below)));
   rows = λ items h. ap (picked items) none;
-  room = omega (arith, ap length none);
 }
 
 kept-row : (mask items : List Item) (i : ℕ) (m : Item) (b : Bool) → length items ≡ length mask → slice_get mask i ≡ Some m → is_true m ≡ b
@@ -81,7 +80,6 @@ Filtered-true mask i m old new is at here more = record {
       ∙ map-append (picked_at items) old (Some i ∷ [])
       ∙ ap (λ l. l ++ get_or items i null ∷ []) (is.rows items h)
       ∙ sym (kept-row mask items i m true h at here);
-  room = omega (arith, ap length more, is.room, Rattle.std.proofs.Common.length-append old (Some i ∷ []));
 }
   where
     one : i < length mask → All (IsPick (length mask)) (Some i ∷ [])
@@ -92,7 +90,6 @@ pub Filtered-false : (mask : List Item) (i : ℕ) (m : Item) (picks : List (Opti
 Filtered-false mask i m picks is at isnt = record {
   within = is.within;
   rows = λ items h. is.rows items h ∙ sym (append-nil (kept (take i items) (take i mask))) ∙ sym (kept-row mask items i m false h at isnt);
-  room = omega (arith, is.room);
 }
 
 pub Filtered-all : (mask items : List Item) (i : ℕ) (picks : List (Option ℕ)) → Filtered mask i picks → length mask ≤ i → length items ≡ length mask → picked items picks ≡ kept items mask
@@ -104,7 +101,6 @@ Filtered-past : (mask : List Item) (i : ℕ) (picks : List (Option ℕ)) → Fil
 Filtered-past mask i picks is past = record {
   within = is.within;
   rows = λ items h. Filtered-all mask items i picks is past h ∙ sym (ap (λ xs. kept xs (take (i + 1) mask)) (take_all (i + 1) items (omega (arith, past, h))) ∙ ap (kept items) (take_all (i + 1) mask (omega (arith, past))));
-  room = omega (arith, is.room);
 }
 
 Filtered-bit : (mask : List Item) (i : ℕ) (b : Bool) (old new : List (Option ℕ)) → Filtered mask i old → b ≡ is_true (get_or mask i null) → new ≡ old ++ cond b (Some i ∷ []) [] → Filtered mask (i + 1) new
@@ -120,34 +116,20 @@ Filtered-bit mask i b old new is bit more =
     there true bit more at = Filtered-true mask i (get_or mask i null) old new is at (sym bit) more
     there false bit more at = subst (Filtered mask (i + 1)) (sym (more ∙ append-nil old)) (Filtered-false mask i (get_or mask i null) old is at (sym bit))
 
--- the rows of the first bits of a word
-Filtered-bits : (mask : List Item) (i word n : ℕ) (picks : List (Option ℕ)) → Filtered mask i picks → n ≤ 64 → ((j : ℕ) → j < 64 → bit_in word j ≡ is_true (get_or mask (i + j) null))
-    → Filtered mask (i + n) (picks ++ rows_in i word n)
-Filtered-bits mask i word zero picks is few bits =
-    subst (λ k. Filtered mask k (picks ++ [])) (sym (add-zero i)) (subst (Filtered mask i) (sym (append-nil picks)) is)
-Filtered-bits mask i word (suc n) picks is few bits =
-    let before = Filtered-bits mask i word n picks is (omega (arith, few)) bits in
-    let one : suc n ≡ n + 1 = omega arith in
-    let more : picks ++ rows_in i word (suc n) ≡ (picks ++ rows_in i word n) ++ cond (bit_in word n) (Some (i + n) ∷ []) [] =
-    ap (λ m. picks ++ rows_in i word m) one
-    ∙ ap (λ l. picks ++ l) (rows_in-more i word n)
-    ∙ sym (append_assoc picks (rows_in i word n) (cond (bit_in word n) (Some (i + n) ∷ []) [])) in
-    let next : i + n + 1 ≡ i + suc n = omega arith in
-    subst (λ k. Filtered mask k (picks ++ rows_in i word (suc n))) next
-    (Filtered-bit mask (i + n) (bit_in word n) (picks ++ rows_in i word n) (picks ++ rows_in i word (suc n)) before (bits n (omega (arith, few))) more)
+-- the rows of the first bits
+Filtered-bits : (mask : List Item) (bits : List Bool) → AreTrue bits mask → (n : ℕ) → Filtered mask n (rows_where (bit_of bits) 0 n)
+Filtered-bits mask bits true_bits zero = Filtered-none mask (rows_where (bit_of bits) 0 0) (rows_where-nothing (bit_of bits) 0)
+Filtered-bits mask bits true_bits (suc n) =
+    let one : n + 1 ≡ suc n = omega arith in
+    subst (λ k. Filtered mask k (rows_where (bit_of bits) 0 k)) one
+    (Filtered-bit mask n (bit_of bits n) (rows_where (bit_of bits) 0 n) (rows_where (bit_of bits) 0 (n + 1)) (Filtered-bits mask bits true_bits n) (true_bits.each n) (rows_where-more (bit_of bits) n))
 
--- the rows of a word
-pub Filtered-word : (mask : List Item) (i word : ℕ) (old new : List (Option ℕ)) → Filtered mask i old → ((j : ℕ) → j < 64 → bit_in word j ≡ is_true (get_or mask (i + j) null))
-    → new ≡ old ++ rows_in i word 64 → Filtered mask (i + 64) new
-Filtered-word mask i word old new is bits more = subst (Filtered mask (i + 64)) (sym more) (Filtered-bits mask i word 64 old is (omega arith) bits)
+-- the rows whose bit is 1 are those that the mask keeps
+pub ones-kept : (mask items : List Item) (bits : List Bool) → AreTrue bits mask → length items ≡ length mask → picked items (rows_of_ones bits) ≡ kept items mask
+ones-kept mask items bits true_bits same = Filtered-all mask items (length bits) (rows_of_ones bits) (Filtered-bits mask bits true_bits (length bits)) (omega (arith, true_bits.size)) same
 
--- a row that is true is one of the mask
-pub true_within : (mask : List Item) (i : ℕ) → is_true (get_or mask i null) ≡ true → i < length mask
-true_within mask i here =
-    elim (cases_lt i (length mask)) [
-      | inl below ↦ below
-      | inr past ↦ let none = ap is_true (get_or_past mask i null past) in cc
-    ]
+pub ones-within : (mask : List Item) (bits : List Bool) → AreTrue bits mask → All (IsPick (length mask)) (rows_of_ones bits)
+ones-within mask bits true_bits = (Filtered-bits mask bits true_bits (length bits)).within
 
 -- a row of the mask is true where its bit and its validity are
 pub is_true-bit : (bits : List Bool) (s : Seen) (i : ℕ) (b : Bool) → HasBits bits s → slice_get bits i ≡ Some b → i < length s.items
@@ -178,6 +160,37 @@ is_true-word bits validity s i b has same is =
           ∙ ap (λ x. x && valid_in validity i) (get_or_past bits i false (omega (arith, past, has.size)))
           ∙ sym (ap is_true (get_or_past s.items i null past)))
     ]
+
+valid-always : (b : Bool) → b ≡ (b && true)
+valid-always true = refl
+valid-always false = refl
+
+-- the bits of a mask without nulls
+pub AreTrue-valid : (bits : List Bool) (s : Seen) → HasBits bits s → s.validity ≡ None → AreTrue bits s.items
+AreTrue-valid bits s has none = record {
+  size = has.size;
+  each = λ i. is_true-word bits None s i (bit_of bits i) has (sym none) (valid-always (bit_of bits i));
+}
+
+-- those of one with a validity, of which each bit is looked at with its own
+pub AreTrue-both : (bits valid both : List Bool) (s : Seen) → HasBits bits s → Some valid ≡ s.validity → both ≡ map (λ i. bit_of bits i && bit_of valid i) (range_with_len 0 (length bits)) → AreTrue both s.items
+AreTrue-both bits valid both s has same is = record {
+  size = ap length is ∙ length-map-range_with_len (λ i. bit_of bits i && bit_of valid i) 0 (length bits) ∙ has.size;
+  each = λ i. is_true-word bits (Some valid) s i (bit_of both i) has same (at_place i);
+}
+  where
+    f : ℕ → Bool
+    f i = bit_of bits i && bit_of valid i
+
+    at_place : (i : ℕ) → bit_of both i ≡ (bit_of bits i && bit_of valid i)
+    at_place i =
+        ap (λ l. bit_of l i) is
+        ∙ elim (cases_lt i (length bits)) [
+          | inl below ↦ get_or-map-range_with_len f 0 (length bits) i i false below (zero-add i)
+          | inr past ↦ (
+              get_or_past (map f (range_with_len 0 (length bits))) i false (omega (arith, past, length-map-range_with_len f 0 (length bits)))
+              ∙ sym (ap (λ b. b && bit_of valid i) (get_or_past bits i false past)))
+        ]
 
 -- ---- the rows that indices name
 

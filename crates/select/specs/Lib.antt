@@ -8,3 +8,5 @@ pub mod Stored
 pub mod Joined
 pub mod Children
 pub mod Named
+pub mod Masked
+pub mod Texts

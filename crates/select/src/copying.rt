@@ -7,7 +7,7 @@ ghost use Rattle.select.specs.Chosen.{chosen};
 
 use crate::fault::SelectFault;
 use crate::gather::gather;
-use crate::picks::Picks;
+use crate::rows::FirstRows;
 use arrays::{Array, View, ViewType};
 use colbits::NoMemory;
 use std::alloc::Global;
@@ -26,8 +26,7 @@ fn each_row(alloc: Global, view: &View<'_>) -> Result<Array, SelectFault>
     ensures err { IfErr result (λ e. e ≡ SelectFault.NoMemory) }
 {
     tell_size(view);
-    let rows = Picks::all(alloc, view.slots())?;
-    gather(alloc, view, &rows)
+    gather(alloc, view, &FirstRows::new(view.slots()))
 }
 
 /// Says that the texts and the items of lists of a view are no more than offsets count. Nothing is looked at, and nothing

@@ -1,24 +1,19 @@
 //! The rows of a view where a mask is true.
 
-ghost use Rattle.std.specs.Prelude.{◌≡◌, ℕ, ◌+◌, ◌<◌, ◌≤◌, ◌&&◌, None, true, length, IfErr, IfOk, slice_index_or, List};
-ghost use Rattle.std.specs.List.{All};
-ghost use Rattle.colbits.specs.Bit.{bit_in};
+ghost use Rattle.std.specs.Prelude.{◌≡◌, ◌<◌, ◌&&◌, None, true, length, IfErr, IfOk};
 ghost use Rattle.colbits.specs.Bitmap.{bit_of};
 ghost use Rattle.arrays.specs.Kind as kind;
-ghost use Rattle.arrays.specs.Item as item;
-ghost use Rattle.arrays.specs.Item.{Item};
-ghost use Rattle.arrays.specs.Seen.{valid_in};
 ghost use Rattle.select.specs.Big.{is_too_big};
 ghost use Rattle.select.specs.Chosen.{chosen};
-ghost use Rattle.select.specs.Fault.{IsSelectFault};
-ghost use Rattle.select.specs.Picked.{IsPick, picked};
-ghost use Rattle.select.specs.Selection.{filter_fault, is_true, kept};
+ghost use Rattle.select.specs.Fault.{IsFull, IsSelectFault};
+ghost use Rattle.select.specs.Masked.{AreTrue};
+ghost use Rattle.select.specs.Selection.{filter_fault, kept};
 
 use crate::fault::SelectFault;
 use crate::gather::gather;
-use crate::picks::Picks;
+use crate::trues::Trues;
 use arrays::{Array, View, ViewType};
-use colbits::{Bits, NoMemory};
+use colbits::{BitmapBuf, Bits, Places};
 use std::alloc::Global;
 
 /// The items where the mask is true; where it is false or null they are dropped. A dictionary-encoded view keeps
@@ -37,33 +32,72 @@ pub fn filter(alloc: Global, view: &View<'_>, mask: &View<'_>) -> Result<Array, 
     if mask.len() != view.len() {
         return Err(SelectFault::LengthsDiffer);
     }
-    gather(alloc, view, &trues_of(alloc, mask)?)
+    keep_true(alloc, view, mask)
 }
 
-/// The rows where a mask is true.
-fn trues_of(alloc: Global, mask: &View<'_>) -> Result<Picks, NoMemory>
-    requires { mask.now.kind ≡ kind.boolean }
-    ensures rows { IfOk result (λ p. (items : List Item) → length items ≡ length mask.now.items → picked items p ≡ kept items mask.now.items) }
-    ensures within { IfOk result (λ p. All (IsPick (length mask.now.items)) p) }
+/// The items where a mask of truth values, as long as the view, is true.
+fn keep_true(alloc: Global, view: &View<'_>, mask: &View<'_>) -> Result<Array, SelectFault>
+    requires kind { mask.now.kind ≡ kind.boolean }
+    requires lengths { length mask.now.items ≡ length view.now.items }
+    ensures ok { IfOk result (λ r. r ≡ chosen view.now.kind (λ items. kept items mask.now.items) view.now) }
+    ensures err { IfErr result (IsFull (is_too_big view.now.kind (kept view.now.items mask.now.items))) }
 {
     let bits = mask.bool_bits();
-    let validity = mask.validity();
-    let words = (mask.slots() as usize).div_ceil(64);
-    let mut picks = Picks::with_capacity(alloc, bits.count_ones())?;
-    for w in 0..words {
-        picks.push_ones(64 * w, true_word(&bits, &validity, 64 * w))?;
+    match mask.validity() {
+        None => keep_ones(alloc, view, mask, bits),
+        Some(valid) => {
+            let trues = BitmapBuf::from_places(alloc, &TrueSlots { bits, valid })?;
+            keep_ones(alloc, view, mask, trues.bits())
+        }
     }
-    Ok(picks)
 }
 
-/// Which of rows `i` to `i + 63` are true, the first of them least significant: null ones and those past the end are
-/// not.
-#[inline(always)]
-fn true_word(bits: &Bits<'_>, validity: &Option<Bits<'_>>, i: usize) -> u64
-    ensures { (j : ℕ) → j < 64 → bit_in result j ≡ (bit_of bits.now (i + j) && valid_in validity.now (i + j)) }
+/// The items whose bit is 1: the bits say where the mask is true.
+fn keep_ones(
+    alloc: Global,
+    view: &View<'_>,
+    mask: &View<'_>,
+    bits: Bits<'_>,
+) -> Result<Array, SelectFault>
+    requires lengths { length mask.now.items ≡ length view.now.items }
+    requires trues { AreTrue bits mask.now.items }
+    ensures ok { IfOk result (λ r. r ≡ chosen view.now.kind (λ items. kept items mask.now.items) view.now) }
+    ensures err { IfErr result (IsFull (is_too_big view.now.kind (kept view.now.items mask.now.items))) }
 {
-    match validity {
-        None => bits.word(i),
-        Some(valid) => bits.word(i) & valid.word(i),
+    // There are no more bits than an array may have slots.
+    let _slots = mask.slots();
+    gather(alloc, view, &Trues::of(bits))
+}
+
+/// Which slots of a mask are true: their bit is 1, and they are valid.
+#[derive(Drop)]
+struct TrueSlots<'a> {
+    bits: Bits<'a>,
+    valid: Bits<'a>,
+}
+
+impl<'a> Places for TrueSlots<'a> {
+    ghost at = { λ p i. bit_of p.bits i && bit_of p.valid i };
+
+    ghost count = { λ p. length p.bits };
+
+    fn len(&self) -> usize {
+        self.bits.len()
     }
+
+    fn at(&self, i: usize) -> bool {
+        self.bits.get(i) && is_one(&self.valid, i)
+    }
+
+    #[inline(always)]
+    fn word(&self, i: usize) -> u64 {
+        self.bits.whole_word(i) & self.valid.word(i)
+    }
+}
+
+/// Whether bit `i` is there and 1.
+fn is_one(bits: &Bits<'_>, i: usize) -> bool
+    ensures { result ≡ bit_of bits.now i }
+{
+    i < bits.len() && bits.get(i)
 }

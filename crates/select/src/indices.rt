@@ -1,108 +1,112 @@
-//! Rows that indices without a null name.
+//! Rows that indices name.
 
-ghost use Rattle.std.specs.Prelude.{◌≡◌, ◌*◌, ◌≤◌, None, Some, List, option_map, length, IfErr, IfNone, IfOk, IfSome};
+ghost use Rattle.std.specs.Prelude.{◌≡◌, ◌≤◌, List, drop, option_map, IfErr, IfNone, IfOk, IfSome, Some};
 ghost use Rattle.std.specs.List.{All};
 ghost use Rattle.arrays.specs.Dictionary.{is_code};
-ghost use Rattle.arrays.specs.Item as item;
 ghost use Rattle.arrays.specs.Item.{Item};
 ghost use Rattle.arrays.specs.Kind as kind;
-ghost use Rattle.arrays.specs.Kind.{bytes_of};
-ghost use Rattle.select.specs.Named.{AreNamed, IsLeastOutside, NameRows, rows_named};
+ghost use Rattle.arrays.specs.Slot.{item_of};
+ghost use Rattle.select.specs.Named.{IsLeastOutside, NameRows, rows_named};
 ghost use Rattle.select.specs.Picked.{IsPick, picked};
 ghost use Rattle.select.specs.Selection.{outside, taken};
 
 use crate::fault::SelectFault;
-use crate::rows::Rows;
+use crate::gather::Numbers;
+use crate::rows::{Place, Rows};
 use arrays::{Integer, View};
-use std::marker::{Model, PhantomData};
+use std::marker::Model;
 
-/// The rows that indices of type `T` name, none of which is null. Nothing is copied.
+/// The rows that indices of type `T` name, none where an index is null. Nothing is copied.
 #[derive(Drop)]
 pub(crate) struct Indices<'a, T: Integer> {
-    numbers: &'a [u8],
-    slots: u32,
-    of: PhantomData<T>,
+    numbers: Numbers<'a, T>,
 }
 
 impl<'a, T: Integer> Model for Indices<'a, T> {
     ghost use Rattle.std.specs.Prelude.{ℕ, List, Option};
-    ghost use Rattle.select.specs.Named.{AreNamed, rows_named};
+    ghost use Rattle.select.specs.Named.{NameRows, rows_named};
 
     ghost Value = { List (Option ℕ) };
 
-    ghost view = { λ r. rows_named T.ty r.numbers.now r.slots };
+    ghost view = { λ r. rows_named T.ty r.numbers.values.now r.numbers.validity r.numbers.slots };
 
-    ghost invariant = { λ r. AreNamed T.ty r.numbers.now r.slots };
+    ghost invariant = { λ r. NameRows T.ty r.numbers.values.now r.numbers.validity 2147483647 r.numbers.slots };
 }
 
 impl<'a, T: Integer> Indices<'a, T> {
-    /// Those of a view, each of which names one of `len` rows.
+    /// Those of a view, each of which is null or names one of `len` rows.
     pub(crate) fn of(indices: &View<'a>, len: usize) -> Result<Indices<'a, T>, SelectFault>
         requires kind { indices.now.kind ≡ kind.int T.ty }
-        requires valid { indices.now.validity ≡ None }
         requires short { len ≤ 2147483647 }
         ensures inside { IfOk result (λ r. outside len indices.now.items ≡ None) }
         ensures rows { IfOk result (λ r. (items : List Item) → picked items r ≡ taken items indices.now.items) }
         ensures within { IfOk result (λ r. All (IsPick len) r) }
         ensures err { IfErr result (λ e. option_map (λ row. SelectFault.IndexOutOfRange row) (outside len indices.now.items) ≡ Some e) }
     {
-        let numbers = indices.numbers(T::ty());
-        let slots = indices.slots();
-        match first_outside::<T>(numbers, slots, len) {
+        let numbers = Numbers::<T>::of(indices);
+        match first_outside(&numbers, len) {
             Some(row) => Err(SelectFault::IndexOutOfRange { row }),
-            None => Ok(Indices::new(numbers, slots)),
+            None => Ok(Indices::new(numbers)),
         }
     }
 
     /// The rows that numbers name.
-    fn new(numbers: &'a [u8], slots: u32) -> Indices<'a, T>
-        requires { AreNamed T.ty numbers.now slots }
-        ensures { result ≡ rows_named T.ty numbers.now slots }
+    fn new(numbers: Numbers<'a, T>) -> Indices<'a, T>
+        requires { NameRows T.ty numbers.values.now numbers.validity 2147483647 numbers.slots }
+        ensures { result ≡ rows_named T.ty numbers.entry.values.now numbers.entry.validity numbers.entry.slots }
     {
-        Indices {
-            numbers,
-            slots,
-            of: PhantomData,
-        }
+        Indices { numbers }
     }
 }
 
-/// The least of so many numbers that names none of `len` rows.
-fn first_outside<T: Integer>(numbers: &[u8], slots: u32, len: usize) -> Option<usize>
-    requires { slots * bytes_of T.ty.bits ≤ length numbers.now }
-    ensures some { IfSome result (IsLeastOutside T.ty numbers.now len slots) }
-    ensures none { IfNone result (NameRows T.ty numbers.now len slots) }
+/// The least of the numbers that is there and names none of `len` rows.
+fn first_outside<T: Integer>(numbers: &Numbers<'_, T>, len: usize) -> Option<usize>
+    ensures some { IfSome result (IsLeastOutside T.ty numbers.now.values.now numbers.now.validity len numbers.now.slots) }
+    ensures none { IfNone result (NameRows T.ty numbers.now.values.now numbers.now.validity len numbers.now.slots) }
 {
-    for i in 0..slots as usize {
-        if !names_row(T::at(numbers, i), len) {
+    for i in 0..numbers.slots as usize {
+        if !names_row(numbers.at(Some(i)), len) {
             return Some(i);
         }
     }
     None
 }
 
-/// Whether the index names one of `len` rows.
+/// Whether the index is null or names one of `len` rows.
 #[inline(always)]
-fn names_row(index: i128, len: usize) -> bool
-    ensures { result ≡ is_code len (item.int index) }
+fn names_row(index: Option<i128>, len: usize) -> bool
+    ensures { result ≡ is_code len (item_of index) }
 {
-    0 <= index && index < len as i128
+    match index {
+        Some(row) => 0 <= row && row < len as i128,
+        None => true,
+    }
 }
 
 impl<'a, T: Integer> Rows for Indices<'a, T> {
     ghost picks = { λ r. r };
 
+    ghost rest = { λ r p. drop p.at r };
+
     fn slots(&self) -> u32 {
-        self.slots
+        self.numbers.slots
     }
 
     fn are_rows(&self) -> bool {
-        let _slots = self.slots;
-        true
+        self.numbers.validity.is_none()
+    }
+
+    fn first(&self) -> Place {
+        Place { at: 0, ones: 0 }
     }
 
     #[inline(always)]
-    fn row(&self, j: usize) -> Option<usize> {
-        Some(T::at(self.numbers, j) as usize)
+    fn next(&self, place: &mut Place) -> Option<usize> {
+        let index = self.numbers.at(Some(place.at as usize));
+        place.at += 1;
+        match index {
+            Some(row) => Some(row as usize),
+            None => None,
+        }
     }
 }

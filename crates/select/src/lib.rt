@@ -10,6 +10,7 @@ mod joining;
 mod picks;
 mod rows;
 pub mod taking;
+mod trues;
 
 pub use copying::copy;
 pub use fault::SelectFault;

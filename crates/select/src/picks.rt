@@ -1,13 +1,12 @@
-//! Rows that are picked, one for each slot of a result.
+//! A list of rows: those of a child that lists hold.
 
-ghost use Rattle.std.specs.Prelude.{◌≡◌, ℕ, ◌+◌, ◌<◌, ◌≤◌, [], ◌∷◌, ◌++◌, None, Some, map, length, slice_get, slice_index_or, true, IsTrue, IfErr, IfOk, IfSome, OnErr, OnOk};
+ghost use Rattle.std.specs.Prelude.{◌≡◌, ℕ, ◌+◌, ◌<◌, ◌≤◌, [], ◌∷◌, ◌++◌, None, Some, drop, map, length, slice_get, true, IfErr, IfSome, OnErr, OnOk};
 ghost use Rattle.std.specs.List.{range_with_len};
-ghost use Rattle.colbits.specs.Bit.{bit_in};
 ghost use Rattle.arrays.specs.Lengths.{is_past};
 ghost use Rattle.select.specs.Fault.{IsFull};
-ghost use Rattle.select.specs.Picked.{rows_in};
 
 use crate::fault::SelectFault;
+use crate::rows::{Place, Rows};
 use colbits::NoMemory;
 use std::alloc::Global;
 use std::marker::Model;
@@ -36,28 +35,17 @@ impl Model for Picks {
 }
 
 impl Picks {
-    /// No slots, with room for so many.
-    pub(crate) fn with_capacity(alloc: Global, slots: usize) -> Result<Picks, NoMemory>
-        ensures { IfOk result (λ p. p ≡ []) }
+    /// No slots.
+    pub(crate) fn new(alloc: Global) -> Picks
+        ensures { result ≡ [] }
     {
-        Ok(Picks {
-            rows: Vec::with_capacity(alloc, slots)?,
-        })
-    }
-
-    /// The first so many rows, each once.
-    pub(crate) fn all(alloc: Global, rows: u32) -> Result<Picks, SelectFault>
-        requires { rows ≤ 2147483647 }
-        ensures ok { IfOk result (λ p. p ≡ map (λ i. Some i) (range_with_len 0 rows)) }
-        ensures err { IfErr result (λ e. e ≡ SelectFault.NoMemory) }
-    {
-        let mut picks = Picks::with_capacity(alloc, rows as usize)?;
-        picks.push_run(0, rows as usize)?;
-        Ok(picks)
+        Picks {
+            rows: Vec::new(alloc),
+        }
     }
 
     /// How many slots there are.
-    pub(crate) fn len(&self) -> usize
+    fn len(&self) -> usize
         ensures count { result ≡ length self.now }
         ensures short { result ≤ 2147483647 }
     {
@@ -66,9 +54,10 @@ impl Picks {
 
     /// The row of slot `j`, or none.
     #[inline(always)]
-    pub(crate) fn get(&self, j: usize) -> Option<usize>
+    fn get(&self, j: usize) -> Option<usize>
         requires { j < length self.now }
-        ensures { slice_get self.now j ≡ Some result }
+        ensures row { slice_get self.now j ≡ Some result }
+        ensures short { j < 2147483647 }
     {
         let row = self.rows[j];
         if row == NONE {
@@ -80,7 +69,7 @@ impl Picks {
 
     /// Adds a slot at the end.
     #[inline(always)]
-    pub(crate) fn push(&mut self, pick: Option<usize>) -> Result<(), NoMemory>
+    fn push(&mut self, pick: Option<usize>) -> Result<(), NoMemory>
         requires room { length self.old < 2147483647 }
         requires small { IfSome pick (λ i. i < 2147483647) }
         ensures ok { OnOk result (self.new ≡ self.old ++ pick ∷ []) }
@@ -108,23 +97,35 @@ impl Picks {
         }
         Ok(())
     }
+}
 
-    /// Adds a slot for each of 64 neighbouring rows whose bit of the word is 1, the first row's the least significant.
-    #[inline(always)]
-    pub(crate) fn push_ones(&mut self, start: usize, word: u64) -> Result<(), NoMemory>
-        requires room { length self.old ≤ start }
-        requires small { (j : ℕ) → j < 64 → bit_in word j ≡ true → start + j < 2147483647 }
-        ensures { OnOk result (self.new ≡ self.old ++ rows_in start word 64) }
-    {
-        let mut rest = word;
-        for _done in 0..u64::BITS {
-            if rest == 0 {
-                return Ok(());
+impl Rows for Picks {
+    ghost picks = { λ p. p };
+
+    ghost rest = { λ p place. drop place.at p };
+
+    fn slots(&self) -> u32 {
+        let len = self.len();
+        len as u32
+    }
+
+    fn are_rows(&self) -> bool {
+        for j in 0..self.len() {
+            if self.get(j).is_none() {
+                return false;
             }
-            let j = rest.trailing_zeros();
-            self.push(Some(start + j as usize))?;
-            rest &= !(1 << j);
         }
-        Ok(())
+        true
+    }
+
+    fn first(&self) -> Place {
+        Place { at: 0, ones: 0 }
+    }
+
+    #[inline(always)]
+    fn next(&self, place: &mut Place) -> Option<usize> {
+        let row = self.get(place.at as usize);
+        place.at += 1;
+        row
     }
 }

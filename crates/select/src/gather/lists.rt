@@ -10,6 +10,7 @@ ghost use Rattle.select.specs.Ranges.{IsRange, ranged, rows_of};
 
 use crate::fault::SelectFault;
 use crate::picks::Picks;
+use crate::rows::Rows;
 use arrays::validity::is_valid;
 use arrays::{ListBuilder, Lists, View};
 use colbits::Bits;
@@ -23,28 +24,30 @@ pub(crate) struct Spread {
 }
 
 /// The picked rows of a view of lists.
-pub(crate) fn spread_out(
+pub(crate) fn spread_out<R: Rows>(
     alloc: Global,
     view: &View<'_>,
     lists: &Lists<'_>,
-    picks: &Picks,
+    rows: &R,
 ) -> Result<Spread, SelectFault>
     requires lists { HasLists lists.now.offsets.now lists.now.child view.now }
     requires slots { lists.now.slots ≡ length view.now.items }
-    requires within { All (IsPick (length view.now.items)) picks.now }
-    ensures lengths { IfOk result (λ s. s.lengths ≡ map list_length (picked view.now.items picks.now)) }
-    ensures rows { IfOk result (λ s. picked lists.now.child.items s.rows ≡ inner_items (picked view.now.items picks.now)) }
+    requires within { All (IsPick (length view.now.items)) (R.picks rows.now) }
+    ensures lengths { IfOk result (λ s. s.lengths ≡ map list_length (picked view.now.items (R.picks rows.now))) }
+    ensures rows { IfOk result (λ s. picked lists.now.child.items s.rows ≡ inner_items (picked view.now.items (R.picks rows.now))) }
     ensures within { IfOk result (λ s. All (IsPick (length lists.now.child.items)) s.rows) }
-    ensures err { IfErr result (IsFull (is_past (length (inner_items (picked view.now.items picks.now))))) }
+    ensures err { IfErr result (IsFull (is_past (length (inner_items (picked view.now.items (R.picks rows.now)))))) }
 {
+    let count = rows.slots() as usize;
     let mut spread = Spread {
-        lengths: ListBuilder::with_capacity(alloc, picks.len())?,
-        rows: Picks::with_capacity(alloc, 0)?,
+        lengths: ListBuilder::with_capacity(alloc, count)?,
+        rows: Picks::new(alloc),
     };
     let validity = view.validity();
-    for j in 0..picks.len() {
-        let range = range_at(view, lists, &validity, picks.get(j));
-        spread.push(range)?;
+    let mut place = rows.first();
+    for _slot in 0..count {
+        let row = rows.next(&mut place);
+        spread.push(range_at(view, lists, &validity, row))?;
     }
     Ok(spread)
 }

@@ -11,16 +11,16 @@ ghost use Rattle.arrays.specs.Values.{HasNumbers};
 ghost use Rattle.select.specs.Picked.{IsPick, picked};
 ghost use Rattle.select.specs.Stored.{AreStored, stored};
 
-use super::valid::picked_validity;
+use super::bits::picked_validity;
 use crate::rows::Rows;
-use arrays::validity::{buffer_of, is_valid};
+use arrays::validity::is_valid;
 use arrays::{Array, IntType, Integer, View, Width};
 use colbits::{Bits, Buffer, NoMemory};
 use std::alloc::Global;
 use std::marker::PhantomData;
 
 /// The picked rows of a view of integers.
-pub(crate) fn gather_numbers<R: Rows>(
+pub(super) fn gather_numbers<R: Rows>(
     alloc: Global,
     ty: IntType,
     view: &View<'_>,
@@ -55,7 +55,7 @@ pub(super) fn gather<T: Integer, R: Rows>(
     let numbers = Numbers::<T>::of(view);
     let validity = picked_validity(alloc, &numbers.validity, rows)?;
     let values = Buffer::from_vec(picked_numbers(alloc, &numbers, rows)?)?;
-    Array::from_numbers(alloc, T::ty(), rows.slots(), buffer_of(validity), values)
+    Array::from_numbers(alloc, T::ty(), rows.slots(), validity, values)
 }
 
 /// The numbers that lie in the picked rows, one behind the other: any number where a slot isn't valid or no row is
@@ -72,8 +72,9 @@ fn picked_numbers<T: Integer, R: Rows>(
 
     // A buffer is padded by at most 63 bytes, so that the numbers aren't copied again.
     let mut values = Vec::with_capacity(alloc, count * T::ty().bits.bytes() + 63)?;
-    for j in 0..count {
-        T::push(&mut values, numbers.under(rows.row(j)))?;
+    let mut place = rows.first();
+    for _slot in 0..count {
+        T::push(&mut values, numbers.under(rows.next(&mut place)))?;
     }
     Ok(values)
 }
@@ -82,10 +83,11 @@ fn picked_numbers<T: Integer, R: Rows>(
 #[derive(Drop)]
 pub(crate) struct Numbers<'a, T: Integer> {
     values: &'a [u8],
-    validity: Option<Bits<'a>>,
-    slots: u32,
+    pub(crate) validity: Option<Bits<'a>>,
+    pub(crate) slots: u32,
     of: PhantomData<T>,
     ghost whole: { slots * bytes_of T.ty.bits ≤ length values.now },
+    ghost short: { slots ≤ 2147483647 },
 }
 
 impl<'a, T: Integer> Numbers<'a, T> {

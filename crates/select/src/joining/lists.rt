@@ -1,6 +1,6 @@
 //! Lists one after the other: how long they are, and the rows of the children that they hold.
 
-ghost use Rattle.std.specs.Prelude.{◌≡◌, ◌+◌, ◌++◌, ◌<◌, ◌≤◌, IfErr, IfOk, OnOk, Some, length, map, option_map, slice_index_or, true};
+ghost use Rattle.std.specs.Prelude.{◌≡◌, ◌+◌, ◌++◌, ◌<◌, ◌≤◌, IfErr, IfOk, OnOk, Some, length, map, slice_index_or, true};
 ghost use Rattle.std.specs.List.{All};
 ghost use Rattle.arrays.specs.Kind as kind;
 ghost use Rattle.arrays.specs.Kind.{kind_of};
@@ -15,8 +15,8 @@ ghost use Rattle.select.specs.Fault.{IsFull};
 ghost use Rattle.select.specs.Joined.{joined_items};
 
 use crate::fault::SelectFault;
-use crate::gather::{gather, spread_out};
-use crate::picks::Picks;
+use crate::gather::{gather_picks, spread_out};
+use crate::rows::FirstRows;
 use arrays::{Array, Field, ListBuilder, View};
 use colbits::NoMemory;
 use std::alloc::Global;
@@ -89,9 +89,9 @@ fn child_of(alloc: Global, view: &View<'_>) -> Result<Array, SelectFault>
     ensures err { IfErr result (IsFull (is_too_big view.now.kind view.now.items)) }
 {
     let lists = view.lists();
-    let all = Picks::all(alloc, view.slots())?;
+    let all = FirstRows::new(view.slots());
     let spread = spread_out(alloc, view, &lists, &all)?;
-    gather(alloc, &lists.child, &spread.rows)
+    gather_picks(alloc, &lists.child, &spread.rows)
 }
 
 /// Views of all slots of arrays.

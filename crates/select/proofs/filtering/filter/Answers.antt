@@ -1,7 +1,5 @@
-use Rattle.std.proofs.Common.{◌≡◌, ◌∙◌, inl, inr, length, ap, arith, sym}
-use Rattle.std.proofs.lemmas.Result.{IfErr-weaker}
-use Rattle.select.specs.Big.{is_too_big}
-use Rattle.select.proofs.ChosenLemmas.{chosen-kept}
+use Rattle.std.proofs.Common.{◌≡◌, inl, inr, length, arith, sym}
+use Rattle.std.proofs.lemmas.Result.{IfErr-weaker, IfOk-weaker}
 use Rattle.select.proofs.SelectionLemmas.{filter_fault-none}
 use Rattle.select.proofs.filtering.filter.Goals as goal
 
@@ -11,7 +9,7 @@ returns-clause-ok c =
     let mask = c.args.mask.now in
     let same : length mask.items ≡ length s.items = omega (arith, c.len.ensures, c.len-2.ensures, c.if-len.false) in
     let none = filter_fault-none s mask (sym c.in-Bool.ensures) same in
-    chosen-kept s mask c.in_ok-trues_of.field-0 c.gather-2.result none same c.in_ok-trues_of.ensures.rows c.gather-2.ensures.ok c.gather-2.ensures.codes
+    IfOk-weaker c.keep_true.result _ _ (λ r is. (none, is)) c.keep_true.ensures.ok
 
 pub returns-clause-err : goal.returns-clause-err
 returns-clause-err c =
@@ -19,9 +17,4 @@ returns-clause-err c =
     let mask = c.args.mask.now in
     let same : length mask.items ≡ length s.items = omega (arith, c.len.ensures, c.len-2.ensures, c.if-len.false) in
     let none = filter_fault-none s mask (sym c.in-Bool.ensures) same in
-    IfErr-weaker c.gather-2.result _ _
-    (λ e told. elim told [
-      | inl h ↦ inr (inr (h.0, (none, ap (is_too_big s.kind) (sym (c.in_ok-trues_of.ensures.rows s.items (sym same))) ∙ h.1)))
-      | inr h ↦ inr (inl (h, none))
-    ])
-    c.gather-2.ensures.err
+    IfErr-weaker c.keep_true.result _ _ (λ e told. elim told [ inl h ↦ inr (inr (h.0, (none, h.1))) | inr h ↦ inr (inl (h, none)) ]) c.keep_true.ensures.err

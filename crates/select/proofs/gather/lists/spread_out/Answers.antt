@@ -1,13 +1,35 @@
+use Rattle.std.proofs.Common.{arith, length}
+use Rattle.select.specs.Picked.{IsPick}
 use Rattle.select.proofs.ListLemmas.{Spreading-more, full_of_all, past-spread}
+use Rattle.select.proofs.PickLemmas.{all-at}
+use Rattle.select.proofs.RestLemmas.{is_next, some_left}
 use Rattle.select.proofs.gather.lists.spread_out.Goals as goal
 
-pub returns-in_err-push-clause-err : goal.returns-in_err-push-clause-err
-returns-in_err-push-clause-err c =
-    full_of_all c.from_residual-in_err-push.result c.in_err-push.field-0.0 _ _ c.from_residual-in_err-push.ensures.1 c.in_err-push.ensures.err
-    (past-spread c.args.lists.now.child.items c.args.view.now.items c.args.picks.now c.loop-j.j c.get.result c.range_at-range.result c.loop-j.spread.lengths c.loop-j.spread.rows
-    c.loop-j.invariant c.get.ensures c.range_at-range.ensures.item c.range_at-range.ensures.within)
+pub next-row-requires : goal.next-row-requires
+next-row-requires g c =
+    some_left _ (g.R.Rows.picks c.args.rows.now) c.loop-slot._slot c.loop-slot.invariant.told (omega (arith, c.slots-count.ensures.count, c.loop-slot-test.true))
 
-pub loop-j-preserved : goal.loop-j-preserved
-loop-j-preserved c =
-    Spreading-more c.args.lists.now.child.items c.args.view.now.items c.args.picks.now c.loop-j.j c.get.result c.range_at-range.result c.loop-j.spread.lengths c.push.new.self.lengths c.loop-j.spread.rows c.push.new.self.rows
-    c.loop-j.invariant c.get.ensures c.range_at-range.ensures.item c.range_at-range.ensures.within c.in_ok-push.ensures.lengths c.in_ok-push.ensures.rows
+pub range_at-requires-clause-pick : goal.range_at-requires-clause-pick
+range_at-requires-clause-pick g c =
+    let picks = g.R.Rows.picks c.args.rows.now in
+    let next = is_next picks c.loop-slot._slot c.next-row.result _ _ c.loop-slot.invariant.told c.next-row.ensures in
+    all-at (IsPick (length c.args.view.now.items)) picks c.loop-slot._slot c.next-row.result c.requires.within next.here
+
+pub returns-in_err-push-clause-err : goal.returns-in_err-push-clause-err
+returns-in_err-push-clause-err g c =
+    let picks = g.R.Rows.picks c.args.rows.now in
+    let next = is_next picks c.loop-slot._slot c.next-row.result _ _ c.loop-slot.invariant.told c.next-row.ensures in
+    full_of_all c.from_residual-in_err-push.result c.in_err-push.field-0.0 _ _ c.from_residual-in_err-push.ensures.1 c.in_err-push.ensures.err
+    (past-spread c.args.lists.now.child.items c.args.view.now.items picks c.loop-slot._slot c.next-row.result c.range_at.result c.loop-slot.spread.lengths c.loop-slot.spread.rows
+    c.loop-slot.invariant.spread next.here c.range_at.ensures.item c.range_at.ensures.within)
+
+pub loop-slot-preserved : goal.loop-slot-preserved
+loop-slot-preserved g c =
+    let picks = g.R.Rows.picks c.args.rows.now in
+    let next = is_next picks c.loop-slot._slot c.next-row.result _ _ c.loop-slot.invariant.told c.next-row.ensures in
+    record {
+      told = next.rest;
+      spread =
+          Spreading-more c.args.lists.now.child.items c.args.view.now.items picks c.loop-slot._slot c.next-row.result c.range_at.result c.loop-slot.spread.lengths c.push.new.self.lengths c.loop-slot.spread.rows c.push.new.self.rows
+          c.loop-slot.invariant.spread next.here c.range_at.ensures.item c.range_at.ensures.within c.in_ok-push.ensures.lengths c.in_ok-push.ensures.rows;
+    }

@@ -1,5 +1,9 @@
+use Rattle.std.proofs.Common.{◌≡◌, drop}
 use Rattle.select.proofs.ListLemmas.{Spreading}
 use Rattle.select.proofs.gather.lists.spread_out.Given as goal
 
-abbrev pub invariant-loop-j : goal.invariant-loop-j
-invariant-loop-j l = Spreading l.lists.child.items l.view.items l.picks l.j l.spread.lengths l.spread.rows
+abbrev pub invariant-loop-slot : goal.invariant-loop-slot
+invariant-loop-slot g l = record {
+  told : g.R.Rows.rest l.rows l.place ≡ drop l._slot (g.R.Rows.picks l.rows);
+  spread : Spreading l.lists.child.items l.view.items (g.R.Rows.picks l.rows) l._slot l.spread.lengths l.spread.rows;
+}

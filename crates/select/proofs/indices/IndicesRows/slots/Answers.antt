@@ -4,5 +4,5 @@ use Rattle.select.proofs.indices.IndicesRows.slots.Goals as goal
 
 pub returns-clause-count : goal.returns-clause-count
 returns-clause-count g c =
-    let r = c.self.inside in
-    sym (ap length (sym c.self.view_is) ∙ length-rows_named g.T.Integer.ty r.numbers.now r.slots)
+    let r = c.self.inside.numbers in
+    sym (ap length (sym c.self.view_is) ∙ length-rows_named g.T.Integer.ty r.values.now r.validity r.slots)

@@ -1,11 +1,11 @@
-use Rattle.std.proofs.Common.{◌≡◌, ◌∙◌, ◌||◌, List, ap, length, map, sym, true}
+use Rattle.std.proofs.Common.{◌≡◌, ◌∙◌, ◌||◌, List, ap, length, map, refl, sym, true}
 use Rattle.std.proofs.lemmas.Result.{IfOk-weaker}
 use Rattle.arrays.specs.Kind as kind
 use Rattle.arrays.specs.Lengths.{inner_items, is_past}
 use Rattle.arrays.specs.Seen.{Seen}
 use Rattle.select.specs.Big.{is_too_big}
 use Rattle.select.specs.Children.{IsInner}
-use Rattle.select.specs.Picked.{picked}
+use Rattle.select.specs.Picked.{first_rows, picked}
 use Rattle.select.proofs.ChosenLemmas.{items-chosen, kind-chosen}
 use Rattle.select.proofs.JoinLemmas.{full-more, or-left, or-right}
 use Rattle.select.proofs.ListLemmas.{all-lists, each-within, full_of_all, picked-each}
@@ -13,14 +13,14 @@ use Rattle.select.proofs.joining.lists.child_of.Goals as goal
 
 pub spread_out-requires-clause-within : goal.spread_out-requires-clause-within
 spread_out-requires-clause-within c =
-    each-within c.args.view.now.items c.in_ok-all.all c.slots.result c.in_ok-all.ensures.ok c.slots.ensures.count
+    each-within c.args.view.now.items (first_rows c.new-all.result.count) c.new-all.result.count refl (c.new-all.ensures ∙ c.slots.ensures.count)
 
 pub returns-in_err-spread-clause-err : goal.returns-in_err-spread-clause-err
 returns-in_err-spread-clause-err c =
     let s = c.args.view.now in
     let child = c.lists-lists.result.child in
-    let all = picked-each s.items c.in_ok-all.all c.slots.result c.in_ok-all.ensures.ok c.slots.ensures.count in
-    full_of_all c.from_residual-in_err-spread.result c.in_err-spread.field-0.0 _ _ c.from_residual-in_err-spread.ensures.1 c.in_err-spread.ensures.err
+    let all = picked-each s.items (first_rows c.new-all.result.count) c.new-all.result.count refl (c.new-all.ensures ∙ c.slots.ensures.count) in
+    full_of_all c.from_residual.result c.in_err-spread.field-0.0 _ _ c.from_residual.ensures.1 c.in_err-spread.ensures.err
     (λ past.
     ap (λ k. is_too_big k s.items) c.lists-lists.ensures.value.kind
     ∙ or-left (is_past (length (inner_items s.items))) (is_too_big child.kind (inner_items s.items)) (ap (λ l. is_past (length (inner_items l))) (sym all) ∙ past))
@@ -31,9 +31,9 @@ returns-clause-ok c =
     let lists = c.lists-lists.result in
     let child = lists.child in
     let rows = c.in_ok-spread.spread.rows in
-    let all = picked-each s.items c.in_ok-all.all c.slots.result c.in_ok-all.ensures.ok c.slots.ensures.count in
+    let all = picked-each s.items (first_rows c.new-all.result.count) c.new-all.result.count refl (c.new-all.ensures ∙ c.slots.ensures.count) in
     let kept : IsInner child.kind = record { no_dict = c.lists-lists.ensures.no_dict; shallow = c.lists-lists.ensures.depth } in
-    IfOk-weaker c.gather.result _ _
+    IfOk-weaker c.gather_picks.result _ _
     (λ r is.
     let same = ap (λ (q : Seen). q.kind) is ∙ kind-chosen child.kind (λ items. picked items rows) child in
     record {
@@ -42,16 +42,16 @@ returns-clause-ok c =
       lists = all-lists lists.offsets.now child s c.lists-lists.ensures.value;
       inner = Rattle.std.proofs.Common.subst IsInner (sym same) kept;
     })
-    c.gather.ensures.ok
+    c.gather_picks.ensures.ok
 
 pub returns-clause-err : goal.returns-clause-err
 returns-clause-err c =
     let s = c.args.view.now in
     let child = c.lists-lists.result.child in
-    let all = picked-each s.items c.in_ok-all.all c.slots.result c.in_ok-all.ensures.ok c.slots.ensures.count in
-    full-more c.gather.result _ (is_too_big s.kind s.items)
+    let all = picked-each s.items (first_rows c.new-all.result.count) c.new-all.result.count refl (c.new-all.ensures ∙ c.slots.ensures.count) in
+    full-more c.gather_picks.result _ (is_too_big s.kind s.items)
     (λ big.
     ap (λ k. is_too_big k s.items) c.lists-lists.ensures.value.kind
     ∙ or-right (is_past (length (inner_items s.items))) (is_too_big child.kind (inner_items s.items))
     (ap (is_too_big child.kind) (sym (c.in_ok-spread.ensures.rows ∙ ap inner_items all)) ∙ big))
-    c.gather.ensures.err
+    c.gather_picks.ensures.err

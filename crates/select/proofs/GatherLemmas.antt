@@ -1,0 +1,36 @@
+-- Lists and their items, gathered.
+use Rattle.std.proofs.Common.{◌≡◌, ◌∙◌, ℕ, List, length, map, Option, ap, sym}
+use Rattle.std.specs.Prelude.{All}
+use Rattle.arrays.specs.Item.{Item}
+use Rattle.arrays.specs.Kind as kind
+use Rattle.arrays.specs.Lengths.{cut, inner_items, list_length, total}
+use Rattle.arrays.specs.Seen.{Seen}
+use Rattle.arrays.specs.Shown.{shown}
+use Rattle.arrays.specs.Values.{HasLists}
+use Rattle.select.specs.Chosen.{chosen}
+use Rattle.select.specs.Picked.{picked, IsPick}
+use Rattle.select.proofs.ChosenLemmas.{items-chosen, kind-chosen}
+use Rattle.select.proofs.ListLemmas.{cut-again, lists-picked, total-lengths}
+
+pub total_finished : (child made : Seen) (items : List Item) (rows lengths : List (Option ℕ)) → lengths ≡ map list_length items → picked child.items rows ≡ inner_items items
+    → made ≡ chosen child.kind (λ xs. picked xs rows) child → total lengths ≡ length made.items
+total_finished child made items rows lengths lengths_are rows_are is =
+    ap total lengths_are
+    ∙ total-lengths items
+    ∙ ap (λ (l : List Item). length l) (sym rows_are)
+    ∙ ap (λ (l : List Item). length l) (sym (ap (λ (s : Seen). s.items) is ∙ items-chosen child.kind (λ xs. picked xs rows) child))
+
+pub kind_finished : (child made : Seen) (rows : List (Option ℕ)) → made ≡ chosen child.kind (λ xs. picked xs rows) child → made.kind ≡ child.kind
+kind_finished child made rows is = ap (λ (s : Seen). s.kind) is ∙ kind-chosen child.kind (λ xs. picked xs rows) child
+
+pub lists_finished : (offsets : List ℕ) (s child made : Seen) (picks rows lengths : List (Option ℕ)) → HasLists offsets child s → All (IsPick (length s.items)) picks
+    → lengths ≡ map list_length (picked s.items picks) → picked child.items rows ≡ inner_items (picked s.items picks) → made ≡ chosen child.kind (λ xs. picked xs rows) child
+    → shown (kind.list made.kind) (cut lengths made.items) ≡ chosen s.kind (λ xs. picked xs picks) s
+lists_finished offsets s child made picks rows lengths has within lengths_are rows_are is =
+    let items = picked s.items picks in
+    let held : made.items ≡ inner_items items = ap (λ (s : Seen). s.items) is ∙ items-chosen child.kind (λ xs. picked xs rows) child ∙ rows_are in
+    ap (λ k. shown (kind.list k) (cut lengths made.items)) (kind_finished child made rows is)
+    ∙ ap (λ l. shown (kind.list child.kind) (cut l made.items)) lengths_are
+    ∙ ap (λ l. shown (kind.list child.kind) (cut (map list_length items) l)) held
+    ∙ ap (shown (kind.list child.kind)) (cut-again items (lists-picked offsets child s picks has within))
+    ∙ ap (λ k. chosen k (λ xs. picked xs picks) s) (sym has.kind)

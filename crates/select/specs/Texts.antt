@@ -1,0 +1,27 @@
+-- Texts one after the other.
+use Rattle.std.specs.Prelude.{◌≡◌, ℕ, List, [], Bool, length, map, flat_map, not, Option, Some, None}
+use Rattle.arrays.specs.Growing.{AreFresh, lengths_where}
+use Rattle.arrays.specs.Item.{Item, is_null, text}
+
+-- Whether a slot holds an item.
+abbrev pub is_held : Item → Bool
+is_held x = not (is_null x)
+
+-- How long a text is, none of what is no text.
+abbrev pub text_size : Item → Option ℕ
+text_size (text t) = Some (length t)
+text_size x = None
+
+-- The bytes of a text, none of what is no text.
+abbrev pub bytes_in : Item → List ℕ
+bytes_in (text t) = t
+bytes_in x = []
+
+-- The bytes of all texts.
+abbrev pub all_bytes : List Item → List ℕ
+all_bytes items = flat_map bytes_in items
+
+-- The offsets are those of the texts, the last of them is `end`, and a null is empty.
+pub record AreOffsetsOf (items : List Item) (offsets : List ℕ) (end : ℕ) : Type 0 where
+  pub fresh : AreFresh (map is_held items) offsets end
+  pub sizes : lengths_where (map is_held items) offsets ≡ map text_size items
