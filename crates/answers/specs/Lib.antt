@@ -1,4 +1,7 @@
 -- What the contracts of this crate speak of.
 pub mod Same
 pub mod Groups
+pub mod Values
+pub mod Totals
+pub mod Tallies
 pub mod Answers

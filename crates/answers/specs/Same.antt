@@ -1,19 +1,16 @@
 -- When two keys are one, and lists in which each comes once.
 use Rattle.std.specs.Prelude.{Bool, true, false, not, ◌&&◌, List, [], ◌∷◌, filter}
+use Rattle.std.specs.Bool.{beq}
 use Rattle.std.specs.Ordering.{int_eq}
 use Rattle.std.specs.Str.{bytes_eq}
 use Rattle.arrays.specs.Item.{Item, Items, null, int, boolean, text, list, none, more}
-
-abbrev pub same_bool : Bool → Bool → Bool
-same_bool true b = b
-same_bool false b = not b
 
 -- Whether two items are the same: null is the same as null.
 abbrev mutual
   pub same_item : Item → Item → Bool
   same_item null null = true
   same_item (int x) (int y) = int_eq x y
-  same_item (boolean x) (boolean y) = same_bool x y
+  same_item (boolean x) (boolean y) = beq x y
   same_item (text s) (text t) = bytes_eq s t
   same_item (list xs) (list ys) = same_items xs ys
   same_item x y = false

@@ -1,8 +1,12 @@
 //! Answers of queries over record batches: which rows, by which keys, and what of each group of them.
 #![tactic(auto)]
 
+mod best;
 pub mod gate;
 pub mod groups;
+mod tally;
+mod total;
+mod value;
 
 pub use gate::{Gate, OpenGate};
 pub use groups::{Answer, Group};

@@ -1,0 +1,4 @@
+-- What the proofs of this crate share.
+pub mod SameLemmas
+pub mod FirstsLemmas
+pub mod RowLemmas

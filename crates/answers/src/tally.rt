@@ -1,0 +1,102 @@
+//! What is known of the rows of a group, while they come.
+
+ghost use Rattle.std.specs.Prelude.{◌≡◌, ◌^◌, ◌<◌, [], None, OnOk};
+ghost use Rattle.arrays.specs.Batch.{row_of};
+ghost use Rattle.query.specs.Columns.{sort_at};
+ghost use Rattle.query.specs.Fault.{agg_fault};
+ghost use Rattle.answers.specs.Answers.{item_in};
+ghost use Rattle.answers.specs.Tallies.{added, show, tally_of, told};
+
+use crate::best::{is_before, is_behind, owned};
+use crate::total::Total;
+use crate::value::{Value, holds_at, value_at};
+use arrays::RecordBatch;
+use colbits::NoMemory;
+use group::Scalar;
+use query::Agg;
+use std::alloc::Global;
+
+/// What is known of the rows so far, as far as the aggregate asks for it.
+#[derive(Drop)]
+pub(crate) struct Tally {
+    pub(crate) agg: Agg<u32>,
+    pub(crate) total: Total,
+    /// The least or the greatest item so far.
+    pub(crate) best: Option<Scalar>,
+}
+
+impl Tally {
+    /// That of no rows.
+    pub(crate) fn new(agg: Agg<u32>) -> Tally
+        ensures { show result ≡ tally_of [] agg }
+    {
+        Tally {
+            agg,
+            total: Total {
+                count: 0,
+                sum: None,
+            },
+            best: None,
+        }
+    }
+
+    /// Adds a row.
+    pub(crate) fn add(
+        &mut self,
+        alloc: Global,
+        batch: &RecordBatch,
+        row: usize,
+    ) -> Result<(), NoMemory>
+        requires fits { agg_fault (sort_at batch.now.fields) self.old.agg ≡ None }
+        requires within { row < batch.now.rows }
+        requires few { self.old.total.count < 2 ^ 40 }
+        ensures { OnOk result (show self.new ≡ added (row_of batch.now.columns row) (show self.old)) }
+    {
+        match self.agg {
+            Agg::Rows => {
+                self.total = self.total.with_one();
+                Ok(())
+            }
+            Agg::Count(place) => {
+                if holds_at(batch, place, row) {
+                    self.total = self.total.with_one();
+                }
+                Ok(())
+            }
+            Agg::Sum(place) => {
+                if let Value::Int(number) = value_at(batch, place, row) {
+                    self.total = self.total.with_number(number);
+                }
+                Ok(())
+            }
+            Agg::Least(place) => {
+                let value = value_at(batch, place, row);
+                if is_before(&self.best, value) {
+                    self.best = owned(alloc, value)?;
+                }
+                Ok(())
+            }
+            Agg::Greatest(place) => {
+                let value = value_at(batch, place, row);
+                if is_behind(&self.best, value) {
+                    self.best = owned(alloc, value)?;
+                }
+                Ok(())
+            }
+        }
+    }
+
+    /// What it tells of the rows.
+    pub(crate) fn tell(self) -> Option<Scalar>
+        ensures { item_in result ≡ told (show self) }
+    {
+        let Tally { agg, total, best } = self;
+        match agg {
+            Agg::Rows => Some(Scalar::Int(i128::from(total.count))),
+            Agg::Count(_place) => Some(Scalar::Int(i128::from(total.count))),
+            Agg::Sum(_place) => total.sum.map(Scalar::Int),
+            Agg::Least(_place) => best,
+            Agg::Greatest(_place) => best,
+        }
+    }
+}
