@@ -1,4 +1,7 @@
 -- What the proofs of this crate share.
+pub mod ListLemmas
 pub mod SameLemmas
 pub mod FirstsLemmas
 pub mod RowLemmas
+pub mod TallyLemmas
+pub mod KeyLemmas

@@ -4,4 +4,5 @@ pub mod Groups
 pub mod Values
 pub mod Totals
 pub mod Tallies
+pub mod Parts
 pub mod Answers

@@ -4,7 +4,9 @@
 mod best;
 pub mod gate;
 pub mod groups;
+mod part;
 mod tally;
+mod text_set;
 mod total;
 mod value;
 

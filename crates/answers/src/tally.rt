@@ -1,6 +1,6 @@
 //! What is known of the rows of a group, while they come.
 
-ghost use Rattle.std.specs.Prelude.{◌≡◌, ◌^◌, ◌<◌, [], None, OnOk};
+ghost use Rattle.std.specs.Prelude.{◌≡◌, ◌^◌, ◌<◌, [], All, None, OnOk, map};
 ghost use Rattle.arrays.specs.Batch.{row_of};
 ghost use Rattle.query.specs.Columns.{sort_at};
 ghost use Rattle.query.specs.Fault.{agg_fault};
@@ -99,4 +99,22 @@ impl Tally {
             Agg::Greatest(_place) => best,
         }
     }
+}
+
+/// Adds a row to each tally of a group.
+pub(crate) fn add_to_all(
+    alloc: Global,
+    tallies: &mut [Tally],
+    batch: &RecordBatch,
+    row: usize,
+) -> Result<(), NoMemory>
+    requires fits { All (λ t. agg_fault (sort_at batch.now.fields) t.agg ≡ None) tallies.old }
+    requires within { row < batch.now.rows }
+    requires few { All (λ t. t.total.count < 2 ^ 40) tallies.old }
+    ensures { OnOk result (map show tallies.new ≡ map (added (row_of batch.now.columns row)) (map show tallies.old)) }
+{
+    for i in 0..tallies.len() {
+        tallies[i].add(alloc, batch, row)?;
+    }
+    Ok(())
 }

@@ -1,0 +1,22 @@
+-- The parts of keys, whose texts stand in a list.
+use Rattle.std.specs.Prelude.{ℕ, ◌<◌, List, [], map, slice_index_or, ⊤}
+use Rattle.arrays.specs.Item.{Item, null, int, boolean, text}
+use Rattle.answers.specs.declared.part.Part.{Part}
+use Rattle.answers.specs.declared.part.Part.TheVariants as part
+
+-- The item that a part stands for.
+abbrev pub item_of_part : List (List ℕ) → Part → Item
+item_of_part texts part.Null = null
+item_of_part texts (part.Int z) = int z
+item_of_part texts (part.Bool b) = boolean b
+item_of_part texts (part.Text n) = text (slice_index_or texts n [])
+
+-- The text of the part is one of so many.
+abbrev pub IsWithin : ℕ → Part → Type 0
+IsWithin n part.Null = ⊤
+IsWithin n (part.Int z) = ⊤
+IsWithin n (part.Bool b) = ⊤
+IsWithin n (part.Text m) = m < n
+
+abbrev pub key_of_parts : List (List ℕ) → List Part → List Item
+key_of_parts texts parts = map (item_of_part texts) parts
