@@ -54,3 +54,11 @@ module _ {K : Type 0} (same : K → K → Bool) (decides : (x y : K) → Decides
       (λ here. ap (λ l. y ∷ but y l) (inserted fs x true here) ∙ sym (inserted (y ∷ but y fs) x true (rest ∙ here)))
       (λ new. ap (λ l. y ∷ but y l) (inserted fs x false new) ∙ ap (λ l. y ∷ l) (but-push y x fs false back)
       ∙ sym (inserted (y ∷ but y fs) x false (rest ∙ new))))
+
+  -- What is among the firsts is among all.
+  pub among-firsts : (xs : List K) (x : K) → among (firsts same xs) x ≡ among xs x
+  among-firsts [] x = refl
+  among-firsts (y ∷ xs) x =
+      either (same x y)
+      (λ is. ap (λ b. b || among (but y (firsts same xs)) x) is ∙ sym (ap (λ b. b || among xs x) is))
+      (λ other. ap (λ b. same x y || b) (among-but y x (firsts same xs) other ∙ among-firsts xs x))

@@ -5,3 +5,6 @@ pub mod FirstsLemmas
 pub mod RowLemmas
 pub mod TallyLemmas
 pub mod KeyLemmas
+pub mod PartLemmas
+pub mod FitLemmas
+pub mod GroupLemmas

@@ -5,4 +5,5 @@ pub mod Values
 pub mod Totals
 pub mod Tallies
 pub mod Parts
+pub mod Grouping
 pub mod Answers

@@ -1,5 +1,8 @@
 -- The parts of keys, whose texts stand in a list.
-use Rattle.std.specs.Prelude.{ℕ, ◌<◌, List, [], map, slice_index_or, ⊤}
+use Rattle.std.specs.Bool.{beq}
+use Rattle.std.specs.Ordering.{int_eq}
+use Rattle.std.specs.Prelude.{ℕ, ◌<◌, ◌==◌, Bool, true, false, List, [], map, slice_index_or, All, ⊤}
+use Rattle.arrayvec.specs.ArrayVec.{ArrayVec}
 use Rattle.arrays.specs.Item.{Item, null, int, boolean, text}
 use Rattle.answers.specs.declared.part.Part.{Part}
 use Rattle.answers.specs.declared.part.Part.TheVariants as part
@@ -20,3 +23,18 @@ IsWithin n (part.Text m) = m < n
 
 abbrev pub key_of_parts : List (List ℕ) → List Part → List Item
 key_of_parts texts parts = map (item_of_part texts) parts
+
+-- The texts of all parts of all keys are some of so many.
+abbrev pub AreWithin : ℕ → List (ArrayVec Part) → Type 0
+AreWithin n keys = All (λ k. All (IsWithin n) k.items) keys
+
+abbrev pub keys_shown : List (List ℕ) → List (ArrayVec Part) → List (List Item)
+keys_shown texts keys = map (λ k. key_of_parts texts k.items) keys
+
+-- Whether two parts are the same.
+abbrev pub same_part : Part → Part → Bool
+same_part part.Null part.Null = true
+same_part (part.Int x) (part.Int y) = int_eq x y
+same_part (part.Bool x) (part.Bool y) = beq x y
+same_part (part.Text m) (part.Text n) = m == n
+same_part p q = false

@@ -3,7 +3,9 @@
 
 mod best;
 pub mod gate;
+mod grouping;
 pub mod groups;
+mod key_set;
 mod part;
 mod tally;
 mod text_set;

@@ -1,6 +1,6 @@
 //! What is known of the rows of a group, while they come.
 
-ghost use Rattle.std.specs.Prelude.{◌≡◌, ◌^◌, ◌<◌, [], All, None, OnOk, map};
+ghost use Rattle.std.specs.Prelude.{◌≡◌, ◌^◌, ◌<◌, [], All, IfOk, None, OnOk, map};
 ghost use Rattle.arrays.specs.Batch.{row_of};
 ghost use Rattle.query.specs.Columns.{sort_at};
 ghost use Rattle.query.specs.Fault.{agg_fault};
@@ -117,4 +117,15 @@ pub(crate) fn add_to_all(
         tallies[i].add(alloc, batch, row)?;
     }
     Ok(())
+}
+
+/// The tallies of no rows, one for each aggregate.
+pub(crate) fn new_tallies(alloc: Global, aggs: &[Agg<u32>]) -> Result<Vec<Tally>, NoMemory>
+    ensures { IfOk result (λ v. map show v.items ≡ map (tally_of []) aggs.now) }
+{
+    let mut tallies = Vec::with_capacity(alloc, aggs.len())?;
+    for agg in aggs {
+        tallies.push(Tally::new(*agg))?;
+    }
+    Ok(tallies)
 }
