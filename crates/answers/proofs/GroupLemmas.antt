@@ -1,5 +1,5 @@
 -- The groups of rows, with one row more.
-use Rattle.std.proofs.Common.{◌≡◌, ◌∙◌, ℕ, zero, suc, ◌<◌, ◌≤◌, Bool, true, false, ◌||◌, cond, List, [], ◌∷◌, ◌++◌, length, map, take, drop, get_or, Result, Ok, Err, OnOk, Some, refl, sym, ap, subst, arith, append_assoc, length-append, true≢false}
+use Rattle.std.proofs.Common.{◌≡◌, ◌∙◌, ℕ, zero, suc, ◌+◌, ◌<◌, ◌≤◌, Bool, true, false, ◌||◌, cond, List, [], ◌∷◌, ◌++◌, length, map, take, drop, get_or, Result, Ok, Err, OnOk, Some, refl, sym, ap, subst, arith, append_assoc, length-append, true≢false}
 use Rattle.std.specs.Prelude.{All, slice_get, slice_set}
 use Rattle.std.specs.Bool.{Decides}
 use Rattle.std.specs.Cmp.{decided}
@@ -7,24 +7,24 @@ use Rattle.std.specs.List.{IsDistinct, AllByRecursion, list_any}
 use Rattle.std.proofs.lemmas.Bool.{ltb-true, ltb-false}
 use lib.Dec.{ltb}
 use Rattle.std.proofs.lemmas.Grind.{common_steps}
-use Rattle.std.proofs.lemmas.List.{append-nil, map-append, length-map, get_or-map}
+use Rattle.std.proofs.lemmas.List.{append-nil, map-append, length-map, get_or-map, take_more}
 use Rattle.std.proofs.lemmas.List.Elements.{filter-append, All-nil, All-cons, All-head, All-tail}
 use Rattle.std.proofs.lemmas.List.Folds.{list_any-append}
 use Rattle.std.proofs.lemmas.List.Sums.{length-filter, count_by-le-length}
-use Rattle.std.proofs.lemmas.Map.Keys.{IsDistinct-head, IsDistinct-tail, IsDistinct-push, any_passes_from_place}
+use Rattle.std.proofs.lemmas.Map.Keys.{IsDistinct-head, IsDistinct-tail, IsDistinct-push, IsDistinct-from_apart, any_passes_from_place}
 use Rattle.std.proofs.lemmas.Option.{slice_get_within, get_or_from_slice_get}
 use Rattle.indexmap.specs.IndexSet.{insert_key}
 use Rattle.arrays.specs.Batch.{Row, Table}
 use Rattle.arrays.specs.Item.{Item}
 use Rattle.query.specs.declared.expr.Agg.{Agg}
-use Rattle.answers.specs.Groups.{first_keys, key_of, keys_of, rows_of_key}
+use Rattle.answers.specs.Groups.{GroupShape, cell, first_keys, group_of, grouped, key_of, keys_of, rows_of_key}
 use Rattle.answers.specs.Grouping.{IsGrouped, IsPlaced, known}
 use Rattle.answers.specs.Same.{firsts, same_key}
-use Rattle.answers.specs.Tallies.{TallyShape, added, show, tally_of}
+use Rattle.answers.specs.Tallies.{TallyShape, added, groups_told, show, tally_of, told}
 use Rattle.answers.specs.declared.tally.Tally.{Tally}
 use Rattle.answers.proofs.FirstsLemmas.{among-firsts, firsts-push}
 use Rattle.answers.proofs.SameLemmas.{either, same_key-Decides, same_key_equiv}
-use Rattle.answers.proofs.TallyLemmas.{counts_few, keeps_agg, tally_of-push}
+use Rattle.answers.proofs.TallyLemmas.{counts_few, keeps_agg, tally_of-push, told-tally_of}
 
 -- ---- one place of a list that is shown of keys
 
@@ -237,3 +237,70 @@ refilled n xs ws e same = grind (arith, common_steps)
 pub on_ok : {T E P Q : Type 0} (r : Result T E) → (P → Q) → OnOk r P → OnOk r Q
 on_ok (Ok x) f h = f h
 on_ok (Err e) f h = tt
+
+-- ---- what the groups tell
+
+all_told : (r : Table) (aggs : List (Agg ℕ)) → map told (map (tally_of r) aggs) ≡ map (cell r) aggs
+all_told r [] = refl
+all_told r (a ∷ aggs) =
+    let h = told-tally_of r a in
+    let t : map told (map (tally_of r) aggs) ≡ map (cell r) aggs = all_told r aggs in
+    cc (h, t)
+
+told_known : (by : List ℕ) (aggs : List (Agg ℕ)) (rows : Table) (keys : List (List Item)) → groups_told keys (map (known by aggs rows) keys) ≡ map (group_of by aggs rows) keys
+told_known by aggs rows [] = refl
+told_known by aggs rows (k ∷ keys) =
+    ap (λ c. group k c ∷ groups_told keys (map (known by aggs rows) keys)) (all_told (rows_of_key by rows k) aggs)
+    ∙ ap (λ l. group k (map (cell (rows_of_key by rows k)) aggs) ∷ l) (told_known by aggs rows keys) where
+      group : List Item → List Item → GroupShape
+      group k c = record { keys = k; cells = c }
+
+pub told_grouped : (by : List ℕ) (aggs : List (Agg ℕ)) (rows : Table) (keys : List (List Item)) (tallies : List (List TallyShape)) → IsGrouped by aggs rows keys tallies
+    → groups_told keys tallies ≡ grouped by aggs rows
+told_grouped by aggs rows keys tallies h =
+    ap (groups_told keys) h.tallies_are ∙ told_known by aggs rows keys ∙ ap (map (group_of by aggs rows)) h.keys_are
+
+pub length_told : (keys : List (List Item)) (tallies : List (List TallyShape)) → length tallies ≡ length keys → length (groups_told keys tallies) ≡ length keys
+length_told [] ts h = refl
+length_told (k ∷ keys) [] h = absurd (omega (arith, h))
+length_told (k ∷ keys) (t ∷ ts) h = ap suc (length_told keys ts (omega (arith, h)))
+
+pub told_at : (keys : List (List Item)) (tallies : List (List TallyShape)) (n : ℕ) (k : List Item) (t : List TallyShape) (d : GroupShape) → length tallies ≡ length keys
+    → slice_get keys n ≡ Some k → t ≡ get_or tallies n t → get_or (groups_told keys tallies) n d ≡ record { keys = k; cells = map told t }
+told_at [] ts n k t d h at here = absurd cc
+told_at (k ∷ keys) [] n l t d h at here = absurd (omega (arith, h))
+told_at (k ∷ keys) (u ∷ ts) zero l t d h at here =
+    let e : k ≡ l = cc in
+    let f : u ≡ t = sym here in
+    cc (e, f)
+told_at (k ∷ keys) (u ∷ ts) (suc n) l t d h at here = told_at keys ts n l t d (omega (arith, h)) at here
+
+-- A group more.
+pub told_more : (keys : List (List Item)) (tallies : List (List TallyShape)) (n : ℕ) (k : List Item) (t : List TallyShape) (front new : List GroupShape) (g : GroupShape)
+    → length tallies ≡ length keys → slice_get keys n ≡ Some k → t ≡ get_or tallies n t → front ≡ take n (groups_told keys tallies) → g ≡ record { keys = k; cells = map told t }
+    → new ≡ front ++ g ∷ [] → new ≡ take (n + 1) (groups_told keys tallies)
+told_more keys ts n k t front new g h at here so is more =
+    let all = groups_told keys ts in
+    let below : n < length all = omega (arith, length_told keys ts h, slice_get_within keys n k at) in
+    more ∙ ap (λ l. l ++ g ∷ []) so ∙ ap (λ x. take n all ++ x ∷ []) (is ∙ sym (told_at keys ts n k t g h at here)) ∙ sym (take_more all n g below)
+
+pub take_past : {X : Type 0} (xs : List X) (i : ℕ) → length xs ≤ i → take i xs ≡ xs
+take_past xs i past = grind (arith, common_steps)
+
+-- ---- no rows
+
+pub start_keyed : (by : List ℕ) (aggs : List (Agg ℕ)) → (length by ≡ 0 → ⊥) → IsGrouped by aggs [] [] []
+start_keyed [] aggs h = absurd (h (omega arith))
+start_keyed (c ∷ by) aggs h = record {
+  keys_are = refl;
+  apart = IsDistinct-from_apart same_key [] (λ i j d ij below. absurd (omega arith));
+  tallies_are = refl;
+}
+
+pub start_whole : (by : List ℕ) (aggs : List (Agg ℕ)) (ts : List TallyShape) → length by ≡ 0 → ts ≡ map (tally_of []) aggs → IsGrouped by aggs [] ([] ∷ []) (ts ∷ [])
+start_whole [] aggs ts h is = record {
+  keys_are = refl;
+  apart = IsDistinct-from_apart same_key ([] ∷ []) (λ i j d ij below. absurd (omega arith));
+  tallies_are = ap (λ t. t ∷ []) is;
+}
+start_whole (c ∷ by) aggs ts h is = absurd (omega (arith, h))

@@ -8,3 +8,4 @@ pub mod KeyLemmas
 pub mod PartLemmas
 pub mod FitLemmas
 pub mod GroupLemmas
+pub mod RunLemmas

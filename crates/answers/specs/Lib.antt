@@ -6,4 +6,5 @@ pub mod Totals
 pub mod Tallies
 pub mod Parts
 pub mod Grouping
+pub mod Runs
 pub mod Answers

@@ -1,5 +1,5 @@
 -- What is known of the rows of a group, while they come.
-use Rattle.std.specs.Prelude.{ℕ, ℤ, pos, ◌+◌, ◌+ℤ◌, List, Bool, not, Option, Some, None, length, option_map, slice_index_or, if◌then◌else◌}
+use Rattle.std.specs.Prelude.{ℕ, ℤ, pos, ◌+◌, ◌+ℤ◌, List, [], ◌∷◌, Bool, not, Option, Some, None, length, map, option_map, slice_index_or, if◌then◌else◌}
 use Rattle.std.specs.List.{reduce}
 use Rattle.std.specs.Ordering.{is_gt}
 use Rattle.arrays.specs.Batch.{Row, Table, column}
@@ -11,7 +11,7 @@ use Rattle.query.specs.declared.expr.Agg.TheVariants.{Rows, Count, Sum, Least, G
 use Rattle.group.specs.Stats.{number_of, numbers_of, lesser, greater}
 use Rattle.group.specs.Summary.{scalar_item}
 use Rattle.answers.specs.Totals.{plus}
-use Rattle.answers.specs.Groups.{item_or_null, values}
+use Rattle.answers.specs.Groups.{GroupShape, item_or_null, values}
 use Rattle.answers.specs.declared.tally.Tally.{Tally}
 
 -- What is told, how many rows, items or numbers there were, the sum, and the least or the greatest.
@@ -81,3 +81,9 @@ told_by (Greatest c) t = item_or_null t.best
 
 abbrev pub told : TallyShape → Item
 told t = told_by t.agg t
+
+-- The groups of keys by what is known of the rows of each.
+abbrev pub groups_told : List (List Item) → List (List TallyShape) → List GroupShape
+groups_told [] ts = []
+groups_told (k ∷ ks) [] = []
+groups_told (k ∷ ks) (t ∷ ts) = record { keys = k; cells = map told t } ∷ groups_told ks ts

@@ -45,6 +45,18 @@ pub(crate) fn owned(alloc: Global, value: Value<'_>) -> Result<Option<Scalar>, N
     }
 }
 
+/// A copy of a value, if there is one.
+pub(crate) fn copied(alloc: Global, value: &Option<Scalar>) -> Result<Option<Scalar>, NoMemory>
+    ensures { IfOk result (λ s. option_map scalar_item s ≡ option_map scalar_item value.now) }
+{
+    match value {
+        Some(Scalar::Int(number)) => Ok(Some(Scalar::Int(*number))),
+        Some(Scalar::Bool(truth)) => Ok(Some(Scalar::Bool(*truth))),
+        Some(Scalar::Text(text)) => Ok(Some(Scalar::Text(String::from_str(alloc, text)?))),
+        None => Ok(None),
+    }
+}
+
 fn is_item(value: Value<'_>) -> bool
     ensures { result ≡ not (is_null (item_of_value value.entry)) }
 {

@@ -2,11 +2,13 @@
 #![tactic(auto)]
 
 mod best;
+mod filter;
 pub mod gate;
 mod grouping;
 pub mod groups;
 mod key_set;
 mod part;
+mod run;
 mod tally;
 mod text_set;
 mod total;

@@ -7,7 +7,7 @@ ghost use Rattle.query.specs.Fault.{agg_fault};
 ghost use Rattle.answers.specs.Answers.{item_in};
 ghost use Rattle.answers.specs.Tallies.{added, show, tally_of, told};
 
-use crate::best::{is_before, is_behind, owned};
+use crate::best::{copied, is_before, is_behind, owned};
 use crate::total::Total;
 use crate::value::{Value, holds_at, value_at};
 use arrays::RecordBatch;
@@ -86,19 +86,29 @@ impl Tally {
         }
     }
 
-    /// What it tells of the rows.
-    pub(crate) fn tell(self) -> Option<Scalar>
-        ensures { item_in result ≡ told (show self) }
+    /// What it tells of the rows; none is null.
+    fn tell(&self, alloc: Global) -> Result<Option<Scalar>, NoMemory>
+        ensures { IfOk result (λ s. item_in s ≡ told (show self.now)) }
     {
-        let Tally { agg, total, best } = self;
-        match agg {
-            Agg::Rows => Some(Scalar::Int(i128::from(total.count))),
-            Agg::Count(_place) => Some(Scalar::Int(i128::from(total.count))),
-            Agg::Sum(_place) => total.sum.map(Scalar::Int),
-            Agg::Least(_place) => best,
-            Agg::Greatest(_place) => best,
+        match self.agg {
+            Agg::Rows => Ok(Some(Scalar::Int(i128::from(self.total.count)))),
+            Agg::Count(_place) => Ok(Some(Scalar::Int(i128::from(self.total.count)))),
+            Agg::Sum(_place) => Ok(self.total.sum.map(Scalar::Int)),
+            Agg::Least(_place) => copied(alloc, &self.best),
+            Agg::Greatest(_place) => copied(alloc, &self.best),
         }
     }
+}
+
+/// What tallies tell of the rows; none is null.
+pub(crate) fn tell_all(alloc: Global, tallies: &[Tally]) -> Result<Vec<Option<Scalar>>, NoMemory>
+    ensures { IfOk result (λ v. map item_in v.items ≡ map told (map show tallies.now)) }
+{
+    let mut cells = Vec::with_capacity(alloc, tallies.len())?;
+    for tally in tallies {
+        cells.push(tally.tell(alloc)?)?;
+    }
+    Ok(cells)
 }
 
 /// Adds a row to each tally of a group.
