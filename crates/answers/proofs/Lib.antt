@@ -1,0 +1,11 @@
+-- What the proofs of this crate share.
+pub mod ListLemmas
+pub mod SameLemmas
+pub mod FirstsLemmas
+pub mod RowLemmas
+pub mod TallyLemmas
+pub mod KeyLemmas
+pub mod PartLemmas
+pub mod FitLemmas
+pub mod GroupLemmas
+pub mod RunLemmas

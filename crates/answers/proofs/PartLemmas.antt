@@ -1,0 +1,184 @@
+-- Parts of keys and the items that they stand for.
+use mathlib.Core.Logic.{⊎_elim}
+use Rattle.std.proofs.Common.{◌≡◌, ◌∙◌, ℕ, ◌+◌, ◌<◌, ◌≤◌, Bool, true, false, ◌&&◌, ◌||◌, cond, eqb, List, [], ◌∷◌, ◌++◌, length, take, get_or, Some, refl, sym, ap, subst, arith, append_assoc, length-append}
+use Rattle.std.specs.Prelude.{All, slice_get, slice_index_or, option_map, ◌⊎◌}
+use Rattle.std.specs.List.{IsDistinct, list_any}
+use Rattle.std.specs.Str.{bytes_eq}
+use Rattle.std.proofs.lemmas.Bool.{eqb-true, eqb-false}
+use Rattle.std.proofs.lemmas.Cmp.{nat_list_eq_equiv}
+use Rattle.std.proofs.lemmas.List.{map-append, take_more, get_or_append_left}
+use Rattle.std.proofs.lemmas.List.Elements.{All-head, All-tail, All-push, All-weaker, All-get_or}
+use Rattle.std.proofs.lemmas.Map.Keys.{apart_from_distinct}
+use Rattle.std.proofs.lemmas.Option.{slice_get-map, slice_get_within, get_or_from_slice_get}
+use mathlib.Core.List.{IsPrefix}
+use lib.Pointwise.{pointwise}
+use Rattle.arrayvec.specs.ArrayVec.{ArrayVec}
+use Rattle.indexmap.specs.IndexSet.{insert_key}
+use Rattle.arrays.specs.Item.{Item, null, text}
+use Rattle.arrays.specs.Batch.{Row}
+use Rattle.answers.specs.declared.part.Part.{Part}
+use Rattle.answers.specs.declared.part.Part.TheVariants as part
+use Rattle.answers.specs.contracts.part.PartPartialEq as derived
+use Rattle.answers.specs.Groups.{key_of}
+use Rattle.answers.specs.Parts.{AreWithin, IsWithin, item_of_part, key_of_parts, keys_shown, same_part}
+use Rattle.answers.specs.Same.{same_item, same_key}
+use Rattle.answers.proofs.SameLemmas.{either, same_key-Decides}
+
+-- ---- the derived test
+
+abbrev pub part_eq : Part → Part → Bool
+part_eq = (derived.TheImpl.ghosts).eq
+
+pub is_same_part : (p q : Part) → part_eq p q ≡ same_part p q
+is_same_part part.Null part.Null = refl
+is_same_part part.Null (part.Int y) = refl
+is_same_part part.Null (part.Bool y) = refl
+is_same_part part.Null (part.Text n) = refl
+is_same_part (part.Int x) part.Null = refl
+is_same_part (part.Int x) (part.Int y) = refl
+is_same_part (part.Int x) (part.Bool y) = refl
+is_same_part (part.Int x) (part.Text n) = refl
+is_same_part (part.Bool x) part.Null = refl
+is_same_part (part.Bool x) (part.Int y) = refl
+is_same_part (part.Bool x) (part.Bool y) = refl
+is_same_part (part.Bool x) (part.Text n) = refl
+is_same_part (part.Text m) part.Null = refl
+is_same_part (part.Text m) (part.Int y) = refl
+is_same_part (part.Text m) (part.Bool y) = refl
+is_same_part (part.Text m) (part.Text n) = refl
+
+-- ---- texts that become more
+
+pub prefix-trans : (xs ys zs : List (List ℕ)) → IsPrefix xs ys → IsPrefix ys zs → IsPrefix xs zs
+prefix-trans xs ys zs a b = (a.0 ++ b.0, sym (append_assoc xs a.0 b.0) ∙ ap (λ l. l ++ b.0) a.1 ∙ b.1)
+
+prefix-length : (xs ys : List (List ℕ)) → IsPrefix xs ys → length xs ≤ length ys
+prefix-length xs ys a = omega (arith, sym (ap length a.1) ∙ length-append xs a.0)
+
+module _ (ts us : List (List ℕ)) (begins : IsPrefix ts us) where
+  part-grown : (p : Part) → IsWithin (length ts) p → item_of_part us p ≡ item_of_part ts p
+  part-grown part.Null h = refl
+  part-grown (part.Int z) h = refl
+  part-grown (part.Bool b) h = refl
+  part-grown (part.Text n) h = ap text (ap (λ l. get_or l n []) (sym begins.1) ∙ get_or_append_left ts begins.0 [] n h)
+
+  pub within-grown : (p : Part) → IsWithin (length ts) p → IsWithin (length us) p
+  within-grown part.Null h = tt
+  within-grown (part.Int z) h = tt
+  within-grown (part.Bool b) h = tt
+  within-grown (part.Text n) h = omega (arith, h, prefix-length ts us begins)
+
+  key-grown : (ps : List Part) → All (IsWithin (length ts)) ps → key_of_parts us ps ≡ key_of_parts ts ps
+  key-grown [] h = refl
+  key-grown (p ∷ ps) h =
+      let a = part-grown p (All-head (IsWithin (length ts)) p ps h) in
+      let b : key_of_parts us ps ≡ key_of_parts ts ps = key-grown ps (All-tail (IsWithin (length ts)) p ps h) in
+      cc (a, b)
+
+  pub keys-grown : (ks : List (ArrayVec Part)) → AreWithin (length ts) ks → keys_shown us ks ≡ keys_shown ts ks
+  keys-grown [] h = refl
+  keys-grown (k ∷ ks) h =
+      let P : ArrayVec Part → Type 0 = λ k. All (IsWithin (length ts)) k.items in
+      let a = key-grown k.items (All-head P k ks h) in
+      let b : keys_shown us ks ≡ keys_shown ts ks = keys-grown ks (All-tail P k ks h) in
+      cc (a, b)
+
+  pub are-grown : (ks : List (ArrayVec Part)) → AreWithin (length ts) ks → AreWithin (length us) ks
+  are-grown ks h =
+      All-weaker (λ (k : ArrayVec Part). All (IsWithin (length ts)) k.items) (λ (k : ArrayVec Part). All (IsWithin (length us)) k.items)
+      (λ k g. All-weaker (IsWithin (length ts)) (IsWithin (length us)) within-grown k.items g) ks h
+
+  -- One part more of a row's key.
+  pub key-push : (by : List ℕ) (i : ℕ) (row : Row) (ps new : List Part) (p : Part) → i < length by → key_of_parts ts ps ≡ key_of (take i by) row
+      → All (IsWithin (length ts)) ps → item_of_part us p ≡ slice_index_or row (get_or by i 0) null → new ≡ ps ++ p ∷ []
+      → key_of_parts us new ≡ key_of (take (i + 1) by) row
+  key-push by i row ps new p below key within item is =
+      ap (key_of_parts us) is ∙ map-append (item_of_part us) ps (p ∷ [])
+      ∙ ap (λ l. l ++ item_of_part us p ∷ []) (key-grown ps within ∙ key)
+      ∙ ap (λ x. key_of (take i by) row ++ x ∷ []) item
+      ∙ sym (ap (λ l. key_of l row) (take_more by i 0 below) ∙ map-append (λ c. slice_index_or row c null) (take i by) (get_or by i 0 ∷ []))
+
+  pub within-push : (ps new : List Part) (p : Part) → All (IsWithin (length ts)) ps → IsWithin (length us) p → new ≡ ps ++ p ∷ [] → All (IsWithin (length us)) new
+  within-push ps new p within here is =
+      subst (All (IsWithin (length us))) (sym is) (All-push (IsWithin (length us)) ps p (All-weaker (IsWithin (length ts)) (IsWithin (length us)) within-grown ps within) here)
+
+-- ---- keys in a set
+
+module _ (ts : List (List ℕ)) (once : IsDistinct bytes_eq ts) where
+  texts_same : (m n : ℕ) → m < length ts → n < length ts → eqb m n ≡ bytes_eq (get_or ts m []) (get_or ts n [])
+  texts_same m n below within =
+      either (eqb m n)
+      (λ yes. yes ∙ sym (ap (λ k. bytes_eq (get_or ts m []) (get_or ts k [])) (sym (eqb-true m n yes)) ∙ nat_list_eq_equiv.refl (get_or ts m [])))
+      (λ no. no ∙ sym (⊎_elim
+      (λ less. apart_from_distinct bytes_eq ts m n [] once less within)
+      (λ more. nat_list_eq_equiv.symm (get_or ts m []) (get_or ts n []) ∙ apart_from_distinct bytes_eq ts n m [] once more below)
+      (apart m n (eqb-false m n no)))) where
+        apart : (m n : ℕ) → (m ≡ n → ⊥) → (m < n) ⊎ (n < m)
+        apart m n off = grind (arith, off)
+
+  part_same : (p q : Part) → IsWithin (length ts) p → IsWithin (length ts) q → same_part p q ≡ same_item (item_of_part ts p) (item_of_part ts q)
+  part_same part.Null part.Null h g = refl
+  part_same part.Null (part.Int y) h g = refl
+  part_same part.Null (part.Bool y) h g = refl
+  part_same part.Null (part.Text n) h g = refl
+  part_same (part.Int x) part.Null h g = refl
+  part_same (part.Int x) (part.Int y) h g = refl
+  part_same (part.Int x) (part.Bool y) h g = refl
+  part_same (part.Int x) (part.Text n) h g = refl
+  part_same (part.Bool x) part.Null h g = refl
+  part_same (part.Bool x) (part.Int y) h g = refl
+  part_same (part.Bool x) (part.Bool y) h g = refl
+  part_same (part.Bool x) (part.Text n) h g = refl
+  part_same (part.Text m) part.Null h g = refl
+  part_same (part.Text m) (part.Int y) h g = refl
+  part_same (part.Text m) (part.Bool y) h g = refl
+  part_same (part.Text m) (part.Text n) h g = texts_same m n h g
+
+  parts_same : (ps qs : List Part) → All (IsWithin (length ts)) ps → All (IsWithin (length ts)) qs → pointwise part_eq ps qs ≡ same_key (key_of_parts ts ps) (key_of_parts ts qs)
+  parts_same [] [] h g = refl
+  parts_same [] (q ∷ qs) h g = refl
+  parts_same (p ∷ ps) [] h g = refl
+  parts_same (p ∷ ps) (q ∷ qs) h g =
+      let W = IsWithin (length ts) in
+      ap (λ b. b && pointwise part_eq ps qs) (is_same_part p q ∙ part_same p q (All-head W p ps h) (All-head W q qs g))
+      ∙ ap (λ b. same_item (item_of_part ts p) (item_of_part ts q) && b) (parts_same ps qs (All-tail W p ps h) (All-tail W q qs g))
+
+  abbrev eq : ArrayVec Part → ArrayVec Part → Bool
+  eq v w = pointwise part_eq v.items w.items
+
+  abbrev key : ArrayVec Part → List Item
+  key k = key_of_parts ts k.items
+
+  abbrev Held : ArrayVec Part → Type 0
+  Held k = All (IsWithin (length ts)) k.items
+
+  among_same : (k : ArrayVec Part) (ks : List (ArrayVec Part)) → Held k → All Held ks → list_any (eq k) ks ≡ list_any (same_key (key k)) (keys_shown ts ks)
+  among_same k [] h g = refl
+  among_same k (l ∷ ks) h g =
+      ap (λ b. b || list_any (eq k) ks) (parts_same k.items l.items h (All-head Held l ks g))
+      ∙ ap (λ b. same_key (key k) (key l) || b) (among_same k ks h (All-tail Held l ks g))
+
+  joined : (ks : List (ArrayVec Part)) (k : ArrayVec Part) (b : Bool) → keys_shown ts (cond b ks (ks ++ k ∷ [])) ≡ cond b (keys_shown ts ks) (keys_shown ts ks ++ key k ∷ [])
+  joined ks k true = refl
+  joined ks k false = map-append key ks (k ∷ [])
+
+  -- A key that was put in.
+  pub keys_inserted : (ks new : List (ArrayVec Part)) (k : ArrayVec Part) → Held k → All Held ks → new ≡ insert_key eq ks k
+      → keys_shown ts new ≡ insert_key same_key (keys_shown ts ks) (key k)
+  keys_inserted ks new k h g is =
+      ap (keys_shown ts) is ∙ joined ks k (list_any (eq k) ks)
+      ∙ ap (λ b. cond b (keys_shown ts ks) (keys_shown ts ks ++ key k ∷ [])) (among_same k ks h g)
+
+  held_inserted : (ks : List (ArrayVec Part)) (k : ArrayVec Part) (b : Bool) → Held k → All Held ks → All Held (cond b ks (ks ++ k ∷ []))
+  held_inserted ks k true h g = g
+  held_inserted ks k false h g = All-push Held ks k g h
+
+  -- Its number.
+  pub key_stored : (ks new : List (ArrayVec Part)) (k l : ArrayVec Part) (n : ℕ) → Held k → All Held ks → new ≡ insert_key eq ks k
+      → slice_get new n ≡ Some l → eq k l ≡ true → slice_get (keys_shown ts new) n ≡ Some (key k)
+  key_stored ks new k l n h g is at same =
+      let held : All Held new = subst (All Held) (sym is) (held_inserted ks k (list_any (eq k) ks) h g) in
+      let here : Held (get_or new n l) = All-get_or Held new n l (slice_get_within new n l at) held in
+      let held_l : Held l = subst Held (get_or_from_slice_get new n l l at) here in
+      slice_get-map key new n ∙ ap (option_map key) at
+      ∙ ap Some (sym ((same_key-Decides (key k) (key l)).0 (sym (parts_same k.items l.items h held_l) ∙ same)))

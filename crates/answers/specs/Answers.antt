@@ -1,0 +1,31 @@
+-- What an answer says, as plain values.
+use Rattle.std.specs.Prelude.{◌≡◌, ◌⊎◌, ℕ, List, Option, map, option_map, flat_map, Ok, Err}
+use Rattle.arrays.specs.Batch.{Batch, Table, rows_of}
+use Rattle.arrays.specs.Item.{Item}
+use Rattle.types.specs.Shape.{FieldShape}
+use Rattle.query.specs.Asked.{Asked}
+use Rattle.query.specs.declared.fault.QueryFault.{QueryFault}
+use Rattle.query.specs.declared.fault.QueryFault.TheVariants.{Overflow, NoMemory}
+use Rattle.group.specs.Summary.{scalar_item}
+use Rattle.group.specs.declared.stats.Scalar.{Scalar}
+use Rattle.answers.specs.Groups.{GroupShape, groups, item_or_null}
+use Rattle.answers.specs.declared.groups.Answer.{Answer}
+use Rattle.answers.specs.declared.groups.Group.{Group}
+
+abbrev pub item_in : Option Scalar → Item
+item_in s = item_or_null (option_map scalar_item s)
+
+abbrev pub shape_of : Group → GroupShape
+shape_of g = record { keys = map item_in g.keys.items; cells = map item_in g.cells.items }
+
+-- The rows of all batches, one batch after the other.
+abbrev pub all_rows : List Batch → Table
+all_rows batches = flat_map rows_of batches
+
+-- The answer says what the query asks of the rows.
+abbrev pub IsAnswer : List FieldShape → Asked ℕ → Table → Answer → Type 0
+IsAnswer fields q rows a = groups fields q rows ≡ Ok (map shape_of a.groups.items)
+
+-- The query is refused at the least row where its filter is bad, or a growth was refused.
+abbrev pub IsRefusal : List FieldShape → Asked ℕ → Table → QueryFault → Type 0
+IsRefusal fields q rows e = ((row : ℕ) × (groups fields q rows ≡ Err row) × (e ≡ Overflow row)) ⊎ (e ≡ NoMemory)

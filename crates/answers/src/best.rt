@@ -1,0 +1,91 @@
+//! The least and the greatest of items that come one by one.
+
+ghost use Rattle.std.specs.Prelude.{◌≡◌, IfOk, not, option_map};
+ghost use Rattle.std.specs.Ordering.{is_gt};
+ghost use Rattle.kernels.specs.Order.{order};
+ghost use Rattle.group.specs.Summary.{scalar_item};
+ghost use Rattle.arrays.specs.Item.{is_null};
+ghost use Rattle.answers.specs.Tallies.{is_before, is_behind, item_if_any};
+ghost use Rattle.answers.specs.Values.{item_of_value};
+
+use crate::value::Value;
+use colbits::NoMemory;
+use group::Scalar;
+use std::alloc::Global;
+
+/// Whether the item is the first one, or comes before the best one so far.
+pub(crate) fn is_before(best: &Option<Scalar>, value: Value<'_>) -> bool
+    ensures { result ≡ is_before (option_map scalar_item best.now) (item_of_value value.entry) }
+{
+    match best {
+        Some(best) => exceeds(best, value),
+        None => is_item(value),
+    }
+}
+
+/// Whether the item is the first one, or comes behind the best one so far.
+pub(crate) fn is_behind(best: &Option<Scalar>, value: Value<'_>) -> bool
+    ensures { result ≡ is_behind (option_map scalar_item best.now) (item_of_value value.entry) }
+{
+    match best {
+        Some(best) => is_exceeded(best, value),
+        None => is_item(value),
+    }
+}
+
+/// A copy of the item, if it is one.
+pub(crate) fn owned(alloc: Global, value: Value<'_>) -> Result<Option<Scalar>, NoMemory>
+    ensures { IfOk result (λ s. option_map scalar_item s ≡ item_if_any (item_of_value value.entry)) }
+{
+    match value {
+        Value::Null => Ok(None),
+        Value::Int(number) => Ok(Some(Scalar::Int(number))),
+        Value::Bool(truth) => Ok(Some(Scalar::Bool(truth))),
+        Value::Text(text) => Ok(Some(Scalar::Text(String::from_str(alloc, text)?))),
+    }
+}
+
+/// A copy of a value, if there is one.
+pub(crate) fn copied(alloc: Global, value: &Option<Scalar>) -> Result<Option<Scalar>, NoMemory>
+    ensures { IfOk result (λ s. option_map scalar_item s ≡ option_map scalar_item value.now) }
+{
+    match value {
+        Some(Scalar::Int(number)) => Ok(Some(Scalar::Int(*number))),
+        Some(Scalar::Bool(truth)) => Ok(Some(Scalar::Bool(*truth))),
+        Some(Scalar::Text(text)) => Ok(Some(Scalar::Text(String::from_str(alloc, text)?))),
+        None => Ok(None),
+    }
+}
+
+fn is_item(value: Value<'_>) -> bool
+    ensures { result ≡ not (is_null (item_of_value value.entry)) }
+{
+    match value {
+        Value::Null => false,
+        _ => true,
+    }
+}
+
+/// Whether the best one comes behind the item.
+fn exceeds(best: &Scalar, value: Value<'_>) -> bool
+    ensures { result ≡ is_gt (order (scalar_item best.now) (item_of_value value.entry)) }
+{
+    match (best, value) {
+        (Scalar::Int(x), Value::Int(y)) => *x > y,
+        (Scalar::Bool(x), Value::Bool(y)) => *x & !y,
+        (Scalar::Text(x), Value::Text(y)) => x.as_str().cmp(&y).is_gt(),
+        _ => false,
+    }
+}
+
+/// Whether the item comes behind the best one.
+fn is_exceeded(best: &Scalar, value: Value<'_>) -> bool
+    ensures { result ≡ is_gt (order (item_of_value value.entry) (scalar_item best.now)) }
+{
+    match (best, value) {
+        (Scalar::Int(x), Value::Int(y)) => y > *x,
+        (Scalar::Bool(x), Value::Bool(y)) => y & !*x,
+        (Scalar::Text(x), Value::Text(y)) => y.cmp(x.as_str()).is_gt(),
+        _ => false,
+    }
+}

@@ -1,0 +1,176 @@
+//! The keys of groups, each once.
+
+ghost use Rattle.std.specs.Prelude.{◌≡◌, ◌<◌, ◌≤◌, [], All, IfOk, None, OnOk, Some, length, map, slice_get};
+ghost use mathlib.Core.List.{IsPrefix};
+ghost use Rattle.arrays.specs.Batch.{row_of};
+ghost use Rattle.indexmap.specs.IndexSet.{insert_key};
+ghost use Rattle.query.specs.Columns.{sort_at};
+ghost use Rattle.query.specs.Fault.{key_fault};
+ghost use Rattle.answers.specs.Answers.{item_in};
+ghost use Rattle.answers.specs.Groups.{key_of};
+ghost use Rattle.answers.specs.Parts.{IsWithin, item_of_part, key_of_parts};
+ghost use Rattle.answers.specs.Same.{same_key};
+ghost use Rattle.answers.specs.Values.{item_of_value};
+
+use crate::part::Part;
+use crate::text_set::TextSet;
+use crate::value::{Value, value_at};
+use arrays::RecordBatch;
+use arrayvec::ArrayVec;
+use colbits::NoMemory;
+use group::Scalar;
+use indexmap::IndexSet;
+use std::alloc::Global;
+use std::marker::Model;
+
+/// Keys in order of coming, each once.
+#[derive(Drop)]
+pub(crate) struct KeySet {
+    /// The texts that parts of keys name.
+    texts: TextSet,
+    keys: IndexSet<ArrayVec<Part, 4>>,
+}
+
+impl Model for KeySet {
+    ghost use Rattle.std.specs.Prelude.{List, length};
+    ghost use Rattle.std.specs.Coded.{coded_list};
+    ghost use Rattle.arrays.specs.Item.{Item};
+    ghost use Rattle.layout.specs.Code.{items_code};
+    ghost use Rattle.answers.specs.Parts.{AreWithin, keys_shown};
+
+    ghost Value = { List (List Item) };
+
+    ghost coded = { coded_list items_code };
+
+    ghost view = { λ s. keys_shown s.texts s.keys.keys };
+
+    ghost invariant = { λ s. AreWithin (length s.texts) s.keys.keys };
+}
+
+impl KeySet {
+    /// No keys, which take no memory until the first.
+    pub(crate) fn new(alloc: Global) -> KeySet
+        ensures { result ≡ [] }
+    {
+        KeySet {
+            texts: TextSet::new(alloc),
+            keys: IndexSet::new(alloc),
+        }
+    }
+
+    /// How many keys there are.
+    pub(crate) fn len(&self) -> usize
+        ensures { result ≡ length self.now }
+    {
+        self.keys.len()
+    }
+
+    /// The number of a row's key, which is put at the end where it is new.
+    pub(crate) fn number_of(
+        &mut self,
+        batch: &RecordBatch,
+        by: &[u32],
+        row: usize,
+    ) -> Result<usize, NoMemory>
+        requires few { length by.now ≤ 4 }
+        requires plain { All (λ c. key_fault (sort_at batch.now.fields) c ≡ None) by.now }
+        requires within { row < batch.now.rows }
+        ensures keys { OnOk result (self.new
+            ≡ insert_key same_key self.old (key_of by.now (row_of batch.now.columns row))) }
+        ensures number { IfOk result (λ n. slice_get self.new n
+            ≡ Some (key_of by.now (row_of batch.now.columns row))) }
+    {
+        let parts = parts_of(&mut self.texts, batch, by, row)?;
+        let _len = self.texts.len();
+        let (number, _is_new) = self.keys.insert_full(parts)?;
+        Ok(number)
+    }
+}
+
+impl KeySet {
+    /// Puts the key of no items at the end, unless it is there.
+    pub(crate) fn add_empty(&mut self) -> Result<(), NoMemory>
+        ensures { OnOk result (self.new ≡ insert_key same_key self.old []) }
+    {
+        let _len = self.texts.len();
+        self.keys.insert(ArrayVec::new())?;
+        Ok(())
+    }
+
+    /// The items of a key; none is null.
+    pub(crate) fn key_at(
+        &self,
+        alloc: Global,
+        number: usize,
+    ) -> Result<Vec<Option<Scalar>>, NoMemory>
+        requires { number < length self.now }
+        ensures { IfOk result (λ v. slice_get self.now number ≡ Some (map item_in v.items)) }
+    {
+        let keys = self.keys.as_slice();
+        items_of(alloc, &self.texts, keys[number].as_slice())
+    }
+}
+
+/// The items that parts stand for; none is null.
+fn items_of(alloc: Global, texts: &TextSet, parts: &[Part]) -> Result<Vec<Option<Scalar>>, NoMemory>
+    requires { All (IsWithin (length texts.now)) parts.now }
+    ensures { IfOk result (λ v. map item_in v.items ≡ key_of_parts texts.now parts.now) }
+{
+    let mut items = Vec::with_capacity(alloc, parts.len())?;
+    for part in parts {
+        items.push(item_of(alloc, texts, *part)?)?;
+    }
+    Ok(items)
+}
+
+/// The item that a part stands for; none is null.
+fn item_of(alloc: Global, texts: &TextSet, part: Part) -> Result<Option<Scalar>, NoMemory>
+    requires { IsWithin (length texts.now) part }
+    ensures { IfOk result (λ s. item_in s ≡ item_of_part texts.now part) }
+{
+    match part {
+        Part::Null => Ok(None),
+        Part::Int(number) => Ok(Some(Scalar::Int(number))),
+        Part::Bool(truth) => Ok(Some(Scalar::Bool(truth))),
+        Part::Text(place) => match texts.text_at(place) {
+            Some(text) => Ok(Some(Scalar::Text(String::from_str(alloc, text)?))),
+            None => unreachable!(),
+        },
+    }
+}
+
+/// The parts of a row's key. Its texts are among the texts then.
+fn parts_of(
+    texts: &mut TextSet,
+    batch: &RecordBatch,
+    by: &[u32],
+    row: usize,
+) -> Result<ArrayVec<Part, 4>, NoMemory>
+    requires few { length by.now ≤ 4 }
+    requires plain { All (λ c. key_fault (sort_at batch.now.fields) c ≡ None) by.now }
+    requires within { row < batch.now.rows }
+    ensures key { IfOk result (λ k. key_of_parts texts.new k.items ≡ key_of by.now (row_of batch.now.columns row)) }
+    ensures within { IfOk result (λ k. All (IsWithin (length texts.new)) k.items) }
+    ensures begins { IsPrefix texts.old texts.new }
+{
+    let mut parts = ArrayVec::new();
+    for place in by {
+        let value = value_at(batch, *place, row);
+        parts.push(part_of(texts, value)?);
+    }
+    Ok(parts)
+}
+
+/// The part that stands for an item. Its text is among the texts then.
+fn part_of(texts: &mut TextSet, value: Value<'_>) -> Result<Part, NoMemory>
+    ensures item { IfOk result (λ p. item_of_part texts.new p ≡ item_of_value value.entry) }
+    ensures within { IfOk result (λ p. IsWithin (length texts.new) p) }
+    ensures begins { IsPrefix texts.old texts.new }
+{
+    match value {
+        Value::Null => Ok(Part::Null),
+        Value::Int(number) => Ok(Part::Int(number)),
+        Value::Bool(truth) => Ok(Part::Bool(truth)),
+        Value::Text(text) => Ok(Part::Text(texts.add(text)?)),
+    }
+}
