@@ -55,10 +55,10 @@ bit_at-shr n k i = ap (λ x. x % 2) (shr-shr n k i)
 pub bit_at-mod : (n k i : ℕ) → i < k → bit_at (n % 2 ^ k) i ≡ bit_at n i
 bit_at-mod n k i within = sym (bit_at_cat_low (n / 2 ^ k) k (n % 2 ^ k) i within) ∙ ap (λ x. bit_at x i) (shr_split n k)
 
-bit_at-shl_low : (n k i : ℕ) → i < k → bit_at (n * 2 ^ k) i ≡ 0
+pub bit_at-shl_low : (n k i : ℕ) → i < k → bit_at (n * 2 ^ k) i ≡ 0
 bit_at-shl_low n k i below = ap (λ x. bit_at x i) (sym (add-zero (n * 2 ^ k))) ∙ bit_at_cat_low n k 0 i below ∙ bit_at-zero i
 
-bit_at-shl_high : (n k i : ℕ) → bit_at (n * 2 ^ k) (k + i) ≡ bit_at n i
+pub bit_at-shl_high : (n k i : ℕ) → bit_at (n * 2 ^ k) (k + i) ≡ bit_at n i
 bit_at-shl_high n k i =
     ap (λ x. bit_at x (k + i)) (sym (add-zero (n * 2 ^ k))) ∙ bit_at_cat_high n k 0 (k + i) (pow_pos k) (omega arith) ∙ ap (bit_at n) (omega arith)
 
@@ -208,11 +208,11 @@ ones-shifted r small = omega (arith, pow-lt small)
 
 -- ---- places that are packed
 
-bit-append_low : (xs ys : List ℕ) (i : ℕ) → i < 8 * length xs → bit (xs ++ ys) i ≡ bit xs i
+pub bit-append_low : (xs ys : List ℕ) (i : ℕ) → i < 8 * length xs → bit (xs ++ ys) i ≡ bit xs i
 unfolding bit
 bit-append_low xs ys i h = ap (λ b. nat_eq (bit_at b (i % 8)) 1) (get_or-append xs ys 0 (i / 8) (omega arith))
 
-bit-append_high : (xs ys : List ℕ) (i : ℕ) → bit (xs ++ ys) (8 * length xs + i) ≡ bit ys i
+pub bit-append_high : (xs ys : List ℕ) (i : ℕ) → bit (xs ++ ys) (8 * length xs + i) ≡ bit ys i
 unfolding bit
 bit-append_high xs ys i =
     ap (λ b. nat_eq (bit_at b ((8 * length xs + i) % 8)) 1) (ap (λ k. get_or (xs ++ ys) k 0) (omega arith) ∙ get_or-append-add xs ys (i / 8) 0)
@@ -247,7 +247,7 @@ pub record ArePlaces (f : ℕ → Bool) (n : ℕ) (bytes : List ℕ) : Type 0 wh
   pub bits_are : (i : ℕ) → bit bytes i ≡ (nat_lt i n && f i)
 
 pub word-last : (f : ℕ → Bool) (bytes : List ℕ) (n w last : ℕ) → length bytes ≡ 8 * w → 64 * w ≤ n → n < 64 * w + 64 → ((i : ℕ) → i < 64 * w → bit bytes i ≡ f i)
-    → ((k : ℕ) → bit_in last k ≡ (nat_lt k (n - 64 * w) && f (64 * w + k))) → ArePlaces f n (bytes ++ take ((n - 64 * w + 7) / 8) (to_le_bytes w64 last))
+    → ((k : ℕ) → k < 64 → bit_in last k ≡ (nat_lt k (n - 64 * w) && f (64 * w + k))) → ArePlaces f n (bytes ++ take ((n - 64 * w + 7) / 8) (to_le_bytes w64 last))
 word-last f bytes n w last long within end before here =
     let rest = n - 64 * w in
     let size = (rest + 7) / 8 in
@@ -255,7 +255,7 @@ word-last f bytes n w last long within end before here =
     let few : size ≤ 8 = omega arith in
     let sized : length (bytes ++ more) ≡ (n + 7) / 8 = omega (arith, length-append bytes more, length-take-le size (to_le_bytes w64 last) few) in
     let low = λ (i : ℕ) (h : i < 8 * (8 * w)). before i (omega arith) ∙ ap (λ b. b && f i) (sym (lt-ltb i n (omega arith))) in
-    let high = λ (j : ℕ) (h : j < 8 * size). bit-take (to_le_bytes w64 last) size j h ∙ bit-to_le last j (omega arith) ∙ here j
+    let high = λ (j : ℕ) (h : j < 8 * size). bit-take (to_le_bytes w64 last) size j h ∙ bit-to_le last j (omega arith) ∙ here j (omega arith)
     ∙ (λ i. same j i && f (at j i)) in
     record {
       long = sized;
