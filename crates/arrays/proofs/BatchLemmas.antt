@@ -1,5 +1,5 @@
 -- The first column of another type, read from the fields or from their shapes.
-use Rattle.std.proofs.Common.{◌≡◌, ◌∙◌, ℕ, suc, ◌+◌, List, [], ◌∷◌, Bool, map, length, not, nat_lt, cond, Some, None, position, ap, refl}
+use Rattle.std.proofs.Common.{◌≡◌, ◌∙◌, suc, ◌+◌, List, [], ◌∷◌, Bool, map, length, not, nat_lt, cond, Some, None, position, ap, refl}
 use Rattle.std.specs.List.{zip, position_or_len}
 use Rattle.types.specs.declared.data_type.Field.{Field, out-Field}
 use Rattle.arrays.specs.Batch.{differing_type}

@@ -1,10 +1,8 @@
 -- A column of numbers grows by one slot or by many.
-use Rattle.std.proofs.Common.{◌≡◌, ◌∙◌, ℕ, ◌+◌, ◌*◌, ◌^◌, ◌<◌, ◌≤◌, ◌≤ℤ◌, ℤ, pos, negsuc, neg_ℤ, FitsSigned, List, [], ◌∷◌, ◌++◌, Bool, true, false, map, length, replicate, get_or, cond, ap, sym, refl, arith, subst, length-append, zero-add, Option, Some, None, Result, Ok, Err, OnOk, OnErr, take}
-use Rattle.std.specs.Int.{w128}
+use Rattle.std.proofs.Common.{◌≡◌, ◌∙◌, ℕ, ◌+◌, ◌*◌, ◌<◌, ◌≤◌, ℤ, List, [], ◌∷◌, ◌++◌, Bool, false, map, length, get_or, cond, ap, sym, refl, arith, subst, length-append, zero-add, Option, Result, Ok, Err, OnOk, OnErr, take}
 use Rattle.std.specs.List.{range_with_len}
-use Rattle.std.proofs.lemmas.Int.{ints}
-use Rattle.std.proofs.lemmas.List.FromFn.{map-range_with_len_more, length-map-range_with_len}
-use Rattle.std.proofs.lemmas.List.{append_assoc, append-nil, get_or_append_left, get_or-append-add, get_or-replicate, length-replicate}
+use Rattle.std.proofs.lemmas.List.FromFn.{get_or-map-range_with_len, map-range_with_len_more, length-map-range_with_len}
+use Rattle.std.proofs.lemmas.List.{get_or_append_left, get_or-append-add}
 use Rattle.std.proofs.lemmas.Nat.{row_fits}
 use Rattle.std.proofs.Math.Seq.{get_or-append_seam, take-append_seam}
 use Rattle.types.specs.declared.int_type.IntType.{IntType}
@@ -19,7 +17,6 @@ use Rattle.layout.specs.Seen.{Seen, valid_at, valid_in}
 use Rattle.arrays.specs.Shown.{kept, shown}
 use Rattle.arrays.specs.Values.{HasNumbers}
 use Rattle.arrays.specs.Builder.{built, item_at, numbers_where, IsBuilt}
-use Rattle.arrays.specs.Slot.{item_of}
 use Rattle.arrays.proofs.ListLemmas.{map-range-below, map-range-joined}
 use Rattle.types.proofs.EncodingLemmas.{length-bytes_of_number, number_at-append-front, number_at-append-end, number_at-append-past}
 use Rattle.arrays.proofs.FinishedLemmas.{slots_shown}
@@ -114,10 +111,10 @@ tried (Err e) t s values longer bytes valid flags n y z b old is whole of_type r
 more_slots : (n m w a b : ℕ) → a ≡ n * w → b ≡ m * w → a + b ≡ (n + m) * w
 more_slots n m w a b at first = omega arith
 
-pub IsBuilt-joined : (t : IntType) (values numbers : List ℕ) (valid : List Bool) (m : ℕ) → IsBuilt t values valid → length numbers ≡ m * bytes_of t.bits → length valid + m ≤ 2147483647
-    → IsBuilt t (values ++ numbers) (valid ++ replicate m true)
-IsBuilt-joined t values numbers valid m is size room =
-    let longer : length (valid ++ replicate m true) ≡ length valid + m = length-append valid (replicate m true) ∙ ap (λ k. length valid + k) (length-replicate m true) in
+pub IsBuilt-joined : (t : IntType) (values numbers : List ℕ) (valid more : List Bool) (m : ℕ) → IsBuilt t values valid → length numbers ≡ m * bytes_of t.bits → length more ≡ m
+    → length valid + m ≤ 2147483647 → IsBuilt t (values ++ numbers) (valid ++ more)
+IsBuilt-joined t values numbers valid more m is size count room =
+    let longer : length (valid ++ more) ≡ length valid + m = length-append valid more ∙ ap (λ k. length valid + k) count in
     record {
       whole =
           length-append values numbers
@@ -126,83 +123,49 @@ IsBuilt-joined t values numbers valid m is size room =
       short = omega arith;
     }
 
-pub built-joined : (t : IntType) (values numbers : List ℕ) (valid : List Bool) (m : ℕ) → IsBuilt t values valid
-    → built t (values ++ numbers) (valid ++ replicate m true) ≡ built t values valid ++ numbers_where None t numbers m
+pub built-joined : (t : IntType) (values numbers : List ℕ) (valid : List Bool) (validity : Option (List Bool)) (m : ℕ) → IsBuilt t values valid
+    → built t (values ++ numbers) (valid ++ map (valid_in validity) (range_with_len 0 m)) ≡ built t values valid ++ numbers_where validity t numbers m
 unfolding built numbers_where
-built-joined t values numbers valid m is =
+built-joined t values numbers valid validity m is =
     let n = length valid in
     let w = bytes_of t.bits in
+    let more = map (valid_in validity) (range_with_len 0 m) in
     let values' = values ++ numbers in
-    let valid' = valid ++ replicate m true in
-    let longer : length valid' ≡ n + m = length-append valid (replicate m true) ∙ ap (λ k. n + k) (length-replicate m true) in
+    let valid' = valid ++ more in
+    let longer : length valid' ≡ n + m = length-append valid more ∙ ap (λ k. n + k) (length-map-range_with_len (valid_in validity) 0 m) in
     let front : (i : ℕ) → i < n → item_at t values' valid' i ≡ item_at t values valid i =
     λ i below.
     let within : i * w + w ≤ length values = subst (λ m. i * w + w ≤ m) (sym is.whole) (row_fits i w n w below (omega arith)) in
-    ap (λ v. cond v (int (number_at t values' i)) null) (get_or_append_left valid (replicate m true) false i below)
+    ap (λ v. cond v (int (number_at t values' i)) null) (get_or_append_left valid more false i below)
     ∙ ap (λ z. cond (get_or valid i false) (int z) null) (number_at-append-front t values numbers i within) in
-    let past : (j : ℕ) → j < m → item_at t values' valid' (n + j) ≡ int (number_at t numbers j) =
+    let past : (j : ℕ) → j < m → item_at t values' valid' (n + j) ≡ cond (valid_in validity j) (int (number_at t numbers j)) null =
     λ j below.
-    ap (λ v. cond v (int (number_at t values' (n + j))) null) (get_or-append-add valid (replicate m true) j false ∙ get_or-replicate m j true false below)
-    ∙ ap int (number_at-append-past t values numbers n j (sym is.whole)) in
+    ap (λ v. cond v (int (number_at t values' (n + j))) null) (get_or-append-add valid more j false ∙ get_or-map-range_with_len (valid_in validity) 0 m j j false below (zero-add j))
+    ∙ ap (λ z. cond (valid_in validity j) (int z) null) (number_at-append-past t values numbers n j (sym is.whole)) in
     ap (λ k. map (item_at t values' valid') (range_with_len 0 k)) longer
-    ∙ map-range-joined (item_at t values' valid') (item_at t values valid) (λ j. int (number_at t numbers j)) n m front past
+    ∙ map-range-joined (item_at t values' valid') (item_at t values valid) (λ j. cond (valid_in validity j) (int (number_at t numbers j)) null) n m front past
 
 -- the builder after the slots
-pub record Extended (t : IntType) (values : List ℕ) (valid : List Bool) (old : Column) (numbers : List ℕ) (m : ℕ) : Type 0 where
+pub record Extended (t : IntType) (values : List ℕ) (valid : List Bool) (old : Column) (validity : Option (List Bool)) (numbers : List ℕ) (m : ℕ) : Type 0 where
   pub built_still : IsBuilt t values valid
-  pub many_more : built t values valid ≡ old.items ++ numbers_where None old.ty numbers m
+  pub many_more : built t values valid ≡ old.items ++ numbers_where validity old.ty numbers m
 
-pub extended : (t : IntType) (values numbers bytes : List ℕ) (valid flags : List Bool) (m : ℕ) (old : Column) → ◌≡◌ {A = Column} (record { ty = t; items = built t values valid }) old
-    → IsBuilt t values valid → length numbers ≡ m * bytes_of old.ty.bits → length old.items + m ≤ 2147483647 → bytes ≡ values ++ numbers → flags ≡ valid ++ replicate m true
-    → Extended t bytes flags old numbers m
-extended t values numbers bytes valid flags m old is whole size room bytes_are flags_are =
+pub extended : (t : IntType) (values numbers bytes : List ℕ) (valid flags : List Bool) (validity : Option (List Bool)) (m : ℕ) (old : Column)
+    → ◌≡◌ {A = Column} (record { ty = t; items = built t values valid }) old → IsBuilt t values valid → length numbers ≡ m * bytes_of old.ty.bits → length old.items + m ≤ 2147483647
+    → bytes ≡ values ++ numbers → flags ≡ valid ++ map (valid_in validity) (range_with_len 0 m) → Extended t bytes flags old validity numbers m
+extended t values numbers bytes valid flags validity m old is whole size room bytes_are flags_are =
+    let more = map (valid_in validity) (range_with_len 0 m) in
     let few : length valid + m ≤ 2147483647 = omega (arith, length-built t values valid, ap (λ (c : Column). length c.items) is) in
     let of_type = size ∙ ap (λ (c : Column). m * bytes_of c.ty.bits) (sym is) in
-    let still = IsBuilt-joined t values numbers valid m whole of_type few in
+    let still = IsBuilt-joined t values numbers valid more m whole of_type (length-map-range_with_len (valid_in validity) 0 m) few in
     record {
       built_still = subst (λ v. IsBuilt t v flags) (sym bytes_are) (subst (IsBuilt t (values ++ numbers)) (sym flags_are) still);
       many_more =
           ap (λ v. built t v flags) bytes_are
           ∙ ap (built t (values ++ numbers)) flags_are
-          ∙ built-joined t values numbers valid m whole
-          ∙ ap (λ (c : Column). c.items ++ numbers_where None c.ty numbers m) is;
+          ∙ built-joined t values numbers valid validity m whole
+          ∙ ap (λ (c : Column). c.items ++ numbers_where validity c.ty numbers m) is;
     }
-
--- ---- slots one by one
-
-pub numbers_where-none : (validity : Option (List Bool)) (t : IntType) (numbers : List ℕ) → numbers_where validity t numbers 0 ≡ []
-unfolding numbers_where
-numbers_where-none validity t numbers = refl
-
-pub numbers_where-more : (validity : Option (List Bool)) (t : IntType) (numbers : List ℕ) (n : ℕ)
-    → numbers_where validity t numbers (n + 1) ≡ numbers_where validity t numbers n ++ (cond (valid_in validity n) (int (number_at t numbers n)) null) ∷ []
-unfolding numbers_where
-numbers_where-more validity t numbers n = map-range_with_len_more (λ j. cond (valid_in validity j) (int (number_at t numbers j)) null) 0 n n (zero-add n)
-
-pub length-numbers_where : (validity : Option (List Bool)) (t : IntType) (numbers : List ℕ) (n : ℕ) → length (numbers_where validity t numbers n) ≡ n
-unfolding numbers_where
-length-numbers_where validity t numbers n = length-map-range_with_len (λ j. cond (valid_in validity j) (int (number_at t numbers j)) null) 0 n
-
--- the bounds of the eight types lie within 128 bits
-pub FitsSigned-bounded : (z : ℤ) → neg_ℤ (pos (2 ^ 64)) ≤ℤ z → z ≤ℤ pos (2 ^ 64) → FitsSigned w128 z
-FitsSigned-bounded (pos n) low high = omega (arith, ints)
-FitsSigned-bounded (negsuc n) low high = omega (arith, ints)
-
-pub item_of-valid : (number : Option ℤ) (y z : ℤ) (v w : Bool) → number ≡ Some y → y ≡ z → w ≡ v → w ≡ true → item_of number ≡ cond v (int z) null
-item_of-valid number y z v w is same e one = ap item_of is ∙ ap int same ∙ sym (ap (λ b. cond b (int z) null) (sym e ∙ one))
-
-pub item_of-null : (number : Option ℤ) (z : ℤ) (v w : Bool) → number ≡ None → w ≡ v → w ≡ false → item_of number ≡ cond v (int z) null
-item_of-null number z v w is e not_one = ap item_of is ∙ sym (ap (λ b. cond b (int z) null) (sym e ∙ not_one))
-
--- the builder after one slot more of many
-pub slot_more : (validity : Option (List Bool)) (t : IntType) (numbers : List ℕ) (n : ℕ) (new here old : List Item) (x : Item) → new ≡ here ++ x ∷ [] → here ≡ old ++ numbers_where validity t numbers n
-    → x ≡ cond (valid_in validity n) (int (number_at t numbers n)) null → new ≡ old ++ numbers_where validity t numbers (n + 1)
-slot_more validity t numbers n new here old x new_is here_is x_is =
-    new_is
-    ∙ ap (λ xs. xs ++ x ∷ []) here_is
-    ∙ ap (λ y. old ++ numbers_where validity t numbers n ++ y ∷ []) x_is
-    ∙ append_assoc old (numbers_where validity t numbers n) (cond (valid_in validity n) (int (number_at t numbers n)) null ∷ [])
-    ∙ ap (λ xs. old ++ xs) (sym (numbers_where-more validity t numbers n))
 
 -- the items of a column are its numbers where they are valid
 pub numbers_where-items : (t : IntType) (numbers : List ℕ) (s : Seen) (validity : Option (List Bool)) (n : ℕ) → HasNumbers t numbers s → validity ≡ s.validity → n ≡ length s.items

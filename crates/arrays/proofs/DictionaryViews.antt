@@ -1,11 +1,10 @@
 -- A view of a dictionary-encoded array.
-use Rattle.std.proofs.Common.{◌≡◌, ◌∙◌, ℕ, zero, suc, ◌+◌, ◌<◌, ◌≤◌, ◌&&◌, ◌||◌, ℤ, pos, negsuc, int_lt, nat_lt, ltb-true, le-ltb, List, [], ◌∷◌, map, Bool, true, false, not, nat_eq, length, take, drop, cond, Some, None, Option, option_map, slice_get, get_or, All, ap, sym, refl, subst, arith, zero-add}
+use Rattle.std.proofs.Common.{◌≡◌, ◌∙◌, ℕ, zero, suc, ◌+◌, ◌<◌, ◌≤◌, ◌&&◌, ◌||◌, ℤ, pos, negsuc, int_lt, nat_lt, ltb-true, le-ltb, List, [], ◌∷◌, map, Bool, true, false, not, length, take, drop, cond, Some, None, Option, option_map, slice_get, get_or, All, ap, sym, refl, subst, arith, zero-add}
 use Rattle.std.specs.List.{range_with_len}
 use Rattle.std.specs.Arc.{arc_value}
 use Rattle.std.specs.Option.{IsSome}
 use Rattle.std.proofs.Math.Seq.{take-nil}
 use Rattle.std.proofs.lemmas.Bool.{and_parts, false≢true}
-use Rattle.std.proofs.lemmas.Bool.Decides.{nat_tests}
 use Rattle.std.proofs.lemmas.List.{drop-map, length-map, take-map}
 use Rattle.std.proofs.lemmas.List.Elements.{All-from_get_or}
 use Rattle.std.proofs.lemmas.List.FromFn.{get_or-map-range_with_len, length-map-range_with_len}

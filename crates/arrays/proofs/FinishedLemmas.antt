@@ -1,13 +1,9 @@
 -- A column that was built slot by slot, as an array.
-use Rattle.std.proofs.Common.{◌≡◌, ◌∙◌, ℕ, ◌+◌, ◌<◌, ◌++◌, ◌∷◌, List, [], map, Bool, true, false, not, length, cond, get_or, Option, Some, None, option_map, ap, sym, subst, refl, arith, zero-add, length-append}
+use Rattle.std.proofs.Common.{◌≡◌, ◌∙◌, ℕ, ◌+◌, ◌<◌, List, [], map, Bool, true, false, not, length, cond, get_or, Option, option_map, ap, sym, refl, zero-add}
 use Rattle.std.specs.List.{range_with_len}
 use Rattle.std.proofs.lemmas.Simd.{map-map}
-use Rattle.std.proofs.lemmas.List.{get_or_append_left}
-use Rattle.std.proofs.lemmas.List.FromFn.{map-range_with_len_more}
-use Rattle.std.proofs.Math.Seq.{get_or-append_seam}
 use Rattle.colbits.specs.Bit.{bits}
 use Rattle.colbits.proofs.BitLemmas.{listed}
-use Rattle.layout.specs.Fault.{is_validity_short}
 use Rattle.layout.specs.Item.{Item, null, is_null}
 use Rattle.types.specs.Kind.{Kind}
 use Rattle.layout.specs.Layout.{is_valid_in}

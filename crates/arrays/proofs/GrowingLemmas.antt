@@ -1,5 +1,5 @@
 -- Columns of truth values grow by one slot.
-use Rattle.std.proofs.Common.{◌≡◌, ◌∙◌, ℕ, ◌+◌, ◌<◌, ◌++◌, ◌∷◌, List, [], map, Bool, true, false, length, cond, get_or, Option, Some, None, ap, sym, refl, arith, zero-add, length-append, unwrap_or, is_some}
+use Rattle.std.proofs.Common.{◌≡◌, ◌∙◌, ℕ, ◌<◌, ◌++◌, ◌∷◌, List, [], map, Bool, false, length, cond, get_or, Option, Some, None, ap, sym, refl, arith, zero-add, length-append, unwrap_or, is_some}
 use Rattle.std.specs.List.{range_with_len}
 use Rattle.std.proofs.lemmas.List.{get_or_append_left}
 use Rattle.std.proofs.lemmas.List.FromFn.{map-range_with_len_more, length-map-range_with_len}

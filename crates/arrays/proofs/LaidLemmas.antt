@@ -1,5 +1,5 @@
 -- Offsets that grow slot by slot, and what arrays of them show.
-use Rattle.std.proofs.Common.{◌≡◌, ◌∙◌, ℕ, ◌+◌, ◌-◌, ◌*◌, ◌<◌, ◌≤◌, pos, List, [], ◌∷◌, ◌++◌, map, Bool, true, false, not, length, drop, cond, get_or, Option, Some, None, is_some, unwrap_or, option_map, nat_lt, ltb-true, ltb-false, lt-ltb, le-ltb, to_z, ap, sym, subst, refl, arith, length-append, zero-add}
+use Rattle.std.proofs.Common.{◌≡◌, ◌∙◌, ℕ, ◌+◌, ◌-◌, ◌*◌, ◌<◌, ◌≤◌, pos, List, [], ◌∷◌, ◌++◌, map, Bool, true, false, not, length, drop, cond, get_or, Option, Some, None, is_some, unwrap_or, nat_lt, ltb-true, ltb-false, lt-ltb, le-ltb, to_z, ap, sym, subst, refl, arith, length-append, zero-add}
 use borrow.Author.Count.{below_more}
 use Rattle.std.specs.Int.{w128}
 use Rattle.std.specs.List.{range_with_len, All}

@@ -1,5 +1,5 @@
 -- Items are of their column's kind.
-use Rattle.std.proofs.Common.{◌≡◌, ℕ, zero, suc, ◌+◌, ◌*◌, ◌^◌, ◌<◌, pos, negsuc, List, [], ◌∷◌, length, Bool, true, false, cond, get_or, All, sym, refl, subst, arith, map, zero-add}
+use Rattle.std.proofs.Common.{◌≡◌, ℕ, zero, suc, ◌+◌, ◌*◌, ◌^◌, ◌<◌, pos, List, [], ◌∷◌, length, Bool, true, false, cond, get_or, All, sym, refl, subst, arith, map, zero-add}
 use mir.Val.{bits}
 use Rattle.std.proofs.Math.Facts.{sfits_to_z}
 use Rattle.std.proofs.lemmas.Int.{ints}

@@ -1,5 +1,5 @@
 -- What a view shows of its array.
-use Rattle.std.proofs.Common.{◌≡◌, ℕ, ◌+◌, ◌≤◌, map, length, None, option_map, arith}
+use Rattle.std.proofs.Common.{◌≡◌, ◌+◌, ◌≤◌, map, length, None, option_map, arith}
 use Rattle.std.specs.Arc.{arc_value}
 use Rattle.layout.specs.Reading.{reading}
 use Rattle.layout.specs.Checked.{checked_texts}

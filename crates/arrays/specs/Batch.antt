@@ -1,5 +1,5 @@
 -- A record batch, and what it refuses.
-use Rattle.std.specs.Prelude.{ℕ, ◌==◌, List, map, length, not, nat_lt, if◌then◌else◌, Option, Some, None, option_map, position, slice_index_or, refl}
+use Rattle.std.specs.Prelude.{ℕ, ◌==◌, List, map, length, not, nat_lt, if◌then◌else◌, Option, Some, option_map, position, slice_index_or, refl}
 use Rattle.std.specs.List.{range_with_len, zip}
 use Rattle.layout.specs.Item.{Item, null}
 use Rattle.types.specs.Kind.{same_kind}

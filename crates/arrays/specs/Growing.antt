@@ -1,5 +1,5 @@
 -- Columns of truth values, texts and lists in the making.
-use Rattle.std.specs.Prelude.{◌≡◌, ℕ, ◌+◌, ◌*◌, ◌<◌, ◌≤◌, List, [], ◌∷◌, Bool, true, false, map, take, drop, length, if◌then◌else◌, slice_index_or, Option, Some, None, option_map}
+use Rattle.std.specs.Prelude.{◌≡◌, ℕ, ◌+◌, ◌*◌, ◌<◌, ◌≤◌, List, [], ◌∷◌, Bool, false, map, take, drop, length, if◌then◌else◌, slice_index_or, Option, Some, None, option_map}
 use Rattle.std.specs.List.{range_with_len, All}
 use Rattle.std.specs.Str.{IsUtf8}
 use Rattle.colbits.specs.Bit.{bits}

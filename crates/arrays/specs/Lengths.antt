@@ -1,5 +1,5 @@
 -- How much the items of a column hold together, and columns cut by such lengths.
-use Rattle.std.specs.Prelude.{◌≡◌, ◌⊎◌, ℕ, List, [], ◌∷◌, ◌++◌, length, take, drop, sum_by, flat_map, Option, Some, None, Bool, true, false, nat_lt, unwrap_or}
+use Rattle.std.specs.Prelude.{◌≡◌, ◌⊎◌, ℕ, List, [], ◌∷◌, length, take, drop, sum_by, flat_map, Option, Some, None, Bool, true, false, nat_lt, unwrap_or}
 use Rattle.layout.specs.Item.{Item, null, text, list, items_of, list_of}
 use Rattle.arrays.specs.declared.builder.fault.BuildFault.{BuildFault}
 use Rattle.arrays.specs.declared.builder.fault.BuildFault.TheVariants.{NoMemory, OffsetsFull}

@@ -1,4 +1,4 @@
-ghost use Rattle.std.specs.Prelude.{◌≡◌, ◌+◌, ◌*◌, ◌<◌, ◌≤◌, [], ◌∷◌, ◌++◌, length, take, None, IfOk, OnOk, OnErr, if◌then◌else◌};
+ghost use Rattle.std.specs.Prelude.{◌≡◌, ◌+◌, ◌*◌, ◌<◌, ◌≤◌, [], ◌∷◌, ◌++◌, length, take, IfOk, OnOk, OnErr, if◌then◌else◌};
 ghost use Rattle.std.specs.Option.{ForSome};
 ghost use Rattle.types.specs.Number.{IsOfType};
 ghost use Rattle.types.specs.Kind as kind;
@@ -13,7 +13,7 @@ pub mod texts;
 pub mod validity;
 
 use crate::array::Array;
-use crate::validity::{buffer_of, is_valid};
+use crate::validity::buffer_of;
 use crate::view::View;
 use colbits::{Bits, Buffer, NoMemory};
 use std::alloc::Global;
@@ -96,7 +96,8 @@ impl IntBuilder {
         }
     }
 
-    /// The column with all slots of a view of the same type at its end. Numbers without a null are copied at once.
+    /// The column with all slots of a view of the same type at its end. The numbers are copied at once, with what lies
+    /// under nulls.
     pub fn extended<T: Integer>(self, view: &View<'_>) -> Result<IntBuilder, NoMemory>
         requires kind { view.now.kind ≡ kind.int self.ty }
         requires ty { T.ty ≡ self.ty }
@@ -105,11 +106,7 @@ impl IntBuilder {
         ensures items { IfOk result (λ b. b.items ≡ self.items ++ view.now.items) }
     {
         let numbers = view.numbers(T::ty());
-        let len = view.len();
-        match view.validity() {
-            None => self.extended_at_once(numbers, len),
-            validity => self.extended_by_slot::<T>(numbers, &validity, len),
-        }
+        self.extended_at_once(numbers, &view.validity(), view.len())
     }
 
     /// The column as an array, with a validity only where there is a null.
@@ -130,12 +127,17 @@ impl IntBuilder {
         Array::from_numbers(alloc, ty, len, buffer_of(validity), values)
     }
 
-    /// The column with so many valid slots at its end, whose numbers are these.
-    fn extended_at_once(self, numbers: &[u8], count: usize) -> Result<IntBuilder, NoMemory>
+    /// The column with so many slots at its end, whose numbers are these where they are valid.
+    fn extended_at_once(
+        self,
+        numbers: &[u8],
+        validity: &Option<Bits<'_>>,
+        count: usize,
+    ) -> Result<IntBuilder, NoMemory>
         requires size { length numbers.now ≡ count * bytes_of self.ty.bits }
         requires room { length self.items + count ≤ 2147483647 }
         ensures ty { IfOk result (λ b. b.ty ≡ self.ty) }
-        ensures items { IfOk result (λ b. b.items ≡ self.items ++ numbers_where None self.ty numbers.now count) }
+        ensures items { IfOk result (λ b. b.items ≡ self.items ++ numbers_where validity.now self.ty numbers.now count) }
     {
         let IntBuilder {
             alloc,
@@ -144,38 +146,13 @@ impl IntBuilder {
             mut valid,
         } = self;
         values.extend_from_slice(numbers)?;
-        valid.push_valid(count)?;
+        valid.push_slots(validity, count)?;
         Ok(IntBuilder {
             alloc,
             ty,
             values,
             valid,
         })
-    }
-
-    /// The column with so many slots at its end, whose numbers are these where they are valid.
-    fn extended_by_slot<T: Integer>(
-        self,
-        numbers: &[u8],
-        validity: &Option<Bits<'_>>,
-        count: usize,
-    ) -> Result<IntBuilder, NoMemory>
-        requires ty { T.ty ≡ self.ty }
-        requires size { length numbers.now ≡ count * bytes_of self.ty.bits }
-        requires room { length self.items + count ≤ 2147483647 }
-        ensures ty { IfOk result (λ b. b.ty ≡ self.ty) }
-        ensures items { IfOk result (λ b. b.items ≡ self.items ++ numbers_where validity.now self.ty numbers.now count) }
-    {
-        let mut builder = self;
-        for j in 0..count {
-            let number = if is_valid(validity, j) {
-                Some(T::at(numbers, j))
-            } else {
-                None
-            };
-            builder.push_as::<T>(number)?;
-        }
-        Ok(builder)
     }
 
     fn add(&mut self, number: i128, valid: bool) -> Result<(), NoMemory>

@@ -14,11 +14,17 @@ use std::alloc::Global;
 pub fn validity_of<P: Places>(alloc: Global, places: &P) -> Result<Option<BitmapBuf>, NoMemory>
     ensures { IfOk result (λ v. v ≡ kept (map (P.at places.now) (range_with_len 0 (P.count places.now)))) }
 {
-    let bitmap = BitmapBuf::from_places(alloc, places)?;
-    if bitmap.bits().are_ones() {
-        return Ok(None);
+    Ok(kept_of(BitmapBuf::from_places(alloc, places)?))
+}
+
+/// The validity, none where each slot is valid.
+pub(crate) fn kept_of(validity: BitmapBuf) -> Option<BitmapBuf>
+    ensures { result ≡ kept validity }
+{
+    if validity.bits().are_ones() {
+        return None;
     }
-    Ok(Some(bitmap))
+    Some(validity)
 }
 
 /// The buffer of a validity, as the makers of arrays take it.

@@ -1,3 +1,4 @@
 pub mod BitLemmas
+pub mod BuildingLemmas
 pub mod LaneLemmas
 pub mod WordLemmas

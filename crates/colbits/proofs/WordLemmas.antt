@@ -1,5 +1,5 @@
 -- Bits of words of 64 bits, and of the eight bytes that hold them.
-use Rattle.std.proofs.Common.{◌≡◌, ℕ, zero, suc, ◌+◌, ◌-◌, ◌*◌, ◌/◌, ◌%◌, ◌^◌, ◌<◌, ◌≤◌, ◌&&◌, ◌||◌, ◌++◌, ◌∙◌, inl, inr, Bool, false, not, List, max, min, map, length, take, drop, get_or, slice_index, nat_eq, nat_lt, bit_and, bit_or, w64, cond, count_by, refl, sym, ap, subst, arith, add-zero, zero-add, length-append, lt-ltb, le-ltb}
+use Rattle.std.proofs.Common.{◌≡◌, ℕ, zero, suc, ◌+◌, ◌-◌, ◌*◌, ◌/◌, ◌%◌, ◌^◌, ◌<◌, ◌≤◌, ◌&&◌, ◌||◌, ◌++◌, ◌∙◌, inl, inr, Bool, true, false, not, List, max, min, map, length, take, drop, get_or, slice_index, nat_eq, nat_lt, bit_and, bit_or, w64, cond, count_by, refl, sym, ap, subst, arith, add-zero, zero-add, length-append, lt-ltb, le-ltb}
 use mir.Val.{bits as width}
 use Rattle.std.specs.Int.{Width, bit_at, byte_at, byte_worth, bytes_low_first, sum_through, from_le_bytes, to_le_bytes}
 use Rattle.std.specs.Int.RustNames.{count_ones}
@@ -7,12 +7,12 @@ use Rattle.std.specs.List.{range_with_len}
 use Rattle.std.proofs.Math.Nat.{pow-suc, div-one, mul-le-mul_right}
 use Rattle.std.proofs.Math.ListN.{get_or-append}
 use Rattle.std.proofs.lemmas.Nat.{pow-add, pow_pos, shr-shr, shr_split}
-use Rattle.std.proofs.lemmas.Nat.Bits.{bit_at-lt, bit_at-zero, bit_at_above, bit_at_and, bit_at_cat_high, bit_at_cat_low, bit_at_not, bit_at_or, same_from_bits_below}
+use Rattle.std.proofs.lemmas.Nat.Bits.{bit_at-lt, bit_at-zero, bit_at_above, bit_at_ones, bit_at_ones_above, bit_at_and, bit_at_cat_high, bit_at_cat_low, bit_at_not, bit_at_or, same_from_bits_below}
 use Rattle.std.proofs.lemmas.Bool.{cases_lt}
 use Rattle.std.proofs.lemmas.List.{get_or-append-add, get_or-drop, get_or-take, get_or_past, length-take, length-take-le, map-id, take_all}
 use Rattle.std.proofs.lemmas.List.Sums.{sum_by-append}
 use Rattle.std.proofs.Math.Seq.{take-add}
-use Rattle.std.proofs.Math.Pow.{pow_mono}
+use Rattle.std.proofs.Math.Pow.{ones_lt, pow-lt, pow_mono}
 use Rattle.std.proofs.lemmas.Simd.{mask_l-lt, bit_mask_l, ones-mask_l}
 use lib.Lanes.{mask_l}
 use Rattle.std.proofs.lemmas.List.FromFn.{get_or-map-range_with_len}
@@ -55,10 +55,10 @@ bit_at-shr n k i = ap (λ x. x % 2) (shr-shr n k i)
 pub bit_at-mod : (n k i : ℕ) → i < k → bit_at (n % 2 ^ k) i ≡ bit_at n i
 bit_at-mod n k i within = sym (bit_at_cat_low (n / 2 ^ k) k (n % 2 ^ k) i within) ∙ ap (λ x. bit_at x i) (shr_split n k)
 
-bit_at-shl_low : (n k i : ℕ) → i < k → bit_at (n * 2 ^ k) i ≡ 0
+pub bit_at-shl_low : (n k i : ℕ) → i < k → bit_at (n * 2 ^ k) i ≡ 0
 bit_at-shl_low n k i below = ap (λ x. bit_at x i) (sym (add-zero (n * 2 ^ k))) ∙ bit_at_cat_low n k 0 i below ∙ bit_at-zero i
 
-bit_at-shl_high : (n k i : ℕ) → bit_at (n * 2 ^ k) (k + i) ≡ bit_at n i
+pub bit_at-shl_high : (n k i : ℕ) → bit_at (n * 2 ^ k) (k + i) ≡ bit_at n i
 bit_at-shl_high n k i =
     ap (λ x. bit_at x (k + i)) (sym (add-zero (n * 2 ^ k))) ∙ bit_at_cat_high n k 0 (k + i) (pow_pos k) (omega arith) ∙ ap (bit_at n) (omega arith)
 
@@ -178,13 +178,41 @@ ones-more xs n = ap (count_by (λ b. b)) (take-add n 64 xs) ∙ sum_by-append (�
 pub ones-rest : (xs : List Bool) (n : ℕ) → length xs ≤ n + 64 → count_by (λ b. b) xs ≡ count_by (λ b. b) (take n xs) + count_by (λ b. b) (take 64 (drop n xs))
 ones-rest xs n h = ap (count_by (λ b. b)) (sym (take_all (n + 64) xs h)) ∙ ones-more xs n
 
+-- a word that tells the 64 places from place i on, of which the first n are there
+module _ (xs : List Bool) (i n word : ℕ) (small : n ≤ 64) (fits : word < 2 ^ 64) (told : (j : ℕ) → j < 64 → bit_in word j ≡ bit_of xs (i + j)) where
+  -- they are 1 where it is all ones
+  pub ones_from_word : word ≡ 2 ^ n - 1 → (j : ℕ) → j < n → bit_of xs (i + j) ≡ true
+  ones_from_word is j below = sym (told j (omega arith)) ∙ ap (λ w. bit_in w j) is ∙ ap (λ b. nat_eq b 1) (bit_at_ones n j below)
+
+  -- and only there
+  pub word_from_ones : ((j : ℕ) → n ≤ j → j < 64 → bit_of xs (i + j) ≡ false) → ((j : ℕ) → j < n → bit_of xs (i + j) ≡ true) → word ≡ 2 ^ n - 1
+  word_from_ones zeros ones =
+      let below : 2 ^ n - 1 < 2 ^ 64 = omega (arith, ones_lt n, pow_mono small) in
+      same_from_bits_below 64 word (2 ^ n - 1) fits below
+      (λ j within. elim (cases_lt j n) [
+        | inl here ↦ bit-from_test (bit_at word j) true (bit_at-lt word j) (told j within ∙ ones j here) ∙ sym (bit_at_ones n j here)
+        | inr past ↦ bit-from_test (bit_at word j) false (bit_at-lt word j) (told j within ∙ zeros j past within) ∙ sym (bit_at_ones_above n j past)
+      ])
+
+-- the ones of the first n bits, and of the m behind them
+pub both_ones : (xs : List Bool) (n m : ℕ) → ((k : ℕ) → k < n → bit_of xs k ≡ true) → ((j : ℕ) → j < m → bit_of xs (n + j) ≡ true) → (k : ℕ) → k < n + m → bit_of xs k ≡ true
+both_ones xs n m before here k within =
+    elim (cases_lt k n) [
+      | inl low ↦ before k low
+      | inr high ↦ (let at : k ≡ n + (k - n) = omega arith in ap (bit_of xs) at ∙ here (k - n) (omega arith))
+    ]
+
+-- the first r bits
+pub ones-shifted : (r : ℕ) → r < 64 → 1 * 2 ^ r % 2 ^ 64 - 1 ≡ 2 ^ r - 1
+ones-shifted r small = omega (arith, pow-lt small)
+
 -- ---- places that are packed
 
-bit-append_low : (xs ys : List ℕ) (i : ℕ) → i < 8 * length xs → bit (xs ++ ys) i ≡ bit xs i
+pub bit-append_low : (xs ys : List ℕ) (i : ℕ) → i < 8 * length xs → bit (xs ++ ys) i ≡ bit xs i
 unfolding bit
 bit-append_low xs ys i h = ap (λ b. nat_eq (bit_at b (i % 8)) 1) (get_or-append xs ys 0 (i / 8) (omega arith))
 
-bit-append_high : (xs ys : List ℕ) (i : ℕ) → bit (xs ++ ys) (8 * length xs + i) ≡ bit ys i
+pub bit-append_high : (xs ys : List ℕ) (i : ℕ) → bit (xs ++ ys) (8 * length xs + i) ≡ bit ys i
 unfolding bit
 bit-append_high xs ys i =
     ap (λ b. nat_eq (bit_at b ((8 * length xs + i) % 8)) 1) (ap (λ k. get_or (xs ++ ys) k 0) (omega arith) ∙ get_or-append-add xs ys (i / 8) 0)
@@ -219,7 +247,7 @@ pub record ArePlaces (f : ℕ → Bool) (n : ℕ) (bytes : List ℕ) : Type 0 wh
   pub bits_are : (i : ℕ) → bit bytes i ≡ (nat_lt i n && f i)
 
 pub word-last : (f : ℕ → Bool) (bytes : List ℕ) (n w last : ℕ) → length bytes ≡ 8 * w → 64 * w ≤ n → n < 64 * w + 64 → ((i : ℕ) → i < 64 * w → bit bytes i ≡ f i)
-    → ((k : ℕ) → bit_in last k ≡ (nat_lt k (n - 64 * w) && f (64 * w + k))) → ArePlaces f n (bytes ++ take ((n - 64 * w + 7) / 8) (to_le_bytes w64 last))
+    → ((k : ℕ) → k < 64 → bit_in last k ≡ (nat_lt k (n - 64 * w) && f (64 * w + k))) → ArePlaces f n (bytes ++ take ((n - 64 * w + 7) / 8) (to_le_bytes w64 last))
 word-last f bytes n w last long within end before here =
     let rest = n - 64 * w in
     let size = (rest + 7) / 8 in
@@ -227,7 +255,7 @@ word-last f bytes n w last long within end before here =
     let few : size ≤ 8 = omega arith in
     let sized : length (bytes ++ more) ≡ (n + 7) / 8 = omega (arith, length-append bytes more, length-take-le size (to_le_bytes w64 last) few) in
     let low = λ (i : ℕ) (h : i < 8 * (8 * w)). before i (omega arith) ∙ ap (λ b. b && f i) (sym (lt-ltb i n (omega arith))) in
-    let high = λ (j : ℕ) (h : j < 8 * size). bit-take (to_le_bytes w64 last) size j h ∙ bit-to_le last j (omega arith) ∙ here j
+    let high = λ (j : ℕ) (h : j < 8 * size). bit-take (to_le_bytes w64 last) size j h ∙ bit-to_le last j (omega arith) ∙ here j (omega arith)
     ∙ (λ i. same j i && f (at j i)) in
     record {
       long = sized;

@@ -1,4 +1,5 @@
 pub mod Bit
 pub mod Bitmap
+pub mod Building
 pub mod Padding
 pub mod Slice

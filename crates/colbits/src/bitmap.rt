@@ -3,6 +3,8 @@ ghost use Rattle.std.specs.List.{range_with_len};
 ghost use Rattle.colbits.specs.Bit.{bit, bit_in, bits};
 ghost use Rattle.colbits.specs.Bitmap.{place_by_place};
 
+pub mod builder;
+
 use crate::bits::Bits;
 use crate::buffer::Buffer;
 use crate::memory::NoMemory;

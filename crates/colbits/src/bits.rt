@@ -161,16 +161,18 @@ impl<'a> Bits<'a> {
         ones + self.word(64 * words).count_ones() as usize
     }
 
-    /// Whether each of the bits is 1. It looks no further than the first that is 0.
+    /// Whether each of the bits is 1. It looks no further than the first 64 that aren't all 1.
     pub fn are_ones(&self) -> bool
         ensures { IsTrue result ↔ All (λ b. b ≡ true) self.now }
     {
-        let count = self.len();
-        for i in 0..count {
-            if !self.get(i) {
+        let len = self.len();
+        let words = len / 64;
+        for w in 0..words {
+            if self.whole_word(64 * w) != u64::MAX {
                 return false;
             }
         }
-        true
+        let rest = len - 64 * words;
+        self.word(64 * words) == (1 << rest) - 1
     }
 }

@@ -10,6 +10,7 @@ pub mod places;
 mod word;
 
 pub use bitmap::BitmapBuf;
+pub use bitmap::builder::BitmapBuilder;
 pub use bits::Bits;
 pub use buffer::Buffer;
 pub use lanes::lanes_of;

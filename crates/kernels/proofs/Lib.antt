@@ -4,4 +4,5 @@ pub mod ComparisonLemmas
 pub mod KleeneLemmas
 pub mod PackedLemmas
 pub mod NumberLemmas
+pub mod CheckedLemmas
 pub mod ResultLemmas

@@ -1,8 +1,10 @@
 -- Numbers of one type that are computed slot by slot.
-use Rattle.std.specs.Prelude.{◌≡◌, ℕ, ◌*◌, ◌<◌, ℤ, List, Bool, true, false, length}
+use Rattle.std.specs.Prelude.{◌≡◌, ℕ, ◌+◌, ◌*◌, ◌<◌, ◌&&◌, ℤ, pos, List, Bool, true, false, not, nat_lt, length, if◌then◌else◌}
+use Rattle.std.specs.List.{flat_map, range_with_len}
+use Rattle.colbits.specs.Bit.{bit_in}
 use Rattle.types.specs.declared.int_type.IntType.{IntType}
 use Rattle.arrays.specs.Kind.{bytes_of}
-use Rattle.arrays.specs.Number.{number_at, is_of_type}
+use Rattle.arrays.specs.Number.{number_at, is_of_type, bytes_of_number}
 use Rattle.kernels.specs.declared.fault.KernelFault.{KernelFault}
 use Rattle.kernels.specs.declared.fault.KernelFault.TheVariants.{Overflow, NoMemory}
 
@@ -19,6 +21,18 @@ pub record AreResults (t : IntType) (result : ℕ → ℤ) (valid : ℕ → Bool
   pub size : length bytes ≡ n * bytes_of t.bits
   pub numbers : (j : ℕ) → j < n → valid j ≡ true → number_at t bytes j ≡ result j
   pub of_type : AreOfType t result valid n
+
+-- The result at a slot where it is of the type, else 0.
+abbrev pub held_at : IntType → (ℕ → ℤ) → ℕ → ℤ
+held_at t result j = if is_of_type t (result j) then result j else pos 0
+
+-- The bytes of these numbers of the n slots from slot start on, one behind the other.
+unfoldable pub bytes_of_results : IntType → (ℕ → ℤ) → ℕ → ℕ → List ℕ
+bytes_of_results t result start n = flat_map (λ j. bytes_of_number t (held_at t result j)) (range_with_len start n)
+
+-- The word has a bit for each of the n slots from slot start on, 1 where the result is outside the type; all others are 0.
+pub record AreOutside (t : IntType) (result : ℕ → ℤ) (start n word : ℕ) : Type 0 where
+  pub each : (j : ℕ) → bit_in word j ≡ (nat_lt j n && not (is_of_type t (result (start + j))))
 
 -- The least valid one of n slots whose result is outside the type.
 pub record IsLeastOutside (t : IntType) (result : ℕ → ℤ) (valid : ℕ → Bool) (n row : ℕ) : Type 0 where

@@ -1,6 +1,6 @@
 //! Checked arithmetic on two columns of one integer type, place by place.
 
-ghost use Rattle.std.specs.Prelude.{◌≡◌, ◌+◌, ◌≤◌, ◌*◌, ◌+ℤ◌, ◌-ℤ◌, ◌*ℤ◌, IfErr, IfNone, IfOk, IfSome};
+ghost use Rattle.std.specs.Prelude.{◌≡◌, ◌+◌, ◌++◌, ◌≤◌, ◌*◌, ◌+ℤ◌, ◌-ℤ◌, ◌*ℤ◌, IfErr, IfNone, IfOk, IfSome, OnOk};
 ghost use Rattle.std.specs.Prelude.{None, true, false, length};
 ghost use Rattle.arrays.specs.Kind as kind;
 ghost use Rattle.arrays.specs.Kind.{bytes_of};
@@ -8,16 +8,16 @@ ghost use Rattle.arrays.specs.Number.{is_of_type};
 ghost use Rattle.arrays.specs.Seen.{valid_in};
 ghost use Rattle.arrays.specs.ViewType.{view_kind};
 ghost use Rattle.kernels.specs.Arithmetic.{are_one_int, arithmetic_fault, operands_fault, results};
-ghost use Rattle.kernels.specs.Computed.{AreResults, StopsAt, result_at};
+ghost use Rattle.kernels.specs.Computed.{AreOutside, AreResults, StopsAt, bytes_of_results, result_at};
 ghost use Rattle.kernels.specs.Fault.{IsKernelFault};
 ghost use Rattle.arrays.specs.Shown.{shown};
 
 use crate::fault::KernelFault;
-use arrays::validity::{buffer_of, is_valid};
+use arrays::validity::buffer_of;
 use arrays::{Array, IntType, Integer, View, ViewType, Width};
-use colbits::{BitmapBuf, Bits, Buffer};
+use colbits::{BitmapBuf, Bits, Buffer, NoMemory};
 use std::alloc::Global;
-use truths::both_valid;
+use truths::{both_valid, valid_word};
 
 /// The sums of two columns of one integer type: null where either is null, else the exact sum, which has to be of
 /// the type. `TypesDiffer` unless both columns are of one integer type; else `LengthsDiffer` unless they are of one
@@ -180,8 +180,8 @@ fn bits_of(validity: &Option<BitmapBuf>) -> Option<Bits<'_>>
     }
 }
 
-/// The results of `len` slots as numbers of the type, any number where a slot isn't valid. It stops at the first
-/// valid slot whose result is outside the type: only of such a result it asks whether the slot is valid.
+/// The results of `len` slots as numbers of the type, any number where a slot isn't valid. It stops in the first 64
+/// slots that hold a valid one whose result is outside the type.
 fn numbers<O: Operation, T: Integer>(
     alloc: Global,
     a: &[u8],
@@ -198,22 +198,73 @@ fn numbers<O: Operation, T: Integer>(
         IfErr result (λ e. StopsAt T.ty exact (valid_in valid.now) len e) }
 {
     let count = len as usize;
+    let words = count / 64;
 
     // A buffer is padded by at most 63 bytes, so that the numbers aren't copied again.
     let mut numbers = Vec::with_capacity(alloc, count * T::ty().bits.bytes() + 63)?;
-    for j in 0..count {
-        let number = match exact_number::<O, T>(a, b, j) {
-            Some(number) => number,
-            None => {
-                if is_valid(valid, j) {
-                    return Err(KernelFault::Overflow { row: j });
-                }
-                0
-            }
-        };
-        T::push(&mut numbers, number)?;
+    for w in 0..words {
+        push_checked::<O, T>(&mut numbers, a, b, valid, 64 * w, 64)?;
     }
+    push_checked::<O, T>(&mut numbers, a, b, valid, 64 * words, count - 64 * words)?;
     Ok(numbers)
+}
+
+/// Adds the results of `count` slots from slot `start` on, and tells the first valid one that is outside the type.
+fn push_checked<O: Operation, T: Integer>(
+    numbers: &mut Vec<u8>,
+    a: &[u8],
+    b: &[u8],
+    valid: &Option<Bits<'_>>,
+    start: usize,
+    count: usize,
+) -> Result<(), KernelFault>
+    requires word { count ≤ 64 }
+    requires short { start + count ≤ 2147483647 }
+    requires a { (start + count) * bytes_of T.ty.bits ≤ length a.now }
+    requires b { (start + count) * bytes_of T.ty.bits ≤ length b.now }
+    requires before { let exact = result_at O.exact T.ty a.now b.now in
+        AreResults T.ty exact (valid_in valid.now) start numbers.old.items }
+    ensures ok { let exact = result_at O.exact T.ty a.now b.now in
+        OnOk result (AreResults T.ty exact (valid_in valid.now) (start + count) numbers.new.items) }
+    ensures err { let exact = result_at O.exact T.ty a.now b.now in
+        IfErr result (λ e. StopsAt T.ty exact (valid_in valid.now) (start + count) e) }
+{
+    let outside = push_results::<O, T>(numbers, a, b, start, count)?;
+    let bad = outside & valid_word(valid, start);
+    if bad != 0 {
+        return Err(KernelFault::Overflow {
+            row: start + bad.trailing_zeros() as usize,
+        });
+    }
+    Ok(())
+}
+
+/// Adds the results of `count` slots from slot `start` on, 0 where one is outside the type, and tells where these are:
+/// the first slot's bit is the least significant. Nothing branches on a result.
+#[inline(always)]
+fn push_results<O: Operation, T: Integer>(
+    numbers: &mut Vec<u8>,
+    a: &[u8],
+    b: &[u8],
+    start: usize,
+    count: usize,
+) -> Result<u64, NoMemory>
+    requires word { count ≤ 64 }
+    requires short { start + count ≤ 2147483647 }
+    requires a { (start + count) * bytes_of T.ty.bits ≤ length a.now }
+    requires b { (start + count) * bytes_of T.ty.bits ≤ length b.now }
+    ensures numbers { let exact = result_at O.exact T.ty a.now b.now in
+        OnOk result (numbers.new.items ≡ numbers.old.items ++ bytes_of_results T.ty exact start count) }
+    ensures outside { let exact = result_at O.exact T.ty a.now b.now in
+        IfOk result (λ word. AreOutside T.ty exact start count word) }
+{
+    let mut outside = 0;
+    for j in 0..count {
+        let number = exact_number::<O, T>(a, b, start + j);
+        outside |= u64::from(number.is_none()) << j;
+        T::push(numbers, number.unwrap_or(0))?;
+    }
+    Ok(outside)
 }
 
 /// The exact result of the two numbers `j`, none where it is outside the type.

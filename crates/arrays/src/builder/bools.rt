@@ -8,7 +8,7 @@ ghost use Rattle.arrays.specs.Slot.{item_of_bool};
 use super::validity::ValidityBuilder;
 use crate::array::Array;
 use crate::validity::buffer_of;
-use colbits::{BitmapBuf, NoMemory};
+use colbits::{BitmapBuilder, NoMemory};
 use std::alloc::Global;
 use std::marker::Model;
 
@@ -16,7 +16,7 @@ use std::marker::Model;
 #[derive(Drop)]
 pub struct BoolBuilder {
     alloc: Global,
-    values: Vec<bool>,
+    values: BitmapBuilder,
     valid: ValidityBuilder,
 }
 
@@ -30,9 +30,9 @@ impl Model for BoolBuilder {
 
     ghost coded = { items_code };
 
-    ghost view = { λ b. bools_where b.values.items b.valid };
+    ghost view = { λ b. bools_where b.values b.valid };
 
-    ghost invariant = { λ b. length b.values.items ≡ length b.valid };
+    ghost invariant = { λ b. length b.values ≡ length b.valid };
 }
 
 impl BoolBuilder {
@@ -42,7 +42,7 @@ impl BoolBuilder {
     {
         Ok(BoolBuilder {
             alloc,
-            values: Vec::with_capacity(alloc, slots)?,
+            values: BitmapBuilder::with_capacity(alloc, slots)?,
             valid: ValidityBuilder::new(alloc),
         })
     }
@@ -53,11 +53,12 @@ impl BoolBuilder {
         ensures ok { OnOk result (self.new ≡ self.old ++ item_of_bool value ∷ []) }
         ensures err { OnErr result (self.new ≡ self.old) }
     {
+        let before = self.values.len();
         self.values.push(value.unwrap_or(false))?;
         match self.valid.push(value.is_some()) {
             Ok(()) => Ok(()),
             Err(error) => {
-                self.values.pop();
+                self.values.truncate(before);
                 Err(error)
             }
         }
@@ -74,7 +75,7 @@ impl BoolBuilder {
         } = self;
         let len = valid.len() as u32;
         let validity = valid.finish()?;
-        let bits = BitmapBuf::from_bools(alloc, &values)?;
+        let bits = values.finish()?;
         Array::from_bits(alloc, len, buffer_of(validity), bits.into_buffer())
     }
 }

@@ -1,9 +1,13 @@
 //! Which slots are valid, in the making.
 
-ghost use Rattle.std.specs.Prelude.{◌≡◌, ℕ, ◌+◌, ◌-◌, ◌<◌, ◌≤◌, ◌||◌, List, Bool, [], ◌∷◌, ◌++◌, true, false, nat_lt, length, replicate, slice_index_or, IfOk, OnErr, OnOk};
+ghost use Rattle.std.specs.Prelude.{◌≡◌, ℕ, ◌+◌, ◌<◌, ◌≤◌, List, Bool, [], ◌∷◌, ◌++◌, true, map, length, replicate, IfOk, OnErr, OnOk};
+ghost use Rattle.std.specs.List.{range_with_len};
+ghost use Rattle.colbits.specs.Bitmap.{bit_of};
+ghost use Rattle.layout.specs.Seen.{valid_in};
 ghost use Rattle.arrays.specs.Shown.{kept};
 
-use colbits::{BitmapBuf, NoMemory, Places};
+use crate::validity::kept_of;
+use colbits::{BitmapBuf, BitmapBuilder, Bits, NoMemory, Places};
 use std::alloc::Global;
 use std::marker::Model;
 
@@ -11,21 +15,22 @@ use std::marker::Model;
 #[derive(Drop)]
 pub struct ValidityBuilder {
     alloc: Global,
-    /// How many slots come before the first null.
+    /// How many valid slots come first.
     before: usize,
-    /// The slots from the first null on.
-    after: Vec<bool>,
+    /// The slots behind them.
+    after: BitmapBuilder,
 }
 
 impl Model for ValidityBuilder {
     ghost use Rattle.std.specs.Prelude.{List, Bool};
-    ghost use Rattle.arrays.specs.Slots.{AreSlots, show_validity};
+    ghost use Rattle.std.specs.Prelude.{◌+◌, ◌≤◌, length};
+    ghost use Rattle.arrays.specs.Slots.{show_validity};
 
     ghost Value = { List Bool };
 
     ghost view = { show_validity };
 
-    ghost invariant = { λ b. AreSlots b.before b.after.items };
+    ghost invariant = { λ b. b.before + length b.after ≤ 2147483647 };
 }
 
 impl ValidityBuilder {
@@ -36,7 +41,7 @@ impl ValidityBuilder {
         ValidityBuilder {
             alloc,
             before: 0,
-            after: Vec::new(alloc),
+            after: BitmapBuilder::new(alloc),
         }
     }
 
@@ -73,8 +78,23 @@ impl ValidityBuilder {
             self.before += count;
             return Ok(());
         }
-        self.after.resize(self.after.len() + count, true)?;
+        self.after.push_ones(count)?;
         Ok(())
+    }
+
+    /// Adds so many slots at the end, valid where the validity says so: 64 of them at a time.
+    pub fn push_slots(&mut self, validity: &Option<Bits<'_>>, count: usize) -> Result<(), NoMemory>
+        requires room { length self.old + count ≤ 2147483647 }
+        ensures ok { OnOk result (self.new ≡ self.old ++ map (valid_in validity.now) (range_with_len 0 count)) }
+        ensures err { OnErr result (self.new ≡ self.old) }
+    {
+        match validity {
+            None => self.push_valid(count),
+            Some(bits) => {
+                self.after.push_places(&Slots { bits, count })?;
+                Ok(())
+            }
+        }
     }
 
     /// The validity, none where each slot is valid.
@@ -89,29 +109,36 @@ impl ValidityBuilder {
         if after.is_empty() {
             return Ok(None);
         }
-        let slots = Slots { before, after };
-        Ok(Some(BitmapBuf::from_places(alloc, &slots)?))
+        let mut slots = BitmapBuilder::with_capacity(alloc, before + after.len())?;
+        slots.push_ones(before)?;
+        let after = after.finish()?;
+        slots.push_bits(&after.bits())?;
+        Ok(kept_of(slots.finish()?))
     }
 }
 
-/// Valid slots, then those that are told.
+/// So many slots, valid where their bit is 1.
 #[derive(Drop)]
-struct Slots {
-    before: usize,
-    after: Vec<bool>,
-    ghost short: { before + length after.items ≤ 2147483647 },
+struct Slots<'a, 'b> {
+    bits: &'a Bits<'b>,
+    count: usize,
 }
 
-impl Places for Slots {
-    ghost at = { λ s i. nat_lt i s.before || slice_index_or s.after.items (i - s.before) false };
+impl<'a, 'b> Places for Slots<'a, 'b> {
+    ghost at = { λ s i. bit_of s.bits.now i };
 
-    ghost count = { λ s. s.before + length s.after.items };
+    ghost count = { λ s. s.count };
 
     fn len(&self) -> usize {
-        self.after.len() + self.before
+        self.count
     }
 
     fn at(&self, i: usize) -> bool {
-        i < self.before || self.after[i - self.before]
+        i < self.bits.len() && self.bits.get(i)
+    }
+
+    #[inline(always)]
+    fn word(&self, i: usize) -> u64 {
+        self.bits.word(i)
     }
 }

@@ -30,8 +30,8 @@ held g c =
     let rest : c.bytes_for.result ≡ (n - 64 * w + 7) / 8 = omega (arith, c.bytes_for.ensures) in
     let is : c.in_ok-buffer.buffer ≡ bytes ++ take ((n - 64 * w + 7) / 8) (to_le_bytes w64 last) =
     c.in_ok-buffer.ensures ∙ c.in_ok-extend_from_slice-2.ensures.items ∙ (λ i. bytes ++ take (rest i) (c.to_le_bytes-2.ensures i)) in
-    let here : (k : ℕ) → bit_in last k ≡ (nat_lt k (n - 64 * w) && f (64 * w + k)) =
-    λ k. subst (λ m. bit_in last k ≡ (nat_lt k (n - m) && f (m + k))) (sym end) (c.last_word-last.ensures k) in
+    let here : (k : ℕ) → k < 64 → bit_in last k ≡ (nat_lt k (n - 64 * w) && f (64 * w + k)) =
+    λ k small. subst (λ m. bit_in last k ≡ (nat_lt k (n - m) && f (m + k))) (sym end) (c.last_word-last.ensures k) in
     subst (ArePlaces f n) (sym is) (word-last f bytes n w last c.loop-w.invariant.0 (omega arith) (omega arith) c.loop-w.invariant.1 here)
 
 pub returns : goal.returns

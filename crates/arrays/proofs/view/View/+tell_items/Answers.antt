@@ -1,6 +1,5 @@
-use Rattle.std.proofs.Common.{◌≡◌, All, List, ap, length, map, subst, sym}
-use Rattle.arrays.specs.Dictionary.{looked_up}
-use Rattle.layout.specs.Item.{Item, boolean, int, list, list_of}
+use Rattle.std.proofs.Common.{All, ap, subst, sym}
+use Rattle.layout.specs.Item.{boolean, int, list, list_of}
 use Rattle.types.specs.Kind as kind
 use Rattle.types.specs.Kind.{Kind}
 use Rattle.types.specs.Number.{number_at}

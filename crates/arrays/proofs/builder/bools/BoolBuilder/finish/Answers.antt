@@ -10,7 +10,7 @@ returns c =
     let s = c.self.inside in
     IfOk-weaker c.from_bits.result _ _
     (λ a is. is
-    ∙ bools-shown c.len-len.result s.values.items s.valid c.in_ok-validity.validity c.buffer_of.result c.into_buffer.result c.in_ok-bits.bits c.len-len.ensures.count c.self.invariant
-    c.in_ok-validity.ensures c.buffer_of.ensures c.into_buffer.ensures (c.in_ok-bits.ensures ∙ c.deref.ensures.value)
+    ∙ bools-shown c.len-len.result s.values s.valid c.in_ok-validity.validity c.buffer_of.result c.into_buffer.result c.in_ok-bits.bits c.len-len.ensures.count c.self.invariant
+    c.in_ok-validity.ensures c.buffer_of.ensures c.into_buffer.ensures c.in_ok-bits.ensures
     ∙ ap (shown kind.boolean) c.self.view_is)
     c.from_bits.ensures
