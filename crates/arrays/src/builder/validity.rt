@@ -11,7 +11,7 @@ use colbits::{BitmapBuf, BitmapBuilder, Bits, NoMemory, Places};
 use std::alloc::Global;
 use std::marker::Model;
 
-/// The validity of a column in the making: nothing is written before the first null.
+/// The validity of a column in the making: nothing is written before the first null that is pushed.
 #[derive(Drop)]
 pub struct ValidityBuilder {
     alloc: Global,
