@@ -9,3 +9,4 @@ pub mod PartLemmas
 pub mod FitLemmas
 pub mod GroupLemmas
 pub mod RunLemmas
+pub mod FieldLemmas

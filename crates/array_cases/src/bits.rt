@@ -1,5 +1,6 @@
 //! Tests of buffers and bitmaps.
 
+mod growing;
 mod words;
 
 use crate::testing::{AllBut, assert_bits};
