@@ -6,7 +6,7 @@ use Rattle.std.specs.Int.{bit_not, trailing_zeros}
 use Rattle.std.proofs.lemmas.Bool.{cases_lt}
 use Rattle.std.proofs.lemmas.List.{get_or_past, length-map, map-append}
 use Rattle.std.proofs.lemmas.List.Elements.{filter-append}
-use Rattle.std.proofs.lemmas.List.Sums.{count_by-le-length, length-filter}
+use Rattle.std.proofs.lemmas.List.Sums.{length-filter}
 use Rattle.std.proofs.lemmas.Nat.Bits.{bit_at-trailing_zeros, bit_at-zero, bit_at_clear_other, bit_at_clear_same}
 use Rattle.colbits.specs.Bit.{bit_in}
 use Rattle.colbits.specs.Bitmap.{bit_of}
@@ -198,9 +198,6 @@ length-rows_of_ones bits =
     ∙ sym (ones-filtered (bit_of bits) rows)
     ∙ length-filter (λ b. b) (map (bit_of bits) rows)
     ∙ ap (count_by (λ b. b)) (listed bits)
-
-pub ones-short : (bits : List Bool) → count_by (λ b. b) bits ≤ length bits
-ones-short bits = count_by-le-length (λ b. b) bits
 
 -- each of them is a row
 pub one-row : (bits : List Bool) (j : ℕ) → j < length (rows_of_ones bits) → is_row (get_or (rows_of_ones bits) j None) ≡ true
