@@ -77,10 +77,7 @@ const FILTERS: [(&str, &str); 24] = [
         r#"{"op":"ne","args":[{"column":"b"},{"column":"b"}]}"#,
         "ff-f",
     ),
-    (
-        r#"{"op":"le","args":[{"column":"w"},{"int":1}]}"#,
-        "fttf",
-    ),
+    (r#"{"op":"le","args":[{"column":"w"},{"int":1}]}"#, "fttf"),
     (r#"{"op":"not","args":[{"column":"b"}]}"#, "ft-f"),
     (
         r#"{"op":"and","args":[{"column":"b"},{"op":"gt","args":[{"column":"v"},{"int":1}]}]}"#,

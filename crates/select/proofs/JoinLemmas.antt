@@ -107,6 +107,14 @@ past-column columns k s old below at is past =
     past-more (total (old ++ map list_length s.items)) (length (inner_items (joined_items columns)))
     (omega (arith, ap total front, sum_by-append (λ (l : Option ℕ). unwrap_or l 0) (old ++ map list_length s.items) rest, total-lengths (joined_items columns))) past
 
+-- texts with the next column's that are too long are so among all
+pub past-texts : (columns : List Seen) (k : ℕ) (s : Seen) (old : List Item) → k < length columns → s ≡ get_or columns k s
+    → old ++ joined_items (drop k columns) ≡ joined_items columns → is_past (text_bytes (old ++ s.items)) ≡ true → is_past (text_bytes (joined_items columns)) ≡ true
+past-texts columns k s old below at is past =
+    let rest = joined_items (drop (k + 1) columns) in
+    let front = front-of (λ (x : Seen). x.items) columns k s old (joined_items columns) below at is in
+    past-more (text_bytes (old ++ s.items)) (text_bytes (joined_items columns)) (omega (arith, ap text_bytes front, sum_by-append text_length (old ++ s.items) rest)) past
+
 -- ---- too much of one column is too much of all
 
 either : (a b : Bool) → (a || b) ≡ true → (a ≡ true) ⊎ (b ≡ true)

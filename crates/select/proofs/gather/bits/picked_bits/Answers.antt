@@ -49,5 +49,5 @@ returns g c =
     let here : (k : ℕ) → bit_in last k ≡ (nat_lt k (n - 64 * w) && f (64 * w + k)) =
     λ k. subst (λ m. bit_in last k ≡ (nat_lt k (n - m) && f (64 * w + k))) (sym end) (bits-here c.args.bits.now picks _ (64 * w) _ last c.loop-word.invariant.told c.next_bits-last.ensures.bits k) in
     let all : ArePlaces f n (bytes ++ take ((n - 64 * w + 7) / 8) (to_le_bytes w64 last)) =
-    word-last f bytes n w last c.loop-word.invariant.long (omega arith) (omega arith) c.loop-word.invariant.packed here in
+    word-last f bytes n w last c.loop-word.invariant.long (omega arith) (omega arith) c.loop-word.invariant.packed (λ k small. here k) in
     IfOk-weaker c.from_vec.result _ _ (λ b held. packed-bitmap f n (length picks) b c.slots-count.ensures.count (subst (ArePlaces f n) (sym (held ∙ is)) all)) c.from_vec.ensures
