@@ -1,6 +1,6 @@
 -- The rows of batches, one batch after the other.
-use Rattle.std.proofs.Common.{◌≡◌, ◌∙◌, ℕ, ◌+◌, ◌<◌, ◌≤◌, ◌^◌, Bool, true, false, not, cond, nat_lt, List, [], ◌∷◌, ◌++◌, length, map, filter, take, drop, get_or, position, Option, Some, None, Result, Ok, Err, All, refl, sym, ap, subst, arith, append_assoc, length-append, take-append-drop, inl, inr, true≢false, get_or-take, zero-add, le_refl}
-use Rattle.std.specs.Prelude.{is_none, unwrap_or, flat_map}
+use Rattle.std.proofs.Common.{◌≡◌, ◌∙◌, ℕ, ◌+◌, ◌<◌, ◌≤◌, Bool, true, false, not, cond, nat_lt, List, [], ◌∷◌, ◌++◌, length, map, filter, take, drop, get_or, position, Option, Some, None, Ok, Err, All, refl, sym, ap, subst, arith, length-append, take-append-drop, get_or-take, zero-add, le_refl}
+use Rattle.std.specs.Prelude.{is_none, unwrap_or}
 use Rattle.std.specs.List.{position_or_len}
 use Rattle.std.proofs.lemmas.Bool.{ltb-true, ltb-false}
 use Rattle.std.proofs.lemmas.Grind.{common_steps, flat_map-append}
@@ -11,7 +11,6 @@ use mathlib.Core.Path.{fun_ext}
 use Rattle.arrays.specs.Batch.{Batch, Row, Table, row_of, rows_of}
 use Rattle.types.specs.Shape.{FieldShape, kind_of_field}
 use Rattle.query.specs.Asked.{asked}
-use Rattle.query.specs.Columns.{sort_at}
 use Rattle.query.specs.Tree.{Tree}
 use Rattle.query.specs.declared.queries.Query.{Query}
 use Rattle.answers.specs.Answers.{all_rows}
@@ -20,7 +19,6 @@ use Rattle.answers.specs.Grouping.{IsGrouped, known, show_all}
 use Rattle.answers.specs.Runs.{HasKept, IsBadRow, IsSound}
 use Rattle.answers.specs.declared.grouping.Grouping.{Grouping}
 use Rattle.answers.proofs.FieldLemmas.{same_sorts, same_value}
-use Rattle.answers.specs.Answers.{shape_of}
 use Rattle.answers.specs.Groups.{GroupShape}
 use Rattle.answers.specs.Tallies.{TallyShape, groups_told}
 use Rattle.arrays.specs.Item.{Item}
