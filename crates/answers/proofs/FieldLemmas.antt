@@ -24,7 +24,7 @@ unfolding by_kind
 sort_by_kind (Some f) = refl
 sort_by_kind None = refl
 
-same_sorts : (fs gs : List FieldShape) → map kind_of_field fs ≡ map kind_of_field gs → (place : ℕ) → sort_at fs place ≡ sort_at gs place
+pub same_sorts : (fs gs : List FieldShape) → map kind_of_field fs ≡ map kind_of_field gs → (place : ℕ) → sort_at fs place ≡ sort_at gs place
 same_sorts fs gs same place =
     sort_by_kind (slice_get fs place) ∙ ap by_kind (sym (slice_get-map kind_of_field fs place) ∙ ap (λ l. slice_get l place) same ∙ slice_get-map kind_of_field gs place)
     ∙ sym (sort_by_kind (slice_get gs place))

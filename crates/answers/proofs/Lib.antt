@@ -10,3 +10,4 @@ pub mod FitLemmas
 pub mod GroupLemmas
 pub mod RunLemmas
 pub mod FieldLemmas
+pub mod AnsweringLemmas

@@ -42,10 +42,10 @@ stops_at b start n t NoMemory from all is = tt
 
 -- ---- the rows that are kept
 
-length-rows : (b : Batch) → length (rows_of b) ≡ b.rows
+pub length-rows : (b : Batch) → length (rows_of b) ≡ b.rows
 length-rows b = length-map-range_with_len (row_of b.columns) 0 b.rows
 
-rows_more : (b : Batch) (i : ℕ) → i < b.rows → take (i + 1) (rows_of b) ≡ take i (rows_of b) ++ row_of b.columns i ∷ []
+pub rows_more : (b : Batch) (i : ℕ) → i < b.rows → take (i + 1) (rows_of b) ≡ take i (rows_of b) ++ row_of b.columns i ∷ []
 rows_more b i below =
     take_more (rows_of b) i [] (omega (arith, below, length-rows b))
     ∙ ap (λ r. take i (rows_of b) ++ r ∷ []) (get_or-map-range_with_len (row_of b.columns) 0 b.rows i i [] below (zero-add i))

@@ -1,5 +1,5 @@
 -- What an answer says, as plain values.
-use Rattle.std.specs.Prelude.{◌≡◌, ◌⊎◌, ℕ, List, Option, map, option_map, flat_map, Ok, Err}
+use Rattle.std.specs.Prelude.{◌≡◌, ◌⊎◌, ℕ, List, [], ◌∷◌, Option, map, option_map, flat_map, Ok, Err}
 use Rattle.arrays.specs.Batch.{Batch, Table, rows_of}
 use Rattle.arrays.specs.Item.{Item}
 use Rattle.types.specs.Shape.{FieldShape}
@@ -21,6 +21,11 @@ shape_of g = record { keys = map item_in g.keys.items; cells = map item_in g.cel
 -- The rows of all batches, one batch after the other.
 abbrev pub all_rows : List Batch → Table
 all_rows batches = flat_map rows_of batches
+
+-- The fields of the first batch, none where there is none.
+abbrev pub first_fields : List Batch → List FieldShape
+first_fields [] = []
+first_fields (b ∷ batches) = b.fields
 
 -- The answer says what the query asks of the rows.
 abbrev pub IsAnswer : List FieldShape → Asked ℕ → Table → Answer → Type 0

@@ -33,6 +33,10 @@ pub record AreVerdicts (b : Batch) (filter : Option (Tree ℕ)) (o : Option Valu
   pub truths : AreTruths b.rows o
   pub each : (i : ℕ) → i < b.rows → verdict b.fields filter (row_of b.columns i) ≡ Some (keeps o i)
 
+-- The filter is bad at none of the batch's rows.
+pub record IsSound (b : Batch) (filter : Option (Tree ℕ)) : Type 0 where
+  pub each : (i : ℕ) → i < b.rows → is_bad b.fields filter (row_of b.columns i) ≡ false
+
 -- The least row of the batch where the filter is bad.
 pub record IsBadRow (b : Batch) (filter : Option (Tree ℕ)) (row : ℕ) : Type 0 where
   pub within : row < b.rows

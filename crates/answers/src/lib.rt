@@ -1,6 +1,7 @@
 //! Answers of queries over record batches: which rows, by which keys, and what of each group of them.
 #![tactic(auto)]
 
+mod answering;
 mod best;
 mod filter;
 pub mod gate;

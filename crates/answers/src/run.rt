@@ -1,10 +1,10 @@
 //! The rows of batches, one batch after the other.
 
-ghost use Rattle.std.specs.Prelude.{◌≡◌, ◌++◌, IfErr, OnOk, true};
+ghost use Rattle.std.specs.Prelude.{◌≡◌, ◌++◌, IfErr, IfOk, OnOk, true};
 ghost use Rattle.arrays.specs.Batch.{Table, rows_of};
 ghost use Rattle.query.specs.Asked.{asked};
 ghost use Rattle.query.specs.Fault.{fits};
-ghost use Rattle.answers.specs.Runs.{AreVerdicts, HasKept, HasRoomFor, StopsAt};
+ghost use Rattle.answers.specs.Runs.{AreVerdicts, HasKept, HasRoomFor, IsSound, StopsAt};
 
 use crate::filter::{filter_values, keeps};
 use crate::grouping::Grouping;
@@ -26,6 +26,7 @@ pub(crate) fn add_batch(
     requires room { HasRoomFor batch.now.fields query.now batch.now.rows grouping.old }
     ensures ok { (rows : Table) → HasKept batch.now.fields query.now rows grouping.old
         → OnOk result (HasKept batch.now.fields query.now (rows ++ rows_of batch.now) grouping.new) }
+    ensures sound { IfOk result (λ done. IsSound batch.now (asked query.now).filter) }
     ensures err { IfErr result (StopsAt batch.now (asked query.now).filter) }
 {
     let values = filter_values(alloc, query, batch)?;
