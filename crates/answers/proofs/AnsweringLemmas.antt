@@ -2,7 +2,7 @@
 use Rattle.std.proofs.Common.{◌≡◌, ◌∙◌, ℕ, ◌+◌, ◌<◌, ◌≤◌, Bool, true, false, not, cond, nat_lt, List, [], ◌∷◌, ◌++◌, length, map, filter, take, drop, get_or, position, Option, Some, None, Ok, Err, All, refl, sym, ap, subst, arith, length-append, take-append-drop, get_or-take, zero-add, le_refl}
 use Rattle.std.specs.Prelude.{is_none, unwrap_or}
 use Rattle.std.specs.List.{position_or_len}
-use Rattle.std.proofs.lemmas.Bool.{ltb-true, ltb-false}
+use Rattle.std.proofs.lemmas.Bool.{le-ltb, lt-ltb}
 use Rattle.std.proofs.lemmas.Grind.{common_steps, flat_map-append}
 use Rattle.std.proofs.lemmas.List.{append-nil, get_or-map, length-map, take_more}
 use Rattle.std.proofs.lemmas.List.Elements.{All-append, All-from_get_or, All-get_or, All-head, All-tail}
@@ -23,7 +23,7 @@ use Rattle.answers.specs.Groups.{GroupShape}
 use Rattle.answers.specs.Tallies.{TallyShape, groups_told}
 use Rattle.arrays.specs.Item.{Item}
 use Rattle.query.specs.declared.expr.Agg.{Agg}
-use Rattle.answers.proofs.GroupLemmas.{told_grouped}
+use Rattle.answers.proofs.GroupLemmas.{take_past, told_grouped}
 use Rattle.answers.proofs.RunLemmas.{all_rows_taken, length-rows, rows_more}
 
 abbrev pub IsGood : List FieldShape → Option (Tree ℕ) → Row → Type 0
@@ -35,18 +35,6 @@ pub record HasRun (fields : List FieldShape) (q : Query) (rows : Table) (g : Gro
   pub kept : HasKept fields q rows g
 
 -- ---- the first place where a test passes
-
-unpassed : (m n : ℕ) → n ≤ m → nat_lt m n ≡ false
-unpassed m n past = go (nat_lt m n) refl where
-  go : (b : Bool) → nat_lt m n ≡ b → nat_lt m n ≡ false
-  go true is = absurd (omega (arith, ltb-true m n is, past))
-  go false is = is
-
-passed : (m n : ℕ) → m < n → nat_lt m n ≡ true
-passed m n below = go (nat_lt m n) refl where
-  go : (b : Bool) → nat_lt m n ≡ b → nat_lt m n ≡ true
-  go true is = is
-  go false is = absurd (omega (arith, ltb-false m n is, below))
 
 module _ (p : Row → Bool) where
   not_found : (xs : Table) → All (λ x. p x ≡ false) xs → position_or_len p xs ≡ length xs
@@ -62,13 +50,13 @@ module _ (p : Row → Bool) where
       ∙ omega (arith, found_at front rest x (All-tail (λ x. p x ≡ false) y front h) passes)
 
   nowhere : (xs : Table) → All (λ x. p x ≡ false) xs → position p xs ≡ None
-  nowhere xs h = ap (λ b. cond b (Some (position_or_len p xs)) None) (unpassed (position_or_len p xs) (length xs) (omega (arith, not_found xs h)))
+  nowhere xs h = ap (λ b. cond b (Some (position_or_len p xs)) None) (le-ltb (position_or_len p xs) (length xs) (omega (arith, not_found xs h)))
 
   first_at : (front rest : Table) (x : Row) → All (λ x. p x ≡ false) front → p x ≡ true → position p (front ++ x ∷ rest) ≡ Some (length front)
   first_at front rest x h passes =
       let n = found_at front rest x h passes in
       ap (λ b. cond b (Some (position_or_len p (front ++ x ∷ rest))) None)
-      (passed (position_or_len p (front ++ x ∷ rest)) (length (front ++ x ∷ rest)) (omega (arith, n, length-append front (x ∷ rest))))
+      (lt-ltb (position_or_len p (front ++ x ∷ rest)) (length (front ++ x ∷ rest)) (omega (arith, n, length-append front (x ∷ rest))))
       ∙ ap Some n
 
 -- ---- batches of the same types
@@ -187,9 +175,7 @@ refused bs i b fields q g row before below is same run count bad =
 pub answered : (bs : List Batch) (i : ℕ) (fields : List FieldShape) (q : Query) (g : Grouping) (told : List GroupShape) → length bs ≤ i → HasRun fields q (all_rows (take i bs)) g
     → told ≡ groups_told g.keys (map show_all g.tallies.items) → groups fields (asked q) (all_rows bs) ≡ Ok told
 answered bs i fields q g told past run tells =
-    let whole : take i bs ≡ bs = taken bs i past in
+    let whole : take i bs ≡ bs = take_past bs i past in
     let all : HasRun fields q (all_rows bs) g = subst (λ (l : List Batch). HasRun fields q (all_rows l) g) whole run in
     ap (λ o. unless_bad o (grouped (asked q).by (asked q).aggs (filter (is_kept fields (asked q).filter) (all_rows bs)))) (nowhere (is_bad fields (asked q).filter) (all_rows bs) all.good)
-    ∙ ap Ok (sym (tells ∙ told_grouped q.by.items q.aggs.items (filter (is_kept fields (asked q).filter) (all_rows bs)) g.keys (map show_all g.tallies.items) all.kept)) where
-      taken : (xs : List Batch) (i : ℕ) → length xs ≤ i → take i xs ≡ xs
-      taken xs i past = grind (arith, common_steps)
+    ∙ ap Ok (sym (tells ∙ told_grouped q.by.items q.aggs.items (filter (is_kept fields (asked q).filter) (all_rows bs)) g.keys (map show_all g.tallies.items) all.kept))

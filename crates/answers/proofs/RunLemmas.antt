@@ -16,6 +16,7 @@ use Rattle.evaluate.specs.declared.stop.Stop.{Stop}
 use Rattle.evaluate.specs.declared.stop.Stop.TheVariants.{Bad, NoMemory}
 use Rattle.evaluate.specs.declared.values.Values.{Values}
 use Rattle.answers.specs.Groups.{is_kept, verdict_of}
+use Rattle.answers.proofs.GroupLemmas.{take_past}
 use Rattle.answers.specs.Runs.{AreVerdicts, StopsAt, keeps}
 
 -- ---- the least bad row
@@ -51,9 +52,7 @@ rows_more b i below =
     ∙ ap (λ r. take i (rows_of b) ++ r ∷ []) (get_or-map-range_with_len (row_of b.columns) 0 b.rows i i [] below (zero-add i))
 
 pub all_rows_taken : (b : Batch) (i : ℕ) → b.rows ≤ i → take i (rows_of b) ≡ rows_of b
-all_rows_taken b i past = take_past (rows_of b) i (omega (arith, past, length-rows b)) where
-  take_past : (xs : Table) (i : ℕ) → length xs ≤ i → take i xs ≡ xs
-  take_past xs i past = grind (arith, common_steps)
+all_rows_taken b i past = take_past (rows_of b) i (omega (arith, past, length-rows b))
 
 module _ (fields : List FieldShape) (f : Option (Tree ℕ)) (rows : Table) (b : Batch) (i : ℕ) where
   pub kept_more : (k : Bool) → i < b.rows → is_kept fields f (row_of b.columns i) ≡ k
