@@ -1,30 +1,35 @@
--- The groups of rows, with one row more.
-use Rattle.std.proofs.Common.{◌≡◌, ◌∙◌, ℕ, zero, suc, ◌+◌, ◌<◌, ◌≤◌, Bool, true, false, ◌||◌, cond, List, [], ◌∷◌, ◌++◌, length, map, take, drop, get_or, Result, Ok, Err, OnOk, Some, refl, sym, ap, subst, arith, append_assoc, length-append, true≢false}
-use Rattle.std.specs.Prelude.{All, slice_get, slice_set}
+-- The groups of rows, with rows more.
+use Rattle.std.proofs.Common.{◌≡◌, ◌∙◌, ℕ, zero, suc, ◌+◌, ◌-◌, ◌<◌, ◌≤◌, Bool, true, false, ◌||◌, cond, List, [], ◌∷◌, ◌++◌, length, map, take, get_or, replicate, Some, refl, sym, ap, subst, arith, append_assoc, length-append, true≢false}
+use Rattle.std.specs.Prelude.{All, slice_get, slice_index_or, slice_set}
 use Rattle.std.specs.Bool.{Decides}
 use Rattle.std.specs.Cmp.{decided}
 use Rattle.std.specs.List.{IsDistinct, AllByRecursion, list_any}
-use Rattle.std.proofs.lemmas.Bool.{ltb-true, ltb-false}
-use lib.Dec.{ltb}
 use Rattle.std.proofs.lemmas.Grind.{common_steps}
 use Rattle.std.proofs.lemmas.List.{append-nil, map-append, length-map, get_or-map, take_more}
 use Rattle.std.proofs.lemmas.List.Elements.{filter-append, All-nil, All-cons, All-head, All-tail}
 use Rattle.std.proofs.lemmas.List.Folds.{list_any-append}
 use Rattle.std.proofs.lemmas.List.Sums.{length-filter, count_by-le-length}
-use Rattle.std.proofs.lemmas.Map.Keys.{IsDistinct-head, IsDistinct-tail, IsDistinct-push, IsDistinct-from_apart, any_passes_from_place}
+use Rattle.std.proofs.lemmas.Map.Keys.{IsDistinct-head, IsDistinct-tail, IsDistinct-push, IsDistinct-from_apart}
 use Rattle.std.proofs.lemmas.Option.{slice_get_within, get_or_from_slice_get}
 use Rattle.indexmap.specs.IndexSet.{insert_key}
 use Rattle.arrays.specs.Batch.{Row, Table}
 use Rattle.arrays.specs.Item.{Item}
 use Rattle.query.specs.declared.expr.Agg.{Agg}
+use Rattle.answers.specs.Columns.{ColumnShape, column_of, show_column, told_at}
 use Rattle.answers.specs.Groups.{GroupShape, cell, first_keys, group_of, grouped, key_of, keys_of, rows_of_key}
-use Rattle.answers.specs.Grouping.{IsGrouped, IsPlaced, known}
+use Rattle.answers.specs.Grouping.{IsColumnOf, IsGrouped, tables_of}
+use Rattle.answers.specs.Keys.{AreNumbers, with_keys}
 use Rattle.answers.specs.Same.{firsts, same_key}
-use Rattle.answers.specs.Tallies.{TallyShape, added, groups_told, show, tally_of, told}
-use Rattle.answers.specs.declared.tally.Tally.{Tally}
+use Rattle.answers.specs.Spread.{padded, put, spread}
+use Rattle.answers.specs.Tallies.{counted, items_for, tally_of, told}
+use Rattle.answers.specs.declared.column.TallyColumn.{TallyColumn}
 use Rattle.answers.proofs.FirstsLemmas.{among-firsts, firsts-push}
 use Rattle.answers.proofs.SameLemmas.{either, same_key-Decides, same_key_equiv}
-use Rattle.answers.proofs.TallyLemmas.{counts_few, keeps_agg, tally_of-push, told-tally_of}
+use Rattle.answers.proofs.TallyLemmas.{told-tally_of}
+
+pub mapped : {A B C : Type 0} (g : B → C) (f : A → B) (xs : List A) → map g (map f xs) ≡ map (λ x. g (f x)) xs
+mapped g f [] = refl
+mapped g f (x ∷ xs) = ap (λ l. g (f x) ∷ l) (mapped g f xs)
 
 -- ---- one place of a list that is shown of keys
 
@@ -56,251 +61,310 @@ module _ {K S : Type 0} (same : K → K → Bool) (decides : (x y : K) → Decid
       let b : slice_set (map f ks) n v ≡ map g ks = set_mapped ks n (IsDistinct-tail same k ks h) at in
       cc (a, b)
 
--- ---- rows of a key
-
-module _ (by : List ℕ) (aggs : List (Agg ℕ)) (rows : Table) (row : Row) where
-  rows-push : (key : List Item) (b : Bool) → same_key key (key_of by row) ≡ b → rows_of_key by (rows ++ row ∷ []) key ≡ rows_of_key by rows key ++ cond b (row ∷ []) []
-  rows-push key b is =
-      filter-append (λ (r : Row). same_key key (key_of by r)) rows (row ∷ []) ∙ ap (λ b. rows_of_key by rows key ++ cond b (row ∷ []) []) is
-
-  known-other : (key : List Item) → same_key key (key_of by row) ≡ false → known by aggs (rows ++ row ∷ []) key ≡ known by aggs rows key
-  known-other key is = ap (λ r. map (tally_of r) aggs) (rows-push key false is ∙ append-nil (rows_of_key by rows key))
-
-  all_added : (r : Table) (ags : List (Agg ℕ)) → map (tally_of (r ++ row ∷ [])) ags ≡ map (added row) (map (tally_of r) ags)
-  all_added r [] = refl
-  all_added r (a ∷ ags) =
-      let h = tally_of-push r row a in
-      let t : map (tally_of (r ++ row ∷ [])) ags ≡ map (added row) (map (tally_of r) ags) = all_added r ags in
-      cc (h, t)
-
-  known-same : known by aggs (rows ++ row ∷ []) (key_of by row) ≡ map (added row) (known by aggs rows (key_of by row))
-  known-same =
-      ap (λ r. map (tally_of r) aggs) (rows-push (key_of by row) true (same_key_equiv.refl (key_of by row)))
-      ∙ all_added (rows_of_key by rows (key_of by row)) aggs
-
-  -- A row was added to the tallies of its key.
-  pub grouped-added : (keys : List (List Item)) (tallies new : List (List TallyShape)) (n : ℕ) → IsPlaced by aggs rows row keys tallies n
-      → new ≡ slice_set tallies n (map (added row) (known by aggs rows (key_of by row))) → IsGrouped by aggs (rows ++ row ∷ []) keys new
-  grouped-added keys tallies new n p is = record {
-    keys_are = p.keys_are;
-    apart = p.apart;
-    tallies_are = is ∙ ap (λ l. slice_set l n (map (added row) (known by aggs rows (key_of by row)))) p.tallies_are
-        ∙ set_mapped same_key same_key-Decides (known by aggs rows) (known by aggs (rows ++ row ∷ [])) (map (added row) (known by aggs rows (key_of by row)))
-        (key_of by row) known-other known-same keys n p.apart p.at;
-  }
-
-  keys-push : keys_of by (rows ++ row ∷ []) ≡ insert_key same_key (keys_of by rows) (key_of by row)
-  keys-push =
-      ap (λ l. firsts same_key (first_keys by ++ l)) (map-append (key_of by) rows (row ∷ []))
-      ∙ ap (firsts same_key) (sym (append_assoc (first_keys by) (map (key_of by) rows) (key_of by row ∷ [])))
-      ∙ firsts-push same_key same_key-Decides (first_keys by ++ map (key_of by) rows) (key_of by row)
-
--- ---- the place of a row's key
-
-either_false : (a b : Bool) → (a || b) ≡ false → b ≡ false
-either_false false b h = h
-either_false true b h = absurd (true≢false h)
-
-no_rows : (by : List ℕ) (rows : Table) (key : List Item) → list_any (same_key key) (map (key_of by) rows) ≡ false → rows_of_key by rows key ≡ []
-no_rows by [] key h = refl
-no_rows by (r ∷ rows) key h =
-    either (same_key key (key_of by r))
-    (λ yes. absurd (true≢false (sym (ap (λ b. b || list_any (same_key key) (map (key_of by) rows)) yes) ∙ h)))
-    (λ no. ap (λ b. cond b (r ∷ rows_of_key by rows key) (rows_of_key by rows key)) no
-    ∙ no_rows by rows key (either_false (same_key key (key_of by r)) (list_any (same_key key) (map (key_of by) rows)) h))
-
-known-none : (by : List ℕ) (aggs : List (Agg ℕ)) (rows : Table) (key : List Item) → list_any (same_key key) (keys_of by rows) ≡ false
-    → known by aggs rows key ≡ map (tally_of []) aggs
-known-none by aggs rows key new =
-    ap (λ r. map (tally_of r) aggs)
-    (no_rows by rows key (either_false (list_any (same_key key) (first_keys by)) (list_any (same_key key) (map (key_of by) rows))
-    (sym (list_any-append (same_key key) (first_keys by) (map (key_of by) rows))
-    ∙ sym (among-firsts same_key same_key-Decides (first_keys by ++ map (key_of by) rows) key) ∙ new)))
+-- ---- keys
 
 slice_get-append : {K : Type 0} (xs ys : List K) (n : ℕ) → n < length xs → slice_get (xs ++ ys) n ≡ slice_get xs n
 slice_get-append [] ys n below = absurd (omega arith)
 slice_get-append (x ∷ xs) ys zero below = refl
 slice_get-append (x ∷ xs) ys (suc n) below = slice_get-append xs ys n (omega (arith, below))
 
-module _ (by : List ℕ) (aggs : List (Agg ℕ)) (rows : Table) (row : Row) (keys new : List (List Item)) (tallies : List (List TallyShape))
-    (has : IsGrouped by aggs rows keys tallies) (is : new ≡ insert_key same_key keys (key_of by row)) (n : ℕ) (at : slice_get new n ≡ Some (key_of by row)) where
-  abbrev key : List Item
-  key = key_of by row
+either_false : (a b : Bool) → (a || b) ≡ false → b ≡ false
+either_false false b h = h
+either_false true b h = absurd (true≢false h)
 
-  count : length tallies ≡ length keys
-  count = ap length has.tallies_are ∙ length-map keys (known by aggs rows)
+first_false : (a b : Bool) → (a || b) ≡ false → a ≡ false
+first_false false b h = refl
+first_false true b h = absurd (true≢false h)
 
-  keys_now : new ≡ keys_of by (rows ++ row ∷ [])
-  keys_now = is ∙ ap (λ l. insert_key same_key l key) has.keys_are ∙ sym (keys-push by aggs rows row)
+abbrev Keys : Type 0
+Keys = List (List Item)
 
-  new_if : (b : Bool) → list_any (same_key key) keys ≡ b → new ≡ cond b keys (keys ++ key ∷ [])
-  new_if b known = is ∙ ap (λ b. cond b keys (keys ++ key ∷ [])) known
+abbrev is_among : Keys → List Item → Bool
+is_among keys k = list_any (same_key k) keys
 
-  -- A key that was there.
-  placed_old : list_any (same_key key) keys ≡ true → IsPlaced by aggs rows row new tallies n
-  placed_old there =
-      let same = new_if true there in
-      record {
-        at = at;
-        keys_are = keys_now;
-        apart = subst (IsDistinct same_key) (sym same) has.apart;
-        tallies_are = has.tallies_are ∙ ap (map (known by aggs rows)) (sym same);
+inserted : (keys : Keys) (k : List Item) (b : Bool) → is_among keys k ≡ b → insert_key same_key keys k ≡ cond b keys (keys ++ k ∷ [])
+inserted keys k b is = ap (λ b. cond b keys (keys ++ k ∷ [])) is
+
+keys-push : (by : List ℕ) (rows : Table) (row : Row) → keys_of by (rows ++ row ∷ []) ≡ insert_key same_key (keys_of by rows) (key_of by row)
+keys-push by rows row =
+    ap (λ l. firsts same_key (first_keys by ++ l)) (map-append (key_of by) rows (row ∷ []))
+    ∙ ap (firsts same_key) (sym (append_assoc (first_keys by) (map (key_of by) rows) (key_of by row ∷ [])))
+    ∙ firsts-push same_key same_key-Decides (first_keys by ++ map (key_of by) rows) (key_of by row)
+
+pub keys-more : (by : List ℕ) (rows more : Table) → keys_of by (rows ++ more) ≡ with_keys (keys_of by rows) (map (key_of by) more)
+keys-more by rows [] = ap (keys_of by) (append-nil rows)
+keys-more by rows (row ∷ more) =
+    ap (keys_of by) (sym (append_assoc rows (row ∷ []) more)) ∙ keys-more by (rows ++ row ∷ []) more
+    ∙ ap (λ l. with_keys l (map (key_of by) more)) (keys-push by rows row)
+
+distinct-inserted : (keys : Keys) (k : List Item) → IsDistinct same_key keys → IsDistinct same_key (insert_key same_key keys k)
+distinct-inserted keys k h =
+    either (is_among keys k)
+    (λ there. subst (IsDistinct same_key) (sym (inserted keys k true there)) h)
+    (λ absent. subst (IsDistinct same_key) (sym (inserted keys k false absent)) (IsDistinct-push same_key_equiv keys k h absent))
+
+pub distinct-more : (keys more : Keys) → IsDistinct same_key keys → IsDistinct same_key (with_keys keys more)
+distinct-more keys [] h = h
+distinct-more keys (k ∷ more) h = distinct-more (insert_key same_key keys k) more (distinct-inserted keys k h)
+
+-- The keys that came: none of them was there.
+pub record AreGrown (keys new : Keys) : Type 0 where
+  pub extra : Keys
+  pub is : new ≡ keys ++ extra
+  pub fresh : All (λ k. is_among keys k ≡ false) extra
+
+not_before : (keys extra : Keys) (k : List Item) → All (λ x. is_among (keys ++ k ∷ []) x ≡ false) extra → All (λ x. is_among keys x ≡ false) extra
+not_before keys [] k h = All-nil (λ x. is_among keys x ≡ false)
+not_before keys (x ∷ extra) k h =
+    All-cons (λ x. is_among keys x ≡ false) x extra
+    (first_false (is_among keys x) (is_among (k ∷ []) x)
+    (sym (list_any-append (same_key x) keys (k ∷ [])) ∙ All-head (λ x. is_among (keys ++ k ∷ []) x ≡ false) x extra h))
+    (not_before keys extra k (All-tail (λ x. is_among (keys ++ k ∷ []) x ≡ false) x extra h))
+
+pub grown : (keys more : Keys) → AreGrown keys (with_keys keys more)
+grown keys [] = record { extra = []; is = sym (append-nil keys); fresh = All-nil (λ k. is_among keys k ≡ false) }
+grown keys (k ∷ more) =
+    either (is_among keys k)
+    (λ there. subst (λ (l : Keys). AreGrown keys (with_keys l more)) (sym (inserted keys k true there)) (grown keys more))
+    (λ absent.
+    let g : AreGrown (keys ++ k ∷ []) (with_keys (keys ++ k ∷ []) more) = grown (keys ++ k ∷ []) more in
+    subst (λ (l : Keys). AreGrown keys (with_keys l more)) (sym (inserted keys k false absent))
+    (begun keys k more g absent)) where
+      begun : (keys : Keys) (k : List Item) (more : Keys) → AreGrown (keys ++ k ∷ []) (with_keys (keys ++ k ∷ []) more) → is_among keys k ≡ false
+          → AreGrown keys (with_keys (keys ++ k ∷ []) more)
+      begun keys k more g absent = record {
+        extra = k ∷ g.extra;
+        is = g.is ∙ append_assoc keys (k ∷ []) g.extra;
+        fresh = All-cons (λ x. is_among keys x ≡ false) k g.extra absent (not_before keys g.extra k g.fresh);
       }
 
-  -- A key that wasn't.
-  placed_new : (fresh : List TallyShape) (grown : List (List TallyShape)) → list_any (same_key key) keys ≡ false → fresh ≡ map (tally_of []) aggs
-      → grown ≡ tallies ++ fresh ∷ [] → IsPlaced by aggs rows row new grown n
-  placed_new fresh grown absent none more =
-      let same = new_if false absent in
-      let first = known-none by aggs rows key (ap (list_any (same_key key)) (sym has.keys_are) ∙ absent) in
-      record {
-        at = at;
-        keys_are = keys_now;
-        apart = subst (IsDistinct same_key) (sym same) (IsDistinct-push same_key_equiv keys key has.apart absent);
-        tallies_are = more ∙ ap (λ t. tallies ++ t ∷ []) (none ∙ sym first) ∙ ap (λ l. l ++ known by aggs rows key ∷ []) has.tallies_are
-            ∙ sym (ap (map (known by aggs rows)) same ∙ map-append (known by aggs rows) keys (key ∷ []));
-      }
+-- ---- rows of a key
 
-  within_old : list_any (same_key key) keys ≡ true → n < length tallies
-  within_old there = omega (arith, count, slice_get_within new n key at, ap length (new_if true there))
+rows-push : (by : List ℕ) (rows : Table) (row : Row) (key : List Item) (b : Bool) → same_key key (key_of by row) ≡ b
+    → rows_of_key by (rows ++ row ∷ []) key ≡ rows_of_key by rows key ++ cond b (row ∷ []) []
+rows-push by rows row key b is =
+    filter-append (λ (r : Row). same_key key (key_of by r)) rows (row ∷ []) ∙ ap (λ b. rows_of_key by rows key ++ cond b (row ∷ []) []) is
 
-  at_end : list_any (same_key key) keys ≡ false → length tallies ≤ n
-  at_end absent =
-      either (ltb n (length keys))
-      (λ yes. absurd (true≢false (sym (any_passes_from_place (same_key key) keys n key (old_at (ltb-true n (length keys) yes)) (same_key_equiv.refl key)) ∙ absent)))
-      (λ no. omega (arith, count, ltb-false n (length keys) no)) where
-        old_at : n < length keys → slice_get keys n ≡ Some key
-        old_at below = sym (slice_get-append keys (key ∷ []) n below) ∙ ap (λ l. slice_get l n) (sym (new_if false absent)) ∙ at
+no_rows : (by : List ℕ) (rows : Table) (key : List Item) → is_among (map (key_of by) rows) key ≡ false → rows_of_key by rows key ≡ []
+no_rows by [] key h = refl
+no_rows by (r ∷ rows) key h =
+    either (same_key key (key_of by r))
+    (λ yes. absurd (true≢false (sym (ap (λ b. b || is_among (map (key_of by) rows) key) yes) ∙ h)))
+    (λ no. ap (λ b. cond b (r ∷ rows_of_key by rows key) (rows_of_key by rows key)) no
+    ∙ no_rows by rows key (either_false (same_key key (key_of by r)) (is_among (map (key_of by) rows) key) h))
 
-  -- The place is past the tallies where the key is new.
-  pub place_new : (fresh : List TallyShape) (grown : List (List TallyShape)) → n ≡ length tallies → fresh ≡ map (tally_of []) aggs
-      → grown ≡ tallies ++ fresh ∷ [] → IsPlaced by aggs rows row new grown n
-  place_new fresh grown end none more =
-      either (list_any (same_key key) keys)
-      (λ there. absurd (omega (arith, within_old there, end)))
-      (λ absent. placed_new fresh grown absent none more)
+none_yet : (by : List ℕ) (rows : Table) (key : List Item) → is_among (keys_of by rows) key ≡ false → rows_of_key by rows key ≡ []
+none_yet by rows key new =
+    no_rows by rows key (either_false (is_among (first_keys by) key) (is_among (map (key_of by) rows) key)
+    (sym (list_any-append (same_key key) (first_keys by) (map (key_of by) rows))
+    ∙ sym (among-firsts same_key same_key-Decides (first_keys by ++ map (key_of by) rows) key) ∙ new))
 
-  pub place_old : (n ≡ length tallies → ⊥) → IsPlaced by aggs rows row new tallies n
-  place_old inside =
-      either (list_any (same_key key) keys) placed_old
-      (λ absent. absurd (inside (omega (arith, at_end absent, count, slice_get_within new n key at, ap length (new_if false absent), length-append keys (key ∷ [])))))
+empty_tables : (by : List ℕ) (rows : Table) (extra : Keys) → All (λ k. is_among (keys_of by rows) k ≡ false) extra → tables_of by rows extra ≡ replicate (length extra) []
+empty_tables by rows [] h = refl
+empty_tables by rows (k ∷ extra) h =
+    let a = none_yet by rows k (All-head (λ k. is_among (keys_of by rows) k ≡ false) k extra h) in
+    let b : tables_of by rows extra ≡ replicate (length extra) [] = empty_tables by rows extra (All-tail (λ k. is_among (keys_of by rows) k ≡ false) k extra h) in
+    ap (λ (t : Table). t ∷ tables_of by rows extra) a ∙ ap (λ (l : List Table). [] ∷ l) b
 
--- ---- a tally of few rows
+pub tables-padded : (by : List ℕ) (rows : Table) (keys more : Keys) → keys ≡ keys_of by rows
+    → padded (length (with_keys keys more)) [] (tables_of by rows keys) ≡ tables_of by rows (with_keys keys more)
+tables-padded by rows keys more are =
+    let g = grown keys more in
+    let fresh = subst (λ (l : Keys). All (λ k. is_among l k ≡ false) g.extra) are g.fresh in
+    let few : length (with_keys keys more) - length (tables_of by rows keys) ≡ length g.extra =
+    omega (arith, ap length g.is, length-append keys g.extra, length-map keys (rows_of_key by rows)) in
+    ap (λ n. tables_of by rows keys ++ replicate n []) few
+    ∙ ap (λ (l : List Table). tables_of by rows keys ++ l) (sym (empty_tables by rows g.extra fresh))
+    ∙ sym (map-append (rows_of_key by rows) keys g.extra)
+    ∙ ap (tables_of by rows) (sym g.is)
 
-pub rows-le : (by : List ℕ) (rows : Table) (key : List Item) → length (rows_of_key by rows key) ≤ length rows
+-- ---- numbers of keys
+
+numbers-kept : (keys extra wanted : Keys) (numbers : List ℕ) → AreNumbers keys wanted numbers → AreNumbers (keys ++ extra) wanted numbers
+numbers-kept keys extra [] [] h = refl
+numbers-kept keys extra [] (n ∷ numbers) h = absurd cc
+numbers-kept keys extra (k ∷ wanted) [] h = absurd cc
+numbers-kept keys extra (k ∷ wanted) (n ∷ numbers) h =
+    let head : slice_get keys n ≡ Some k = cc in
+    let tail : AreNumbers keys wanted numbers = cc in
+    let a = slice_get-append keys extra n (slice_get_within keys n k head) ∙ head in
+    let b : AreNumbers (keys ++ extra) wanted numbers = numbers-kept keys extra wanted numbers tail in
+    cc (a, b)
+
+pub numbers-push : (keys new wanted : Keys) (k : List Item) (numbers : List ℕ) (n : ℕ) → new ≡ insert_key same_key keys k → AreNumbers keys wanted numbers
+    → slice_get new n ≡ Some k → AreNumbers new (wanted ++ k ∷ []) (numbers ++ n ∷ [])
+numbers-push keys new wanted k numbers n is h at =
+    map-append (slice_get new) numbers (n ∷ []) ∙ ap (λ o. map (slice_get new) numbers ++ o ∷ []) at
+    ∙ ap (λ l. l ++ Some k ∷ []) (either (is_among keys k)
+    (λ there. subst (λ (l : Keys). AreNumbers l wanted numbers) (sym (is ∙ inserted keys k true there)) h)
+    (λ absent. subst (λ (l : Keys). AreNumbers l wanted numbers) (sym (is ∙ inserted keys k false absent)) (numbers-kept keys (k ∷ []) wanted numbers h)))
+    ∙ sym (map-append (λ (x : List Item). Some x) wanted (k ∷ []))
+
+pub length-numbers : (keys wanted : Keys) (numbers : List ℕ) → AreNumbers keys wanted numbers → length numbers ≡ length wanted
+length-numbers keys wanted numbers h =
+    sym (length-map numbers (slice_get keys)) ∙ ap length h ∙ length-map wanted (λ (k : List Item). Some k)
+
+pub numbers-inside : (keys wanted : Keys) (numbers : List ℕ) → AreNumbers keys wanted numbers → All (λ n. n < length keys) numbers
+numbers-inside keys wanted [] h = All-nil (λ n. n < length keys)
+numbers-inside keys [] (n ∷ numbers) h = absurd cc
+numbers-inside keys (k ∷ wanted) (n ∷ numbers) h =
+    let head : slice_get keys n ≡ Some k = cc in
+    let tail : AreNumbers keys wanted numbers = cc in
+    All-cons (λ n. n < length keys) n numbers (slice_get_within keys n k head) (numbers-inside keys wanted numbers tail)
+
+put_row : (by : List ℕ) (rows : Table) (row : Row) (keys : Keys) (n : ℕ) → IsDistinct same_key keys → slice_get keys n ≡ Some (key_of by row)
+    → put n row (tables_of by rows keys) ≡ tables_of by (rows ++ row ∷ []) keys
+put_row by rows row keys n apart at =
+    let key = key_of by row in
+    let here : slice_index_or (tables_of by rows keys) n [] ≡ rows_of_key by rows key =
+    get_or-map (rows_of_key by rows) keys n key [] (slice_get_within keys n key at) ∙ ap (rows_of_key by rows) (get_or_from_slice_get keys n key key at) in
+    set_mapped same_key same_key-Decides (rows_of_key by rows) (rows_of_key by (rows ++ row ∷ [])) (slice_index_or (tables_of by rows keys) n [] ++ row ∷ []) key
+    (λ k is. rows-push by rows row k false is ∙ append-nil (rows_of_key by rows k))
+    (rows-push by rows row key true (same_key_equiv.refl key) ∙ ap (λ (t : Table). t ++ row ∷ []) (sym here))
+    keys n apart at
+
+pub spread_rows : (by : List ℕ) (rows more : Table) (keys : Keys) (numbers : List ℕ) → IsDistinct same_key keys → AreNumbers keys (map (key_of by) more) numbers
+    → spread numbers more (tables_of by rows keys) ≡ tables_of by (rows ++ more) keys
+spread_rows by rows [] keys [] apart h = ap (λ (t : Table). tables_of by t keys) (sym (append-nil rows))
+spread_rows by rows [] keys (n ∷ numbers) apart h = absurd cc
+spread_rows by rows (row ∷ more) keys [] apart h = absurd cc
+spread_rows by rows (row ∷ more) keys (n ∷ numbers) apart h =
+    let head : slice_get keys n ≡ Some (key_of by row) = cc in
+    let tail : AreNumbers keys (map (key_of by) more) numbers = cc in
+    ap (spread numbers more) (put_row by rows row keys n apart head)
+    ∙ spread_rows by (rows ++ row ∷ []) more keys numbers apart tail
+    ∙ ap (λ (t : Table). tables_of by t keys) (append_assoc rows (row ∷ []) more)
+
+-- ---- columns
+
+pub are_columns : (tables : List Table) (aggs : List (Agg ℕ)) (cs : List TallyColumn) → map show_column cs ≡ map (column_of tables) aggs → All (IsColumnOf tables) cs
+are_columns tables aggs [] h = All-nil (IsColumnOf tables)
+are_columns tables [] (c ∷ cs) h = absurd cc
+are_columns tables (a ∷ aggs) (c ∷ cs) h =
+    let head : show_column c ≡ column_of tables a = cc in
+    let tail : map show_column cs ≡ map (column_of tables) aggs = cc in
+    All-cons (IsColumnOf tables) c cs (head ∙ ap (column_of tables) (sym (ap (λ (s : ColumnShape). s.agg) head))) (are_columns tables aggs cs tail)
+
+pub columns_fit : (P : Agg ℕ → Type 0) (tables : List Table) (aggs : List (Agg ℕ)) (cs : List TallyColumn) → map show_column cs ≡ map (column_of tables) aggs → All P aggs
+    → All (λ c. P (show_column c).agg) cs
+columns_fit P tables aggs [] h all = All-nil (λ (c : TallyColumn). P (show_column c).agg)
+columns_fit P tables [] (c ∷ cs) h all = absurd cc
+columns_fit P tables (a ∷ aggs) (c ∷ cs) h all =
+    let head : show_column c ≡ column_of tables a = cc in
+    let tail : map show_column cs ≡ map (column_of tables) aggs = cc in
+    All-cons (λ (c : TallyColumn). P (show_column c).agg) c cs (subst P (sym (ap (λ (s : ColumnShape). s.agg) head)) (All-head P a aggs all))
+    (columns_fit P tables aggs cs tail (All-tail P a aggs all))
+
+pub same_aggs : (tables others : List Table) (aggs : List (Agg ℕ)) (cs : List TallyColumn) → map show_column cs ≡ map (column_of tables) aggs
+    → map (λ c. column_of others (show_column c).agg) cs ≡ map (column_of others) aggs
+same_aggs tables others [] [] h = refl
+same_aggs tables others (a ∷ aggs) [] h = absurd cc
+same_aggs tables others [] (c ∷ cs) h = absurd cc
+same_aggs tables others (a ∷ aggs) (c ∷ cs) h =
+    let head : show_column c ≡ column_of tables a = cc in
+    let tail : map show_column cs ≡ map (column_of tables) aggs = cc in
+    ap (λ b. column_of others b ∷ map (λ c. column_of others (show_column c).agg) cs) (ap (λ (s : ColumnShape). s.agg) head)
+    ∙ ap (λ l. column_of others a ∷ l) (same_aggs tables others aggs cs tail)
+
+rows-le : (by : List ℕ) (rows : Table) (key : List Item) → length (rows_of_key by rows key) ≤ length rows
 rows-le by rows key = omega (arith, length-filter (λ (r : Row). same_key key (key_of by r)) rows, count_by-le-length (λ (r : Row). same_key key (key_of by r)) rows)
 
--- The tallies at the place are those of the row's key.
-pub tallies_at : {V : Type 0} (show_all : V → List TallyShape) (by : List ℕ) (aggs : List (Agg ℕ)) (rows : Table) (row : Row) (keys : List (List Item)) (vs : List V) (n : ℕ) (v : V)
-    → IsPlaced by aggs rows row keys (map show_all vs) n → v ≡ get_or vs n v → show_all v ≡ known by aggs rows (key_of by row)
-tallies_at show_all by aggs rows row keys vs n v p here =
-    let key = key_of by row in
-    let below : n < length keys = slice_get_within keys n key p.at in
-    let count : length vs ≡ length keys = sym (length-map vs show_all) ∙ ap length p.tallies_are ∙ length-map keys (known by aggs rows) in
-    ap show_all here ∙ sym (get_or-map show_all vs n v (show_all v) (omega (arith, below, count)))
-    ∙ ap (λ l. get_or l n (show_all v)) p.tallies_are
-    ∙ get_or-map (known by aggs rows) keys n key (show_all v) below ∙ ap (known by aggs rows) (get_or_from_slice_get keys n key key p.at)
+pub tables_short : (by : List ℕ) (rows : Table) (keys : Keys) (n total : ℕ) → length rows + n ≤ total → All (λ t. length t + n ≤ total) (tables_of by rows keys)
+tables_short by rows [] n total h = All-nil (λ (t : Table). length t + n ≤ total)
+tables_short by rows (k ∷ keys) n total h =
+    All-cons (λ (t : Table). length t + n ≤ total) (rows_of_key by rows k) (tables_of by rows keys) (omega (arith, h, rows-le by rows k)) (tables_short by rows keys n total h)
 
-pub is_inside : {V : Type 0} (show_all : V → List TallyShape) (by : List ℕ) (aggs : List (Agg ℕ)) (rows : Table) (row : Row) (keys : List (List Item)) (vs : List V) (n : ℕ)
-    → IsPlaced by aggs rows row keys (map show_all vs) n → n < length vs
-is_inside show_all by aggs rows row keys vs n p =
-    omega (arith, slice_get_within keys n (key_of by row) p.at, length-map vs show_all, ap length p.tallies_are, length-map keys (known by aggs rows))
-
-module _ (r : Table) where
-  pub fits_all : (P : Agg ℕ → Type 0) (aggs : List (Agg ℕ)) (ts : List Tally) → map show ts ≡ map (tally_of r) aggs → All P aggs → All (λ t. P t.agg) ts
-  fits_all P aggs [] h all = All-nil (λ (t : Tally). P t.agg)
-  fits_all P [] (t ∷ ts) h all = absurd cc
-  fits_all P (a ∷ aggs) (t ∷ ts) h all =
-      let head : show t ≡ tally_of r a = cc in
-      let tail : map show ts ≡ map (tally_of r) aggs = cc in
-      All-cons (λ (t : Tally). P t.agg) t ts (subst P (sym (ap (λ (s : TallyShape). s.agg) head ∙ keeps_agg r a)) (All-head P a aggs all))
-      (fits_all P aggs ts tail (All-tail P a aggs all))
-
-  pub few_all : (n : ℕ) (aggs : List (Agg ℕ)) (ts : List Tally) → map show ts ≡ map (tally_of r) aggs → length r < n → All (λ t. t.total.count < n) ts
-  few_all n aggs [] h few = All-nil (λ (t : Tally). t.total.count < n)
-  few_all n [] (t ∷ ts) h few = absurd cc
-  few_all n (a ∷ aggs) (t ∷ ts) h few =
-      let head : show t ≡ tally_of r a = cc in
-      let tail : map show ts ≡ map (tally_of r) aggs = cc in
-      All-cons (λ (t : Tally). t.total.count < n) t ts (omega (arith, ap (λ (s : TallyShape). s.count) head, counts_few r a, few)) (few_all n aggs ts tail few)
-
--- ---- what a write leaves
-
-pub set_shown : {V W : Type 0} (f : V → W) (vs : List V) (n : ℕ) (v : V) → map f (slice_set vs n v) ≡ slice_set (map f vs) n (f v)
-set_shown f [] n v = refl
-set_shown f (x ∷ vs) zero v = refl
-set_shown f (x ∷ vs) (suc n) v = ap (λ l. f x ∷ l) (set_shown f vs n v)
-
-pub refilled : {X : Type 0} (n : ℕ) (xs ws : List X) → n ≡ length xs → length ws ≡ length xs → take n (ws ++ drop (length ws) xs) ≡ ws
-refilled n xs ws e same = grind (arith, common_steps)
-
-pub on_ok : {T E P Q : Type 0} (r : Result T E) → (P → Q) → OnOk r P → OnOk r Q
-on_ok (Ok x) f h = f h
-on_ok (Err e) f h = tt
+pub grouped_more : (by : List ℕ) (aggs : List (Agg ℕ)) (rows more : Table) (keys new : Keys) (columns changed : List ColumnShape) (numbers : List ℕ)
+    → IsGrouped by aggs rows keys columns → new ≡ with_keys keys (map (key_of by) more) → AreNumbers new (map (key_of by) more) numbers
+    → changed ≡ map (column_of (spread numbers more (padded (length new) [] (tables_of by rows keys)))) aggs → IsGrouped by aggs (rows ++ more) new changed
+grouped_more by aggs rows more keys new columns changed numbers h is at changes =
+    let apart : IsDistinct same_key new = subst (IsDistinct same_key) (sym is) (distinct-more keys (map (key_of by) more) h.apart) in
+    let tables : padded (length new) [] (tables_of by rows keys) ≡ tables_of by rows new =
+    ap (λ (l : Keys). padded (length l) [] (tables_of by rows keys)) is ∙ tables-padded by rows keys (map (key_of by) more) h.keys_are ∙ ap (tables_of by rows) (sym is) in
+    record {
+      keys_are = is ∙ ap (λ (l : Keys). with_keys l (map (key_of by) more)) h.keys_are ∙ sym (keys-more by rows more);
+      apart = apart;
+      columns_are = changes ∙ ap (λ (l : List Table). map (column_of (spread numbers more l)) aggs) tables
+          ∙ ap (λ (l : List Table). map (column_of l) aggs) (spread_rows by rows more new numbers apart at);
+    }
 
 -- ---- what the groups tell
 
-all_told : (r : Table) (aggs : List (Agg ℕ)) → map told (map (tally_of r) aggs) ≡ map (cell r) aggs
-all_told r [] = refl
-all_told r (a ∷ aggs) =
-    let h = told-tally_of r a in
-    let t : map told (map (tally_of r) aggs) ≡ map (cell r) aggs = all_told r aggs in
-    cc (h, t)
+told_of : (tables : List Table) (n : ℕ) (a : Agg ℕ) (t : Table) → n < length tables → t ≡ get_or tables n t → told_at n (column_of tables a) ≡ cell t a
+told_of tables n a t below at =
+    ap (told a) (get_or-map (λ (rows : Table). tally_of a (items_for a rows)) tables n t (counted 0) below ∙ ap (λ (r : Table). tally_of a (items_for a r)) (sym at)) ∙ told-tally_of t a
 
-told_known : (by : List ℕ) (aggs : List (Agg ℕ)) (rows : Table) (keys : List (List Item)) → groups_told keys (map (known by aggs rows) keys) ≡ map (group_of by aggs rows) keys
-told_known by aggs rows [] = refl
-told_known by aggs rows (k ∷ keys) =
-    ap (λ c. group k c ∷ groups_told keys (map (known by aggs rows) keys)) (all_told (rows_of_key by rows k) aggs)
-    ∙ ap (λ l. group k (map (cell (rows_of_key by rows k)) aggs) ∷ l) (told_known by aggs rows keys) where
-      group : List Item → List Item → GroupShape
-      group k c = record { keys = k; cells = c }
+all_told : (tables : List Table) (n : ℕ) (t : Table) (aggs : List (Agg ℕ)) → n < length tables → t ≡ get_or tables n t → map (told_at n) (map (column_of tables) aggs) ≡ map (cell t) aggs
+all_told tables n t [] below at = refl
+all_told tables n t (a ∷ aggs) below at =
+    let h = told_of tables n a t below at in
+    let r : map (told_at n) (map (column_of tables) aggs) ≡ map (cell t) aggs = all_told tables n t aggs below at in
+    cc (h, r)
 
-pub told_grouped : (by : List ℕ) (aggs : List (Agg ℕ)) (rows : Table) (keys : List (List Item)) (tallies : List (List TallyShape)) → IsGrouped by aggs rows keys tallies
-    → groups_told keys tallies ≡ grouped by aggs rows
-told_grouped by aggs rows keys tallies h =
-    ap (groups_told keys) h.tallies_are ∙ told_known by aggs rows keys ∙ ap (map (group_of by aggs rows)) h.keys_are
+abbrev make : List Item → List Item → GroupShape
+make k cells = record { keys = k; cells = cells }
 
-pub length_told : (keys : List (List Item)) (tallies : List (List TallyShape)) → length tallies ≡ length keys → length (groups_told keys tallies) ≡ length keys
-length_told [] ts h = refl
-length_told (k ∷ keys) [] h = absurd (omega (arith, h))
-length_told (k ∷ keys) (t ∷ ts) h = ap suc (length_told keys ts (omega (arith, h)))
+pub told_group : (by : List ℕ) (aggs : List (Agg ℕ)) (rows : Table) (keys : Keys) (columns : List ColumnShape) (n : ℕ) (k : List Item) → IsGrouped by aggs rows keys columns
+    → slice_get keys n ≡ Some k → make k (map (told_at n) columns) ≡ group_of by aggs rows k
+told_group by aggs rows keys columns n k h at =
+    let below : n < length keys = slice_get_within keys n k at in
+    let here : rows_of_key by rows k ≡ get_or (tables_of by rows keys) n (rows_of_key by rows k) =
+    sym (get_or-map (rows_of_key by rows) keys n k (rows_of_key by rows k) below ∙ ap (rows_of_key by rows) (get_or_from_slice_get keys n k k at)) in
+    ap (make k) (ap (map (told_at n)) h.columns_are
+    ∙ all_told (tables_of by rows keys) n (rows_of_key by rows k) aggs (omega (arith, below, length-map keys (rows_of_key by rows))) here)
 
-pub told_at : (keys : List (List Item)) (tallies : List (List TallyShape)) (n : ℕ) (k : List Item) (t : List TallyShape) (d : GroupShape) → length tallies ≡ length keys
-    → slice_get keys n ≡ Some k → t ≡ get_or tallies n t → get_or (groups_told keys tallies) n d ≡ record { keys = k; cells = map told t }
-told_at [] ts n k t d h at here = absurd cc
-told_at (k ∷ keys) [] n l t d h at here = absurd (omega (arith, h))
-told_at (k ∷ keys) (u ∷ ts) zero l t d h at here =
-    let e : k ≡ l = cc in
-    let f : u ≡ t = sym here in
-    cc (e, f)
-told_at (k ∷ keys) (u ∷ ts) (suc n) l t d h at here = told_at keys ts n l t d (omega (arith, h)) at here
-
--- A group more.
-pub told_more : (keys : List (List Item)) (tallies : List (List TallyShape)) (n : ℕ) (k : List Item) (t : List TallyShape) (front new : List GroupShape) (g : GroupShape)
-    → length tallies ≡ length keys → slice_get keys n ≡ Some k → t ≡ get_or tallies n t → front ≡ take n (groups_told keys tallies) → g ≡ record { keys = k; cells = map told t }
-    → new ≡ front ++ g ∷ [] → new ≡ take (n + 1) (groups_told keys tallies)
-told_more keys ts n k t front new g h at here so is more =
-    let all = groups_told keys ts in
-    let below : n < length all = omega (arith, length_told keys ts h, slice_get_within keys n k at) in
-    more ∙ ap (λ l. l ++ g ∷ []) so ∙ ap (λ x. take n all ++ x ∷ []) (is ∙ sym (told_at keys ts n k t g h at here)) ∙ sym (take_more all n g below)
+pub told_more : (by : List ℕ) (aggs : List (Agg ℕ)) (rows : Table) (keys : Keys) (columns : List ColumnShape) (n : ℕ) (k cells : List Item) (front new : List GroupShape) → IsGrouped by aggs rows keys columns
+    → slice_get keys n ≡ Some k → cells ≡ map (told_at n) columns → front ≡ take n (grouped by aggs rows)
+    → new ≡ front ++ make k cells ∷ [] → new ≡ take (n + 1) (grouped by aggs rows)
+told_more by aggs rows keys columns n k cells front new h at are so more =
+    let g = group_of by aggs rows k in
+    let all = grouped by aggs rows in
+    let whole : map (group_of by aggs rows) keys ≡ all = ap (map (group_of by aggs rows)) h.keys_are in
+    let below : n < length keys = slice_get_within keys n k at in
+    let inside : n < length all = omega (arith, below, sym (ap length whole) ∙ length-map keys (group_of by aggs rows)) in
+    let here : get_or all n g ≡ g =
+    ap (λ l. get_or l n g) (sym whole) ∙ get_or-map (group_of by aggs rows) keys n k g below ∙ ap (group_of by aggs rows) (get_or_from_slice_get keys n k k at) in
+    more ∙ ap (λ l. l ++ make k cells ∷ []) so
+    ∙ ap (λ x. take n all ++ x ∷ []) (ap (make k) are ∙ told_group by aggs rows keys columns n k h at ∙ sym here)
+    ∙ sym (take_more all n g inside)
 
 pub take_past : {X : Type 0} (xs : List X) (i : ℕ) → length xs ≤ i → take i xs ≡ xs
 take_past xs i past = grind (arith, common_steps)
 
+pub told_whole : (by : List ℕ) (aggs : List (Agg ℕ)) (rows : Table) (keys : Keys) (columns : List ColumnShape) (n : ℕ) → IsGrouped by aggs rows keys columns → length keys ≤ n
+    → take n (grouped by aggs rows) ≡ grouped by aggs rows
+told_whole by aggs rows keys columns n h past =
+    take_past (grouped by aggs rows) n (omega (arith, past, length-map (keys_of by rows) (group_of by aggs rows), ap length h.keys_are))
+
+-- A column has a cell for each key.
+pub as_long : (by : List ℕ) (aggs : List (Agg ℕ)) (rows : Table) (keys : Keys) (cs : List TallyColumn) → IsGrouped by aggs rows keys (map show_column cs)
+    → All (λ c. length (show_column c).tallies ≡ length keys) cs
+as_long by aggs rows keys cs h = long aggs cs h.columns_are where
+  long : (ags : List (Agg ℕ)) (cs : List TallyColumn) → map show_column cs ≡ map (column_of (tables_of by rows keys)) ags → All (λ c. length (show_column c).tallies ≡ length keys) cs
+  long ags [] e = All-nil (λ (c : TallyColumn). length (show_column c).tallies ≡ length keys)
+  long [] (c ∷ cs) e = absurd cc
+  long (a ∷ ags) (c ∷ cs) e =
+      let head : show_column c ≡ column_of (tables_of by rows keys) a = cc in
+      let tail : map show_column cs ≡ map (column_of (tables_of by rows keys)) ags = cc in
+      All-cons (λ (c : TallyColumn). length (show_column c).tallies ≡ length keys) c cs
+      (ap (λ (s : ColumnShape). length s.tallies) head ∙ length-map (tables_of by rows keys) (λ (t : Table). tally_of a (items_for a t)) ∙ length-map keys (rows_of_key by rows))
+      (long ags cs tail)
+
 -- ---- no rows
 
-pub start_keyed : (by : List ℕ) (aggs : List (Agg ℕ)) → (length by ≡ 0 → ⊥) → IsGrouped by aggs [] [] []
-start_keyed [] aggs h = absurd (h (omega arith))
-start_keyed (c ∷ by) aggs h = record {
+pub start_keyed : (by : List ℕ) (aggs : List (Agg ℕ)) (columns : List ColumnShape) → (length by ≡ 0 → ⊥) → columns ≡ map (λ a. record { agg = a; tallies = [] }) aggs → IsGrouped by aggs [] [] columns
+start_keyed [] aggs columns h is = absurd (h (omega arith))
+start_keyed (c ∷ by) aggs columns h is = record {
   keys_are = refl;
   apart = IsDistinct-from_apart same_key [] (λ i j d ij below. absurd (omega arith));
-  tallies_are = refl;
+  columns_are = is;
 }
 
-pub start_whole : (by : List ℕ) (aggs : List (Agg ℕ)) (ts : List TallyShape) → length by ≡ 0 → ts ≡ map (tally_of []) aggs → IsGrouped by aggs [] ([] ∷ []) (ts ∷ [])
-start_whole [] aggs ts h is = record {
+pub start_whole : (by : List ℕ) (aggs : List (Agg ℕ)) (columns : List ColumnShape) → length by ≡ 0 → columns ≡ map (λ a. record { agg = a; tallies = tally_of a [] ∷ [] }) aggs
+    → IsGrouped by aggs [] ([] ∷ []) columns
+start_whole [] aggs columns h is = record {
   keys_are = refl;
   apart = IsDistinct-from_apart same_key ([] ∷ []) (λ i j d ij below. absurd (omega arith));
-  tallies_are = ap (λ t. t ∷ []) is;
+  columns_are = is;
 }
-start_whole (c ∷ by) aggs ts h is = absurd (omega (arith, h))
+start_whole (c ∷ by) aggs columns h is = absurd (omega (arith, h))

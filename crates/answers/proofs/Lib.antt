@@ -4,10 +4,12 @@ pub mod SameLemmas
 pub mod FirstsLemmas
 pub mod RowLemmas
 pub mod TallyLemmas
+pub mod SpreadLemmas
 pub mod KeyLemmas
 pub mod PartLemmas
 pub mod FitLemmas
 pub mod GroupLemmas
+pub mod ColumnLemmas
 pub mod RunLemmas
 pub mod FieldLemmas
 pub mod AnsweringLemmas

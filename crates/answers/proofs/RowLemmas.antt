@@ -1,12 +1,10 @@
 -- The columns and the rows of lawful batches.
-use Rattle.std.proofs.Common.{◌≡◌, ◌∙◌, ℕ, ◌<◌, [], length, get_or, Bool, true, false, cond, is_ok, Some, None, Result, Ok, Err, ap, sym, refl}
-use Rattle.std.specs.Prelude.{slice_get, slice_index_or}
-use Rattle.std.proofs.lemmas.Option.{get_or_from_slice_get}
-use Rattle.arrays.specs.Batch.{Batch, batch_fault, row_of}
+use Rattle.std.proofs.Common.{◌≡◌, ◌∙◌, ℕ, ◌<◌, [], length, get_or, Bool, true, false, cond, is_ok, Some, None, Result, Ok, Err, ap, sym, refl, zero-add}
+use Rattle.std.specs.Prelude.{slice_index_or}
+use Rattle.arrays.specs.Batch.{Batch, batch_fault}
 use Rattle.arrays.specs.Item.{Item, null}
 use Rattle.arrays.specs.Kind as kind
 use Rattle.arrays.specs.Kind.{Kind}
-use Rattle.arrays.specs.Seen.{Seen}
 use Rattle.arrays.specs.Slot.{is_list, is_int}
 use Rattle.types.specs.Shape.{FieldShape, boolean, field}
 use Rattle.query.specs.Columns.{sort_at}
@@ -16,29 +14,33 @@ use Rattle.query.specs.Sorts.{is_plain, sort_of_kind}
 use Rattle.query.specs.declared.fault.QueryFault.{QueryFault}
 use Rattle.query.specs.declared.fault.QueryFault.TheVariants.{WrongKind}
 use Rattle.query.specs.declared.sort.Sort.{Sort}
+use Rattle.arrays.specs.Seen.{Seen, valid_at}
+use Rattle.arrays.specs.Values.{valid_values}
 use Rattle.evaluate.proofs.ColumnLemmas.{whole, field_there, sort_there, row_item, place_within}
+use Rattle.answers.specs.Rows.{IsColumn}
+use Rattle.std.proofs.lemmas.List.FromFn.{get_or-map-range_with_len}
 
--- A lawful batch has a column where a position has a sort: one of that sort with a slot for each row, which holds the row's item.
-pub record HasColumn (b : Batch) (place : ℕ) (c : Seen) : Type 0 where
-  pub within : place < length b.columns
-  pub sort : sort_at b.fields place ≡ Ok (sort_of_kind c.kind)
-  pub len : length c.items ≡ b.rows
-  pub item : (i : ℕ) (x : Item) → slice_get c.items i ≡ Some x → x ≡ slice_index_or (row_of b.columns i) place null
-
-pub has_column : (b : Batch) (place : ℕ) (c : Seen) → batch_fault b.fields b.rows b.columns ≡ None → is_ok (sort_at b.fields place) ≡ true
-    → c ≡ get_or b.columns place c → HasColumn b place c
-has_column b place c lawful ok is =
+-- A lawful batch has a column where a position has a sort.
+pub is_column : (b : Batch) (place : ℕ) (c : Seen) → batch_fault b.fields b.rows b.columns ≡ None → is_ok (sort_at b.fields place) ≡ true
+    → c ≡ get_or b.columns place c → IsColumn b place c
+is_column b place c lawful ok is =
     let w = whole b.fields b.rows b.columns lawful in
     let below = place_within b place lawful ok in
     let f : FieldShape = field [] false boolean in
     record {
-      within = below;
       sort = sort_there b.fields place f (field_there b.fields place ok)
           ∙ ap (λ k. Ok (sort_of_kind k)) (sym (ap (λ (s : Seen). s.kind) is ∙ w.kind place c f below));
       len = ap (λ (s : Seen). length s.items) is ∙ w.len place c below;
-      item = λ i x at.
-          sym (get_or_from_slice_get c.items i x null at) ∙ ap (λ (s : Seen). slice_index_or s.items i null) is ∙ sym (row_item b.columns i place c below);
+      item = λ i inside. ap (λ (s : Seen). slice_index_or s.items i null) is ∙ sym (row_item b.columns i place c below);
     }
+
+-- The value where the slot is valid, else null.
+pub valid_item : (value : ℕ → Item) (s : Seen) (i : ℕ) (b : Bool) → s.items ≡ valid_values value s → i < length s.items → valid_at s i ≡ b
+    → slice_index_or s.items i null ≡ cond b (value i) null
+valid_item value s i b are within is =
+    ap (λ l. slice_index_or l i null) are
+    ∙ get_or-map-range_with_len (λ j. cond (valid_at s j) (value j) null) 0 (length s.items) i i null within (zero-add i)
+    ∙ ap (λ b. cond b (value i) null) is
 
 -- Where there is no fault, there is a sort that passes.
 pub has_sort : (test : Sort → Bool) (r : Result Sort QueryFault) → fault_unless test r ≡ None → is_ok r ≡ true

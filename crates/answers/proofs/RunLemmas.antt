@@ -1,25 +1,42 @@
--- The rows of a batch that are kept.
-use Rattle.std.proofs.Common.{◌≡◌, ◌∙◌, ℕ, ◌+◌, ◌<◌, ◌≤◌, Bool, true, false, cond, List, [], ◌∷◌, ◌++◌, length, filter, take, is_some, Option, Some, None, refl, sym, ap, arith, append_assoc, length-append, zero-add, length-take-le}
-use Rattle.std.specs.Prelude.{is_none, unwrap_or}
-use Rattle.std.proofs.lemmas.List.{take_more}
-use Rattle.std.proofs.lemmas.List.Elements.{filter-append}
-use Rattle.std.proofs.lemmas.List.FromFn.{get_or-map-range_with_len, length-map-range_with_len}
+-- The rows of a slice that are kept.
+use Rattle.std.proofs.Common.{◌≡◌, ◌∙◌, ℕ, zero, suc, ◌+◌, ◌<◌, ◌≤◌, Bool, true, false, cond, List, [], ◌∷◌, ◌++◌, length, filter, map, take, is_some, Option, Some, None, Result, Ok, Err, IfOk, IfErr, refl, sym, ap, subst, arith, append_assoc, below_more, zero-add}
+use Rattle.std.specs.Prelude.{All, is_none, unwrap_or}
+use Rattle.std.specs.List.{range_with_len}
+use Rattle.std.proofs.lemmas.List.{append-nil, map-append, take_more}
+use Rattle.std.proofs.lemmas.List.Elements.{All-nil, All-cons, All-head, All-tail, filter-append}
+use Rattle.std.proofs.lemmas.List.FromFn.{get_or-map-range_with_len, length-map-range_with_len, map-range_with_len_more}
 use Rattle.std.proofs.lemmas.List.Sums.{length-filter, count_by-le-length}
-use Rattle.std.proofs.lemmas.Grind.{common_steps}
-use Rattle.arrays.specs.Batch.{Batch, Table, row_of, rows_of}
+use Rattle.arrays.specs.Batch.{Batch, Row, Table, row_of, rows_of}
 use Rattle.arrays.specs.Item.{Item, null, int, boolean, text, list}
 use Rattle.types.specs.Shape.{FieldShape}
 use Rattle.query.specs.Tree.{Tree}
-use Rattle.evaluate.specs.Slices.{IsLeastStop}
+use Rattle.evaluate.specs.Slices.{AreFilterValues, IsFilterStop, item_in, row_in}
 use Rattle.evaluate.specs.Value.{value}
 use Rattle.evaluate.specs.declared.stop.Stop.{Stop}
 use Rattle.evaluate.specs.declared.stop.Stop.TheVariants.{Bad, NoMemory}
 use Rattle.evaluate.specs.declared.values.Values.{Values}
-use Rattle.answers.specs.Groups.{is_kept, verdict_of}
+use Rattle.answers.specs.Groups.{is_bad, is_kept, verdict, verdict_of}
 use Rattle.answers.proofs.GroupLemmas.{take_past}
-use Rattle.answers.specs.Runs.{AreVerdicts, StopsAt, keeps}
+use Rattle.answers.proofs.SameLemmas.{either}
+use Rattle.answers.specs.Runs.{AreSound, AreVerdicts, IsBadRow, StopsAt, is_true, keeps, kept_in, rows_in}
 
--- ---- the least bad row
+-- ---- the filter
+
+decided : (x : Item) → verdict_of (Some x) ≡ Some (is_true x)
+decided null = refl
+decided (int z) = refl
+decided (boolean b) = refl
+decided (text t) = refl
+decided (list l) = refl
+
+pub are_verdicts : (b : Batch) (start n : ℕ) (f : Option (Tree ℕ)) (o : Option Values) → AreFilterValues b start n f o → AreVerdicts b start n f o
+are_verdicts b start n None None h = record { truths = tt; each = λ i below. refl }
+are_verdicts b start n None (Some v) h = absurd h
+are_verdicts b start n (Some t) None h = absurd h
+are_verdicts b start n (Some t) (Some v) h = record {
+  truths = (h.1, h.0.enough);
+  each = λ i below. ap verdict_of (h.0.each i below) ∙ decided (item_in v i);
+}
 
 not_bad : (o : Option Item) → is_some o ≡ true → is_none (verdict_of o) ≡ false
 not_bad None h = absurd cc
@@ -29,19 +46,125 @@ not_bad (Some (boolean b)) h = refl
 not_bad (Some (text t)) h = refl
 not_bad (Some (list l)) h = refl
 
-pub stops_at : (b : Batch) (start n : ℕ) (t : Tree ℕ) (s : Stop) → start ≡ 0 → n ≡ b.rows → IsLeastStop b start n t s → StopsAt b (Some t) s
-stops_at b start n t (Bad row) from all is =
-    let here : (i : ℕ) → start + i ≡ i = λ i. omega (arith, from) in
-    record {
-      within = omega (arith, is.within, all);
-      bad = ap (λ i. verdict_of (value b.fields (row_of b.columns i) t)) (sym (here row)) ∙ ap verdict_of is.bad;
-      before = λ i below.
-          ap (λ j. is_none (verdict_of (value b.fields (row_of b.columns j) t))) (sym (here i))
-          ∙ not_bad (value b.fields (row_of b.columns (start + i)) t) (is.before i below);
-    }
-stops_at b start n t NoMemory from all is = tt
+pub stops_at : (b : Batch) (start n : ℕ) (f : Option (Tree ℕ)) (s : Stop) → IsFilterStop b start n f s → StopsAt b start n f s
+stops_at b start n None s h = absurd h
+stops_at b start n (Some t) (Bad row) h = record {
+  within = h.within;
+  bad = ap verdict_of h.bad;
+  before = λ i below. not_bad (value b.fields (row_in b start i) t) (h.before i below);
+}
+stops_at b start n (Some t) NoMemory h = tt
+
+verdict_sound : (d : Option Bool) (k : Bool) → d ≡ Some k → is_none d ≡ false
+verdict_sound d k is = ap is_none is
+
+pub are_sound : (b : Batch) (start n : ℕ) (f : Option (Tree ℕ)) (o : Option Values) → AreVerdicts b start n f o → AreSound b start n f
+are_sound b start n f o v = record { each = λ i below. verdict_sound (verdict b.fields f (row_in b start i)) (keeps o i) (v.each i below) }
+
+pub if_ok : {T E : Type 0} (r : Result T E) (P Q : T → Type 0) → ((x : T) → P x → Q x) → IfOk r P → IfOk r Q
+if_ok (Ok x) P Q f h = f x h
+if_ok (Err e) P Q f h = tt
+
+pub if_err : {T E : Type 0} (r : Result T E) (P Q : E → Type 0) → ((e : E) → P e → Q e) → IfErr r P → IfErr r Q
+if_err (Ok x) P Q f h = tt
+if_err (Err e) P Q f h = f e h
+
+-- ---- rows one after the other
+
+range-push : (a n : ℕ) → range_with_len a (n + 1) ≡ range_with_len a n ++ (a + n) ∷ []
+range-push a zero =
+    let e : a ≡ a + 0 = omega arith in
+    ap (λ m. m ∷ []) e
+range-push a (suc n) =
+    let more : suc n + 1 ≡ suc (n + 1) = omega arith in
+    let last : a + 1 + n ≡ a + suc n = omega arith in
+    ap (range_with_len a) more ∙ ap (λ l. a ∷ l) (range-push (a + 1) n ∙ ap (λ m. range_with_len (a + 1) n ++ m ∷ []) last)
+
+all_range : (P : ℕ → Type 0) (a n : ℕ) → ((i : ℕ) → a ≤ i → i < a + n → P i) → All P (range_with_len a n)
+all_range P a zero h = All-nil P
+all_range P a (suc n) h = All-cons P a (range_with_len (a + 1) n) (h a (omega arith) (omega arith)) (all_range P (a + 1) n (λ i low high. h i (omega (arith, low)) (omega (arith, high))))
+
+rows-push : (b : Batch) (start n : ℕ) → rows_in b start (n + 1) ≡ rows_in b start n ++ row_in b start n ∷ []
+rows-push b start n = map-range_with_len_more (row_in b start) 0 n n (zero-add n)
+
+pub length-rows_in : (b : Batch) (start n : ℕ) → length (rows_in b start n) ≡ n
+length-rows_in b start n = length-map-range_with_len (row_in b start) 0 n
+
+pub rows_split : (b : Batch) (start n : ℕ) → rows_in b 0 (start + n) ≡ rows_in b 0 start ++ rows_in b start n
+rows_split b start zero =
+    let e : start + 0 ≡ start = omega arith in
+    ap (rows_in b 0) e ∙ sym (append-nil (rows_in b 0 start))
+rows_split b start (suc n) =
+    let e : start + suc n ≡ start + n + 1 = omega arith in
+    let f : n + 1 ≡ suc n = omega arith in
+    ap (rows_in b 0) e ∙ rows-push b 0 (start + n)
+    ∙ ap (λ l. l ++ row_in b 0 (start + n) ∷ []) (rows_split b start n)
+    ∙ append_assoc (rows_in b 0 start) (rows_in b start n) (row_in b 0 (start + n) ∷ [])
+    ∙ ap (λ i. rows_in b 0 start ++ (rows_in b start n ++ row_of b.columns i ∷ [])) (zero-add (start + n))
+    ∙ ap (λ l. rows_in b 0 start ++ l) (sym (rows-push b start n) ∙ ap (rows_in b start) f)
+
+alike : (f g : ℕ → Row) (xs : List ℕ) → ((i : ℕ) → f i ≡ g i) → map f xs ≡ map g xs
+alike f g [] same = refl
+alike f g (x ∷ xs) same = ap (λ y. y ∷ map f xs) (same x) ∙ ap (λ l. g x ∷ l) (alike f g xs same)
+
+pub whole_rows : (b : Batch) → rows_in b 0 b.rows ≡ rows_of b
+whole_rows b = alike (row_in b 0) (row_of b.columns) (range_with_len 0 b.rows) (λ i. ap (row_of b.columns) (zero-add i))
 
 -- ---- the rows that are kept
+
+pub kept-push : (o : Option Values) (start n : ℕ) (k : Bool) → keeps o n ≡ k → kept_in o start (n + 1) ≡ kept_in o start n ++ cond k ((start + n) ∷ []) []
+kept-push o start n k is =
+    ap (λ l. map (λ i. start + i) (filter (keeps o) l)) (range-push 0 n)
+    ∙ ap (map (λ i. start + i)) (filter-append (keeps o) (range_with_len 0 n) ((0 + n) ∷ []))
+    ∙ ap (λ m. map (λ i. start + i) (filter (keeps o) (range_with_len 0 n) ++ filter (keeps o) (m ∷ []))) (zero-add n)
+    ∙ map-append (λ i. start + i) (filter (keeps o) (range_with_len 0 n)) (filter (keeps o) (n ∷ []))
+    ∙ ap (λ l. kept_in o start n ++ l) (ap (λ b. map (λ i. start + i) (cond b (n ∷ []) [])) is ∙ one k start n) where
+      one : (k : Bool) (start n : ℕ) → map (λ i. start + i) (cond k (n ∷ []) []) ≡ cond k ((start + n) ∷ []) []
+      one true start n = refl
+      one false start n = refl
+
+module _ (b : Batch) (start : ℕ) (f : Option (Tree ℕ)) (o : Option Values) where
+  abbrev Told : ℕ → Type 0
+  Told i = verdict b.fields f (row_in b start i) ≡ Some (keeps o i)
+
+  abbrev placed : List ℕ → Table
+  placed xs = map (row_of b.columns) (map (λ i. start + i) xs)
+
+  kept_rows : (xs : List ℕ) → All Told xs → placed (filter (keeps o) xs) ≡ filter (is_kept b.fields f) (map (row_in b start) xs)
+  kept_rows [] h = refl
+  kept_rows (i ∷ xs) h =
+      let rest : placed (filter (keeps o) xs) ≡ filter (is_kept b.fields f) (map (row_in b start) xs) = kept_rows xs (All-tail Told i xs h) in
+      let is : is_kept b.fields f (row_in b start i) ≡ keeps o i = ap (λ d. unwrap_or d false) (All-head Told i xs h) in
+      let row = row_in b start i in
+      let kept = filter (is_kept b.fields f) (map (row_in b start) xs) in
+      either (keeps o i)
+      (λ yes. ap (λ k. placed (cond k (i ∷ filter (keeps o) xs) (filter (keeps o) xs))) yes ∙ ap (λ (l : Table). row ∷ l) rest
+      ∙ sym (ap (λ k. cond k (row ∷ kept) kept) (is ∙ yes)))
+      (λ no. ap (λ k. placed (cond k (i ∷ filter (keeps o) xs) (filter (keeps o) xs))) no ∙ rest
+      ∙ sym (ap (λ k. cond k (row ∷ kept) kept) (is ∙ no)))
+
+  pub kept_are : (n : ℕ) → AreVerdicts b start n f o → map (row_of b.columns) (kept_in o start n) ≡ filter (is_kept b.fields f) (rows_in b start n)
+  kept_are n v = kept_rows (range_with_len 0 n) (all_range Told 0 n (λ i low high. v.each i (omega (arith, high))))
+
+-- They are rows of the batch, and no more than there are rows.
+pub kept_within : (o : Option Values) (start n rows : ℕ) → start + n ≤ rows → All (λ r. r < rows) (kept_in o start n)
+kept_within o start n rows within = go (range_with_len 0 n) (all_range (λ i. start + i < rows) 0 n (λ i low high. omega (arith, high, within))) where
+  go : (xs : List ℕ) → All (λ i. start + i < rows) xs → All (λ r. r < rows) (map (λ i. start + i) (filter (keeps o) xs))
+  go [] h = All-nil (λ r. r < rows)
+  go (i ∷ xs) h =
+      let rest = go xs (All-tail (λ i. start + i < rows) i xs h) in
+      either (keeps o i)
+      (λ yes. subst (λ k. All (λ r. r < rows) (map (λ i. start + i) (cond k (i ∷ filter (keeps o) xs) (filter (keeps o) xs)))) (sym yes)
+      (All-cons (λ r. r < rows) (start + i) (map (λ i. start + i) (filter (keeps o) xs)) (All-head (λ i. start + i < rows) i xs h) rest))
+      (λ no. subst (λ k. All (λ r. r < rows) (map (λ i. start + i) (cond k (i ∷ filter (keeps o) xs) (filter (keeps o) xs)))) (sym no) rest)
+
+pub kept_few : (fields : List FieldShape) (f : Option (Tree ℕ)) (rows more : Table) (total : ℕ) → length rows + length more ≤ total
+    → length (filter (is_kept fields f) rows) + length (filter (is_kept fields f) more) ≤ total
+kept_few fields f rows more total h = omega (arith, h, few rows, few more) where
+  few : (xs : Table) → length (filter (is_kept fields f) xs) ≤ length xs
+  few xs = omega (arith, length-filter (is_kept fields f) xs, count_by-le-length (is_kept fields f) xs)
+
+-- ---- a whole batch
 
 pub length-rows : (b : Batch) → length (rows_of b) ≡ b.rows
 length-rows b = length-map-range_with_len (row_of b.columns) 0 b.rows
@@ -54,26 +177,32 @@ rows_more b i below =
 pub all_rows_taken : (b : Batch) (i : ℕ) → b.rows ≤ i → take i (rows_of b) ≡ rows_of b
 all_rows_taken b i past = take_past (rows_of b) i (omega (arith, past, length-rows b))
 
-module _ (fields : List FieldShape) (f : Option (Tree ℕ)) (rows : Table) (b : Batch) (i : ℕ) where
-  pub kept_more : (k : Bool) → i < b.rows → is_kept fields f (row_of b.columns i) ≡ k
-      → filter (is_kept fields f) (rows ++ take (i + 1) (rows_of b)) ≡ filter (is_kept fields f) (rows ++ take i (rows_of b)) ++ cond k (row_of b.columns i ∷ []) []
-  kept_more k below is =
-      let row = row_of b.columns i in
-      ap (λ l. filter (is_kept fields f) (rows ++ l)) (rows_more b i below)
-      ∙ ap (filter (is_kept fields f)) (sym (append_assoc rows (take i (rows_of b)) (row ∷ [])))
-      ∙ filter-append (is_kept fields f) (rows ++ take i (rows_of b)) (row ∷ [])
-      ∙ ap (λ k. filter (is_kept fields f) (rows ++ take i (rows_of b)) ++ cond k (row ∷ []) []) is
+pub sound_at : (b : Batch) (n : ℕ) (f : Option (Tree ℕ)) (j : ℕ) → is_bad b.fields f (row_in b 0 j) ≡ false → is_bad b.fields f (row_of b.columns j) ≡ false
+sound_at b n f j h = ap (λ k. is_bad b.fields f (row_of b.columns k)) (sym (zero-add j)) ∙ h
 
-  pub few_kept : (n : ℕ) → i < b.rows → length rows + b.rows ≤ n → length (filter (is_kept fields f) (rows ++ take i (rows_of b))) < n
-  few_kept n below bound =
-      let all = rows ++ take i (rows_of b) in
-      omega (
-        arith,
-        length-filter (is_kept fields f) all,
-        count_by-le-length (is_kept fields f) all,
-        length-append rows (take i (rows_of b)),
-        length-take-le i (rows_of b) (omega (arith, below, length-rows b)),
-      )
+pub bad_here : (b : Batch) (f : Option (Tree ℕ)) (row : ℕ) → verdict b.fields f (row_in b 0 row) ≡ None → verdict b.fields f (row_of b.columns row) ≡ None
+bad_here b f row h = ap (λ k. verdict b.fields f (row_of b.columns k)) (sym (zero-add row)) ∙ h
 
-pub is_kept-by : (b : Batch) (f : Option (Tree ℕ)) (o : Option Values) (i : ℕ) (k : Bool) → AreVerdicts b f o → i < b.rows → k ≡ keeps o i → is_kept b.fields f (row_of b.columns i) ≡ k
-is_kept-by b f o i k v below is = ap (λ d. unwrap_or d false) (v.each i below) ∙ sym is
+-- ---- slice by slice
+
+-- The rows before a place are sound.
+abbrev pub AreSoundTo : Batch → Option (Tree ℕ) → ℕ → Type 0
+AreSoundTo b f n = (i : ℕ) → i < n → is_bad b.fields f (row_in b 0 i) ≡ false
+
+at_offset : (b : Batch) (f : Option (Tree ℕ)) (start j : ℕ) → is_bad b.fields f (row_in b start j) ≡ false → is_bad b.fields f (row_in b 0 (start + j)) ≡ false
+at_offset b f start j h = ap (λ k. is_bad b.fields f (row_of b.columns k)) (zero-add (start + j)) ∙ h
+
+pub sound_more : (b : Batch) (f : Option (Tree ℕ)) (start n : ℕ) → AreSoundTo b f start → ((i : ℕ) → i < n → is_bad b.fields f (row_in b start i) ≡ false) → AreSoundTo b f (start + n)
+sound_more b f start zero before more = λ i below. before i (omega (arith, below))
+sound_more b f start (suc n) before more = λ i below.
+    below_more (λ k. is_bad b.fields f (row_in b 0 k) ≡ false) (start + n)
+    (sound_more b f start n before (λ j under. more j (omega (arith, under))))
+    (at_offset b f start n (more n (omega arith)))
+    i (omega (arith, below))
+
+pub bad_row : (b : Batch) (f : Option (Tree ℕ)) (start n rows row : ℕ) → AreSoundTo b f start → start + n ≤ rows → IsBadRow b start n f row → IsBadRow b 0 rows f (start + row)
+bad_row b f start n rows row before within bad = record {
+  within = omega (arith, bad.within, within);
+  bad = ap (λ k. verdict b.fields f (row_of b.columns k)) (zero-add (start + row)) ∙ bad.bad;
+  before = sound_more b f start row before bad.before;
+}

@@ -1,37 +1,40 @@
--- What is known of rows, with one row more.
-use Rattle.std.proofs.Common.{◌≡◌, ◌∙◌, ℕ, ℤ, ◌+◌, ◌≤◌, ◌+ℤ◌, Bool, true, false, not, cond, List, [], ◌∷◌, ◌++◌, length, filter, Option, Some, None, refl, sym, ap, arith, length-append, if◌then◌else◌}
-use Rattle.std.specs.Prelude.{slice_index_or}
+-- What is known of items, with one item more.
+use Rattle.std.proofs.Common.{◌≡◌, ◌∙◌, ℕ, zero, suc, ℤ, pos, ◌+◌, ◌≤◌, ◌+ℤ◌, Bool, true, false, not, cond, List, [], ◌∷◌, ◌++◌, length, filter, Option, Some, None, refl, sym, ap, arith, length-append, if◌then◌else◌}
 use Rattle.std.specs.List.{fold, reduce}
-use Rattle.std.proofs.lemmas.List.{append-nil, map-append, length-map}
+use Rattle.std.proofs.lemmas.Int.{ints}
+use Rattle.std.proofs.lemmas.List.{append-nil}
 use Rattle.std.proofs.lemmas.List.Sums.{fold_push, length-filter, count_by-le-length}
 use Rattle.std.proofs.lemmas.List.Elements.{filter-append, filter_map-append}
-use Rattle.arrays.specs.Batch.{Row, Table, column}
+use Rattle.arrays.specs.Batch.{Table}
 use Rattle.arrays.specs.Item.{Item, null, int, boolean, text, list, is_null}
 use Rattle.query.specs.declared.expr.Agg.{Agg}
-use Rattle.query.specs.declared.expr.Agg.TheVariants.{Rows, Count, Sum, Least, Greatest}
+use Rattle.query.specs.declared.expr.Agg.TheVariants as agg
 use Rattle.group.specs.Stats.{number_of, numbers_of, lesser, greater}
-use Rattle.answers.specs.Groups.{cell, values}
-use Rattle.answers.specs.Tallies.{TallyShape, added, bettered, counted, is_before, is_behind, summed, tally_of, told, with_number}
+use Rattle.answers.specs.declared.end.End.{End}
+use Rattle.answers.specs.declared.end.End.TheVariants.{Least, Greatest}
+use Rattle.answers.specs.Ends.{agg_at, is_better, is_further, with_item}
+use Rattle.answers.specs.Groups.{cell}
+use Rattle.answers.specs.Tallies.{TallyShape, bettered, counted, held, items_for, summed, tally_of, told}
+use Rattle.answers.specs.Totals.{sum_if_any}
 use Rattle.answers.proofs.SameLemmas.{either}
 
--- The row's item in the column.
-abbrev item : Row → ℕ → Item
-item row c = slice_index_or row c null
+held-push : (xs : List Item) (x : Item) (b : Bool) → is_null x ≡ b → held (xs ++ x ∷ []) ≡ held xs ++ cond (not b) (x ∷ []) []
+held-push xs x b is = filter-append (λ x. not (is_null x)) xs (x ∷ []) ∙ ap (λ b. held xs ++ cond (not b) (x ∷ []) []) is
 
-column-push : (rows : Table) (row : Row) (c : ℕ) → column (rows ++ row ∷ []) c ≡ column rows c ++ item row c ∷ []
-column-push rows row c = map-append (λ (r : Row). item r c) rows (row ∷ [])
+-- ---- counts
 
-values-push : (rows : Table) (row : Row) (c : ℕ) (b : Bool) → is_null (item row c) ≡ b → values (rows ++ row ∷ []) c ≡ values rows c ++ cond (not b) (item row c ∷ []) []
-values-push rows row c b is =
-    ap (filter (λ x. not (is_null x))) (column-push rows row c)
-    ∙ filter-append (λ x. not (is_null x)) (column rows c) (item row c ∷ [])
-    ∙ ap (λ b. values rows c ++ cond (not b) (item row c ∷ []) []) is
+pub row_counted : (n : ℕ) (xs : List Item) (x : Item) → counted n ≡ tally_of agg.Rows xs → counted (n + 1) ≡ tally_of agg.Rows (xs ++ x ∷ [])
+row_counted n xs x h = ap counted (omega (arith, ap (λ (t : TallyShape). t.count) h, length-append xs (x ∷ [])))
 
-counted-row : (rows : Table) (row : Row) (c : ℕ) (b : Bool) → is_null (item row c) ≡ b
-    → cond b (counted (Count c) (length (values rows c))) (counted (Count c) (length (values rows c) + 1)) ≡ counted (Count c) (length (values (rows ++ row ∷ []) c))
-counted-row rows row c true is = ap (λ l. counted (Count c) (length l)) (sym (append-nil (values rows c)) ∙ sym (values-push rows row c true is))
-counted-row rows row c false is =
-    ap (counted (Count c)) (sym (length-append (values rows c) (item row c ∷ []))) ∙ ap (λ l. counted (Count c) (length l)) (sym (values-push rows row c false is))
+pub item_counted : (n : ℕ) (xs : List Item) (x : Item) → is_null x ≡ false → counted n ≡ tally_of (agg.Count 0) xs → counted (n + 1) ≡ tally_of (agg.Count 0) (xs ++ x ∷ [])
+item_counted n xs x is h =
+    ap counted (omega (arith, ap (λ (t : TallyShape). t.count) h, length-append (held xs) (x ∷ [])))
+    ∙ ap (λ l. counted (length l)) (sym (held-push xs x false is))
+
+pub null_passed : (n : ℕ) (xs : List Item) (x : Item) → is_null x ≡ true → counted n ≡ tally_of (agg.Count 0) xs → counted n ≡ tally_of (agg.Count 0) (xs ++ x ∷ [])
+null_passed n xs x is h = h ∙ ap (λ l. counted (length l)) (sym (held-push xs x true is ∙ append-nil (held xs)))
+
+-- ---- sums
 
 -- The number, if there is one, as a list.
 abbrev one : Option ℤ → List ℤ
@@ -45,87 +48,121 @@ numbers-one (boolean b) = refl
 numbers-one (text t) = refl
 numbers-one (list l) = refl
 
-numbers-push : (rows : Table) (row : Row) (c : ℕ) → numbers_of (column (rows ++ row ∷ []) c) ≡ numbers_of (column rows c) ++ one (number_of (item row c))
-numbers-push rows row c =
-    ap numbers_of (column-push rows row c) ∙ filter_map-append number_of (column rows c) (item row c ∷ [])
-    ∙ ap (λ l. numbers_of (column rows c) ++ l) (numbers-one (item row c))
+numbers-push : (xs : List Item) (x : Item) → numbers_of (xs ++ x ∷ []) ≡ numbers_of xs ++ one (number_of x)
+numbers-push xs x = filter_map-append number_of xs (x ∷ []) ∙ ap (λ l. numbers_of xs ++ l) (numbers-one x)
 
-summed-number : (a : Agg ℕ) (zs : List ℤ) (o : Option ℤ) → with_number (summed a zs) o ≡ summed a (zs ++ one o)
-summed-number a zs None = ap (summed a) (sym (append-nil zs))
-summed-number a [] (Some z) = refl
-summed-number a (y ∷ ys) (Some z) =
-    let n : length (y ∷ ys) + 1 ≡ length ((y ∷ ys) ++ z ∷ []) = sym (length-append (y ∷ ys) (z ∷ [])) in
-    let t = fold_push ◌+ℤ◌ y ys z in
-    cc (n, t)
+pub null_unsummed : (t : TallyShape) (xs : List Item) → t ≡ tally_of (agg.Sum 0) xs → t ≡ tally_of (agg.Sum 0) (xs ++ null ∷ [])
+null_unsummed t xs h = h ∙ ap summed (sym (numbers-push xs null ∙ append-nil (numbers_of xs)))
 
--- The better of items, by a test of one more.
-module _ (pick : Item → Item → Item) (test : Option Item → Item → Bool)
-    (first : (x : Item) → test None x ≡ not (is_null x)) (more : (b x : Item) → pick b x ≡ (if test (Some b) x then x else b))
-    (never : (o : Option Item) (x : Item) → is_null x ≡ true → test o x ≡ false) where
-  abbrev stepped : Agg ℕ → Option Item → Item → TallyShape
-  stepped a o x = if test o x then bettered a (Some x) else bettered a o
+abbrev pub shown : ℕ → ℤ → TallyShape
+shown n s = record { count = n; sum = sum_if_any n s; best = None }
 
-  better-null : (a : Agg ℕ) (xs : List Item) (x : Item) → is_null x ≡ true → stepped a (reduce pick xs) x ≡ bettered a (reduce pick (xs ++ []))
-  better-null a xs x is =
-      ap (λ b. cond b (bettered a (Some x)) (bettered a (reduce pick xs))) (never (reduce pick xs) x is)
-      ∙ ap (λ l. bettered a (reduce pick l)) (sym (append-nil xs))
+pub no_numbers : (n : ℕ) (s : ℤ) → n ≡ 0 → shown n s ≡ summed []
+no_numbers n s is = ap (λ m. shown m s) is
 
-  better-item : (a : Agg ℕ) (xs : List Item) (x : Item) → is_null x ≡ false → stepped a (reduce pick xs) x ≡ bettered a (reduce pick (xs ++ x ∷ []))
-  better-item a [] x is = ap (λ b. cond b (bettered a (Some x)) (bettered a None)) (first x ∙ ap not is)
-  better-item a (y ∷ ys) x is =
-      let b = fold pick y ys in
-      either (test (Some b) x)
-      (λ yes. ap (λ t. cond t (bettered a (Some x)) (bettered a (Some b))) yes
-      ∙ ap (λ z. bettered a (Some z)) (sym (ap (λ t. cond t x b) yes) ∙ sym (more b x) ∙ sym (fold_push pick y ys x)))
-      (λ no. ap (λ t. cond t (bettered a (Some x)) (bettered a (Some b))) no
-      ∙ ap (λ z. bettered a (Some z)) (sym (ap (λ t. cond t x b) no) ∙ sym (more b x) ∙ sym (fold_push pick y ys x)))
+sum_there : (n : ℕ) (s w : ℤ) → sum_if_any n s ≡ Some w → s ≡ w
+sum_there zero s w h = absurd cc
+sum_there (suc n) s w h = cc
 
-  bettered-row : (a : Agg ℕ) (rows : Table) (row : Row) (c : ℕ) → stepped a (reduce pick (values rows c)) (item row c) ≡ bettered a (reduce pick (values (rows ++ row ∷ []) c))
-  bettered-row a rows row c =
-      either (is_null (item row c))
-      (λ yes. better-null a (values rows c) (item row c) yes ∙ ap (λ l. bettered a (reduce pick l)) (sym (values-push rows row c true yes)))
-      (λ no. better-item a (values rows c) (item row c) no ∙ ap (λ l. bettered a (reduce pick l)) (sym (values-push rows row c false no)))
+sum_grown : (n : ℕ) (s z : ℤ) (zs : List ℤ) → (n ≡ 0 → s ≡ pos 0) → shown n s ≡ summed zs → shown (n + 1) (s +ℤ z) ≡ summed (zs ++ z ∷ [])
+sum_grown n s z [] empty h =
+    let none : n ≡ 0 = ap (λ (t : TallyShape). t.count) h in
+    let first : n + 1 ≡ 1 = omega (arith, none) in
+    let zero_is = empty none in
+    let sum_is : s +ℤ z ≡ z = omega (arith, ints, zero_is) in
+    ap (λ m. shown m (s +ℤ z)) first ∙ ap (shown 1) sum_is
+sum_grown n s z (y ∷ ys) empty h =
+    let some : n ≡ length (y ∷ ys) = ap (λ (t : TallyShape). t.count) h in
+    let is : s ≡ fold ◌+ℤ◌ y ys = sum_there n s (fold ◌+ℤ◌ y ys) (ap (λ (t : TallyShape). t.sum) h) in
+    let count_is : n + 1 ≡ length ((y ∷ ys) ++ z ∷ []) = omega (arith, some, length-append (y ∷ ys) (z ∷ [])) in
+    ap (λ m. shown m (s +ℤ z)) count_is
+    ∙ ap (shown (length ((y ∷ ys) ++ z ∷ []))) (ap (λ w. w +ℤ z) is ∙ sym (fold_push ◌+ℤ◌ y ys z))
 
-not_before : (o : Option Item) (x : Item) → is_null x ≡ true → is_before o x ≡ false
-not_before None x h = ap not h
-not_before (Some null) null h = refl
-not_before (Some (int z)) null h = refl
-not_before (Some (boolean b)) null h = refl
-not_before (Some (text t)) null h = refl
-not_before (Some (list l)) null h = refl
-not_before (Some b) (int z) h = absurd cc
-not_before (Some b) (boolean y) h = absurd cc
-not_before (Some b) (text t) h = absurd cc
-not_before (Some b) (list l) h = absurd cc
+pub number_summed : (n m : ℕ) (s z r : ℤ) (xs : List Item) → (n ≡ 0 → s ≡ pos 0) → m ≡ n + 1 → r ≡ s +ℤ z → shown n s ≡ tally_of (agg.Sum 0) xs
+    → shown m r ≡ tally_of (agg.Sum 0) (xs ++ int z ∷ [])
+number_summed n m s z r xs empty count sum h =
+    ap (λ k. shown k r) count ∙ ap (shown (n + 1)) sum ∙ sum_grown n s z (numbers_of xs) empty h ∙ ap summed (sym (numbers-push xs (int z)))
 
-not_behind : (o : Option Item) (x : Item) → is_null x ≡ true → is_behind o x ≡ false
-not_behind None x h = ap not h
-not_behind (Some b) null h = refl
-not_behind (Some b) (int z) h = absurd cc
-not_behind (Some b) (boolean y) h = absurd cc
-not_behind (Some b) (text t) h = absurd cc
-not_behind (Some b) (list l) h = absurd cc
+-- ---- ends
 
--- What is known of rows and one more is what was known of them, with the row added.
-pub tally_of-push : (rows : Table) (row : Row) (a : Agg ℕ) → added row (tally_of rows a) ≡ tally_of (rows ++ row ∷ []) a
-tally_of-push rows row Rows = ap (counted Rows) (sym (length-append rows (row ∷ [])))
-tally_of-push rows row (Count c) =
-    either (is_null (item row c))
-    (λ yes. ap (λ b. cond b (counted (Count c) (length (values rows c))) (counted (Count c) (length (values rows c) + 1))) yes ∙ counted-row rows row c true yes)
-    (λ no. ap (λ b. cond b (counted (Count c) (length (values rows c))) (counted (Count c) (length (values rows c) + 1))) no ∙ counted-row rows row c false no)
-tally_of-push rows row (Sum c) = summed-number (Sum c) (numbers_of (column rows c)) (number_of (item row c)) ∙ ap (summed (Sum c)) (sym (numbers-push rows row c))
-tally_of-push rows row (Least c) = bettered-row lesser is_before (λ x. refl) (λ b x. refl) not_before (Least c) rows row c
-tally_of-push rows row (Greatest c) = bettered-row greater is_behind (λ x. refl) (λ b x. refl) not_behind (Greatest c) rows row c
+abbrev pick : End → Item → Item → Item
+pick Least x y = lesser x y
+pick Greatest x y = greater x y
 
--- What is known of rows tells what the aggregate asks of them.
-pub told-tally_of : (rows : Table) (a : Agg ℕ) → told (tally_of rows a) ≡ cell rows a
-told-tally_of rows Rows = refl
-told-tally_of rows (Count c) = refl
-told-tally_of rows (Sum c) = refl
-told-tally_of rows (Least c) = refl
-told-tally_of rows (Greatest c) = refl
+abbrev pub best_of : End → List Item → Option Item
+best_of Least xs = reduce lesser (held xs)
+best_of Greatest xs = reduce greater (held xs)
 
--- It counts no more than there are rows.
+best_is : (end : End) (c : ℕ) (xs : List Item) → tally_of (agg_at end c) xs ≡ bettered (best_of end xs)
+best_is Least c xs = refl
+best_is Greatest c xs = refl
+
+not_better : (end : End) (o : Option Item) (x : Item) → is_null x ≡ true → is_better end o x ≡ false
+not_better end None x h = ap not h
+not_better Least (Some null) null h = refl
+not_better Least (Some (int z)) null h = refl
+not_better Least (Some (boolean b)) null h = refl
+not_better Least (Some (text t)) null h = refl
+not_better Least (Some (list l)) null h = refl
+not_better Greatest (Some b) null h = refl
+not_better end (Some b) (int z) h = absurd cc
+not_better end (Some b) (boolean y) h = absurd cc
+not_better end (Some b) (text t) h = absurd cc
+not_better end (Some b) (list l) h = absurd cc
+
+-- The item that is further, by a way of picking one of two.
+module _ (picked : Item → Item → Item) (test : Item → Item → Bool) (more : (b x : Item) → picked b x ≡ (if test b x then x else b)) where
+  better-item : (xs : List Item) (x : Item) (b : Item) → fold picked b (xs ++ x ∷ []) ≡ (if test (fold picked b xs) x then x else fold picked b xs)
+  better-item xs x b = fold_push picked b xs x ∙ more (fold picked b xs) x
+
+some_cond : (b : Bool) (x y : Item) → cond b (Some x) (Some y) ≡ Some (cond b x y)
+some_cond true x y = refl
+some_cond false x y = refl
+
+item_first : (end : End) (x : Item) → is_null x ≡ false → with_item end None x ≡ Some x
+item_first end x is = ap (λ b. cond (not b) (Some x) None) is
+
+with_more : (end : End) (ys : List Item) (x : Item) → is_null x ≡ false → with_item end (reduce (pick end) ys) x ≡ reduce (pick end) (ys ++ x ∷ [])
+with_more end [] x is = item_first end x is
+with_more Least (y ∷ ys) x is =
+    some_cond (is_further Least (fold lesser y ys) x) x (fold lesser y ys) ∙ ap (λ z. Some z) (sym (better-item lesser (is_further Least) (λ b x. refl) ys x y))
+with_more Greatest (y ∷ ys) x is =
+    some_cond (is_further Greatest (fold greater y ys) x) x (fold greater y ys) ∙ ap (λ z. Some z) (sym (better-item greater (is_further Greatest) (λ b x. refl) ys x y))
+
+best_by : (end : End) (xs : List Item) → best_of end xs ≡ reduce (pick end) (held xs)
+best_by Least xs = refl
+best_by Greatest xs = refl
+
+best-push : (end : End) (xs : List Item) (x : Item) → with_item end (best_of end xs) x ≡ best_of end (xs ++ x ∷ [])
+best-push end xs x =
+    either (is_null x)
+    (λ yes. ap (λ b. cond b (Some x) (best_of end xs)) (not_better end (best_of end xs) x yes)
+    ∙ best_by end xs ∙ ap (reduce (pick end)) (sym (held-push xs x true yes ∙ append-nil (held xs))) ∙ sym (best_by end (xs ++ x ∷ [])))
+    (λ no. ap (λ o. with_item end o x) (best_by end xs) ∙ with_more end (held xs) x no
+    ∙ ap (reduce (pick end)) (sym (held-push xs x false no)) ∙ sym (best_by end (xs ++ x ∷ [])))
+
+pub item_bettered : (end : End) (c : ℕ) (old new : Option Item) (xs : List Item) (x : Item) → new ≡ with_item end old x → bettered old ≡ tally_of (agg_at end c) xs
+    → bettered new ≡ tally_of (agg_at end c) (xs ++ x ∷ [])
+item_bettered end c old new xs x is h =
+    ap bettered (is ∙ ap (λ o. with_item end o x) (ap (λ (t : TallyShape). t.best) (h ∙ best_is end c xs)) ∙ best-push end xs x) ∙ sym (best_is end c (xs ++ x ∷ []))
+
+pub null_no_better : (end : End) (c : ℕ) (old : Option Item) (xs : List Item) → bettered old ≡ tally_of (agg_at end c) xs → bettered old ≡ tally_of (agg_at end c) (xs ++ null ∷ [])
+null_no_better end c old xs h = item_bettered end c old old xs null (sym (ap (λ b. cond b (Some null) old) (not_better end old null refl))) h
+
+-- ---- what is told
+
+pub told-tally_of : (rows : Table) (a : Agg ℕ) → told a (tally_of a (items_for a rows)) ≡ cell rows a
+told-tally_of rows agg.Rows = ap (λ n. int (pos n)) (length-nulls rows) where
+  length-nulls : (rows : Table) → length (items_for agg.Rows rows) ≡ length rows
+  length-nulls [] = refl
+  length-nulls (row ∷ rows) = ap suc (length-nulls rows)
+told-tally_of rows (agg.Count c) = refl
+told-tally_of rows (agg.Sum c) = refl
+told-tally_of rows (agg.Least c) = refl
+told-tally_of rows (agg.Greatest c) = refl
+
+-- ---- it counts no more than there are items
+
 filter-le : (p : Item → Bool) (xs : List Item) → length (filter p xs) ≤ length xs
 filter-le p xs = omega (arith, length-filter p xs, count_by-le-length p xs)
 
@@ -137,16 +174,9 @@ numbers-le (boolean b ∷ xs) = omega (arith, numbers-le xs)
 numbers-le (text t ∷ xs) = omega (arith, numbers-le xs)
 numbers-le (list l ∷ xs) = omega (arith, numbers-le xs)
 
-pub counts_few : (rows : Table) (a : Agg ℕ) → (tally_of rows a).count ≤ length rows
-counts_few rows Rows = omega arith
-counts_few rows (Count c) = omega (arith, filter-le (λ x. not (is_null x)) (column rows c), length-map rows (λ (r : Row). item r c))
-counts_few rows (Sum c) = omega (arith, numbers-le (column rows c), length-map rows (λ (r : Row). item r c))
-counts_few rows (Least c) = omega arith
-counts_few rows (Greatest c) = omega arith
-
-pub keeps_agg : (rows : Table) (a : Agg ℕ) → (tally_of rows a).agg ≡ a
-keeps_agg rows Rows = refl
-keeps_agg rows (Count c) = refl
-keeps_agg rows (Sum c) = refl
-keeps_agg rows (Least c) = refl
-keeps_agg rows (Greatest c) = refl
+pub counts_few : (xs : List Item) (a : Agg ℕ) → (tally_of a xs).count ≤ length xs
+counts_few xs agg.Rows = omega arith
+counts_few xs (agg.Count c) = filter-le (λ x. not (is_null x)) xs
+counts_few xs (agg.Sum c) = numbers-le xs
+counts_few xs (agg.Least c) = omega arith
+counts_few xs (agg.Greatest c) = omega arith

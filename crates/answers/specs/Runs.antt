@@ -1,13 +1,14 @@
--- What is known of the rows that a query keeps, batch by batch.
-use Rattle.std.specs.Prelude.{◌≡◌, ◌+◌, ◌<◌, ◌≤◌, ◌^◌, ℕ, Bool, true, false, List, Option, Some, None, unwrap_or, filter, length, ⊤}
-use Rattle.arrays.specs.Batch.{Batch, Table, row_of}
+-- What is known of the rows that a query keeps, slice by slice.
+use Rattle.std.specs.Prelude.{◌≡◌, ◌+◌, ◌<◌, ◌≤◌, ◌^◌, ℕ, Bool, true, false, List, Option, Some, None, unwrap_or, filter, length, map, ⊤}
+use Rattle.std.specs.List.{range_with_len}
+use Rattle.arrays.specs.Batch.{Batch, Table}
 use Rattle.arrays.specs.Item.{Item}
 use Rattle.types.specs.Shape.{FieldShape}
 use Rattle.query.specs.Asked.{asked}
 use Rattle.query.specs.Tree.{Tree}
 use Rattle.query.specs.declared.queries.Query.{Query}
 use Rattle.query.specs.declared.sort.Sort.TheVariants.{Truth}
-use Rattle.evaluate.specs.Slices.{AreEnough, item_in, sort_in}
+use Rattle.evaluate.specs.Slices.{AreEnough, item_in, row_in, sort_in}
 use Rattle.evaluate.specs.declared.stop.Stop.{Stop}
 use Rattle.evaluate.specs.declared.stop.Stop.TheVariants.{Bad, NoMemory}
 use Rattle.evaluate.specs.declared.values.Values.{Values}
@@ -23,29 +24,37 @@ abbrev pub keeps : Option Values → ℕ → Bool
 keeps None i = true
 keeps (Some v) i = is_true (item_in v i)
 
+-- The places of the rows of a slice that are kept.
+abbrev pub kept_in : Option Values → ℕ → ℕ → List ℕ
+kept_in o start n = map (λ i. start + i) (filter (keeps o) (range_with_len 0 n))
+
 -- A truth value for each of n rows.
 abbrev pub AreTruths : ℕ → Option Values → Type 0
 AreTruths n None = ⊤
 AreTruths n (Some v) = (sort_in v ≡ Truth) × AreEnough n v
 
--- What the filter says of each row of the batch.
-pub record AreVerdicts (b : Batch) (filter : Option (Tree ℕ)) (o : Option Values) : Type 0 where
-  pub truths : AreTruths b.rows o
-  pub each : (i : ℕ) → i < b.rows → verdict b.fields filter (row_of b.columns i) ≡ Some (keeps o i)
+-- The n rows of a batch from the start on.
+abbrev pub rows_in : Batch → ℕ → ℕ → Table
+rows_in b start n = map (row_in b start) (range_with_len 0 n)
 
--- The filter is bad at none of the batch's rows.
-pub record IsSound (b : Batch) (filter : Option (Tree ℕ)) : Type 0 where
-  pub each : (i : ℕ) → i < b.rows → is_bad b.fields filter (row_of b.columns i) ≡ false
+-- What the filter says of each of these rows.
+pub record AreVerdicts (b : Batch) (start n : ℕ) (filter : Option (Tree ℕ)) (o : Option Values) : Type 0 where
+  pub truths : AreTruths n o
+  pub each : (i : ℕ) → i < n → verdict b.fields filter (row_in b start i) ≡ Some (keeps o i)
 
--- The least row of the batch where the filter is bad.
-pub record IsBadRow (b : Batch) (filter : Option (Tree ℕ)) (row : ℕ) : Type 0 where
-  pub within : row < b.rows
-  pub bad : verdict b.fields filter (row_of b.columns row) ≡ None
-  pub before : (i : ℕ) → i < row → is_bad b.fields filter (row_of b.columns i) ≡ false
+-- The filter is bad at none of them.
+pub record AreSound (b : Batch) (start n : ℕ) (filter : Option (Tree ℕ)) : Type 0 where
+  pub each : (i : ℕ) → i < n → is_bad b.fields filter (row_in b start i) ≡ false
 
-abbrev pub StopsAt : Batch → Option (Tree ℕ) → Stop → Type 0
-StopsAt b filter (Bad row) = IsBadRow b filter row
-StopsAt b filter NoMemory = ⊤
+-- The least of them where the filter is bad.
+pub record IsBadRow (b : Batch) (start n : ℕ) (filter : Option (Tree ℕ)) (row : ℕ) : Type 0 where
+  pub within : row < n
+  pub bad : verdict b.fields filter (row_in b start row) ≡ None
+  pub before : (i : ℕ) → i < row → is_bad b.fields filter (row_in b start i) ≡ false
+
+abbrev pub StopsAt : Batch → ℕ → ℕ → Option (Tree ℕ) → Stop → Type 0
+StopsAt b start n filter (Bad row) = IsBadRow b start n filter row
+StopsAt b start n filter NoMemory = ⊤
 
 -- The groups of the rows that the filter keeps.
 abbrev pub HasKept : List FieldShape → Query → Table → Grouping → Type 0

@@ -1,6 +1,7 @@
--- A sum with a number more.
-use Rattle.std.specs.Prelude.{ℤ, ◌+ℤ◌, Option, Some, None}
+-- Sums of numbers.
+use Rattle.std.specs.Prelude.{ℕ, zero, suc, ℤ, Option, Some, None}
 
-abbrev pub plus : Option ℤ → ℤ → ℤ
-plus None z = z
-plus (Some sum) z = sum +ℤ z
+-- The sum of so many numbers, where there is one at all.
+abbrev pub sum_if_any : ℕ → ℤ → Option ℤ
+sum_if_any zero z = None
+sum_if_any (suc n) z = Some z

@@ -1,40 +1,56 @@
 //! The least and the greatest of items that come one by one.
 
-ghost use Rattle.std.specs.Prelude.{◌≡◌, IfOk, not, option_map};
+ghost use Rattle.std.specs.Prelude.{◌≡◌, IfOk, OnOk, not, option_map};
 ghost use Rattle.std.specs.Ordering.{is_gt};
 ghost use Rattle.kernels.specs.Order.{order};
 ghost use Rattle.group.specs.Summary.{scalar_item};
 ghost use Rattle.arrays.specs.Item.{is_null};
-ghost use Rattle.answers.specs.Tallies.{is_before, is_behind, item_if_any};
+ghost use Rattle.answers.specs.Ends.{is_better, is_further, item_if_any, with_item};
 ghost use Rattle.answers.specs.Values.{item_of_value};
 
+use crate::end::End;
 use crate::value::Value;
 use colbits::NoMemory;
 use group::Scalar;
 use std::alloc::Global;
 
-/// Whether the item is the first one, or comes before the best one so far.
-pub(crate) fn is_before(best: &Option<Scalar>, value: Value<'_>) -> bool
-    ensures { result ≡ is_before (option_map scalar_item best.now) (item_of_value value.entry) }
+/// Keeps a copy of the item, if it is the first one or further to the end than the best one so far.
+pub(crate) fn put_better(
+    alloc: Global,
+    best: &mut Option<Scalar>,
+    end: End,
+    value: Value<'_>,
+) -> Result<(), NoMemory>
+    ensures { OnOk result (option_map scalar_item best.new ≡ with_item end (option_map scalar_item best.old) (item_of_value value.entry)) }
+{
+    if is_better(best, end, value) {
+        *best = owned(alloc, value)?;
+    }
+    Ok(())
+}
+
+/// Whether the item is the first one, or further to the end than the best one so far.
+fn is_better(best: &Option<Scalar>, end: End, value: Value<'_>) -> bool
+    ensures { result ≡ is_better end (option_map scalar_item best.now) (item_of_value value.entry) }
 {
     match best {
-        Some(best) => exceeds(best, value),
+        Some(best) => is_further(best, end, value),
         None => is_item(value),
     }
 }
 
-/// Whether the item is the first one, or comes behind the best one so far.
-pub(crate) fn is_behind(best: &Option<Scalar>, value: Value<'_>) -> bool
-    ensures { result ≡ is_behind (option_map scalar_item best.now) (item_of_value value.entry) }
+/// Whether the item is further to the end than the best one.
+fn is_further(best: &Scalar, end: End, value: Value<'_>) -> bool
+    ensures { result ≡ is_further end (scalar_item best.now) (item_of_value value.entry) }
 {
-    match best {
-        Some(best) => is_exceeded(best, value),
-        None => is_item(value),
+    match end {
+        End::Least => exceeds(best, value),
+        End::Greatest => is_exceeded(best, value),
     }
 }
 
 /// A copy of the item, if it is one.
-pub(crate) fn owned(alloc: Global, value: Value<'_>) -> Result<Option<Scalar>, NoMemory>
+fn owned(alloc: Global, value: Value<'_>) -> Result<Option<Scalar>, NoMemory>
     ensures { IfOk result (λ s. option_map scalar_item s ≡ item_if_any (item_of_value value.entry)) }
 {
     match value {

@@ -1,27 +1,36 @@
 //! The groups of rows, while they come.
 
-ghost use Rattle.std.specs.Prelude.{◌≡◌, ◌<◌, ◌++◌, ◌∷◌, [], IfOk, OnOk, length, map, true};
+ghost use Rattle.std.specs.Prelude.{◌≡◌, ◌<◌, ◌≤◌, ◌+◌, ◌^◌, ◌++◌, [], All, IfOk, List, None, OnOk, ℕ, length, map, true};
 ghost use Rattle.arrays.specs.Batch.{Table, row_of};
 ghost use Rattle.query.specs.Asked.{asked};
-ghost use Rattle.query.specs.Fault.{fits};
-ghost use Rattle.answers.specs.Answers.{shape_of};
-ghost use Rattle.answers.specs.Grouping.{HasGroups, HasPlace, HasRoom, show_all};
-ghost use Rattle.answers.specs.Tallies.{groups_told};
+ghost use Rattle.query.specs.Columns.{sort_at};
+ghost use Rattle.query.specs.Fault.{agg_fault, fits};
+ghost use Rattle.query.specs.declared.expr.Agg.{Agg as Aggregate};
+ghost use Rattle.answers.specs.Answers.{item_in, shape_of};
+ghost use Rattle.answers.specs.Columns.{ColumnShape, column_of, show_column, told_at};
+ghost use Rattle.answers.specs.Grouping.{HasGroups, HasRoom, IsColumnOf, IsGrouped};
+ghost use Rattle.answers.specs.Groups.{grouped};
+ghost use Rattle.answers.specs.Spread.{padded, spread};
+ghost use Rattle.answers.specs.Tallies.{tally_of};
 
+use crate::column::TallyColumn;
 use crate::groups::{Answer, Group};
 use crate::key_set::KeySet;
-use crate::tally::{Tally, add_to_all, new_tallies, tell_all};
+use crate::numbering::number_rows;
 use arrays::RecordBatch;
 use colbits::NoMemory;
-use query::Query;
+use group::Scalar;
+use query::{Agg, Query};
 use std::alloc::Global;
 
 /// The groups of the rows so far.
 #[derive(Drop)]
 pub(crate) struct Grouping {
     pub(crate) keys: KeySet,
-    /// What is known of the rows of each key.
-    pub(crate) tallies: Vec<Vec<Tally>>,
+    /// What each aggregate knows of the rows of each key.
+    pub(crate) columns: Vec<TallyColumn>,
+    /// The numbers of the groups of the rows that are added, kept for the next ones.
+    numbers: Vec<usize>,
 }
 
 impl Grouping {
@@ -29,79 +38,113 @@ impl Grouping {
     pub(crate) fn new(alloc: Global, query: &Query) -> Result<Grouping, NoMemory>
         ensures { IfOk result (HasGroups query.now []) }
     {
+        let mut keys = KeySet::new(alloc);
         if query.by.is_empty() {
-            return Grouping::of_one(alloc, query);
+            keys.add_empty()?;
         }
+        let columns = new_columns(alloc, query.aggs.as_slice(), keys.len())?;
         Ok(Grouping {
-            keys: KeySet::new(alloc),
-            tallies: Vec::new(alloc),
+            keys,
+            columns,
+            numbers: Vec::new(alloc),
         })
     }
 
-    /// The one group of no rows.
-    fn of_one(alloc: Global, query: &Query) -> Result<Grouping, NoMemory>
-        requires { length query.now.by.items ≡ 0 }
-        ensures { IfOk result (HasGroups query.now []) }
-    {
-        let mut keys = KeySet::new(alloc);
-        keys.add_empty()?;
-        let mut tallies = Vec::new(alloc);
-        tallies.push(new_tallies(alloc, query.aggs.as_slice())?)?;
-        Ok(Grouping { keys, tallies })
-    }
-
-    /// Adds a row.
+    /// Adds rows of a batch.
     pub(crate) fn add(
         &mut self,
         alloc: Global,
         query: &Query,
         batch: &RecordBatch,
-        row: usize,
+        rows: &[usize],
     ) -> Result<(), NoMemory>
         requires fits { fits batch.now.fields (asked query.now) ≡ true }
-        requires within { row < batch.now.rows }
-        requires room { HasRoom query.now self.old }
-        ensures { (rows : Table) → HasGroups query.now rows self.old
-            → OnOk result (HasGroups query.now (rows ++ row_of batch.now.columns row ∷ []) self.new) }
+        requires within { All (λ r. r < batch.now.rows) rows.now }
+        requires room { HasRoom query.now (length rows.now) self.old }
+        ensures { (rows_before : Table) → HasGroups query.now rows_before self.old
+            → OnOk result (HasGroups query.now (rows_before ++ map (row_of batch.now.columns) rows.now) self.new) }
     {
-        let number = self.place_of(alloc, query, batch, row)?;
-        let tallies = &mut self.tallies[number];
-        add_to_all(alloc, tallies, batch, row)
-    }
-
-    /// The place of a row's key, which is put at the end where it is new. Its row isn't counted in yet.
-    fn place_of(
-        &mut self,
-        alloc: Global,
-        query: &Query,
-        batch: &RecordBatch,
-        row: usize,
-    ) -> Result<usize, NoMemory>
-        requires fits { fits batch.now.fields (asked query.now) ≡ true }
-        requires within { row < batch.now.rows }
-        ensures { (rows : Table) → HasGroups query.now rows self.old
-            → IfOk result (λ n. HasPlace query.now rows (row_of batch.now.columns row) self.new n) }
-    {
-        let number = self.keys.number_of(batch, query.by.as_slice(), row)?;
-        if number == self.tallies.len() {
-            let tallies = new_tallies(alloc, query.aggs.as_slice())?;
-            self.tallies.push(tallies)?;
-        }
-        Ok(number)
+        number_rows(
+            &mut self.keys,
+            &mut self.numbers,
+            batch,
+            query.by.as_slice(),
+            rows,
+        )?;
+        let groups = self.keys.len();
+        add_to_columns(alloc, &mut self.columns, groups, batch, rows, &self.numbers)
     }
 
     /// The groups: of each its key, and what is told of its rows.
     pub(crate) fn tell(&self, alloc: Global) -> Result<Answer, NoMemory>
-        requires { length self.now.tallies.items ≡ length self.now.keys }
-        ensures { IfOk result (λ a. map shape_of a.groups.items
-            ≡ groups_told self.now.keys (map show_all self.now.tallies.items)) }
+        requires { All (λ c. length (show_column c).tallies ≡ length self.now.keys) self.now.columns.items }
+        ensures { (by : List ℕ) (aggs : List (Aggregate ℕ)) (rows : Table) → IsGrouped by aggs rows self.now.keys (map show_column self.now.columns.items)
+            → IfOk result (λ a. map shape_of a.groups.items ≡ grouped by aggs rows) }
     {
-        let mut groups = Vec::with_capacity(alloc, self.tallies.len())?;
-        for number in 0..self.tallies.len() {
+        let mut groups = Vec::with_capacity(alloc, self.keys.len())?;
+        for number in 0..self.keys.len() {
             let keys = self.keys.key_at(alloc, number)?;
-            let cells = tell_all(alloc, &self.tallies[number])?;
+            let cells = tell_all(alloc, &self.columns, number)?;
             groups.push(Group { keys, cells })?;
         }
         Ok(Answer { groups })
     }
+}
+
+/// The columns of the aggregates, of so many groups of no rows.
+fn new_columns(
+    alloc: Global,
+    aggs: &[Agg<u32>],
+    groups: usize,
+) -> Result<Vec<TallyColumn>, NoMemory>
+    ensures { IfOk result (λ v. map show_column v.items ≡ map (λ a. record { agg = a; tallies = padded groups (tally_of a []) [] }) aggs.now) }
+{
+    let mut columns = Vec::with_capacity(alloc, aggs.len())?;
+    for agg in aggs {
+        let mut column = TallyColumn::new(alloc, *agg);
+        column.grow(groups)?;
+        columns.push(column)?;
+    }
+    Ok(columns)
+}
+
+/// Adds rows of a batch to each column, which grows to so many groups first.
+fn add_to_columns(
+    alloc: Global,
+    columns: &mut [TallyColumn],
+    groups: usize,
+    batch: &RecordBatch,
+    rows: &[usize],
+    numbers: &[usize],
+) -> Result<(), NoMemory>
+    requires fits { All (λ c. agg_fault (sort_at batch.now.fields) (show_column c).agg ≡ None) columns.old }
+    requires lengths { length numbers.now ≡ length rows.now }
+    requires inside { All (λ n. n < groups) numbers.now }
+    requires short { length rows.now ≤ 2 ^ 40 }
+    requires within { All (λ r. r < batch.now.rows) rows.now }
+    requires few { (tables : List Table) × All (IsColumnOf tables) columns.old × (length tables ≤ groups)
+        × All (λ t. length t + length rows.now ≤ 2 ^ 40) tables }
+    ensures { (tables : List Table) → All (IsColumnOf tables) columns.old → OnOk result (map show_column columns.new
+        ≡ map (λ c. column_of (spread numbers.now (map (row_of batch.now.columns) rows.now) (padded groups [] tables)) (show_column c).agg) columns.old) }
+{
+    for i in 0..columns.len() {
+        columns[i].extend(alloc, groups, batch, rows, numbers)?;
+    }
+    Ok(())
+}
+
+/// What the columns tell of a group; none is null.
+fn tell_all(
+    alloc: Global,
+    columns: &[TallyColumn],
+    group: usize,
+) -> Result<Vec<Option<Scalar>>, NoMemory>
+    requires { All (λ c. group < length (show_column c).tallies) columns.now }
+    ensures { IfOk result (λ v. map item_in v.items ≡ map (told_at group) (map show_column columns.now)) }
+{
+    let mut cells = Vec::with_capacity(alloc, columns.len())?;
+    for column in columns {
+        cells.push(column.tell(alloc, group)?)?;
+    }
+    Ok(cells)
 }

@@ -1,16 +1,24 @@
 //! Answers of queries over record batches: which rows, by which keys, and what of each group of them.
 #![tactic(auto)]
 
+mod adding;
 mod answering;
 mod best;
+mod best_number;
+mod column;
+mod end;
 mod filter;
 pub mod gate;
 mod grouping;
 pub mod groups;
+mod items;
 mod key_set;
+mod number_column;
+mod numbering;
+mod numbers;
 mod part;
 mod run;
-mod tally;
+mod source;
 mod text_set;
 mod total;
 mod value;

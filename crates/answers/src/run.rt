@@ -1,19 +1,21 @@
-//! The rows of batches, one batch after the other.
+//! The rows of a batch, one slice after the other.
 
-ghost use Rattle.std.specs.Prelude.{◌≡◌, ◌++◌, IfErr, IfOk, OnOk, true};
+ghost use Rattle.std.specs.Prelude.{◌≡◌, ◌+◌, ◌<◌, ◌^◌, ◌++◌, IfErr, IfOk, OnOk, true};
 ghost use Rattle.arrays.specs.Batch.{Table, rows_of};
 ghost use Rattle.query.specs.Asked.{asked};
 ghost use Rattle.query.specs.Fault.{fits};
-ghost use Rattle.answers.specs.Runs.{AreVerdicts, HasKept, HasRoomFor, IsSound, StopsAt};
+ghost use Rattle.answers.specs.Runs.{AreSound, HasKept, HasRoomFor, StopsAt, rows_in};
 
-use crate::filter::{filter_values, keeps};
+use crate::filter::{filter_values, keep_rows};
 use crate::grouping::Grouping;
 use arrays::RecordBatch;
-use colbits::NoMemory;
+use evaluate::slice::Slice;
 use evaluate::stop::Stop;
-use evaluate::values::Values;
 use query::Query;
 use std::alloc::Global;
+
+/// The most rows that are looked at together, so that what is known of them takes the same memory for batches of any size.
+const SLICE: usize = 16384;
 
 /// Adds the rows of a batch that the query's filter keeps, or tells the least of its rows where the filter is bad.
 pub(crate) fn add_batch(
@@ -26,33 +28,43 @@ pub(crate) fn add_batch(
     requires room { HasRoomFor batch.now.fields query.now batch.now.rows grouping.old }
     ensures ok { (rows : Table) → HasKept batch.now.fields query.now rows grouping.old
         → OnOk result (HasKept batch.now.fields query.now (rows ++ rows_of batch.now) grouping.new) }
-    ensures sound { IfOk result (λ done. IsSound batch.now (asked query.now).filter) }
-    ensures err { IfErr result (StopsAt batch.now (asked query.now).filter) }
+    ensures sound { IfOk result (λ done. AreSound batch.now 0 batch.now.rows (asked query.now).filter) }
+    ensures err { IfErr result (StopsAt batch.now 0 batch.now.rows (asked query.now).filter) }
 {
-    let values = filter_values(alloc, query, batch)?;
-    add_kept(alloc, grouping, query, batch, &values)?;
+    let rows = batch.rows() as usize;
+    let mut kept = Vec::new(alloc);
+    let mut start: usize = 0;
+    while start < rows {
+        let len = SLICE.min(rows - start);
+        let slice = Slice { batch, start, len };
+        match add_slice(alloc, grouping, query, slice, &mut kept) {
+            Ok(()) => start += len,
+            Err(Stop::Bad(row)) => return Err(Stop::Bad(start + row)),
+            Err(Stop::NoMemory) => return Err(Stop::NoMemory),
+        }
+    }
     Ok(())
 }
 
-/// Adds the rows of a batch that these values keep.
-fn add_kept(
+/// Adds the rows of a slice that the query's filter keeps; their places are kept in between.
+fn add_slice(
     alloc: Global,
     grouping: &mut Grouping,
     query: &Query,
-    batch: &RecordBatch,
-    values: &Option<Values<'_>>,
-) -> Result<(), NoMemory>
-    requires fits { fits batch.now.fields (asked query.now) ≡ true }
-    requires verdicts { AreVerdicts batch.now (asked query.now).filter values.now }
-    requires room { HasRoomFor batch.now.fields query.now batch.now.rows grouping.old }
-    ensures { (rows : Table) → HasKept batch.now.fields query.now rows grouping.old
-        → OnOk result (HasKept batch.now.fields query.now (rows ++ rows_of batch.now) grouping.new) }
+    slice: Slice<'_>,
+    kept: &mut Vec<usize>,
+) -> Result<(), Stop>
+    requires fits { fits slice.batch.now.fields (asked query.now) ≡ true }
+    requires short { slice.start + slice.len < 2 ^ 40 }
+    requires room { HasRoomFor slice.batch.now.fields query.now slice.len grouping.old }
+    ensures ok { let b = slice.entry.batch.now in
+        (rows : Table) → HasKept b.fields query.now rows grouping.old
+        → OnOk result (HasKept b.fields query.now (rows ++ rows_in b slice.entry.start slice.entry.len) grouping.new) }
+    ensures sound { IfOk result (λ done. AreSound slice.entry.batch.now slice.entry.start slice.entry.len (asked query.now).filter) }
+    ensures err { IfErr result (StopsAt slice.entry.batch.now slice.entry.start slice.entry.len (asked query.now).filter) }
 {
-    let rows = batch.rows();
-    for row in 0..rows as usize {
-        if keeps(values, row, rows) {
-            grouping.add(alloc, query, batch, row)?;
-        }
-    }
+    let values = filter_values(alloc, query, slice)?;
+    keep_rows(kept, &values, slice.start, slice.len)?;
+    grouping.add(alloc, query, slice.batch, kept)?;
     Ok(())
 }

@@ -1,13 +1,14 @@
 //! The items of a batch, one by one.
 
-ghost use Rattle.std.specs.Prelude.{◌≡◌, ◌<◌, None, Some, false, is_ok, length, not, slice_get, slice_index_or, true};
+ghost use Rattle.std.specs.Prelude.{◌≡◌, ◌<◌, None, Some, false, is_ok, length, slice_get, slice_index_or, true};
 ghost use Rattle.std.specs.Option.{option_copied};
 ghost use Rattle.arrays.specs.Batch.{row_of};
-ghost use Rattle.arrays.specs.Item.{is_null, null};
+ghost use Rattle.arrays.specs.Item.{null};
 ghost use Rattle.arrays.specs.Slot.{is_list, item_of, item_of_bool, item_of_text};
 ghost use Rattle.query.specs.Columns.{sort_at};
 ghost use Rattle.query.specs.Fault.{key_fault};
-ghost use Rattle.answers.specs.Values.{IsNarrow, item_of_value};
+ghost use Rattle.answers.specs.Rows.{IsColumn};
+ghost use Rattle.answers.specs.Values.{item_of_value};
 
 use arrays::{RecordBatch, View, ViewType};
 
@@ -20,26 +21,31 @@ pub(crate) enum Value<'a> {
     Text(&'a str),
 }
 
+/// The column at the place.
+pub(crate) fn column_at<'a>(batch: &'a RecordBatch, place: u32) -> View<'a>
+    requires { is_ok (sort_at batch.now.fields place) ≡ true }
+    ensures { IsColumn batch.now place result }
+{
+    let columns = batch.columns();
+    columns[place as usize].view()
+}
+
 /// The item of a row in the column at the place.
 pub(crate) fn value_at<'a>(batch: &'a RecordBatch, place: u32, row: usize) -> Value<'a>
     requires plain { key_fault (sort_at batch.now.fields) place ≡ None }
     requires within { row < batch.now.rows }
-    ensures value { item_of_value result ≡ slice_index_or (row_of batch.now.columns row) place null }
-    ensures narrow { IsNarrow (item_of_value result) }
+    ensures { item_of_value result ≡ slice_index_or (row_of batch.now.columns row) place null }
 {
-    let columns = batch.columns();
-    let view = columns[place as usize].view();
+    let view = column_at(batch, place);
     value_in(&view, row)
 }
 
 /// The item of slot `i`.
-fn value_in<'a>(view: &View<'a>, i: usize) -> Value<'a>
+pub(crate) fn value_in<'a>(view: &View<'a>, i: usize) -> Value<'a>
     requires plain { is_list view.now.kind ≡ false }
     requires within { i < length view.now.items }
-    ensures value { slice_get view.now.items i ≡ Some (item_of_value result) }
-    ensures narrow { IsNarrow (item_of_value result) }
+    ensures { slice_get view.now.items i ≡ Some (item_of_value result) }
 {
-    view.tell_items();
     match view.ty() {
         ViewType::Int(ty) => number(view.int_as(ty, i)),
         ViewType::Bool => truth(view.bool_at(i)),
@@ -73,15 +79,4 @@ fn text(text: Option<&str>) -> Value<'_>
         Some(text) => Value::Text(text),
         None => Value::Null,
     }
-}
-
-/// Whether a row has an item in the column at the place.
-pub(crate) fn holds_at(batch: &RecordBatch, place: u32, row: usize) -> bool
-    requires there { is_ok (sort_at batch.now.fields place) ≡ true }
-    requires within { row < batch.now.rows }
-    ensures { result ≡ not (is_null (slice_index_or (row_of batch.now.columns row) place null)) }
-{
-    let columns = batch.columns();
-    let view = columns[place as usize].view();
-    view.holds(row)
 }

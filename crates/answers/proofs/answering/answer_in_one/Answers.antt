@@ -1,4 +1,4 @@
-use Rattle.std.proofs.Common.{◌≡◌, ◌∙◌, ℕ, ◌+◌, ◌<◌, ◌^◌, List, ap, sym, subst, arith, length, map, take, get_or, inl, length-append}
+use Rattle.std.proofs.Common.{◌≡◌, ◌∙◌, ℕ, ◌+◌, ◌<◌, ◌^◌, List, ap, sym, subst, arith, filter, length, map, take, get_or, inl, length-append}
 use Rattle.std.specs.Prelude.{true}
 use Rattle.std.proofs.lemmas.List.{length-map}
 use Rattle.std.specs.Arc.{arc_value}
@@ -8,9 +8,10 @@ use Rattle.query.specs.Asked.{asked}
 use Rattle.query.specs.Fault.{fits}
 use Rattle.query.specs.declared.fault.QueryFault.TheVariants.{Overflow}
 use Rattle.answers.specs.Answers.{all_rows, first_fields, shape_of}
-use Rattle.answers.specs.Grouping.{show_all}
+use Rattle.answers.specs.Groups.{is_kept}
 use Rattle.answers.specs.Runs.{IsBadRow, StopsAt}
-use Rattle.answers.proofs.AnsweringLemmas.{answered, at_next, few_next, has_kept_alike, lengths_told, mapped_at, refused, rows_next, run_next}
+use Rattle.answers.proofs.AnsweringLemmas.{answered, at_next, few_next, has_kept_alike, mapped_at, refused, rows_next, run_next}
+use Rattle.answers.proofs.GroupLemmas.{as_long}
 use Rattle.answers.proofs.RunLemmas.{length-rows}
 use Rattle.answers.proofs.answering.answer_in_one.Goals as goal
 
@@ -52,7 +53,7 @@ overflow_add-result c =
     let batch : Batch = c.deref.result.now in
     let below : place < length batches = omega (arith, length-map c.args.batches.now arc_value) in
     let here : batch ≡ get_or batches place batch = mapped_at arc_value c.args.batches.now place c.batch-item.result batch (omega arith) c.batch-item.is c.deref.ensures in
-    let bad : IsBadRow batch (asked c.args.query.now).filter c.in-Err-Bad.row = subst (StopsAt batch (asked c.args.query.now).filter) c.in-Err-Bad.field-0-is c.in-Err-Bad.ensures.err in
+    let bad : IsBadRow batch 0 batch.rows (asked c.args.query.now).filter c.in-Err-Bad.row = subst (StopsAt batch 0 batch.rows (asked c.args.query.now).filter) c.in-Err-Bad.field-0-is c.in-Err-Bad.ensures.err in
     omega (arith, c.loop-batch.invariant.0, c.in-Err-Bad.row-is, bad.within, few_next batches place batch below here (2 ^ 40) c.requires.few)
 
 pub returns-in-Err-Bad-clause-err : goal.returns-in-Err-Bad-clause-err
@@ -64,7 +65,7 @@ returns-in-Err-Bad-clause-err c =
     let here : batch ≡ get_or batches place batch = mapped_at arc_value c.args.batches.now place c.batch-item.result batch (omega arith) c.batch-item.is c.deref.ensures in
     let alike : map kind_of_field batch.fields ≡ map kind_of_field (first_fields batches) =
     at_next (λ (b : Batch). map kind_of_field b.fields ≡ map kind_of_field (first_fields batches)) batches place batch c.requires.types below here in
-    let bad : IsBadRow batch (asked c.args.query.now).filter c.in-Err-Bad.row = subst (StopsAt batch (asked c.args.query.now).filter) c.in-Err-Bad.field-0-is c.in-Err-Bad.ensures.err in
+    let bad : IsBadRow batch 0 batch.rows (asked c.args.query.now).filter c.in-Err-Bad.row = subst (StopsAt batch 0 batch.rows (asked c.args.query.now).filter) c.in-Err-Bad.field-0-is c.in-Err-Bad.ensures.err in
     let row = refused batches place batch (first_fields batches) c.args.query.now c.loop-batch.grouping c.in-Err-Bad.row c.loop-batch.before below here alike c.loop-batch.invariant.1 c.loop-batch.invariant.0 bad in
     inl (c.loop-batch.before + c.in-Err-Bad.row, row, ap (λ n. Overflow (c.loop-batch.before + n)) c.in-Err-Bad.row-is)
 
@@ -85,11 +86,14 @@ loop-batch-preserved c =
     )
 
 pub tell-requires : goal.tell-requires
-tell-requires c = lengths_told c.args.query.now.by.items c.args.query.now.aggs.items _ c.loop-batch.grouping.keys (map show_all c.loop-batch.grouping.tallies.items) c.loop-batch.invariant.1.kept
-    (length-map c.loop-batch.grouping.tallies.items show_all)
+tell-requires c = as_long c.args.query.now.by.items c.args.query.now.aggs.items _ c.loop-batch.grouping.keys c.loop-batch.grouping.columns.items c.loop-batch.invariant.1.kept
 
 pub returns-clause-ok : goal.returns-clause-ok
 returns-clause-ok c =
     let batches : List Batch = map arc_value c.args.batches.now in
-    answered batches c.loop-batch.batch-index (first_fields batches) c.args.query.now c.loop-batch.grouping (map shape_of c.in_ok-tell.field-0.groups.items)
-    (omega (arith, length-map c.args.batches.now arc_value)) c.loop-batch.invariant.1 c.in_ok-tell.ensures
+    let fields = first_fields batches in
+    let q = c.args.query.now in
+    let rows = filter (is_kept fields (asked q).filter) (all_rows (take c.loop-batch.batch-index batches)) in
+    answered batches c.loop-batch.batch-index fields q c.loop-batch.grouping (map shape_of c.in_ok-tell.field-0.groups.items)
+    (omega (arith, length-map c.args.batches.now arc_value)) c.loop-batch.invariant.1
+    (c.in_ok-tell.ensures q.by.items q.aggs.items rows c.loop-batch.invariant.1.kept)

@@ -1,15 +1,17 @@
-use Rattle.std.proofs.Common.{◌∙◌, ℕ, Option, Some, ap, option_map, subst, sym}
-use Rattle.arrays.specs.Batch.{Batch}
-use Rattle.query.specs.Tree.{Tree, tree_of}
-use Rattle.answers.specs.Runs.{StopsAt}
-use Rattle.answers.proofs.RunLemmas.{stops_at}
+use Rattle.query.specs.Asked.{asked}
+use Rattle.evaluate.specs.Slices.{AreFilterValues, IsFilterStop}
+use Rattle.answers.specs.Runs.{AreVerdicts, StopsAt}
+use Rattle.answers.proofs.RunLemmas.{are_verdicts, if_err, if_ok, stops_at}
 use Rattle.answers.proofs.filter.filter_values.Goals as goal
 
-pub returns-in-Err-clause-err : goal.returns-in-Err-clause-err
-returns-in-Err-clause-err c =
-    let s = c.whole-slice.result in
-    let stop = c.in-Err.stop in
-    subst (λ (o : Option (Tree ℕ)). StopsAt c.args.batch.now o stop) (sym (ap (option_map tree_of) c.in-Some.is))
-    (subst (λ (x : Batch). StopsAt x (Some (tree_of c.in-Some.expr)) stop) c.whole-slice.ensures.batch
-    (stops_at s.batch.now s.start s.len (tree_of c.in-Some.expr) stop c.whole-slice.ensures.start
-    (c.whole-slice.ensures.len ∙ ap (λ (x : Batch). x.rows) (sym c.whole-slice.ensures.batch)) c.in-Err.ensures.err))
+pub returns-clause-ok : goal.returns-clause-ok
+returns-clause-ok c =
+    let s = c.args.slice in
+    let f = (asked c.args.query.now).filter in
+    if_ok c.evaluate_filter.result (AreFilterValues s.batch.now s.start s.len f) (AreVerdicts s.batch.now s.start s.len f) (are_verdicts s.batch.now s.start s.len f) c.evaluate_filter.ensures.ok
+
+pub returns-clause-err : goal.returns-clause-err
+returns-clause-err c =
+    let s = c.args.slice in
+    let f = (asked c.args.query.now).filter in
+    if_err c.evaluate_filter.result (IsFilterStop s.batch.now s.start s.len f) (StopsAt s.batch.now s.start s.len f) (stops_at s.batch.now s.start s.len f) c.evaluate_filter.ensures.err

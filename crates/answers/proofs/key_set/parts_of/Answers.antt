@@ -13,7 +13,7 @@ loop-place-preserved c =
     let p = c.in_ok-part_of.field-0 in
     let e = c.in_ok-part_of.ensures in (
       key-push ts us c.part_of.ensures.begins c.args.by.now c.loop-place.place-index (row_of c.args.batch.now.columns c.args.row) ps new p
-          c.loop-place-test.true v.0 v.2 (e.item ∙ c.value_at-value.ensures.value) c.push.ensures.items,
+          c.loop-place-test.true v.0 v.2 (e.item ∙ c.value_at-value.ensures) c.push.ensures.items,
       omega (arith, v.1, ap length c.push.ensures.items, length-append ps (p ∷ [])),
       within-push ts us c.part_of.ensures.begins ps new p v.2 e.within c.push.ensures.items,
       prefix-trans c.args.texts.now ts us v.3 c.part_of.ensures.begins,

@@ -1,66 +1,103 @@
-use Rattle.std.proofs.Common.{◌≡◌, ◌∙◌, ◌^◌, None, ap, arith, length, map}
-use Rattle.std.specs.Prelude.{slice_set}
-use Rattle.std.specs.Vec.{with_items}
+use Rattle.std.proofs.Common.{◌≡◌, ◌∙◌, ◌<◌, ◌≤◌, ◌^◌, [], List, None, ap, arith, length, length-append, map, subst, sym}
+use Rattle.std.specs.Prelude.{All}
 use Rattle.std.proofs.lemmas.List.{length-map}
-use Rattle.arrays.specs.Batch.{row_of}
+use Rattle.arrays.specs.Batch.{Row, row_of}
 use Rattle.query.specs.Asked.{asked}
 use Rattle.query.specs.Columns.{sort_at}
-use Rattle.query.specs.Fault.{agg_fault}
-use Rattle.answers.specs.Grouping.{show_all}
+use Rattle.query.specs.Fault.{agg_fault, key_fault}
+use Rattle.answers.specs.Columns.{column_of, show_column}
+use Rattle.answers.specs.Grouping.{IsColumnOf, tables_of}
 use Rattle.answers.specs.Groups.{key_of, rows_of_key}
-use Rattle.answers.specs.Tallies.{added, show}
+use Rattle.answers.specs.Keys.{AreNumbers, keys_at, with_keys}
+use Rattle.answers.specs.Spread.{padded, spread}
+use Rattle.answers.specs.declared.column.TallyColumn.{TallyColumn}
+use Rattle.answers.proofs.ColumnLemmas.{on_ok, refilled}
 use Rattle.answers.proofs.FitLemmas.{what_fits}
-use Rattle.answers.proofs.GroupLemmas.{few_all, fits_all, grouped-added, is_inside, on_ok, refilled, rows-le, set_shown, tallies_at}
+use Rattle.answers.proofs.GroupLemmas.{are_columns, columns_fit, grouped_more, grown, length-numbers, mapped, numbers-inside, same_aggs, tables_short}
 use Rattle.answers.proofs.grouping.Grouping.add.Goals as goal
 
-pub index_mut-tallies-requires : goal.index_mut-tallies-requires
-index_mut-tallies-requires c =
-    let r = c.requires.room in
-    let q = c.args.query.now in
-    let g = c.place_of.new.self in
-    let p = c.in_ok-number.ensures r.0 r.2 in
-    omega (arith, is_inside show_all q.by.items q.aggs.items r.0 (row_of c.args.batch.now.columns c.args.row) g.keys g.tallies.items c.in_ok-number.number p, g.tallies.ok.0)
+pub number_rows-requires-clause-plain : goal.number_rows-requires-clause-plain
+number_rows-requires-clause-plain c =
+    subst (All (λ p. key_fault (sort_at c.args.batch.now.fields) p ≡ None)) (sym c.as_slice.ensures.value)
+    (what_fits c.args.batch.now.fields (asked c.args.query.now) c.requires.fits).by
 
-pub add_to_all-requires-clause-fits : goal.add_to_all-requires-clause-fits
-add_to_all-requires-clause-fits c =
+pub add_to_columns-requires-clause-fits : goal.add_to_columns-requires-clause-fits
+add_to_columns-requires-clause-fits c =
     let r = c.requires.room in
     let q = c.args.query.now in
-    let g = c.place_of.new.self in
-    let row = row_of c.args.batch.now.columns c.args.row in
-    let v = c.index_mut-tallies.result.now in
-    let is = tallies_at show_all q.by.items q.aggs.items r.0 row g.keys g.tallies.items c.in_ok-number.number v (c.in_ok-number.ensures r.0 r.2) c.index_mut-tallies.ensures.value in
-    fits_all (rows_of_key q.by.items r.0 (key_of q.by.items row)) (λ a. agg_fault (sort_at c.args.batch.now.fields) a ≡ None) q.aggs.items c.deref_mut.result.now
-    (ap (map show) c.deref_mut.ensures.value ∙ is) (what_fits c.args.batch.now.fields (asked q) c.requires.fits).aggs
+    let g = c.args.self.now in
+    subst (All (λ (t : TallyColumn). agg_fault (sort_at c.args.batch.now.fields) (show_column t).agg ≡ None)) (sym c.deref_mut.ensures.value)
+    (columns_fit (λ a. agg_fault (sort_at c.args.batch.now.fields) a ≡ None) (tables_of q.by.items r.0 g.keys) q.aggs.items g.columns.items r.2.columns_are
+    (what_fits c.args.batch.now.fields (asked q) c.requires.fits).aggs)
 
-pub add_to_all-requires-clause-few : goal.add_to_all-requires-clause-few
-add_to_all-requires-clause-few c =
+pub add_to_columns-requires-clause-lengths : goal.add_to_columns-requires-clause-lengths
+add_to_columns-requires-clause-lengths c =
+    let by = c.as_slice.result.now in
+    let columns = c.args.batch.now.columns in
+    let rows = c.args.rows.now in
+    omega (
+      arith,
+      ap length c.deref.ensures.value,
+      length-numbers c.number_rows.new.keys (keys_at by columns rows) c.number_rows.new.numbers.items c.in_ok-number_rows.ensures.numbers,
+      length-map rows (λ r. key_of by (row_of columns r)),
+    )
+
+pub add_to_columns-requires-clause-inside : goal.add_to_columns-requires-clause-inside
+add_to_columns-requires-clause-inside c =
+    let by = c.as_slice.result.now in
+    let new = c.number_rows.new.keys in
+    let numbers = c.number_rows.new.numbers.items in
+    subst (All (λ n. n < c.len-groups.result)) (sym c.deref.ensures.value)
+    (subst (λ m. All (λ n. n < m) numbers) (sym c.len-groups.ensures)
+    (numbers-inside new (keys_at by c.args.batch.now.columns c.args.rows.now) numbers c.in_ok-number_rows.ensures.numbers))
+
+pub add_to_columns-requires-clause-few : goal.add_to_columns-requires-clause-few
+add_to_columns-requires-clause-few c =
     let r = c.requires.room in
     let q = c.args.query.now in
-    let g = c.place_of.new.self in
-    let row = row_of c.args.batch.now.columns c.args.row in
-    let v = c.index_mut-tallies.result.now in
-    let is = tallies_at show_all q.by.items q.aggs.items r.0 row g.keys g.tallies.items c.in_ok-number.number v (c.in_ok-number.ensures r.0 r.2) c.index_mut-tallies.ensures.value in
-    few_all (rows_of_key q.by.items r.0 (key_of q.by.items row)) (2 ^ 40) q.aggs.items c.deref_mut.result.now
-    (ap (map show) c.deref_mut.ensures.value ∙ is) (omega (arith, rows-le q.by.items r.0 (key_of q.by.items row), r.1))
+    let g = c.args.self.now in
+    let tables = tables_of q.by.items r.0 g.keys in
+    let wanted = keys_at c.as_slice.result.now c.args.batch.now.columns c.args.rows.now in
+    let more = grown g.keys wanted in
+    let few : length tables ≤ c.len-groups.result =
+    omega (
+      arith,
+      c.len-groups.ensures,
+      ap length c.in_ok-number_rows.ensures.keys,
+      ap length more.is,
+      length-append g.keys more.extra,
+      length-map g.keys (rows_of_key q.by.items r.0),
+    ) in (
+      tables,
+      subst (All (IsColumnOf tables)) (sym c.deref_mut.ensures.value) (are_columns tables q.aggs.items g.columns.items r.2.columns_are),
+      few,
+      tables_short q.by.items r.0 g.keys (length c.args.rows.now) (2 ^ 40) r.1,
+    )
 
 pub returns : goal.returns
-returns c = λ rows has.
+returns c = λ before h.
     let q = c.args.query.now in
     let by = q.by.items in
-    let g = c.place_of.new.self in
-    let vs = g.tallies.items in
-    let n = c.in_ok-number.number in
-    let row = row_of c.args.batch.now.columns c.args.row in
-    let v = c.index_mut-tallies.result.now in
-    let ts = c.deref_mut.result.now in
-    let new = c.add_to_all.new.tallies in
-    let p = c.in_ok-number.ensures rows has in
-    let is = tallies_at show_all by q.aggs.items rows row g.keys vs n v p c.index_mut-tallies.ensures.value in
-    on_ok c.add_to_all.result
-    (λ e. grouped-added by q.aggs.items rows row g.keys (map show_all vs) (map show_all (slice_set vs n (with_items v new))) n p
-    (set_shown show_all vs n (with_items v new)
-    ∙ ap (slice_set (map show_all vs) n)
-    (ap (map show) (refilled v.len v.items new v.ok.0
-    (omega (arith, ap length e, length-map new show, length-map (map show ts) (added row), length-map ts show, ap length c.deref_mut.ensures.value)))
-    ∙ e ∙ ap (map (added row)) (ap (map show) c.deref_mut.ensures.value ∙ is))))
-    c.add_to_all.ensures
+    let aggs = q.aggs.items in
+    let g = c.args.self.now in
+    let cs = g.columns.items in
+    let new = c.number_rows.new.keys in
+    let numbers = c.number_rows.new.numbers.items in
+    let columns = c.args.batch.now.columns in
+    let rows = c.args.rows.now in
+    let more : List Row = map (row_of columns) rows in
+    let changed = c.add_to_columns.new.columns in
+    let tables = tables_of by before g.keys in
+    let keyed : keys_at c.as_slice.result.now columns rows ≡ map (key_of by) more =
+    ap (λ b. keys_at b columns rows) c.as_slice.ensures.value ∙ sym (mapped (key_of by) (row_of columns) rows) in
+    let is : new ≡ with_keys g.keys (map (key_of by) more) = c.in_ok-number_rows.ensures.keys ∙ ap (λ l. with_keys g.keys l) keyed in
+    let at : AreNumbers new (map (key_of by) more) numbers = subst (λ l. AreNumbers new l numbers) keyed c.in_ok-number_rows.ensures.numbers in
+    let count = c.add_to_columns.auto.columns ∙ ap length c.deref_mut.ensures.value in
+    on_ok c.add_to_columns.result
+    (λ e. grouped_more by aggs before more g.keys new (map show_column cs) _ numbers h is at
+    (ap (map show_column) (refilled g.columns.len cs changed g.columns.ok.0 count) ∙ e
+    ∙ ap (λ ns. map (λ (t : TallyColumn). column_of (spread ns more (padded c.len-groups.result [] tables)) (show_column t).agg) c.deref_mut.result.now) c.deref.ensures.value
+    ∙ ap (λ m. map (λ (t : TallyColumn). column_of (spread numbers more (padded m [] tables)) (show_column t).agg) c.deref_mut.result.now) c.len-groups.ensures
+    ∙ ap (map (λ (t : TallyColumn). column_of (spread numbers more (padded (length new) [] tables)) (show_column t).agg)) c.deref_mut.ensures.value
+    ∙ same_aggs tables (spread numbers more (padded (length new) [] tables)) aggs cs h.columns_are))
+    (c.add_to_columns.ensures tables (subst (All (IsColumnOf tables)) (sym c.deref_mut.ensures.value) (are_columns tables aggs cs h.columns_are)))

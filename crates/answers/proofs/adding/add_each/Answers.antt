@@ -1,0 +1,43 @@
+use Rattle.std.proofs.Common.{◌≡◌, ◌∙◌, ◌<◌, ◌≤◌, ◌+◌, ◌^◌, [], List, ap, arith, get_or, length, refl, sym}
+use Rattle.std.specs.Prelude.{slice_index_or}
+use Rattle.std.proofs.lemmas.List.{get_or-map, length-map}
+use Rattle.std.proofs.lemmas.List.Elements.{All-get_or}
+use Rattle.arrays.specs.Item.{Item, null}
+use Rattle.answers.specs.Picked.{items_at}
+use Rattle.answers.specs.Tallies.{tally_of}
+use Rattle.answers.proofs.SpreadLemmas.{cell_few, cells_more}
+use Rattle.answers.proofs.adding.add_each.Goals as goal
+
+pub with_row-requires-clause-few : goal.with_row-requires-clause-few
+with_row-requires-clause-few g c =
+    let source = g.S.Source in
+    let a = source.agg c.args.source.now in
+    let numbers = c.args.numbers.now in
+    let i = c.loop-i.i in
+    let n = get_or numbers i 0 in
+    let r = c.requires.few in
+    let within : i < length numbers = omega (arith, c.loop-i-test.true, c.requires.lengths) in
+    let first = All-get_or (λ n. n < length c.args.cells.now) numbers i 0 within c.requires.inside in
+    let inside : n < length c.loop-i.cells = omega (arith, first, c.loop-i.auto.cells) in
+    let count : length c.args.cells.now ≡ length r.0 = sym (length-map c.args.cells.now source.show) ∙ ap length r.1 ∙ length-map r.0 (tally_of a) in
+    let bound = All-get_or (λ (xs : List Item). length xs + length c.args.rows.now ≤ 2 ^ 40) r.0 n [] (omega (arith, first, count)) r.2 in
+    cell_few source.show a c.loop-i.cells r.0 numbers (items_at (source.items c.args.source.now) c.args.rows.now) n c.index-cells-number.result i (2 ^ 40)
+    (c.loop-i.invariant r.0 r.1) inside c.index-cells-number.is (omega (arith, bound, c.requires.lengths)) within
+
+pub loop-i-preserved : goal.loop-i-preserved
+loop-i-preserved g c = λ groups h.
+    let source = g.S.Source in
+    let a = source.agg c.args.source.now in
+    let seen = source.items c.args.source.now in
+    let numbers = c.args.numbers.now in
+    let rows = c.args.rows.now in
+    let i = c.loop-i.i in
+    let n = get_or numbers i 0 in
+    let x = slice_index_or seen (get_or rows i 0) null in
+    let within : i < length numbers = omega (arith, c.loop-i-test.true, c.requires.lengths) in
+    let first = All-get_or (λ n. n < length c.args.cells.now) numbers i 0 within c.requires.inside in
+    let inside : n < length c.loop-i.cells = omega (arith, first, c.loop-i.auto.cells) in
+    cells_more source.show a c.args.cells.now c.loop-i.cells _ groups numbers (items_at seen rows) i c.index-cells-number.result c.with_row.result x n
+    within (length-map rows (λ r. slice_index_or seen r null) ∙ sym c.requires.lengths) refl
+    (sym (get_or-map (λ r. slice_index_or seen r null) rows i 0 x c.loop-i-test.true))
+    (c.loop-i.invariant groups h) inside c.index-cells-number.is c.with_row.ensures refl

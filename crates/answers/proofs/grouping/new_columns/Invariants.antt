@@ -1,0 +1,9 @@
+use Rattle.std.proofs.Common.{◌≡◌, [], map, take}
+use Rattle.answers.specs.Columns.{show_column}
+use Rattle.answers.specs.Spread.{padded}
+use Rattle.answers.specs.Tallies.{tally_of}
+use Rattle.answers.proofs.grouping.new_columns.Given as goal
+
+-- The columns so far.
+abbrev pub invariant-loop-agg : goal.invariant-loop-agg
+invariant-loop-agg l = map show_column l.columns.items ≡ map (λ a. record { agg = a; tallies = padded l.groups (tally_of a []) [] }) (take l.agg-index l.aggs)

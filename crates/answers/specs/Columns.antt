@@ -1,0 +1,48 @@
+-- The tallies of one aggregate, a cell for each group.
+use Rattle.std.specs.Prelude.{ℕ, List, Option, None, option_map, map, slice_index_or}
+use Rattle.arrays.specs.Batch.{Table}
+use Rattle.arrays.specs.Item.{Item}
+use Rattle.group.specs.Summary.{scalar_item}
+use Rattle.group.specs.declared.stats.Scalar.{Scalar}
+use Rattle.query.specs.declared.expr.Agg.{Agg}
+use Rattle.query.specs.declared.expr.Agg.TheVariants as agg
+use Rattle.answers.specs.Ends.{agg_at, number_if_any}
+use Rattle.answers.specs.Tallies.{TallyShape, bettered, counted, items_for, tally_of, told}
+use Rattle.answers.specs.Totals.{sum_if_any}
+use Rattle.answers.specs.declared.total.Total.{Total}
+use Rattle.answers.specs.declared.best_number.BestNumber.{BestNumber}
+use Rattle.answers.specs.declared.column.TallyColumn.{TallyColumn}
+use Rattle.answers.specs.declared.column.TallyColumn.TheVariants as column
+
+-- ---- cells
+
+abbrev pub show_total : Total → TallyShape
+show_total t = record { count = t.count; sum = sum_if_any t.count t.sum; best = None }
+
+abbrev pub show_number : BestNumber → TallyShape
+show_number b = bettered (number_if_any b.number)
+
+abbrev pub show_item : Option Scalar → TallyShape
+show_item s = bettered (option_map scalar_item s)
+
+-- ---- columns
+
+-- The tallies of an aggregate, one for each group.
+pub record ColumnShape : Type 0 where
+  pub agg : Agg ℕ
+  pub tallies : List TallyShape
+
+abbrev pub show_column : TallyColumn → ColumnShape
+show_column (column.Rows counts) = record { agg = agg.Rows; tallies = map counted counts.items }
+show_column (column.Count c counts) = record { agg = agg.Count c; tallies = map counted counts.items }
+show_column (column.Sum c totals) = record { agg = agg.Sum c; tallies = map show_total totals.items }
+show_column (column.Numbers end c numbers) = record { agg = agg_at end c; tallies = map show_number numbers.items }
+show_column (column.Items end c items) = record { agg = agg_at end c; tallies = map show_item items.items }
+
+-- The column of an aggregate over the tables of groups.
+abbrev pub column_of : List Table → Agg ℕ → ColumnShape
+column_of tables a = record { agg = a; tallies = map (λ rows. tally_of a (items_for a rows)) tables }
+
+-- What it tells of group n.
+abbrev pub told_at : ℕ → ColumnShape → Item
+told_at n column = told column.agg (slice_index_or column.tallies n (counted 0))

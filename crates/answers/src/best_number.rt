@@ -1,0 +1,50 @@
+//! The least or the greatest of numbers that come one by one.
+
+ghost use Rattle.std.specs.Prelude.{◌≡◌, ◌^◌, ◌≤ℤ◌, None, neg_ℤ, option_map, pos};
+ghost use Rattle.arrays.specs.Item.{int};
+ghost use Rattle.answers.specs.Ends.{number_if_any, with_item};
+
+use crate::end::{End, is_further};
+
+/// Stands for no number: no integer type has it.
+const NONE: i128 = 1267650600228229401496703205376;
+
+/// The best number so far, if there is one.
+#[derive(Clone, Copy)]
+pub(crate) struct BestNumber {
+    pub(crate) number: i128,
+}
+
+impl BestNumber {
+    /// That of no numbers.
+    pub(crate) fn none() -> BestNumber
+        ensures { number_if_any result.number ≡ None }
+    {
+        BestNumber { number: NONE }
+    }
+
+    /// With a number more.
+    #[inline(always)]
+    pub(crate) fn with_number(self, end: End, number: i128) -> BestNumber
+        requires low { neg_ℤ (pos (2 ^ 64)) ≤ℤ number }
+        requires high { number ≤ℤ pos (2 ^ 64) }
+        ensures { number_if_any result.number ≡ with_item end (number_if_any self.number) (int number) }
+    {
+        if self.number == NONE || is_further(end, self.number, number) {
+            BestNumber { number }
+        } else {
+            self
+        }
+    }
+
+    /// The number, if there is one.
+    pub(crate) fn get(self) -> Option<i128>
+        ensures { option_map int result ≡ number_if_any self.number }
+    {
+        if self.number == NONE {
+            None
+        } else {
+            Some(self.number)
+        }
+    }
+}
