@@ -74,8 +74,8 @@ module _ (fs gs : List FieldShape) (same : map kind_of_field fs ≡ map kind_of_
   kept_alike = ap {B = Row → Bool} (λ v row. unwrap_or (v row) false) verdicts
 
 pub has_kept_alike : (fs gs : List FieldShape) (q : Query) (rows : Table) (g : Grouping) → map kind_of_field fs ≡ map kind_of_field gs → HasKept fs q rows g → HasKept gs q rows g
-has_kept_alike fs gs q rows g same =
-    subst (λ (p : Row → Bool). IsGrouped q.by.items q.aggs.items (filter p rows) g.keys (map show_column g.columns.items)) (kept_alike fs gs same (asked q).filter)
+has_kept_alike fs gs q rows g same h =
+    (subst (λ (p : Row → Bool). IsGrouped q.by.items q.aggs.items (filter p rows) g.keys (map show_column g.columns.items)) (kept_alike fs gs same (asked q).filter) h.0, h.1)
 
 -- ---- the next batch
 

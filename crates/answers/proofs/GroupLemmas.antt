@@ -63,7 +63,7 @@ module _ {K S : Type 0} (same : K → K → Bool) (decides : (x y : K) → Decid
 
 -- ---- keys
 
-slice_get-append : {K : Type 0} (xs ys : List K) (n : ℕ) → n < length xs → slice_get (xs ++ ys) n ≡ slice_get xs n
+pub slice_get-append : {K : Type 0} (xs ys : List K) (n : ℕ) → n < length xs → slice_get (xs ++ ys) n ≡ slice_get xs n
 slice_get-append [] ys n below = absurd (omega arith)
 slice_get-append (x ∷ xs) ys zero below = refl
 slice_get-append (x ∷ xs) ys (suc n) below = slice_get-append xs ys n (omega (arith, below))
@@ -76,13 +76,13 @@ first_false : (a b : Bool) → (a || b) ≡ false → a ≡ false
 first_false false b h = refl
 first_false true b h = absurd (true≢false h)
 
-abbrev Keys : Type 0
+abbrev pub Keys : Type 0
 Keys = List (List Item)
 
-abbrev is_among : Keys → List Item → Bool
+abbrev pub is_among : Keys → List Item → Bool
 is_among keys k = list_any (same_key k) keys
 
-inserted : (keys : Keys) (k : List Item) (b : Bool) → is_among keys k ≡ b → insert_key same_key keys k ≡ cond b keys (keys ++ k ∷ [])
+pub inserted : (keys : Keys) (k : List Item) (b : Bool) → is_among keys k ≡ b → insert_key same_key keys k ≡ cond b keys (keys ++ k ∷ [])
 inserted keys k b is = ap (λ b. cond b keys (keys ++ k ∷ [])) is
 
 keys-push : (by : List ℕ) (rows : Table) (row : Row) → keys_of by (rows ++ row ∷ []) ≡ insert_key same_key (keys_of by rows) (key_of by row)

@@ -9,6 +9,7 @@ pub mod KeyLemmas
 pub mod PartLemmas
 pub mod FitLemmas
 pub mod GroupLemmas
+pub mod MemoLemmas
 pub mod ColumnLemmas
 pub mod RunLemmas
 pub mod FieldLemmas

@@ -1,11 +1,12 @@
 -- What is known of the groups of the rows so far.
 use Rattle.std.specs.Prelude.{◌≡◌, ◌^◌, ◌≤◌, ◌+◌, ℕ, List, length, map}
 use Rattle.std.specs.List.{IsDistinct}
-use Rattle.arrays.specs.Batch.{Table}
+use Rattle.arrays.specs.Batch.{Batch, Table}
 use Rattle.arrays.specs.Item.{Item}
 use Rattle.query.specs.declared.expr.Agg.{Agg}
 use Rattle.query.specs.declared.queries.Query.{Query}
 use Rattle.answers.specs.Groups.{keys_of, rows_of_key}
+use Rattle.answers.specs.Memo.{KnowsEntries, Remembers}
 use Rattle.answers.specs.Same.{same_key}
 use Rattle.answers.specs.Columns.{ColumnShape, column_of, show_column}
 use Rattle.answers.specs.declared.column.TallyColumn.{TallyColumn}
@@ -25,8 +26,13 @@ pub record IsGrouped (by : List ℕ) (aggs : List (Agg ℕ)) (rows : Table) (key
 abbrev pub IsColumnOf : List Table → TallyColumn → Type 0
 IsColumnOf tables c = show_column c ≡ column_of tables (show_column c).agg
 
+-- The groups of the rows, and what is remembered of their keys is true.
 abbrev pub HasGroups : Query → Table → Grouping → Type 0
-HasGroups q rows g = IsGrouped q.by.items q.aggs.items rows g.keys (map show_column g.columns.items)
+HasGroups q rows g = IsGrouped q.by.items q.aggs.items rows g.keys (map show_column g.columns.items) × Remembers g.keys g.memo
+
+-- The batch's dictionary is the one of which something may be remembered.
+abbrev pub IsReadyFor : Batch → Query → Grouping → Type 0
+IsReadyFor b q g = KnowsEntries g.keys b q.by.items g.memo
 
 -- There are so many rows more than have come, and together no more than a table may have.
 abbrev pub HasRoom : Query → ℕ → Grouping → Type 0

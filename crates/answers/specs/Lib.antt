@@ -11,6 +11,7 @@ pub mod Ends
 pub mod Columns
 pub mod Parts
 pub mod Keys
+pub mod Memo
 pub mod Grouping
 pub mod Runs
 pub mod Answers

@@ -8,7 +8,7 @@ ghost use Rattle.query.specs.Fault.{agg_fault, fits};
 ghost use Rattle.query.specs.declared.expr.Agg.{Agg as Aggregate};
 ghost use Rattle.answers.specs.Answers.{item_in, shape_of};
 ghost use Rattle.answers.specs.Columns.{ColumnShape, column_of, show_column, told_at};
-ghost use Rattle.answers.specs.Grouping.{HasGroups, HasRoom, IsColumnOf, IsGrouped};
+ghost use Rattle.answers.specs.Grouping.{HasGroups, HasRoom, IsColumnOf, IsGrouped, IsReadyFor};
 ghost use Rattle.answers.specs.Groups.{grouped};
 ghost use Rattle.answers.specs.Spread.{padded, spread};
 ghost use Rattle.answers.specs.Tallies.{tally_of};
@@ -16,6 +16,7 @@ ghost use Rattle.answers.specs.Tallies.{tally_of};
 use crate::column::TallyColumn;
 use crate::groups::{Answer, Group};
 use crate::key_set::KeySet;
+use crate::memo::Memo;
 use crate::numbering::number_rows;
 use arrays::RecordBatch;
 use colbits::NoMemory;
@@ -27,6 +28,7 @@ use std::alloc::Global;
 #[derive(Drop)]
 pub(crate) struct Grouping {
     pub(crate) keys: KeySet,
+    pub(crate) memo: Memo,
     /// What each aggregate knows of the rows of each key.
     pub(crate) columns: Vec<TallyColumn>,
     /// The numbers of the groups of the rows that are added, kept for the next ones.
@@ -45,12 +47,22 @@ impl Grouping {
         let columns = new_columns(alloc, query.aggs.as_slice(), keys.len())?;
         Ok(Grouping {
             keys,
+            memo: Memo::new(alloc),
             columns,
             numbers: Vec::new(alloc),
         })
     }
 
-    /// Adds rows of a batch.
+    /// Has the rows of another batch come next.
+    pub(crate) fn begin(&mut self, query: &Query, batch: &RecordBatch) -> Result<(), NoMemory>
+        requires { fits batch.now.fields (asked query.now) ≡ true }
+        ensures kept { (rows : Table) → HasGroups query.now rows self.old → OnOk result (HasGroups query.now rows self.new) }
+        ensures ready { OnOk result (IsReadyFor batch.now query.now self.new) }
+    {
+        self.memo.begin(batch, query.by.as_slice())
+    }
+
+    /// Adds rows of the batch that came last.
     pub(crate) fn add(
         &mut self,
         alloc: Global,
@@ -61,11 +73,14 @@ impl Grouping {
         requires fits { fits batch.now.fields (asked query.now) ≡ true }
         requires within { All (λ r. r < batch.now.rows) rows.now }
         requires room { HasRoom query.now (length rows.now) self.old }
-        ensures { (rows_before : Table) → HasGroups query.now rows_before self.old
+        requires ready { IsReadyFor batch.now query.now self.old }
+        ensures ready { OnOk result (IsReadyFor batch.now query.now self.new) }
+        ensures groups { (rows_before : Table) → HasGroups query.now rows_before self.old
             → OnOk result (HasGroups query.now (rows_before ++ map (row_of batch.now.columns) rows.now) self.new) }
     {
         number_rows(
             &mut self.keys,
+            &mut self.memo,
             &mut self.numbers,
             batch,
             query.by.as_slice(),

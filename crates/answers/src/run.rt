@@ -4,6 +4,7 @@ ghost use Rattle.std.specs.Prelude.{◌≡◌, ◌+◌, ◌<◌, ◌^◌, ◌++�
 ghost use Rattle.arrays.specs.Batch.{Table, rows_of};
 ghost use Rattle.query.specs.Asked.{asked};
 ghost use Rattle.query.specs.Fault.{fits};
+ghost use Rattle.answers.specs.Grouping.{IsReadyFor};
 ghost use Rattle.answers.specs.Runs.{AreSound, HasKept, HasRoomFor, StopsAt, rows_in};
 
 use crate::filter::{filter_values, keep_rows};
@@ -32,6 +33,7 @@ pub(crate) fn add_batch(
     ensures err { IfErr result (StopsAt batch.now 0 batch.now.rows (asked query.now).filter) }
 {
     let rows = batch.rows() as usize;
+    grouping.begin(query, batch)?;
     let mut kept = Vec::new(alloc);
     let mut start: usize = 0;
     while start < rows {
@@ -57,6 +59,8 @@ fn add_slice(
     requires fits { fits slice.batch.now.fields (asked query.now) ≡ true }
     requires short { slice.start + slice.len < 2 ^ 40 }
     requires room { HasRoomFor slice.batch.now.fields query.now slice.len grouping.old }
+    requires ready { IsReadyFor slice.batch.now query.now grouping.old }
+    ensures ready { OnOk result (IsReadyFor slice.entry.batch.now query.now grouping.new) }
     ensures ok { let b = slice.entry.batch.now in
         (rows : Table) → HasKept b.fields query.now rows grouping.old
         → OnOk result (HasKept b.fields query.now (rows ++ rows_in b slice.entry.start slice.entry.len) grouping.new) }

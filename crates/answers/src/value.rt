@@ -24,7 +24,8 @@ pub(crate) enum Value<'a> {
 /// The column at the place.
 pub(crate) fn column_at<'a>(batch: &'a RecordBatch, place: u32) -> View<'a>
     requires { is_ok (sort_at batch.now.fields place) ≡ true }
-    ensures { IsColumn batch.now place result }
+    ensures column { slice_get batch.now.columns place ≡ Some result }
+    ensures items { IsColumn batch.now place result }
 {
     let columns = batch.columns();
     columns[place as usize].view()

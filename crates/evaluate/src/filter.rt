@@ -35,7 +35,7 @@ pub fn evaluate_filter<'a>(
 }
 
 /// The values of an expression at the rows of a slice, or the least of them where it is bad.
-pub fn evaluate_all<'a>(
+fn evaluate_all<'a>(
     alloc: Global,
     expr: &'a Expr<u32>,
     slice: Slice<'a>,

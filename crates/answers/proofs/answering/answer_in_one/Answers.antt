@@ -86,7 +86,7 @@ loop-batch-preserved c =
     )
 
 pub tell-requires : goal.tell-requires
-tell-requires c = as_long c.args.query.now.by.items c.args.query.now.aggs.items _ c.loop-batch.grouping.keys c.loop-batch.grouping.columns.items c.loop-batch.invariant.1.kept
+tell-requires c = as_long c.args.query.now.by.items c.args.query.now.aggs.items _ c.loop-batch.grouping.keys c.loop-batch.grouping.columns.items c.loop-batch.invariant.1.kept.0
 
 pub returns-clause-ok : goal.returns-clause-ok
 returns-clause-ok c =
@@ -96,4 +96,4 @@ returns-clause-ok c =
     let rows = filter (is_kept fields (asked q).filter) (all_rows (take c.loop-batch.batch-index batches)) in
     answered batches c.loop-batch.batch-index fields q c.loop-batch.grouping (map shape_of c.in_ok-tell.field-0.groups.items)
     (omega (arith, length-map c.args.batches.now arc_value)) c.loop-batch.invariant.1
-    (c.in_ok-tell.ensures q.by.items q.aggs.items rows c.loop-batch.invariant.1.kept)
+    (c.in_ok-tell.ensures q.by.items q.aggs.items rows c.loop-batch.invariant.1.kept.0)

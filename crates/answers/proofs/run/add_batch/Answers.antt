@@ -1,9 +1,21 @@
-use Rattle.std.proofs.Common.{◌≡◌, ◌∙◌, ◌+◌, ◌≤◌, ◌++◌, ap, append_assoc, arith, length-append, subst, sym}
+use Rattle.std.proofs.Common.{filter, ◌≡◌, ◌∙◌, ◌+◌, ◌≤◌, ◌++◌, ap, append_assoc, arith, length-append, subst, sym}
 use Rattle.arrays.specs.Batch.{Table}
 use Rattle.query.specs.Asked.{asked}
+use Rattle.std.proofs.lemmas.List.{append-nil}
+use Rattle.answers.specs.Groups.{is_kept}
 use Rattle.answers.specs.Runs.{HasKept, IsBadRow, StopsAt, rows_in}
 use Rattle.answers.proofs.RunLemmas.{bad_row, length-rows_in, rows_split, sound_more, whole_rows}
 use Rattle.answers.proofs.run.add_batch.Goals as goal
+
+pub loop-start-init : goal.loop-start-init
+loop-start-init c =
+    let b = c.args.batch.now in
+    let q = c.args.query.now in (
+      omega arith,
+      λ rows has. subst (λ (l : Table). HasKept b.fields q l c.begin.new.self) (sym (append-nil rows)) (c.in_ok-begin.ensures.kept (filter (is_kept b.fields (asked q).filter) rows) has),
+      λ i below. absurd (omega (arith, below)),
+      c.in_ok-begin.ensures.ready,
+    )
 
 pub add_slice-requires-clause-room : goal.add_slice-requires-clause-room
 add_slice-requires-clause-room c =
@@ -28,6 +40,7 @@ loop-start-preserved c =
           (append_assoc rows before (rows_in b start len) ∙ ap (λ (l : Table). rows ++ l) (sym (rows_split b start len)))
           (c.in-Ok.ensures.ok (rows ++ before) (c.loop-start.invariant.1 rows has)),
       sound_more b (asked q).filter start len c.loop-start.invariant.2 c.in-Ok.ensures.sound.each,
+      c.in-Ok.ensures.ready,
     )
 
 pub returns-in-Err-Bad-clause-err : goal.returns-in-Err-Bad-clause-err

@@ -40,4 +40,4 @@ returns-clause-ok c = λ rows has.
     ap (λ l. filter p rows ++ map (row_of b.columns) l) (c.deref.ensures.value ∙ c.in_ok-keep_rows.ensures)
     ∙ ap (λ (l : Table). filter p rows ++ l) (kept_are b s.start f c.in_ok-values.values s.len c.in_ok-values.ensures.ok)
     ∙ sym (filter-append p rows more) in
-    subst (λ (l : Table). HasGroups q l c.add.new.self) e (c.in_ok-add.ensures (filter p rows) has)
+    subst (λ (l : Table). HasGroups q l c.add.new.self) e (c.in_ok-add.ensures.groups (filter p rows) has)

@@ -4,8 +4,8 @@ use Rattle.answers.specs.Rows.{IsColumn}
 use Rattle.answers.proofs.RowLemmas.{is_column}
 use Rattle.answers.proofs.value.column_at.Goals as goal
 
-pub returns : goal.returns
-returns c =
+pub returns-clause-items : goal.returns-clause-items
+returns-clause-items c =
     let b = c.args.batch.now in
     let x : Seen = c.index-columns-place.result in
     let here : x ≡ get_or b.columns c.args.place x = c.index-columns-place.is ∙ ap (λ cs. get_or cs c.args.place x) c.columns-columns.ensures.value in

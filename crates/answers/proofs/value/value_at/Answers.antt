@@ -13,13 +13,13 @@ column_at-view-requires c = has_sort is_plain _ c.requires.plain
 pub value_in-requires-clause-plain : goal.value_in-requires-clause-plain
 value_in-requires-clause-plain c =
     let v : Seen = c.column_at-view.result in
-    plain_is_no_list v.kind (sort_passes is_plain _ _ c.requires.plain c.column_at-view.ensures.sort)
+    plain_is_no_list v.kind (sort_passes is_plain _ _ c.requires.plain c.column_at-view.ensures.items.sort)
 
 pub value_in-requires-clause-within : goal.value_in-requires-clause-within
-value_in-requires-clause-within c = omega (arith, c.column_at-view.ensures.len, c.requires.within)
+value_in-requires-clause-within c = omega (arith, c.column_at-view.ensures.items.len, c.requires.within)
 
 pub returns : goal.returns
 returns c =
     let v : Seen = c.column_at-view.result in
     sym (get_or_from_slice_get v.items c.args.row (item_of_value c.value_in.result) null c.value_in.ensures)
-    ∙ c.column_at-view.ensures.item c.args.row c.requires.within
+    ∙ c.column_at-view.ensures.items.item c.args.row c.requires.within

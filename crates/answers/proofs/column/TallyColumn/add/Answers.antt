@@ -44,7 +44,7 @@ returns-in-Count c = λ tables h.
     let view = c.column_at-view.result in
     column_added counted (agg.Count 0) (agg.Count place) (λ xs. refl) (show_column c.args.self.now) v.items (ap show_column c.in-Count.is)
     v.len c.deref_mut-in-Count.result.now c.add_each-in-Count.new.cells tables c.args.numbers.now c.args.rows.now view.items b.columns
-    v.ok.0 c.deref_mut-in-Count.ensures.value c.add_each-in-Count.auto.cells (seen_items b place view c.args.rows.now c.column_at-view.ensures c.requires.within) h c.add_each-in-Count.ensures
+    v.ok.0 c.deref_mut-in-Count.ensures.value c.add_each-in-Count.auto.cells (seen_items b place view c.args.rows.now c.column_at-view.ensures.items c.requires.within) h c.add_each-in-Count.ensures
 
 pub returns-in-Sum : goal.returns-in-Sum
 returns-in-Sum c = λ tables h.
@@ -54,7 +54,7 @@ returns-in-Sum c = λ tables h.
     let view = c.column_at-view-in-Sum.result in
     column_added show_total (agg.Sum 0) (agg.Sum place) (λ xs. refl) (show_column c.args.self.now) v.items (ap show_column c.in-Sum.is)
     v.len c.deref_mut-in-Sum.result.now c.add_sums.new.totals tables c.args.numbers.now c.args.rows.now view.items b.columns
-    v.ok.0 c.deref_mut-in-Sum.ensures.value c.add_sums.auto.totals (seen_items b place view c.args.rows.now c.column_at-view-in-Sum.ensures c.requires.within) h c.add_sums.ensures
+    v.ok.0 c.deref_mut-in-Sum.ensures.value c.add_sums.auto.totals (seen_items b place view c.args.rows.now c.column_at-view-in-Sum.ensures.items c.requires.within) h c.add_sums.ensures
 
 pub returns-in-Int : goal.returns-in-Int
 returns-in-Int c = λ tables h.
@@ -66,7 +66,7 @@ returns-in-Int c = λ tables h.
     column_added show_number (agg_at end 0) (agg_at end place) (same_end end place) (show_column c.args.self.now) v.items (ap show_column c.in-Numbers.is)
     v.len c.deref_mut-in-Int.result.now c.add_best.new.bests tables c.args.numbers.now c.args.rows.now view.items b.columns
     v.ok.0 c.deref_mut-in-Int.ensures.value c.add_best.auto.bests
-    (seen_items b place view c.args.rows.now c.column_at-view-in-Numbers.ensures c.requires.within ∙ seen_at_end end b place c.args.rows.now) h c.add_best.ensures
+    (seen_items b place view c.args.rows.now c.column_at-view-in-Numbers.ensures.items c.requires.within ∙ seen_at_end end b place c.args.rows.now) h c.add_best.ensures
 
 pub returns-in_ok-add_items-in-Numbers : goal.returns-in_ok-add_items-in-Numbers
 returns-in_ok-add_items-in-Numbers c = λ tables h.
@@ -79,7 +79,7 @@ returns-in_ok-add_items-in-Numbers c = λ tables h.
     (ap show_column c.in-Numbers.is ∙ ap (shape (agg_at end place)) (sym (c.in_ok-items-in-Numbers.ensures ∙ ap (map show_number) c.deref.ensures.value)))
     v.len c.deref_mut-in-Numbers.result.now c.add_items.new.bests tables c.args.numbers.now c.args.rows.now view.items b.columns
     v.ok.0 c.deref_mut-in-Numbers.ensures.value c.add_items.auto.bests
-    (seen_items b place view c.args.rows.now c.column_at-view-in-Numbers.ensures c.requires.within ∙ seen_at_end end b place c.args.rows.now) h c.in_ok-add_items-in-Numbers.ensures
+    (seen_items b place view c.args.rows.now c.column_at-view-in-Numbers.ensures.items c.requires.within ∙ seen_at_end end b place c.args.rows.now) h c.in_ok-add_items-in-Numbers.ensures
 
 pub returns-in-Items : goal.returns-in-Items
 returns-in-Items c = λ tables h.
@@ -91,4 +91,4 @@ returns-in-Items c = λ tables h.
     items_added c.add_items-in-Items.result end place (show_column c.args.self.now) v.items (ap show_column c.in-Items.is)
     v.len c.deref_mut-in-Items.result.now c.add_items-in-Items.new.bests tables c.args.numbers.now c.args.rows.now view.items b.columns
     v.ok.0 c.deref_mut-in-Items.ensures.value c.add_items-in-Items.auto.bests
-    (seen_items b place view c.args.rows.now c.column_at-view-in-Items.ensures c.requires.within ∙ seen_at_end end b place c.args.rows.now) h c.add_items-in-Items.ensures
+    (seen_items b place view c.args.rows.now c.column_at-view-in-Items.ensures.items c.requires.within ∙ seen_at_end end b place c.args.rows.now) h c.add_items-in-Items.ensures

@@ -27,7 +27,7 @@ add_to_columns-requires-clause-fits c =
     let q = c.args.query.now in
     let g = c.args.self.now in
     subst (All (λ (t : TallyColumn). agg_fault (sort_at c.args.batch.now.fields) (show_column t).agg ≡ None)) (sym c.deref_mut.ensures.value)
-    (columns_fit (λ a. agg_fault (sort_at c.args.batch.now.fields) a ≡ None) (tables_of q.by.items r.0 g.keys) q.aggs.items g.columns.items r.2.columns_are
+    (columns_fit (λ a. agg_fault (sort_at c.args.batch.now.fields) a ≡ None) (tables_of q.by.items r.0 g.keys) q.aggs.items g.columns.items r.2.0.columns_are
     (what_fits c.args.batch.now.fields (asked q) c.requires.fits).aggs)
 
 pub add_to_columns-requires-clause-lengths : goal.add_to_columns-requires-clause-lengths
@@ -69,13 +69,13 @@ add_to_columns-requires-clause-few c =
       length-map g.keys (rows_of_key q.by.items r.0),
     ) in (
       tables,
-      subst (All (IsColumnOf tables)) (sym c.deref_mut.ensures.value) (are_columns tables q.aggs.items g.columns.items r.2.columns_are),
+      subst (All (IsColumnOf tables)) (sym c.deref_mut.ensures.value) (are_columns tables q.aggs.items g.columns.items r.2.0.columns_are),
       few,
       tables_short q.by.items r.0 g.keys (length c.args.rows.now) (2 ^ 40) r.1,
     )
 
-pub returns : goal.returns
-returns c = λ before h.
+pub returns-clause-groups : goal.returns-clause-groups
+returns-clause-groups c = λ before h.
     let q = c.args.query.now in
     let by = q.by.items in
     let aggs = q.aggs.items in
@@ -94,10 +94,13 @@ returns c = λ before h.
     let at : AreNumbers new (map (key_of by) more) numbers = subst (λ l. AreNumbers new l numbers) keyed c.in_ok-number_rows.ensures.numbers in
     let count = c.add_to_columns.auto.columns ∙ ap length c.deref_mut.ensures.value in
     on_ok c.add_to_columns.result
-    (λ e. grouped_more by aggs before more g.keys new (map show_column cs) _ numbers h is at
-    (ap (map show_column) (refilled g.columns.len cs changed g.columns.ok.0 count) ∙ e
-    ∙ ap (λ ns. map (λ (t : TallyColumn). column_of (spread ns more (padded c.len-groups.result [] tables)) (show_column t).agg) c.deref_mut.result.now) c.deref.ensures.value
-    ∙ ap (λ m. map (λ (t : TallyColumn). column_of (spread numbers more (padded m [] tables)) (show_column t).agg) c.deref_mut.result.now) c.len-groups.ensures
-    ∙ ap (map (λ (t : TallyColumn). column_of (spread numbers more (padded (length new) [] tables)) (show_column t).agg)) c.deref_mut.ensures.value
-    ∙ same_aggs tables (spread numbers more (padded (length new) [] tables)) aggs cs h.columns_are))
-    (c.add_to_columns.ensures tables (subst (All (IsColumnOf tables)) (sym c.deref_mut.ensures.value) (are_columns tables aggs cs h.columns_are)))
+    (λ e. (
+      grouped_more by aggs before more g.keys new (map show_column cs) _ numbers h.0 is at
+          (ap (map show_column) (refilled g.columns.len cs changed g.columns.ok.0 count) ∙ e
+          ∙ ap (λ ns. map (λ (t : TallyColumn). column_of (spread ns more (padded c.len-groups.result [] tables)) (show_column t).agg) c.deref_mut.result.now) c.deref.ensures.value
+          ∙ ap (λ m. map (λ (t : TallyColumn). column_of (spread numbers more (padded m [] tables)) (show_column t).agg) c.deref_mut.result.now) c.len-groups.ensures
+          ∙ ap (map (λ (t : TallyColumn). column_of (spread numbers more (padded (length new) [] tables)) (show_column t).agg)) c.deref_mut.ensures.value
+          ∙ same_aggs tables (spread numbers more (padded (length new) [] tables)) aggs cs h.0.columns_are),
+      c.in_ok-number_rows.ensures.remembers,
+    ))
+    (c.add_to_columns.ensures tables (subst (All (IsColumnOf tables)) (sym c.deref_mut.ensures.value) (are_columns tables aggs cs h.0.columns_are)))

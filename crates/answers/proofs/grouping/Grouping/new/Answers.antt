@@ -21,13 +21,17 @@ returns c =
     let all = c.in_ok-columns.ensures ∙ ap (map (λ a. shape a (padded c.len.result (tally_of a []) []))) c.as_slice.ensures.value in
     elim c.if-is_empty.branch [
       | then-is_empty+in_ok-add_empty w ↦
-          let k : c.if-is_empty.keys ≡ [] ∷ [] = w.keys-is ∙ w.in_ok-add_empty.ensures ∙ ap (λ l. insert_key same_key l []) c.new-keys.ensures in
-          subst (λ (l : List (List Item)). IsGrouped by aggs [] l cs) (sym k)
-          (start_whole by aggs cs (eqb-true (length by) 0 (sym c.is_empty.ensures ∙ w.if-is_empty.true))
-          (all ∙ ap (λ n. map (λ a. shape a (padded n (tally_of a []) [])) aggs) (c.len.ensures ∙ ap length k)))
+          let k : c.if-is_empty.keys ≡ [] ∷ [] = w.keys-is ∙ w.in_ok-add_empty.ensures ∙ ap (λ l. insert_key same_key l []) c.new-keys.ensures in (
+            subst (λ (l : List (List Item)). IsGrouped by aggs [] l cs) (sym k)
+                (start_whole by aggs cs (eqb-true (length by) 0 (sym c.is_empty.ensures ∙ w.if-is_empty.true))
+                (all ∙ ap (λ n. map (λ a. shape a (padded n (tally_of a []) [])) aggs) (c.len.ensures ∙ ap length k))),
+            c.new.ensures c.if-is_empty.keys,
+          )
       | else-is_empty w ↦
-          let k : c.if-is_empty.keys ≡ [] = w.keys-is ∙ c.new-keys.ensures in
-          subst (λ (l : List (List Item)). IsGrouped by aggs [] l cs) (sym k)
-          (start_keyed by aggs cs (eqb-false (length by) 0 (sym c.is_empty.ensures ∙ w.if-is_empty.false))
-          (all ∙ ap (λ n. map (λ a. shape a (padded n (tally_of a []) [])) aggs) (c.len.ensures ∙ ap length k)))
+          let k : c.if-is_empty.keys ≡ [] = w.keys-is ∙ c.new-keys.ensures in (
+            subst (λ (l : List (List Item)). IsGrouped by aggs [] l cs) (sym k)
+                (start_keyed by aggs cs (eqb-false (length by) 0 (sym c.is_empty.ensures ∙ w.if-is_empty.false))
+                (all ∙ ap (λ n. map (λ a. shape a (padded n (tally_of a []) [])) aggs) (c.len.ensures ∙ ap length k))),
+            c.new.ensures c.if-is_empty.keys,
+          )
     ]

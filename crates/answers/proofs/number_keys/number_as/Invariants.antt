@@ -1,9 +1,12 @@
 use Rattle.std.proofs.Common.{◌≡◌, take}
 use Rattle.answers.specs.Keys.{AreNumbers, keys_at, with_keys}
-use Rattle.answers.proofs.numbering.number_rows.Given as goal
+use Rattle.answers.specs.Memo.{Remembers}
+use Rattle.answers.proofs.number_keys.number_as.Given as goal
 
--- The rows so far have their numbers.
+-- The rows so far have their numbers, and what is remembered is true.
 abbrev pub invariant-loop-row : goal.invariant-loop-row
-invariant-loop-row l =
+invariant-loop-row g l =
     (l.keys ≡ with_keys l.initial.keys (keys_at l.by l.batch.columns (take l.row-index l.rows)))
     × AreNumbers l.keys (keys_at l.by l.batch.columns (take l.row-index l.rows)) l.numbers.items
+    × Remembers l.keys l.memo
+    × (l.memo.entries ≡ l.initial.memo.entries)

@@ -1,0 +1,271 @@
+-- What is remembered of keys stays true while keys come.
+use Rattle.std.proofs.Common.{◌≡◌, ◌∙◌, ℕ, zero, suc, ◌<◌, Bool, true, false, ◌||◌, cond, List, [], ◌∷◌, ◌++◌, ◌+◌, ◌-◌, take, length, map, get_or, replicate, Option, Some, None, Result, Ok, Err, IfOk, ℤ, pos, negsuc, refl, sym, ap, subst, arith}
+use Rattle.std.specs.Prelude.{All, slice_get, slice_index_or, slice_set}
+use Rattle.std.proofs.lemmas.List.{get_or-map, length-map, map-append, take_more}
+use Rattle.std.proofs.lemmas.List.Elements.{All-get_or}
+use Rattle.std.proofs.lemmas.Bool.Decides.{nat_tests}
+use Rattle.std.proofs.lemmas.List.Sums.{fold_push}
+use Rattle.std.proofs.Math.Dec.{eqb}
+use Rattle.std.proofs.lemmas.Bool.{eqb-true, eqb-false}
+use Rattle.std.specs.Ordering.{int_eq}
+use Rattle.std.proofs.lemmas.Bool.Decides.{Decides-int_eq}
+use Rattle.std.proofs.lemmas.List.{get_or-set_same, get_or-set_other, length-set}
+use Rattle.std.proofs.lemmas.Option.{slice_get_within}
+use Rattle.indexmap.specs.IndexMap.{get}
+use Rattle.indexmap.specs.IndexSet.{insert_key}
+use Rattle.arrays.specs.Batch.{Batch, row_of}
+use Rattle.arrays.specs.Dictionary.{codes_of, dictionary_of, encoded, is_code, looked_up}
+use Rattle.arrays.specs.Item.{Item, null, int}
+use Rattle.arrays.specs.Number.{natural}
+use Rattle.arrays.specs.Seen.{Seen}
+use Rattle.arrays.specs.Slot.{item_of}
+use Rattle.answers.specs.Groups.{key_of}
+use Rattle.answers.specs.Keys.{AreNumbers, keys_at, with_keys}
+use Rattle.answers.specs.Memo.{AreKeys, IsNumbered, IsRemembered, KnowsEntries, KnowsItems, Remembers}
+use Rattle.answers.specs.Same.{same_key}
+use Rattle.answers.specs.declared.memo.Memo.{Memo}
+use Rattle.answers.proofs.GroupLemmas.{Keys, inserted, is_among, numbers-push, slice_get-append}
+use Rattle.answers.proofs.SameLemmas.{either, same_key-Decides}
+
+-- ---- one key
+
+kept : (keys : Keys) (k x : List Item) (n : ℕ) → slice_get keys n ≡ Some x → slice_get (insert_key same_key keys k) n ≡ Some x
+kept keys k x n at =
+    either (is_among keys k)
+    (λ there. ap (λ (l : Keys). slice_get l n) (inserted keys k true there) ∙ at)
+    (λ absent. ap (λ (l : Keys). slice_get l n) (inserted keys k false absent) ∙ slice_get-append keys (k ∷ []) n (slice_get_within keys n x at) ∙ at)
+
+pub remembered-kept : (keys : Keys) (k x : List Item) (o : Option ℕ) → IsRemembered keys x o → IsRemembered (insert_key same_key keys k) x o
+remembered-kept keys k x None h = tt
+remembered-kept keys k x (Some n) h = kept keys k x n h
+
+remembered-more : (keys more : Keys) (x : List Item) (o : Option ℕ) → IsRemembered keys x o → IsRemembered (with_keys keys more) x o
+remembered-more keys [] x o h = h
+remembered-more keys (k ∷ more) x o h = remembered-more (insert_key same_key keys k) more x o (remembered-kept keys k x o h)
+
+or_true : (b : Bool) → (b || true) ≡ true
+or_true true = refl
+or_true false = refl
+
+among : (keys : Keys) (n : ℕ) (k : List Item) → slice_get keys n ≡ Some k → is_among keys k ≡ true
+among [] n k at = absurd cc
+among (x ∷ keys) zero k at =
+    let is : x ≡ k = cc in
+    ap (λ b. b || is_among keys k) ((same_key-Decides k x).1 (sym is))
+among (x ∷ keys) (suc n) k at = ap (λ b. same_key k x || b) (among keys n k at) ∙ or_true (same_key k x)
+
+-- A key that is there isn't put there again.
+pub there_already : (keys : Keys) (n : ℕ) (k : List Item) → slice_get keys n ≡ Some k → insert_key same_key keys k ≡ keys
+there_already keys n k at = inserted keys k true (among keys n k at)
+
+-- ---- all that is remembered
+
+pub remembers-kept : (keys : Keys) (k : List Item) (m : Memo) → Remembers keys m → Remembers (insert_key same_key keys k) m
+remembers-kept keys k m h = record {
+  null = remembered-kept keys k (null ∷ []) m.null h.null;
+  numbers = λ z. remembered-kept keys k (int z ∷ []) (get int_eq m.numbers z) (h.numbers z);
+}
+
+pub remembers-more : (keys more : Keys) (m : Memo) → Remembers keys m → Remembers (with_keys keys more) m
+remembers-more keys more m h = record {
+  null = remembered-more keys more (null ∷ []) m.null h.null;
+  numbers = λ z. remembered-more keys more (int z ∷ []) (get int_eq m.numbers z) (h.numbers z);
+}
+
+pub items-kept : (keys : Keys) (k : List Item) (items : List Item) (known : List (Option ℕ)) → KnowsItems keys items known → KnowsItems (insert_key same_key keys k) items known
+items-kept keys k items known h = record {
+  room = h.room;
+  each = λ c. remembered-kept keys k (slice_index_or items c null ∷ []) (slice_index_or known c None) (h.each c);
+}
+
+pub items-more : (keys more : Keys) (items : List Item) (known : List (Option ℕ)) → KnowsItems keys items known → KnowsItems (with_keys keys more) items known
+items-more keys more items known h = record {
+  room = h.room;
+  each = λ c. remembered-more keys more (slice_index_or items c null ∷ []) (slice_index_or known c None) (h.each c);
+}
+
+pub entries-more : (keys more : Keys) (b : Batch) (by : List ℕ) (m : Memo) → KnowsEntries keys b by m → KnowsEntries (with_keys keys more) b by m
+entries-more keys more b by m h = record {
+  each = λ place c is at dict. items-more keys more c.entries.items m.entries.items (h.each place c is at dict);
+}
+
+-- ---- something more is remembered
+
+pub items-set : (keys : Keys) (items : List Item) (known : List (Option ℕ)) (c : ℕ) (o : Option ℕ) → KnowsItems keys items known → c < length known
+    → IsRemembered keys (slice_index_or items c null ∷ []) o → KnowsItems keys items (slice_set known c o)
+items-set keys items known c o h within is = record {
+  room = h.room ∙ sym (length-set known c o);
+  each = λ d. either (eqb d c)
+      (λ same.
+      let e : d ≡ c = eqb-true d c same in
+      subst (λ x. IsRemembered keys (slice_index_or items x null ∷ []) (slice_index_or (slice_set known c o) x None)) (sym e)
+      (subst (IsRemembered keys (slice_index_or items c null ∷ [])) (sym (get_or-set_same known c o None within)) is))
+      (λ other.
+      subst (IsRemembered keys (slice_index_or items d null ∷ [])) (sym (get_or-set_other known c d o None (eqb-false d c other))) (h.each d));
+}
+
+-- ---- one key for all rows
+
+pub alike : (keys : Keys) (k : List Item) (n : ℕ) → slice_get keys n ≡ Some k → (count : ℕ) → with_keys keys (replicate count k) ≡ keys
+alike keys k n at zero = refl
+alike keys k n at (suc count) = ap (λ (l : Keys). with_keys l (replicate count k)) (there_already keys n k at) ∙ alike keys k n at count
+
+pub numbers-alike : (keys : Keys) (k : List Item) (n : ℕ) → slice_get keys n ≡ Some k → (count : ℕ) → AreNumbers keys (replicate count k) (replicate count n)
+numbers-alike keys k n at zero = refl
+numbers-alike keys k n at (suc count) =
+    let a : AreNumbers keys (replicate count k) (replicate count n) = numbers-alike keys k n at count in
+    cc (a, at)
+
+-- ---- the number of one row's key
+
+pub recalled : (keys : Keys) (key : List Item) (o : Option ℕ) (n : ℕ) → o ≡ Some n → IsRemembered keys key o → IsNumbered keys keys key n × IsRemembered keys key o
+recalled keys key o n is h =
+    let at = subst (IsRemembered keys key) is h in (record { keys_are = sym (there_already keys n key at); there = at }, h)
+
+-- What is remembered goes on with the keys, where only the number of null is another.
+with_null : (keys new : Keys) (m n : Memo) (key : List Item) → new ≡ insert_key same_key keys key → Remembers keys m → n.numbers ≡ m.numbers → IsRemembered new (null ∷ []) n.null
+    → Remembers new n
+with_null keys new m n key is h same here =
+    let r : Remembers new m = subst (λ (l : Keys). Remembers l m) (sym is) (remembers-kept keys key m h) in
+    record { null = here; numbers = λ z. subst (λ x. IsRemembered new (int z ∷ []) (get int_eq x z)) (sym same) (r.numbers z) }
+
+same_numbers : (keys new : Keys) (m n : Memo) (key : List Item) → new ≡ insert_key same_key keys key → Remembers keys m → n.numbers ≡ m.numbers → n.null ≡ m.null → Remembers new n
+same_numbers keys new m n key is h same null_is =
+    with_null keys new m n key is h same
+    (subst (IsRemembered new (null ∷ [])) (sym null_is) (subst (λ (l : Keys). IsRemembered l (null ∷ []) m.null) (sym is) (remembered-kept keys key (null ∷ []) m.null h.null)))
+
+pub step_null : {E : Type 0} (r : Result ℕ E) (keys new : Keys) (m n : Memo) (key : List Item) → key ≡ null ∷ [] → Remembers keys m → n.numbers ≡ m.numbers
+    → (IsRemembered keys key m.null → IfOk r (λ x. IsNumbered keys new key x × IsRemembered new key n.null)) → IfOk r (λ x. IsNumbered keys new key x × Remembers new n)
+step_null r keys new m n key is h same f = go r (f (subst (λ k. IsRemembered keys k m.null) (sym is) h.null)) where
+  go : {E : Type 0} (r : Result ℕ E) → IfOk r (λ x. IsNumbered keys new key x × IsRemembered new key n.null) → IfOk r (λ x. IsNumbered keys new key x × Remembers new n)
+  go (Ok x) k = (k.0, with_null keys new m n key k.0.keys_are h same (subst (λ k. IsRemembered new k n.null) is k.1))
+  go (Err e) k = tt
+
+-- The same, where something is remembered of a dictionary's entries too.
+pub step_no_entry : {E : Type 0} (r : Result ℕ E) (keys new : Keys) (m n : Memo) (key items : List Item) (known : List (Option ℕ)) → key ≡ null ∷ [] → Remembers keys m
+    → KnowsItems keys items known → n.numbers ≡ m.numbers → (IsRemembered keys key m.null → IfOk r (λ x. IsNumbered keys new key x × IsRemembered new key n.null))
+    → IfOk r (λ x. IsNumbered keys new key x × Remembers new n × KnowsItems new items known)
+step_no_entry r keys new m n key items known is h knows same f = go r (step_null r keys new m n key is h same f) where
+  go : {E : Type 0} (r : Result ℕ E) → IfOk r (λ x. IsNumbered keys new key x × Remembers new n) → IfOk r (λ x. IsNumbered keys new key x × Remembers new n × KnowsItems new items known)
+  go (Ok x) k = (k.0, k.1, subst (λ (l : Keys). KnowsItems l items known) (sym k.0.keys_are) (items-kept keys key items known knows))
+  go (Err e) k = tt
+
+pub step_entry : {E : Type 0} (r : Result ℕ E) (keys new : Keys) (m n : Memo) (key items : List Item) (place : ℕ) (old now : Option ℕ) → key ≡ slice_index_or items place null ∷ []
+    → Remembers keys m → KnowsItems keys items m.entries.items → place < length m.entries.items → old ≡ slice_index_or m.entries.items place None
+    → n.numbers ≡ m.numbers → n.null ≡ m.null → (IsRemembered keys key old → IfOk r (λ x. IsNumbered keys new key x × IsRemembered new key now))
+    → IfOk r (λ x. IsNumbered keys new key x × Remembers new n × KnowsItems new items (slice_set m.entries.items place now))
+step_entry r keys new m n key items place old now is h knows within at same null_is f =
+    go r (f (subst (λ k. IsRemembered keys k old) (sym is) (subst (IsRemembered keys (slice_index_or items place null ∷ [])) (sym at) (knows.each place)))) where
+      go : {E : Type 0} (r : Result ℕ E) → IfOk r (λ x. IsNumbered keys new key x × IsRemembered new key now)
+          → IfOk r (λ x. IsNumbered keys new key x × Remembers new n × KnowsItems new items (slice_set m.entries.items place now))
+      go (Ok x) k = (
+        k.0,
+        same_numbers keys new m n key k.0.keys_are h same null_is,
+        items-set new items m.entries.items place now (subst (λ (l : Keys). KnowsItems l items m.entries.items) (sym k.0.keys_are) (items-kept keys key items m.entries.items knows)) within
+            (subst (λ k. IsRemembered new k now) is k.1),
+      )
+      go (Err e) k = tt
+
+-- A number that is remembered.
+pub found : (keys : Keys) (m : Memo) (z : ℤ) (n : ℕ) (key : List Item) → key ≡ int z ∷ [] → Remembers keys m → get int_eq m.numbers z ≡ Some n → IsNumbered keys keys key n
+found keys m z n key is h got =
+    let at : slice_get keys n ≡ Some key = subst (IsRemembered keys (int z ∷ [])) got (h.numbers z) ∙ ap Some (sym is) in
+    record { keys_are = sym (there_already keys n key at); there = at }
+
+-- A number that is remembered from now on.
+pub learned : (keys new : Keys) (m n : Memo) (z : ℤ) (x : ℕ) (key : List Item) → key ≡ int z ∷ [] → Remembers keys m → new ≡ insert_key same_key keys key → slice_get new x ≡ Some key
+    → n.null ≡ m.null → ((q : ℤ) → get int_eq n.numbers q ≡ cond (int_eq z q) (Some x) (get int_eq m.numbers q)) → IsNumbered keys new key x × Remembers new n
+learned keys new m n z x key is h more at null_is learns =
+    let r : Remembers new m = subst (λ (l : Keys). Remembers l m) (sym more) (remembers-kept keys key m h) in (
+      record { keys_are = more; there = at },
+      record {
+        null = subst (IsRemembered new (null ∷ [])) (sym null_is) r.null;
+        numbers = λ q. subst (IsRemembered new (int q ∷ [])) (sym (learns q))
+            (either (int_eq z q)
+            (λ same. subst (λ b. IsRemembered new (int q ∷ []) (cond b (Some x) (get int_eq m.numbers q))) (sym same)
+            (at ∙ ap Some (is ∙ ap (λ w. int w ∷ []) ((Decides-int_eq z q).0 same))))
+            (λ other. subst (λ b. IsRemembered new (int q ∷ []) (cond b (Some x) (get int_eq m.numbers q))) (sym other) (r.numbers q)));
+      },
+    )
+
+-- ---- one row after the other
+
+pub next_number : (by : List ℕ) (columns : List Seen) (rows : List ℕ) (i : ℕ) (initial keys new : Keys) (numbers : List ℕ) (n : ℕ) → i < length rows
+    → keys ≡ with_keys initial (keys_at by columns (take i rows)) → AreNumbers keys (keys_at by columns (take i rows)) numbers
+    → IsNumbered keys new (key_of by (row_of columns (get_or rows i 0))) n
+    → (new ≡ with_keys initial (keys_at by columns (take (i + 1) rows))) × AreNumbers new (keys_at by columns (take (i + 1) rows)) (numbers ++ n ∷ [])
+next_number by columns rows i initial keys new numbers n below are at step =
+    let row = get_or rows i 0 in
+    let key = key_of by (row_of columns row) in
+    let front = keys_at by columns (take i rows) in
+    let more : keys_at by columns (take (i + 1) rows) ≡ front ++ key ∷ [] =
+    ap (keys_at by columns) (take_more rows i 0 below) ∙ map-append (λ r. key_of by (row_of columns r)) (take i rows) (row ∷ []) in (
+      step.keys_are ∙ ap (λ l. insert_key same_key l key) are
+          ∙ sym (ap (λ l. with_keys initial l) more ∙ fold_push (insert_key same_key) initial front key),
+      subst (λ l. AreNumbers new l (numbers ++ n ∷ [])) (sym more) (numbers-push keys new front key numbers n step.keys_are at step.there),
+    )
+
+module _ (view column : Seen) (code : Option ℤ) (row : ℕ) (is : view ≡ encoded (codes_of view) (dictionary_of view)) (of : column ≡ codes_of view)
+    (item : slice_index_or column.items row null ≡ item_of code) where
+  items_are : view.items ≡ map (looked_up view.entries.items) view.codes
+  items_are = ap (λ (s : Seen). s.items) is
+
+  here : slice_index_or view.codes row null ≡ item_of code
+  here = sym (ap (λ (s : Seen). slice_index_or s.items row null) of) ∙ item
+
+  there : row < length view.items → row < length view.codes
+  there below = omega (arith, below, ap length items_are, length-map view.codes (looked_up view.entries.items))
+
+  pub coded_row : (b : Batch) (by : List ℕ) → AreKeys view.items b by → row < b.rows → key_of by (row_of b.columns row) ≡ looked_up view.entries.items (item_of code) ∷ []
+  coded_row b by keys below =
+      let inside : row < length view.items = omega (arith, below, keys.len) in
+      keys.each row below
+      ∙ ap (λ x. x ∷ []) (ap (λ l. slice_index_or l row null) items_are
+      ∙ get_or-map (looked_up view.entries.items) view.codes row null null (there inside) ∙ ap (looked_up view.entries.items) here)
+
+  pub coded_within : (n : ℕ) → row < length view.items → All (λ c. is_code (length view.entries.items) c ≡ true) view.codes → length view.entries.items ≡ n
+      → is_code n (item_of code) ≡ true
+  coded_within n below all room =
+      subst (λ m. is_code m (item_of code) ≡ true) room
+      (subst (λ x. is_code (length view.entries.items) x ≡ true) here (All-get_or (λ c. is_code (length view.entries.items) c ≡ true) view.codes row null (there below) all))
+
+pub numbered_row : (view column : Seen) (number : Option ℤ) (row : ℕ) (b : Batch) (by : List ℕ) → column ≡ view → slice_index_or column.items row null ≡ item_of number
+    → AreKeys view.items b by → row < b.rows → key_of by (row_of b.columns row) ≡ item_of number ∷ []
+numbered_row view column number row b by of item keys below =
+    keys.each row below ∙ ap (λ x. x ∷ []) (sym (ap (λ (s : Seen). slice_index_or s.items row null) of) ∙ item)
+
+-- ---- no columns for keys
+
+no_keys : (columns : List Seen) (rows : List ℕ) → keys_at [] columns rows ≡ replicate (length rows) []
+no_keys columns [] = refl
+no_keys columns (r ∷ rows) = ap (λ (l : Keys). [] ∷ l) (no_keys columns rows)
+
+pub one_key : (keys new : Keys) (by : List ℕ) (columns : List Seen) (rows : List ℕ) (n row : ℕ) → by ≡ [] → 0 < length rows
+    → new ≡ insert_key same_key keys (key_of by (row_of columns row)) → slice_get new n ≡ Some (key_of by (row_of columns row))
+    → (new ≡ with_keys keys (keys_at by columns rows)) × AreNumbers new (keys_at by columns rows) (replicate (length rows) n)
+one_key keys new (c ∷ by) columns rows n row none some is at = absurd cc
+one_key keys new [] columns [] n row none some is at = absurd (omega (arith, some))
+one_key keys new [] columns (r ∷ rows) n row none some is at = (
+  sym (alike new [] n at (length rows)) ∙ ap (λ (l : Keys). with_keys l (replicate (length rows) [])) is
+      ∙ ap (with_keys (insert_key same_key keys [])) (sym (no_keys columns rows)),
+  subst (λ (l : Keys). AreNumbers new l (replicate (suc (length rows)) n)) (sym (no_keys columns (r ∷ rows))) (numbers-alike new [] n at (suc (length rows))),
+)
+
+pub positive : (n : ℕ) → (n ≡ 0 → ⊥) → 0 < n
+positive zero h = absurd (h refl)
+positive (suc n) h = omega arith
+
+pub resized : (xs : List ℕ) (m k n : ℕ) → xs ≡ [] → k ≡ 0 → take m xs ++ replicate (m - k) n ≡ replicate m n
+resized (x ∷ xs) m k n none zeros = absurd cc
+resized [] m k n none zeros =
+    let e : m - k ≡ m = omega (arith, zeros) in
+    ap (λ (l : List ℕ). l ++ replicate (m - k) n) (nothing m) ∙ ap (λ j. replicate j n) e where
+      nothing : (m : ℕ) → take {A = ℕ} m [] ≡ []
+      nothing zero = refl
+      nothing (suc m) = refl
+
+-- ---- codes
+
+pub code_below : (n : ℕ) (z : ℤ) → is_code n (int z) ≡ true → natural z < n
+code_below n (pos m) h = grind (arith, nat_tests, h)
+code_below n (negsuc m) h = cc

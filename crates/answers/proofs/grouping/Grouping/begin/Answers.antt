@@ -1,0 +1,17 @@
+use Rattle.std.proofs.Common.{◌≡◌, None, subst, sym}
+use Rattle.std.specs.Prelude.{All}
+use Rattle.query.specs.Asked.{asked}
+use Rattle.query.specs.Columns.{sort_at}
+use Rattle.query.specs.Fault.{key_fault}
+use Rattle.answers.proofs.ColumnLemmas.{on_ok}
+use Rattle.answers.proofs.FitLemmas.{what_fits}
+use Rattle.answers.proofs.grouping.Grouping.begin.Goals as goal
+
+pub begin-requires : goal.begin-requires
+begin-requires c = record {
+  plain = subst (All (λ p. key_fault (sort_at c.args.batch.now.fields) p ≡ None)) (sym c.as_slice.ensures.value)
+      (what_fits c.args.batch.now.fields (asked c.args.query.now) c.requires).by;
+}
+
+pub returns-clause-kept : goal.returns-clause-kept
+returns-clause-kept c = λ rows h. on_ok c.begin.result (λ r. (h.0, r)) (c.begin.ensures.kept c.args.self.now.keys h.1)

@@ -1,0 +1,41 @@
+-- What is remembered of the numbers of keys.
+use Rattle.std.specs.Prelude.{◌≡◌, ◌<◌, ℕ, ℤ, List, [], ◌∷◌, Option, Some, None, length, slice_get, slice_index_or, ⊤}
+use Rattle.std.specs.Ordering.{int_eq}
+use Rattle.indexmap.specs.IndexMap.{get}
+use Rattle.indexmap.specs.IndexSet.{insert_key}
+use Rattle.arrays.specs.Batch.{Batch, row_of}
+use Rattle.arrays.specs.Item.{Item, null, int}
+use Rattle.arrays.specs.Kind as kind
+use Rattle.arrays.specs.Seen.{Seen}
+use Rattle.answers.specs.Groups.{key_of}
+use Rattle.answers.specs.Same.{same_key}
+use Rattle.answers.specs.declared.memo.Memo.{Memo}
+
+-- The number, if there is one, is that of this key.
+abbrev pub IsRemembered : List (List Item) → List Item → Option ℕ → Type 0
+IsRemembered keys k None = ⊤
+IsRemembered keys k (Some n) = slice_get keys n ≡ Some k
+
+-- What is remembered of null and of numbers is true, whatever batch they came in.
+pub record Remembers (keys : List (List Item)) (m : Memo) : Type 0 where
+  pub null : IsRemembered keys (null ∷ []) m.null
+  pub numbers : (z : ℤ) → IsRemembered keys (int z ∷ []) (get int_eq m.numbers z)
+
+-- What is remembered of the entries of a dictionary is true, and there is room for each.
+pub record KnowsItems (keys : List (List Item)) (items : List Item) (known : List (Option ℕ)) : Type 0 where
+  pub room : length items ≡ length known
+  pub each : (c : ℕ) → IsRemembered keys (slice_index_or items c null ∷ []) (slice_index_or known c None)
+
+-- The same of the dictionary of a batch, where its rows are put into groups by one dictionary-encoded column.
+pub record KnowsEntries (keys : List (List Item)) (b : Batch) (by : List ℕ) (m : Memo) : Type 0 where
+  pub each : (place : ℕ) (c : Seen) → by ≡ place ∷ [] → slice_get b.columns place ≡ Some c → c.kind ≡ kind.dict → KnowsItems keys c.entries.items m.entries.items
+
+-- Each row of the batch has the key of its item in this column alone.
+pub record AreKeys (items : List Item) (b : Batch) (by : List ℕ) : Type 0 where
+  pub len : length items ≡ b.rows
+  pub each : (r : ℕ) → r < b.rows → key_of by (row_of b.columns r) ≡ slice_index_or items r null ∷ []
+
+-- The key is one of them now, at the end where it is new, and this is its number.
+pub record IsNumbered (keys new : List (List Item)) (k : List Item) (n : ℕ) : Type 0 where
+  pub keys_are : new ≡ insert_key same_key keys k
+  pub there : slice_get new n ≡ Some k
