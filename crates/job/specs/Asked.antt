@@ -1,12 +1,12 @@
 -- Which job the words of the command line ask for, and why they ask for none. `clap` has functions of the words for both.
 use Rattle.std.specs.Prelude.{◌≡◌, ◌≢◌, ◌<◌, List, [], length, map, Option, Some, false, ⊤, codes, string_bytes, String}
 use Rattle.std.specs.declared.alloc.Global.{Global}
-use Rattle.clap.specs.Words.{IsAmong, Row, Text, all_of, fault_of, kind_of, subcommand_of, takes}
+use Rattle.clap.specs.Words.{IsAmong, Row, Text, all_of, fault_of, first_of, kind_of, subcommand_of, takes}
 use Rattle.clap.specs.declared.error.Error.{Error}
 use Rattle.clap.specs.declared.error.kind.ErrorKind.TheVariants.{OutOfMemory}
 use Rattle.job.specs.CommandLine.{arrowtab}
 use Rattle.job.specs.declared.asked.Command.{Command}
-use Rattle.job.specs.declared.asked.Command.TheVariants.{Stats, Export}
+use Rattle.job.specs.declared.asked.Command.TheVariants.{Stats, Export, Query}
 use Rattle.job.specs.declared.asked.Job.{Job}
 use Rattle.job.specs.declared.fault.JobFault.{JobFault}
 use Rattle.job.specs.declared.fault.JobFault.TheVariants.{Line, Unread, NoMemory}
@@ -15,15 +15,23 @@ use Rattle.job.specs.declared.fault.JobFault.TheVariants.{Line, Unread, NoMemory
 abbrev pub word_of : Command → Text
 word_of Stats = codes "stats"
 word_of Export = codes "export"
+word_of (Query text) = codes "query"
+
+-- The text of a query is the value of --query.
+abbrev pub HasQuery : List Row → Command → Type 0
+HasQuery rows Stats = ⊤
+HasQuery rows Export = ⊤
+HasQuery rows (Query text) = first_of (codes "QUERY") rows ≡ Some (string_bytes text)
 
 -- The names of the files.
 abbrev pub names_of : List (String Global) → List Text
 names_of names = map string_bytes names
 
--- What `clap` finds in the words is the command, and the names of the files. It finds no number of workers yet.
+-- What `clap` finds in the words is the command with its query, and the names of the files. It finds no number of workers yet.
 pub record Finds (found : Option (Text × List Row)) (job : Job) : Type 0 where
   pub rows : List Row
   pub command : found ≡ Some (word_of job.command, rows)
+  pub query : HasQuery rows job.command
   pub names : all_of (codes "FILE") rows ≡ Some (names_of job.names.items)
   pub workers : job.workers ≡ 1
 

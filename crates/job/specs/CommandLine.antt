@@ -15,10 +15,18 @@ files = record (new_rule (codes "FILE")) {
 abbrev pub over_files : List ℕ → App
 over_files name = with_rule (new_app name) files
 
+-- --query QUERY
+abbrev pub query : Rule
+query = record (new_rule (codes "QUERY")) { long = Some (codes "query"); required = true }
+
+-- query --query QUERY FILE..
+abbrev pub with_query : App
+with_query = with_rule (over_files (codes "query")) query
+
 -- The program alone. Without a word it shows its help, and one of its commands has to be there.
 abbrev pub alone : App
 alone = on_top (λ top. record top { arg_required_else_help = true; subcommand_required = true }) (new_app (codes "arrowtab"))
 
--- stats FILE.., and export FILE..
+-- stats FILE.., export FILE.., and query --query QUERY FILE..
 abbrev pub arrowtab : App
-arrowtab = with_subcommand (with_subcommand alone (over_files (codes "stats")).top) (over_files (codes "export")).top
+arrowtab = with_subcommand (with_subcommand (with_subcommand alone (over_files (codes "stats")).top) (over_files (codes "export")).top) with_query.top

@@ -1,12 +1,14 @@
 //! What the program is asked to do.
 
 /// A command of the program.
-#[derive(Clone, Copy, Debug, PartialEq, Eq)]
+#[derive(Debug, Drop, PartialEq, Eq)]
 pub enum Command {
     /// Prints rows, workers and the statistics of each column.
     Stats,
     /// Prints the table as one file, with a batch for each that was added.
     Export,
+    /// Prints a line for each group of rows, as the query of this text asks.
+    Query(String),
 }
 
 /// A command, and the files that it is about.

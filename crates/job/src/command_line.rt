@@ -1,7 +1,7 @@
 //! The commands of the program, as `clap` reads them.
 ghost use Rattle.std.specs.Prelude.{◌≡◌, IfOk, false};
 ghost use Rattle.clap.specs.Words.{app_of, rule_of};
-ghost use Rattle.job.specs.CommandLine.{arrowtab, files, over_files};
+ghost use Rattle.job.specs.CommandLine.{arrowtab, files, over_files, query, with_query};
 ghost use Rattle.clap.specs.declared.builder.command.Command.TheViews.{out-Command};
 
 use clap::{Arg, Command};
@@ -21,6 +21,7 @@ pub(crate) fn arrowtab<'a>(alloc: Global) -> Result<Command<'a>, AllocError>
         "export",
         "Print the table as one file, each text once in its dictionary",
     )?;
+    let query = with_query(alloc)?;
     let bare = Command::new(alloc, "arrowtab");
     let described = bare.about(
         "Tells what files in Apache Arrow's JSON integration format hold, as one table",
@@ -31,7 +32,22 @@ pub(crate) fn arrowtab<'a>(alloc: Global) -> Result<Command<'a>, AllocError>
     let required = explained.subcommand_required(true);
     let helpful = required.arg_required_else_help(true);
     let with_stats = helpful.subcommand(stats)?;
-    with_stats.subcommand(export)
+    let with_export = with_stats.subcommand(export)?;
+    with_export.subcommand(query)
+}
+
+/// `query --query QUERY FILE..`
+fn with_query<'a>(alloc: Global) -> Result<Command<'a>, AllocError>
+    ensures line { IfOk result (λ command. app_of command ≡ with_query) }
+    ensures local { IfOk result (λ command. (out-Command command).has_globals ≡ false) }
+{
+    let query = query(alloc);
+    let over = over_files(
+        alloc,
+        "query",
+        "Print a line for each group of rows, as a query asks",
+    )?;
+    over.arg(query)
 }
 
 /// `NAME FILE..`
@@ -43,6 +59,17 @@ fn over_files<'a>(alloc: Global, name: &'a str, about: &'a str) -> Result<Comman
     let bare = Command::new(alloc, name);
     let described = bare.about(about);
     described.arg(files)
+}
+
+/// `--query QUERY`
+fn query<'a>(alloc: Global) -> Arg<'a>
+    ensures rule { rule_of result ≡ query }
+    ensures local { result.global ≡ false }
+{
+    let query = Arg::new(alloc, "QUERY");
+    let named = query.long("query");
+    let described = named.help("The query, an object of JSON with the members filter, by and aggs");
+    described.required(true)
 }
 
 /// `FILE..`, at least one.

@@ -1,7 +1,7 @@
 //! The words of the command line as a job.
-ghost use Rattle.std.specs.Prelude.{◌≡◌, IfErr, IfOk, IfSome, codes, map, option_map};
-ghost use Rattle.clap.specs.Words.{all_of, found_of, rows_of, subcommand_rows_of};
-ghost use Rattle.job.specs.Asked.{Asks, Finds, IsFaultOf, IsNoLine, IsReady, names_of, word_of};
+ghost use Rattle.std.specs.Prelude.{◌≡◌, IfErr, IfOk, codes, map, option_map};
+ghost use Rattle.clap.specs.Words.{all_of, first_of, found_of, rows_of, subcommand_rows_of};
+ghost use Rattle.job.specs.Asked.{Asks, Finds, HasQuery, IsFaultOf, IsNoLine, IsReady, names_of, word_of};
 
 use crate::asked::{Command, Job};
 use crate::command_line::arrowtab;
@@ -37,9 +37,7 @@ fn job_of(alloc: Global, matches: &ArgMatches<'_>) -> Result<Job, JobFault>
     let Some((word, found)) = matches.subcommand() else {
         return Err(JobFault::Unread);
     };
-    let Some(command) = command_of(word) else {
-        return Err(JobFault::Unread);
-    };
+    let command = command_of(alloc, word, found)?;
     let Some(files) = files_of(found) else {
         return Err(JobFault::Unread);
     };
@@ -56,15 +54,40 @@ fn job_of(alloc: Global, matches: &ArgMatches<'_>) -> Result<Job, JobFault>
     })
 }
 
-/// The command of this word.
-fn command_of(word: &str) -> Option<Command>
-    ensures { IfSome result (λ command. word.now ≡ word_of command) }
+/// The command of this word, with what `clap` found behind it.
+fn command_of(alloc: Global, word: &str, found: &ArgMatches<'_>) -> Result<Command, JobFault>
+    ensures word { IfOk result (λ command. word.now ≡ word_of command) }
+    ensures query { IfOk result (HasQuery (rows_of (found_of found.now))) }
+    ensures err { IfErr result IsNoLine }
 {
     match word {
-        "stats" => Some(Command::Stats),
-        "export" => Some(Command::Export),
-        _ => None,
+        "stats" => Ok(Command::Stats),
+        "export" => Ok(Command::Export),
+        "query" => query_of(alloc, found),
+        _ => Err(JobFault::Unread),
     }
+}
+
+/// The command that asks the query which stands for `--query`.
+fn query_of(alloc: Global, found: &ArgMatches<'_>) -> Result<Command, JobFault>
+    ensures word { IfOk result (λ command. codes "query" ≡ word_of command) }
+    ensures query { IfOk result (HasQuery (rows_of (found_of found.now))) }
+    ensures err { IfErr result IsNoLine }
+{
+    let Some(text) = text_of(found) else {
+        return Err(JobFault::Unread);
+    };
+    match String::from_str(alloc, text) {
+        Ok(query) => Ok(Command::Query(query)),
+        Err(_) => Err(JobFault::NoMemory),
+    }
+}
+
+/// What stands for `--query`.
+fn text_of<'a>(found: &ArgMatches<'a>) -> Option<&'a str>
+    ensures { option_map (λ text. text.now) result ≡ first_of (codes "QUERY") (rows_of (found_of found.now)) }
+{
+    found.get_str("QUERY")
 }
 
 /// What stands for `FILE..`

@@ -21,3 +21,4 @@ pub mod BatchLemmas
 pub mod NullLemmas
 pub mod CauseLemmas
 pub mod ExportLemmas
+pub mod AnswerLemmas

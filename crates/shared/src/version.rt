@@ -1,11 +1,14 @@
 //! What a table holds at a moment.
 
-ghost use Rattle.std.specs.Prelude.{ℕ, ◌≡◌, ◌<◌, ◌≤◌, ◌^◌, All, IfOk, Some, length, map, option_map, slice_get, slice_index_or, []};
+ghost use Rattle.std.specs.Prelude.{ℕ, ◌≡◌, ◌<◌, ◌≤◌, ◌^◌, All, IfErr, IfOk, Some, length, map, option_map, slice_get, slice_index_or, [], true};
 ghost use Rattle.std.specs.Arc.{arc_value};
 ghost use Rattle.std.specs.List.{AllByRecursion};
+ghost use Rattle.answers.specs.Answers.{IsAnswer, IsRefusal};
 ghost use Rattle.arrays.specs.Batch.{rows_of, column};
 ghost use Rattle.arrays.specs.Shape.{FieldShape, kind_of_field};
 ghost use Rattle.group.specs.Summary.{AreStats};
+ghost use Rattle.query.specs.Asked.{asked};
+ghost use Rattle.query.specs.Fault.{fits};
 ghost use Rattle.shared.specs.Export.{IsLawful};
 ghost use Rattle.shared.specs.Cause.{IsLegal};
 ghost use Rattle.shared.specs.Held.{IsHeld, pair_of, show};
@@ -15,12 +18,15 @@ ghost use Rattle.shared.specs.Lawful.{EndsWithEntry, IsStored, NamesFronts, dict
 use crate::entry::Entry;
 use crate::export::file_of;
 use crate::held::Held;
+use answers::{Answer, Gate};
 use arrays::{File, RecordBatch, Schema, Words};
 use colbits::NoMemory;
 use group::ColumnStats;
+use query::{Query, QueryFault};
 use std::alloc::Global;
 use std::marker::Model;
 use std::sync::Arc;
+use std::thread::Threads;
 
 /// A table at a moment, to be read.
 ///
@@ -109,6 +115,30 @@ impl Version {
             Some(words) => Some(words),
             None => None,
         }
+    }
+
+    /// What the query answers over all rows, batch after batch. The number of pieces, from 1 to 64, says on how many threads
+    /// they may be looked at, and changes nothing of the answer.
+    ///
+    /// # Errors
+    /// `Overflow` with the least of the rows where a part of the filter is outside its type; `NoMemory` where a growth was refused.
+    pub fn answer<T: Threads + Sync, G: Gate>(
+        &self,
+        threads: &T,
+        alloc: Global,
+        query: &Query,
+        pieces: u32,
+        gate: &G,
+    ) -> Result<Answer, QueryFault>
+        requires fits { fits self.now.fields (asked query.now) ≡ true }
+        requires some { 1 ≤ pieces }
+        requires most { pieces ≤ 64 }
+        ensures ok { IfOk result (IsAnswer self.now.fields (asked query.now) (rows self.now.history)) }
+        ensures err { IfErr result (IsRefusal self.now.fields (asked query.now) (rows self.now.history)) }
+    {
+        // They are few enough, as is said with their number.
+        let _rows = self.rows();
+        answers::answer(threads, alloc, self.batches(), query, pieces, gate)
     }
 
     /// The stored schema, and one batch for each entry of the book: what each call added, in its order. A batch that one

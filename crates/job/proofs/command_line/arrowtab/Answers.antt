@@ -22,5 +22,7 @@ returns c =
     ap app_of_fields c.arg_required_else_help-helpful.ensures ∙ ap helpful with_command in
     let with_stats : app_of c.in_ok-with_stats.with_stats ≡ with_subcommand alone (over_files (codes "stats")).top =
     c.in_ok-with_stats.ensures.shape c.in_ok-stats.ensures.local ∙ ap₂ with_subcommand with_help (ap (λ (a : App). a.top) c.in_ok-stats.ensures.line) in
-    IfOk-weaker c.subcommand-2.result _ _ (λ command added.
-    added.shape c.in_ok-export.ensures.local ∙ ap₂ with_subcommand with_stats (ap (λ (a : App). a.top) c.in_ok-export.ensures.line)) c.subcommand-2.ensures
+    let with_export : app_of c.in_ok-with_export.with_export ≡ with_subcommand (with_subcommand alone (over_files (codes "stats")).top) (over_files (codes "export")).top =
+    c.in_ok-with_export.ensures.shape c.in_ok-export.ensures.local ∙ ap₂ with_subcommand with_stats (ap (λ (a : App). a.top) c.in_ok-export.ensures.line) in
+    IfOk-weaker c.subcommand-3.result _ _ (λ command added.
+    added.shape c.in_ok-query.ensures.local ∙ ap₂ with_subcommand with_export (ap (λ (a : App). a.top) c.in_ok-query.ensures.line)) c.subcommand-3.ensures
