@@ -14,16 +14,21 @@ use Rattle.arrays.specs.Shape.{FieldShape}
 use Rattle.arrow_json.specs.JsonFile.{AreUnder, file_of}
 use Rattle.json_places.specs.JsonTable as read
 use Rattle.json_places.specs.JsonTable.{FileData, table_of}
-use Rattle.arrowtab.specs.Alone.{AreAlike, IsRefusedIn, Shows, Stops, alone, batches_in, fields_for}
-use Rattle.arrowtab.specs.Explained.{Explains}
+use Rattle.arrowtab.specs.Alone.{AreAlike, IsRefusedIn, IsRefusedOver, IsWhole, Shows, StopsWanted, alone, batches_in, fields_for}
+use Rattle.arrowtab.specs.Explained.{Explains, ExplainsFiles}
 use Rattle.arrowtab.specs.Loaded.{FileBatch, IsLoaded, IsStopped, added_by, batches_of, tables_of}
 use Rattle.arrowtab.specs.Plan.{planned}
 use Rattle.job.specs.declared.asked.Command.{Command}
-use Rattle.arrowtab.specs.Output.{output}
-use Rattle.arrowtab.specs.Run.{Answers, AreRead, Inputs, Refuses, table_fields}
+use Rattle.job.specs.declared.asked.Command.TheVariants as command
+use Rattle.query.specs.Resolved.{named}
+use Rattle.query.specs.declared.fault.QueryFault.{QueryFault}
+use Rattle.arrowtab.specs.Output.{Prints, PrintsNothing}
+use Rattle.arrowtab.specs.Run.{Answers, AreRead, Inputs, Refuses, RefusesQuery, table_fields}
+use Rattle.arrowtab.specs.Wanted.{IsWanted, PrintsWanted, RefusesWanted}
+use Rattle.arrowtab.specs.declared.wanted.Wanted.{Wanted}
 use Rattle.arrowtab.specs.declared.run_fault.FileFault.TheVariants.{CannotRead, Json, Refused}
 use Rattle.arrowtab.specs.declared.run_fault.RunFault.{RunFault}
-use Rattle.arrowtab.specs.declared.run_fault.RunFault.TheVariants.{NoMemory, OfFile}
+use Rattle.arrowtab.specs.declared.run_fault.RunFault.TheVariants.{NoMemory, OfFile, QueryUnread, QueryRefused}
 use Rattle.shared.specs.Cause.{IsLegal, batch_cause, difference, handed_cause}
 use Rattle.shared.specs.History.{History}
 use Rattle.shared.specs.declared.refusal.Refusal.{Refusal}
@@ -126,16 +131,45 @@ IsLoaded-alone fields files kept alike legal = record {
   legal = legal;
 }
 
-pub Answers-shown : (command : Command) (inputs : Inputs) (files : List File) (text : List ℕ) → AreRead inputs (data_of files) → AreKept files → Shows command (fields_for files) files text → Answers command inputs text
-Answers-shown command inputs files text read kept shows =
-    let same = fields-same files in
-    record {
-      files = data_of files;
-      read = read;
-      history = alone (batches_in files);
-      loaded = subst (λ (fs : List FieldShape). IsLoaded 1 (listed files) fs (alone (batches_in files))) (sym same) (IsLoaded-alone (fields_for files) files kept shows.alike shows.legal);
-      shows = shows.text ∙ ap (λ (fs : List FieldShape). output command 1 fs (alone (batches_in files))) (sym same);
-    }
+loaded_whole : (files : List File) → AreKept files → IsWhole (fields_for files) files → IsLoaded 1 (listed files) (table_fields (data_of files)) (alone (batches_in files))
+loaded_whole files kept whole =
+    subst (λ (fs : List FieldShape). IsLoaded 1 (listed files) fs (alone (batches_in files))) (sym (fields-same files)) (IsLoaded-alone (fields_for files) files kept whole.alike whole.legal)
+
+prints_command : (command : Command) (wanted : Wanted) (fields : List FieldShape) (h : History) (text : List ℕ) → IsWanted command wanted → PrintsWanted wanted 1 fields h text → Prints command 1 fields h text
+prints_command command.Stats wanted fields h text is prints = subst (λ w. PrintsWanted w 1 fields h text) is prints
+prints_command command.Export wanted fields h text is prints = subst (λ w. PrintsWanted w 1 fields h text) is prints
+prints_command (command.Query bytes) wanted fields h text is prints = (named is.0, is.2, subst (λ w. PrintsWanted w 1 fields h text) is.1 prints)
+
+Answers-shown : (command : Command) (wanted : Wanted) (inputs : Inputs) (files : List File) (text : List ℕ) → AreRead inputs (data_of files) → AreKept files → IsWanted command wanted → Shows wanted (fields_for files) files text
+    → Answers command inputs text
+Answers-shown command wanted inputs files text read kept is shows = record {
+  files = data_of files;
+  read = read;
+  history = alone (batches_in files);
+  loaded = loaded_whole files kept shows.whole;
+  prints =
+      subst (λ (fs : List FieldShape). Prints command 1 fs (alone (batches_in files)) text) (sym (fields-same files))
+      (prints_command command wanted (fields_for files) (alone (batches_in files)) text is shows.prints);
+}
+
+-- ---- a query that is refused
+
+refuses_command : (command : Command) (wanted : Wanted) (fields : List FieldShape) (h : History) (fault : QueryFault) → IsWanted command wanted → RefusesWanted wanted fields h fault → PrintsNothing command fields h fault
+refuses_command command.Stats wanted fields h fault is refuses = subst (λ w. RefusesWanted w fields h fault) is refuses
+refuses_command command.Export wanted fields h fault is refuses = subst (λ w. RefusesWanted w fields h fault) is refuses
+refuses_command (command.Query bytes) wanted fields h fault is refuses = (named is.0, is.2, subst (λ w. RefusesWanted w fields h fault) is.1 refuses)
+
+RefusesQuery-over : (command : Command) (wanted : Wanted) (inputs : Inputs) (files : List File) (fault : QueryFault) → AreRead inputs (data_of files) → AreKept files → IsWanted command wanted
+    → IsRefusedOver wanted (fields_for files) files fault → RefusesQuery command inputs fault
+RefusesQuery-over command wanted inputs files fault read kept is over = record {
+  files = data_of files;
+  read = read;
+  history = alone (batches_in files);
+  loaded = loaded_whole files kept over.whole;
+  refused =
+      subst (λ (fs : List FieldShape). PrintsNothing command fs (alone (batches_in files)) fault) (sym (fields-same files))
+      (refuses_command command wanted (fields_for files) (alone (batches_in files)) fault is over.refused);
+}
 
 -- ---- what stopped it
 
@@ -197,22 +231,31 @@ Refuses-stopped inputs files file number refusal read kept stopped = record {
   stopped = subst (λ (fs : List FieldShape). IsStopped 1 (listed files) fs file number refusal) (sym (fields-same files)) (IsStopped-alone (fields_for files) files file number refusal kept stopped);
 }
 
-Explains-stopped : (inputs : Inputs) (before after : List ℕ) (files : List File) (fault : RunFault) → AreRead inputs (data_of files) → AreKept files → Stops (fields_for files) files fault
-    → Explains inputs before after fault
-Explains-stopped inputs before after files NoMemory read kept stops = tt
-Explains-stopped inputs before after files (OfFile f CannotRead) read kept stops = absurd stops
-Explains-stopped inputs before after files (OfFile f (Json g)) read kept stops = absurd stops
-Explains-stopped inputs before after files (OfFile f (Refused number refusal)) read kept stops = Refuses-stopped inputs files f number refusal read kept stops
+Explains-stopped : (command : Command) (wanted : Wanted) (inputs : Inputs) (before after : List ℕ) (files : List File) (fault : RunFault) → AreRead inputs (data_of files) → AreKept files → IsWanted command wanted
+    → StopsWanted wanted (fields_for files) files fault → Explains command inputs before after fault
+Explains-stopped command wanted inputs before after files NoMemory read kept is stops = tt
+Explains-stopped command wanted inputs before after files (OfFile f CannotRead) read kept is stops = absurd stops
+Explains-stopped command wanted inputs before after files (OfFile f (Json g)) read kept is stops = absurd stops
+Explains-stopped command wanted inputs before after files (OfFile f (Refused number refusal)) read kept is stops = Refuses-stopped inputs files f number refusal read kept stops
+Explains-stopped command wanted inputs before after files (QueryUnread f) read kept is stops = absurd stops
+Explains-stopped command wanted inputs before after files (QueryRefused f) read kept is stops = RefusesQuery-over command wanted inputs files f read kept is stops
 
-pub ok_answers : {A : Type 0} (command : Command) (inputs : Inputs) (files : List File) (r : Result A RunFault) (text : A → List ℕ) → AreRead inputs (data_of files) → AreKept files
-    → IfOk r (λ t. Shows command (fields_for files) files (text t)) → IfOk r (λ t. Answers command inputs (text t))
-ok_answers command inputs files (Ok t) text read kept shows = Answers-shown command inputs files (text t) read kept shows
-ok_answers command inputs files (Err fault) text read kept shows = tt
+pub ok_answers : {A : Type 0} (command : Command) (wanted : Wanted) (inputs : Inputs) (files : List File) (r : Result A RunFault) (text : A → List ℕ) → AreRead inputs (data_of files) → AreKept files → IsWanted command wanted
+    → IfOk r (λ t. Shows wanted (fields_for files) files (text t)) → IfOk r (λ t. Answers command inputs (text t))
+ok_answers command wanted inputs files (Ok t) text read kept is shows = Answers-shown command wanted inputs files (text t) read kept is shows
+ok_answers command wanted inputs files (Err fault) text read kept is shows = tt
 
-pub err_explains : {A : Type 0} (inputs : Inputs) (before after : List ℕ) (files : List File) (r : Result A RunFault) → AreRead inputs (data_of files) → AreKept files
-    → IfErr r (Stops (fields_for files) files) → IfErr r (Explains inputs before after)
-err_explains inputs before after files (Ok t) read kept stops = tt
-err_explains inputs before after files (Err fault) read kept stops = Explains-stopped inputs before after files fault read kept stops
+pub err_explains : {A : Type 0} (command : Command) (wanted : Wanted) (inputs : Inputs) (before after : List ℕ) (files : List File) (r : Result A RunFault) → AreRead inputs (data_of files) → AreKept files → IsWanted command wanted
+    → IfErr r (StopsWanted wanted (fields_for files) files) → IfErr r (Explains command inputs before after)
+err_explains command wanted inputs before after files (Ok t) read kept is stops = tt
+err_explains command wanted inputs before after files (Err fault) read kept is stops = Explains-stopped command wanted inputs before after files fault read kept is stops
+
+-- what explains a fault of the files alone explains it
+pub files_explain : (command : Command) (inputs : Inputs) (before after : List ℕ) (fault : RunFault) → ExplainsFiles inputs before after fault → Explains command inputs before after fault
+files_explain command inputs before after NoMemory why = tt
+files_explain command inputs before after (OfFile file fault) why = why
+files_explain command inputs before after (QueryUnread f) why = absurd why
+files_explain command inputs before after (QueryRefused f) why = absurd why
 
 -- there are as many files as sources
 pub some_files : (inputs : Inputs) (files : List File) → AreRead inputs (data_of files) → length files ≡ length inputs

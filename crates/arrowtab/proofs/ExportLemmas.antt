@@ -1,5 +1,5 @@
 -- A table's file, and the history that it is made of.
-use Rattle.std.proofs.Common.{◌≡◌, ◌∙◌, ℕ, List, [], ◌∷◌, None, length, map, get_or, ap, sym, arith, refl}
+use Rattle.std.proofs.Common.{◌≡◌, ◌∙◌, ℕ, List, [], ◌∷◌, None, length, map, ap, sym, arith, refl}
 use Rattle.std.proofs.lemmas.List.{get_or-map, length-map}
 use Rattle.std.proofs.lemmas.List.FromFn.{fill_by_all}
 use Rattle.std.proofs.lemmas.Simd.{map-map}
@@ -17,7 +17,7 @@ use Rattle.serde_json.specs.Written.{compact_text}
 use Rattle.shared.specs.Export.{IsLawful}
 use Rattle.shared.specs.History.{History}
 use Rattle.shared.proofs.BatchLemmas.{HasColumns-rows_of, length-rows_of, whole}
-use Rattle.arrowtab.specs.Output.{added_table, exported}
+use Rattle.arrowtab.specs.Output.{added_table}
 
 -- the items of a lawful batch's columns are those of its rows
 items-rows : (fields : List FieldShape) (b : Batch) → b.fields ≡ fields → IsLawful b

@@ -5,3 +5,5 @@ mod ReadLemmas
 mod AnswerLemmas
 mod RunLemmas
 mod ExportLemmas
+mod GroupLineLemmas
+mod QueryLemmas

@@ -10,7 +10,7 @@ use Rattle.arrays.specs.Shape.{FieldShape}
 use Rattle.arrowtab.specs.Alone.{AreAlike, StopsBatch, StopsFile, alone, batches_in, fields_for}
 use Rattle.arrowtab.specs.declared.run_fault.FileFault.TheVariants.{CannotRead, Json, Refused}
 use Rattle.arrowtab.specs.declared.run_fault.RunFault.{RunFault}
-use Rattle.arrowtab.specs.declared.run_fault.RunFault.TheVariants.{NoMemory, OfFile}
+use Rattle.arrowtab.specs.declared.run_fault.RunFault.TheVariants.{NoMemory, OfFile, QueryUnread, QueryRefused}
 use Rattle.shared.specs.Cause.{IsLegal, batch_cause}
 use Rattle.shared.specs.Contents.{Contents}
 use Rattle.shared.specs.History.{History}
@@ -26,6 +26,8 @@ pub stops_at : (fields : List FieldShape) (h : History) (file number : ℕ) (fro
 stops_at fields h file number front items rest all b table seen NoMemory is next counted same history shown stops = tt
 stops_at fields h file number front items rest all b table seen (OfFile f CannotRead) is next counted same history shown stops = stops
 stops_at fields h file number front items rest all b table seen (OfFile f (Json g)) is next counted same history shown stops = stops
+stops_at fields h file number front items rest all b table seen (QueryUnread f) is next counted same history shown stops = stops
+stops_at fields h file number front items rest all b table seen (QueryRefused f) is next counted same history shown stops = stops
 stops_at fields h file number front items rest all b table seen (OfFile f (Refused place refusal)) is next counted same history shown stops = (
   stops.0,
   record {

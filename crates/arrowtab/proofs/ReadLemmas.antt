@@ -5,11 +5,11 @@ use Rattle.std.proofs.lemmas.Option.{get_or_from_slice_get, slice_get-get_or, sl
 use Rattle.std.specs.List.{AllByRecursion, AllZip}
 use Rattle.arrays.specs.File.{File}
 use Rattle.arrow_json.specs.JsonFile.{AreUnder, Reads, file_of}
-use Rattle.arrowtab.specs.Explained.{Explains, ExplainsSource}
+use Rattle.arrowtab.specs.Explained.{ExplainsFiles, ExplainsSource}
 use Rattle.arrowtab.specs.Run.{AreRead, FailedRead, FailedFile}
 use Rattle.arrowtab.specs.declared.run_fault.FileFault.TheVariants.{CannotRead, Json, Refused}
 use Rattle.arrowtab.specs.declared.run_fault.RunFault.{RunFault}
-use Rattle.arrowtab.specs.declared.run_fault.RunFault.TheVariants.{NoMemory, OfFile}
+use Rattle.arrowtab.specs.declared.run_fault.RunFault.TheVariants.{NoMemory, OfFile, QueryUnread, QueryRefused}
 
 all_more : {X : Type 0} (P : X → Type 0) (xs : List X) (x : X) → AllByRecursion P xs → P x → AllByRecursion P (xs ++ x ∷ [])
 all_more P [] x all p = (p, tt)
@@ -72,7 +72,7 @@ module _ {S : Type 0} where
   -- what a source's fault was explained by, over all sources
   pub explained : (remaining : S → Option (List ℕ)) (failures : S → ℕ) (olds sources : List S) (files : List File) (n : ℕ) (d new : S) (fault : RunFault) → ReadSoFar remaining olds sources files n
       → n < length olds → ExplainsSource n (remaining (get_or sources n d)) (failures (get_or sources n d)) (failures new) fault
-      → Explains (map remaining olds) (map failures olds) (map failures (set sources n new)) fault
+      → ExplainsFiles (map remaining olds) (map failures olds) (map failures (set sources n new)) fault
   explained remaining failures olds sources files n d new NoMemory so_far within why = tt
   explained remaining failures olds sources files n d new (OfFile g CannotRead) so_far within why =
       let s = get_or sources n d in
@@ -89,6 +89,8 @@ module _ {S : Type 0} where
       let at = untouched olds sources n d so_far.same so_far.rest within in
       subst (λ k. FailedFile (map remaining olds) k fault.kind fault.path) (sym why.0) (record { input = remaining s; of_file = shown_at remaining olds n s at; stands = why.1 })
   explained remaining failures olds sources files n d new (OfFile g (Refused number refusal)) so_far within why = absurd why
+  explained remaining failures olds sources files n d new (QueryUnread f) so_far within why = absurd why
+  explained remaining failures olds sources files n d new (QueryRefused f) so_far within why = absurd why
 
   -- all of them were read
   pub ReadSoFar-whole : (remaining : S → Option (List ℕ)) (olds sources : List S) (files : List File) (n : ℕ) → ReadSoFar remaining olds sources files n → length olds ≤ n → AreRead (map remaining olds) (map file_of files)

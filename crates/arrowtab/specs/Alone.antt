@@ -7,12 +7,13 @@ use Rattle.arrays.specs.Shape.{FieldShape}
 use Rattle.shared.specs.History.{History}
 use Rattle.shared.specs.Stored.{stored_fields}
 use Rattle.shared.specs.Cause.{batch_cause, difference, IsLegal}
-use Rattle.job.specs.declared.asked.Command.{Command}
-use Rattle.arrowtab.specs.Output.{output}
 use Rattle.shared.specs.declared.refusal.Refusal.{Refusal}
 use Rattle.arrowtab.specs.declared.run_fault.FileFault.TheVariants.{CannotRead, Json, Refused}
 use Rattle.arrowtab.specs.declared.run_fault.RunFault.{RunFault}
-use Rattle.arrowtab.specs.declared.run_fault.RunFault.TheVariants.{NoMemory, OfFile}
+use Rattle.arrowtab.specs.declared.run_fault.RunFault.TheVariants.{NoMemory, OfFile, QueryUnread, QueryRefused}
+use Rattle.arrowtab.specs.declared.wanted.Wanted.{Wanted}
+use Rattle.arrowtab.specs.Wanted.{PrintsWanted, RefusesWanted}
+use Rattle.query.specs.declared.fault.QueryFault.{QueryFault}
 
 -- Worker 0 adds the batches, one after the other.
 abbrev pub alone : List Batch → History
@@ -48,6 +49,8 @@ StopsBatch fields h file number b (OfFile f CannotRead) = ⊥
 StopsBatch fields h file number b (OfFile f (Json fault)) = ⊥
 StopsBatch fields h file number b (OfFile f (Refused place refusal)) =
     (f ≡ file) × (place ≡ number) × IsLegal fields h × (batch_cause fields h b ≡ Some refusal)
+StopsBatch fields h file number b (QueryUnread f) = ⊥
+StopsBatch fields h file number b (QueryRefused f) = ⊥
 
 -- The fault of adding the batches of one file after a history.
 abbrev pub StopsFile : List FieldShape → History → ℕ → List Batch → RunFault → Type 0
@@ -55,6 +58,8 @@ StopsFile fields h file batches NoMemory = ⊤
 StopsFile fields h file batches (OfFile f CannotRead) = ⊥
 StopsFile fields h file batches (OfFile f (Json fault)) = ⊥
 StopsFile fields h file batches (OfFile f (Refused number refusal)) = (f ≡ file) × IsRefused fields h batches number refusal
+StopsFile fields h file batches (QueryUnread f) = ⊥
+StopsFile fields h file batches (QueryRefused f) = ⊥
 
 -- A cause stands for a batch of one of the files, with the files before it added.
 pub record IsRefusedIn (fields : List FieldShape) (files : List File) (number place : ℕ) (refusal : Refusal) : Type 0 where
@@ -71,9 +76,27 @@ Stops fields files NoMemory = ⊤
 Stops fields files (OfFile f CannotRead) = ⊥
 Stops fields files (OfFile f (Json fault)) = ⊥
 Stops fields files (OfFile f (Refused number refusal)) = IsRefusedIn fields files f number refusal
+Stops fields files (QueryUnread f) = ⊥
+Stops fields files (QueryRefused f) = ⊥
 
--- The text is the command's output for the files' batches, of a legal history.
-pub record Shows (command : Command) (fields : List FieldShape) (files : List File) (printed : List ℕ) : Type 0 where
+-- The files' batches are all added, to a legal history.
+pub record IsWhole (fields : List FieldShape) (files : List File) : Type 0 where
   pub alike : AllByRecursion (λ f. AreAlike fields f.batches) files
   pub legal : IsLegal fields (alone (batches_in files))
-  pub text : printed ≡ output command 1 fields (alone (batches_in files))
+
+-- The text is what is wanted of the files' batches.
+pub record Shows (wanted : Wanted) (fields : List FieldShape) (files : List File) (printed : List ℕ) : Type 0 where
+  pub whole : IsWhole fields files
+  pub prints : PrintsWanted wanted 1 fields (alone (batches_in files)) printed
+
+-- The query that is wanted is refused over the files' batches.
+pub record IsRefusedOver (wanted : Wanted) (fields : List FieldShape) (files : List File) (fault : QueryFault) : Type 0 where
+  pub whole : IsWhole fields files
+  pub refused : RefusesWanted wanted fields (alone (batches_in files)) fault
+
+-- The fault of adding the files, or of printing what is wanted of them.
+abbrev pub StopsWanted : Wanted → List FieldShape → List File → RunFault → Type 0
+StopsWanted wanted fields files NoMemory = ⊤
+StopsWanted wanted fields files (OfFile f fault) = Stops fields files (OfFile f fault)
+StopsWanted wanted fields files (QueryUnread f) = ⊥
+StopsWanted wanted fields files (QueryRefused f) = IsRefusedOver wanted fields files f

@@ -1,11 +1,12 @@
 -- Why there is no output.
 use Rattle.std.specs.Prelude.{◌≡◌, ℕ, ◌<◌, List, Option, IfSome, ⊤}
-use Rattle.arrowtab.specs.Run.{FailedFile, FailedRead, Inputs, Refuses}
+use Rattle.arrowtab.specs.Run.{FailedFile, FailedQuery, FailedRead, Inputs, Refuses, RefusesQuery}
 use Rattle.arrow_json.specs.JsonFile.{BytesFault}
+use Rattle.job.specs.declared.asked.Command.{Command}
 use Rattle.arrowtab.specs.declared.run_fault.FileFault.{FileFault}
 use Rattle.arrowtab.specs.declared.run_fault.FileFault.TheVariants.{CannotRead, Json, Refused}
 use Rattle.arrowtab.specs.declared.run_fault.RunFault.{RunFault}
-use Rattle.arrowtab.specs.declared.run_fault.RunFault.TheVariants.{NoMemory, OfFile}
+use Rattle.arrowtab.specs.declared.run_fault.RunFault.TheVariants.{NoMemory, OfFile, QueryUnread, QueryRefused}
 
 -- The cause of a file's fault: a failure of its source in this call, a fault of its bytes, a refusal of one of its batches.
 abbrev pub ExplainsFile : Inputs → List ℕ → List ℕ → ℕ → FileFault → Type 0
@@ -13,9 +14,19 @@ ExplainsFile inputs before after file CannotRead = FailedRead before after file
 ExplainsFile inputs before after file (Json f) = FailedFile inputs file f.kind f.path
 ExplainsFile inputs before after file (Refused number refusal) = Refuses inputs file number refusal
 
-abbrev pub Explains : Inputs → List ℕ → List ℕ → RunFault → Type 0
-Explains inputs before after NoMemory = ⊤
-Explains inputs before after (OfFile file fault) = ExplainsFile inputs before after file fault
+-- The cause of a fault of the files alone.
+abbrev pub ExplainsFiles : Inputs → List ℕ → List ℕ → RunFault → Type 0
+ExplainsFiles inputs before after NoMemory = ⊤
+ExplainsFiles inputs before after (OfFile file fault) = ExplainsFile inputs before after file fault
+ExplainsFiles inputs before after (QueryUnread f) = ⊥
+ExplainsFiles inputs before after (QueryRefused f) = ⊥
+
+-- The cause of a fault: of a file, of the query's bytes, or of the query over the files' table.
+abbrev pub Explains : Command → Inputs → List ℕ → List ℕ → RunFault → Type 0
+Explains command inputs before after NoMemory = ⊤
+Explains command inputs before after (OfFile file fault) = ExplainsFile inputs before after file fault
+Explains command inputs before after (QueryUnread f) = FailedQuery command f.kind f.path
+Explains command inputs before after (QueryRefused f) = RefusesQuery command inputs f
 
 -- The same of one source, by its number.
 abbrev pub ExplainsSource : ℕ → Option (List ℕ) → ℕ → ℕ → RunFault → Type 0
@@ -23,3 +34,5 @@ ExplainsSource number input failed failures NoMemory = ⊤
 ExplainsSource number input failed failures (OfFile file CannotRead) = (file ≡ number) × (failed < failures)
 ExplainsSource number input failed failures (OfFile file (Json f)) = (file ≡ number) × IfSome input (λ bytes. BytesFault bytes f.kind f.path)
 ExplainsSource number input failed failures (OfFile file (Refused place refusal)) = ⊥
+ExplainsSource number input failed failures (QueryUnread f) = ⊥
+ExplainsSource number input failed failures (QueryRefused f) = ⊥

@@ -2,10 +2,13 @@
 pub mod Plan
 pub mod RefusalText
 pub mod Shown
+pub mod GroupLines
+pub mod Queried
 pub mod Output
 pub mod Loaded
 pub mod Lines
 pub mod Told
 pub mod Run
 pub mod Explained
+pub mod Wanted
 pub mod Alone

@@ -14,5 +14,8 @@ unread_line name = message (name ++ codes ": cannot be read")
 abbrev pub file_line : List ℕ → JsonFaultKind → List Step → List ℕ
 file_line name kind path = message (name ++ codes ": " ++ fault_text kind path)
 
+abbrev pub query_line : List ℕ → List ℕ
+query_line what = message (codes "query: " ++ what)
+
 abbrev pub refusal_line : List ℕ → ℕ → Refusal → List ℕ
 refusal_line name number refusal = message (name ++ codes ": batch " ++ decimal number ++ codes ": " ++ refusal_text refusal)

@@ -1,5 +1,5 @@
 -- What the program writes, and why it refuses: stated over the bytes that its sources tell.
-use Rattle.std.specs.Prelude.{◌≡◌, ◌<◌, ◌∷◌, ℕ, List, [], map, Option, Some, IfSome, slice_get}
+use Rattle.std.specs.Prelude.{◌≡◌, ◌<◌, ◌∷◌, ℕ, List, [], map, Option, Some, IfSome, slice_get, string_bytes}
 use Rattle.std.specs.List.{AllZip}
 use Rattle.std.specs.Io.KnownBytes.{Appends, Keeps}
 use Rattle.ends.specs.Line.{memory_line, output_line}
@@ -8,10 +8,15 @@ use Rattle.arrays.specs.Shape.{FieldShape}
 use Rattle.shared.specs.History.{History}
 use Rattle.shared.specs.Stored.{stored_fields}
 use Rattle.job.specs.declared.asked.Command.{Command}
-use Rattle.arrowtab.specs.Output.{output}
-use Rattle.arrowtab.specs.Lines.{unread_line, file_line, refusal_line}
+use Rattle.job.specs.declared.asked.Command.TheVariants.{Stats, Export, Query}
+use Rattle.query.specs.FaultText.{query_fault_text}
+use Rattle.query.specs.declared.fault.QueryFault.{QueryFault}
+use Rattle.query_json.specs.QueryAskedFault.{QueryBytesFault}
+use Rattle.arrowtab.specs.Output.{Prints, PrintsNothing}
+use Rattle.arrowtab.specs.Lines.{unread_line, file_line, query_line, refusal_line}
 use Rattle.arrowtab.specs.Loaded.{IsLoaded, IsStopped, batches_of}
 use Rattle.arrow_json.specs.JsonFile.{Reads, BytesFault}
+use Rattle.json_places.specs.JsonFaultText.{fault_text}
 use Rattle.json_places.specs.JsonTable.{FileData}
 use Rattle.shared.specs.declared.refusal.Refusal.{Refusal}
 use Rattle.json_places.specs.declared.path.Step.{Step}
@@ -37,13 +42,27 @@ pub record Answers (command : Command) (inputs : Inputs) (text : List ℕ) : Typ
   pub read : AreRead inputs files
   pub history : History
   pub loaded : IsLoaded 1 (map batches_of files) (table_fields files) history
-  pub shows : text ≡ output command 1 (table_fields files) history
+  pub prints : Prints command 1 (table_fields files) history text
 
 -- The sources' bytes are read, and a cause stands for a batch of a file, after those before it.
 pub record Refuses (inputs : Inputs) (file number : ℕ) (refusal : Refusal) : Type 0 where
   pub files : List FileData
   pub read : AreRead inputs files
   pub stopped : IsStopped 1 (map batches_of files) (table_fields files) file number refusal
+
+-- The command's query isn't read: this fault of its bytes stands.
+abbrev pub FailedQuery : Command → JsonFaultKind → List Step → Type 0
+FailedQuery Stats kind path = ⊥
+FailedQuery Export kind path = ⊥
+FailedQuery (Query bytes) kind path = QueryBytesFault (string_bytes bytes) kind path
+
+-- The files of these sources are loaded as for an answer, and the command's query is refused over their table.
+pub record RefusesQuery (command : Command) (inputs : Inputs) (fault : QueryFault) : Type 0 where
+  pub files : List FileData
+  pub read : AreRead inputs files
+  pub history : History
+  pub loaded : IsLoaded 1 (map batches_of files) (table_fields files) history
+  pub refused : PrintsNothing command (table_fields files) history fault
 
 -- ---- a run, where its ends tell their bytes. An end that doesn't tell them is none here.
 
@@ -71,15 +90,19 @@ pub record FailedFile (inputs : Inputs) (file : ℕ) (kind : JsonFaultKind) (pat
   pub stands : IfSome input (λ bytes. BytesFault bytes kind path)
 
 -- Why a run ends with status 1, and the line that the error sink then took.
-pub data Excuse (names : List (List ℕ)) (inputs : Inputs) (before after : List ℕ) (out_old out_new err_old err_new : ℕ) (old new : Option (List ℕ)) : Type 0 where
+pub data Excuse (command : Command) (names : List (List ℕ)) (inputs : Inputs) (before after : List ℕ) (out_old out_new err_old err_new : ℕ) (old new : Option (List ℕ)) : Type 0 where
   -- the error sink failed
-  error_failed : err_old < err_new → Excuse names inputs before after out_old out_new err_old err_new old new
+  error_failed : err_old < err_new → Excuse command names inputs before after out_old out_new err_old err_new old new
   -- the output can't be this: its line takes no memory
-  no_memory : out_new ≡ out_old → Appends old new memory_line → Excuse names inputs before after out_old out_new err_old err_new old new
-  output_failed : out_old < out_new → Appends old new output_line → Excuse names inputs before after out_old out_new err_old err_new old new
+  no_memory : out_new ≡ out_old → Appends old new memory_line → Excuse command names inputs before after out_old out_new err_old err_new old new
+  output_failed : out_old < out_new → Appends old new output_line → Excuse command names inputs before after out_old out_new err_old err_new old new
   source_failed : (file : ℕ) (name : List ℕ) → slice_get names file ≡ Some name → FailedRead before after file
-      → Appends old new (unread_line name) → Excuse names inputs before after out_old out_new err_old err_new old new
+      → Appends old new (unread_line name) → Excuse command names inputs before after out_old out_new err_old err_new old new
   not_read : (file : ℕ) (name : List ℕ) (kind : JsonFaultKind) (path : List Step) → slice_get names file ≡ Some name → FailedFile inputs file kind path
-      → Appends old new (file_line name kind path) → Excuse names inputs before after out_old out_new err_old err_new old new
+      → Appends old new (file_line name kind path) → Excuse command names inputs before after out_old out_new err_old err_new old new
   refused : (file number : ℕ) (name : List ℕ) (refusal : Refusal) → slice_get names file ≡ Some name → Refuses inputs file number refusal
-      → Appends old new (refusal_line name number refusal) → Excuse names inputs before after out_old out_new err_old err_new old new
+      → Appends old new (refusal_line name number refusal) → Excuse command names inputs before after out_old out_new err_old err_new old new
+  query_not_read : (kind : JsonFaultKind) (path : List Step) → FailedQuery command kind path
+      → Appends old new (query_line (fault_text kind path)) → Excuse command names inputs before after out_old out_new err_old err_new old new
+  query_refused : (fault : QueryFault) → RefusesQuery command inputs fault
+      → Appends old new (query_line (query_fault_text fault)) → Excuse command names inputs before after out_old out_new err_old err_new old new

@@ -1,22 +1,22 @@
 //! The program over any sources and any two sinks.
 ghost use Rattle.std.specs.Prelude.{◌≡◌, ◌^◌, ◌-◌, ◌<◌, All, length, map};
 ghost use Rattle.arrowtab.specs.Run.{Excuse, Wrote, WroteFront};
-ghost use Rattle.arrowtab.specs.Told.{IsOfFile, TookFault};
 ghost use Rattle.job.specs.Asked.{names_of};
 
 use crate::answer::answer;
-use crate::run_fault::RunFault;
 use crate::tell::tell;
-use ends::{Sink, Source, tell_memory, tell_output, write_whole};
+use ends::{Sink, Source, tell_output, write_whole};
 use job::Job;
 use std::alloc::Global;
+use std::thread::Threads;
 
-/// Does the job: reads all sources in order, loads their files, writes the output, and answers the status: 0 where
-/// all of the output was written, 1 where a fault was told to `err` instead.
+/// Does the job: reads its query, where it has one, and then all sources in order, loads their files, writes the output, and
+/// answers the status: 0 where all of the output was written, 1 where a fault was told to `err` instead.
 ///
 /// Nothing goes to `out` before the whole answer is there. Where the ends tell their bytes, the
 /// contract says which they are; the count of failures of each end is to have room for one more.
-pub fn run<S: Source, O: Sink, E: Sink>(
+pub fn run<T: Threads + Sync, S: Source, O: Sink, E: Sink>(
+    threads: &T,
     alloc: Global,
     job: &Job,
     sources: &mut [S],
@@ -40,12 +40,12 @@ pub fn run<S: Source, O: Sink, E: Sink>(
         (O.taken out.old) (O.taken out.new) (O.failures out.old) (O.failures out.new) }
 
     // .. and there is a cause, whose line the error sink took.
-    ensures excused { result ≡ 1 → Excuse (names_of job.now.names.items) (map S.remaining sources.old)
+    ensures excused { result ≡ 1 → Excuse job.now.command (names_of job.now.names.items) (map S.remaining sources.old)
         (map S.failures sources.old) (map S.failures sources.new)
         (O.failures out.old) (O.failures out.new) (E.failures err.old) (E.failures err.new)
         (E.taken err.old) (E.taken err.new) }
 {
-    match answer(alloc, job.command, sources) {
+    match answer(threads, alloc, &job.command, sources) {
         Ok(text) => match write_whole(out, text.as_bytes()) {
             Ok(()) => 0,
             Err(_) => {
@@ -54,21 +54,8 @@ pub fn run<S: Source, O: Sink, E: Sink>(
             }
         },
         Err(fault) => {
-            tell_fault(alloc, &job.names, &fault, err);
+            tell(alloc, &job.names, &fault, err);
             1
         }
-    }
-}
-
-/// Writes the line of a fault, with the name of its file.
-fn tell_fault<E: Sink>(alloc: Global, names: &[String], fault: &RunFault, err: &mut E)
-    requires named { IsOfFile (length names.now) fault.now }
-    requires room { E.failures err.old < 2 ^ 64 - 1 }
-    ensures { TookFault (names_of names.now) fault.now (E.failures err.old) (E.failures err.new)
-        (E.taken err.old) (E.taken err.new) }
-{
-    match fault {
-        RunFault::NoMemory => tell_memory(err),
-        RunFault::OfFile { file, fault } => tell(alloc, names[*file].as_str(), fault, err),
     }
 }

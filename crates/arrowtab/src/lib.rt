@@ -4,6 +4,8 @@
 
 mod answer;
 mod export;
+mod group_lines;
+mod groups;
 mod invocation;
 mod load;
 mod reading;
@@ -12,6 +14,7 @@ mod report;
 mod run_fault;
 mod tell;
 mod text;
+mod wanted;
 
 pub use arrow_json::{JsonFault, JsonFaultKind, Member, Path, Step, fault_text};
 pub use ends::{

@@ -2,7 +2,7 @@
 ghost use Rattle.std.specs.Prelude.{◌≡◌, ◌^◌, ◌-◌, ◌<◌, All, IfErr, IfOk, IfSome, map};
 ghost use Rattle.std.specs.List.{AllByRecursion};
 ghost use Rattle.arrow_json.specs.JsonFile.{AreUnder, Reads, file_of};
-ghost use Rattle.arrowtab.specs.Explained.{Explains, ExplainsSource};
+ghost use Rattle.arrowtab.specs.Explained.{ExplainsFiles, ExplainsSource};
 ghost use Rattle.arrowtab.specs.Run.{AreRead};
 
 use crate::run_fault::{FileFault, RunFault};
@@ -16,7 +16,7 @@ pub(crate) fn read_files<S: Source>(alloc: Global, sources: &mut [S]) -> Result<
     requires { All (λ s. S.failures s < 2 ^ 64 - 1) sources.old }
     ensures read { IfOk result (λ files. AreRead (map S.remaining sources.old) (map file_of files.items)) }
     ensures under { IfOk result (λ files. AllByRecursion (λ f. AreUnder f.fields f.batches) files.items) }
-    ensures err { IfErr result (Explains (map S.remaining sources.old) (map S.failures sources.old) (map S.failures sources.new)) }
+    ensures err { IfErr result (ExplainsFiles (map S.remaining sources.old) (map S.failures sources.old) (map S.failures sources.new)) }
 {
     let mut files = Vec::new(alloc);
     for number in 0..sources.len() {

@@ -1,5 +1,6 @@
 use arrow_json::JsonFault;
 use colbits::NoMemory;
+use query::QueryFault;
 use shared::Refusal;
 use std::alloc::AllocFailed;
 
@@ -9,6 +10,10 @@ pub(crate) enum RunFault {
     NoMemory,
     /// A fault of the file at this place.
     OfFile { file: usize, fault: FileFault },
+    /// The query isn't read.
+    QueryUnread(JsonFault),
+    /// The query is refused over the table.
+    QueryRefused(QueryFault),
 }
 
 /// Why a file can't be loaded.

@@ -1,18 +1,49 @@
 //! Faults as lines on the error sink.
-ghost use Rattle.std.specs.Prelude.{◌≡◌, ◌^◌, ◌-◌, ◌<◌, IfOk, string_bytes};
-ghost use Rattle.arrowtab.specs.Lines.{unread_line, file_line, refusal_line};
-ghost use Rattle.arrowtab.specs.Told.{TookBuilt, fault_line};
+ghost use Rattle.std.specs.Prelude.{◌≡◌, ◌^◌, ◌-◌, ◌<◌, IfOk, length, string_bytes};
+ghost use Rattle.arrowtab.specs.Lines.{unread_line, file_line, query_line, refusal_line};
+ghost use Rattle.arrowtab.specs.Told.{IsLineOf, IsOfFile, TookFault, fault_line};
+ghost use Rattle.job.specs.Asked.{names_of};
 
 use crate::refusal::refusal_text;
-use crate::run_fault::FileFault;
+use crate::run_fault::{FileFault, RunFault};
 use arrow_json::{JsonFault, fault_text};
 use colbits::NoMemory;
 use ends::{Sink, tell_memory, write_line};
+use query::query_fault_text;
 use shared::Refusal;
 use std::alloc::Global;
 
+/// Writes the line of a fault, with the name of its file where it is one of a file, or that memory ran out where there was
+/// none for the line. A failure of the sink can't be told any more; it stands in the sink's count.
+pub(crate) fn tell<E: Sink>(alloc: Global, names: &[String], fault: &RunFault, err: &mut E)
+    requires named { IsOfFile (length names.now) fault.now }
+    requires room { E.failures err.old < 2 ^ 64 - 1 }
+    ensures { TookFault (names_of names.now) fault.now (E.failures err.old) (E.failures err.new)
+        (E.taken err.old) (E.taken err.new) }
+{
+    match line_of(alloc, names, fault) {
+        Ok(line) => write_line(line.as_bytes(), err),
+        Err(NoMemory) => tell_memory(err),
+    }
+}
+
+/// The line of a fault; that memory ran out has one that takes none.
+fn line_of(alloc: Global, names: &[String], fault: &RunFault) -> Result<String, NoMemory>
+    requires { IsOfFile (length names.now) fault.now }
+    ensures { IfOk result (λ text. IsLineOf (names_of names.now) fault.now (string_bytes text)) }
+{
+    match fault {
+        RunFault::NoMemory => Err(NoMemory),
+        RunFault::OfFile { file, fault } => fault_line(alloc, names[*file].as_str(), fault),
+        RunFault::QueryUnread(fault) => query_line(alloc, fault_text(alloc, fault)?.as_str()),
+        RunFault::QueryRefused(fault) => {
+            query_line(alloc, query_fault_text(alloc, *fault)?.as_str())
+        }
+    }
+}
+
 /// The line of a file's fault.
-fn line_of(alloc: Global, name: &str, fault: &FileFault) -> Result<String, NoMemory>
+fn fault_line(alloc: Global, name: &str, fault: &FileFault) -> Result<String, NoMemory>
     ensures { IfOk result (λ text. string_bytes text ≡ fault_line name.now fault.now) }
 {
     match fault {
@@ -63,15 +94,12 @@ fn refusal_line(
     Ok(text)
 }
 
-/// Writes the line of a file's fault, or that memory ran out where there was none for the line. A failure of
-/// the sink can't be told any more; it stands in the sink's count.
-pub(crate) fn tell<E: Sink>(alloc: Global, name: &str, fault: &FileFault, err: &mut E)
-    requires { E.failures err.old < 2 ^ 64 - 1 }
-    ensures { TookBuilt (fault_line name.now fault.now) (E.failures err.old) (E.failures err.new)
-        (E.taken err.old) (E.taken err.new) }
+/// The line that says what is wrong with the query.
+fn query_line(alloc: Global, what: &str) -> Result<String, NoMemory>
+    ensures { IfOk result (λ text. string_bytes text ≡ query_line what.now) }
 {
-    match line_of(alloc, name, fault) {
-        Ok(line) => write_line(line.as_bytes(), err),
-        Err(NoMemory) => tell_memory(err),
-    }
+    let mut text = String::from_str(alloc, "arrowtab: query: ")?;
+    text.push_str(what)?;
+    text.push_str("\n")?;
+    Ok(text)
 }

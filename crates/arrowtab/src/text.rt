@@ -3,7 +3,7 @@ ghost use Rattle.std.specs.Prelude.{◌≡◌, ◌++◌, OnOk, IfOk, option_map,
 ghost use Rattle.types.specs.Kind.{kind_of};
 ghost use Rattle.group.specs.Summary.{scalar_item};
 ghost use Rattle.json.specs.Print.{quoted};
-ghost use Rattle.arrowtab.specs.Shown.{column_line, kind_name, rows_line, sum_text, type_name, value_text, worker_line};
+ghost use Rattle.arrowtab.specs.Shown.{cell, column_line, kind_name, rows_line, sum_text, type_name, value_text, worker_line};
 
 use arrays::{DataType, IntType, Width};
 use colbits::NoMemory;
@@ -112,12 +112,25 @@ fn push_value(alloc: Global, text: &mut String, value: &Option<Scalar>) -> Resul
 {
     match value {
         None => text.push_str("-"),
-        Some(Scalar::Int(number)) => {
+        Some(scalar) => push_scalar(alloc, text, scalar),
+    }
+}
+
+/// Adds a value.
+pub(crate) fn push_scalar(
+    alloc: Global,
+    text: &mut String,
+    value: &Scalar,
+) -> Result<(), AllocError>
+    ensures { OnOk result (string_bytes text.new ≡ string_bytes text.old ++ cell (scalar_item value.now)) }
+{
+    match value {
+        Scalar::Int(number) => {
             write!(text, "{number}")?;
             Ok(())
         }
-        Some(Scalar::Bool(truth)) => text.push_str(if *truth { "true" } else { "false" }),
-        Some(Scalar::Text(value)) => {
+        Scalar::Bool(truth) => text.push_str(if *truth { "true" } else { "false" }),
+        Scalar::Text(value) => {
             let value = quoted(alloc, value.as_str())?;
             text.push_str(value.as_str())
         }

@@ -1,6 +1,7 @@
-//! `arrowtab stats FILE..` prints the statistics of the columns of Arrow integration JSON files.
+//! `arrowtab stats FILE..` prints the statistics of the columns of Arrow integration JSON files, `arrowtab export FILE..` the
+//! table that they are, and `arrowtab query --query QUERY FILE..` what a query asks of it.
 //!
-//! It ends with status 0 where all of them were written, 1 where a fault was told on standard error
+//! It ends with status 0 where all of that was written, 1 where a fault was told on standard error
 //! instead, and 2 where its arguments are others. `arrowtab --help` tells what it takes.
 #![tactic(auto)]
 
@@ -16,6 +17,7 @@ use output::OutputSink;
 use std::alloc::AllocError;
 use std::io::ErrorKind;
 use std::process::ExitCode;
+use std::thread::Threads;
 use std::{env, io};
 
 // The job that the words of the command line ask for. Words that are no text ask for none.
@@ -60,8 +62,8 @@ fn sources_of<'a>(
     Ok(sources)
 }
 
-// Does the job, and answers the status.
-fn done(rt: &HostRuntime, job: &Job) -> u8
+// Does the job, in threads of this handle, and answers the status.
+fn done<T: Threads + Sync>(threads: &T, rt: &HostRuntime, job: &Job) -> u8
     requires { IsReady job.now }
 {
     let Ok(mut sources) = sources_of(rt, &job.names) else {
@@ -70,7 +72,14 @@ fn done(rt: &HostRuntime, job: &Job) -> u8
     let errors = rt.stderr();
     let mut out = OutputSink::new(io::writer(rt));
     let mut err = OutputSink::new(io::writer(&errors));
-    run(rt.alloc(), job, sources.as_mut_slice(), &mut out, &mut err)
+    run(
+        threads,
+        rt.alloc(),
+        job,
+        sources.as_mut_slice(),
+        &mut out,
+        &mut err,
+    )
 }
 
 // Prints why there is no job, and answers the status.
@@ -83,7 +92,7 @@ fn told(rt: &HostRuntime, fault: &JobFault) -> u8 {
 
 fn main(rt: HostRuntime) -> ExitCode {
     let status = match asked(&rt) {
-        Ok(job) => done(&rt, &job),
+        Ok(job) => done(&rt, &rt, &job),
         Err(fault) => told(&rt, &fault),
     };
     ExitCode::from(status)

@@ -1,15 +1,20 @@
 use Rattle.std.proofs.Common.{arith, map, string_bytes}
 use Rattle.std.proofs.lemmas.List.{length-map}
-use Rattle.arrowtab.proofs.AnswerLemmas.{err_explains, ok_answers, some_files}
+use Rattle.arrowtab.proofs.AnswerLemmas.{err_explains, files_explain, ok_answers, some_files}
 use Rattle.arrowtab.proofs.answer.answer.Goals as goal
 
-pub answer_files-requires : goal.answer_files-requires
-answer_files-requires g c =
+pub answer_files-requires-clause-some : goal.answer_files-requires-clause-some
+answer_files-requires-clause-some g c =
     let inputs = map g.S.Source.remaining c.args.sources.now in
-    omega (arith, some_files inputs c.in-Ok.files.items c.in-Ok.ensures.read, length-map c.args.sources.now g.S.Source.remaining, c.requires.some)
-
-pub returns-in-Ok-clause-ok : goal.returns-in-Ok-clause-ok
-returns-in-Ok-clause-ok g c = ok_answers c.args.command _ c.in-Ok.files.items c.answer_files.result string_bytes c.in-Ok.ensures.read c.in-Ok.ensures.under c.answer_files.ensures.ok
+    omega (arith, some_files inputs c.in-Ok-read_files.files.items c.in-Ok-read_files.ensures.read, length-map c.args.sources.now g.S.Source.remaining, c.requires.some)
 
 pub returns-in-Ok-clause-err : goal.returns-in-Ok-clause-err
-returns-in-Ok-clause-err g c = err_explains _ _ _ c.in-Ok.files.items c.answer_files.result c.in-Ok.ensures.read c.in-Ok.ensures.under c.answer_files.ensures.err
+returns-in-Ok-clause-err g c = files_explain c.args.command.now _ _ _ c.in-Err-read_files.fault c.in-Err-read_files.ensures.err
+
+pub returns-in-Ok-read_files-clause-ok : goal.returns-in-Ok-read_files-clause-ok
+returns-in-Ok-read_files-clause-ok g c =
+    ok_answers c.args.command.now c.in-Ok.wanted _ c.in-Ok-read_files.files.items c.answer_files.result string_bytes c.in-Ok-read_files.ensures.read c.in-Ok-read_files.ensures.under c.in-Ok.ensures.ok c.answer_files.ensures.ok
+
+pub returns-in-Ok-read_files-clause-err : goal.returns-in-Ok-read_files-clause-err
+returns-in-Ok-read_files-clause-err g c =
+    err_explains c.args.command.now c.in-Ok.wanted _ _ _ c.in-Ok-read_files.files.items c.answer_files.result c.in-Ok-read_files.ensures.read c.in-Ok-read_files.ensures.under c.in-Ok.ensures.ok c.answer_files.ensures.err

@@ -1,0 +1,60 @@
+//! The output of `query`.
+ghost use Rattle.std.specs.Prelude.{◌≡◌, ◌≤◌, IfErr, IfOk, string_bytes, true};
+ghost use Rattle.arrowtab.specs.Queried.{PrintsGroups, PrintsPlaced};
+ghost use Rattle.arrowtab.specs.Wanted.{IsUnanswered, IsUnplaced};
+ghost use Rattle.query.specs.Asked.{asked};
+ghost use Rattle.query.specs.Fault.{fits};
+ghost use Rattle.query.specs.Resolved.{named};
+
+use crate::group_lines::group_lines;
+use crate::run_fault::RunFault;
+use answers::OpenGate;
+use query::{Query, QueryFault, QueryText, resolve};
+use shared::Version;
+use std::alloc::Global;
+use std::thread::Threads;
+
+/// What `query` prints for a version of the table, whose rows are looked at in so many pieces.
+pub(crate) fn groups_text<T: Threads + Sync>(
+    threads: &T,
+    alloc: Global,
+    query: &QueryText,
+    pieces: u32,
+    version: &Version,
+) -> Result<String, RunFault>
+    requires some { 1 ≤ pieces }
+    requires most { pieces ≤ 64 }
+    ensures output { IfOk result (λ text. PrintsGroups (named query.now) version.now.fields version.now.history (string_bytes text)) }
+    ensures err { IfErr result (IsUnanswered (named query.now) version.now.fields version.now.history) }
+{
+    match resolve(alloc, query, version.schema()) {
+        Ok(placed) => placed_text(threads, alloc, &placed, pieces, version),
+        Err(fault) => match fault {
+            QueryFault::NoMemory => Err(RunFault::NoMemory),
+            _ => Err(RunFault::QueryRefused(fault)),
+        },
+    }
+}
+
+/// The same for a query by positions.
+fn placed_text<T: Threads + Sync>(
+    threads: &T,
+    alloc: Global,
+    query: &Query,
+    pieces: u32,
+    version: &Version,
+) -> Result<String, RunFault>
+    requires fits { fits version.now.fields (asked query.now) ≡ true }
+    requires some { 1 ≤ pieces }
+    requires most { pieces ≤ 64 }
+    ensures output { IfOk result (λ text. PrintsPlaced (asked query.now) version.now.fields version.now.history (string_bytes text)) }
+    ensures err { IfErr result (IsUnplaced (asked query.now) version.now.fields version.now.history) }
+{
+    match version.answer(threads, alloc, query, pieces, &OpenGate) {
+        Ok(answer) => Ok(group_lines(alloc, &answer)?),
+        Err(fault) => match fault {
+            QueryFault::NoMemory => Err(RunFault::NoMemory),
+            _ => Err(RunFault::QueryRefused(fault)),
+        },
+    }
+}
