@@ -2,6 +2,7 @@
 
 mod bytes;
 mod exports;
+mod queries;
 mod runs;
 mod several;
 mod words;

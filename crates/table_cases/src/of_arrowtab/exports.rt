@@ -6,6 +6,7 @@ use arrowtab::{Command, Job, run};
 use std::alloc::{AllocError, Global};
 use std::process::Abort;
 use std::test::Fail;
+use std::thread::Threads;
 
 /// A file of the three numbers 9223372036854775807, null and -1.
 const NUMBERS: &str =
@@ -91,19 +92,28 @@ fn source(alloc: Global, text: &[u8]) -> Result<MemorySource, AllocError>
 }
 
 /// Runs `export A` from this source.
-fn ran_one(alloc: Global, source: MemorySource) -> Result<Outcome, AllocError>
+fn ran_one(
+    threads: &(impl Threads + Sync),
+    alloc: Global,
+    source: MemorySource,
+) -> Result<Outcome, AllocError>
     requires { source.failures < 2 ^ 64 - 1 }
 {
     let job = job_of_one(alloc)?;
     let mut sources = [source];
     let mut out = MemorySink::new(alloc);
     let mut err = MemorySink::new(alloc);
-    let status = run(alloc, &job, &mut sources, &mut out, &mut err);
+    let status = run(threads, alloc, &job, &mut sources, &mut out, &mut err);
     Ok(Outcome { status, out, err })
 }
 
 /// Runs `export A B` from these sources.
-fn ran_two(alloc: Global, first: MemorySource, second: MemorySource) -> Result<Outcome, AllocError>
+fn ran_two(
+    threads: &(impl Threads + Sync),
+    alloc: Global,
+    first: MemorySource,
+    second: MemorySource,
+) -> Result<Outcome, AllocError>
     requires first { first.failures < 2 ^ 64 - 1 }
     requires second { second.failures < 2 ^ 64 - 1 }
 {
@@ -111,7 +121,7 @@ fn ran_two(alloc: Global, first: MemorySource, second: MemorySource) -> Result<O
     let mut sources = [first, second];
     let mut out = MemorySink::new(alloc);
     let mut err = MemorySink::new(alloc);
-    let status = run(alloc, &job, &mut sources, &mut out, &mut err);
+    let status = run(threads, alloc, &job, &mut sources, &mut out, &mut err);
     Ok(Outcome { status, out, err })
 }
 
@@ -129,10 +139,15 @@ fn assert_printed(rt: &impl Abort, came: &Outcome, wanted: &str) {
 }
 
 /// Asserts what is exported, and that this is exported as it is.
-fn expect(rt: &impl Abort, alloc: Global, text: &str, wanted: &str) -> Result<(), Fail> {
-    let came = ran_one(alloc, source(alloc, text.as_bytes())?)?;
+fn expect(
+    rt: &(impl Abort + Threads + Sync),
+    alloc: Global,
+    text: &str,
+    wanted: &str,
+) -> Result<(), Fail> {
+    let came = ran_one(rt, alloc, source(alloc, text.as_bytes())?)?;
     assert_printed(rt, &came, wanted);
-    let again = ran_one(alloc, source(alloc, wanted.as_bytes())?)?;
+    let again = ran_one(rt, alloc, source(alloc, wanted.as_bytes())?)?;
     assert_printed(rt, &again, wanted);
     Ok(())
 }
@@ -163,7 +178,7 @@ const BOTH_OUT: &str =
 fn exports_two_files_as_one(rt: HostRuntime) -> Result<(), Fail> {
     let first = source(rt.alloc(), TEXTS.as_bytes())?;
     let second = source(rt.alloc(), MORE.as_bytes())?;
-    let came = ran_two(rt.alloc(), first, second)?;
+    let came = ran_two(&rt, rt.alloc(), first, second)?;
     assert_printed(&rt, &came, BOTH_OUT);
     Ok(())
 }

@@ -6,6 +6,7 @@ use arrowtab::{Command, Job, run};
 use std::alloc::{AllocError, Global};
 use std::process::Abort;
 use std::test::Fail;
+use std::thread::Threads;
 
 /// A file of the three numbers 9223372036854775807, null and -1.
 const FILE: &str =
@@ -36,7 +37,12 @@ fn job(alloc: Global) -> Result<Job, AllocError>
 }
 
 /// Runs `stats A` from this source to this output.
-fn ran(alloc: Global, source: MemorySource, out: MemorySink) -> Result<Outcome, AllocError>
+fn ran(
+    threads: &(impl Threads + Sync),
+    alloc: Global,
+    source: MemorySource,
+    out: MemorySink,
+) -> Result<Outcome, AllocError>
     requires source { source.failures < 2 ^ 64 - 1 }
     requires out { out.failures < 2 ^ 64 - 1 }
 {
@@ -44,20 +50,20 @@ fn ran(alloc: Global, source: MemorySource, out: MemorySink) -> Result<Outcome, 
     let mut sources = [source];
     let mut out = out;
     let mut err = MemorySink::new(alloc);
-    let status = run(alloc, &job, &mut sources, &mut out, &mut err);
+    let status = run(threads, alloc, &job, &mut sources, &mut out, &mut err);
     Ok(Outcome { status, out, err })
 }
 
 /// Runs `stats A` over a text, and asserts what it writes, and the line of its fault.
 fn expect(
-    rt: &impl Abort,
+    rt: &(impl Abort + Threads + Sync),
     alloc: Global,
     text: &str,
     output: &str,
     line: &str,
 ) -> Result<(), Fail> {
     let source = MemorySource::new(Vec::from_slice(alloc, text.as_bytes())?);
-    let came = ran(alloc, source, MemorySink::new(alloc))?;
+    let came = ran(rt, alloc, source, MemorySink::new(alloc))?;
     assert_eq!(rt; came.err.taken(), line.as_bytes(), "for {text}");
     assert_eq!(rt; came.out.taken(), output.as_bytes(), "for {text}");
     assert_eq!(rt; came.status, u8::from(!line.is_empty()), "for {text}");
@@ -179,7 +185,7 @@ fn tells_each_cut(rt: HostRuntime) -> Result<(), Fail> {
     for size in 0..FILE.len() {
         let bytes = Vec::from_slice(rt.alloc(), &FILE.as_bytes()[..size])?;
         let source = MemorySource::new(bytes);
-        let came = ran(rt.alloc(), source, MemorySink::new(rt.alloc()))?;
+        let came = ran(&rt, rt.alloc(), source, MemorySink::new(rt.alloc()))?;
         let line = b"arrowtab: A: J1 NotJson\n";
         assert_eq!(rt; came.err.taken(), line.as_slice(), "at {size}");
         assert!(rt; came.out.taken().is_empty(), "at {size}");
@@ -204,7 +210,7 @@ fn tells_each_failed_end(rt: HostRuntime) -> Result<(), Fail> {
         let bytes = Vec::from_slice(rt.alloc(), FILE.as_bytes())?;
         let source = MemorySource::new(bytes).in_pieces(100).failing(read);
         let out = MemorySink::new(rt.alloc()).in_pieces(50).failing(write);
-        let came = ran(rt.alloc(), source, out)?;
+        let came = ran(&rt, rt.alloc(), source, out)?;
         assert_eq!(rt; came.err.taken(), line, "at {read:?} and {write:?}");
         let written = came.out.taken();
         assert!(rt; OUTPUT.as_bytes().starts_with(written), "at {write:?}");

@@ -6,6 +6,7 @@ use arrowtab::{Command, Job, run};
 use std::alloc::{AllocError, Global};
 use std::process::Abort;
 use std::test::Fail;
+use std::thread::Threads;
 
 /// A file of one column of numbers that may not be null, and of batches.
 const TEMPLATE: &str =
@@ -43,7 +44,12 @@ fn job(alloc: Global) -> Result<Job, AllocError>
 }
 
 /// Runs `stats A B` from these sources.
-fn ran(alloc: Global, first: MemorySource, second: MemorySource) -> Result<Outcome, AllocError>
+fn ran(
+    threads: &(impl Threads + Sync),
+    alloc: Global,
+    first: MemorySource,
+    second: MemorySource,
+) -> Result<Outcome, AllocError>
     requires first { first.failures < 2 ^ 64 - 1 }
     requires second { second.failures < 2 ^ 64 - 1 }
 {
@@ -51,7 +57,7 @@ fn ran(alloc: Global, first: MemorySource, second: MemorySource) -> Result<Outco
     let mut sources = [first, second];
     let mut out = MemorySink::new(alloc);
     let mut err = MemorySink::new(alloc);
-    let status = run(alloc, &job, &mut sources, &mut out, &mut err);
+    let status = run(threads, alloc, &job, &mut sources, &mut out, &mut err);
     Ok(Outcome { status, out, err })
 }
 
@@ -81,7 +87,7 @@ fn text_source(alloc: Global, text: &str) -> Result<MemorySource, AllocError>
 fn adds_the_files_in_order(rt: HostRuntime) -> Result<(), Fail> {
     let first = source(rt.alloc(), FIVE_AND_SEVEN)?;
     let second = source(rt.alloc(), MINUS_THREE)?;
-    let came = ran(rt.alloc(), first, second)?;
+    let came = ran(&rt, rt.alloc(), first, second)?;
     let output =
         "rows 3\nworker 0 calls 2 rows 3\n\"n\" int8 rows=3 nulls=0 sum=9 least=-3 greatest=7\n";
     expect(&rt, &came, output, "");
@@ -93,7 +99,7 @@ fn counts_batches_within_their_file(rt: HostRuntime) -> Result<(), Fail> {
     let batches = [MINUS_THREE, NULL].join(rt.alloc(), ",")?;
     let first = source(rt.alloc(), FIVE_AND_SEVEN)?;
     let second = source(rt.alloc(), batches.as_str())?;
-    let came = ran(rt.alloc(), first, second)?;
+    let came = ran(&rt, rt.alloc(), first, second)?;
     let line = "arrowtab: B: batch 1: A2 NullInNonNullable column=0 row=0\n";
     expect(&rt, &came, "", line);
     Ok(())
@@ -108,7 +114,7 @@ fn refuses_a_batch_of_another_schema(rt: HostRuntime) -> Result<(), Fail> {
     let text = OTHER.replace(rt.alloc(), "BATCHES", MINUS_THREE)?;
     let first = source(rt.alloc(), FIVE_AND_SEVEN)?;
     let second = text_source(rt.alloc(), text.as_str())?;
-    let came = ran(rt.alloc(), first, second)?;
+    let came = ran(&rt, rt.alloc(), first, second)?;
     let line = "arrowtab: B: batch 0: A1 SchemaDiffers column=0\n";
     expect(&rt, &came, "", line);
     Ok(())
@@ -119,7 +125,7 @@ fn takes_a_file_of_another_schema_without_batches(rt: HostRuntime) -> Result<(),
     let text = OTHER.replace(rt.alloc(), "BATCHES", "")?;
     let first = source(rt.alloc(), FIVE_AND_SEVEN)?;
     let second = text_source(rt.alloc(), text.as_str())?;
-    let came = ran(rt.alloc(), first, second)?;
+    let came = ran(&rt, rt.alloc(), first, second)?;
     let output =
         "rows 2\nworker 0 calls 1 rows 2\n\"n\" int8 rows=2 nulls=0 sum=12 least=5 greatest=7\n";
     expect(&rt, &came, output, "");
@@ -130,7 +136,7 @@ fn takes_a_file_of_another_schema_without_batches(rt: HostRuntime) -> Result<(),
 fn reads_all_files_before_it_adds_a_batch(rt: HostRuntime) -> Result<(), Fail> {
     let first = source(rt.alloc(), NULL)?;
     let second = text_source(rt.alloc(), &TEMPLATE[..100])?;
-    let came = ran(rt.alloc(), first, second)?;
+    let came = ran(&rt, rt.alloc(), first, second)?;
     expect(&rt, &came, "", "arrowtab: B: J1 NotJson\n");
     Ok(())
 }
@@ -139,7 +145,7 @@ fn reads_all_files_before_it_adds_a_batch(rt: HostRuntime) -> Result<(), Fail> {
 fn tells_which_source_failed(rt: HostRuntime) -> Result<(), Fail> {
     let first = source(rt.alloc(), FIVE_AND_SEVEN)?;
     let second = source(rt.alloc(), MINUS_THREE)?.failing(Plan::At(0));
-    let came = ran(rt.alloc(), first, second)?;
+    let came = ran(&rt, rt.alloc(), first, second)?;
     expect(&rt, &came, "", "arrowtab: B: cannot be read\n");
     Ok(())
 }

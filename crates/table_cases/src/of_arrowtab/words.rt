@@ -73,6 +73,30 @@ fn export_takes_files(rt: HostRuntime) {
     );
 }
 
+#[test]
+fn query_takes_a_query_and_files(rt: HostRuntime) -> Result<(), Fail> {
+    let alloc = rt.alloc();
+    let words: [(&[&str], &str, &[&str]); 4] = [
+        (&["arrowtab", "query", "--query", "{}", "A"], "{}", &["A"]),
+        (
+            &["arrowtab", "query", "B", "--query={}", "A"],
+            "{}",
+            &["B", "A"],
+        ),
+        (&["arrowtab", "query", "--query", "", "A"], "", &["A"]),
+        (
+            &["arrowtab", "query", "--query", "query", "--", "--query"],
+            "query",
+            &["--query"],
+        ),
+    ];
+    for (words, query, names) in words {
+        let command = Command::Query(String::from_str(alloc, query)?);
+        expect_job(&rt, alloc, words, command, names);
+    }
+    Ok(())
+}
+
 const HELP: &str = "Tells what files in Apache Arrow's JSON integration format hold, as one table
 
 Usage: arrowtab <COMMAND>
@@ -80,6 +104,7 @@ Usage: arrowtab <COMMAND>
 Commands:
   stats   Print rows, nulls, sum, least and greatest of each column
   export  Print the table as one file, each text once in its dictionary
+  query   Print a line for each group of rows, as a query asks
   help    Print this message or the help of the given subcommand(s)
 
 Options:
@@ -109,6 +134,18 @@ Arguments:
 
 Options:
   -h, --help  Print help
+";
+
+const QUERY_HELP: &str = "Print a line for each group of rows, as a query asks
+
+Usage: arrowtab query --query <QUERY> <FILE>...
+
+Arguments:
+  <FILE>...  Files of one table, which has the first one's schema
+
+Options:
+      --query <QUERY>  The query, an object of JSON with the members filter, by and aggs
+  -h, --help           Print help
 ";
 
 /// What a fault came to.
@@ -155,13 +192,14 @@ fn expect_printed(
 #[test]
 fn help_is_the_output(rt: HostRuntime) -> Result<(), Fail> {
     let alloc = rt.alloc();
-    let words: [(&[&str], &str); 6] = [
+    let words: [(&[&str], &str); 7] = [
         (&["arrowtab", "--help"], HELP),
         (&["bin/arrowtab", "-h"], HELP),
         (&["arrowtab", "help"], HELP),
         (&["arrowtab", "stats", "A", "--help"], STATS_HELP),
         (&["arrowtab", "help", "stats"], STATS_HELP),
         (&["arrowtab", "help", "export"], EXPORT_HELP),
+        (&["arrowtab", "query", "--help"], QUERY_HELP),
     ];
     for (words, help) in words {
         expect_printed(&rt, alloc, &fault_of(alloc, words)?, help, "", 0);
@@ -182,7 +220,7 @@ fn help_may_fail(rt: HostRuntime) -> Result<(), Fail> {
 }
 
 /// Words that are no job, and what `clap` says of them.
-const MISTAKES: [(&[&str], &str); 6] = [
+const MISTAKES: [(&[&str], &str); 7] = [
     (&["arrowtab"], HELP),
     (&[], HELP),
     (
@@ -208,9 +246,19 @@ For more information, try '--help'.
     ),
     (
         &["arrowtab", "query", "A"],
-        "error: unrecognized subcommand 'query'
+        "error: the following required arguments were not provided:
+  --query <QUERY>
 
-Usage: arrowtab <COMMAND>
+Usage: arrowtab query --query <QUERY> <FILE>...
+
+For more information, try '--help'.
+",
+    ),
+    (
+        &["arrowtab", "query", "--query", "{}", "--query={}", "A"],
+        "error: the argument '--query <QUERY>' cannot be used multiple times
+
+Usage: arrowtab query --query <QUERY> <FILE>...
 
 For more information, try '--help'.
 ",
