@@ -1,22 +1,21 @@
 //! Tests of columns in the making, and of validities.
 
-ghost use Rattle.std.specs.Prelude.{◌≡◌, length, IfOk};
+ghost use Rattle.std.specs.Prelude.{◌≡◌, ◌<◌, ◌+◌, [], ◌∷◌, None, Some, length, IfOk, OnOk};
 ghost use Rattle.arrays.specs.Kind as kind;
 
-use crate::testing::{AllBut, assert_bits};
+use crate::testing::{AllBut, has_bits};
 use arrays::BuildFault::OffsetsFull;
 use arrays::validity::{buffer_of, validity_of};
 use arrays::{
-    Array, BoolBuilder, DataType, IntBuilder, Integer, ListBuilder, TextBuilder, ValidityBuilder,
-    ViewType,
+    Array, BoolBuilder, BuildFault, DataType, IntBuilder, Integer, ListBuilder, TextBuilder,
+    ValidityBuilder, ViewType,
 };
-use colbits::{BitmapBuf, Buffer};
+use colbits::{BitmapBuf, Buffer, NoMemory};
 use samples::{
-    INT16, INT32, field, has_item, has_offsets, shows_bools, shows_lists, shows_numbers,
-    shows_texts,
+    INT16, INT32, Shown, field, has_item, has_offsets, is_result, is_result_of_bools,
+    is_result_of_numbers, shows,
 };
 use std::alloc::Global;
-use std::process::Abort;
 use std::test::Fail;
 
 /// Pushes of so many slots that are valid or not, how many slots there are then, and the validity that is kept.
@@ -41,12 +40,12 @@ const PUSHES: &[Pushes] = &[
     (&[(true, 1), (true, 4)], 5, None),
 ];
 
-/// Asserts that a validity is kept with these bits, or that none is.
-fn assert_kept(rt: &impl Abort, validity: &Option<BitmapBuf>, bits: Option<&[bool]>) {
+/// Whether a validity is kept with these bits, or none is.
+fn is_kept(validity: &Option<BitmapBuf>, bits: Option<&[bool]>) -> bool {
     match (validity, bits) {
-        (Some(bitmap), Some(bits)) => assert_bits(rt, &bitmap.bits(), bits),
-        (None, None) => {}
-        _ => panic!(rt; "a validity is there or wanted"),
+        (Some(bitmap), Some(bits)) => has_bits(&bitmap.bits(), bits),
+        (None, None) => true,
+        _ => false,
     }
 }
 
@@ -62,8 +61,8 @@ fn builds_validities(rt: HostRuntime) -> Result<(), Fail> {
                 valid.push_valid(*count)?;
             }
         }
-        assert_eq!(rt; valid.len(), *len);
-        assert_kept(&rt, &valid.finish()?, *kept);
+        assert!(rt; valid.len() == *len);
+        assert!(rt; is_kept(&valid.finish()?, *kept), "of {len} slots");
     }
     Ok(())
 }
@@ -72,11 +71,12 @@ fn builds_validities(rt: HostRuntime) -> Result<(), Fail> {
 fn a_validity_is_kept_where_a_slot_is_null(rt: HostRuntime) -> Result<(), Fail> {
     for (place, kept) in [(2, Some(0x03)), (3, None)] {
         let validity = validity_of(rt.alloc(), &AllBut { place, len: 3 })?;
-        match (buffer_of(validity), kept) {
-            (Some(buffer), Some(byte)) => assert_eq!(rt; buffer.bytes(), [byte].as_slice()),
-            (None, None) => {}
-            _ => panic!(rt; "a validity is kept where place {place} is null"),
-        }
+        let is_kept = match (buffer_of(validity), kept) {
+            (Some(buffer), Some(byte)) => buffer.bytes() == [byte].as_slice(),
+            (None, None) => true,
+            _ => false,
+        };
+        assert!(rt; is_kept, "where place {place} is null");
     }
     Ok(())
 }
@@ -98,26 +98,31 @@ fn adds_the_bytes_of_numbers(rt: HostRuntime) -> Result<(), Fail> {
     Ok(())
 }
 
+/// Puts the numbers 70000, null and -1 at the end.
+fn push_numbers(builder: &mut IntBuilder) -> Result<(), NoMemory>
+    requires ty { builder.old.ty ≡ INT32 }
+    requires room { length builder.old.items < 2147483640 }
+{
+    builder.push(Some(70_000))?;
+    builder.push(None)?;
+    builder.push(Some(-1))
+}
+
 #[test]
 fn builds_numbers(rt: HostRuntime) -> Result<(), Fail> {
     let mut builder = IntBuilder::with_capacity(rt.alloc(), INT32, 3)?;
-    builder.push(Some(7))?;
-    builder.push(None)?;
-    builder.push(Some(-1))?;
+    push_numbers(&mut builder)?;
     let array = builder.finish()?;
-    assert!(rt; shows_numbers(&array.view(), &[Some(7), None, Some(-1)]));
-    assert_eq!(rt; array.view().null_count(), 1);
+    assert!(rt; is_result_of_numbers(&array, &[Some(70_000), None, Some(-1)]));
     Ok(())
 }
 
 #[test]
 fn builds_numbers_without_a_null(rt: HostRuntime) -> Result<(), Fail> {
-    let mut builder = IntBuilder::with_capacity(rt.alloc(), INT32, 2)?;
+    let mut builder = IntBuilder::with_capacity(rt.alloc(), INT32, 1)?;
     builder.push(Some(70_000))?;
-    builder.push(Some(-1))?;
     let array = builder.finish()?;
-    assert!(rt; shows_numbers(&array.view(), &[Some(70_000), Some(-1)]));
-    assert!(rt; array.view().validity().is_none());
+    assert!(rt; is_result_of_numbers(&array, &[Some(70_000)]));
     Ok(())
 }
 
@@ -150,8 +155,7 @@ fn numbers(alloc: Global, has_validity: bool) -> Result<Array, Fail>
 #[test]
 fn pushes_numbers_of_a_known_type(rt: HostRuntime) -> Result<(), Fail> {
     let array = pushed(rt.alloc())?.finish()?;
-    assert!(rt; shows_numbers(&array.view(), &[Some(5), None, Some(-6)]));
-    assert_eq!(rt; array.view().null_count(), 1);
+    assert!(rt; is_result_of_numbers(&array, &[Some(5), None, Some(-6)]));
     Ok(())
 }
 
@@ -165,8 +169,7 @@ fn extends_numbers_without_a_null(rt: HostRuntime) -> Result<(), Fail> {
         .extended::<i16>(&whole.slice(1, 2))?
         .finish()?;
     let expected = [Some(1), Some(-2), Some(3), Some(4), Some(-2), Some(3)];
-    assert!(rt; shows_numbers(&array.view(), &expected));
-    assert!(rt; array.view().validity().is_none());
+    assert!(rt; is_result_of_numbers(&array, &expected));
     Ok(())
 }
 
@@ -178,57 +181,70 @@ fn extended(alloc: Global, has_validity: bool) -> Result<Array, Fail> {
 
 #[test]
 fn extends_numbers_after_a_null(rt: HostRuntime) -> Result<(), Fail> {
-    for (has_validity, second, nulls) in [(true, None, 2), (false, Some(-2), 1)] {
+    for (has_validity, second) in [(true, None), (false, Some(-2))] {
         let array = extended(rt.alloc(), has_validity)?;
         let expected = [Some(5), None, Some(-6), Some(1), second, Some(3), Some(4)];
-        assert!(rt; shows_numbers(&array.view(), &expected));
-        assert_eq!(rt; array.view().null_count(), nulls);
+        assert!(rt; is_result_of_numbers(&array, &expected), "{second:?}");
     }
     Ok(())
+}
+
+/// Puts true, false and true at the end.
+fn push_bools(builder: &mut BoolBuilder) -> Result<(), NoMemory>
+    requires { length builder.old < 2147483640 }
+    ensures { OnOk result (length builder.new ≡ length builder.old + 3) }
+{
+    builder.push(Some(true))?;
+    builder.push(Some(false))?;
+    builder.push(Some(true))
 }
 
 #[test]
 fn builds_truth_values(rt: HostRuntime) -> Result<(), Fail> {
     let mut builder = BoolBuilder::with_capacity(rt.alloc(), 4)?;
-    builder.push(Some(true))?;
+    push_bools(&mut builder)?;
     builder.push(None)?;
-    builder.push(Some(false))?;
-    builder.push(Some(true))?;
     let array = builder.finish()?;
-    let expected = [Some(true), None, Some(false), Some(true)];
-    assert!(rt; shows_bools(&array.view(), &expected));
-    assert_eq!(rt; array.view().null_count(), 1);
+    assert!(rt; is_result_of_bools(&array, &[Some(true), Some(false), Some(true), None]));
     Ok(())
 }
 
 #[test]
 fn builds_truth_values_without_a_null(rt: HostRuntime) -> Result<(), Fail> {
-    let mut builder = BoolBuilder::with_capacity(rt.alloc(), 2)?;
-    builder.push(Some(false))?;
-    builder.push(Some(true))?;
+    let mut builder = BoolBuilder::with_capacity(rt.alloc(), 3)?;
+    push_bools(&mut builder)?;
     let array = builder.finish()?;
-    assert!(rt; shows_bools(&array.view(), &[Some(false), Some(true)]));
-    assert!(rt; array.view().validity().is_none());
+    assert!(rt; is_result_of_bools(&array, &[Some(true), Some(false), Some(true)]));
     Ok(())
+}
+
+/// Puts the texts a, null, bé and an empty one at the end.
+fn push_texts(builder: &mut TextBuilder) -> Result<(), BuildFault>
+    requires { length builder.old < 2147483640 }
+{
+    builder.push(Some("a"))?;
+    builder.push(None)?;
+    builder.push(Some("b\u{e9}"))?;
+    builder.push(Some(""))
 }
 
 #[test]
 fn builds_texts(rt: HostRuntime) -> Result<(), Fail> {
     let mut builder = TextBuilder::with_capacity(rt.alloc(), 1, 1)?;
-    builder.push(Some("a"))?;
-    builder.push(None)?;
-    builder.push(Some("b\u{e9}"))?;
-    builder.push(Some(""))?;
+    push_texts(&mut builder)?;
     let array = builder.finish()?;
     let view = array.view();
-    assert!(rt; shows_texts(&view, &[Some("a"), None, Some("b\u{e9}"), Some("")]));
-    assert_eq!(rt; view.null_count(), 1);
-    let offsets = [0, 0, 0, 0, 1, 0, 0, 0, 1, 0, 0, 0, 4, 0, 0, 0, 4, 0, 0, 0];
-    assert!(rt; has_offsets(&view, &offsets));
+    assert!(rt;
+        shows(
+            &view,
+            Shown::Texts(&[Some("a"), None, Some("b\u{e9}"), Some("")])
+        )
+    );
+    assert!(rt; has_offsets(&view, b"\0\0\0\0\x01\0\0\0\x01\0\0\0\x04\0\0\0\x04\0\0\0"));
     let ViewType::Utf8 = view.ty() else {
         panic!(rt; "these are no texts");
     };
-    assert_eq!(rt; view.texts().bytes, "ab\u{e9}".as_bytes());
+    assert!(rt; view.texts().bytes == "ab\u{e9}".as_bytes());
     Ok(())
 }
 
@@ -237,43 +253,52 @@ fn builds_texts_without_a_null(rt: HostRuntime) -> Result<(), Fail> {
     let mut builder = TextBuilder::with_capacity(rt.alloc(), 1, 2)?;
     builder.push(Some("ab"))?;
     let array = builder.finish()?;
-    assert!(rt; shows_texts(&array.view(), &[Some("ab")]));
-    assert!(rt; array.view().validity().is_none());
+    assert!(rt; is_result(&array, Shown::Texts(&[Some("ab")])));
     Ok(())
 }
 
 #[test]
 fn builds_no_texts(rt: HostRuntime) -> Result<(), Fail> {
     let array = TextBuilder::with_capacity(rt.alloc(), 0, 0)?.finish()?;
-    assert!(rt; shows_texts(&array.view(), &[]));
-    assert!(rt; has_offsets(&array.view(), &[0; 4]));
+    assert!(rt; shows(&array.view(), Shown::Texts(&[])) && has_offsets(&array.view(), &[0; 4]));
     Ok(())
+}
+
+/// Puts the lengths 1, null, 0 and 2 at the end.
+fn push_lengths(builder: &mut ListBuilder) -> Result<(), BuildFault>
+    requires { builder.old ≡ [] }
+    ensures { OnOk result (builder.new ≡ Some 1 ∷ None ∷ Some 0 ∷ Some 2 ∷ []) }
+{
+    builder.push(Some(1))?;
+    builder.push(None)?;
+    builder.push(Some(0))?;
+    builder.push(Some(2))
 }
 
 /// The lists of 1, null, of nothing, and of 2 and 3, with this field of their items.
 fn lists(alloc: Global, name: &str, nullable: bool) -> Result<Array, Fail> {
-    let mut builder = ListBuilder::with_capacity(alloc, 1)?;
-    builder.push(Some(1))?;
-    builder.push(None)?;
-    builder.push(Some(0))?;
-    builder.push(Some(2))?;
     let numbers = Buffer::from_bytes(alloc, &[1, 0, 2, 0, 3, 0])?;
     let child = Array::from_numbers(alloc, INT16, 3, None, numbers)?;
     let item = field(alloc, name, nullable, DataType::Int(INT16))?;
+    let mut builder = ListBuilder::with_capacity(alloc, 1)?;
+    push_lengths(&mut builder)?;
     Ok(builder.finish(item, child)?)
 }
 
+const BUILT: Shown = Shown::Lists(&[Some(&[Some(1)]), None, Some(&[]), Some(&[Some(2), Some(3)])]);
+
+const BUILT_OFFSETS: &[u8] = &[0, 0, 0, 0, 1, 0, 0, 0, 1, 0, 0, 0, 1, 0, 0, 0, 3, 0, 0, 0];
+
 #[test]
 fn builds_lists_with_their_items_field(rt: HostRuntime) -> Result<(), Fail> {
-    let offsets = [0, 0, 0, 0, 1, 0, 0, 0, 1, 0, 0, 0, 1, 0, 0, 0, 3, 0, 0, 0];
-    let (first, last) = ([Some(1)], [Some(2), Some(3)]);
     for (name, nullable) in [("item", true), ("entry", false)] {
         let array = lists(rt.alloc(), name, nullable)?;
         let view = array.view();
-        assert_eq!(rt; view.null_count(), 1);
-        assert!(rt; has_offsets(&view, &offsets));
-        assert!(rt; shows_lists(&view, &[Some(&first), None, Some(&[]), Some(&last)]));
-        assert!(rt; has_item(&view, name, nullable));
+        assert!(rt;
+            shows(&view, BUILT) && has_item(&view, name, nullable),
+            "{name}"
+        );
+        assert!(rt; has_offsets(&view, BUILT_OFFSETS));
     }
     Ok(())
 }

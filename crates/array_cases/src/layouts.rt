@@ -10,10 +10,11 @@ use arrays::{DataType, IntType, LayoutFault, RawArray, ViewType, Width, validate
 use colbits::Buffer;
 use samples::{INT32, lists_of, raw, shows_numbers};
 use std::alloc::Global;
+use std::process::Abort;
 use std::test::Fail;
 
 /// A type that isn't a list: of numbers the width, and whether they are signed.
-#[derive(Clone, Copy, Debug)]
+#[derive(Clone, Copy)]
 enum Inner {
     Numbers(Width, bool),
     Bits,
@@ -22,7 +23,7 @@ enum Inner {
 }
 
 /// What lies at a position.
-#[derive(Clone, Copy, Debug)]
+#[derive(Clone, Copy)]
 enum Held {
     Nothing,
     Bytes(&'static [u8]),
@@ -89,6 +90,24 @@ fn fault_of(
         array.dictionary = Some(Box::new(alloc, parts(alloc, entries)?)?);
     }
     Ok(validate(alloc, array).err())
+}
+
+/// A part over its children and its dictionary.
+type Whole = (Part, &'static [Part], Option<Part>);
+
+/// Asserts the fault of each, in groups of one fault.
+fn expect_faults(
+    rt: &impl Abort,
+    alloc: Global,
+    groups: &[(Option<LayoutFault>, &[Whole])],
+) -> Result<(), Fail> {
+    for (fault, wholes) in groups {
+        for (i, (own, children, dictionary)) in wholes.iter().enumerate() {
+            let told = fault_of(alloc, *own, *children, *dictionary)?;
+            assert!(rt; told == *fault, "{told:?} for {fault:?}, {i}");
+        }
+    }
+    Ok(())
 }
 
 /// The number 42 in so many lists of one slot.

@@ -5,11 +5,12 @@ ghost use Rattle.arrays.specs.Item.{int, null};
 ghost use Rattle.arrays.specs.Kind as kind;
 ghost use Rattle.arrays.specs.Kind.{int32};
 
-use arrays::{Array, DataType, IntBuilder, LayoutFault, ViewType, Words, validate};
+use arrays::{Array, DataType, IntBuilder, LayoutFault, ViewType, Words};
 use colbits::Buffer;
+use samples::Sample::{self, Coded, Lists, ListsOfLists, Of};
 use samples::{
-    INT16, INT32, Positions, checked, field, has_item, lists_of, raw, shows_bools, shows_lists,
-    shows_numbers, shows_texts,
+    Flat, INT16, INT32, Parts, Positions, Shown, checked, field, has_item, sampled, shows,
+    shows_bools, shows_lists, shows_numbers,
 };
 use std::alloc::Global;
 use std::process::Abort;
@@ -22,7 +23,6 @@ fn makes_numbers(rt: HostRuntime) -> Result<(), Fail> {
     let values = Buffer::from_bytes(rt.alloc(), &[1, 0, 0xfe, 0xff, 3, 0])?;
     let array = Array::from_numbers(rt.alloc(), INT16, 3, Some(validity), values)?;
     assert!(rt; shows_numbers(&array.view(), &[Some(1), None, Some(3)]));
-    assert_eq!(rt; array.view().null_count(), 1);
     Ok(())
 }
 
@@ -33,7 +33,6 @@ fn makes_truth_values(rt: HostRuntime) -> Result<(), Fail> {
     let array = Array::from_bits(rt.alloc(), 4, Some(validity), bits)?;
     let expected = [Some(true), Some(false), Some(true), None];
     assert!(rt; shows_bools(&array.view(), &expected));
-    assert_eq!(rt; array.view().null_count(), 1);
     Ok(())
 }
 
@@ -51,8 +50,7 @@ fn texts(alloc: Global) -> Result<Array, Fail> {
 #[test]
 fn makes_texts(rt: HostRuntime) -> Result<(), Fail> {
     let array = texts(rt.alloc())?;
-    assert!(rt; shows_texts(&array.view(), &[Some("a"), None, Some("")]));
-    assert_eq!(rt; array.view().null_count(), 1);
+    assert!(rt; shows(&array.view(), Shown::Texts(&[Some("a"), None, Some("")])));
     Ok(())
 }
 
@@ -66,16 +64,16 @@ fn lists(alloc: Global, name: &str, nullable: bool) -> Result<Array, Fail> {
     Ok(Array::from_list(alloc, item, 3, Some(validity), offsets, child)?)
 }
 
+const MADE: Shown = Shown::Lists(&[Some(&[Some(1)]), None, Some(&[])]);
+
 #[test]
 fn makes_and_copies_lists_with_their_items_field(rt: HostRuntime) -> Result<(), Fail> {
     for (name, nullable) in [("item", true), ("entry", false)] {
         let array = lists(rt.alloc(), name, nullable)?;
         let copy = array.copy(rt.alloc())?;
-        for view in [array.view(), copy.view()] {
-            assert_eq!(rt; view.null_count(), 1);
-            assert!(rt; shows_lists(&view, &[Some(&[Some(1)]), None, Some(&[])]));
-            assert!(rt; has_item(&view, name, nullable));
-        }
+        assert!(rt; is_copied(&array, &copy, MADE));
+        assert!(rt; has_item(&array.view(), name, nullable));
+        assert!(rt; has_item(&copy.view(), name, nullable));
     }
     Ok(())
 }
@@ -96,9 +94,9 @@ const LATE: &[u8] = &[1, 0, 0, 0, 2, 0, 0, 0, 3, 0, 0, 0, 3, 0, 0, 0];
 #[test]
 fn makes_lists_of_offsets_from_outside(rt: HostRuntime) -> Result<(), Fail> {
     let array = tried(rt.alloc(), LATE)??;
-    assert_eq!(rt; array.view().null_count(), 1);
-    assert!(rt; shows_lists(&array.view(), &[Some(&[Some(2)]), None, Some(&[])]));
-    assert!(rt; has_item(&array.view(), "item", true));
+    let view = array.view();
+    assert!(rt; shows_lists(&view, &[Some(&[Some(2)]), None, Some(&[])]));
+    assert!(rt; has_item(&view, "item", true));
     Ok(())
 }
 
@@ -121,76 +119,69 @@ fn tells_what_is_wrong_with_offsets(rt: HostRuntime) -> Result<(), Fail> {
         (SHORT, LayoutFault::BufferTooShort),
     ];
     for (offsets, fault) in cases {
-        assert_eq!(rt; tried(rt.alloc(), offsets)?.err(), Some(fault));
+        assert!(rt;
+            tried(rt.alloc(), offsets)?.err() == Some(fault),
+            "{fault:?}"
+        );
     }
     Ok(())
 }
 
-/// Asserts that a copy has the length, the null count and the type of the array.
-fn assert_copied(rt: &impl Abort, array: &Array, copy: &Array) {
-    let (old, new) = (array.view(), copy.view());
-    assert_eq!(rt;
-        (copy.len(), new.null_count()),
-        (array.len(), old.null_count())
-    );
-    assert!(rt; new.ty().is_same(old.ty()));
-}
-
 /// The numbers 1, 0, 2, 4 and 8, of which the second is null.
-const NUMBERS: Positions = &[
-    Some(&[0xfd]),
-    Some(&[1, 0, 0, 0, 0, 0, 0, 0, 2, 0, 0, 0, 4, 0, 0, 0, 8, 0, 0, 0]),
+const NUMBERS: Parts = (
+    Flat::Int(INT32),
+    5,
+    &[
+        Some(&[0xfd]),
+        Some(&[1, 0, 0, 0, 0, 0, 0, 0, 2, 0, 0, 0, 4, 0, 0, 0, 8, 0, 0, 0]),
+    ],
+);
+
+/// Arrays, and what they and their copies hold.
+const COPIED: [(Sample, Shown); 4] = [
+    (
+        Of(NUMBERS),
+        Shown::Numbers(&[Some(1), None, Some(2), Some(4), Some(8)]),
+    ),
+    (
+        Lists,
+        Shown::Lists(&[
+            Some(&[Some(12), Some(-7), Some(25)]),
+            None,
+            Some(&[Some(0), Some(-127), Some(127), Some(50)]),
+            Some(&[]),
+        ]),
+    ),
+    (
+        ListsOfLists,
+        Shown::ListsOfLists(&[
+            Some(&[Some(&[Some(12), Some(-7), Some(25)]), None]),
+            None,
+            Some(&[Some(&[Some(0), Some(-127), Some(127), Some(50)]), Some(&[])]),
+        ]),
+    ),
+    (
+        Coded,
+        Shown::Encoded(
+            &[Some(2), Some(0), Some(3), None, Some(1)],
+            &[Some("a"), Some("b"), Some("a"), None],
+            &[Some("a"), Some("a"), None, None, Some("b")],
+        ),
+    ),
 ];
 
-#[test]
-fn copies_numbers(rt: HostRuntime) -> Result<(), Fail> {
-    let array = checked(rt.alloc(), DataType::Int(INT32), 5, NUMBERS)?;
-    let copy = array.copy(rt.alloc())?;
-    assert_copied(&rt, &array, &copy);
-    let expected = [Some(1), None, Some(2), Some(4), Some(8)];
-    assert!(rt; shows_numbers(&array.view(), &expected));
-    assert!(rt; shows_numbers(&copy.view(), &expected));
-    assert_eq!(rt; copy.view().null_count(), 1);
-    Ok(())
-}
-
-/// Two slots, of which the second is null, over three lists.
-const OUTER: Positions = &[Some(&[0x01]), Some(&[0, 0, 0, 0, 3, 0, 0, 0, 3, 0, 0, 0])];
-
-/// Three lists of 2, 0 and 3 numbers.
-const INNER: Positions = &[
-    None,
-    Some(&[0, 0, 0, 0, 2, 0, 0, 0, 2, 0, 0, 0, 5, 0, 0, 0]),
-];
-
-/// The lists of the three lists, and null.
-fn lists_in_lists(alloc: Global) -> Result<Array, Fail> {
-    let int = DataType::Int(INT32);
-    let mut lists = raw(alloc, lists_of(alloc, 1, int)?, 3, INNER)?;
-    let int = DataType::Int(INT32);
-    lists.children.push(raw(alloc, int, 5, NUMBERS)?)?;
-    let int = DataType::Int(INT32);
-    let mut outer = raw(alloc, lists_of(alloc, 2, int)?, 2, OUTER)?;
-    outer.children.push(lists)?;
-    Ok(validate(alloc, outer)?)
+/// Whether an array and its copy hold this, and are of one type.
+fn is_copied(array: &Array, copy: &Array, shown: Shown) -> bool {
+    let (old, new) = (array.view(), copy.view());
+    shows(&old, shown) && shows(&new, shown) && new.ty().is_same(old.ty())
 }
 
 #[test]
-fn copies_lists_in_lists(rt: HostRuntime) -> Result<(), Fail> {
-    let array = lists_in_lists(rt.alloc())?;
-    let copy = array.copy(rt.alloc())?;
-    assert_copied(&rt, &array, &copy);
-    let view = copy.view();
-    assert_eq!(rt; view.null_count(), 1);
-    assert!(rt; has_item(&view, "item", true));
-    assert!(rt; matches!(view.ty(), ViewType::List(_)) && view.len() == 2);
-    match (view.list_at(0), view.list_at(1)) {
-        (Some(inner), None) => {
-            let (first, last) = ([Some(1), None], [Some(2), Some(4), Some(8)]);
-            assert!(rt; shows_lists(&inner, &[Some(&first), Some(&[]), Some(&last)]));
-            assert!(rt; has_item(&inner, "item", true));
-        }
-        _ => panic!(rt; "the second list alone is null"),
+fn copies_arrays(rt: HostRuntime) -> Result<(), Fail> {
+    for (i, (sample, shown)) in COPIED.iter().enumerate() {
+        let array = sampled(rt.alloc(), *sample)?;
+        let copy = array.copy(rt.alloc())?;
+        assert!(rt; is_copied(&array, &copy, *shown), "array {i}");
     }
     Ok(())
 }
@@ -227,17 +218,16 @@ fn encoded(rt: &impl Abort, alloc: Global) -> Result<Array, Fail> {
     Ok(Array::dict(codes(alloc)?, words))
 }
 
+const ENCODED: Shown = Shown::Encoded(
+    &[Some(2), Some(0), Some(3), None, Some(1)],
+    &[Some("a"), Some("b"), Some("a"), None],
+    &[Some("a"), Some("a"), None, None, Some("b")],
+);
+
 #[test]
 fn makes_and_copies_a_dictionary(rt: HostRuntime) -> Result<(), Fail> {
     let array = encoded(&rt, rt.alloc())?;
     let copy = array.copy(rt.alloc())?;
-    assert_copied(&rt, &array, &copy);
-    let expected = [Some("a"), Some("a"), None, None, Some("b")];
-    for made in [&array, &copy] {
-        assert_eq!(rt; made.len(), 5);
-        assert_eq!(rt; made.view().null_count(), 1);
-        assert!(rt; matches!(made.view().ty(), ViewType::Dict));
-        assert!(rt; shows_texts(&made.view(), &expected));
-    }
+    assert!(rt; is_copied(&array, &copy, ENCODED));
     Ok(())
 }

@@ -18,20 +18,22 @@ fn tells_faults_of_schemas(rt: HostRuntime) -> Result<(), Fail> {
     ] {
         let ty = lists_of(alloc, lists, ty)?;
         let fields = vec![in alloc; field(alloc, "name", true, ty)?]?;
-        assert_eq!(rt; Schema::new(fields).err(), fault, "{lists} lists");
+        assert!(rt; Schema::new(fields).err() == fault, "{lists} lists");
     }
     Ok(())
 }
+
+/// A schema of a field of lists of lists of numbers.
+const NESTED: &str =
+    r#"Schema { fields: [Field { name: "name", nullable: true, ty: List(Field { name: "item", nullable: true, ty: List(Field { name: "item", nullable: true, ty: Int(IntType { bits: W16, signed: true }) }) }) }] }"#;
 
 #[test]
 fn copies_schemas(rt: HostRuntime) -> Result<(), Fail> {
     let alloc = rt.alloc();
     let ty = lists_of(alloc, 2, DataType::Int(INT16))?;
     let schema = Schema::new(vec![in alloc; field(alloc, "name", true, ty)?]?)?;
-    let copy = schema.copy(alloc)?;
-    assert_eq!(rt; copy.len(), 1);
-    let written = format!(in alloc; "{schema:?}")?;
-    assert_eq!(rt; format!(in alloc; "{copy:?}")?.as_str(), written.as_str());
+    let written = format!(in alloc; "{:?}", schema.copy(alloc)?)?;
+    assert_eq!(rt; written.as_str(), NESTED);
     Ok(())
 }
 
@@ -72,7 +74,7 @@ fn batch_fault(alloc: Global, parts: Columns) -> Result<Option<BatchFault>, Fail
 #[test]
 fn tells_faults_of_batches(rt: HostRuntime) -> Result<(), Fail> {
     for (parts, fault) in BATCHES {
-        assert_eq!(rt; batch_fault(rt.alloc(), *parts)?, *fault, "{parts:?}");
+        assert!(rt; batch_fault(rt.alloc(), *parts)? == *fault, "{parts:?}");
     }
     Ok(())
 }

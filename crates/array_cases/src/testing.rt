@@ -1,7 +1,6 @@
 //! Bits that tests make and compare.
 
 use colbits::{Bits, Places};
-use std::process::Abort;
 
 /// So many places, all 1 but the one, if it is among them.
 #[derive(Drop)]
@@ -26,11 +25,15 @@ impl Places for AllBut {
     }
 }
 
-/// Asserts that the bits are these.
-pub(crate) fn assert_bits(rt: &impl Abort, bits: &Bits<'_>, expected: &[bool]) {
-    assert_eq!(rt; bits.len(), expected.len());
-    for (i, bit) in expected.iter().enumerate() {
-        assert!(rt; i < bits.len());
-        assert_eq!(rt; bits.get(i), *bit, "at slot {i}");
+/// Whether the bits are these.
+pub(crate) fn has_bits(bits: &Bits<'_>, expected: &[bool]) -> bool {
+    if bits.len() != expected.len() {
+        return false;
     }
+    for (i, bit) in expected.iter().enumerate() {
+        if bits.get(i) != *bit {
+            return false;
+        }
+    }
+    true
 }

@@ -1,10 +1,11 @@
 //! Tests of views and of their types.
 
-use crate::testing::assert_bits;
+use crate::testing::has_bits;
 use arrays::{Array, DataType, ViewType, validate};
+use samples::Sample::{self, Coded, Lists, Of};
 use samples::{
-    Flat, INT8, INT32, NAMES, Parts, Positions, UINT32, built, coded, lists, lists_of, raw,
-    shows_bools, shows_encoded, shows_lists, shows_numbers, shows_texts,
+    Flat, INT8, INT32, NAMES, Parts, Positions, Shown, UINT32, built, lists_of, raw, sampled,
+    shows, shows_texts, slots_of,
 };
 use std::alloc::Global;
 use std::test::Fail;
@@ -19,36 +20,8 @@ const NUMBERS: Parts = (
     ],
 );
 
-#[test]
-fn slices_numbers(rt: HostRuntime) -> Result<(), Fail> {
-    let array = built(rt.alloc(), NUMBERS)?;
-    let whole = array.view();
-    assert_eq!(rt; whole.len(), 6);
-    let view = whole.slice(3, 3);
-    assert!(rt; shows_numbers(&view, &[Some(2), None, Some(3)]));
-    assert_eq!(rt; view.null_count(), 1);
-    match view.validity() {
-        Some(bits) => {
-            assert_bits(&rt, &bits, &[true, false, true]);
-            assert_eq!(rt; bits.count_ones(), 2);
-        }
-        None => panic!(rt; "there is a bitmap"),
-    }
-    Ok(())
-}
-
 /// From the first on: 1, 0, null, 0, 1, 1, null, 0, 1, 1.
 const TRUTHS: Parts = (Flat::Bool, 10, &[Some(&[0xbb, 0x03]), Some(&[0x75, 0x03])]);
-
-#[test]
-fn slices_truth_values(rt: HostRuntime) -> Result<(), Fail> {
-    let array = built(rt.alloc(), TRUTHS)?;
-    let whole = array.view();
-    assert_eq!(rt; whole.len(), 10);
-    let (yes, no) = (Some(true), Some(false));
-    assert!(rt; shows_bools(&whole.slice(3, 6), &[no, yes, yes, None, no, yes]));
-    Ok(())
-}
 
 /// The text `joe`, which doesn't begin at the first byte.
 const LATE: Parts = (
@@ -57,30 +30,84 @@ const LATE: Parts = (
     &[None, Some(&[2, 0, 0, 0, 5, 0, 0, 0]), Some(b"xxjoe")],
 );
 
-#[test]
-fn slices_texts(rt: HostRuntime) -> Result<(), Fail> {
-    let array = built(rt.alloc(), NAMES)?;
-    let whole = array.view();
-    assert!(rt; shows_texts(&whole, &[Some("joe"), None, None, Some("mark")]));
-    assert_eq!(rt; whole.len(), 4);
-    assert!(rt; shows_texts(&whole.slice(2, 2), &[None, Some("mark")]));
-    let late = built(rt.alloc(), LATE)?;
-    assert!(rt; shows_texts(&late.view(), &[Some("joe")]));
-    Ok(())
-}
-
-#[test]
-fn slices_lists(rt: HostRuntime) -> Result<(), Fail> {
-    let array = lists(rt.alloc())?;
-    let whole = array.view();
-    assert_eq!(rt; whole.len(), 4);
-    let numbers = [Some(0), Some(-127), Some(127), Some(50)];
-    assert!(rt; shows_lists(&whole.slice(1, 3), &[None, Some(&numbers), Some(&[])]));
-    Ok(())
-}
-
 /// The texts of the dictionary.
 const ENTRIES: &[Option<&str>] = &[Some("a"), Some("b"), Some("a"), None];
+
+/// Arrays, of their slots the first and how many, and what these hold.
+const SLICES: [(Sample, usize, usize, Shown); 8] = [
+    (Of(NUMBERS), 3, 3, Shown::Numbers(&[Some(2), None, Some(3)])),
+    (
+        Of(TRUTHS),
+        3,
+        6,
+        Shown::Bools(&[
+            Some(false),
+            Some(true),
+            Some(true),
+            None,
+            Some(false),
+            Some(true),
+        ]),
+    ),
+    (
+        Of(NAMES),
+        0,
+        4,
+        Shown::Texts(&[Some("joe"), None, None, Some("mark")]),
+    ),
+    (Of(NAMES), 2, 2, Shown::Texts(&[None, Some("mark")])),
+    (Of(LATE), 0, 1, Shown::Texts(&[Some("joe")])),
+    (
+        Lists,
+        1,
+        3,
+        Shown::Lists(&[
+            None,
+            Some(&[Some(0), Some(-127), Some(127), Some(50)]),
+            Some(&[]),
+        ]),
+    ),
+    (
+        Coded,
+        0,
+        5,
+        Shown::Encoded(
+            &[Some(2), Some(0), Some(3), None, Some(1)],
+            ENTRIES,
+            &[Some("a"), Some("a"), None, None, Some("b")],
+        ),
+    ),
+    (
+        Coded,
+        3,
+        2,
+        Shown::Encoded(&[None, Some(1)], ENTRIES, &[None, Some("b")]),
+    ),
+];
+
+#[test]
+fn slices_hold_their_slots(rt: HostRuntime) -> Result<(), Fail> {
+    for (sample, start, len, shown) in SLICES {
+        let array = sampled(rt.alloc(), sample)?;
+        assert!(rt;
+            shows(&slots_of(&array, start, len), shown),
+            "slots from {start} on"
+        );
+    }
+    Ok(())
+}
+
+#[test]
+fn slices_have_their_part_of_a_bitmap(rt: HostRuntime) -> Result<(), Fail> {
+    let array = built(rt.alloc(), NUMBERS)?;
+    match slots_of(&array, 3, 3).validity() {
+        Some(bits) => {
+            assert!(rt; has_bits(&bits, &[true, false, true]) && bits.count_ones() == 2);
+        }
+        None => panic!(rt; "there is a bitmap"),
+    }
+    Ok(())
+}
 
 /// The texts `x` and `y`.
 const LETTERS: Positions = &[None, Some(b"\0\0\0\0\x01\0\0\0\x02\0\0\0"), Some(b"xy")];
@@ -97,16 +124,7 @@ fn past(alloc: Global) -> Result<Array, Fail> {
 }
 
 #[test]
-fn shows_texts_of_a_dictionary(rt: HostRuntime) -> Result<(), Fail> {
-    let array = coded(rt.alloc())?;
-    let view = array.view();
-    assert_eq!(rt; view.null_count(), 1);
-    let codes = [Some(2), Some(0), Some(3), None, Some(1)];
-    let texts = [Some("a"), Some("a"), None, None, Some("b")];
-    assert!(rt; shows_encoded(&view, &codes, ENTRIES, &texts));
-    assert_eq!(rt; view.len(), 5);
-    let part = view.slice(3, 2);
-    assert!(rt; shows_encoded(&part, &[None, Some(1)], ENTRIES, &[None, Some("b")]));
+fn shows_no_text_where_a_null_names_no_entry(rt: HostRuntime) -> Result<(), Fail> {
     let past = past(rt.alloc())?;
     assert!(rt; shows_texts(&past.view(), &[Some("x"), None]));
     Ok(())
@@ -127,7 +145,7 @@ fn types_are_the_same_as_themselves_alone(rt: HostRuntime) -> Result<(), Fail> {
     for (i, ty) in types.iter().enumerate() {
         for (j, other) in types.iter().enumerate() {
             let is_same = ViewType::of(ty).is_same(ViewType::of(other));
-            assert_eq!(rt; is_same, i == j, "{ty:?}, {other:?}");
+            assert!(rt; is_same == (i == j), "types {i} and {j}");
         }
     }
     Ok(())

@@ -1,87 +1,69 @@
-use group::{ColumnStats, Scalar, joined, stats_of};
-use samples::{Flat, INT8, INT16, Parts, UINT64, built, coded, lists};
+use group::{ColumnStats, joined, stats_of};
+use samples::Sample::{self, Coded, Lists, Of};
+use samples::{Flat, INT8, INT16, UINT64, built, sampled};
+use std::alloc::Global;
 use std::process::Abort;
 use std::test::Fail;
 
-/// Asserts that the statistics have these values: so many rows and so many nulls first.
-fn assert_stats(
-    rt: &impl Abort,
-    stats: &ColumnStats,
-    counts: (u64, u64),
-    sum: Option<i128>,
-    ends: (Option<Scalar>, Option<Scalar>),
-) {
-    assert_eq!(rt; (stats.rows, stats.nulls), counts);
-    assert_eq!(rt; stats.sum, sum);
-    assert!(rt; stats.least == ends.0);
-    assert!(rt; stats.greatest == ends.1);
+/// Asserts how statistics are printed.
+fn expect(rt: &impl Abort, alloc: Global, stats: &ColumnStats, wanted: &str) -> Result<(), Fail> {
+    let told = format!(in alloc; "{stats:?}")?;
+    assert!(rt; told.as_str() == wanted, "{told} for {wanted}");
+    Ok(())
 }
 
-const MOST: i128 = 18_446_744_073_709_551_615;
+/// The statistics of no slots: of a column of numbers, and of another.
+const OF_NO_NUMBERS: &str =
+    r#"ColumnStats { rows: 0, nulls: 0, sum: Some(0), least: None, greatest: None }"#;
 
-/// Numbers, the counts of their rows and nulls, and their sum, least and greatest.
-type Summed = (Parts, (u64, u64), i128, Option<i128>, Option<i128>);
+const OF_NOTHING: &str =
+    r#"ColumnStats { rows: 0, nulls: 0, sum: None, least: None, greatest: None }"#;
 
-static SUMMED: [Summed; 3] = [
+/// Columns, their statistics, and those of no slots of their type.
+static TOLD: [(Sample, &str, &str); 6] = [
     // The sum is wider than the numbers.
     (
-        (Flat::Int(UINT64), 2, &[None, Some(&[255; 16])]),
-        (2, 0),
-        36_893_488_147_419_103_230,
-        Some(MOST),
-        Some(MOST),
+        Of((Flat::Int(UINT64), 2, &[None, Some(&[255; 16])])),
+        r#"ColumnStats { rows: 2, nulls: 0, sum: Some(36893488147419103230), least: Some(Int(18446744073709551615)), greatest: Some(Int(18446744073709551615)) }"#,
+        OF_NO_NUMBERS,
     ),
     (
-        (Flat::Int(INT16), 0, &[None, Some(&[])]),
-        (0, 0),
-        0,
-        None,
-        None,
+        Of((Flat::Int(INT16), 0, &[None, Some(&[])])),
+        r#"ColumnStats { rows: 0, nulls: 0, sum: Some(0), least: None, greatest: None }"#,
+        OF_NO_NUMBERS,
     ),
     (
-        (Flat::Int(INT8), 3, &[Some(&[0b110]), Some(&[127, 5, 251])]),
-        (3, 1),
-        0,
-        Some(-5),
-        Some(5),
+        Of((Flat::Int(INT8), 3, &[Some(&[0b110]), Some(&[127, 5, 251])])),
+        r#"ColumnStats { rows: 3, nulls: 1, sum: Some(0), least: Some(Int(-5)), greatest: Some(Int(5)) }"#,
+        OF_NO_NUMBERS,
+    ),
+    // True, null and false.
+    (
+        Of((Flat::Bool, 3, &[Some(&[0b101]), Some(&[0b011])])),
+        r#"ColumnStats { rows: 3, nulls: 1, sum: None, least: Some(Bool(false)), greatest: Some(Bool(true)) }"#,
+        OF_NOTHING,
+    ),
+    // An entry that is null counts as a null.
+    (
+        Coded,
+        r#"ColumnStats { rows: 5, nulls: 2, sum: None, least: Some(Text("a")), greatest: Some(Text("b")) }"#,
+        OF_NOTHING,
+    ),
+    (
+        Lists,
+        r#"ColumnStats { rows: 4, nulls: 1, sum: None, least: None, greatest: None }"#,
+        OF_NOTHING,
     ),
 ];
 
 #[test]
-fn numbers_have_a_sum(rt: HostRuntime) -> Result<(), Fail> {
-    for (parts, counts, sum, least, greatest) in SUMMED {
-        let column = built(rt.alloc(), parts)?;
-        let view = column.view();
-        let stats = stats_of(rt.alloc(), &view)?;
-        let ends = (least.map(Scalar::Int), greatest.map(Scalar::Int));
-        assert_stats(&rt, &stats, counts, Some(sum), ends);
-        let empty = ColumnStats::empty(view.ty());
-        assert_stats(&rt, &empty, (0, 0), Some(0), (None, None));
-    }
-    Ok(())
-}
-
-#[test]
-fn other_columns_have_no_sum(rt: HostRuntime) -> Result<(), Fail> {
-    // True, null and false.
-    let truths = built(
-        rt.alloc(),
-        (Flat::Bool, 3, &[Some(&[0b101]), Some(&[0b011])]),
-    )?;
-    let (coded, lists) = (coded(rt.alloc())?, lists(rt.alloc())?);
-    let truth_ends = (Some(Scalar::Bool(false)), Some(Scalar::Bool(true)));
-    let first = Scalar::Text(String::from_str(rt.alloc(), "a")?);
-    let last = Scalar::Text(String::from_str(rt.alloc(), "b")?);
-    for (view, counts, ends) in [
-        (truths.view(), (3, 1), truth_ends),
-        // An entry that is null counts as a null.
-        (coded.view(), (5, 2), (Some(first), Some(last))),
-        (lists.view(), (4, 1), (None, None)),
-    ] {
-        let stats = stats_of(rt.alloc(), &view)?;
-        assert_stats(&rt, &stats, counts, None, ends);
-        let empty = ColumnStats::empty(view.ty());
-        assert_stats(&rt, &empty, (0, 0), None, (None, None));
+fn columns_have_statistics(rt: HostRuntime) -> Result<(), Fail> {
+    for (sample, wanted, empty) in TOLD {
+        let column = sampled(rt.alloc(), sample)?;
+        let stats = stats_of(rt.alloc(), &column.view())?;
+        expect(&rt, rt.alloc(), &stats, wanted)?;
+        let stats = ColumnStats::empty(column.view().ty());
+        expect(&rt, rt.alloc(), &stats, empty)?;
     }
     Ok(())
 }
@@ -92,10 +74,9 @@ fn none_is_no_number(rt: HostRuntime) -> Result<(), Fail> {
     let minus_5 = built(rt.alloc(), (Flat::Int(INT8), 1, &[None, Some(&[251])]))?;
     let a = stats_of(rt.alloc(), &null.view())?;
     let b = stats_of(rt.alloc(), &minus_5.view())?;
-    assert!(rt; a.rows <= 10);
-    assert!(rt; b.rows <= 10);
+    assert!(rt; a.rows <= 10 && b.rows <= 10);
     let both = joined(rt.alloc(), &a, &b)?;
-    let ends = (Some(Scalar::Int(-5)), Some(Scalar::Int(-5)));
-    assert_stats(&rt, &both, (2, 1), Some(-5), ends);
-    Ok(())
+    let wanted =
+        r#"ColumnStats { rows: 2, nulls: 1, sum: Some(-5), least: Some(Int(-5)), greatest: Some(Int(-5)) }"#;
+    expect(&rt, rt.alloc(), &both, wanted)
 }

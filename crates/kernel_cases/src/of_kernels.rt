@@ -5,11 +5,17 @@ use arrays::{Array, View};
 use kernels::{
     CmpOp, KernelFault, add, compare, is_null, kleene_and, kleene_not, kleene_or, mul, sub,
 };
+use samples::Sample::{self, Of};
 use samples::{
-    Flat, INT8, INT16, INT64, Parts, Positions, UINT8, UINT64, built, is_result_of_numbers,
+    Flat, INT8, INT16, INT64, Parts, Positions, Shown, UINT8, UINT64, built, is_result, sampled,
+    slots_of,
 };
 use std::alloc::Global;
+use std::process::Abort;
 use std::test::Fail;
+
+/// An array, and of its slots from one on so many.
+type Piece = (Sample, usize, usize);
 
 const INT8S: Flat = Flat::Int(INT8);
 
@@ -51,41 +57,52 @@ fn outcome(
     }
 }
 
-/// A kernel, two columns of a type, and the numbers that it gives of them.
-type Computed = (Kernel, Flat, Positions, Positions, &'static [Option<i128>]);
+/// A kernel, two columns, and what it gives of them.
+type Computed = (Kernel, Piece, Piece, Shown);
 
-const NO_NUMBERS: Positions = &[None, Some(&[])];
+/// Asserts what kernels give.
+fn expect_computed(rt: &impl Abort, alloc: Global, cases: &[Computed]) -> Result<(), Fail> {
+    for (i, (kernel, a, b, shown)) in cases.iter().enumerate() {
+        let (first, second) = (sampled(alloc, a.0)?, sampled(alloc, b.0)?);
+        let (a, b) = (slots_of(&first, a.1, a.2), slots_of(&second, b.1, b.2));
+        let results = outcome(alloc, *kernel, &a, &b)?;
+        assert!(rt; is_result(&results, *shown), "case {i}");
+    }
+    Ok(())
+}
 
-static COMPUTED: [Computed; 4] = [
+const NO_NUMBERS: Piece = (Of((INT8S, 0, &[None, Some(&[])])), 0, 0);
+
+const MINUS_1: Piece = (Of((INT64S, 1, MOST)), 0, 1);
+
+static COMPUTED: [Computed; 5] = [
     // An overflow under a null is none: 127 lies beneath it.
     (
         Kernel::Add,
-        INT8S,
-        &[Some(&[0x01]), Some(&[100, 127])],
-        &[None, Some(&[27, 1])],
-        &[Some(127), None],
+        (Of((INT8S, 2, &[Some(&[0x01]), Some(&[100, 127])])), 0, 2),
+        (Of((INT8S, 2, &[None, Some(&[27, 1])])), 0, 2),
+        Shown::Numbers(&[Some(127), None]),
     ),
-    (Kernel::Mul, INT64S, MOST, MOST, &[Some(1)]),
+    (Kernel::Mul, MINUS_1, MINUS_1, Shown::Numbers(&[Some(1)])),
     (
         Kernel::Sub,
-        UINT8S,
-        &[None, Some(&[5, 1])],
-        &[None, Some(&[5, 0])],
-        &[Some(0), Some(1)],
+        (Of((UINT8S, 2, &[None, Some(&[5, 1])])), 0, 2),
+        (Of((UINT8S, 2, &[None, Some(&[5, 0])])), 0, 2),
+        Shown::Numbers(&[Some(0), Some(1)]),
     ),
-    (Kernel::Add, INT8S, NO_NUMBERS, NO_NUMBERS, &[]),
+    (Kernel::Add, NO_NUMBERS, NO_NUMBERS, Shown::Numbers(&[])),
+    // Parts of columns are columns.
+    (
+        Kernel::Add,
+        (Of(WITH_A_NULL), 0, 2),
+        (Of(WHOLE), 1, 2),
+        Shown::Numbers(&[Some(6), None]),
+    ),
 ];
 
 #[test]
 fn numbers_are_exact(rt: HostRuntime) -> Result<(), Fail> {
-    for (kernel, flat, a, b, numbers) in COMPUTED {
-        let length = numbers.len() as u64;
-        let a = built(rt.alloc(), (flat, length, a))?;
-        let b = built(rt.alloc(), (flat, length, b))?;
-        let results = outcome(rt.alloc(), kernel, &a.view(), &b.view())?;
-        assert!(rt; is_result_of_numbers(&results, numbers), "{numbers:?}");
-    }
-    Ok(())
+    expect_computed(&rt, rt.alloc(), &COMPUTED)
 }
 
 /// Eight bytes of ones: the greatest number of 64 bits, or -1.
@@ -175,7 +192,7 @@ fn what_has_no_meaning_is_refused(rt: HostRuntime) -> Result<(), Fail> {
         let a = built(rt.alloc(), a)?;
         let b = built(rt.alloc(), b)?;
         let answer = outcome(rt.alloc(), kernel, &a.view(), &b.view());
-        assert_eq!(rt; answer.err(), Some(fault));
+        assert!(rt; answer.err() == Some(fault), "{fault}");
     }
     Ok(())
 }

@@ -23,7 +23,7 @@ fn no_path_has_more_than_32_expressions(rt: HostRuntime) -> Result<(), Fail> {
     for (times, fault) in [(30, None), (31, Some(TooDeep)), (1_000_000, Some(TooDeep))] {
         let filter = negated(a, times, over(a, Op::IsNull, &["k"])?)?;
         let query = rows_where(a, filter)?;
-        assert_eq!(rt; resolve(a, &query, &schema).err(), fault, "{times}");
+        assert!(rt; resolve(a, &query, &schema).err() == fault, "{times}");
     }
     Ok(())
 }
@@ -38,7 +38,7 @@ fn what_is_too_deep_does_not_fit(rt: HostRuntime) -> Result<(), Fail> {
             by: ArrayVec::new(),
             aggs: Vec::new(a),
         };
-        assert_eq!(rt; query.fits(&schema), fits, "{times}");
+        assert!(rt; query.fits(&schema) == fits, "{times}");
     }
     Ok(())
 }
@@ -51,6 +51,6 @@ fn an_operator_has_one_operand_or_two(rt: HostRuntime) -> Result<(), Fail> {
         operands.push(column(a, "b")?)?;
     }
     let query = rows_where(a, Expr::Op(Op::And, operands))?;
-    assert_eq!(rt; resolve(a, &query, &schema(a)?).err(), Some(WrongKind));
+    assert!(rt; resolve(a, &query, &schema(a)?).err() == Some(WrongKind));
     Ok(())
 }

@@ -29,14 +29,17 @@ const FILE: &str = r#"{
 {"name":"d","count":4,"VALIDITY":[1,1,0,1],"DATA":[1,0,0,1]},
 {"name":"b","count":4,"VALIDITY":[1,1,0,1],"DATA":[1,0,0,1]}]}]}"#;
 
-/// Filters, and what each is at all four rows: true, false, null, or the least bad row.
-const FILTERS: [(&str, &str); 24] = [
+/// Filters, and what each is at some rows.
+type Filters = &'static [(&'static str, &'static str)];
+
+const GREAT_SUM: &str =
+    r#"{"op":"gt","args":[{"op":"add","args":[{"column":"v"},{"int":2147483645}]},{"int":0}]}"#;
+
+/// What filters are at all four rows: true, false, null, or the least bad row.
+const FILTERS: Filters = &[
     ("null", "each row"),
     (r#"{"column":"b"}"#, "tf-t"),
-    (
-        r#"{"op":"gt","args":[{"op":"add","args":[{"column":"v"},{"int":2147483645}]},{"int":0}]}"#,
-        "Bad(2)",
-    ),
+    (GREAT_SUM, "Bad(2)"),
     (
         r#"{"op":"lt","args":[{"int":0},{"op":"add","args":[{"int":2147483645},{"column":"v"}]}]}"#,
         "Bad(2)",
@@ -102,15 +105,15 @@ const FILTERS: [(&str, &str); 24] = [
     ),
 ];
 
-/// The same filter over parts of the rows.
-const SLICES: [(usize, usize, &str); 7] = [
-    (0, 4, "Bad(2)"),
-    (0, 2, "tt"),
-    (1, 2, "Bad(1)"),
-    (2, 1, "Bad(0)"),
-    (3, 1, "-"),
-    (0, 0, ""),
-    (4, 0, ""),
+/// The sum that is too great, over parts of the rows.
+const SLICES: [(usize, usize, Filters); 7] = [
+    (0, 4, &[(GREAT_SUM, "Bad(2)")]),
+    (0, 2, &[(GREAT_SUM, "tt")]),
+    (1, 2, &[(GREAT_SUM, "Bad(1)")]),
+    (2, 1, &[(GREAT_SUM, "Bad(0)")]),
+    (3, 1, &[(GREAT_SUM, "-")]),
+    (0, 0, &[(GREAT_SUM, "")]),
+    (4, 0, &[(GREAT_SUM, "")]),
 ];
 
 /// The query of a filter over the rows of a batch.
@@ -161,30 +164,33 @@ fn filter_at(
     }
 }
 
-#[test]
-fn a_filter_is_true_false_null_or_bad_at_the_least_row(rt: HostRuntime) -> Result<(), Fail> {
-    let alloc = rt.alloc();
+/// Asserts what filters are at some rows of the file.
+fn expect_filters(
+    rt: &impl Abort,
+    alloc: Global,
+    part: (usize, usize),
+    filters: Filters,
+) -> Result<(), Fail> {
     let file = read_file(alloc, FILE.as_bytes())?;
-    assert_eq!(rt; file.batches().len(), 1);
+    assert!(rt; file.batches().len() == 1);
     let batch = &file.batches()[0];
-    for (filter, wanted) in FILTERS {
-        let query = query_where(alloc, batch, filter)?;
-        let told = filter_at(&rt, alloc, batch, &query, (0, 4))?;
-        assert_eq!(rt; told.as_str(), wanted, "{filter}");
+    for (filter, wanted) in filters {
+        let query = query_where(alloc, batch, *filter)?;
+        let told = filter_at(rt, alloc, batch, &query, part)?;
+        assert!(rt; told.as_str() == *wanted, "{told} for {filter}");
     }
     Ok(())
 }
 
 #[test]
+fn a_filter_is_true_false_null_or_bad_at_the_least_row(rt: HostRuntime) -> Result<(), Fail> {
+    expect_filters(&rt, rt.alloc(), (0, 4), FILTERS)
+}
+
+#[test]
 fn rows_are_counted_from_the_first_of_a_slice(rt: HostRuntime) -> Result<(), Fail> {
-    let alloc = rt.alloc();
-    let file = read_file(alloc, FILE.as_bytes())?;
-    assert_eq!(rt; file.batches().len(), 1);
-    let batch = &file.batches()[0];
-    let query = query_where(alloc, batch, FILTERS[2].0)?;
-    for (start, len, wanted) in SLICES {
-        let told = filter_at(&rt, alloc, batch, &query, (start, len))?;
-        assert_eq!(rt; told.as_str(), wanted, "{start} {len}");
+    for (start, len, filters) in SLICES {
+        expect_filters(&rt, rt.alloc(), (start, len), filters)?;
     }
     Ok(())
 }

@@ -15,12 +15,20 @@ fn expect_bytes(rt: &impl Abort, alloc: Global, bytes: &[u8], wanted: &str) -> R
     Ok(())
 }
 
-fn expect(rt: &impl Abort, alloc: Global, text: &str, wanted: &str) -> Result<(), Fail> {
-    expect_bytes(rt, alloc, text.as_bytes(), wanted)
+/// What stands for MEMBERS in a query, and what is read of it then, or told.
+type Cases = &'static [(&'static str, &'static str)];
+
+/// Asserts what is read of a query in each case, or what is told of it.
+fn expect_each(rt: &impl Abort, alloc: Global, query: &str, cases: Cases) -> Result<(), Fail> {
+    for (members, wanted) in cases {
+        let text = query.replace(alloc, "MEMBERS", *members)?;
+        expect_bytes(rt, alloc, text.as_bytes(), *wanted)?;
+    }
+    Ok(())
 }
 
-/// Queries, and what is read of them or told.
-const QUERIES: [(&str, &str); 33] = [
+/// Whole queries.
+const QUERIES: Cases = &[
     ("{}", "None [] []"),
     (
         r#"{"filter":null,"by":[],"aggs":[],"limit":7}"#,
@@ -97,20 +105,14 @@ const QUERIES: [(&str, &str); 33] = [
 
 #[test]
 fn queries_are_read_or_told(rt: HostRuntime) -> Result<(), Fail> {
-    for (text, wanted) in QUERIES {
-        expect(&rt, rt.alloc(), text, wanted)?;
-    }
-    Ok(())
+    expect_each(&rt, rt.alloc(), "MEMBERS", QUERIES)
 }
 
-/// Asserts what is read of a query of this filter alone, or what is told of it.
-fn expect_filter(rt: &impl Abort, alloc: Global, filter: &str, wanted: &str) -> Result<(), Fail> {
-    let text = format!(in alloc; "{{\"filter\":{filter}}}")?;
-    expect(rt, alloc, text.as_str(), wanted)
-}
+/// A query of a filter alone.
+const FILTER: &str = r#"{"filter":MEMBERS}"#;
 
-/// Filters of one level, and what is read of them or told.
-const FILTERS: [(&str, &str); 16] = [
+/// Filters of one level.
+const FILTERS: Cases = &[
     ("{}", "J3 WrongMember at /filter"),
     ("[]", "J3 WrongMember at /filter"),
     (r#"{"args":[]}"#, "J3 WrongMember at /filter"),
@@ -140,86 +142,98 @@ const FILTERS: [(&str, &str); 16] = [
 
 #[test]
 fn columns_and_texts_are_read_or_told(rt: HostRuntime) -> Result<(), Fail> {
-    for (filter, wanted) in FILTERS {
-        expect_filter(&rt, rt.alloc(), filter, wanted)?;
-    }
-    Ok(())
+    expect_each(&rt, rt.alloc(), FILTER, FILTERS)
 }
 
-/// What stands for a whole number, and the number, or `none`.
-const NUMBERS: [(&str, &str); 24] = [
-    ("5", "5"),
-    (r#""5""#, "5"),
-    ("0", "0"),
-    ("-0", "none"),
-    (r#""-0""#, "0"),
-    (r#""007""#, "7"),
-    ("18446744073709551615", "18446744073709551615"),
-    (r#""18446744073709551615""#, "18446744073709551615"),
-    ("-9223372036854775808", "-9223372036854775808"),
-    (r#""-9223372036854775808""#, "-9223372036854775808"),
-    ("18446744073709551616", "none"),
-    (r#""18446744073709551616""#, "none"),
-    ("-9223372036854775809", "none"),
-    (r#""-9223372036854775809""#, "none"),
-    ("1234567890123456789012345678901234567890", "none"),
-    (r#""1234567890123456789012345678901234567890""#, "none"),
-    (r#""-1234567890123456789012345678901234567890""#, "none"),
-    ("5.0", "none"),
-    ("1e2", "none"),
-    (r#""""#, "none"),
-    (r#""-""#, "none"),
-    (r#""+5""#, "none"),
-    ("null", "none"),
-    ("[5]", "none"),
+const NO_NUMBER: &str = "J5 BadNumber at /filter/int";
+
+/// What stands for a whole number.
+const NUMBERS: Cases = &[
+    ("5", "Some(Int(5)) [] []"),
+    (r#""5""#, "Some(Int(5)) [] []"),
+    ("0", "Some(Int(0)) [] []"),
+    ("-0", NO_NUMBER),
+    (r#""-0""#, "Some(Int(0)) [] []"),
+    (r#""007""#, "Some(Int(7)) [] []"),
+    (
+        "18446744073709551615",
+        "Some(Int(18446744073709551615)) [] []",
+    ),
+    (
+        r#""18446744073709551615""#,
+        "Some(Int(18446744073709551615)) [] []",
+    ),
+    (
+        "-9223372036854775808",
+        "Some(Int(-9223372036854775808)) [] []",
+    ),
+    (
+        r#""-9223372036854775808""#,
+        "Some(Int(-9223372036854775808)) [] []",
+    ),
+    ("18446744073709551616", NO_NUMBER),
+    (r#""18446744073709551616""#, NO_NUMBER),
+    ("-9223372036854775809", NO_NUMBER),
+    (r#""-9223372036854775809""#, NO_NUMBER),
+    ("1234567890123456789012345678901234567890", NO_NUMBER),
+    (r#""1234567890123456789012345678901234567890""#, NO_NUMBER),
+    (r#""-1234567890123456789012345678901234567890""#, NO_NUMBER),
+    ("5.0", NO_NUMBER),
+    ("1e2", NO_NUMBER),
+    (r#""""#, NO_NUMBER),
+    (r#""-""#, NO_NUMBER),
+    (r#""+5""#, NO_NUMBER),
+    ("null", NO_NUMBER),
+    ("[5]", NO_NUMBER),
 ];
 
 #[test]
 fn whole_numbers_are_read_or_told(rt: HostRuntime) -> Result<(), Fail> {
-    let a = rt.alloc();
-    for (number, wanted) in NUMBERS {
-        let filter = format!(in a; "{{\"int\":{number}}}")?;
-        let read = match wanted {
-            "none" => String::from_str(a, "J5 BadNumber at /filter/int")?,
-            _ => format!(in a; "Some(Int({wanted})) [] []")?,
-        };
-        expect_filter(&rt, a, filter.as_str(), read.as_str())?;
-    }
-    Ok(())
+    expect_each(&rt, rt.alloc(), r#"{"filter":{"int":MEMBERS}}"#, NUMBERS)
 }
 
-/// Operators of two operands: their names and what they are.
-const OPERATORS: [(&str, &str); 11] = [
-    ("add", "Add"),
-    ("sub", "Sub"),
-    ("mul", "Mul"),
-    ("eq", "Eq"),
-    ("ne", "Ne"),
-    ("lt", "Lt"),
-    ("le", "Le"),
-    ("gt", "Gt"),
-    ("ge", "Ge"),
-    ("and", "And"),
-    ("or", "Or"),
+/// Operators over a number and a text.
+const OVER_TWO: Cases = &[
+    ("add", r#"Some(Op(Add, [Int(1), Text("t")])) [] []"#),
+    ("sub", r#"Some(Op(Sub, [Int(1), Text("t")])) [] []"#),
+    ("mul", r#"Some(Op(Mul, [Int(1), Text("t")])) [] []"#),
+    ("eq", r#"Some(Op(Eq, [Int(1), Text("t")])) [] []"#),
+    ("ne", r#"Some(Op(Ne, [Int(1), Text("t")])) [] []"#),
+    ("lt", r#"Some(Op(Lt, [Int(1), Text("t")])) [] []"#),
+    ("le", r#"Some(Op(Le, [Int(1), Text("t")])) [] []"#),
+    ("gt", r#"Some(Op(Gt, [Int(1), Text("t")])) [] []"#),
+    ("ge", r#"Some(Op(Ge, [Int(1), Text("t")])) [] []"#),
+    ("and", r#"Some(Op(And, [Int(1), Text("t")])) [] []"#),
+    ("or", r#"Some(Op(Or, [Int(1), Text("t")])) [] []"#),
+];
+
+const ONE_OPERAND: &str = "J3 WrongMember at /filter/args";
+
+/// The same over a number alone.
+const OVER_ONE: Cases = &[
+    ("add", ONE_OPERAND),
+    ("sub", ONE_OPERAND),
+    ("mul", ONE_OPERAND),
+    ("eq", ONE_OPERAND),
+    ("ne", ONE_OPERAND),
+    ("lt", ONE_OPERAND),
+    ("le", ONE_OPERAND),
+    ("gt", ONE_OPERAND),
+    ("ge", ONE_OPERAND),
+    ("and", ONE_OPERAND),
+    ("or", ONE_OPERAND),
 ];
 
 #[test]
 fn operators_of_two_operands_take_two(rt: HostRuntime) -> Result<(), Fail> {
-    let a = rt.alloc();
-    for (name, operator) in OPERATORS {
-        let filter = format!(in a;
-            "{{\"op\":\"{name}\",\"args\":[{{\"int\":1}},{{\"text\":\"t\"}}]}}"
-        )?;
-        let read = format!(in a; "Some(Op({operator}, [Int(1), Text(\"t\")])) [] []")?;
-        expect_filter(&rt, a, filter.as_str(), read.as_str())?;
-        let one = format!(in a; "{{\"op\":\"{name}\",\"args\":[{{\"int\":1}}]}}")?;
-        expect_filter(&rt, a, one.as_str(), "J3 WrongMember at /filter/args")?;
-    }
-    Ok(())
+    let two = r#"{"filter":{"op":"MEMBERS","args":[{"int":1},{"text":"t"}]}}"#;
+    expect_each(&rt, rt.alloc(), two, OVER_TWO)?;
+    let one = r#"{"filter":{"op":"MEMBERS","args":[{"int":1}]}}"#;
+    expect_each(&rt, rt.alloc(), one, OVER_ONE)
 }
 
-/// Operators, and what is read of them or told.
-const OPERATIONS: [(&str, &str); 18] = [
+/// Operators.
+const OPERATIONS: Cases = &[
     (
         r#"{"op":"not","args":[{"column":"b"}]}"#,
         r#"Some(Op(Not, [Column("b")])) [] []"#,
@@ -293,57 +307,66 @@ const OPERATIONS: [(&str, &str); 18] = [
 
 #[test]
 fn operators_are_read_or_told(rt: HostRuntime) -> Result<(), Fail> {
-    for (filter, wanted) in OPERATIONS {
-        expect_filter(&rt, rt.alloc(), filter, wanted)?;
+    expect_each(&rt, rt.alloc(), FILTER, OPERATIONS)
+}
+
+/// A text with others in one another: what stands in front, what opens so many times, what stands in them, what closes them, and what stands behind.
+type Nested = (
+    &'static str,
+    &'static str,
+    usize,
+    &'static str,
+    &'static str,
+    &'static str,
+);
+
+fn nested(alloc: Global, text: Nested) -> Result<String, Fail> {
+    let (front, open, times, inner, close, back) = text;
+    let open = open.repeat(alloc, times)?;
+    let close = close.repeat(alloc, times)?;
+    Ok(format!(in alloc; "{front}{open}{inner}{close}{back}")?)
+}
+
+const NOT: &str = r#"{"op":"not","args":["#;
+
+const COLUMN: &str = r#"{"column":"b"}"#;
+
+/// What is read of no filter.
+const NOTHING: Nested = ("None [] []", "", 0, "", "", "");
+
+const NOT_JSON: Nested = ("J1 NotJson", "", 0, "", "", "");
+
+/// Queries, and what is read of them or told.
+const DEEP: [(Nested, Nested); 6] = [
+    ((r#"{"limit":"#, "[", 126, "", "]", "}"), NOTHING),
+    ((r#"{"limit":"#, "[", 127, "", "]", "}"), NOT_JSON),
+    ((r#"{"limit":"#, "[", 100_000, "", "]", "}"), NOT_JSON),
+    (
+        (r#"{"filter":"#, NOT, 62, COLUMN, "]}", "}"),
+        ("Some(", "Op(Not, [", 62, r#"Column("b")"#, "])", ") [] []"),
+    ),
+    ((r#"{"filter":"#, NOT, 63, COLUMN, "]}", "}"), NOT_JSON),
+    // Arguments are counted before they are read.
+    (
+        (
+            r#"{"filter":{"op":"and","args":["#,
+            r#"{"column":"b"},"#,
+            9_999,
+            COLUMN,
+            "",
+            "]}}",
+        ),
+        (ONE_OPERAND, "", 0, "", "", ""),
+    ),
+];
+
+#[test]
+fn queries_are_read_as_deep_as_a_text_is_nested(rt: HostRuntime) -> Result<(), Fail> {
+    for (text, wanted) in DEEP {
+        let (text, wanted) = (nested(rt.alloc(), text)?, nested(rt.alloc(), wanted)?);
+        expect_bytes(&rt, rt.alloc(), text.as_bytes(), wanted.as_str())?;
     }
     Ok(())
-}
-
-/// So many arrays in one another.
-fn nested(alloc: Global, times: usize) -> Result<String, Fail> {
-    let open = "[".repeat(alloc, times)?;
-    let close = "]".repeat(alloc, times)?;
-    Ok(format!(in alloc; "{open}{close}")?)
-}
-
-/// So many negations of a column.
-fn negations(alloc: Global, times: usize) -> Result<String, Fail> {
-    let open = r#"{"op":"not","args":["#.repeat(alloc, times)?;
-    let close = "]}".repeat(alloc, times)?;
-    Ok(format!(in alloc; "{open}{{\"column\":\"b\"}}{close}")?)
-}
-
-#[test]
-fn no_text_is_nested_deeper_than_127(rt: HostRuntime) -> Result<(), Fail> {
-    let a = rt.alloc();
-    for (times, wanted) in [
-        (126, "None [] []"),
-        (127, "J1 NotJson"),
-        (100_000, "J1 NotJson"),
-    ] {
-        let text = format!(in a; "{{\"limit\":{}}}", nested(a, times)?)?;
-        expect(&rt, a, text.as_str(), wanted)?;
-    }
-    Ok(())
-}
-
-#[test]
-fn expressions_are_read_as_deep_as_the_text_is_nested(rt: HostRuntime) -> Result<(), Fail> {
-    let a = rt.alloc();
-    let open = "Op(Not, [".repeat(a, 62)?;
-    let close = "])".repeat(a, 62)?;
-    let read = format!(in a; "Some({open}Column(\"b\"){close}) [] []")?;
-    expect_filter(&rt, a, negations(a, 62)?.as_str(), read.as_str())?;
-    expect_filter(&rt, a, negations(a, 63)?.as_str(), "J1 NotJson")?;
-    Ok(())
-}
-
-#[test]
-fn arguments_are_counted_before_they_are_read(rt: HostRuntime) -> Result<(), Fail> {
-    let a = rt.alloc();
-    let columns = r#"{"column":"b"},"#.repeat(a, 9_999)?;
-    let filter = format!(in a; "{{\"op\":\"and\",\"args\":[{columns}{{\"column\":\"b\"}}]}}")?;
-    expect_filter(&rt, a, filter.as_str(), "J3 WrongMember at /filter/args")
 }
 
 #[test]

@@ -1,7 +1,8 @@
-use crate::testing::{column, grouped, one, over, rows_where, schema, told, two};
+use crate::testing::{over, rows_where, schema};
 use arrayvec::ArrayVec;
 use query::QueryFault::{AmbiguousColumn, NoColumn, WrongKind};
-use query::{Agg, Expr, Op, Query, QueryFault, QueryText, resolve};
+use query::{Expr, Op, Query, QueryFault, QueryText, resolve};
+use query_json::read_query;
 use std::alloc::Global;
 use std::process::Abort;
 use std::test::Fail;
@@ -10,75 +11,161 @@ use std::test::Fail;
 fn assert_fault(
     rt: &impl Abort,
     alloc: Global,
-    query: QueryText,
+    query: &QueryText,
     fault: Option<QueryFault>,
 ) -> Result<(), Fail> {
     let schema = schema(alloc)?;
-    match resolve(alloc, &query, &schema) {
-        Ok(query) => {
-            assert_eq!(rt; None, fault);
-            assert!(rt; query.fits(&schema));
-        }
-        Err(told) => assert_eq!(rt; Some(told), fault),
+    match resolve(alloc, query, &schema) {
+        Ok(resolved) => assert!(rt; fault == None && resolved.fits(&schema), "{query:?}"),
+        Err(told) => assert!(rt; Some(told) == fault, "{told:?} for {query:?}"),
     }
     Ok(())
 }
 
-/// A column, an operator, a number beside it, and the fault.
-const NUMBERS: [(&str, Op, i128, Option<QueryFault>); 8] = [
-    ("v", Op::Gt, 2_147_483_648, Some(WrongKind)),
-    ("v", Op::Gt, 2_147_483_647, None),
-    ("v", Op::Gt, -2_147_483_648, None),
-    ("u", Op::Eq, 18_446_744_073_709_551_615, None),
-    ("u", Op::Eq, -1, Some(WrongKind)),
-    ("b", Op::Eq, 1, Some(WrongKind)),
-    ("k", Op::Lt, 1, Some(WrongKind)),
-    ("v", Op::Add, 1, Some(WrongKind)),
+/// What stands for PART in a query, and the query's fault then.
+type Cases = &'static [(&'static str, Option<QueryFault>)];
+
+/// Asserts what the fault of a query is in each case.
+fn expect_each(rt: &impl Abort, alloc: Global, query: &str, cases: Cases) -> Result<(), Fail> {
+    for (part, fault) in cases {
+        let text = query.replace(alloc, "PART", *part)?;
+        let query = read_query(alloc, text.as_bytes())?;
+        assert_fault(rt, alloc, &query, *fault)?;
+    }
+    Ok(())
+}
+
+/// A query of a filter.
+const FILTER: &str = r#"{"filter":PART,"aggs":[{"agg":"rows"}]}"#;
+
+/// Numbers beside columns, on either side.
+const NUMBERS: Cases = &[
+    (
+        r#"{"op":"gt","args":[{"column":"v"},{"int":2147483648}]}"#,
+        Some(WrongKind),
+    ),
+    (
+        r#"{"op":"gt","args":[{"int":2147483648},{"column":"v"}]}"#,
+        Some(WrongKind),
+    ),
+    (
+        r#"{"op":"gt","args":[{"column":"v"},{"int":2147483647}]}"#,
+        None,
+    ),
+    (
+        r#"{"op":"gt","args":[{"int":2147483647},{"column":"v"}]}"#,
+        None,
+    ),
+    (
+        r#"{"op":"gt","args":[{"column":"v"},{"int":-2147483648}]}"#,
+        None,
+    ),
+    (
+        r#"{"op":"gt","args":[{"int":-2147483648},{"column":"v"}]}"#,
+        None,
+    ),
+    (
+        r#"{"op":"eq","args":[{"column":"u"},{"int":18446744073709551615}]}"#,
+        None,
+    ),
+    (
+        r#"{"op":"eq","args":[{"int":18446744073709551615},{"column":"u"}]}"#,
+        None,
+    ),
+    (
+        r#"{"op":"eq","args":[{"column":"u"},{"int":-1}]}"#,
+        Some(WrongKind),
+    ),
+    (
+        r#"{"op":"eq","args":[{"int":-1},{"column":"u"}]}"#,
+        Some(WrongKind),
+    ),
+    (
+        r#"{"op":"eq","args":[{"column":"b"},{"int":1}]}"#,
+        Some(WrongKind),
+    ),
+    (
+        r#"{"op":"eq","args":[{"int":1},{"column":"b"}]}"#,
+        Some(WrongKind),
+    ),
+    (
+        r#"{"op":"lt","args":[{"column":"k"},{"int":1}]}"#,
+        Some(WrongKind),
+    ),
+    (
+        r#"{"op":"lt","args":[{"int":1},{"column":"k"}]}"#,
+        Some(WrongKind),
+    ),
+    (
+        r#"{"op":"add","args":[{"column":"v"},{"int":1}]}"#,
+        Some(WrongKind),
+    ),
+    (
+        r#"{"op":"add","args":[{"int":1},{"column":"v"}]}"#,
+        Some(WrongKind),
+    ),
 ];
 
 #[test]
 fn numbers_take_the_type_beside_them(rt: HostRuntime) -> Result<(), Fail> {
-    let a = rt.alloc();
-    for (name, op, number, fault) in NUMBERS {
-        let right = two(a, op, column(a, name)?, Expr::Int(number))?;
-        assert_fault(&rt, a, rows_where(a, right)?, fault)?;
-        let left = two(a, op, Expr::Int(number), column(a, name)?)?;
-        assert_fault(&rt, a, rows_where(a, left)?, fault)?;
-    }
-    Ok(())
+    expect_each(&rt, rt.alloc(), FILTER, NUMBERS)
 }
+
+/// Numbers alone, and beside other numbers.
+const OTHER_NUMBERS: Cases = &[
+    (r#"{"op":"is_null","args":[{"int":1}]}"#, None),
+    (r#"{"op":"eq","args":[{"int":1},{"int":1}]}"#, None),
+    (
+        r#"{"op":"is_null","args":[{"int":9223372036854775807}]}"#,
+        None,
+    ),
+    (
+        r#"{"op":"eq","args":[{"int":9223372036854775807},{"int":1}]}"#,
+        None,
+    ),
+    (
+        r#"{"op":"is_null","args":[{"int":9223372036854775808}]}"#,
+        Some(WrongKind),
+    ),
+    (
+        r#"{"op":"eq","args":[{"int":9223372036854775808},{"int":1}]}"#,
+        Some(WrongKind),
+    ),
+    (
+        r#"{"op":"is_null","args":[{"int":18446744073709551615}]}"#,
+        Some(WrongKind),
+    ),
+    (
+        r#"{"op":"eq","args":[{"int":18446744073709551615},{"int":1}]}"#,
+        Some(WrongKind),
+    ),
+    (r#"{"int":1}"#, Some(WrongKind)),
+];
 
 #[test]
 fn other_numbers_have_64_bits(rt: HostRuntime) -> Result<(), Fail> {
-    let a = rt.alloc();
-    for (number, fault) in [
-        (1, None),
-        (9_223_372_036_854_775_807, None),
-        (9_223_372_036_854_775_808, Some(WrongKind)),
-        (18_446_744_073_709_551_615, Some(WrongKind)),
-    ] {
-        let alone = one(a, Op::IsNull, Expr::Int(number))?;
-        assert_fault(&rt, a, rows_where(a, alone)?, fault)?;
-        let beside = two(a, Op::Eq, Expr::Int(number), Expr::Int(1))?;
-        assert_fault(&rt, a, rows_where(a, beside)?, fault)?;
-    }
-    assert_fault(&rt, a, rows_where(a, Expr::Int(1))?, Some(WrongKind))
+    expect_each(&rt, rt.alloc(), FILTER, OTHER_NUMBERS)
 }
+
+/// Sums beside columns. One of two numbers has 64 bits, and is no number as it is written.
+const SUMS: Cases = &[
+    (
+        r#"{"op":"eq","args":[{"op":"add","args":[{"int":1},{"int":1}]},{"column":"v"}]}"#,
+        Some(WrongKind),
+    ),
+    (
+        r#"{"op":"eq","args":[{"op":"add","args":[{"column":"v"},{"int":1}]},{"column":"v"}]}"#,
+        None,
+    ),
+    (
+        r#"{"op":"eq","args":[{"op":"add","args":[{"column":"v"},{"int":1}]},{"column":"u"}]}"#,
+        Some(WrongKind),
+    ),
+];
 
 #[test]
 fn sums_are_of_the_type_of_their_parts(rt: HostRuntime) -> Result<(), Fail> {
-    let a = rt.alloc();
-    // A sum of two numbers has 64 bits, and is no number as it is written.
-    for (left, right, fault) in [
-        (Expr::Int(1), "v", Some(WrongKind)),
-        (column(a, "v")?, "v", None),
-        (column(a, "v")?, "u", Some(WrongKind)),
-    ] {
-        let sum = two(a, Op::Add, left, Expr::Int(1))?;
-        let filter = two(a, Op::Eq, sum, column(a, right)?)?;
-        assert_fault(&rt, a, rows_where(a, filter)?, fault)?;
-    }
-    Ok(())
+    expect_each(&rt, rt.alloc(), FILTER, SUMS)
 }
 
 /// An operator over columns, and the fault.
@@ -104,93 +191,94 @@ const OPERATORS: [(Op, &[&str], Option<QueryFault>); 18] = [
     (Op::And, &[], Some(WrongKind)),
 ];
 
-#[test]
-fn operators_take_their_kinds(rt: HostRuntime) -> Result<(), Fail> {
-    let a = rt.alloc();
-    for (op, names, fault) in OPERATORS {
-        let filter = over(a, op, names)?;
-        assert_fault(&rt, a, rows_where(a, filter)?, fault)?;
-    }
-    let text = Expr::Text(String::from_str(a, "b")?);
-    let filter = two(a, Op::Eq, column(a, "k")?, text)?;
-    assert_fault(&rt, a, rows_where(a, filter)?, None)
-}
-
-#[test]
-fn an_operator_comes_before_what_follows_it(rt: HostRuntime) -> Result<(), Fail> {
-    let a = rt.alloc();
-    let wrong = over(a, Op::Not, &["k"])?;
-    let filter = two(a, Op::And, wrong, column(a, "none")?)?;
-    assert_fault(&rt, a, rows_where(a, filter)?, Some(WrongKind))
-}
-
-/// A column, and the faults of it as a key and as a sum.
-const PARTS: [(&str, Option<QueryFault>, Option<QueryFault>); 7] = [
-    ("k", None, Some(WrongKind)),
-    ("v", None, None),
-    ("b", None, Some(WrongKind)),
-    ("d", None, Some(WrongKind)),
-    ("l", Some(WrongKind), Some(WrongKind)),
-    ("none", Some(NoColumn), Some(NoColumn)),
-    ("two", Some(AmbiguousColumn), Some(AmbiguousColumn)),
+/// A text beside a column, and an operator, which comes before what follows it.
+const OTHERS: Cases = &[
+    (r#"{"op":"eq","args":[{"column":"k"},{"text":"b"}]}"#, None),
+    (
+        r#"{"op":"and","args":[{"op":"not","args":[{"column":"k"}]},{"column":"none"}]}"#,
+        Some(WrongKind),
+    ),
 ];
 
 #[test]
-fn keys_and_sums_take_their_kinds(rt: HostRuntime) -> Result<(), Fail> {
-    let a = rt.alloc();
-    for (name, key, sum) in PARTS {
-        assert_fault(&rt, a, grouped(a, name)?, key)?;
-        let agg = Agg::Sum(String::from_str(a, name)?);
-        assert_fault(&rt, a, told(a, agg)?, sum)?;
+fn operators_take_their_kinds(rt: HostRuntime) -> Result<(), Fail> {
+    for (op, names, fault) in OPERATORS {
+        let query = rows_where(rt.alloc(), over(rt.alloc(), op, names)?)?;
+        assert_fault(&rt, rt.alloc(), &query, fault)?;
     }
-    Ok(())
+    expect_each(&rt, rt.alloc(), FILTER, OTHERS)
 }
 
+/// Columns that are keys, or of which the ends are told.
+const KEYS: Cases = &[
+    ("k", None),
+    ("v", None),
+    ("b", None),
+    ("d", None),
+    ("l", Some(WrongKind)),
+    ("none", Some(NoColumn)),
+    ("two", Some(AmbiguousColumn)),
+];
+
 #[test]
-fn other_aggregates_take_their_kinds(rt: HostRuntime) -> Result<(), Fail> {
+fn keys_and_ends_take_their_kinds(rt: HostRuntime) -> Result<(), Fail> {
+    expect_each(&rt, rt.alloc(), r#"{"by":["PART"]}"#, KEYS)?;
+    let least = r#"{"aggs":[{"agg":"least","column":"PART"}]}"#;
+    expect_each(&rt, rt.alloc(), least, KEYS)?;
+    let greatest = r#"{"aggs":[{"agg":"greatest","column":"PART"}]}"#;
+    expect_each(&rt, rt.alloc(), greatest, KEYS)
+}
+
+/// Columns that are summed.
+const ADDED: Cases = &[
+    ("k", Some(WrongKind)),
+    ("v", None),
+    ("b", Some(WrongKind)),
+    ("d", Some(WrongKind)),
+    ("l", Some(WrongKind)),
+    ("none", Some(NoColumn)),
+    ("two", Some(AmbiguousColumn)),
+];
+
+/// Columns that are counted.
+const COUNTED: Cases = &[
+    ("k", None),
+    ("v", None),
+    ("b", None),
+    ("d", None),
+    ("l", None),
+    ("none", Some(NoColumn)),
+    ("two", Some(AmbiguousColumn)),
+];
+
+#[test]
+fn sums_and_counts_take_their_kinds(rt: HostRuntime) -> Result<(), Fail> {
+    let sum = r#"{"aggs":[{"agg":"sum","column":"PART"}]}"#;
+    expect_each(&rt, rt.alloc(), sum, ADDED)?;
+    let count = r#"{"aggs":[{"agg":"count","column":"PART"}]}"#;
+    expect_each(&rt, rt.alloc(), count, COUNTED)
+}
+
+/// Queries, and what they are over positions.
+const POSITIONS: [(&str, &str); 2] = [
+    (
+        r#"{"filter":{"op":"gt","args":[{"op":"add","args":[{"column":"v"},{"int":1}]},{"int":5}]}}"#,
+        "Some(Op(Gt, [Op(Add, [Column(1), Int(1)]), Int(5)])) [] []",
+    ),
+    (
+        r#"{"by":["d"],"aggs":[{"agg":"rows"},{"agg":"count","column":"l"},{"agg":"sum","column":"u"},{"agg":"least","column":"k"},{"agg":"greatest","column":"b"}]}"#,
+        "None [4] [Rows, Count(5), Sum(2), Least(0), Greatest(3)]",
+    ),
+];
+
+#[test]
+fn names_become_positions(rt: HostRuntime) -> Result<(), Fail> {
     let a = rt.alloc();
-    for (name, key, _) in PARTS {
-        let least = Agg::Least(String::from_str(a, name)?);
-        assert_fault(&rt, a, told(a, least)?, key)?;
-        let greatest = Agg::Greatest(String::from_str(a, name)?);
-        assert_fault(&rt, a, told(a, greatest)?, key)?;
-        let count = Agg::Count(String::from_str(a, name)?);
-        let fault = if name == "l" { None } else { key };
-        assert_fault(&rt, a, told(a, count)?, fault)?;
+    for (text, wanted) in POSITIONS {
+        let query = resolve(a, &read_query(a, text.as_bytes())?, &schema(a)?)?;
+        let written = format!(in a; "{:?} {:?} {:?}", query.filter, query.by, query.aggs)?;
+        assert!(rt; written.as_str() == wanted, "{written}");
     }
-    Ok(())
-}
-
-#[test]
-fn names_of_a_filter_become_positions(rt: HostRuntime) -> Result<(), Fail> {
-    let a = rt.alloc();
-    let sum = two(a, Op::Add, column(a, "v")?, Expr::Int(1))?;
-    let filter = two(a, Op::Gt, sum, Expr::Int(5))?;
-    let query = resolve(a, &rows_where(a, filter)?, &schema(a)?)?;
-    let written = format!(in a; "{:?}", query.filter)?;
-    assert_eq!(rt;
-        written.as_str(),
-        "Some(Op(Gt, [Op(Add, [Column(1), Int(1)]), Int(5)]))"
-    );
-    Ok(())
-}
-
-#[test]
-fn names_of_keys_and_aggregates_become_positions(rt: HostRuntime) -> Result<(), Fail> {
-    let a = rt.alloc();
-    let mut text = grouped(a, "d")?;
-    text.aggs.push(Agg::Rows)?;
-    text.aggs.push(Agg::Count(String::from_str(a, "l")?))?;
-    text.aggs.push(Agg::Sum(String::from_str(a, "u")?))?;
-    text.aggs.push(Agg::Least(String::from_str(a, "k")?))?;
-    text.aggs.push(Agg::Greatest(String::from_str(a, "b")?))?;
-    let query = resolve(a, &text, &schema(a)?)?;
-    assert_eq!(rt; query.by.as_slice(), [4].as_slice());
-    let written = format!(in a; "{:?}", query.aggs)?;
-    assert_eq!(rt;
-        written.as_str(),
-        "[Rows, Count(5), Sum(2), Least(0), Greatest(3)]"
-    );
     Ok(())
 }
 
@@ -204,7 +292,7 @@ fn positions_are_within_the_fields(rt: HostRuntime) -> Result<(), Fail> {
             by: ArrayVec::new(),
             aggs: Vec::new(a),
         };
-        assert_eq!(rt; query.fits(&schema), fits);
+        assert!(rt; query.fits(&schema) == fits, "{place}");
     }
     Ok(())
 }

@@ -58,50 +58,11 @@ pub(crate) fn over(alloc: Global, op: Op, names: &[&str]) -> Result<Expr<String>
     Ok(Expr::Op(op, operands))
 }
 
-/// An operator over one operand.
-pub(crate) fn one(
-    alloc: Global,
-    op: Op,
-    operand: Expr<String>,
-) -> Result<Expr<String>, AllocError> {
-    Ok(Expr::Op(op, vec![in alloc; operand]?))
-}
-
-/// An operator over two operands.
-pub(crate) fn two(
-    alloc: Global,
-    op: Op,
-    left: Expr<String>,
-    right: Expr<String>,
-) -> Result<Expr<String>, AllocError> {
-    Ok(Expr::Op(op, vec![in alloc; left, right]?))
-}
-
 /// How many rows there are where the filter is true.
 pub(crate) fn rows_where(alloc: Global, filter: Expr<String>) -> Result<QueryText, AllocError> {
     Ok(QueryText {
         filter: Some(filter),
         by: ArrayVec::new_in(alloc),
         aggs: vec![in alloc; Agg::Rows]?,
-    })
-}
-
-/// What is told of all rows.
-pub(crate) fn told(alloc: Global, agg: Agg<String>) -> Result<QueryText, AllocError> {
-    Ok(QueryText {
-        filter: None,
-        by: ArrayVec::new_in(alloc),
-        aggs: vec![in alloc; agg]?,
-    })
-}
-
-/// The groups of the items of a column.
-pub(crate) fn grouped(alloc: Global, name: &str) -> Result<QueryText, AllocError> {
-    let mut by = ArrayVec::new_in(alloc);
-    by.push(String::from_str(alloc, name)?);
-    Ok(QueryText {
-        filter: None,
-        by,
-        aggs: Vec::new(alloc),
     })
 }

@@ -2,7 +2,7 @@
 
 use crate::fields::item;
 use crate::integers::INT8;
-use crate::parts::{Flat, Parts, Positions, raw};
+use crate::parts::{Flat, Parts, Positions, built, raw};
 use arrays::{Array, DataType, Field, RawArray, validate};
 use std::alloc::Global;
 use std::test::Fail;
@@ -72,4 +72,23 @@ pub fn lists_of_lists(alloc: Global) -> Result<Array, Fail> {
     let mut lists = raw(alloc, DataType::List(outer), 3, positions)?;
     lists.children.push(child)?;
     Ok(validate(alloc, lists)?)
+}
+
+/// An array that tests start from.
+#[derive(Clone, Copy)]
+pub enum Sample {
+    Of(Parts),
+    Coded,
+    Lists,
+    ListsOfLists,
+}
+
+/// The array of a sample.
+pub fn sampled(alloc: Global, sample: Sample) -> Result<Array, Fail> {
+    match sample {
+        Sample::Of(parts) => built(alloc, parts),
+        Sample::Coded => coded(alloc),
+        Sample::Lists => lists(alloc),
+        Sample::ListsOfLists => lists_of_lists(alloc),
+    }
 }

@@ -9,7 +9,7 @@ pub fn slots_of(array: &Array, start: usize, len: usize) -> View<'_> {
     view.slice(start, len.min(view.len() - start))
 }
 
-/// Whether the slots of a view hold these numbers.
+/// Whether the slots of a view hold these numbers, and as many are counted as null.
 pub fn shows_numbers(view: &View<'_>, numbers: &[Option<i128>]) -> bool {
     let ViewType::Int(_) = view.ty() else {
         return false;
@@ -17,15 +17,17 @@ pub fn shows_numbers(view: &View<'_>, numbers: &[Option<i128>]) -> bool {
     if view.len() != numbers.len() {
         return false;
     }
+    let mut nulls = 0usize;
     for (i, number) in numbers.iter().enumerate() {
         if view.int_at(i) != *number || view.holds(i) != number.is_some() {
             return false;
         }
+        nulls = nulls.wrapping_add(usize::from(number.is_none()));
     }
-    true
+    view.null_count() == nulls
 }
 
-/// Whether the slots of a view hold these truth values.
+/// Whether the slots of a view hold these truth values, and as many are counted as null.
 pub fn shows_bools(view: &View<'_>, bools: &[Option<bool>]) -> bool {
     let ViewType::Bool = view.ty() else {
         return false;
@@ -33,12 +35,14 @@ pub fn shows_bools(view: &View<'_>, bools: &[Option<bool>]) -> bool {
     if view.len() != bools.len() {
         return false;
     }
+    let mut nulls = 0usize;
     for (i, value) in bools.iter().enumerate() {
         if view.bool_at(i) != *value || view.holds(i) != value.is_some() {
             return false;
         }
+        nulls = nulls.wrapping_add(usize::from(value.is_none()));
     }
-    true
+    view.null_count() == nulls
 }
 
 /// Whether the slots of a view hold these texts, in a dictionary or not.
@@ -49,12 +53,15 @@ pub fn shows_texts(view: &View<'_>, texts: &[Option<&str>]) -> bool {
     if view.len() != texts.len() {
         return false;
     }
+    let mut nulls = 0usize;
     for (i, text) in texts.iter().enumerate() {
         if view.text_at(i) != *text || view.holds(i) != text.is_some() {
             return false;
         }
+        nulls = nulls.wrapping_add(usize::from(text.is_none()));
     }
-    true
+    // A slot of a dictionary may name a null, and isn't one itself then.
+    view.null_count() == nulls || view.ty().is_same(ViewType::Dict)
 }
 
 /// Whether a view holds these codes, into a dictionary of these entries, and with them these texts.
@@ -67,7 +74,9 @@ pub fn shows_encoded(
     let ViewType::Dict = view.ty() else {
         return false;
     };
-    shows_numbers(&view.codes(), codes)
+    let found = view.codes();
+    shows_numbers(&found, codes)
+        && view.null_count() == found.null_count()
         && shows_texts(&view.entries(), entries)
         && shows_texts(view, texts)
 }
@@ -75,7 +84,7 @@ pub fn shows_encoded(
 /// The numbers of a list, none where it is null.
 pub type Numbers<'a> = Option<&'a [Option<i128>]>;
 
-/// Whether the slots of a view hold these lists of numbers.
+/// Whether the slots of a view hold these lists of numbers, and as many are counted as null.
 pub fn shows_lists(view: &View<'_>, lists: &[Numbers<'_>]) -> bool {
     let ViewType::List(_) = view.ty() else {
         return false;
@@ -83,6 +92,7 @@ pub fn shows_lists(view: &View<'_>, lists: &[Numbers<'_>]) -> bool {
     if view.len() != lists.len() {
         return false;
     }
+    let mut nulls = 0usize;
     for (i, list) in lists.iter().enumerate() {
         let is_same = match (view.list_at(i), list) {
             (Some(items), Some(numbers)) => shows_numbers(&items, *numbers),
@@ -92,8 +102,9 @@ pub fn shows_lists(view: &View<'_>, lists: &[Numbers<'_>]) -> bool {
         if !is_same || view.holds(i) != list.is_some() {
             return false;
         }
+        nulls = nulls.wrapping_add(usize::from(list.is_none()));
     }
-    true
+    view.null_count() == nulls
 }
 
 /// Whether these are the offsets of a view of texts or lists.

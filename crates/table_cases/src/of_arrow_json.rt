@@ -9,18 +9,49 @@ use std::alloc::Global;
 use std::process::Abort;
 use std::test::Fail;
 
+/// What stands for MEMBERS in a file, and what is told of it then, `read` where nothing is wrong.
+pub(crate) type Cases = &'static [(&'static str, &'static str)];
+
 /// Asserts what is told of a file, `read` where nothing is wrong.
 pub(crate) fn expect(rt: &impl Abort, alloc: Global, text: &str, wanted: &str) -> Result<(), Fail> {
     let told = match read_file(alloc, text.as_bytes()) {
         Ok(_) => String::from_str(alloc, "read")?,
         Err(fault) => fault_text(alloc, &fault)?,
     };
-    assert_eq!(rt; told.as_str(), wanted, "for {text}");
+    assert!(rt; told.as_str() == wanted, "{told} for {text}");
     Ok(())
 }
 
-/// Files, and what is told of them.
-const FILES: [(&str, &str); 12] = [
+/// Asserts what is told of a file in each case.
+pub(crate) fn expect_each(
+    rt: &impl Abort,
+    alloc: Global,
+    file: &str,
+    cases: &[(&str, &str)],
+) -> Result<(), Fail> {
+    for (members, wanted) in cases {
+        let text = file.replace(alloc, "MEMBERS", *members)?;
+        expect(rt, alloc, text.as_str(), *wanted)?;
+    }
+    Ok(())
+}
+
+/// Asserts what is told of a file in each case of each type, which stands for TYPE.
+pub(crate) fn expect_each_type(
+    rt: &impl Abort,
+    alloc: Global,
+    file: &str,
+    types: &[(&str, Cases)],
+) -> Result<(), Fail> {
+    for (ty, cases) in types {
+        let text = file.replace(alloc, "TYPE", *ty)?;
+        expect_each(rt, alloc, text.as_str(), *cases)?;
+    }
+    Ok(())
+}
+
+/// Whole files.
+const FILES: Cases = &[
     ("{", "J1 NotJson"),
     ("[]", "J3 WrongMember"),
     ("{}", "J2 MissingMember at /schema"),
@@ -58,12 +89,10 @@ const FILES: [(&str, &str); 12] = [
 
 #[test]
 fn tells_the_faults_of_a_file(rt: HostRuntime) -> Result<(), Fail> {
-    for (text, wanted) in FILES {
-        expect(&rt, rt.alloc(), text, wanted)?;
-    }
+    expect_each(&rt, rt.alloc(), "MEMBERS", FILES)?;
     match read_file(rt.alloc(), &[34, 255, 34]) {
         Ok(_) => panic!(&rt; "no UTF-8 was read"),
-        Err(fault) => assert_eq!(&rt; fault_text(rt.alloc(), &fault)?.as_str(), "J1 NotJson"),
+        Err(fault) => assert!(&rt; fault_text(rt.alloc(), &fault)?.as_str() == "J1 NotJson"),
     }
     Ok(())
 }
@@ -71,8 +100,8 @@ fn tells_the_faults_of_a_file(rt: HostRuntime) -> Result<(), Fail> {
 /// A file of one field with these members, and no batch.
 const FILE_OF_FIELD: &str = r#"{"schema":{"fields":[{"name":"n"MEMBERS}]},"batches":[]}"#;
 
-/// The members of a field, and what is told of the file.
-const FIELDS: [(&str, &str); 13] = [
+/// The members of a field.
+const FIELDS: Cases = &[
     (
         r#","nullable":true,"type":{"name":"int","bitWidth":8,"isSigned":true}"#,
         "read",
@@ -129,19 +158,15 @@ const FIELDS: [(&str, &str); 13] = [
 
 #[test]
 fn tells_the_faults_of_a_field(rt: HostRuntime) -> Result<(), Fail> {
-    for (members, wanted) in FIELDS {
-        let text = FILE_OF_FIELD.replace(rt.alloc(), "MEMBERS", members)?;
-        expect(&rt, rt.alloc(), text.as_str(), wanted)?;
-    }
-    Ok(())
+    expect_each(&rt, rt.alloc(), FILE_OF_FIELD, FIELDS)
 }
 
 /// A file of one field of such an integer type, and of one batch of two slots with these members.
 pub(crate) const FILE_OF_COLUMN: &str =
     r#"{"schema":{"fields":[{"name":"n","nullable":true,"type":{"name":"int",TYPE},"children":[]}]},"batches":[{"count":2,"columns":[{"name":"n","count":2,MEMBERS}]}]}"#;
 
-/// The members of a column of signed numbers of eight bits, and what is told of the file.
-const COLUMNS: [(&str, &str); 14] = [
+/// The members of a column of signed numbers of eight bits.
+const COLUMNS: Cases = &[
     (r#""DATA":[-128,127]"#, "read"),
     (r#""VALIDITY":null,"DATA":[1,2]"#, "read"),
     (r#""VALIDITY":[true,0],"DATA":[1,{}]"#, "read"),
@@ -193,10 +218,6 @@ const COLUMNS: [(&str, &str); 14] = [
 
 #[test]
 fn tells_the_faults_of_a_column(rt: HostRuntime) -> Result<(), Fail> {
-    let file = FILE_OF_COLUMN.replace(rt.alloc(), "TYPE", r#""bitWidth":8,"isSigned":true"#)?;
-    for (members, wanted) in COLUMNS {
-        let text = file.as_str().replace(rt.alloc(), "MEMBERS", members)?;
-        expect(&rt, rt.alloc(), text.as_str(), wanted)?;
-    }
-    Ok(())
+    let types = [(r#""bitWidth":8,"isSigned":true"#, COLUMNS)];
+    expect_each_type(&rt, rt.alloc(), FILE_OF_COLUMN, &types)
 }

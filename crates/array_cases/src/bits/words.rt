@@ -30,19 +30,22 @@ fn surrounded(start: usize, len: usize, salt: u32) -> [u8; SIZE]
 
 #[test]
 fn tells_the_word_of_few_bits(rt: HostRuntime) {
-    assert_eq!(rt; Bits::new(&[0x2b], 1, 5).word(0), 21);
+    assert!(rt; Bits::new(&[0x2b], 1, 5).word(0) == 21);
 }
 
-/// Asserts that a word has the bits from its first on, and 0 past the last.
-fn assert_word(rt: &impl Abort, bits: &Bits<'_>, first: usize)
+/// Whether a word has the bits from its first on, and 0 past the last.
+fn is_word(bits: &Bits<'_>, first: usize) -> bool
     requires { first ≤ 1000 }
 {
     let word = bits.word(first);
     for j in 0..64 {
         let place = first + j;
         let bit = place < bits.len() && bits.get(place);
-        assert_eq!(rt; (word >> j) & 1 == 1, bit, "bit {j} of the word at {first}");
+        if ((word >> j) & 1 == 1) != bit {
+            return false;
+        }
     }
+    true
 }
 
 /// Asserts that the words from each bit on are told, from the end on too.
@@ -52,7 +55,7 @@ fn assert_words(rt: &impl Abort, start: usize, len: usize)
     let bytes = surrounded(start, len, 3);
     let bits = Bits::new(&bytes, start, len);
     for first in 0..len + 2 {
-        assert_word(rt, &bits, first);
+        assert!(rt; is_word(&bits, first), "the word at {first} of {len} bits");
     }
 }
 
@@ -66,10 +69,9 @@ fn assert_count(rt: &impl Abort, start: usize, len: usize)
     for i in 0..bits.len() {
         ones = ones.wrapping_add(usize::from(bits.get(i)));
     }
-    assert_eq!(rt;
-        bits.count_ones(),
-        ones,
-        "of {len} bits from bit {start} on"
+    assert!(rt;
+        bits.count_ones() == ones,
+        "the ones of {len} bits from {start} on"
     );
 }
 
@@ -121,17 +123,19 @@ impl Operation {
         }
     }
 
-    /// Asserts that the bytes hold what is made of each two bits, and 0 behind them.
-    fn assert_bytes(self, rt: &impl Abort, bytes: &[u8], a: &Bits<'_>, b: &Bits<'_>) {
+    /// Whether the bytes hold what is made of each two bits, and 0 behind them.
+    fn is_made(self, bytes: &[u8], a: &Bits<'_>, b: &Bits<'_>) -> bool {
         let len = a.len();
-        assert_eq!(rt; b.len(), len);
-        assert!(rt; bytes.len() <= SIZE);
-        assert_eq!(rt; bytes.len(), len.div_ceil(8));
+        if b.len() != len || bytes.len() > SIZE || bytes.len() != len.div_ceil(8) {
+            return false;
+        }
         let stored = Bits::new(bytes, 0, 8 * bytes.len());
         for i in 0..stored.len() {
-            let bit = i < len && self.of_bits(a.get(i), b.get(i));
-            assert_eq!(rt; stored.get(i), bit, "bit {i} of {len}");
+            if stored.get(i) != (i < len && self.of_bits(a.get(i), b.get(i))) {
+                return false;
+            }
         }
+        true
     }
 
     /// Asserts that it is made of bits from two starts on.
@@ -143,10 +147,11 @@ impl Operation {
         let a = Bits::new(&left, starts.0, len);
         let b = Bits::new(&right, starts.1, len);
         assert!(rt; a.len() == b.len());
-        match self.of_bitmaps(alloc, &a, &b) {
-            Ok(bitmap) => self.assert_bytes(rt, bitmap.into_buffer().bytes(), &a, &b),
-            Err(_) => panic!(rt; "there is no memory"),
-        }
+        let is_made = match self.of_bitmaps(alloc, &a, &b) {
+            Ok(bitmap) => self.is_made(bitmap.into_buffer().bytes(), &a, &b),
+            Err(_) => false,
+        };
+        assert!(rt; is_made, "{len} bits from {starts:?} on");
     }
 
     /// Asserts that it is made from each two starts on.

@@ -12,7 +12,7 @@ fn a_type_of_many_lists_is_too_deep(rt: HostRuntime) -> Result<(), Fail> {
     let ty = lists_of(rt.alloc(), LEVELS, DataType::Bool)?;
     let parts = raw(rt.alloc(), ty, 0, &[])?;
     let fault = validate(rt.alloc(), parts).err();
-    assert_eq!(rt; fault, Some(LayoutFault::TooDeep));
+    assert!(rt; fault == Some(LayoutFault::TooDeep));
     Ok(())
 }
 
@@ -35,6 +35,6 @@ fn chain(alloc: Global, levels: usize) -> Result<RawArray, Fail> {
 fn a_chain_of_many_children_is_refused(rt: HostRuntime) -> Result<(), Fail> {
     let parts = chain(rt.alloc(), LEVELS)?;
     let fault = validate(rt.alloc(), parts).err();
-    assert_eq!(rt; fault, Some(LayoutFault::ChildDiffers));
+    assert!(rt; fault == Some(LayoutFault::ChildDiffers));
     Ok(())
 }

@@ -1,8 +1,8 @@
 //! Faults of lists and of codes, and of the arrays under them.
 
 use super::Held::{self, Bytes, Int32s, Nothing};
-use super::Inner::{self, Bits, Indices, Texts};
-use super::{BOTH, Part, SHORT, UNSIGNED, WIDE, fault_of};
+use super::Inner::{Bits, Indices, Texts};
+use super::{BOTH, Part, SHORT, UNSIGNED, WIDE, Whole, expect_faults};
 use arrays::LayoutFault::{
     self, ChildDiffers, IndexPastDictionary, NotUtf8, OffsetNegative, OffsetPastEnd,
 };
@@ -22,131 +22,218 @@ const THREE: Held = Int32s(&[0, 1, 2, 3]);
 /// The last is no UTF-8.
 const ENDING: Part = (0, Texts, 3, None, &[Nothing, THREE, Bytes(b"ab\xff")]);
 
-/// A length, and what lies at each position of an array over texts.
-type Slots = (u64, &'static [Held], Part);
-
-const LISTS: &[(Option<LayoutFault>, &[Slots])] = &[
+const LISTS: &[(Option<LayoutFault>, &[Whole])] = &[
     (
         None,
         &[
-            (2, &[Nothing, Int32s(&[0, 1, 2])], WORDS),
-            (2, &[Nothing, Int32s(&[0, 1, 1])], WORDS),
+            (
+                (1, Texts, 2, None, &[Nothing, Int32s(&[0, 1, 2])]),
+                &[WORDS],
+                None,
+            ),
+            (
+                (1, Texts, 2, None, &[Nothing, Int32s(&[0, 1, 1])]),
+                &[WORDS],
+                None,
+            ),
         ],
     ),
     (
         Some(OffsetPastEnd),
-        &[(2, &[Nothing, Int32s(&[0, 2, 3])], WORDS)],
+        &[(
+            (1, Texts, 2, None, &[Nothing, Int32s(&[0, 2, 3])]),
+            &[WORDS],
+            None,
+        )],
     ),
     // An array's own fault comes before that of what it holds.
     (
         Some(OffsetNegative),
         &[
-            (2, &[Nothing, Int32s(&[-1, 1, 1])], WORDS),
-            (2, &[Nothing, Int32s(&[0, -1, 1])], SPOILT),
+            (
+                (1, Texts, 2, None, &[Nothing, Int32s(&[-1, 1, 1])]),
+                &[WORDS],
+                None,
+            ),
+            (
+                (1, Texts, 2, None, &[Nothing, Int32s(&[0, -1, 1])]),
+                &[SPOILT],
+                None,
+            ),
         ],
     ),
     // The row is that of the child.
     (
         Some(NotUtf8 { row: 0 }),
-        &[(2, &[Nothing, Int32s(&[0, 1, 1])], SPOILT)],
+        &[(
+            (1, Texts, 2, None, &[Nothing, Int32s(&[0, 1, 1])]),
+            &[SPOILT],
+            None,
+        )],
     ),
     (
         Some(NotUtf8 { row: 2 }),
-        &[(1, &[Nothing, Int32s(&[0, 3])], ENDING)],
+        &[(
+            (1, Texts, 1, None, &[Nothing, Int32s(&[0, 3])]),
+            &[ENDING],
+            None,
+        )],
     ),
 ];
 
-const CODES: &[(Option<LayoutFault>, &[Slots])] = &[
+const CODES: &[(Option<LayoutFault>, &[Whole])] = &[
     // More indices than slots may be there, and a null may name no entry.
     (
         None,
         &[
-            (2, &[Nothing, Int32s(&[0, 1, 2])], WORDS),
-            (2, &[Nothing, Int32s(&[0, 1, 1])], WORDS),
-            (2, &[Bytes(&[0x01]), Int32s(&[0, 5])], WORDS),
+            (
+                (0, Indices, 2, None, &[Nothing, Int32s(&[0, 1, 2])]),
+                &[],
+                Some(WORDS),
+            ),
+            (
+                (0, Indices, 2, None, &[Nothing, Int32s(&[0, 1, 1])]),
+                &[],
+                Some(WORDS),
+            ),
+            (
+                (0, Indices, 2, None, &[Bytes(&[0x01]), Int32s(&[0, 5])]),
+                &[],
+                Some(WORDS),
+            ),
         ],
     ),
     (
         Some(IndexPastDictionary { row: 0 }),
-        &[(2, &[Nothing, Int32s(&[-1, 1, 1])], WORDS)],
+        &[(
+            (0, Indices, 2, None, &[Nothing, Int32s(&[-1, 1, 1])]),
+            &[],
+            Some(WORDS),
+        )],
     ),
     // An array's own fault comes before that of what it holds.
     (
         Some(IndexPastDictionary { row: 1 }),
         &[
-            (2, &[Nothing, Int32s(&[0, 2, 3])], WORDS),
-            (2, &[Nothing, Int32s(&[0, -1, 1])], SPOILT),
-            (2, &[BOTH, Int32s(&[0, 5])], WORDS),
+            (
+                (0, Indices, 2, None, &[Nothing, Int32s(&[0, 2, 3])]),
+                &[],
+                Some(WORDS),
+            ),
+            (
+                (0, Indices, 2, None, &[Nothing, Int32s(&[0, -1, 1])]),
+                &[],
+                Some(SPOILT),
+            ),
+            (
+                (0, Indices, 2, None, &[BOTH, Int32s(&[0, 5])]),
+                &[],
+                Some(WORDS),
+            ),
         ],
     ),
     (
         Some(NotUtf8 { row: 0 }),
-        &[(2, &[Nothing, Int32s(&[0, 1, 1])], SPOILT)],
+        &[(
+            (0, Indices, 2, None, &[Nothing, Int32s(&[0, 1, 1])]),
+            &[],
+            Some(SPOILT),
+        )],
     ),
 ];
 
 #[test]
 fn tells_faults_of_arrays_over_texts(rt: HostRuntime) -> Result<(), Fail> {
-    for (fault, cases) in LISTS {
-        for (length, positions, texts) in *cases {
-            let case = (1, Texts, *length, None, *positions);
-            let told = fault_of(rt.alloc(), case, &[*texts], None)?;
-            assert_eq!(rt; told, *fault, "{case:?} over {texts:?}");
-        }
-    }
-    for (fault, cases) in CODES {
-        for (length, positions, texts) in *cases {
-            let case = (0, Indices, *length, None, *positions);
-            let told = fault_of(rt.alloc(), case, &[], Some(*texts))?;
-            assert_eq!(rt; told, *fault, "{case:?} over {texts:?}");
-        }
-    }
-    Ok(())
+    expect_faults(&rt, rt.alloc(), LISTS)?;
+    expect_faults(&rt, rt.alloc(), CODES)
 }
 
-/// So many lists in one another, and the type in them.
-type Type = (usize, Inner);
+/// No slots.
+const NO_ITEMS: &[Held] = &[Nothing, Bytes(&[])];
 
-/// The types of an array, of its children and of its dictionary, and whether a child differs.
-type Types = (Type, &'static [Type], Option<Type>, bool);
+const NO_TEXTS: &[Held] = &[Nothing, Bytes(&[]), Bytes(&[])];
 
-const TYPES: &[Types] = &[
-    ((1, SHORT), &[(0, SHORT)], None, false),
-    // A list that lacks a child itself.
-    ((2, Bits), &[(1, Bits)], None, true),
-    ((0, Indices), &[], Some((0, Texts)), false),
-    ((0, SHORT), &[(0, SHORT)], None, true),
-    ((1, SHORT), &[(0, WIDE)], None, true),
-    ((1, SHORT), &[(0, UNSIGNED)], None, true),
-    ((1, SHORT), &[(0, Texts)], None, true),
-    ((1, SHORT), &[(0, SHORT), (0, SHORT)], None, true),
-    ((1, Indices), &[(0, Indices)], None, true),
-    ((1, Bits), &[(0, Bits)], Some((0, Texts)), true),
-    ((0, Texts), &[], Some((0, Texts)), true),
-    ((0, Indices), &[], Some((0, Bits)), true),
-    ((0, Indices), &[(0, Texts)], Some((0, Texts)), true),
+/// Arrays without slots, by their types.
+const TYPES: &[(Option<LayoutFault>, &[Whole])] = &[
+    (
+        None,
+        &[
+            (
+                (1, SHORT, 0, None, NO_ITEMS),
+                &[(0, SHORT, 0, None, NO_ITEMS)],
+                None,
+            ),
+            (
+                (0, Indices, 0, None, NO_ITEMS),
+                &[],
+                Some((0, Texts, 0, None, NO_TEXTS)),
+            ),
+        ],
+    ),
+    (
+        Some(ChildDiffers),
+        &[
+            // A list that lacks a child itself.
+            (
+                (2, Bits, 0, None, NO_ITEMS),
+                &[(1, Bits, 0, None, NO_ITEMS)],
+                None,
+            ),
+            (
+                (0, SHORT, 0, None, NO_ITEMS),
+                &[(0, SHORT, 0, None, NO_ITEMS)],
+                None,
+            ),
+            (
+                (1, SHORT, 0, None, NO_ITEMS),
+                &[(0, WIDE, 0, None, NO_ITEMS)],
+                None,
+            ),
+            (
+                (1, SHORT, 0, None, NO_ITEMS),
+                &[(0, UNSIGNED, 0, None, NO_ITEMS)],
+                None,
+            ),
+            (
+                (1, SHORT, 0, None, NO_ITEMS),
+                &[(0, Texts, 0, None, NO_TEXTS)],
+                None,
+            ),
+            (
+                (1, SHORT, 0, None, NO_ITEMS),
+                &[(0, SHORT, 0, None, NO_ITEMS), (0, SHORT, 0, None, NO_ITEMS)],
+                None,
+            ),
+            (
+                (1, Indices, 0, None, NO_ITEMS),
+                &[(0, Indices, 0, None, NO_ITEMS)],
+                None,
+            ),
+            (
+                (1, Bits, 0, None, NO_ITEMS),
+                &[(0, Bits, 0, None, NO_ITEMS)],
+                Some((0, Texts, 0, None, NO_TEXTS)),
+            ),
+            (
+                (0, Texts, 0, None, NO_TEXTS),
+                &[],
+                Some((0, Texts, 0, None, NO_TEXTS)),
+            ),
+            (
+                (0, Indices, 0, None, NO_ITEMS),
+                &[],
+                Some((0, Bits, 0, None, NO_ITEMS)),
+            ),
+            (
+                (0, Indices, 0, None, NO_ITEMS),
+                &[(0, Texts, 0, None, NO_TEXTS)],
+                Some((0, Texts, 0, None, NO_TEXTS)),
+            ),
+        ],
+    ),
 ];
-
-/// No slots of the type.
-fn empty(ty: Type) -> Part {
-    let (lists, inner) = ty;
-    let positions: &[Held] = match ty {
-        (0, Texts) => &[Nothing, Bytes(&[]), Bytes(&[])],
-        _ => &[Nothing, Bytes(&[])],
-    };
-    (lists, inner, 0, None, positions)
-}
 
 #[test]
 fn tells_children_that_differ(rt: HostRuntime) -> Result<(), Fail> {
-    for (own, children, dictionary, differs) in TYPES {
-        let mut parts = Vec::new(rt.alloc());
-        for child in *children {
-            parts.push(empty(*child))?;
-        }
-        let told = fault_of(rt.alloc(), empty(*own), &parts, dictionary.map(empty))?;
-        let fault = differs.then_some(ChildDiffers);
-        assert_eq!(rt; told, fault, "{own:?} over {children:?}, {dictionary:?}");
-    }
-    Ok(())
+    expect_faults(&rt, rt.alloc(), TYPES)
 }

@@ -67,70 +67,67 @@ impl Logic {
         }
     }
 
-    /// Asserts that each slot of a view is made of those of two others.
-    fn assert_slots(self, rt: &impl Abort, made: &View<'_>, a: &View<'_>, b: &View<'_>) {
-        assert_eq!(rt; made.len(), a.len());
-        assert_eq!(rt; made.len(), b.len());
+    /// Whether each slot of a view is made of those of two others.
+    fn is_made(self, made: &View<'_>, a: &View<'_>, b: &View<'_>) -> bool {
         let (ViewType::Bool, ViewType::Bool) = (a.ty(), b.ty()) else {
-            panic!(rt; "these are no truth values");
+            return false;
         };
         let ViewType::Bool = made.ty() else {
-            panic!(rt; "these are no truth values");
+            return false;
         };
+        if made.len() != a.len() || made.len() != b.len() {
+            return false;
+        }
         for i in 0..made.len() {
-            let expected = self.of_truths(a.bool_at(i), b.bool_at(i));
-            assert_eq!(rt; made.bool_at(i), expected, "at slot {i}");
+            if made.bool_at(i) != self.of_truths(a.bool_at(i), b.bool_at(i)) {
+                return false;
+            }
         }
+        true
     }
 
-    fn assert_made(self, rt: &impl Abort, alloc: Global, a: &View<'_>, b: &View<'_>) {
-        match self.of_views(alloc, a, b) {
-            Some(made) => self.assert_slots(rt, &made.view(), a, b),
-            None => panic!(rt; "it was refused"),
-        }
-    }
-
-    /// Asserts that it is made from each two starts on.
+    /// Asserts that it is made of so many slots from each two starts on.
     fn assert_from_each_start(
         self,
         rt: &impl Abort,
         alloc: Global,
-        columns: (&Array, &Array),
+        a: &Array,
+        b: &Array,
         len: usize,
     ) {
         for pair in 0..64 {
-            let a = slots_of(columns.0, pair / 8, len);
-            let b = slots_of(columns.1, pair % 8, len);
-            self.assert_made(rt, alloc, &a, &b);
-        }
-    }
-
-    fn assert_at_each_length(self, rt: &impl Abort, alloc: Global, columns: (&Array, &Array)) {
-        for len in LENGTHS {
-            self.assert_from_each_start(rt, alloc, columns, len);
+            let a = slots_of(a, pair / 8, len);
+            let b = slots_of(b, pair % 8, len);
+            let is_made = match self.of_views(alloc, &a, &b) {
+                Some(made) => self.is_made(&made.view(), &a, &b),
+                None => false,
+            };
+            assert!(rt; is_made, "starts {pair} of {len}");
         }
     }
 }
 
-/// Asserts it of two columns of truth values.
-fn assert_of_columns(rt: &impl Abort, alloc: Global, logic: Logic) -> Result<(), Fail> {
+/// Asserts it at each length.
+fn expect(rt: &impl Abort, alloc: Global, logic: Logic) -> Result<(), Fail> {
     let a = truths(alloc, 3)?;
     let b = truths(alloc, 8)?;
-    logic.assert_at_each_length(rt, alloc, (&a, &b));
+    for len in LENGTHS {
+        logic.assert_from_each_start(rt, alloc, &a, &b, len);
+    }
     Ok(())
 }
 
 #[test]
 fn tells_both(rt: HostRuntime) -> Result<(), Fail> {
-    assert_of_columns(&rt, rt.alloc(), Logic::And)
+    expect(&rt, rt.alloc(), Logic::And)
 }
 
 #[test]
 fn tells_either(rt: HostRuntime) -> Result<(), Fail> {
-    assert_of_columns(&rt, rt.alloc(), Logic::Or)
+    expect(&rt, rt.alloc(), Logic::Or)
 }
 
 #[test]
 fn tells_the_contrary(rt: HostRuntime) -> Result<(), Fail> {
-    assert_of_columns(&rt, rt.alloc(), Logic::Not)
+    expect(&rt, rt.alloc(), Logic::Not)
 }

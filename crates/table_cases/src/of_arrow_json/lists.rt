@@ -1,14 +1,11 @@
 //! Columns of lists: their fields, their offsets and children, and what is told of them.
 
-use super::expect;
-use crate::testing::assert_numbers;
-use arrays::ViewType;
-use arrow_json::read_file;
+use super::{Cases, expect_each};
 use std::alloc::Global;
 use std::test::Fail;
 
 /// A file of this field alone, and no batch.
-const FILE_OF_FIELD: &str = r#"{"schema":{"fields":[FIELD]},"batches":[]}"#;
+const FILE_OF_FIELD: &str = r#"{"schema":{"fields":[MEMBERS]},"batches":[]}"#;
 
 /// A field of numbers.
 const NUMBERS: &str =
@@ -26,26 +23,21 @@ fn nested(alloc: Global, lists: usize) -> Result<String, Fail> {
     Ok(field)
 }
 
+/// What is told of the ninth list.
+const NINTH: &str =
+    "J4 UnsupportedType at /schema/fields/0/children/0/children/0/children/0/children/0/children/0/children/0/children/0/children/0";
+
 #[test]
 fn tells_the_ninth_list(rt: HostRuntime) -> Result<(), Fail> {
-    let place =
-        "/schema/fields/0/children/0/children/0/children/0/children/0/children/0/children/0/children/0/children/0";
-    let told = format!(in rt.alloc(); "J4 UnsupportedType at {place}")?;
-    for (lists, wanted) in [
-        (1, "read"),
-        (8, "read"),
-        (9, told.as_str()),
-        (30, told.as_str()),
-    ] {
+    for (lists, wanted) in [(1, "read"), (8, "read"), (9, NINTH), (30, NINTH)] {
         let field = nested(rt.alloc(), lists)?;
-        let text = FILE_OF_FIELD.replace(rt.alloc(), "FIELD", field.as_str())?;
-        expect(&rt, rt.alloc(), text.as_str(), wanted)?;
+        expect_each(&rt, rt.alloc(), FILE_OF_FIELD, &[(field.as_str(), wanted)])?;
     }
     Ok(())
 }
 
-/// Fields of lists, and what is told of the file.
-const FIELDS: [(&str, &str); 7] = [
+/// Fields of lists.
+const FIELDS: Cases = &[
     (
         r#"{"name":"l","nullable":true,"type":{"name":"list"}}"#,
         "J2 MissingMember at /schema/fields/0/children",
@@ -78,19 +70,15 @@ const FIELDS: [(&str, &str); 7] = [
 
 #[test]
 fn tells_the_faults_of_a_list_field(rt: HostRuntime) -> Result<(), Fail> {
-    for (field, wanted) in FIELDS {
-        let text = FILE_OF_FIELD.replace(rt.alloc(), "FIELD", field)?;
-        expect(&rt, rt.alloc(), text.as_str(), wanted)?;
-    }
-    Ok(())
+    expect_each(&rt, rt.alloc(), FILE_OF_FIELD, FIELDS)
 }
 
 /// A file of a column of lists of numbers, and of a batch of two slots with these members.
 const FILE_OF_LISTS: &str =
     r#"{"schema":{"fields":[{"name":"l","nullable":true,"type":{"name":"list"},"children":[{"name":"n","nullable":true,"type":{"name":"int","bitWidth":8,"isSigned":true}}]}]},"batches":[{"count":2,"columns":[{"name":"l","count":2,MEMBERS}]}]}"#;
 
-/// The members of a column of lists, and what is told of the file.
-const LISTS: [(&str, &str); 23] = [
+/// The members of a column of lists.
+const LISTS: Cases = &[
     (
         r#""OFFSET":[0,1,3],"children":[{"count":3,"DATA":[1,2,3]}]"#,
         "read",
@@ -187,57 +175,25 @@ const LISTS: [(&str, &str); 23] = [
 
 #[test]
 fn reads_offsets_and_children(rt: HostRuntime) -> Result<(), Fail> {
-    for (members, wanted) in LISTS {
-        let text = FILE_OF_LISTS.replace(rt.alloc(), "MEMBERS", members)?;
-        expect(&rt, rt.alloc(), text.as_str(), wanted)?;
-    }
-    Ok(())
+    expect_each(&rt, rt.alloc(), FILE_OF_LISTS, LISTS)
 }
 
 /// A file of a column of lists, and of a batch without rows: its offsets are these.
 const FILE_OF_NO_LISTS: &str =
-    r#"{"schema":{"fields":[{"name":"l","nullable":true,"type":{"name":"list"},"children":[{"name":"n","nullable":true,"type":{"name":"bool"}}]}]},"batches":[{"count":0,"columns":[{"name":"l","count":0,"VALIDITY":[],"OFFSET":OFFSETS,"children":[{"name":"n","count":1,"DATA":[true]}]}]}]}"#;
+    r#"{"schema":{"fields":[{"name":"l","nullable":true,"type":{"name":"list"},"children":[{"name":"n","nullable":true,"type":{"name":"bool"}}]}]},"batches":[{"count":0,"columns":[{"name":"l","count":0,"VALIDITY":[],"OFFSET":MEMBERS,"children":[{"name":"n","count":1,"DATA":[true]}]}]}]}"#;
 
 #[test]
 fn reads_no_lists(rt: HostRuntime) -> Result<(), Fail> {
-    for (offsets, wanted) in [
-        ("[]", "read"),
-        ("[0]", "read"),
-        ("[1]", "read"),
-        ("[2]", "J10 Layout V6 OffsetPastEnd at /batches/0/columns/0"),
-        ("[0,0]", "J7 CountDiffers at /batches/0/columns/0/OFFSET"),
-    ] {
-        let text = FILE_OF_NO_LISTS.replace(rt.alloc(), "OFFSETS", offsets)?;
-        expect(&rt, rt.alloc(), text.as_str(), wanted)?;
-    }
-    Ok(())
-}
-
-/// A file of lists of lists of numbers: `[[3], null]`, null, and `[]`. Items before the first list and of the second stand in the children.
-const LISTS_IN_LISTS: &str =
-    r#"{"schema":{"fields":[{"name":"l","nullable":true,"type":{"name":"list"},"children":[{"name":"m","nullable":true,"type":{"name":"list"},"children":[{"name":"n","nullable":true,"type":{"name":"int","bitWidth":8,"isSigned":true}}]}]}]},"batches":[{"count":3,"columns":[{"name":"l","count":3,"VALIDITY":[1,0,1],"OFFSET":[1,3,4,4],"children":[{"name":"m","count":4,"VALIDITY":[1,1,0,1],"OFFSET":[0,2,3,3,5],"children":[{"name":"n","count":5,"DATA":[1,2,3,4,5]}]}]}]}]}"#;
-
-#[test]
-fn reads_lists_in_lists(rt: HostRuntime) -> Result<(), Fail> {
-    let file = match read_file(rt.alloc(), LISTS_IN_LISTS.as_bytes()) {
-        Ok(file) => file,
-        Err(fault) => panic!(&rt; "{fault:?}"),
-    };
-    assert!(rt; !file.batches().is_empty());
-    let columns = file.batches()[0].columns();
-    assert!(rt; columns.len() == 1);
-    let view = columns[0].view();
-    assert!(rt; matches!(view.ty(), ViewType::List(_)) && view.len() == 3);
-    match (view.list_at(0), view.list_at(1), view.list_at(2)) {
-        (Some(first), None, Some(last)) => {
-            assert!(rt; last.len() == 0);
-            assert!(rt; matches!(first.ty(), ViewType::List(_)) && first.len() == 2);
-            match (first.list_at(0), first.list_at(1)) {
-                (Some(numbers), None) => assert_numbers(&rt, &numbers, &[Some(3)]),
-                _ => panic!(rt; "the second inner list alone is null"),
-            }
-        }
-        _ => panic!(rt; "the second list alone is null"),
-    }
-    Ok(())
+    expect_each(
+        &rt,
+        rt.alloc(),
+        FILE_OF_NO_LISTS,
+        &[
+            ("[]", "read"),
+            ("[0]", "read"),
+            ("[1]", "read"),
+            ("[2]", "J10 Layout V6 OffsetPastEnd at /batches/0/columns/0"),
+            ("[0,0]", "J7 CountDiffers at /batches/0/columns/0/OFFSET"),
+        ],
+    )
 }

@@ -28,9 +28,8 @@ fn reads_to_the_end(rt: HostRuntime) -> Result<(), Fail> {
         assert!(rt; most > 0);
         let mut source = MemorySource::new(whole.clone()?).in_pieces(most);
         let bytes = read_whole(rt.alloc(), &mut source)?;
-        assert_eq!(rt; bytes.as_slice(), whole.as_slice(), "in pieces of {most}");
-        assert!(rt; source.remaining().is_empty());
-        assert_eq!(rt; source.failures(), 0);
+        assert!(rt; bytes.as_slice() == whole.as_slice(), "in pieces of {most}");
+        assert!(rt; source.remaining().is_empty() && source.failures() == 0);
 
         // At the end there is nothing, however often it is asked for.
         assert!(rt; read_whole(rt.alloc(), &mut source)?.is_empty());
@@ -48,19 +47,19 @@ fn tells_each_failed_read(rt: HostRuntime) -> Result<(), Fail> {
             .in_pieces(3)
             .failing(Plan::At(call));
         let fault = read_whole(rt.alloc(), &mut source).err();
-        assert_eq!(rt; fault, Some(SourceFault::ReadFailed), "at read {call}");
-        assert_eq!(rt; source.failures(), 1);
-        assert_eq!(rt; source.remaining().len(), left, "at read {call}");
+        let remaining = source.remaining().len();
+        assert!(rt;
+            fault == Some(SourceFault::ReadFailed) && remaining == left,
+            "at read {call}"
+        );
+        assert!(rt; source.failures() == 1);
         let rest = read_whole(rt.alloc(), &mut source)?;
-        assert_eq!(rt; rest.len(), left, "after read {call}");
+        assert!(rt; rest.len() == left);
     }
     let mut source = MemorySource::new(Vec::from_slice(rt.alloc(), whole)?)
         .in_pieces(3)
         .failing(Plan::At(5));
-    assert_eq!(rt;
-        read_whole(rt.alloc(), &mut source)?.as_slice(),
-        whole.as_slice()
-    );
+    assert!(rt; read_whole(rt.alloc(), &mut source)?.as_slice() == whole.as_slice());
     Ok(())
 }
 
@@ -81,11 +80,8 @@ fn reads_one_of_many(rt: HostRuntime) -> Result<(), Fail> {
     let first = MemorySource::new(Vec::from_slice(rt.alloc(), b"first")?);
     let second = MemorySource::new(Vec::from_slice(rt.alloc(), b"second")?);
     let mut sources = [first, second];
-    assert_eq!(rt;
-        read_at(rt.alloc(), &mut sources, 1)?.as_slice(),
-        b"second".as_slice()
-    );
-    assert_eq!(rt; sources[0].remaining(), b"first".as_slice());
+    assert!(rt; read_at(rt.alloc(), &mut sources, 1)?.as_slice() == b"second".as_slice());
+    assert!(rt; sources[0].remaining() == b"first".as_slice());
     assert!(rt; sources[1].remaining().is_empty());
     Ok(())
 }
@@ -96,8 +92,7 @@ fn writes_a_byte_at_a_time(rt: HostRuntime) -> Result<(), Fail> {
     write_whole(&mut sink, b"one")?;
     write_whole(&mut sink, b"")?;
     write_whole(&mut sink, b", two")?;
-    assert_eq!(rt; sink.taken(), b"one, two".as_slice());
-    assert_eq!(rt; sink.failures(), 0);
+    assert!(rt; sink.taken() == b"one, two".as_slice() && sink.failures() == 0);
     Ok(())
 }
 
@@ -109,9 +104,11 @@ fn tells_each_failed_write(rt: HostRuntime) -> Result<(), Fail> {
             .in_pieces(2)
             .failing(Plan::At(call));
         let failed = write_whole(&mut sink, b"01234").is_err();
-        assert_eq!(rt; failed, call < 3, "at write {call}");
-        assert_eq!(rt; sink.taken(), taken.as_bytes(), "at write {call}");
-        assert_eq!(rt; sink.failures(), u64::from(failed));
+        assert!(rt;
+            failed == (call < 3) && sink.failures() == u64::from(failed),
+            "at write {call}"
+        );
+        assert!(rt; sink.taken() == taken.as_bytes(), "at write {call}");
     }
     Ok(())
 }

@@ -1,12 +1,7 @@
 //! Files exported: the table as one file, and that it reads back as it is.
-ghost use Rattle.std.specs.Prelude.{◌≡◌, ◌^◌, ◌-◌, ◌<◌, IfOk, length};
 
-use arrowtab::memory::{MemorySink, MemorySource};
-use arrowtab::{Command, Job, run};
-use std::alloc::{AllocError, Global};
-use std::process::Abort;
+use super::expect;
 use std::test::Fail;
-use std::thread::Threads;
 
 /// A file of the three numbers 9223372036854775807, null and -1.
 const NUMBERS: &str =
@@ -49,124 +44,6 @@ const BARE: &str =
 const BARE_OUT: &str =
     r#"{"batches":[{"columns":[],"count":2147483647},{"columns":[],"count":0}],"schema":{"fields":[]}}"#;
 
-/// What a run came to.
-#[derive(Drop)]
-struct Outcome {
-    status: u8,
-    out: MemorySink,
-    err: MemorySink,
-}
-
-/// The job `export A`.
-fn job_of_one(alloc: Global) -> Result<Job, AllocError>
-    ensures name { IfOk result (λ j. length j.names.items ≡ 1) }
-    ensures workers { IfOk result (λ j. j.workers ≡ 1) }
-{
-    let name = String::from_str(alloc, "A")?;
-    Ok(Job {
-        command: Command::Export,
-        names: vec![in alloc; name]?,
-        workers: 1,
-    })
-}
-
-/// The job `export A B`.
-fn job_of_two(alloc: Global) -> Result<Job, AllocError>
-    ensures name { IfOk result (λ j. length j.names.items ≡ 2) }
-    ensures workers { IfOk result (λ j. j.workers ≡ 1) }
-{
-    let first = String::from_str(alloc, "A")?;
-    let second = String::from_str(alloc, "B")?;
-    Ok(Job {
-        command: Command::Export,
-        names: vec![in alloc; first, second]?,
-        workers: 1,
-    })
-}
-
-/// A source of a text.
-fn source(alloc: Global, text: &[u8]) -> Result<MemorySource, AllocError>
-    ensures { IfOk result (λ s. s.failures ≡ 0) }
-{
-    Ok(MemorySource::new(Vec::from_slice(alloc, text)?))
-}
-
-/// Runs `export A` from this source.
-fn ran_one(
-    threads: &(impl Threads + Sync),
-    alloc: Global,
-    source: MemorySource,
-) -> Result<Outcome, AllocError>
-    requires { source.failures < 2 ^ 64 - 1 }
-{
-    let job = job_of_one(alloc)?;
-    let mut sources = [source];
-    let mut out = MemorySink::new(alloc);
-    let mut err = MemorySink::new(alloc);
-    let status = run(threads, alloc, &job, &mut sources, &mut out, &mut err);
-    Ok(Outcome { status, out, err })
-}
-
-/// Runs `export A B` from these sources.
-fn ran_two(
-    threads: &(impl Threads + Sync),
-    alloc: Global,
-    first: MemorySource,
-    second: MemorySource,
-) -> Result<Outcome, AllocError>
-    requires first { first.failures < 2 ^ 64 - 1 }
-    requires second { second.failures < 2 ^ 64 - 1 }
-{
-    let job = job_of_two(alloc)?;
-    let mut sources = [first, second];
-    let mut out = MemorySink::new(alloc);
-    let mut err = MemorySink::new(alloc);
-    let status = run(threads, alloc, &job, &mut sources, &mut out, &mut err);
-    Ok(Outcome { status, out, err })
-}
-
-/// Asserts that a run printed this, and a newline behind it.
-fn assert_printed(rt: &impl Abort, came: &Outcome, wanted: &str) {
-    assert!(rt; came.err.taken().is_empty(), "for {wanted}");
-    assert_eq!(rt; came.status, 0, "for {wanted}");
-    match came.out.taken().split_last() {
-        Some((newline, printed)) => {
-            assert_eq!(rt; *newline, b'\n', "for {wanted}");
-            assert_eq!(rt; printed, wanted.as_bytes());
-        }
-        None => panic!(rt; "nothing was printed for {wanted}"),
-    }
-}
-
-/// Asserts what is exported, and that this is exported as it is.
-fn expect(
-    rt: &(impl Abort + Threads + Sync),
-    alloc: Global,
-    text: &str,
-    wanted: &str,
-) -> Result<(), Fail> {
-    let came = ran_one(rt, alloc, source(alloc, text.as_bytes())?)?;
-    assert_printed(rt, &came, wanted);
-    let again = ran_one(rt, alloc, source(alloc, wanted.as_bytes())?)?;
-    assert_printed(rt, &again, wanted);
-    Ok(())
-}
-
-#[test]
-fn exports_one_file(rt: HostRuntime) -> Result<(), Fail> {
-    for (text, wanted) in [
-        (NUMBERS, NUMBERS_OUT),
-        (TEXTS, TEXTS_OUT),
-        (LISTS, LISTS_OUT),
-        (LETTERS, LETTERS_OUT),
-        (EMPTY, EMPTY_OUT),
-        (BARE, BARE_OUT),
-    ] {
-        expect(&rt, rt.alloc(), text, wanted)?;
-    }
-    Ok(())
-}
-
 /// One more text under the fields of the table of texts.
 const MORE: &str =
     r#"{"schema":{"fields":[{"name":"k","nullable":true,"type":{"name":"utf8"},"children":[],"dictionary":{"id":1,"indexType":{"name":"int","bitWidth":8,"isSigned":false}}},{"name":"v","nullable":true,"type":{"name":"int","bitWidth":32,"isSigned":true},"children":[]}]},"dictionaries":[{"id":1,"data":{"count":2,"columns":[{"count":2,"DATA":["c","a"]}]}}],"batches":[{"count":2,"columns":[{"count":2,"DATA":[1,0]},{"count":2,"DATA":[7,8]}]}]}"#;
@@ -174,11 +51,42 @@ const MORE: &str =
 const BOTH_OUT: &str =
     r#"{"batches":[{"columns":[{"DATA":[0,0,0,1],"VALIDITY":[0,1,0,1],"count":4,"name":"k"},{"DATA":[1,2,3,0],"VALIDITY":[1,1,1,0],"count":4,"name":"v"}],"count":4},{"columns":[{"DATA":[1,2],"VALIDITY":[1,1],"count":2,"name":"k"},{"DATA":[7,8],"VALIDITY":[1,1],"count":2,"name":"v"}],"count":2}],"dictionaries":[{"data":{"columns":[{"DATA":["b","a","c"],"OFFSET":[0,1,2,3],"VALIDITY":[1,1,1],"count":3,"name":"k"}],"count":3},"id":0}],"schema":{"fields":[{"children":[],"dictionary":{"id":0,"indexType":{"bitWidth":32,"isSigned":true,"name":"int"},"isOrdered":false},"name":"k","nullable":true,"type":{"name":"utf8"}},{"children":[],"name":"v","nullable":true,"type":{"bitWidth":32,"isSigned":true,"name":"int"}}]}}"#;
 
+/// One file or two, and what is exported.
+const EXPORTED: [(&str, Option<&str>, &str); 7] = [
+    (NUMBERS, None, NUMBERS_OUT),
+    (TEXTS, None, TEXTS_OUT),
+    (LISTS, None, LISTS_OUT),
+    (LETTERS, None, LETTERS_OUT),
+    (EMPTY, None, EMPTY_OUT),
+    (BARE, None, BARE_OUT),
+    (TEXTS, Some(MORE), BOTH_OUT),
+];
+
 #[test]
-fn exports_two_files_as_one(rt: HostRuntime) -> Result<(), Fail> {
-    let first = source(rt.alloc(), TEXTS.as_bytes())?;
-    let second = source(rt.alloc(), MORE.as_bytes())?;
-    let came = ran_two(&rt, rt.alloc(), first, second)?;
-    assert_printed(&rt, &came, BOTH_OUT);
+fn exports_files_as_one(rt: HostRuntime) -> Result<(), Fail> {
+    for (first, second, wanted) in EXPORTED {
+        let words: &[&str] = match second {
+            None => &["arrowtab", "export", "A"],
+            Some(_) => &["arrowtab", "export", "A", "B"],
+        };
+        let output = format!(in rt.alloc(); "{wanted}\n")?;
+        expect(
+            &rt,
+            rt.alloc(),
+            words,
+            (first, second),
+            (output.as_str(), ""),
+        )?;
+
+        // What is exported is exported as it is.
+        let again = &["arrowtab", "export", "A"];
+        expect(
+            &rt,
+            rt.alloc(),
+            again,
+            (wanted, None),
+            (output.as_str(), ""),
+        )?;
+    }
     Ok(())
 }

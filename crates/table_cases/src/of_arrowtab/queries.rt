@@ -1,8 +1,7 @@
 //! Queries over memory: the status, what went to the output, and the line of the fault.
-ghost use Rattle.std.specs.Prelude.{◌≡◌, ◌^◌, ◌-◌, ◌<◌, IfOk, length};
 
+use super::{expect, ran};
 use arrowtab::memory::{MemorySink, MemorySource, Plan};
-use arrowtab::{Command, Job, run};
 use std::alloc::{AllocError, Global};
 use std::process::Abort;
 use std::test::Fail;
@@ -20,66 +19,16 @@ const PAIRS: &str =
 const NO_ROWS: &str =
     r#"{"schema":{"fields":[{"name":"k","nullable":true,"type":{"name":"utf8"},"children":[]},{"name":"v","nullable":true,"type":{"name":"int","bitWidth":32,"isSigned":true},"children":[]}]},"batches":[]}"#;
 
-/// What a run came to.
-#[derive(Drop)]
-struct Outcome {
-    status: u8,
-    source: MemorySource,
-    out: MemorySink,
-    err: MemorySink,
-}
-
-/// The job `query --query QUERY A`.
-fn job(alloc: Global, query: &str) -> Result<Job, AllocError>
-    ensures name { IfOk result (λ j. length j.names.items ≡ 1) }
-    ensures workers { IfOk result (λ j. j.workers ≡ 1) }
-{
-    let name = String::from_str(alloc, "A")?;
-    Ok(Job {
-        command: Command::Query(String::from_str(alloc, query)?),
-        names: vec![in alloc; name]?,
-        workers: 1,
-    })
-}
-
-/// Runs `query --query QUERY A` from this source.
-fn ran(
-    threads: &(impl Threads + Sync),
-    alloc: Global,
-    query: &str,
-    source: MemorySource,
-) -> Result<Outcome, AllocError>
-    requires { source.failures < 2 ^ 64 - 1 }
-{
-    let job = job(alloc, query)?;
-    let mut sources = [source];
-    let mut out = MemorySink::new(alloc);
-    let mut err = MemorySink::new(alloc);
-    let status = run(threads, alloc, &job, &mut sources, &mut out, &mut err);
-    let [source] = sources;
-    Ok(Outcome {
-        status,
-        source,
-        out,
-        err,
-    })
-}
-
 /// Asserts what a query over a file writes, and the line of its fault.
-fn expect(
+fn expect_answer(
     rt: &(impl Abort + Threads + Sync),
     alloc: Global,
     file: &str,
     query: &str,
-    output: &str,
-    line: &str,
+    written: (&str, &str),
 ) -> Result<(), Fail> {
-    let source = MemorySource::new(Vec::from_slice(alloc, file.as_bytes())?);
-    let came = ran(rt, alloc, query, source)?;
-    assert_eq!(rt; came.err.taken(), line.as_bytes(), "for {query}");
-    assert_eq!(rt; came.out.taken(), output.as_bytes(), "for {query}");
-    assert_eq!(rt; came.status, u8::from(!line.is_empty()), "for {query}");
-    Ok(())
+    let words = ["arrowtab", "query", "--query", query, "A"];
+    expect(rt, alloc, &words, (file, None), written)
 }
 
 /// A file, a query, the output and the line of the fault.
@@ -162,15 +111,16 @@ fn negated(alloc: Global, times: usize) -> Result<String, AllocError> {
 #[test]
 fn answers_queries(rt: HostRuntime) -> Result<(), Fail> {
     for (file, query, output, line) in ANSWERS {
-        expect(&rt, rt.alloc(), file, query, output, line)?;
+        expect_answer(&rt, rt.alloc(), file, query, (output, line))?;
     }
     for (times, output, line) in [(30, "2\n", ""), (31, "", "arrowtab: query: Q5 TooDeep\n")] {
         let query = negated(rt.alloc(), times)?;
-        expect(&rt, rt.alloc(), PAIRS, query.as_str(), output, line)?;
+        expect_answer(&rt, rt.alloc(), PAIRS, query.as_str(), (output, line))?;
     }
     Ok(())
 }
 
+// A query that isn't read is told before a source is touched, one that doesn't resolve once all files are loaded.
 #[test]
 fn reads_the_query_first(rt: HostRuntime) -> Result<(), Fail> {
     for (query, failures, line) in [
@@ -178,11 +128,12 @@ fn reads_the_query_first(rt: HostRuntime) -> Result<(), Fail> {
         (r#"{"by":["w"]}"#, 1, b"arrowtab: A: cannot be read\n"),
     ] {
         let bytes = Vec::from_slice(rt.alloc(), PAIRS.as_bytes())?;
-        let source = MemorySource::new(bytes).failing(Plan::At(0));
-        let came = ran(&rt, rt.alloc(), query, source)?;
-        assert_eq!(rt; came.err.taken(), line, "for {query}");
-        assert_eq!(rt; came.source.failures(), failures, "for {query}");
-        assert_eq!(rt; came.status, 1, "for {query}");
+        let mut sources = [MemorySource::new(bytes).failing(Plan::At(0))];
+        let words = ["arrowtab", "query", "--query", query, "A"];
+        let out = MemorySink::new(rt.alloc());
+        let came = ran(&rt, rt.alloc(), &words, &mut sources, out)?;
+        assert!(rt; came.err.taken() == line, "for {query}");
+        assert!(rt; sources[0].failures() == failures && came.status == 1, "for {query}");
     }
     Ok(())
 }

@@ -1,12 +1,10 @@
 //! Runs over memory: the status, what went to the output, and the line of the fault.
-ghost use Rattle.std.specs.Prelude.{◌≡◌, ◌^◌, ◌-◌, ◌<◌, IfOk, length};
 
+use super::{expect, ran, source};
 use arrowtab::memory::{MemorySink, MemorySource, Plan};
-use arrowtab::{Command, Job, run};
-use std::alloc::{AllocError, Global};
-use std::process::Abort;
 use std::test::Fail;
-use std::thread::Threads;
+
+const STATS: &[&str] = &["arrowtab", "stats", "A"];
 
 /// A file of the three numbers 9223372036854775807, null and -1.
 const FILE: &str =
@@ -14,61 +12,6 @@ const FILE: &str =
 
 const OUTPUT: &str =
     "rows 3\nworker 0 calls 1 rows 3\n\"n\" int64 rows=3 nulls=1 sum=9223372036854775806 least=-1 greatest=9223372036854775807\n";
-
-/// What a run came to.
-#[derive(Drop)]
-struct Outcome {
-    status: u8,
-    out: MemorySink,
-    err: MemorySink,
-}
-
-/// The job `stats A`.
-fn job(alloc: Global) -> Result<Job, AllocError>
-    ensures name { IfOk result (λ j. length j.names.items ≡ 1) }
-    ensures workers { IfOk result (λ j. j.workers ≡ 1) }
-{
-    let name = String::from_str(alloc, "A")?;
-    Ok(Job {
-        command: Command::Stats,
-        names: vec![in alloc; name]?,
-        workers: 1,
-    })
-}
-
-/// Runs `stats A` from this source to this output.
-fn ran(
-    threads: &(impl Threads + Sync),
-    alloc: Global,
-    source: MemorySource,
-    out: MemorySink,
-) -> Result<Outcome, AllocError>
-    requires source { source.failures < 2 ^ 64 - 1 }
-    requires out { out.failures < 2 ^ 64 - 1 }
-{
-    let job = job(alloc)?;
-    let mut sources = [source];
-    let mut out = out;
-    let mut err = MemorySink::new(alloc);
-    let status = run(threads, alloc, &job, &mut sources, &mut out, &mut err);
-    Ok(Outcome { status, out, err })
-}
-
-/// Runs `stats A` over a text, and asserts what it writes, and the line of its fault.
-fn expect(
-    rt: &(impl Abort + Threads + Sync),
-    alloc: Global,
-    text: &str,
-    output: &str,
-    line: &str,
-) -> Result<(), Fail> {
-    let source = MemorySource::new(Vec::from_slice(alloc, text.as_bytes())?);
-    let came = ran(rt, alloc, source, MemorySink::new(alloc))?;
-    assert_eq!(rt; came.err.taken(), line.as_bytes(), "for {text}");
-    assert_eq!(rt; came.out.taken(), output.as_bytes(), "for {text}");
-    assert_eq!(rt; came.status, u8::from(!line.is_empty()), "for {text}");
-    Ok(())
-}
 
 /// A file of a field, and of batches.
 const TEMPLATE: &str = r#"{"schema":{"fields":[FIELD]},"batches":[BATCHES]}"#;
@@ -132,17 +75,17 @@ const PRINTED: [(&str, &str, &str); 9] = [
 
 #[test]
 fn prints_the_statistics(rt: HostRuntime) -> Result<(), Fail> {
-    expect(&rt, rt.alloc(), FILE, OUTPUT, "")?;
+    expect(&rt, rt.alloc(), STATS, (FILE, None), (OUTPUT, ""))?;
     for (field, batches, output) in PRINTED {
         let text = TEMPLATE.replace(rt.alloc(), "FIELD", field)?;
         let text = text.as_str().replace(rt.alloc(), "BATCHES", batches)?;
-        expect(&rt, rt.alloc(), text.as_str(), output, "")?;
+        expect(&rt, rt.alloc(), STATS, (text.as_str(), None), (output, ""))?;
     }
     Ok(())
 }
 
 /// What stands in the file, what is put for it, and the line of the fault.
-const CHANGED: [(&str, &str, &str); 4] = [
+const CHANGED: [(&str, &str, &str); 5] = [
     (
         "807\"",
         "808\"",
@@ -163,77 +106,70 @@ const CHANGED: [(&str, &str, &str); 4] = [
         "\"count\":2147483647",
         "arrowtab: A: J7 CountDiffers at /batches/0/columns/0/VALIDITY\n",
     ),
+    (
+        FILE,
+        r#"{"schema":{"fields":[]},"batches":[{"count":2147483647,"columns":[{}]}]}"#,
+        "arrowtab: A: J7 CountDiffers at /batches/0/columns\n",
+    ),
 ];
 
 #[test]
 fn tells_the_fault(rt: HostRuntime) -> Result<(), Fail> {
     for (found, put, line) in CHANGED {
         let text = FILE.replace(rt.alloc(), found, put)?;
-        expect(&rt, rt.alloc(), text.as_str(), "", line)?;
+        expect(&rt, rt.alloc(), STATS, (text.as_str(), None), ("", line))?;
     }
-    expect(
-        &rt,
-        rt.alloc(),
-        r#"{"schema":{"fields":[]},"batches":[{"count":2147483647,"columns":[{}]}]}"#,
-        "",
-        "arrowtab: A: J7 CountDiffers at /batches/0/columns\n",
-    )
+    Ok(())
 }
 
 #[test]
 fn tells_each_cut(rt: HostRuntime) -> Result<(), Fail> {
     for size in 0..FILE.len() {
-        let bytes = Vec::from_slice(rt.alloc(), &FILE.as_bytes()[..size])?;
-        let source = MemorySource::new(bytes);
-        let came = ran(&rt, rt.alloc(), source, MemorySink::new(rt.alloc()))?;
-        let line = b"arrowtab: A: J1 NotJson\n";
-        assert_eq!(rt; came.err.taken(), line.as_slice(), "at {size}");
-        assert!(rt; came.out.taken().is_empty(), "at {size}");
-        assert_eq!(rt; came.status, 1, "at {size}");
+        let text = Vec::from_slice(rt.alloc(), &FILE.as_bytes()[..size])?;
+        let out = MemorySink::new(rt.alloc());
+        let came = ran(&rt, rt.alloc(), STATS, &mut [MemorySource::new(text)], out)?;
+        let is_told = came.err.taken() == b"arrowtab: A: J1 NotJson\n".as_slice();
+        assert!(rt;
+            is_told && came.out.taken().is_empty() && came.status == 1,
+            "at {size}"
+        );
     }
     Ok(())
 }
+
+/// Which read and which write fail, and the line of the fault.
+const FAILING: [(Plan, Plan, &[u8]); 7] = [
+    (Plan::At(0), Plan::Never, UNREAD),
+    (Plan::At(1), Plan::Never, UNREAD),
+    (Plan::At(2), Plan::Never, UNREAD),
+    (Plan::At(3), Plan::Never, UNREAD),
+    (Plan::Never, Plan::At(0), UNWRITTEN),
+    (Plan::Never, Plan::At(1), UNWRITTEN),
+    (Plan::Never, Plan::At(2), UNWRITTEN),
+];
+
+const UNREAD: &[u8] = b"arrowtab: A: cannot be read\n";
+
+const UNWRITTEN: &[u8] = b"arrowtab: output failed\n";
 
 #[test]
 fn tells_each_failed_end(rt: HostRuntime) -> Result<(), Fail> {
-    let unread: &[u8] = b"arrowtab: A: cannot be read\n";
-    let unwritten: &[u8] = b"arrowtab: output failed\n";
-    for (read, write, line) in [
-        (Plan::At(0), Plan::Never, unread),
-        (Plan::At(1), Plan::Never, unread),
-        (Plan::At(2), Plan::Never, unread),
-        (Plan::At(3), Plan::Never, unread),
-        (Plan::Never, Plan::At(0), unwritten),
-        (Plan::Never, Plan::At(1), unwritten),
-        (Plan::Never, Plan::At(2), unwritten),
-    ] {
-        let bytes = Vec::from_slice(rt.alloc(), FILE.as_bytes())?;
-        let source = MemorySource::new(bytes).in_pieces(100).failing(read);
+    for (read, write, line) in FAILING {
+        let source = source(rt.alloc(), FILE)?.in_pieces(100).failing(read);
         let out = MemorySink::new(rt.alloc()).in_pieces(50).failing(write);
-        let came = ran(&rt, rt.alloc(), source, out)?;
-        assert_eq!(rt; came.err.taken(), line, "at {read:?} and {write:?}");
+        let came = ran(&rt, rt.alloc(), STATS, &mut [source], out)?;
         let written = came.out.taken();
-        assert!(rt; OUTPUT.as_bytes().starts_with(written), "at {write:?}");
-        assert!(rt; write != Plan::Never || written.is_empty(), "at {read:?}");
-        assert_eq!(rt; came.status, 1, "at {read:?} and {write:?}");
+        let is_front = OUTPUT.as_bytes().starts_with(written);
+        assert!(rt;
+            is_front && (write != Plan::Never || written.is_empty()),
+            "at {write:?}"
+        );
+        assert!(rt;
+            came.err.taken() == line && came.status == 1,
+            "at {read:?} and {write:?}"
+        );
     }
     Ok(())
-}
-
-/// A text, `middle` so often in it, and another at the end.
-fn repeated(
-    alloc: Global,
-    front: &str,
-    middle: &str,
-    times: usize,
-    back: &str,
-) -> Result<String, AllocError> {
-    let mut text = String::from_str(alloc, front)?;
-    for _time in 0..times {
-        text.push_str(middle)?;
-    }
-    text.push_str(back)?;
-    Ok(text)
 }
 
 #[test]
@@ -242,27 +178,18 @@ fn reads_127_levels(rt: HostRuntime) -> Result<(), Fail> {
         (127, "arrowtab: A: J3 WrongMember\n"),
         (128, "arrowtab: A: J1 NotJson\n"),
     ] {
-        let begun = repeated(rt.alloc(), "", "[", depth, "")?;
-        let text = repeated(rt.alloc(), begun.as_str(), "]", depth, "")?;
-        expect(&rt, rt.alloc(), text.as_str(), "", line)?;
+        let mut text = "[".repeat(rt.alloc(), depth)?;
+        text.push_str("]".repeat(rt.alloc(), depth)?.as_str())?;
+        expect(&rt, rt.alloc(), STATS, (text.as_str(), None), ("", line))?;
     }
     Ok(())
 }
 
 #[test]
 fn refuses_the_513th_large_batch(rt: HostRuntime) -> Result<(), Fail> {
-    let text = repeated(
-        rt.alloc(),
-        r#"{"schema":{"fields":[]},"batches":["#,
-        r#"{"count":2147483647,"columns":[]},"#,
-        512,
-        r#"{"count":2147483647,"columns":[]}]}"#,
-    )?;
-    expect(
-        &rt,
-        rt.alloc(),
-        text.as_str(),
-        "",
-        "arrowtab: A: batch 512: A3 TableFull\n",
-    )
+    let batches = r#"{"count":2147483647,"columns":[]},"#.repeat(rt.alloc(), 512)?;
+    let file = r#"{"schema":{"fields":[]},"batches":[BATCHES{"count":2147483647,"columns":[]}]}"#;
+    let text = file.replace(rt.alloc(), "BATCHES", batches.as_str())?;
+    let line = "arrowtab: A: batch 512: A3 TableFull\n";
+    expect(&rt, rt.alloc(), STATS, (text.as_str(), None), ("", line))
 }

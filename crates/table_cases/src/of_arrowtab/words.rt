@@ -1,98 +1,64 @@
 //! The words of the command line: the job that they ask for, or what is printed in its stead, and the status.
 ghost use Rattle.std.specs.Prelude.{◌^◌, ◌-◌, ◌<◌};
 
+use super::Outcome;
 use arrowtab::memory::{MemorySink, Plan};
 use arrowtab::{Command, JobFault, job, print_fault};
 use std::alloc::Global;
 use std::process::Abort;
 use std::test::Fail;
 
-/// Asserts that the words ask for the statistics of these files.
-fn expect_stats(rt: &impl Abort, alloc: Global, words: &[&str], names: &[&str]) {
-    expect_job(rt, alloc, words, Command::Stats, names);
-}
-
-/// Asserts that the words ask for this of these files.
-fn expect_job(rt: &impl Abort, alloc: Global, words: &[&str], command: Command, names: &[&str]) {
-    let Ok(job) = job(alloc, words) else {
-        assert!(rt; false, "no job for {words:?}");
-        return;
-    };
-    assert_eq!(rt; job.command, command);
-    assert_eq!(rt; job.workers, 1);
-    assert!(rt;
-        job.names
-            .iter()
-            .map(String::as_str)
-            .eq(names.iter().copied()),
-        "for {words:?}"
-    );
-}
-
-#[test]
-fn stats_takes_files(rt: HostRuntime) {
-    let alloc = rt.alloc();
-    expect_stats(&rt, alloc, &["arrowtab", "stats", "A"], &["A"]);
-    expect_stats(
-        &rt,
-        alloc,
-        &["a/b", "stats", "B", "A", "B"],
-        &["B", "A", "B"],
-    );
-    expect_stats(&rt, alloc, &["arrowtab", "stats", ""], &[""]);
-    expect_stats(
-        &rt,
-        alloc,
+/// Words, the command that they ask for, or the text of its query, and the files that it is about.
+const JOBS: [(&[&str], &str, &[&str]); 11] = [
+    (&["arrowtab", "stats", "A"], "stats", &["A"]),
+    (&["a/b", "stats", "B", "A", "B"], "stats", &["B", "A", "B"]),
+    (&["arrowtab", "stats", ""], "stats", &[""]),
+    (
         &["arrowtab", "stats", "stats", "help"],
+        "stats",
         &["stats", "help"],
-    );
-    expect_stats(
-        &rt,
-        alloc,
+    ),
+    (
         &["arrowtab", "stats", "--", "-h", "--"],
+        "stats",
         &["-h", "--"],
-    );
-}
-
-#[test]
-fn export_takes_files(rt: HostRuntime) {
-    let alloc = rt.alloc();
-    expect_job(
-        &rt,
-        alloc,
-        &["arrowtab", "export", "A"],
-        Command::Export,
-        &["A"],
-    );
-    expect_job(
-        &rt,
-        alloc,
+    ),
+    (&["arrowtab", "export", "A"], "export", &["A"]),
+    (
         &["arrowtab", "export", "B", "A", "B"],
-        Command::Export,
+        "export",
         &["B", "A", "B"],
-    );
+    ),
+    (&["arrowtab", "query", "--query", "{}", "A"], "{}", &["A"]),
+    (
+        &["arrowtab", "query", "B", "--query={}", "A"],
+        "{}",
+        &["B", "A"],
+    ),
+    (&["arrowtab", "query", "--query", "", "A"], "", &["A"]),
+    (
+        &["arrowtab", "query", "--query", "query", "--", "--query"],
+        "query",
+        &["--query"],
+    ),
+];
+
+/// What the command is called in the table.
+fn name_of(command: &Command) -> &str {
+    match command {
+        Command::Stats => "stats",
+        Command::Export => "export",
+        Command::Query(query) => query.as_str(),
+    }
 }
 
 #[test]
-fn query_takes_a_query_and_files(rt: HostRuntime) -> Result<(), Fail> {
-    let alloc = rt.alloc();
-    let words: [(&[&str], &str, &[&str]); 4] = [
-        (&["arrowtab", "query", "--query", "{}", "A"], "{}", &["A"]),
-        (
-            &["arrowtab", "query", "B", "--query={}", "A"],
-            "{}",
-            &["B", "A"],
-        ),
-        (&["arrowtab", "query", "--query", "", "A"], "", &["A"]),
-        (
-            &["arrowtab", "query", "--query", "query", "--", "--query"],
-            "query",
-            &["--query"],
-        ),
-    ];
-    for (words, query, names) in words {
-        let command = Command::Query(String::from_str(alloc, query)?);
-        expect_job(&rt, alloc, words, command, names);
+fn a_command_takes_files(rt: HostRuntime) -> Result<(), Fail> {
+    for (words, command, names) in JOBS {
+        let job = job(rt.alloc(), words)?;
+        let found = job.names.iter().map(String::as_str);
+        assert!(rt; found.eq(names.iter().copied()), "for {words:?}");
+        assert!(rt; name_of(&job.command) == command && job.workers == 1, "for {words:?}");
     }
     Ok(())
 }
@@ -148,14 +114,6 @@ Options:
   -h, --help           Print help
 ";
 
-/// What a fault came to.
-#[derive(Drop)]
-struct Outcome {
-    status: u8,
-    out: MemorySink,
-    err: MemorySink,
-}
-
 /// Prints a fault to this output.
 fn told(alloc: Global, fault: &JobFault, out: MemorySink) -> Outcome
     requires { out.failures < 2 ^ 64 - 1 }
@@ -184,27 +142,9 @@ fn expect_printed(
     status: u8,
 ) {
     let came = told(alloc, fault, MemorySink::new(alloc));
-    assert_eq!(rt; came.out.taken(), out.as_bytes(), "for {fault:?}");
-    assert_eq!(rt; came.err.taken(), err.as_bytes(), "for {fault:?}");
-    assert_eq!(rt; came.status, status, "for {fault:?}");
-}
-
-#[test]
-fn help_is_the_output(rt: HostRuntime) -> Result<(), Fail> {
-    let alloc = rt.alloc();
-    let words: [(&[&str], &str); 7] = [
-        (&["arrowtab", "--help"], HELP),
-        (&["bin/arrowtab", "-h"], HELP),
-        (&["arrowtab", "help"], HELP),
-        (&["arrowtab", "stats", "A", "--help"], STATS_HELP),
-        (&["arrowtab", "help", "stats"], STATS_HELP),
-        (&["arrowtab", "help", "export"], EXPORT_HELP),
-        (&["arrowtab", "query", "--help"], QUERY_HELP),
-    ];
-    for (words, help) in words {
-        expect_printed(&rt, alloc, &fault_of(alloc, words)?, help, "", 0);
-    }
-    Ok(())
+    assert_eq!(rt; came.out.taken(), out.as_bytes());
+    assert_eq!(rt; came.err.taken(), err.as_bytes());
+    assert!(rt; came.status == status, "for {fault:?}");
 }
 
 #[test]
@@ -213,16 +153,23 @@ fn help_may_fail(rt: HostRuntime) -> Result<(), Fail> {
     let help = fault_of(alloc, &["arrowtab", "--help"])?;
     let out = MemorySink::new(alloc).in_pieces(7).failing(Plan::At(1));
     let came = told(alloc, &help, out);
-    assert_eq!(rt; came.out.taken(), b"Tells w".as_slice());
-    assert_eq!(rt; came.err.taken(), b"arrowtab: output failed\n".as_slice());
-    assert_eq!(rt; came.status, 1);
+    assert!(rt; came.out.taken() == b"Tells w".as_slice());
+    assert!(rt; came.err.taken() == b"arrowtab: output failed\n".as_slice());
+    assert!(rt; came.status == 1);
     Ok(())
 }
 
-/// Words that are no job, and what `clap` says of them.
-const MISTAKES: [(&[&str], &str); 7] = [
-    (&["arrowtab"], HELP),
-    (&[], HELP),
+/// Words that are no job, what `clap` says of them, and whether that is the help that was asked for.
+const NO_JOBS: [(&[&str], &str, bool); 14] = [
+    (&["arrowtab", "--help"], HELP, true),
+    (&["bin/arrowtab", "-h"], HELP, true),
+    (&["arrowtab", "help"], HELP, true),
+    (&["arrowtab", "stats", "A", "--help"], STATS_HELP, true),
+    (&["arrowtab", "help", "stats"], STATS_HELP, true),
+    (&["arrowtab", "help", "export"], EXPORT_HELP, true),
+    (&["arrowtab", "query", "--help"], QUERY_HELP, true),
+    (&["arrowtab"], HELP, false),
+    (&[], HELP, false),
     (
         &["arrowtab", "stats"],
         "error: the following required arguments were not provided:
@@ -232,6 +179,7 @@ Usage: arrowtab stats <FILE>...
 
 For more information, try '--help'.
 ",
+        false,
     ),
     (
         &["arrowtab", "stat", "A"],
@@ -243,6 +191,7 @@ Usage: arrowtab <COMMAND>
 
 For more information, try '--help'.
 ",
+        false,
     ),
     (
         &["arrowtab", "query", "A"],
@@ -253,6 +202,7 @@ Usage: arrowtab query --query <QUERY> <FILE>...
 
 For more information, try '--help'.
 ",
+        false,
     ),
     (
         &["arrowtab", "query", "--query", "{}", "--query={}", "A"],
@@ -262,6 +212,7 @@ Usage: arrowtab query --query <QUERY> <FILE>...
 
 For more information, try '--help'.
 ",
+        false,
     ),
     (
         &["arrowtab", "stats", "--workers", "2", "A"],
@@ -273,35 +224,26 @@ Usage: arrowtab stats <FILE>...
 
 For more information, try '--help'.
 ",
+        false,
     ),
 ];
 
 #[test]
-fn a_mistake_is_told(rt: HostRuntime) -> Result<(), Fail> {
-    let alloc = rt.alloc();
-    for (words, text) in MISTAKES {
-        expect_printed(&rt, alloc, &fault_of(alloc, words)?, "", text, 2);
+fn what_is_no_job_is_told(rt: HostRuntime) -> Result<(), Fail> {
+    for (words, text, is_help) in NO_JOBS {
+        let fault = fault_of(rt.alloc(), words)?;
+        if is_help {
+            expect_printed(&rt, rt.alloc(), &fault, text, "", 0);
+        } else {
+            expect_printed(&rt, rt.alloc(), &fault, "", text, 2);
+        }
     }
     Ok(())
 }
 
 #[test]
 fn other_faults_have_lines(rt: HostRuntime) {
-    let alloc = rt.alloc();
-    expect_printed(
-        &rt,
-        alloc,
-        &JobFault::Unread,
-        "",
-        "arrowtab: bad arguments\n",
-        2,
-    );
-    expect_printed(
-        &rt,
-        alloc,
-        &JobFault::NoMemory,
-        "",
-        "arrowtab: no memory\n",
-        1,
-    );
+    let (unread, no_memory) = ("arrowtab: bad arguments\n", "arrowtab: no memory\n");
+    expect_printed(&rt, rt.alloc(), &JobFault::Unread, "", unread, 2);
+    expect_printed(&rt, rt.alloc(), &JobFault::NoMemory, "", no_memory, 1);
 }
