@@ -39,7 +39,7 @@ def one_call(program, kernel, rows, times):
 
 def built(folder):
     """The path of the plain Rust program, built in the folder."""
-    for name in ["Cargo.toml", "kernels.rs", "export.rs"]:
+    for name in ["Cargo.toml", "kernels.rs", "export.rs", "query.rs"]:
         shutil.copy(os.path.join(TOP, "bench", name), folder)
     words = ["cargo", "build", "--release", "--quiet"]
     vendored = os.environ.get("VENDORED")

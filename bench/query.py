@@ -1,0 +1,99 @@
+#!/usr/bin/env python3
+"""Measures grouped queries beside plain Rust that is written by hand for each, and beside SQLite in memory.
+
+    bench/query.py [RUNS [QUERY..]]
+
+Builds bench/query.rs by cargo in a folder of its own; `crates/bench_query` has to be built before (`rt run` there). Where
+VENDORED names a folder of vendored crates, cargo takes indexmap from there. 8 million rows in 80 batches; the runs
+alternate. Printed are the medians of the milliseconds of one answer: what a process takes for many answers less what it
+takes for one, so that making the columns doesn't count. SQLite's time is that of one statement, once the rows are there.
+"""
+import os
+import shutil
+import sqlite3
+import statistics
+import subprocess
+import sys
+import tempfile
+import time
+
+TOP = os.path.dirname(os.path.dirname(os.path.abspath(__file__)))
+OURS = os.path.join(TOP, "crates", "bench_query", "out", "bench_query")
+BATCHES, ROWS = 80, 100_000
+QUERIES = {
+    "sum-by-text": ('{"by":["k"],"aggs":[{"agg":"sum","column":"v"}]}',
+                    "select count(*), sum(s) from (select sum(v) s from t group by k)"),
+    "ends-by-number": ('{"by":["g"],"aggs":[{"agg":"rows"},{"agg":"least","column":"v"},{"agg":"greatest","column":"v"}]}',
+                       "select count(*), sum(n + coalesce(a, 0) + coalesce(b, 0)) from (select count(*) n, min(v) a, max(v) b from t group by g)"),
+    "rows-where": ('{"filter":{"op":"and","args":[{"op":"gt","args":[{"op":"add","args":[{"column":"v"},{"int":1}]},{"int":5}]},'
+                   '{"op":"not","args":[{"op":"is_null","args":[{"column":"k"}]}]}]},"aggs":[{"agg":"rows"}]}',
+                   "select 1, count(*) from t where v + 1 > 5 and k is not null"),
+}
+
+
+def seconds(program, query, times):
+    begin = time.monotonic()
+    out = subprocess.run([program, query, str(BATCHES), str(ROWS), str(times)], stdout=subprocess.PIPE, check=True).stdout
+    return time.monotonic() - begin, out
+
+
+def one_answer(program, query, times):
+    once, first = seconds(program, query, 1)
+    often, last = seconds(program, query, times + 1)
+    assert first == last
+    return 1000 * (often - once) / times, first
+
+
+def built(folder):
+    """The path of the plain Rust program, built in the folder."""
+    for name in ["Cargo.toml", "kernels.rs", "export.rs", "query.rs"]:
+        shutil.copy(os.path.join(TOP, "bench", name), folder)
+    words = ["cargo", "build", "--release", "--quiet", "--bin", "query"]
+    vendored = os.environ.get("VENDORED")
+    if vendored:
+        words += ["--offline", "--config", 'source.crates-io.replace-with="vendored"',
+                  "--config", f'source.vendored.directory="{vendored}"']
+    # ours are built for this level
+    environment = {**os.environ, "RUSTFLAGS": "-C target-cpu=x86-64-v2"}
+    subprocess.run(words, cwd=folder, check=True, env=environment)
+    return os.path.join(folder, "target", "release", "query")
+
+
+def spread(row, salt, distinct):
+    return (row + salt) * 2_654_435_761 % 2**32 % distinct
+
+
+def table():
+    """The same rows in SQLite."""
+    base = sqlite3.connect(":memory:")
+    base.execute("create table t (k text, g integer, v integer)")
+    rows = ((None if (i % ROWS + 1) % 20 == 0 else str(spread(i, 1, 1000)), None if (i % ROWS + 2) % 20 == 0 else spread(i, 2, 100_000),
+             None if (i % ROWS + 3) % 20 == 0 else spread(i, 3, 2**31)) for i in range(BATCHES * ROWS))
+    base.executemany("insert into t values (?, ?, ?)", rows)
+    return base
+
+
+def main():
+    runs = int(sys.argv[1]) if len(sys.argv) > 1 else 5
+    base = table()
+    with tempfile.TemporaryDirectory() as folder:
+        peer = built(folder)
+        for name, (text, statement) in QUERIES.items():
+            if sys.argv[2:] and name not in sys.argv[2:]:
+                continue
+            pairs = []
+            for _ in range(runs):
+                ours, said = one_answer(OURS, text, 10)
+                theirs, told = one_answer(peer, name, 10)
+                assert said == told, (name, said, told)
+                pairs.append((ours, theirs))
+            ours = statistics.median(pair[0] for pair in pairs)
+            theirs = statistics.median(pair[1] for pair in pairs)
+            begin = time.monotonic()
+            told = base.execute(statement).fetchone()
+            sqlite = 1000 * (time.monotonic() - begin)
+            assert " ".join(map(str, told)) == said.decode().strip(), (name, said, told)
+            print(f"{name}: {ours:.1f} ms beside {theirs:.1f} ms, {ours / theirs:.2f}; SQLite {sqlite:.0f} ms", flush=True)
+
+
+main()

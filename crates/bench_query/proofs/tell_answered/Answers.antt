@@ -1,0 +1,10 @@
+use Rattle.std.proofs.Common.{◌≡◌, ◌∙◌, true, ap, subst, sym}
+use Rattle.query.specs.Asked.{asked}
+use Rattle.query.specs.Fault.{fits}
+use Rattle.shared.specs.Contents.{Contents}
+use Rattle.bench_query.proofs.tell_answered.Goals as goal
+
+pub tell_last-requires-after_bounds : goal.tell_last-requires-after_bounds
+tell_last-requires-after_bounds g c κs within =
+    subst (λ fs. fits fs (asked c.in-Ok-resolve.query) ≡ true) (c.schema.ensures ∙ ap (λ (v : Contents). v.fields) (c.deref.ensures ∙ sym c.deref-2.ensures))
+    c.in-Ok-resolve.ensures.fits
