@@ -32,7 +32,7 @@ fn expect_answer(
 }
 
 /// A file, a query, the output and the line of the fault.
-const ANSWERS: [(&str, &str, &str, &str); 11] = [
+const ANSWERS: [(&str, &str, &str, &str); 15] = [
     (
         PAIRS,
         r#"{"by":["k"],"aggs":[{"agg":"sum","column":"v"}]}"#,
@@ -64,6 +64,33 @@ const ANSWERS: [(&str, &str, &str, &str); 11] = [
         r#"{"filter":{"op":"eq","args":[{"column":"k"},{"text":"b"}]},"aggs":[{"agg":"rows"}]}"#,
         "1\n",
         "",
+    ),
+    // Literals beside one another are of 64 bits, signed.
+    (
+        PAIRS,
+        r#"{"filter":{"op":"eq","args":[{"int":1},{"int":1}]},"aggs":[{"agg":"rows"}]}"#,
+        "4\n",
+        "",
+    ),
+    (
+        PAIRS,
+        r#"{"filter":{"op":"eq","args":[{"int":"18446744073709551615"},{"int":1}]},"aggs":[{"agg":"rows"}]}"#,
+        "",
+        "arrowtab: query: Q3 WrongKind\n",
+    ),
+    // Rows whose filter is null are dropped.
+    (
+        PAIRS,
+        r#"{"filter":{"op":"ne","args":[{"column":"k"},{"text":"c"}]},"by":["k"],"aggs":[{"agg":"rows"},{"agg":"count","column":"v"}]}"#,
+        "\"b\" 1 1\n\"a\" 1 0\n",
+        "",
+    ),
+    // What is null there hides no overflow.
+    (
+        PAIRS,
+        r#"{"filter":{"op":"or","args":[{"op":"is_null","args":[{"column":"v"}]},{"op":"gt","args":[{"op":"add","args":[{"column":"v"},{"int":2147483645}]},{"int":0}]}]},"aggs":[{"agg":"rows"}]}"#,
+        "",
+        "arrowtab: query: Q4 Overflow row=2\n",
     ),
     // The sum of the third row is past 32 bits.
     (
@@ -133,7 +160,10 @@ fn reads_the_query_first(rt: HostRuntime) -> Result<(), Fail> {
         let out = MemorySink::new(rt.alloc());
         let came = ran(&rt, rt.alloc(), &words, &mut sources, out)?;
         assert!(rt; came.err.taken() == line, "for {query}");
-        assert!(rt; sources[0].failures() == failures && came.status == 1, "for {query}");
+        assert!(rt;
+            sources[0].failures() == failures && came.status == 1,
+            "for {query}"
+        );
     }
     Ok(())
 }

@@ -58,7 +58,10 @@ fn a_command_takes_files(rt: HostRuntime) -> Result<(), Fail> {
         let job = job(rt.alloc(), words)?;
         let found = job.names.iter().map(String::as_str);
         assert!(rt; found.eq(names.iter().copied()), "for {words:?}");
-        assert!(rt; name_of(&job.command) == command && job.workers == 1, "for {words:?}");
+        assert!(rt;
+            name_of(&job.command) == command && job.workers == 1,
+            "for {words:?}"
+        );
     }
     Ok(())
 }
