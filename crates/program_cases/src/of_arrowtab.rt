@@ -3,6 +3,7 @@ ghost use Rattle.std.specs.Prelude.{◌≡◌, ◌^◌, ◌-◌, ◌<◌, All, I
 
 mod bytes;
 mod exports;
+mod refusals;
 mod runs;
 mod several;
 mod words;
