@@ -1,217 +1,310 @@
 //! Tests of views that are joined.
 
-use crate::testing::{NUMBERS, TRUTHS, has_items, is_result_of_codes, repeated, repeats_numbers};
-use arrays::{Array, DataType, View, ViewType, validate};
-use colbits::Buffer;
+use crate::testing::Piece::{self, All, Part, Repeated};
+use crate::testing::{INT8S, NUMBERS, Selected, TRUTHS, is_selected, repeats_numbers};
+use arrays::{Array, View};
+use samples::Sample::{self, Coded, Lists, ListsOfLists, Of};
 use samples::{
-    Flat, INT8, INT16, INT32, INT64, NAMES, Parts, Positions, UINT8, UINT16, UINT32, UINT64, built,
-    coded, is_result_of_bools, is_result_of_numbers, lists, lists_of_lists, raw, shows_lists,
-    shows_texts, slots_of,
+    Flat, INT8, INT16, INT32, INT64, NAMES, Positions, Shown, UINT8, UINT16, UINT32, UINT64,
+    slots_of,
 };
 use select::{SelectFault, concat};
 use std::alloc::Global;
+use std::process::Abort;
 use std::test::Fail;
 
-/// One view after the other.
-fn concat_both<'a>(alloc: Global, first: View<'a>, second: View<'a>) -> Result<Array, SelectFault> {
-    concat(alloc, &[first, second])
+/// The text é.
+const ACCENTED: Piece = All(Of((
+    Flat::Utf8,
+    1,
+    &[None, Some(&[0, 0, 0, 0, 2, 0, 0, 0]), Some(b"\xc3\xa9")],
+)));
+
+/// Bytes of ones.
+const ONES: Positions = &[None, Some(&[255; 8])];
+
+/// The numbers of the lists.
+const FIRST: &[Option<i128>] = &[Some(12), Some(-7), Some(25)];
+
+const THIRD: &[Option<i128>] = &[Some(0), Some(-127), Some(127), Some(50)];
+
+/// Pieces, and what they give one after the other.
+type Joined = (&'static [Piece], Selected);
+
+static NUMBERS_AND_TRUTHS: [Joined; 2] = [
+    (
+        &[
+            Part(NUMBERS, 3, 3),
+            Part(NUMBERS, 7, 1),
+            Part(NUMBERS, 5, 0),
+            Part(NUMBERS, 0, 2),
+        ],
+        Selected::Slots(Shown::Numbers(&[Some(4), None, Some(6), None, Some(1), Some(2)])),
+    ),
+    (
+        &[Part(TRUTHS, 3, 4), Part(TRUTHS, 1, 2)],
+        Selected::Slots(Shown::Bools(&[
+            Some(true),
+            None,
+            Some(false),
+            None,
+            Some(false),
+            Some(true),
+        ])),
+    ),
+];
+
+/// Numbers of each type.
+static OF_TYPES: [Joined; 8] = [
+    (
+        &[
+            All(Of((Flat::Int(INT8), 8, ONES))),
+            All(Of((Flat::Int(INT8), 8, ONES))),
+        ],
+        Selected::Slots(Shown::Numbers(&[Some(-1); 16])),
+    ),
+    (
+        &[
+            All(Of((Flat::Int(INT16), 4, ONES))),
+            All(Of((Flat::Int(INT16), 4, ONES))),
+        ],
+        Selected::Slots(Shown::Numbers(&[Some(-1); 8])),
+    ),
+    (
+        &[
+            All(Of((Flat::Int(INT32), 2, ONES))),
+            All(Of((Flat::Int(INT32), 2, ONES))),
+        ],
+        Selected::Slots(Shown::Numbers(&[Some(-1); 4])),
+    ),
+    (
+        &[
+            All(Of((Flat::Int(INT64), 1, ONES))),
+            All(Of((Flat::Int(INT64), 1, ONES))),
+        ],
+        Selected::Slots(Shown::Numbers(&[Some(-1); 2])),
+    ),
+    (
+        &[
+            All(Of((Flat::Int(UINT8), 8, ONES))),
+            All(Of((Flat::Int(UINT8), 8, ONES))),
+        ],
+        Selected::Slots(Shown::Numbers(&[Some(0xff); 16])),
+    ),
+    (
+        &[
+            All(Of((Flat::Int(UINT16), 4, ONES))),
+            All(Of((Flat::Int(UINT16), 4, ONES))),
+        ],
+        Selected::Slots(Shown::Numbers(&[Some(0xffff); 8])),
+    ),
+    (
+        &[
+            All(Of((Flat::Int(UINT32), 2, ONES))),
+            All(Of((Flat::Int(UINT32), 2, ONES))),
+        ],
+        Selected::Slots(Shown::Numbers(&[Some(0xffff_ffff); 4])),
+    ),
+    (
+        &[
+            All(Of((Flat::Int(UINT64), 1, ONES))),
+            All(Of((Flat::Int(UINT64), 1, ONES))),
+        ],
+        Selected::Slots(Shown::Numbers(&[Some(0xffff_ffff_ffff_ffff); 2])),
+    ),
+];
+
+static OTHERS: [Joined; 7] = [
+    (
+        &[All(Of(NAMES)), ACCENTED],
+        Selected::Slots(Shown::Texts(&[Some("joe"), None, None, Some("mark"), Some("é")])),
+    ),
+    (
+        &[Part(Of(NAMES), 3, 1), Part(Of(NAMES), 0, 2)],
+        Selected::Slots(Shown::Texts(&[Some("mark"), Some("joe"), None])),
+    ),
+    // Lists, without what lies before them.
+    (
+        &[Part(Lists, 2, 2), All(Lists)],
+        Selected::Lists(
+            Shown::Lists(&[
+                Some(THIRD),
+                Some(&[]),
+                Some(FIRST),
+                None,
+                Some(THIRD),
+                Some(&[]),
+            ]),
+            &[(
+                &[
+                    0, 0, 0, 0, 4, 0, 0, 0, 4, 0, 0, 0, 7, 0, 0, 0, 7, 0, 0, 0, 11, 0, 0, 0, 11, 0,
+                    0, 0,
+                ],
+                11,
+            )],
+        ),
+    ),
+    // A view alone is copied.
+    (
+        &[Part(Lists, 1, 2)],
+        Selected::Lists(
+            Shown::Lists(&[None, Some(THIRD)]),
+            &[(b"\0\0\0\0\0\0\0\0\x04\0\0\0", 4)],
+        ),
+    ),
+    (
+        &[Part(ListsOfLists, 2, 1), Part(ListsOfLists, 0, 2)],
+        Selected::Lists(
+            Shown::ListsOfLists(&[
+                Some(&[Some(THIRD), Some(&[])]),
+                Some(&[Some(FIRST), None]),
+                None,
+            ]),
+            &[
+                (b"\0\0\0\0\x02\0\0\0\x04\0\0\0\x04\0\0\0", 4),
+                (b"\0\0\0\0\x04\0\0\0\x04\0\0\0\x07\0\0\0\x07\0\0\0", 7),
+            ],
+        ),
+    ),
+    // Codes, with both dictionaries.
+    (
+        &[All(Coded), Part(Coded, 3, 2)],
+        Selected::Slots(Shown::Encoded(
+            &[Some(2), Some(0), Some(3), None, Some(1), None, Some(5)],
+            &[
+                Some("a"),
+                Some("b"),
+                Some("a"),
+                None,
+                Some("a"),
+                Some("b"),
+                Some("a"),
+                None,
+            ],
+            &[Some("a"), Some("a"), None, None, Some("b"), None, Some("b")],
+        )),
+    ),
+    (
+        &[Part(Coded, 2, 0)],
+        Selected::Slots(Shown::Encoded(&[], &[Some("a"), Some("b"), Some("a"), None], &[])),
+    ),
+];
+
+/// The arrays of the pieces.
+fn arrays_of(alloc: Global, pieces: &[Piece]) -> Result<Vec<Array>, Fail> {
+    let mut arrays = Vec::new(alloc);
+    for piece in pieces {
+        arrays.push(piece.array(alloc)?)?;
+    }
+    Ok(arrays)
 }
 
-#[test]
-fn joins_numbers_and_truths_from_any_slot(rt: HostRuntime) -> Result<(), Fail> {
-    let numbers = built(rt.alloc(), NUMBERS)?;
-    let pieces = [
-        slots_of(&numbers, 3, 3),
-        slots_of(&numbers, 7, 1),
-        slots_of(&numbers, 5, 0),
-        slots_of(&numbers, 0, 2),
-    ];
-    let joined = concat(rt.alloc(), &pieces)?;
-    let expected = [Some(4), None, Some(6), None, Some(1), Some(2)];
-    assert!(rt; is_result_of_numbers(&joined, &expected));
-    let truths = built(rt.alloc(), TRUTHS)?;
-    let pieces = [slots_of(&truths, 3, 4), slots_of(&truths, 1, 2)];
-    let joined = concat(rt.alloc(), &pieces)?;
-    let (f, t) = (Some(false), Some(true));
-    assert!(rt; is_result_of_bools(&joined, &[t, None, f, None, f, t]));
+/// The slots of the pieces in their arrays.
+fn views_of<'a>(
+    alloc: Global,
+    pieces: &[Piece],
+    arrays: &'a [Array],
+) -> Result<Vec<View<'a>>, Fail> {
+    let mut views = Vec::new(alloc);
+    for (piece, array) in pieces.iter().zip(arrays) {
+        views.push(piece.slots(array))?;
+    }
+    Ok(views)
+}
+
+/// Pieces one after the other.
+fn joined(alloc: Global, pieces: &[Piece]) -> Result<Result<Array, SelectFault>, Fail> {
+    let arrays = arrays_of(alloc, pieces)?;
+    let views = views_of(alloc, pieces, &arrays)?;
+    if views.is_empty() {
+        return Err("there are no views".into());
+    }
+    Ok(concat(alloc, &views))
+}
+
+/// Whether this is what the pieces give, of the type of the first.
+fn is_joined(
+    alloc: Global,
+    rows: &Array,
+    pieces: &[Piece],
+    selected: Selected,
+) -> Result<bool, Fail> {
+    match pieces.first() {
+        Some(piece) => {
+            let array = piece.array(alloc)?;
+            Ok(is_selected(rows, &array.view(), selected))
+        }
+        None => Ok(false),
+    }
+}
+
+/// Asserts what pieces give.
+fn expect_joined(rt: &impl Abort, alloc: Global, cases: &[Joined]) -> Result<(), Fail> {
+    for (i, (pieces, selected)) in cases.iter().enumerate() {
+        let rows = joined(alloc, *pieces)??;
+        assert!(rt; is_joined(alloc, &rows, *pieces, *selected)?, "case {i}");
+    }
     Ok(())
 }
 
 #[test]
-fn joins_long_columns_from_any_slot(rt: HostRuntime) -> Result<(), Fail> {
-    let numbers = built(rt.alloc(), NUMBERS)?;
-    let long = repeated(rt.alloc(), &numbers, (3, 3), 70)?;
-    assert!(rt; repeats_numbers(&long.view(), 210, &[Some(4), None, Some(6)]));
-    let pieces = [
-        slots_of(&long, 5, 100),
-        slots_of(&long, 0, 3),
-        slots_of(&long, 0, 200),
-    ];
-    let joined = concat(rt.alloc(), &pieces)?;
-    assert_eq!(rt; joined.view().len(), 303);
-    let first = slots_of(&joined, 0, 100);
+fn numbers_and_truths_are_joined_from_any_slot(rt: HostRuntime) -> Result<(), Fail> {
+    expect_joined(&rt, rt.alloc(), &NUMBERS_AND_TRUTHS)
+}
+
+#[test]
+fn numbers_of_each_type_are_joined(rt: HostRuntime) -> Result<(), Fail> {
+    expect_joined(&rt, rt.alloc(), &OF_TYPES)
+}
+
+#[test]
+fn texts_lists_and_codes_are_joined(rt: HostRuntime) -> Result<(), Fail> {
+    expect_joined(&rt, rt.alloc(), &OTHERS)
+}
+
+/// The numbers 4, null, 6 over and over again.
+const LONG: (Sample, usize, usize) = (NUMBERS, 3, 3);
+
+/// Parts of a long column, of which the first begins with 6.
+const LONG_PIECES: &[Piece] = &[
+    Repeated(LONG, 70, 5, 100),
+    Repeated(LONG, 70, 0, 3),
+    Repeated(LONG, 70, 0, 200),
+];
+
+#[test]
+fn long_columns_are_joined(rt: HostRuntime) -> Result<(), Fail> {
+    let joined = joined(rt.alloc(), LONG_PIECES)??;
+    let (first, others) = (slots_of(&joined, 0, 100), slots_of(&joined, 100, 300));
     assert!(rt; repeats_numbers(&first, 100, &[Some(6), Some(4), None]));
-    let others = slots_of(&joined, 100, 203);
     assert!(rt; repeats_numbers(&others, 203, &[Some(4), None, Some(6)]));
     Ok(())
 }
 
-#[test]
-fn joins_numbers_of_each_type(rt: HostRuntime) -> Result<(), Fail> {
-    for (ty, slots, number) in [
-        (INT8, 8, -1),
-        (INT16, 4, -1),
-        (INT32, 2, -1),
-        (INT64, 1, -1),
-        (UINT8, 8, 0xff),
-        (UINT16, 4, 0xffff),
-        (UINT32, 2, 0xffff_ffff),
-        (UINT64, 1, 0xffff_ffff_ffff_ffff),
-    ] {
-        let ones: Positions = &[None, Some(&[255; 8])];
-        let numbers = built(rt.alloc(), (Flat::Int(ty), slots, ones))?;
-        let joined = concat(rt.alloc(), &[numbers.view(), numbers.view()])?;
-        let view = joined.view();
-        assert_eq!(rt; view.len() as u64, slots * 2);
-        assert!(rt; view.ty().is_same(ViewType::Int(ty)));
-        let ViewType::Int(_) = view.ty() else {
-            panic!(rt; "these are no numbers");
-        };
-        for i in 0..view.len() {
-            assert_eq!(rt; view.int_at(i), Some(number), "at slot {i}");
-        }
-    }
-    Ok(())
-}
+/// Pieces of several types.
+static REFUSED: [[Piece; 2]; 4] = [
+    [
+        All(Of((Flat::Utf8, 0, &[None, Some(&[]), Some(&[])]))),
+        All(Coded),
+    ],
+    [
+        All(Of((Flat::Int(INT32), 0, NOTHING))),
+        All(Of((Flat::Int(INT64), 0, NOTHING))),
+    ],
+    [
+        All(Of((Flat::Int(UINT32), 0, NOTHING))),
+        All(Of((Flat::Int(INT32), 0, NOTHING))),
+    ],
+    [All(Lists), All(ListsOfLists)],
+];
 
-/// The text é.
-const ACCENTED: Parts = (
-    Flat::Utf8,
-    1,
-    &[None, Some(&[0, 0, 0, 0, 2, 0, 0, 0]), Some(b"\xc3\xa9")],
-);
-
-#[test]
-fn joins_texts_from_any_slot(rt: HostRuntime) -> Result<(), Fail> {
-    let names = built(rt.alloc(), NAMES)?;
-    let accented = built(rt.alloc(), ACCENTED)?;
-    let joined = concat_both(rt.alloc(), names.view(), accented.view())?;
-    assert!(rt; joined.view().ty().is_same(ViewType::Utf8));
-    let expected = [Some("joe"), None, None, Some("mark"), Some("é")];
-    assert!(rt; shows_texts(&joined.view(), &expected));
-    let pieces = [slots_of(&names, 3, 1), slots_of(&names, 0, 2)];
-    let joined = concat(rt.alloc(), &pieces)?;
-    assert!(rt; joined.view().ty().is_same(ViewType::Utf8));
-    assert!(rt; shows_texts(&joined.view(), &[Some("mark"), Some("joe"), None]));
-    Ok(())
-}
-
-#[test]
-fn joins_lists_without_what_lies_before_them(rt: HostRuntime) -> Result<(), Fail> {
-    let lists = lists(rt.alloc())?;
-    let pieces = [slots_of(&lists, 2, 2), lists.view()];
-    let joined = concat(rt.alloc(), &pieces)?;
-    let first: &[Option<i128>] = &[Some(12), Some(-7), Some(25)];
-    let third: &[Option<i128>] = &[Some(0), Some(-127), Some(127), Some(50)];
-    let expected = [
-        Some(third),
-        Some(&[]),
-        Some(first),
-        None,
-        Some(third),
-        Some(&[]),
-    ];
-    assert!(rt; shows_lists(&joined.view(), &expected));
-    let offsets = [
-        0, 0, 0, 0, 4, 0, 0, 0, 4, 0, 0, 0, 7, 0, 0, 0, 7, 0, 0, 0, 11, 0, 0, 0, 11, 0, 0, 0,
-    ];
-    assert!(rt; has_items(&joined.view(), &offsets, 11));
-    // A view alone is copied.
-    let joined = concat(rt.alloc(), &[slots_of(&lists, 1, 2)])?;
-    assert!(rt; shows_lists(&joined.view(), &[None, Some(third)]));
-    assert!(rt; has_items(&joined.view(), b"\0\0\0\0\0\0\0\0\x04\0\0\0", 4));
-    Ok(())
-}
-
-#[test]
-fn joins_lists_of_lists(rt: HostRuntime) -> Result<(), Fail> {
-    let lists = lists_of_lists(rt.alloc())?;
-    let pieces = [slots_of(&lists, 2, 1), slots_of(&lists, 0, 2)];
-    let joined = concat(rt.alloc(), &pieces)?;
-    let view = joined.view();
-    let offsets = [0, 0, 0, 0, 2, 0, 0, 0, 4, 0, 0, 0, 4, 0, 0, 0];
-    assert!(rt; has_items(&view, &offsets, 4));
-    let ViewType::List(_) = view.ty() else {
-        panic!(rt; "these are no lists");
-    };
-    assert!(rt; view.len() == 3);
-    assert!(rt; view.list_at(2).is_none());
-    let (Some(first), Some(second)) = (view.list_at(0), view.list_at(1)) else {
-        panic!(rt; "there are two lists");
-    };
-    let numbers: &[Option<i128>] = &[Some(0), Some(-127), Some(127), Some(50)];
-    assert!(rt; shows_lists(&first, &[Some(numbers), Some(&[])]));
-    let numbers: &[Option<i128>] = &[Some(12), Some(-7), Some(25)];
-    assert!(rt; shows_lists(&second, &[Some(numbers), None]));
-    let offsets = [4, 0, 0, 0, 7, 0, 0, 0, 7, 0, 0, 0];
-    assert!(rt; has_items(&second, &offsets, 7));
-    Ok(())
-}
-
-#[test]
-fn joins_codes_with_both_dictionaries(rt: HostRuntime) -> Result<(), Fail> {
-    let coded = coded(rt.alloc())?;
-    let pieces = [coded.view(), slots_of(&coded, 3, 2)];
-    let joined = concat(rt.alloc(), &pieces)?;
-    let codes = [Some(2), Some(0), Some(3), None, Some(1), None, Some(5)];
-    let (a, b) = (Some("a"), Some("b"));
-    let entries = [a, b, a, None, a, b, a, None];
-    let texts = [a, a, None, None, b, None, b];
-    assert!(rt; is_result_of_codes(&joined, &codes, &entries, &texts));
-    let joined = concat(rt.alloc(), &[slots_of(&coded, 2, 0)])?;
-    assert!(rt; is_result_of_codes(&joined, &[], &[a, b, a, None], &[]));
-    Ok(())
-}
+const NOTHING: Positions = &[None, Some(&[])];
 
 #[test]
 fn views_of_several_types_are_refused(rt: HostRuntime) -> Result<(), Fail> {
-    let none: Positions = &[None, Some(&[])];
-    let ints = built(rt.alloc(), (Flat::Int(INT32), 0, none))?;
-    let longs = built(rt.alloc(), (Flat::Int(INT64), 0, none))?;
-    let naturals = built(rt.alloc(), (Flat::Int(UINT32), 0, none))?;
-    let texts = built(rt.alloc(), (Flat::Utf8, 0, &[None, Some(&[]), Some(&[])]))?;
-    let codes = coded(rt.alloc())?;
-    let lists = lists(rt.alloc())?;
-    let deeper = lists_of_lists(rt.alloc())?;
-    for (first, second) in [
-        (texts.view(), codes.view()),
-        (ints.view(), longs.view()),
-        (naturals.view(), ints.view()),
-        (lists.view(), deeper.view()),
-    ] {
-        let answer = concat_both(rt.alloc(), first, second);
-        assert_eq!(rt; answer.err(), Some(SelectFault::TypesDiffer));
+    for (i, pieces) in REFUSED.iter().enumerate() {
+        let answer = joined(rt.alloc(), pieces)?;
+        assert!(rt; answer.err() == Some(SelectFault::TypesDiffer), "case {i}");
     }
-    Ok(())
-}
-
-#[test]
-fn more_slots_than_offsets_count_are_refused(rt: HostRuntime) -> Result<(), Fail> {
-    let mut bits = Vec::new(rt.alloc());
-    for _ in 0..65536 {
-        bits.push(0)?;
-    }
-    let mut raw = raw(rt.alloc(), DataType::Bool, 524288, &[None])?;
-    raw.buffers
-        .push(Some(Buffer::from_bytes(rt.alloc(), &bits)?))?;
-    let falses = validate(rt.alloc(), raw)?;
-    let mut views = Vec::new(rt.alloc());
-    views.push(falses.view())?;
-    for _ in 1..4096 {
-        views.push(falses.view())?;
-    }
-    assert!(rt; !views.is_empty());
-    let answer = concat(rt.alloc(), &views);
-    assert_eq!(rt; answer.err(), Some(SelectFault::OffsetsFull));
     Ok(())
 }

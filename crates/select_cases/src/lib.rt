@@ -4,12 +4,8 @@
 #[cfg(test)]
 mod choosing;
 #[cfg(test)]
-mod copying;
-#[cfg(test)]
-mod filtering;
-#[cfg(test)]
 mod joining;
 #[cfg(test)]
-mod taking;
+mod large;
 #[cfg(test)]
 mod testing;

@@ -2,7 +2,8 @@
 
 use arrays::{Array, View, ViewType};
 use samples::{
-    Flat, INT8, Parts, has_offsets, has_validity_only_where_null, shows_encoded, slots_of,
+    Flat, INT8, Layers, Sample, Shown, has_layers, has_validity_only_where_null, is_result,
+    sampled, slots_of,
 };
 use select::concat;
 use std::alloc::Global;
@@ -11,33 +12,49 @@ use std::test::Fail;
 pub(crate) const INT8S: Flat = Flat::Int(INT8);
 
 /// The numbers 1, 2, 3, 4, null, 6, 7, null.
-pub(crate) const NUMBERS: Parts = (INT8S, 8, &[Some(&[0x6f]), Some(&[1, 2, 3, 4, 5, 6, 7, 8])]);
+pub(crate) const NUMBERS: Sample = Sample::Of((
+    INT8S,
+    8,
+    &[Some(&[0x6f]), Some(&[1, 2, 3, 4, 5, 6, 7, 8])],
+));
 
 /// True, false, true, true, null, false, null, true.
-pub(crate) const TRUTHS: Parts = (Flat::Bool, 8, &[Some(&[0xaf]), Some(&[0xdd])]);
+pub(crate) const TRUTHS: Sample = Sample::Of((Flat::Bool, 8, &[Some(&[0xaf]), Some(&[0xdd])]));
 
-/// Whether the lists of a view begin and end here, over a child of so many items.
-pub(crate) fn has_items(view: &View<'_>, offsets: &[u8], items: usize) -> bool {
-    let ViewType::List(_) = view.ty() else {
-        return false;
-    };
-    let child = view.lists().child;
-    has_offsets(view, offsets) && child.len() == items && has_validity_only_where_null(&child)
+/// Slots of an array.
+#[derive(Clone, Copy)]
+pub(crate) enum Piece {
+    All(Sample),
+    /// From one on, so many.
+    Part(Sample, usize, usize),
+    /// A part so many times one behind the other, and of these from one on, so many.
+    Repeated((Sample, usize, usize), u32, usize, usize),
 }
 
-/// Whether a result holds these codes, into a dictionary of these entries, and with them these texts.
-pub(crate) fn is_result_of_codes(
-    column: &Array,
-    codes: &[Option<i128>],
-    entries: &[Option<&str>],
-    texts: &[Option<&str>],
-) -> bool {
-    shows_encoded(&column.view(), codes, entries, texts)
-        && has_validity_only_where_null(&column.view())
+impl Piece {
+    /// The array that it is of.
+    pub(crate) fn array(self, alloc: Global) -> Result<Array, Fail> {
+        match self {
+            Piece::All(sample) => sampled(alloc, sample),
+            Piece::Part(sample, _, _) => sampled(alloc, sample),
+            Piece::Repeated((sample, start, len), times, _, _) => {
+                repeated(alloc, &sampled(alloc, sample)?, (start, len), times)
+            }
+        }
+    }
+
+    /// Its slots in that array.
+    pub(crate) fn slots(self, array: &Array) -> View<'_> {
+        match self {
+            Piece::All(_) => array.view(),
+            Piece::Part(_, start, len) => slots_of(array, start, len),
+            Piece::Repeated(_, _, start, len) => slots_of(array, start, len),
+        }
+    }
 }
 
 /// The `len` slots from slot `start` on, so many times one behind the other.
-pub(crate) fn repeated(
+fn repeated(
     alloc: Global,
     array: &Array,
     (start, len): (usize, usize),
@@ -51,6 +68,27 @@ pub(crate) fn repeated(
         return Ok(array.copy(alloc)?);
     }
     Ok(concat(alloc, &views)?)
+}
+
+/// What a selection gives.
+#[derive(Clone, Copy)]
+pub(crate) enum Selected {
+    Slots(Shown),
+    /// Lists that begin and end there.
+    Lists(Shown, Layers),
+    /// So many slots, which hold these numbers over and over again.
+    Repeats(usize, &'static [Option<i128>]),
+}
+
+/// Whether a selection from an array gives this, and is of its type.
+pub(crate) fn is_selected(rows: &Array, from: &View<'_>, selected: Selected) -> bool {
+    let view = rows.view();
+    let is_given = match selected {
+        Selected::Slots(shown) => is_result(rows, shown),
+        Selected::Lists(shown, layers) => { is_result(rows, shown) && has_layers(&view, layers) }
+        Selected::Repeats(slots, numbers) => repeats_numbers(&view, slots, numbers),
+    };
+    is_given && view.ty().is_same(from.ty())
 }
 
 /// Whether a view has so many slots, which hold these numbers over and over again.

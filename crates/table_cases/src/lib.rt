@@ -1,10 +1,6 @@
-//! Tests of what stands above the kernels: the table, the files of JSON, and the program over memory.
+//! Tests of the table of one thread.
 #![tactic(auto)]
 
-#[cfg(test)]
-mod of_arrow_json;
-#[cfg(test)]
-mod of_arrowtab;
 #[cfg(test)]
 mod of_shared;
 #[cfg(test)]

@@ -1,7 +1,6 @@
-//! How many rows a table takes, and how refusals are told.
+//! How many rows a table takes.
 
 use crate::testing::{batch_of, table_for};
-use arrowtab::refusal::refusal_text;
 use shared::Refusal;
 use std::test::Fail;
 
@@ -26,35 +25,6 @@ fn rows_have_a_limit(rt: HostRuntime) -> Result<(), Fail> {
         let batch = batch_of(rt.alloc(), (rows, &[]))?;
         assert!(rt; table.admit(0, &batch) == answer, "at {rows} rows");
         assert!(rt; table.version()?.rows() == 1099511627776);
-    }
-    Ok(())
-}
-
-/// Each refusal, and how it is told.
-const TOLD: [(Refusal, &str); 6] = [
-    (
-        Refusal::SchemaDiffers { column: 2 },
-        "A1 SchemaDiffers column=2",
-    ),
-    (
-        Refusal::NullInNonNullable { column: 0, row: 1 },
-        "A2 NullInNonNullable column=0 row=1",
-    ),
-    (Refusal::TableFull, "A3 TableFull"),
-    (Refusal::BookFull, "A4 BookFull"),
-    (Refusal::TextsFull { column: 3 }, "A5 TextsFull column=3"),
-    (Refusal::NoMemory, "A6 NoMemory"),
-];
-
-#[test]
-fn refusals_are_told(rt: HostRuntime) -> Result<(), Fail> {
-    for (refusal, wanted) in TOLD {
-        let shown = format!(in rt.alloc(); "{refusal}")?;
-        let told = refusal_text(rt.alloc(), refusal)?;
-        assert!(rt;
-            shown.as_str() == wanted && told.as_str() == wanted,
-            "{told}"
-        );
     }
     Ok(())
 }

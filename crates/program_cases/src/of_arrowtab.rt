@@ -4,6 +4,7 @@ ghost use Rattle.std.specs.Prelude.{◌≡◌, ◌^◌, ◌-◌, ◌<◌, All, I
 mod bytes;
 mod exports;
 mod queries;
+mod refusals;
 mod runs;
 mod several;
 mod words;
