@@ -10,6 +10,7 @@ pub mod PartLemmas
 pub mod FitLemmas
 pub mod GroupLemmas
 pub mod MemoLemmas
+pub mod CountLemmas
 pub mod ColumnLemmas
 pub mod RunLemmas
 pub mod FieldLemmas

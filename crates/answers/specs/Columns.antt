@@ -1,5 +1,5 @@
 -- The tallies of one aggregate, a cell for each group.
-use Rattle.std.specs.Prelude.{ℕ, List, Option, None, option_map, map, slice_index_or}
+use Rattle.std.specs.Prelude.{ℕ, List, [], ◌∷◌, Option, None, option_map, map, slice_index_or}
 use Rattle.arrays.specs.Batch.{Table}
 use Rattle.arrays.specs.Item.{Item}
 use Rattle.group.specs.Summary.{scalar_item}
@@ -46,3 +46,7 @@ column_of tables a = record { agg = a; tallies = map (λ rows. tally_of a (items
 -- What it tells of group n.
 abbrev pub told_at : ℕ → ColumnShape → Item
 told_at n column = told column.agg (slice_index_or column.tallies n (counted 0))
+
+-- The column that counts so many rows of one group.
+abbrev pub rows_column : ℕ → ColumnShape
+rows_column n = record { agg = agg.Rows; tallies = counted n ∷ [] }

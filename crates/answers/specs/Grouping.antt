@@ -1,9 +1,11 @@
 -- What is known of the groups of the rows so far.
-use Rattle.std.specs.Prelude.{◌≡◌, ◌^◌, ◌≤◌, ◌+◌, ℕ, List, length, map}
+use Rattle.std.specs.Prelude.{◌≡◌, ◌^◌, ◌≤◌, ◌+◌, ℕ, List, [], ◌∷◌, None, length, map}
 use Rattle.std.specs.List.{IsDistinct}
 use Rattle.arrays.specs.Batch.{Batch, Table}
 use Rattle.arrays.specs.Item.{Item}
+use Rattle.query.specs.Asked.{asked}
 use Rattle.query.specs.declared.expr.Agg.{Agg}
+use Rattle.query.specs.declared.expr.Agg.TheVariants.{Rows}
 use Rattle.query.specs.declared.queries.Query.{Query}
 use Rattle.answers.specs.Groups.{keys_of, rows_of_key}
 use Rattle.answers.specs.Memo.{KnowsEntries, Remembers}
@@ -37,3 +39,9 @@ IsReadyFor b q g = KnowsEntries g.keys b q.by.items g.memo
 -- There are so many rows more than have come, and together no more than a table may have.
 abbrev pub HasRoom : Query → ℕ → Grouping → Type 0
 HasRoom q n g = (rows : Table) × (length rows + n ≤ 2 ^ 40) × HasGroups q rows g
+
+-- The query only asks how many rows there are.
+pub record CountsRows (q : Query) : Type 0 where
+  pub filter : (asked q).filter ≡ None
+  pub by : q.by.items ≡ []
+  pub aggs : q.aggs.items ≡ Rows ∷ []

@@ -1,11 +1,11 @@
 //! The tallies of one aggregate, a cell for each group.
 
-ghost use Rattle.std.specs.Prelude.{◌≡◌, ◌+◌, ◌≤◌, ◌<◌, ◌^◌, [], All, IfOk, List, None, OnOk, length, map, true};
+ghost use Rattle.std.specs.Prelude.{ℕ, ◌≡◌, ◌+◌, ◌≤◌, ◌<◌, ◌^◌, [], All, IfOk, List, None, OnOk, length, map, true};
 ghost use Rattle.arrays.specs.Batch.{Table, row_of};
 ghost use Rattle.query.specs.Columns.{sort_at};
 ghost use Rattle.query.specs.Fault.{agg_fault};
 ghost use Rattle.answers.specs.Answers.{item_in};
-ghost use Rattle.answers.specs.Columns.{column_of, show_column, told_at};
+ghost use Rattle.answers.specs.Columns.{column_of, rows_column, show_column, told_at};
 ghost use Rattle.answers.specs.Spread.{padded, spread};
 ghost use Rattle.answers.specs.Tallies.{tally_of};
 
@@ -120,6 +120,16 @@ impl TallyColumn {
                 let view = column_at(batch, *place);
                 add_items(alloc, items, *end, &view, rows, numbers)
             }
+        }
+    }
+
+    /// Counts so many rows of the one group, of which nothing else is asked.
+    pub(crate) fn add_count(&mut self, rows: u64)
+        requires { (n : ℕ) × (show_column self.old ≡ rows_column n) × (n + rows ≤ 2 ^ 40) }
+        ensures { (n : ℕ) → show_column self.old ≡ rows_column n → show_column self.new ≡ rows_column (n + rows) }
+    {
+        if let TallyColumn::Rows(counts) = self {
+            counts[0] += rows;
         }
     }
 

@@ -8,7 +8,7 @@ ghost use Rattle.query.specs.Fault.{agg_fault, fits};
 ghost use Rattle.query.specs.declared.expr.Agg.{Agg as Aggregate};
 ghost use Rattle.answers.specs.Answers.{item_in, shape_of};
 ghost use Rattle.answers.specs.Columns.{ColumnShape, column_of, show_column, told_at};
-ghost use Rattle.answers.specs.Grouping.{HasGroups, HasRoom, IsColumnOf, IsGrouped, IsReadyFor};
+ghost use Rattle.answers.specs.Grouping.{CountsRows, HasGroups, HasRoom, IsColumnOf, IsGrouped, IsReadyFor};
 ghost use Rattle.answers.specs.Groups.{grouped};
 ghost use Rattle.answers.specs.Spread.{padded, spread};
 ghost use Rattle.answers.specs.Tallies.{tally_of};
@@ -88,6 +88,15 @@ impl Grouping {
         )?;
         let groups = self.keys.len();
         add_to_columns(alloc, &mut self.columns, groups, batch, rows, &self.numbers)
+    }
+
+    /// Adds so many rows, where they are only counted, all together.
+    pub(crate) fn add_count(&mut self, query: &Query, rows: u64)
+        requires alone { CountsRows query.now }
+        requires room { HasRoom query.now rows self.old }
+        ensures { (before more : Table) → length more ≡ rows → HasGroups query.now before self.old → HasGroups query.now (before ++ more) self.new }
+    {
+        self.columns[0].add_count(rows)
     }
 
     /// The groups: of each its key, and what is told of its rows.

@@ -4,7 +4,7 @@ ghost use Rattle.std.specs.Prelude.{◌≡◌, ◌+◌, ◌<◌, ◌^◌, ◌++�
 ghost use Rattle.arrays.specs.Batch.{Table, rows_of};
 ghost use Rattle.query.specs.Asked.{asked};
 ghost use Rattle.query.specs.Fault.{fits};
-ghost use Rattle.answers.specs.Grouping.{IsReadyFor};
+ghost use Rattle.answers.specs.Grouping.{CountsRows, IsReadyFor};
 ghost use Rattle.answers.specs.Runs.{AreSound, HasKept, HasRoomFor, StopsAt, rows_in};
 
 use crate::filter::{filter_values, keep_rows};
@@ -12,7 +12,7 @@ use crate::grouping::Grouping;
 use arrays::RecordBatch;
 use evaluate::slice::Slice;
 use evaluate::stop::Stop;
-use query::Query;
+use query::{Agg, Query};
 use std::alloc::Global;
 
 /// The most rows that are looked at together, so that what is known of them takes the same memory for batches of any size.
@@ -32,6 +32,10 @@ pub(crate) fn add_batch(
     ensures sound { IfOk result (λ done. AreSound batch.now 0 batch.now.rows (asked query.now).filter) }
     ensures err { IfErr result (StopsAt batch.now 0 batch.now.rows (asked query.now).filter) }
 {
+    if counts_rows(query) {
+        grouping.add_count(query, u64::from(batch.rows()));
+        return Ok(());
+    }
     let rows = batch.rows() as usize;
     grouping.begin(query, batch)?;
     let mut kept = Vec::new(alloc);
@@ -71,4 +75,14 @@ fn add_slice(
     keep_rows(kept, &values, slice.start, slice.len)?;
     grouping.add(alloc, query, slice.batch, kept)?;
     Ok(())
+}
+
+/// Whether the query only asks how many rows there are.
+fn counts_rows(query: &Query) -> bool
+    ensures { result ≡ true → CountsRows query.now }
+{
+    query.filter.is_none()
+        && query.by.is_empty()
+        && query.aggs.len() == 1
+        && query.aggs[0] == Agg::Rows
 }

@@ -1,10 +1,13 @@
-use Rattle.std.proofs.Common.{filter, ◌≡◌, ◌∙◌, ◌+◌, ◌≤◌, ◌++◌, ap, append_assoc, arith, length-append, subst, sym}
-use Rattle.arrays.specs.Batch.{Table}
+use Rattle.std.proofs.Common.{filter, length, ◌≡◌, ◌∙◌, ◌+◌, ◌≤◌, ◌++◌, ap, append_assoc, arith, length-append, subst, sym}
+use Rattle.std.proofs.lemmas.List.Elements.{filter-append}
+use Rattle.arrays.specs.Batch.{Table, rows_of}
 use Rattle.query.specs.Asked.{asked}
 use Rattle.std.proofs.lemmas.List.{append-nil}
 use Rattle.answers.specs.Groups.{is_kept}
+use Rattle.answers.specs.Grouping.{HasGroups}
+use Rattle.answers.proofs.CountLemmas.{all_kept}
 use Rattle.answers.specs.Runs.{HasKept, IsBadRow, StopsAt, rows_in}
-use Rattle.answers.proofs.RunLemmas.{bad_row, length-rows_in, rows_split, sound_more, whole_rows}
+use Rattle.answers.proofs.RunLemmas.{bad_row, length-rows, length-rows_in, rows_split, sound_more, whole_rows}
 use Rattle.answers.proofs.run.add_batch.Goals as goal
 
 pub loop-start-init : goal.loop-start-init
@@ -62,3 +65,22 @@ returns-clause-ok c = λ rows has.
 
 pub returns-clause-sound : goal.returns-clause-sound
 returns-clause-sound c = record { each = λ i below. c.loop-start.invariant.2 i (omega (arith, below, c.loop-start-test.false, c.rows-rows.ensures)) }
+
+pub add_count-requires-clause-room : goal.add_count-requires-clause-room
+add_count-requires-clause-room c =
+    let b = c.args.batch.now in
+    let f = (asked c.args.query.now).filter in
+    let r = c.requires.room in
+    let all = all_kept b.fields f r.0 (c.counts_rows.ensures c.if-counts_rows.true).filter in
+    (filter (is_kept b.fields f) r.0, omega (arith, r.1, ap length all, c.from.ensures, c.rows.ensures), r.2)
+
+pub returns-then-counts_rows-clause-ok : goal.returns-then-counts_rows-clause-ok
+returns-then-counts_rows-clause-ok c = λ rows has.
+    let b = c.args.batch.now in
+    let q = c.args.query.now in
+    let f = (asked q).filter in
+    let p = is_kept b.fields f in
+    let alone = c.counts_rows.ensures c.if-counts_rows.true in
+    let e : filter p rows ++ rows_of b ≡ filter p (rows ++ rows_of b) =
+    ap (λ (l : Table). filter p rows ++ l) (sym (all_kept b.fields f (rows_of b) alone.filter)) ∙ sym (filter-append p rows (rows_of b)) in
+    subst (λ (l : Table). HasGroups q l c.add_count.new.self) e (c.add_count.ensures (filter p rows) (rows_of b) (length-rows b ∙ sym (c.from.ensures ∙ c.rows.ensures)) has)
