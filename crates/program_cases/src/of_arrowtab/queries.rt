@@ -32,7 +32,7 @@ fn expect_answer(
 }
 
 /// A file, a query, the output and the line of the fault.
-const ANSWERS: [(&str, &str, &str, &str); 15] = [
+const ANSWERS: [(&str, &str, &str, &str); 16] = [
     (
         PAIRS,
         r#"{"by":["k"],"aggs":[{"agg":"sum","column":"v"}]}"#,
@@ -53,6 +53,13 @@ const ANSWERS: [(&str, &str, &str, &str); 15] = [
         "",
     ),
     (PAIRS, "{}", "\n", ""),
+    // So many rows that nobody goes over them one by one.
+    (
+        r#"{"schema":{"fields":[]},"batches":[{"count":2147483647,"columns":[]},{"count":2147483647,"columns":[]}]}"#,
+        r#"{"aggs":[{"agg":"rows"}]}"#,
+        "4294967294\n",
+        "",
+    ),
     (
         NO_ROWS,
         r#"{"aggs":[{"agg":"rows"},{"agg":"sum","column":"v"}]}"#,
