@@ -251,10 +251,6 @@ one_key keys new [] columns (r ∷ rows) n row none some is at = (
   subst (λ (l : Keys). AreNumbers new l (replicate (suc (length rows)) n)) (sym (no_keys columns (r ∷ rows))) (numbers-alike new [] n at (suc (length rows))),
 )
 
-pub positive : (n : ℕ) → (n ≡ 0 → ⊥) → 0 < n
-positive zero h = absurd (h refl)
-positive (suc n) h = omega arith
-
 pub resized : (xs : List ℕ) (m k n : ℕ) → xs ≡ [] → k ≡ 0 → take m xs ++ replicate (m - k) n ≡ replicate m n
 resized (x ∷ xs) m k n none zeros = absurd cc
 resized [] m k n none zeros =
