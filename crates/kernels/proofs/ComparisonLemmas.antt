@@ -1,5 +1,5 @@
 -- Decisions place by place are the comparison of two columns.
-use Rattle.std.proofs.Common.{◌≡◌, ℕ, ◌<◌, ◌&&◌, ◌||◌, not, Bool, true, false, List, length, cond, refl, sym, subst, ap, ◌∙◌, zero-add, get_or, slice_index_or, Option}
+use Rattle.std.proofs.Common.{◌≡◌, ℕ, ℤ, ◌<◌, ◌&&◌, ◌||◌, not, Bool, true, false, List, length, cond, refl, sym, subst, ap, ◌∙◌, zero-add, get_or, slice_index_or, Option}
 use Rattle.std.specs.declared.cmp.Ordering.{Ordering}
 use Rattle.std.specs.declared.cmp.Ordering.TheVariants.{Less, Equal, Greater}
 use Rattle.std.specs.Ordering.{int_cmp, bool_cmp, nat_cmp, is_eq}
@@ -8,18 +8,17 @@ use Rattle.std.proofs.lemmas.List.FromFn.{get_or-map-range_with_len}
 use Rattle.arrays.proofs.ListLemmas.{map-range-below}
 use Rattle.arrays.specs.Item as item
 use Rattle.arrays.specs.Item.{Item, null, int, text, is_null}
-use Rattle.arrays.specs.Number.{number_at}
 use Rattle.arrays.specs.Offsets.{of_slot}
 use Rattle.arrays.specs.Seen.{Seen, valid_at, valid_in}
 use Rattle.arrays.specs.Slot.{holds_at}
-use Rattle.arrays.specs.Values.{HasBits, HasNumbers, HasTexts, valid_values}
-use Rattle.types.specs.declared.int_type.IntType.{IntType}
+use Rattle.arrays.specs.Values.{HasBits, HasTexts, valid_values}
 use Rattle.kernels.specs.Lift.{item_at, lifted}
 use Rattle.kernels.specs.Order.{compared, meets, order}
 use Rattle.truths.specs.Truth.{truth_at}
 use Rattle.kernels.specs.Wanted.{decisions, wants}
 use Rattle.kernels.specs.declared.comparison.CmpOp.{CmpOp}
 use Rattle.kernels.specs.declared.comparison.wanted.Wanted.{Wanted}
+use Rattle.kernels.proofs.ResultLemmas.{AreNumbers}
 
 -- whether two items meet the comparison
 abbrev pub met : CmpOp → Item → Item → Item
@@ -72,12 +71,16 @@ module _ (op : CmpOp) (a b : Seen) (lengths : length a.items ≡ length b.items)
       ∙ sym (λ j. lifted (met op) (e j) (f j)))
 
   -- two columns of numbers
-  pub numbers-compared : (t : IntType) (x y : List ℕ) → HasNumbers t x a → HasNumbers t y b →
+  pub numbers-compared : (x y : ℕ → ℤ) → AreNumbers x a → AreNumbers y b →
       (v w : Option (List Bool)) (n : ℕ) → v ≡ a.validity → w ≡ b.validity → n ≡ length a.items →
-      decisions op (λ i. valid_in v i && valid_in w i) (λ i. int_cmp (number_at t x i) (number_at t y i)) n ≡ compared op a.items b.items
-  numbers-compared t x y has_x has_y v w n v_is w_is n_is =
-      (λ j. decisions op (λ i. valid_in (v_is j) i && valid_in (w_is j) i) (λ i. int_cmp (number_at t x i) (number_at t y i)) (n_is j))
-      ∙ values-compared (λ i. int (number_at t x i)) (λ i. int (number_at t y i)) has_x.numbers has_y.numbers (λ i. refl) (λ i. refl)
+      decisions op (λ i. valid_in v i && valid_in w i) (λ i. int_cmp (x i) (y i)) n ≡ compared op a.items b.items
+  numbers-compared x y are_x are_y v w n v_is w_is n_is =
+      (λ j. decisions op (λ i. valid_in (v_is j) i && valid_in (w_is j) i) (λ i. int_cmp (x i) (y i)) (n_is j))
+      ∙ decisions-compared op (λ i. valid_at a i && valid_at b i) (λ i. int_cmp (x i) (y i)) a.items b.items (λ i h.
+      let e = are_x i h in
+      let f = are_y i (subst (λ m. i < m) lengths h) in
+      two_valid op (valid_at a i) (valid_at b i) (int (x i)) (int (y i)) refl refl
+      ∙ sym (λ j. lifted (met op) (e j) (f j)))
 
   -- two columns of truth values
   pub bools-compared : (x y : List Bool) → HasBits x a → HasBits y b →

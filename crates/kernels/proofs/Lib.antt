@@ -6,3 +6,4 @@ pub mod PackedLemmas
 pub mod NumberLemmas
 pub mod CheckedLemmas
 pub mod ResultLemmas
+pub mod BesideLemmas

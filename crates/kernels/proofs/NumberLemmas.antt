@@ -1,5 +1,5 @@
 -- Numbers of a type, and numbers written one behind the other.
-use Rattle.std.proofs.Common.{◌≡◌, ◌∙◌, ◌*ℤ◌, Option, Some, None, SomeIff, IfNone, ℕ, ◌+◌, ◌*◌, ◌<◌, ◌≤◌, ℤ, pos, List, ◌++◌, Bool, true, false, length, ap, sym, subst, refl, arith, FitsSigned, length-append}
+use Rattle.std.proofs.Common.{◌≡◌, ◌∙◌, ◌^◌, ◌*ℤ◌, ◌≤ℤ◌, neg_ℤ, Option, Some, None, SomeIff, IfNone, ℕ, ◌+◌, ◌*◌, ◌<◌, ◌≤◌, ℤ, pos, List, ◌++◌, Bool, true, false, length, ap, sym, subst, refl, arith, FitsSigned, length-append}
 use borrow.Author.Count.{below_more}
 use Rattle.std.specs.Int.{w128}
 use Rattle.std.proofs.lemmas.Int.{ints}
@@ -31,6 +31,10 @@ FitsSigned-from_type t z h = wide t.bits t.signed z h
 
 pub FitsSigned-from_test : (t : IntType) (z : ℤ) → is_of_type t z ≡ true → FitsSigned w128 z
 FitsSigned-from_test t z h = wide t.bits t.signed z (IsOfType-from_test t z h)
+
+-- a number of any of the eight types is one of 128 bits
+pub FitsSigned-from_range : (z : ℤ) → neg_ℤ (pos (2 ^ 64)) ≤ℤ z → z ≤ℤ pos (2 ^ 64) → FitsSigned w128 z
+FitsSigned-from_range z low high = omega (arith, ints)
 
 by_test : {P : Type 0} (b : Bool) → (b ≡ true → P) → (b ≡ false → P) → P
 by_test true holds fails = holds refl

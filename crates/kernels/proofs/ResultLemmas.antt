@@ -42,11 +42,15 @@ valid_in-kept a b j below = valid-kept-places (valid_in_both a b) (length a.item
 slot : (ℕ → Bool) → (ℕ → ℤ) → ℕ → Item
 slot valid number j = cond (valid j) (int (number j)) null
 
--- the number of a slot of a column
-item_of_number : (t : IntType) (xs : List ℕ) (s : Seen) (j : ℕ) → HasNumbers t xs s → j < length s.items → item_at s.items j ≡ cond (valid_at s j) (int (number_at t xs j)) null
-item_of_number t xs s j has below =
+-- the items are these numbers where the slot is valid, else null
+abbrev pub AreNumbers : (ℕ → ℤ) → Seen → Type 0
+AreNumbers x s = (j : ℕ) → j < length s.items → item_at s.items j ≡ cond (valid_at s j) (int (x j)) null
+
+-- the numbers of a column
+pub column_numbers : (t : IntType) (bytes : List ℕ) (s : Seen) → HasNumbers t bytes s → AreNumbers (number_at t bytes) s
+column_numbers t bytes s has j below =
     ap (λ items. get_or items j null) has.numbers
-    ∙ get_or-map-range_with_len (λ k. cond (valid_at s k) (int (number_at t xs k)) null) 0 (length s.items) j j null below (zero-add j)
+    ∙ get_or-map-range_with_len (λ k. cond (valid_at s k) (int (number_at t bytes k)) null) 0 (length s.items) j j null below (zero-add j)
 
 lifted_slots : (f : ℤ → ℤ → ℤ) (p q : Bool) (x y : ℤ) → lifted (exact f) (cond p (int x) null) (cond q (int y) null) ≡ cond (p && q) (int (f x y)) null
 lifted_slots f true true x y = refl
@@ -55,18 +59,18 @@ lifted_slots f false true x y = refl
 lifted_slots f false false x y = refl
 
 -- the results of two columns of numbers
-results_slots : (f : ℤ → ℤ → ℤ) (t : IntType) (xs ys : List ℕ) (a b : Seen) → HasNumbers t xs a → HasNumbers t ys b → length a.items ≡ length b.items
-    → results f a.items b.items ≡ map (slot (valid_in_both a b) (result_at f t xs ys)) (range_with_len 0 (length a.items))
+results_slots : (f : ℤ → ℤ → ℤ) (t : IntType) (x y : ℕ → ℤ) (a b : Seen) → AreNumbers x a → AreNumbers y b → length a.items ≡ length b.items
+    → results f a.items b.items ≡ map (slot (valid_in_both a b) (result_at f x y)) (range_with_len 0 (length a.items))
 unfolding slot
-results_slots f t xs ys a b of_a of_b lengths =
+results_slots f t x y a b of_a of_b lengths =
     let n = length a.items in
     let each : ℕ → Item = λ j. lifted (exact f) (item_at a.items j) (item_at b.items j) in
-    let same : (j : ℕ) → j < n → each j ≡ slot (valid_in_both a b) (result_at f t xs ys) j =
+    let same : (j : ℕ) → j < n → each j ≡ slot (valid_in_both a b) (result_at f x y) j =
     λ j below.
-    ap (λ x. lifted (exact f) x (item_at b.items j)) (item_of_number t xs a j of_a below)
-    ∙ ap (lifted (exact f) (cond (valid_at a j) (int (number_at t xs j)) null)) (item_of_number t ys b j of_b (omega arith))
-    ∙ lifted_slots f (valid_at a j) (valid_at b j) (number_at t xs j) (number_at t ys j) in
-    map-range-below each (slot (valid_in_both a b) (result_at f t xs ys)) 0 n (λ j below. ap each (zero-add j) ∙ same j below ∙ ap (slot (valid_in_both a b) (result_at f t xs ys)) (sym (zero-add j)))
+    ap (λ i. lifted (exact f) i (item_at b.items j)) (of_a j below)
+    ∙ ap (lifted (exact f) (cond (valid_at a j) (int (x j)) null)) (of_b j (omega arith))
+    ∙ lifted_slots f (valid_at a j) (valid_at b j) (x j) (y j) in
+    map-range-below each (slot (valid_in_both a b) (result_at f x y)) 0 n (λ j below. ap each (zero-add j) ∙ same j below ∙ ap (slot (valid_in_both a b) (result_at f x y)) (sym (zero-add j)))
 
 -- ---- the least slot whose result is outside the type
 
@@ -74,33 +78,33 @@ outside_slot : (t : IntType) (v : Bool) (z : ℤ) → is_outside t (cond v (int 
 outside_slot t true z = refl
 outside_slot t false z = refl
 
-first_bad_slots : (f : ℤ → ℤ → ℤ) (t : IntType) (xs ys : List ℕ) (a b : Seen) → HasNumbers t xs a → HasNumbers t ys b → length a.items ≡ length b.items
-    → first_bad f (kind.int t) a.items b.items ≡ least_row (λ j. valid_in_both a b j && not (is_of_type t (result_at f t xs ys j))) (length a.items)
+first_bad_slots : (f : ℤ → ℤ → ℤ) (t : IntType) (x y : ℕ → ℤ) (a b : Seen) → AreNumbers x a → AreNumbers y b → length a.items ≡ length b.items
+    → first_bad f (kind.int t) a.items b.items ≡ least_row (λ j. valid_in_both a b j && not (is_of_type t (result_at f x y j))) (length a.items)
 unfolding slot
-first_bad_slots f t xs ys a b of_a of_b lengths =
-    ap (position (is_outside t)) (results_slots f t xs ys a b of_a of_b lengths)
-    ∙ position-map (is_outside t) (λ j. valid_in_both a b j && not (is_of_type t (result_at f t xs ys j))) (slot (valid_in_both a b) (result_at f t xs ys))
-    (λ j. outside_slot t (valid_in_both a b j) (result_at f t xs ys j)) (range_with_len 0 (length a.items))
+first_bad_slots f t x y a b of_a of_b lengths =
+    ap (position (is_outside t)) (results_slots f t x y a b of_a of_b lengths)
+    ∙ position-map (is_outside t) (λ j. valid_in_both a b j && not (is_of_type t (result_at f x y j))) (slot (valid_in_both a b) (result_at f x y))
+    (λ j. outside_slot t (valid_in_both a b j) (result_at f x y j)) (range_with_len 0 (length a.items))
 
 within : (v fits : Bool) → (v ≡ true → fits ≡ true) → (v && not fits) ≡ false
 within false fits h = refl
 within true fits h = ap not (h refl)
 
-first_bad-none : (f : ℤ → ℤ → ℤ) (t : IntType) (xs ys : List ℕ) (a b : Seen) → HasNumbers t xs a → HasNumbers t ys b → length a.items ≡ length b.items
-    → AreOfType t (result_at f t xs ys) (valid_in (kept (both_valid a b))) (length a.items) → first_bad f (kind.int t) a.items b.items ≡ None
-first_bad-none f t xs ys a b of_a of_b lengths are =
-    first_bad_slots f t xs ys a b of_a of_b lengths
-    ∙ least_none (λ j. valid_in_both a b j && not (is_of_type t (result_at f t xs ys j))) (length a.items)
-    (λ j below. within (valid_in_both a b j) (is_of_type t (result_at f t xs ys j)) (λ is_valid. are.each j below (valid_in-kept a b j below ∙ is_valid)))
+first_bad-none : (f : ℤ → ℤ → ℤ) (t : IntType) (x y : ℕ → ℤ) (a b : Seen) → AreNumbers x a → AreNumbers y b → length a.items ≡ length b.items
+    → AreOfType t (result_at f x y) (valid_in (kept (both_valid a b))) (length a.items) → first_bad f (kind.int t) a.items b.items ≡ None
+first_bad-none f t x y a b of_a of_b lengths are =
+    first_bad_slots f t x y a b of_a of_b lengths
+    ∙ least_none (λ j. valid_in_both a b j && not (is_of_type t (result_at f x y j))) (length a.items)
+    (λ j below. within (valid_in_both a b j) (is_of_type t (result_at f x y j)) (λ is_valid. are.each j below (valid_in-kept a b j below ∙ is_valid)))
 
-first_bad-some : (f : ℤ → ℤ → ℤ) (t : IntType) (xs ys : List ℕ) (a b : Seen) (row : ℕ) → HasNumbers t xs a → HasNumbers t ys b → length a.items ≡ length b.items
-    → IsLeastOutside t (result_at f t xs ys) (valid_in (kept (both_valid a b))) (length a.items) row → first_bad f (kind.int t) a.items b.items ≡ Some row
-first_bad-some f t xs ys a b row of_a of_b lengths is =
-    let here : (valid_in_both a b row && not (is_of_type t (result_at f t xs ys row))) ≡ true =
-    ap (λ v. v && not (is_of_type t (result_at f t xs ys row))) (sym (valid_in-kept a b row is.within) ∙ is.is_valid) ∙ ap not is.outside in
-    first_bad_slots f t xs ys a b of_a of_b lengths
-    ∙ least_found (λ j. valid_in_both a b j && not (is_of_type t (result_at f t xs ys j))) (length a.items) row is.within here
-    (λ j before. within (valid_in_both a b j) (is_of_type t (result_at f t xs ys j)) (λ is_valid. is.before.each j before (valid_in-kept a b j (before_all j before) ∙ is_valid)))
+first_bad-some : (f : ℤ → ℤ → ℤ) (t : IntType) (x y : ℕ → ℤ) (a b : Seen) (row : ℕ) → AreNumbers x a → AreNumbers y b → length a.items ≡ length b.items
+    → IsLeastOutside t (result_at f x y) (valid_in (kept (both_valid a b))) (length a.items) row → first_bad f (kind.int t) a.items b.items ≡ Some row
+first_bad-some f t x y a b row of_a of_b lengths is =
+    let here : (valid_in_both a b row && not (is_of_type t (result_at f x y row))) ≡ true =
+    ap (λ v. v && not (is_of_type t (result_at f x y row))) (sym (valid_in-kept a b row is.within) ∙ is.is_valid) ∙ ap not is.outside in
+    first_bad_slots f t x y a b of_a of_b lengths
+    ∙ least_found (λ j. valid_in_both a b j && not (is_of_type t (result_at f x y j))) (length a.items) row is.within here
+    (λ j before. within (valid_in_both a b j) (is_of_type t (result_at f x y j)) (λ is_valid. is.before.each j before (valid_in-kept a b j (before_all j before) ∙ is_valid)))
   where
     before_all : (j : ℕ) → j < row → j < length a.items
     before_all j before = let below = is.within in omega arith
@@ -128,29 +132,29 @@ operands_fit t a b kind_a kind_b lengths =
     ∙ ap (λ s. cond (not s) (Some LengthsDiffer) None) (same_length (length a.items) (length b.items) lengths)
 
 -- two columns of numbers of one type, and of one length
-pub record AreOperands (t : IntType) (xs ys : List ℕ) (a b : Seen) : Type 0 where
+pub record AreOperands (t : IntType) (x y : ℕ → ℤ) (a b : Seen) : Type 0 where
   pub kind_a : a.kind ≡ kind.int t
   pub kind_b : b.kind ≡ kind.int t
   pub lengths : length a.items ≡ length b.items
-  pub of_a : HasNumbers t xs a
-  pub of_b : HasNumbers t ys b
+  pub of_a : AreNumbers x a
+  pub of_b : AreNumbers y b
 
-fault_at : (f : ℤ → ℤ → ℤ) (t : IntType) (xs ys : List ℕ) (a b : Seen) (row : Option ℕ) → AreOperands t xs ys a b → first_bad f (kind.int t) a.items b.items ≡ row
+fault_at : (f : ℤ → ℤ → ℤ) (t : IntType) (x y : ℕ → ℤ) (a b : Seen) (row : Option ℕ) → AreOperands t x y a b → first_bad f (kind.int t) a.items b.items ≡ row
     → arithmetic_fault f a b ≡ option_map (λ row. Overflow row) row
-fault_at f t xs ys a b row are is =
+fault_at f t x y a b row are is =
     ap (λ s. option_or s (option_map (λ row. Overflow row) (first_bad f a.kind a.items b.items))) (operands_fit t a b are.kind_a are.kind_b are.lengths)
     ∙ ap (λ k. option_map (λ row. Overflow row) (first_bad f k a.items b.items)) are.kind_a
     ∙ ap (option_map (λ row. Overflow row)) is
 
-pub told : (f : ℤ → ℤ → ℤ) (t : IntType) (xs ys : List ℕ) (a b : Seen) (valid : Option (List Bool)) (n : ℕ) (e : KernelFault) → AreOperands t xs ys a b → valid ≡ kept (both_valid a b)
-    → n ≡ length a.items → StopsAt t (result_at f t xs ys) (valid_in valid) n e → IsKernelFault (operands_fault a b) (arithmetic_fault f a b) e
-told f t xs ys a b valid n (Overflow row) are kept_is size stops =
-    let least = subst (λ v. IsLeastOutside t (result_at f t xs ys) (valid_in v) n row) kept_is stops in
-    let least = subst (λ m. IsLeastOutside t (result_at f t xs ys) (valid_in (kept (both_valid a b))) m row) size least in
-    inl (fault_at f t xs ys a b (Some row) are (first_bad-some f t xs ys a b row are.of_a are.of_b are.lengths least))
-told f t xs ys a b valid n NoMemory are kept_is size stops = inr (refl, operands_fit t a b are.kind_a are.kind_b are.lengths)
-told f t xs ys a b valid n TypesDiffer are kept_is size stops = absurd stops
-told f t xs ys a b valid n LengthsDiffer are kept_is size stops = absurd stops
+pub told : (f : ℤ → ℤ → ℤ) (t : IntType) (x y : ℕ → ℤ) (a b : Seen) (valid : Option (List Bool)) (n : ℕ) (e : KernelFault) → AreOperands t x y a b → valid ≡ kept (both_valid a b)
+    → n ≡ length a.items → StopsAt t (result_at f x y) (valid_in valid) n e → IsKernelFault (operands_fault a b) (arithmetic_fault f a b) e
+told f t x y a b valid n (Overflow row) are kept_is size stops =
+    let least = subst (λ v. IsLeastOutside t (result_at f x y) (valid_in v) n row) kept_is stops in
+    let least = subst (λ m. IsLeastOutside t (result_at f x y) (valid_in (kept (both_valid a b))) m row) size least in
+    inl (fault_at f t x y a b (Some row) are (first_bad-some f t x y a b row are.of_a are.of_b are.lengths least))
+told f t x y a b valid n NoMemory are kept_is size stops = inr (refl, operands_fit t a b are.kind_a are.kind_b are.lengths)
+told f t x y a b valid n TypesDiffer are kept_is size stops = absurd stops
+told f t x y a b valid n LengthsDiffer are kept_is size stops = absurd stops
 
 -- an error that is passed on
 pub told_on : {T : Type 0} (r : Result T KernelFault) (shape all : Option KernelFault) (e : KernelFault) → IsErrAnd r (λ x. x ≡ e) → IsKernelFault shape all e → IfErr r (IsKernelFault shape all)
@@ -181,12 +185,12 @@ pub record IsComputed (f : ℤ → ℤ → ℤ) (a b r : Seen) : Type 0 where
   pub faultless : arithmetic_fault f a b ≡ None
   pub shows : r ≡ shown a.kind (results f a.items b.items)
 
-pub computed : (f : ℤ → ℤ → ℤ) (t : IntType) (xs ys : List ℕ) (a b : Seen) (valid : Option (List Bool)) (n : ℕ) (bitmap : Option (List ℕ)) (numbers : List ℕ) → AreOperands t xs ys a b
-    → valid ≡ kept (both_valid a b) → n ≡ length a.items → IsBufferOf bitmap valid → AreResults t (result_at f t xs ys) (valid_in valid) n numbers
+pub computed : (f : ℤ → ℤ → ℤ) (t : IntType) (x y : ℕ → ℤ) (a b : Seen) (valid : Option (List Bool)) (n : ℕ) (bitmap : Option (List ℕ)) (numbers : List ℕ) → AreOperands t x y a b
+    → valid ≡ kept (both_valid a b) → n ≡ length a.items → IsBufferOf bitmap valid → AreResults t (result_at f x y) (valid_in valid) n numbers
     → IsComputed f a b (show_numbers t n bitmap numbers)
 unfolding slot made
-computed f t xs ys a b valid n bitmap numbers are kept_is size holds results_are =
-    let value = result_at f t xs ys in
+computed f t x y a b valid n bitmap numbers are kept_is size holds results_are =
+    let value = result_at f x y in
     let both = valid_in_both a b in
     let fine = subst (λ m. AreOfType t value (valid_in (kept (both_valid a b))) m) size (subst (λ v. AreOfType t value (valid_in v) n) kept_is results_are.of_type) in
     let packed = kept_buffer n both bitmap valid (kept_is ∙ ap (λ m. kept (map both (range_with_len 0 m))) (sym size)) holds in
@@ -196,7 +200,7 @@ computed f t xs ys a b valid n bitmap numbers are kept_is size holds results_are
     λ j below.
     slot_same (is_valid_in bitmap j) (both j) (number_at t numbers j) (value j) (packed.each j below)
     (λ is_valid. results_are.numbers j below (known j below ∙ is_valid)) in
-    let slots = results_slots f t xs ys a b are.of_a are.of_b are.lengths in
+    let slots = results_slots f t x y a b are.of_a are.of_b are.lengths in
     let items : map here (range_with_len 0 n) ≡ results f a.items b.items =
     map-range-below here (slot both value) 0 n (λ j below. ap here (zero-add j) ∙ same j below ∙ ap (slot both value) (sym (zero-add j)))
     ∙ ap (λ m. map (slot both value) (range_with_len 0 m)) size
@@ -206,7 +210,7 @@ computed f t xs ys a b valid n bitmap numbers are kept_is size holds results_are
     ∙ ap (λ m. kept (map both (range_with_len 0 m))) size
     ∙ ap kept (sym (ap (map (λ x. not (is_null x))) slots ∙ slots_there both value (length a.items))) in
     record {
-      faultless = fault_at f t xs ys a b None are (first_bad-none f t xs ys a b are.of_a are.of_b are.lengths fine);
+      faultless = fault_at f t x y a b None are (first_bad-none f t x y a b are.of_a are.of_b are.lengths fine);
       shows =
           ap (λ v. made (kind.int t) v (map here (range_with_len 0 n))) validity
           ∙ ap (made (kind.int t) (kept (map (λ x. not (is_null x)) (results f a.items b.items)))) items

@@ -9,8 +9,8 @@ use Rattle.kernels.specs.declared.fault.KernelFault.{KernelFault}
 use Rattle.kernels.specs.declared.fault.KernelFault.TheVariants.{Overflow, NoMemory}
 
 -- f of the two numbers at a place, exactly.
-abbrev pub result_at : (ℤ → ℤ → ℤ) → IntType → List ℕ → List ℕ → ℕ → ℤ
-result_at f t xs ys j = f (number_at t xs j) (number_at t ys j)
+abbrev pub result_at : (ℤ → ℤ → ℤ) → (ℕ → ℤ) → (ℕ → ℤ) → ℕ → ℤ
+result_at f x y j = f (x j) (y j)
 
 -- The result at each valid one of n slots is of the type.
 pub record AreOfType (t : IntType) (result : ℕ → ℤ) (valid : ℕ → Bool) (n : ℕ) : Type 0 where

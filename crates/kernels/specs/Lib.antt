@@ -1,6 +1,7 @@
 pub mod Lift
 pub mod Fault
 pub mod Arithmetic
+pub mod Beside
 pub mod Computed
 pub mod Order
 pub mod Kleene

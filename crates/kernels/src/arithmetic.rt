@@ -1,22 +1,24 @@
 //! Checked arithmetic on two columns of one integer type, place by place.
 
-ghost use Rattle.std.specs.Prelude.{◌≡◌, ◌+◌, ◌++◌, ◌≤◌, ◌*◌, ◌+ℤ◌, ◌-ℤ◌, ◌*ℤ◌, IfErr, IfNone, IfOk, IfSome, OnOk};
+ghost use Rattle.std.specs.Prelude.{◌≡◌, ◌+◌, ◌++◌, ◌<◌, ◌≤◌, ◌+ℤ◌, ◌-ℤ◌, ◌*ℤ◌, IfErr, IfNone, IfOk, IfSome, OnOk};
 ghost use Rattle.std.specs.Prelude.{None, true, false, length};
 ghost use Rattle.arrays.specs.Kind as kind;
-ghost use Rattle.arrays.specs.Kind.{bytes_of};
 ghost use Rattle.arrays.specs.Number.{is_of_type};
 ghost use Rattle.arrays.specs.Seen.{valid_in};
 ghost use Rattle.arrays.specs.ViewType.{view_kind};
 ghost use Rattle.kernels.specs.Arithmetic.{are_one_int, arithmetic_fault, operands_fault, results};
+ghost use Rattle.kernels.specs.Beside.{fault_from, fault_with, number_beside, number_fault};
 ghost use Rattle.kernels.specs.Computed.{AreOutside, AreResults, StopsAt, bytes_of_results, result_at};
 ghost use Rattle.kernels.specs.Fault.{IsKernelFault};
 ghost use Rattle.arrays.specs.Shown.{shown};
 
 use crate::fault::KernelFault;
+use crate::side::{Column, One, Side, number_bytes, type_with};
 use arrays::validity::buffer_of;
 use arrays::{Array, IntType, Integer, View, ViewType, Width};
 use colbits::{BitmapBuf, Bits, Buffer, NoMemory};
 use std::alloc::Global;
+use std::marker::PhantomData;
 use truths::{both_valid, valid_word};
 
 /// The sums of two columns of one integer type: null where either is null, else the exact sum, which has to be of
@@ -50,6 +52,47 @@ pub fn mul(alloc: Global, a: &View<'_>, b: &View<'_>) -> Result<Array, KernelFau
     ensures err { IfErr result (λ e. IsKernelFault (operands_fault a.now b.now) (arithmetic_fault ◌*ℤ◌ a.now b.now) e) }
 {
     compute::<Product>(alloc, a, b)
+}
+
+/// The sums of a column's numbers and one number: what [`add`] gives of the column and one of its type and length that
+/// has the number at each slot. `TypesDiffer` unless the column is of an integer type that has the number; else
+/// `Overflow` as in [`add`]. `NoMemory` where a growth was refused.
+pub fn add_number(alloc: Global, a: &View<'_>, number: i128) -> Result<Array, KernelFault>
+    ensures ok { IfOk result (λ r. (fault_with ◌+ℤ◌ a.now number ≡ None)
+        × (r ≡ shown a.now.kind (results ◌+ℤ◌ a.now.items (number_beside a.now number).items))) }
+    ensures err { IfErr result (λ e. IsKernelFault (number_fault a.now number) (fault_with ◌+ℤ◌ a.now number) e) }
+{
+    compute_with::<Sum>(alloc, a, number)
+}
+
+/// The differences of a column's numbers and one number, which is taken from each. The errors are those of
+/// [`add_number`], with the difference in place of the sum.
+pub fn sub_number(alloc: Global, a: &View<'_>, number: i128) -> Result<Array, KernelFault>
+    ensures ok { IfOk result (λ r. (fault_with ◌-ℤ◌ a.now number ≡ None)
+        × (r ≡ shown a.now.kind (results ◌-ℤ◌ a.now.items (number_beside a.now number).items))) }
+    ensures err { IfErr result (λ e. IsKernelFault (number_fault a.now number) (fault_with ◌-ℤ◌ a.now number) e) }
+{
+    compute_with::<Difference>(alloc, a, number)
+}
+
+/// The differences of one number and a column's numbers, each of which is taken from it. The errors are those of
+/// [`add_number`], with the difference in place of the sum.
+pub fn sub_from_number(alloc: Global, a: &View<'_>, number: i128) -> Result<Array, KernelFault>
+    ensures ok { IfOk result (λ r. (fault_from ◌-ℤ◌ number a.now ≡ None)
+        × (r ≡ shown a.now.kind (results ◌-ℤ◌ (number_beside a.now number).items a.now.items))) }
+    ensures err { IfErr result (λ e. IsKernelFault (number_fault a.now number) (fault_from ◌-ℤ◌ number a.now) e) }
+{
+    compute_with::<Reversed>(alloc, a, number)
+}
+
+/// The products of a column's numbers and one number. The errors are those of [`add_number`], with the product in
+/// place of the sum.
+pub fn mul_number(alloc: Global, a: &View<'_>, number: i128) -> Result<Array, KernelFault>
+    ensures ok { IfOk result (λ r. (fault_with ◌*ℤ◌ a.now number ≡ None)
+        × (r ≡ shown a.now.kind (results ◌*ℤ◌ a.now.items (number_beside a.now number).items))) }
+    ensures err { IfErr result (λ e. IsKernelFault (number_fault a.now number) (fault_with ◌*ℤ◌ a.now number) e) }
+{
+    compute_with::<Product>(alloc, a, number)
 }
 
 /// An operation on two numbers of the eight integer types.
@@ -96,6 +139,20 @@ impl Operation for Difference {
     #[inline(always)]
     fn apply(x: i128, y: i128) -> Option<i128> {
         Some(x - y)
+    }
+}
+
+/// The second number less the first.
+struct Reversed;
+
+impl Operation for Reversed {
+    ghost use Rattle.std.specs.Prelude.{◌-ℤ◌};
+
+    ghost exact = { λ x y. y -ℤ x };
+
+    #[inline(always)]
+    fn apply(x: i128, y: i128) -> Option<i128> {
+        Some(y - x)
     }
 }
 
@@ -162,12 +219,61 @@ fn computed<O: Operation, T: Integer>(
         × (r ≡ shown a.now.kind (results O.exact a.now.items b.now.items))) }
     ensures err { IfErr result (λ e. IsKernelFault (operands_fault a.now b.now) (arithmetic_fault O.exact a.now b.now) e) }
 {
-    let len = a.slots();
     let validity = both_valid(alloc, a, b)?;
-    let (x, y) = (a.numbers(T::ty()), b.numbers(T::ty()));
-    let numbers = numbers::<O, T>(alloc, x, y, &bits_of(&validity), len)?;
+    let (x, y) = (Column::<T>::of(a), Column::<T>::of(b));
+    let numbers = numbers::<O, T, _, _>(alloc, &x, &y, &bits_of(&validity), x.slots)?;
     let values = Buffer::from_vec(numbers)?;
-    Ok(Array::from_numbers(alloc, T::ty(), len, buffer_of(validity), values)?)
+    Ok(Array::from_numbers(alloc, T::ty(), x.slots, buffer_of(validity), values)?)
+}
+
+/// The results of a column and a number, whose type is looked at here.
+fn compute_with<O: Operation>(
+    alloc: Global,
+    a: &View<'_>,
+    number: i128,
+) -> Result<Array, KernelFault>
+    ensures ok { IfOk result (λ r. (fault_with O.exact a.now number ≡ None)
+        × (r ≡ shown a.now.kind (results O.exact a.now.items (number_beside a.now number).items))) }
+    ensures err { IfErr result (λ e. IsKernelFault (number_fault a.now number) (fault_with O.exact a.now number) e) }
+{
+    let ty = type_with(a.ty(), number)?;
+    match (ty.bits, ty.signed) {
+        (Width::W8, true) => computed_with::<O, i8>(alloc, a, number),
+        (Width::W8, false) => computed_with::<O, u8>(alloc, a, number),
+        (Width::W16, true) => computed_with::<O, i16>(alloc, a, number),
+        (Width::W16, false) => computed_with::<O, u16>(alloc, a, number),
+        (Width::W32, true) => computed_with::<O, i32>(alloc, a, number),
+        (Width::W32, false) => computed_with::<O, u32>(alloc, a, number),
+        (Width::W64, true) => computed_with::<O, i64>(alloc, a, number),
+        (Width::W64, false) => computed_with::<O, u64>(alloc, a, number),
+    }
+}
+
+/// The results of a column of this integer type and a number of it.
+fn computed_with<O: Operation, T: Integer>(
+    alloc: Global,
+    a: &View<'_>,
+    number: i128,
+) -> Result<Array, KernelFault>
+    requires kind { a.now.kind ≡ kind.int T.ty }
+    requires has { is_of_type T.ty number ≡ true }
+    ensures ok { IfOk result (λ r. (fault_with O.exact a.now number ≡ None)
+        × (r ≡ shown a.now.kind (results O.exact a.now.items (number_beside a.now number).items))) }
+    ensures err { IfErr result (λ e. IsKernelFault (number_fault a.now number) (fault_with O.exact a.now number) e) }
+{
+    let bytes = number_bytes::<T>(alloc, number)?;
+
+    // A number is valid at each slot, so that the column's own validity is that of the results.
+    let validity = both_valid(alloc, a, a)?;
+    let x = Column::<T>::of(a);
+    let y = One::<T> {
+        bytes: &bytes,
+        slots: x.slots,
+        of: PhantomData,
+    };
+    let numbers = numbers::<O, T, _, _>(alloc, &x, &y, &bits_of(&validity), x.slots)?;
+    let values = Buffer::from_vec(numbers)?;
+    Ok(Array::from_numbers(alloc, T::ty(), x.slots, buffer_of(validity), values)?)
 }
 
 /// The bits of a validity.
@@ -182,19 +288,19 @@ fn bits_of(validity: &Option<BitmapBuf>) -> Option<Bits<'_>>
 
 /// The results of `len` slots as numbers of the type, any number where a slot isn't valid. It stops in the first 64
 /// slots that hold a valid one whose result is outside the type.
-fn numbers<O: Operation, T: Integer>(
+fn numbers<O: Operation, T: Integer, A: Side, B: Side>(
     alloc: Global,
-    a: &[u8],
-    b: &[u8],
+    a: &A,
+    b: &B,
     valid: &Option<Bits<'_>>,
     len: u32,
 ) -> Result<Vec<u8>, KernelFault>
     requires short { len ≤ 2147483647 }
-    requires a { len * bytes_of T.ty.bits ≤ length a.now }
-    requires b { len * bytes_of T.ty.bits ≤ length b.now }
-    ensures ok { let exact = result_at O.exact T.ty a.now b.now in
+    requires a { len ≤ A.count a.now }
+    requires b { len ≤ B.count b.now }
+    ensures ok { let exact = result_at O.exact (A.number a.now) (B.number b.now) in
         IfOk result (λ v. AreResults T.ty exact (valid_in valid.now) len v.items) }
-    ensures err { let exact = result_at O.exact T.ty a.now b.now in
+    ensures err { let exact = result_at O.exact (A.number a.now) (B.number b.now) in
         IfErr result (λ e. StopsAt T.ty exact (valid_in valid.now) len e) }
 {
     let count = len as usize;
@@ -203,33 +309,33 @@ fn numbers<O: Operation, T: Integer>(
     // A buffer is padded by at most 63 bytes, so that the numbers aren't copied again.
     let mut numbers = Vec::with_capacity(alloc, count * T::ty().bits.bytes() + 63)?;
     for w in 0..words {
-        push_checked::<O, T>(&mut numbers, a, b, valid, 64 * w, 64)?;
+        push_checked::<O, T, A, B>(&mut numbers, a, b, valid, 64 * w, 64)?;
     }
-    push_checked::<O, T>(&mut numbers, a, b, valid, 64 * words, count - 64 * words)?;
+    push_checked::<O, T, A, B>(&mut numbers, a, b, valid, 64 * words, count - 64 * words)?;
     Ok(numbers)
 }
 
 /// Adds the results of `count` slots from slot `start` on, and tells the first valid one that is outside the type.
-fn push_checked<O: Operation, T: Integer>(
+fn push_checked<O: Operation, T: Integer, A: Side, B: Side>(
     numbers: &mut Vec<u8>,
-    a: &[u8],
-    b: &[u8],
+    a: &A,
+    b: &B,
     valid: &Option<Bits<'_>>,
     start: usize,
     count: usize,
 ) -> Result<(), KernelFault>
     requires word { count ≤ 64 }
     requires short { start + count ≤ 2147483647 }
-    requires a { (start + count) * bytes_of T.ty.bits ≤ length a.now }
-    requires b { (start + count) * bytes_of T.ty.bits ≤ length b.now }
-    requires before { let exact = result_at O.exact T.ty a.now b.now in
+    requires a { start + count ≤ A.count a.now }
+    requires b { start + count ≤ B.count b.now }
+    requires before { let exact = result_at O.exact (A.number a.now) (B.number b.now) in
         AreResults T.ty exact (valid_in valid.now) start numbers.old.items }
-    ensures ok { let exact = result_at O.exact T.ty a.now b.now in
+    ensures ok { let exact = result_at O.exact (A.number a.now) (B.number b.now) in
         OnOk result (AreResults T.ty exact (valid_in valid.now) (start + count) numbers.new.items) }
-    ensures err { let exact = result_at O.exact T.ty a.now b.now in
+    ensures err { let exact = result_at O.exact (A.number a.now) (B.number b.now) in
         IfErr result (λ e. StopsAt T.ty exact (valid_in valid.now) (start + count) e) }
 {
-    let outside = push_results::<O, T>(numbers, a, b, start, count)?;
+    let outside = push_results::<O, T, A, B>(numbers, a, b, start, count)?;
     let bad = outside & valid_word(valid, start);
     if bad != 0 {
         return Err(KernelFault::Overflow {
@@ -242,25 +348,25 @@ fn push_checked<O: Operation, T: Integer>(
 /// Adds the results of `count` slots from slot `start` on, 0 where one is outside the type, and tells where these are:
 /// the first slot's bit is the least significant. Nothing branches on a result.
 #[inline(always)]
-fn push_results<O: Operation, T: Integer>(
+fn push_results<O: Operation, T: Integer, A: Side, B: Side>(
     numbers: &mut Vec<u8>,
-    a: &[u8],
-    b: &[u8],
+    a: &A,
+    b: &B,
     start: usize,
     count: usize,
 ) -> Result<u64, NoMemory>
     requires word { count ≤ 64 }
     requires short { start + count ≤ 2147483647 }
-    requires a { (start + count) * bytes_of T.ty.bits ≤ length a.now }
-    requires b { (start + count) * bytes_of T.ty.bits ≤ length b.now }
-    ensures numbers { let exact = result_at O.exact T.ty a.now b.now in
+    requires a { start + count ≤ A.count a.now }
+    requires b { start + count ≤ B.count b.now }
+    ensures numbers { let exact = result_at O.exact (A.number a.now) (B.number b.now) in
         OnOk result (numbers.new.items ≡ numbers.old.items ++ bytes_of_results T.ty exact start count) }
-    ensures outside { let exact = result_at O.exact T.ty a.now b.now in
+    ensures outside { let exact = result_at O.exact (A.number a.now) (B.number b.now) in
         IfOk result (λ word. AreOutside T.ty exact start count word) }
 {
     let mut outside = 0;
     for j in 0..count {
-        let number = exact_number::<O, T>(a, b, start + j);
+        let number = exact_number::<O, T, A, B>(a, b, start + j);
         outside |= u64::from(number.is_none()) << j;
         T::push(numbers, number.unwrap_or(0))?;
     }
@@ -269,13 +375,13 @@ fn push_results<O: Operation, T: Integer>(
 
 /// The exact result of the two numbers `j`, none where it is outside the type.
 #[inline(always)]
-fn exact_number<O: Operation, T: Integer>(a: &[u8], b: &[u8], j: usize) -> Option<i128>
-    requires a { j * bytes_of T.ty.bits + bytes_of T.ty.bits ≤ length a.now }
-    requires b { j * bytes_of T.ty.bits + bytes_of T.ty.bits ≤ length b.now }
-    ensures some { IfSome result (λ z. (z ≡ result_at O.exact T.ty a.now b.now j) × (is_of_type T.ty z ≡ true)) }
-    ensures none { IfNone result (is_of_type T.ty (result_at O.exact T.ty a.now b.now j) ≡ false) }
+fn exact_number<O: Operation, T: Integer, A: Side, B: Side>(a: &A, b: &B, j: usize) -> Option<i128>
+    requires a { j < A.count a.now }
+    requires b { j < B.count b.now }
+    ensures some { IfSome result (λ z. (z ≡ result_at O.exact (A.number a.now) (B.number b.now) j) × (is_of_type T.ty z ≡ true)) }
+    ensures none { IfNone result (is_of_type T.ty (result_at O.exact (A.number a.now) (B.number b.now) j) ≡ false) }
 {
-    match O::apply(T::at(a, j), T::at(b, j)) {
+    match O::apply(a.at(j), b.at(j)) {
         Some(number) if T::holds(number) => Some(number),
         _ => None,
     }

@@ -4,6 +4,8 @@ ghost use Rattle.std.specs.Prelude.{◌≡◌, None, true, length, IfOk, IfErr};
 ghost use Rattle.arrays.specs.Kind as kind;
 ghost use Rattle.arrays.specs.Slot.{is_text};
 ghost use Rattle.arrays.specs.ViewType.{view_kind};
+ghost use Rattle.arrays.specs.Number.{is_of_type};
+ghost use Rattle.kernels.specs.Beside.{number_beside, number_fault};
 ghost use Rattle.kernels.specs.Fault.{IsKernelFault};
 ghost use Rattle.kernels.specs.Order.{are_comparable, compared, comparison_fault};
 ghost use Rattle.arrays.specs.Shown.{shown};
@@ -14,6 +16,7 @@ mod pairs;
 mod wanted;
 
 use crate::fault::KernelFault;
+use crate::side::{Column, One, number_bytes, type_with};
 use arrays::{Array, IntType, Integer, View, ViewType, Width};
 use colbits::NoMemory;
 use pairs::{Bools, Numbers, Pairs, Shown, Utf8s};
@@ -49,6 +52,23 @@ pub fn compare(alloc: Global, op: CmpOp, a: &View<'_>, b: &View<'_>) -> Result<A
         return Err(KernelFault::LengthsDiffer);
     }
     Ok(compare_slots(alloc, op, a, b)?)
+}
+
+/// Compares a column's numbers and one number: what [`compare`] gives of the column and one of its type and length that
+/// has the number at each slot. It fails with `TypesDiffer` unless the column is of an integer type that has the
+/// number, and else for want of memory alone.
+pub fn compare_number(
+    alloc: Global,
+    op: CmpOp,
+    a: &View<'_>,
+    number: i128,
+) -> Result<Array, KernelFault>
+    ensures ok { IfOk result (λ r. (number_fault a.now number ≡ None)
+        × (r ≡ shown kind.boolean (compared op a.now.items (number_beside a.now number).items))) }
+    ensures err { IfErr result (λ e. IsKernelFault (number_fault a.now number) (number_fault a.now number) e) }
+{
+    let ty = type_with(a.ty(), number)?;
+    Ok(compare_with(alloc, op, ty, a, number)?)
 }
 
 /// Whether columns of the two types can be compared.
@@ -120,12 +140,65 @@ fn compare_numbers<T: Integer>(
     requires lengths { length a.now.items ≡ length b.now.items }
     ensures { IfOk result (λ r. r ≡ shown kind.boolean (compared op a.now.items b.now.items)) }
 {
-    let pairs = Numbers::<T> {
-        a: a.numbers(T::ty()),
-        b: b.numbers(T::ty()),
+    let pairs = Numbers {
+        a: Column::<T>::of(a),
+        b: Column::<T>::of(b),
         valid: BothValid::of(a, b),
         slots: a.slots(),
+    };
+    decided(alloc, op, &pairs)
+}
+
+/// Compares a column of an integer type and a number of it.
+fn compare_with(
+    alloc: Global,
+    op: CmpOp,
+    ty: IntType,
+    a: &View<'_>,
+    number: i128,
+) -> Result<Array, NoMemory>
+    requires kind { a.now.kind ≡ kind.int ty }
+    requires has { is_of_type ty number ≡ true }
+    ensures { IfOk result (λ r. r ≡ shown kind.boolean (compared op a.now.items (number_beside a.now number).items)) }
+{
+    match (ty.bits, ty.signed) {
+        (Width::W8, true) => compare_each::<i8>(alloc, op, a, number),
+        (Width::W8, false) => compare_each::<u8>(alloc, op, a, number),
+        (Width::W16, true) => compare_each::<i16>(alloc, op, a, number),
+        (Width::W16, false) => compare_each::<u16>(alloc, op, a, number),
+        (Width::W32, true) => compare_each::<i32>(alloc, op, a, number),
+        (Width::W32, false) => compare_each::<u32>(alloc, op, a, number),
+        (Width::W64, true) => compare_each::<i64>(alloc, op, a, number),
+        (Width::W64, false) => compare_each::<u64>(alloc, op, a, number),
+    }
+}
+
+/// Compares a column of numbers of type `T` and one of them.
+fn compare_each<T: Integer>(
+    alloc: Global,
+    op: CmpOp,
+    a: &View<'_>,
+    number: i128,
+) -> Result<Array, NoMemory>
+    requires kind { a.now.kind ≡ kind.int T.ty }
+    requires has { is_of_type T.ty number ≡ true }
+    ensures { IfOk result (λ r. r ≡ shown kind.boolean (compared op a.now.items (number_beside a.now number).items)) }
+{
+    let bytes = number_bytes::<T>(alloc, number)?;
+    let one = One::<T> {
+        bytes: &bytes,
+        slots: a.slots(),
         of: PhantomData,
+    };
+    let pairs = Numbers {
+        a: Column::<T>::of(a),
+        b: one,
+        valid: BothValid {
+            a: a.validity(),
+            b: None,
+            len: a.len(),
+        },
+        slots: a.slots(),
     };
     decided(alloc, op, &pairs)
 }

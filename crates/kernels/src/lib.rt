@@ -6,9 +6,10 @@ pub mod comparison;
 pub mod fault;
 pub mod kleene;
 pub mod nulls;
+mod side;
 
-pub use arithmetic::{add, mul, sub};
-pub use comparison::{CmpOp, compare};
+pub use arithmetic::{add, add_number, mul, mul_number, sub, sub_from_number, sub_number};
+pub use comparison::{CmpOp, compare, compare_number};
 pub use fault::KernelFault;
 pub use kleene::{kleene_and, kleene_not, kleene_or};
 pub use nulls::is_null;

@@ -1,39 +1,37 @@
 //! Comparisons of 64 numbers each, packed into a word.
 
-ghost use Rattle.std.specs.Prelude.{◌≡◌, ℕ, ◌+◌, ◌*◌, ◌≤◌, ◌<◌, ◌^◌, ◌&&◌, if◌then◌else◌, length};
+ghost use Rattle.std.specs.Prelude.{◌≡◌, ℕ, ◌+◌, ◌≤◌, ◌<◌, ◌^◌, ◌&&◌, if◌then◌else◌};
 ghost use Rattle.std.specs.Ordering.{int_cmp, is_eq, is_lt};
-ghost use Rattle.arrays.specs.Kind.{bytes_of};
-ghost use Rattle.arrays.specs.Number.{number_at};
 ghost use Rattle.colbits.specs.Bit.{bit_in};
 
-use arrays::Integer;
+use crate::side::Side;
 
 /// At which of places `i` to `i + 63` the first number is less, the first of them least significant.
 #[inline(always)]
-pub(crate) fn are_less<T: Integer>(a: &[u8], b: &[u8], i: usize) -> u64
+pub(crate) fn are_less<A: Side, B: Side>(a: &A, b: &B, i: usize) -> u64
     requires fits { i + 64 < 2 ^ 64 }
-    requires a { (i + 64) * bytes_of T.ty.bits ≤ length a.now }
-    requires b { (i + 64) * bytes_of T.ty.bits ≤ length b.now }
-    ensures { (j : ℕ) → j < 64 → bit_in result j ≡ is_lt (int_cmp (number_at T.ty a.now (i + j)) (number_at T.ty b.now (i + j))) }
+    requires a { i + 64 ≤ A.count a.now }
+    requires b { i + 64 ≤ B.count b.now }
+    ensures { (j : ℕ) → j < 64 → bit_in result j ≡ is_lt (int_cmp (A.number a.now (i + j)) (B.number b.now (i + j))) }
 {
     let mut word = 0;
     for j in 0..64 {
-        word |= u64::from(is_less(T::at(a, i + j), T::at(b, i + j))) << j;
+        word |= u64::from(is_less(a.at(i + j), b.at(i + j))) << j;
     }
     word
 }
 
 /// At which of these places the two numbers are equal, likewise.
 #[inline(always)]
-pub(crate) fn are_equal<T: Integer>(a: &[u8], b: &[u8], i: usize) -> u64
+pub(crate) fn are_equal<A: Side, B: Side>(a: &A, b: &B, i: usize) -> u64
     requires fits { i + 64 < 2 ^ 64 }
-    requires a { (i + 64) * bytes_of T.ty.bits ≤ length a.now }
-    requires b { (i + 64) * bytes_of T.ty.bits ≤ length b.now }
-    ensures { (j : ℕ) → j < 64 → bit_in result j ≡ is_eq (int_cmp (number_at T.ty a.now (i + j)) (number_at T.ty b.now (i + j))) }
+    requires a { i + 64 ≤ A.count a.now }
+    requires b { i + 64 ≤ B.count b.now }
+    ensures { (j : ℕ) → j < 64 → bit_in result j ≡ is_eq (int_cmp (A.number a.now (i + j)) (B.number b.now (i + j))) }
 {
     let mut word = 0;
     for j in 0..64 {
-        word |= u64::from(is_equal(T::at(a, i + j), T::at(b, i + j))) << j;
+        word |= u64::from(is_equal(a.at(i + j), b.at(i + j))) << j;
     }
     word
 }

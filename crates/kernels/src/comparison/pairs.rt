@@ -1,12 +1,10 @@
 //! Two items at each place: numbers, truth values or texts.
 
-ghost use Rattle.std.specs.Prelude.{◌≡◌, ◌+◌, ◌<◌, ◌≤◌, ◌*◌, ◌&&◌, ℕ, Bool, true, false, length, slice_index_or, is_none, IsTrue};
+ghost use Rattle.std.specs.Prelude.{◌≡◌, ◌+◌, ◌<◌, ◌≤◌, ◌&&◌, ℕ, Bool, true, false, length, slice_index_or, is_none, IsTrue};
 ghost use Rattle.std.specs.Cmp.Lexicographic.{slice_cmp};
 ghost use Rattle.std.specs.Ordering.{bool_cmp, int_cmp, nat_cmp};
 ghost use Rattle.std.specs.declared.cmp.Ordering.{Ordering};
 ghost use Rattle.colbits.specs.Bit.{bit_in};
-ghost use Rattle.arrays.specs.Number.{number_at};
-ghost use Rattle.arrays.specs.Kind.{bytes_of};
 ghost use Rattle.arrays.specs.Offsets.{of_slot};
 ghost use Rattle.arrays.specs.Seen.{valid_in};
 ghost use Rattle.arrays.specs.Slot.{holds_at, is_text};
@@ -16,10 +14,10 @@ ghost use Rattle.kernels.specs.Wanted.{wants};
 
 use super::packed::{are_equal, are_less, chosen};
 use super::wanted::Wanted;
+use crate::side::Side;
 use arrays::validity::is_valid;
-use arrays::{Integer, Texts, View};
+use arrays::{Texts, View};
 use colbits::Bits;
-use std::marker::PhantomData;
 use truths::{BothValid, valid_word};
 
 /// Two items at each place, where both are there.
@@ -100,25 +98,24 @@ fn are_all_valid(valid: &BothValid<'_, '_>) -> bool
     valid.a.is_none() && valid.b.is_none()
 }
 
-/// Numbers of type `T`.
+/// Numbers.
 #[derive(Drop)]
-pub(crate) struct Numbers<'a, 'b, T: Integer> {
-    pub(crate) a: &'a [u8],
-    pub(crate) b: &'b [u8],
+pub(crate) struct Numbers<'a, 'b, A: Side + Drop, B: Side + Drop> {
+    pub(crate) a: A,
+    pub(crate) b: B,
     pub(crate) valid: BothValid<'a, 'b>,
     pub(crate) slots: u32,
-    pub(crate) of: PhantomData<T>,
-    ghost a_has: { slots * bytes_of T.ty.bits ≤ length a.now },
-    ghost b_has: { slots * bytes_of T.ty.bits ≤ length b.now },
+    ghost a_has: { slots ≤ A.count a },
+    ghost b_has: { slots ≤ B.count b },
     ghost short: { slots ≤ 2147483647 },
 }
 
-impl<'a, 'b, T: Integer> Pairs for Numbers<'a, 'b, T> {
+impl<'a, 'b, A: Side + Drop, B: Side + Drop> Pairs for Numbers<'a, 'b, A, B> {
     ghost count = { λ p. p.slots };
 
     ghost both = { λ p i. valid_in p.valid.a i && valid_in p.valid.b i };
 
-    ghost order = { λ p i. int_cmp (number_at T.ty p.a.now i) (number_at T.ty p.b.now i) };
+    ghost order = { λ p i. int_cmp (A.number p.a i) (B.number p.b i) };
 
     fn slots(&self) -> u32 {
         self.slots
@@ -133,7 +130,7 @@ impl<'a, 'b, T: Integer> Pairs for Numbers<'a, 'b, T> {
     }
 
     fn meets(&self, wanted: Wanted, i: usize) -> bool {
-        wanted.numbers(T::at(self.a, i), T::at(self.b, i))
+        wanted.numbers(self.a.at(i), self.b.at(i))
     }
 
     #[inline(always)]
@@ -144,14 +141,14 @@ impl<'a, 'b, T: Integer> Pairs for Numbers<'a, 'b, T> {
     #[inline(always)]
     fn meets_word(&self, wanted: Wanted, i: usize) -> u64 {
         if wanted.less == wanted.greater {
-            let equal = are_equal::<T>(self.a, self.b, i);
+            let equal = are_equal(&self.a, &self.b, i);
             return chosen(equal, wanted.equal, wanted.less);
         }
         if wanted.equal == wanted.greater {
-            let less = are_less::<T>(self.a, self.b, i);
+            let less = are_less(&self.a, &self.b, i);
             return chosen(less, wanted.less, wanted.equal);
         }
-        let greater = are_less::<T>(self.b, self.a, i);
+        let greater = are_less(&self.b, &self.a, i);
         chosen(greater, wanted.greater, wanted.equal)
     }
 }

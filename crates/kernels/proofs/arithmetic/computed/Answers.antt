@@ -1,11 +1,11 @@
 use Rattle.std.proofs.Common.{◌≡◌, ◌∙◌, ap, sym, subst}
-use Rattle.arrays.specs.Values.{HasNumbers}
 use Rattle.arrays.specs.FromParts.{show_numbers}
+use Rattle.arrays.specs.Number.{number_at}
 use Rattle.kernels.specs.Arithmetic.{operands_fault, arithmetic_fault}
 use Rattle.arrays.specs.Packed.{IsBufferOf}
 use Rattle.arrays.specs.Shown.{kept}
 use Rattle.truths.specs.Valid.{both_valid}
-use Rattle.kernels.proofs.ResultLemmas.{told, told_on, computed, AreOperands}
+use Rattle.kernels.proofs.ResultLemmas.{column_numbers, told, told_on, computed, AreOperands}
 use Rattle.kernels.proofs.arithmetic.computed.Goals as goal
 
 pub returns-in_err-numbers-clause-err : goal.returns-in_err-numbers-clause-err
@@ -14,18 +14,18 @@ returns-in_err-numbers-clause-err g c =
     let ty = g.T.Integer.ty in
     let a = c.args.a.now in
     let b = c.args.b.now in
-    let xs = c.numbers-x.result.now in
-    let ys = c.numbers-y.result.now in
-    let are : AreOperands ty xs ys a b = record {
+    let x = number_at ty c.of-x.result.numbers.now in
+    let y = number_at ty c.of-y.result.numbers.now in
+    let are : AreOperands ty x y a b = record {
       kind_a = c.requires.kind_a;
       kind_b = c.requires.kind_b;
       lengths = c.requires.lengths;
-      of_a = subst (λ t. HasNumbers t xs a) c.ty.ensures c.numbers-x.ensures;
-      of_b = subst (λ t. HasNumbers t ys b) c.ty-2.ensures c.numbers-y.ensures;
+      of_a = column_numbers ty c.of-x.result.numbers.now a c.of-x.ensures.numbers;
+      of_b = column_numbers ty c.of-y.result.numbers.now b c.of-y.ensures.numbers;
     } in
     let valid_is : c.bits_of.result ≡ kept (both_valid a b) = c.bits_of.ensures ∙ c.in_ok-validity.ensures in
     told_on c.from_residual-in_err-numbers.result (operands_fault a b) (arithmetic_fault f a b) c.in_err-numbers.field-0.0 c.from_residual-in_err-numbers.ensures.1
-    (told f ty xs ys a b c.bits_of.result c.slots-len.result c.in_err-numbers.field-0.0 are valid_is c.slots-len.ensures.count c.in_err-numbers.ensures.err)
+    (told f ty x y a b c.bits_of.result c.of-x.result.slots c.in_err-numbers.field-0.0 are valid_is c.of-x.ensures.slots c.in_err-numbers.ensures.err)
 
 pub returns-clause-ok : goal.returns-clause-ok
 returns-clause-ok g c =
@@ -33,26 +33,26 @@ returns-clause-ok g c =
     let ty = g.T.Integer.ty in
     let a = c.args.a.now in
     let b = c.args.b.now in
-    let xs = c.numbers-x.result.now in
-    let ys = c.numbers-y.result.now in
-    let are : AreOperands ty xs ys a b = record {
+    let x = number_at ty c.of-x.result.numbers.now in
+    let y = number_at ty c.of-y.result.numbers.now in
+    let are : AreOperands ty x y a b = record {
       kind_a = c.requires.kind_a;
       kind_b = c.requires.kind_b;
       lengths = c.requires.lengths;
-      of_a = subst (λ t. HasNumbers t xs a) c.ty.ensures c.numbers-x.ensures;
-      of_b = subst (λ t. HasNumbers t ys b) c.ty-2.ensures c.numbers-y.ensures;
+      of_a = column_numbers ty c.of-x.result.numbers.now a c.of-x.ensures.numbers;
+      of_b = column_numbers ty c.of-y.result.numbers.now b c.of-y.ensures.numbers;
     } in
-    let n = c.slots-len.result in
+    let n = c.of-x.result.slots in
     let valid = c.bits_of.result in
     let bitmap = c.buffer_of.result in
     let numbers = c.in_ok-numbers.numbers.items in
     let valid_is : valid ≡ kept (both_valid a b) = c.bits_of.ensures ∙ c.in_ok-validity.ensures in
     let is =
-    computed f ty xs ys a b valid n bitmap numbers are valid_is c.slots-len.ensures.count
+    computed f ty x y a b valid n bitmap numbers are valid_is c.of-x.ensures.slots
     (subst (λ v. IsBufferOf bitmap v) (sym c.bits_of.ensures) c.buffer_of.ensures) c.in_ok-numbers.ensures.ok in (
       is.faultless,
       c.in_ok-from_numbers.ensures
-          ∙ ap (λ t. show_numbers t n bitmap c.in_ok-values.values) c.ty-3.ensures
+          ∙ ap (λ t. show_numbers t n bitmap c.in_ok-values.values) c.ty.ensures
           ∙ ap (λ v. show_numbers ty n bitmap v) c.in_ok-values.ensures
           ∙ is.shows,
     )

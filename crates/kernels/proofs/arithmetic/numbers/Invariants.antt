@@ -7,4 +7,4 @@ use Rattle.kernels.proofs.arithmetic.numbers.Given as goal
 abbrev pub invariant-loop-w : goal.invariant-loop-w
 invariant-loop-w g l =
     let ty = g.T.Integer.ty in
-    AreResults ty (result_at g.O.Operation.exact ty l.a l.b) (valid_in l.valid) (64 * l.w) l.numbers.items
+    AreResults ty (result_at g.O.Operation.exact (g.A.Side.number l.a) (g.B.Side.number l.b)) (valid_in l.valid) (64 * l.w) l.numbers.items

@@ -10,7 +10,7 @@ use Rattle.kernels.proofs.arithmetic.push_results.Goals as goal
 pub loop-j-init : goal.loop-j-init
 loop-j-init g c =
     let ty = g.T.Integer.ty in
-    let exact = result_at g.O.Operation.exact ty c.args.a.now c.args.b.now in
+    let exact = result_at g.O.Operation.exact (g.A.Side.number c.args.a.now) (g.B.Side.number c.args.b.now) in
     let old = c.args.numbers.now.items in
     record {
       numbers = sym (ap (λ more. old ++ more) (bytes_of_results-none ty exact c.args.start) ∙ append-nil old);
@@ -20,7 +20,7 @@ loop-j-init g c =
 pub push-requires : goal.push-requires
 push-requires g c =
     let ty = g.T.Integer.ty in
-    let exact = result_at g.O.Operation.exact ty c.args.a.now c.args.b.now in
+    let exact = result_at g.O.Operation.exact (g.A.Side.number c.args.a.now) (g.B.Side.number c.args.b.now) in
     let j = c.args.start + c.loop-j.j in
     let number = c.exact_number-number in
     let told = held ty exact j number.result number.ensures.some number.ensures.none in
@@ -29,7 +29,7 @@ push-requires g c =
 pub loop-j-preserved : goal.loop-j-preserved
 loop-j-preserved g c =
     let ty = g.T.Integer.ty in
-    let exact = result_at g.O.Operation.exact ty c.args.a.now c.args.b.now in
+    let exact = result_at g.O.Operation.exact (g.A.Side.number c.args.a.now) (g.B.Side.number c.args.b.now) in
     let start = c.args.start in
     let j = c.loop-j.j in
     let number = c.exact_number-number in

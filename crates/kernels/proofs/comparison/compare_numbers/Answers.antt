@@ -1,16 +1,16 @@
-use Rattle.std.proofs.Common.{subst}
-use Rattle.arrays.specs.Values.{HasNumbers}
+use Rattle.arrays.specs.Number.{number_at}
 use Rattle.kernels.proofs.ComparisonLemmas.{numbers-compared}
+use Rattle.kernels.proofs.ResultLemmas.{column_numbers}
 use Rattle.kernels.proofs.comparison.compare_numbers.Goals as goal
 
 pub returns : goal.returns
 returns g c =
+    let ty = g.T.Integer.ty in
     let a = c.args.a.now in
     let b = c.args.b.now in
-    let x = c.numbers.result.now in
-    let y = c.numbers-2.result.now in
-    let has_x = subst (λ t. HasNumbers t x a) c.ty.ensures c.numbers.ensures in
-    let has_y = subst (λ t. HasNumbers t y b) c.ty-2.ensures c.numbers-2.ensures in
-    let same = numbers-compared c.args.op a b c.requires.lengths g.T.Integer.ty x y has_x has_y
-    c.of.result.a c.of.result.b c.slots.result c.of.ensures.a c.of.ensures.b c.slots.ensures.count in
+    let x = c.of.result.numbers.now in
+    let y = c.of-2.result.numbers.now in
+    let valid = c.of-3 in
+    let same = numbers-compared c.args.op a b c.requires.lengths (number_at ty x) (number_at ty y) (column_numbers ty x a c.of.ensures.numbers) (column_numbers ty y b c.of-2.ensures.numbers)
+    valid.result.a valid.result.b c.slots.result valid.ensures.a valid.ensures.b c.slots.ensures.count in
     rw (← same) c.decided.ensures

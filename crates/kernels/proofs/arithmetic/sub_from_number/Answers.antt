@@ -1,0 +1,28 @@
+use Rattle.std.proofs.Common.{◌≡◌, ◌-ℤ◌, None, IfErr, IfOk, subst}
+use Rattle.std.specs.Int.{w128}
+use Rattle.std.proofs.lemmas.Int.{to_z-of_z}
+use Rattle.arrays.specs.Shown.{shown}
+use Rattle.kernels.specs.Arithmetic.{results}
+use Rattle.kernels.specs.Beside.{fault_from, fault_with, number_beside, number_fault}
+use Rattle.kernels.specs.Fault.{IsKernelFault}
+use Rattle.kernels.proofs.BesideLemmas.{fault_flipped, flipped, results_flipped}
+use Rattle.kernels.proofs.arithmetic.sub_from_number.Goals as goal
+
+pub returns-clause-ok : goal.returns-clause-ok
+returns-clause-ok c =
+    let a = c.args.a.now in
+    let z = c.args.number in
+    let r = c.compute_with.result in
+    let f = flipped ◌-ℤ◌ in
+    let passed = subst (λ w. IfOk r (λ x. (fault_with f a w ≡ None) × (x ≡ shown a.kind (results f a.items (number_beside a w).items)))) (to_z-of_z w128 z c.ranges.number) c.compute_with.ensures.ok in
+    let told = subst (λ fault. IfOk r (λ x. (fault ≡ None) × (x ≡ shown a.kind (results f a.items (number_beside a z).items)))) (fault_flipped ◌-ℤ◌ a z) passed in
+    subst (λ items. IfOk r (λ x. (fault_from ◌-ℤ◌ z a ≡ None) × (x ≡ shown a.kind items))) (results_flipped ◌-ℤ◌ a z) told
+
+pub returns-clause-err : goal.returns-clause-err
+returns-clause-err c =
+    let a = c.args.a.now in
+    let z = c.args.number in
+    let r = c.compute_with.result in
+    let f = flipped ◌-ℤ◌ in
+    let passed = subst (λ w. IfErr r (λ e. IsKernelFault (number_fault a w) (fault_with f a w) e)) (to_z-of_z w128 z c.ranges.number) c.compute_with.ensures.err in
+    subst (λ fault. IfErr r (λ e. IsKernelFault (number_fault a z) fault e)) (fault_flipped ◌-ℤ◌ a z) passed
