@@ -1,8 +1,12 @@
 use Rattle.std.proofs.Common.{◌∙◌, ap}
 use Rattle.arrays.specs.Kind as kind
 use Rattle.arrays.specs.Shown.{shown}
-use Rattle.kernels.proofs.NullLemmas.{truths-nulls}
+use Rattle.kernels.proofs.NullLemmas.{truths-invalid, truths-nulls}
 use Rattle.kernels.proofs.nulls.is_null.Goals as goal
 
+pub returns-then-is_encoded-clause-ok : goal.returns-then-is_encoded-clause-ok
+returns-then-is_encoded-clause-ok c = c.in_ok-array_of.ensures ∙ ap (shown kind.boolean) (truths-nulls c.args.a.now)
+
 pub returns-clause-ok : goal.returns-clause-ok
-returns-clause-ok c = c.in_ok-array_of.ensures ∙ ap (shown kind.boolean) (truths-nulls c.args.a.now)
+returns-clause-ok c =
+    c.in_ok-array_of-2.ensures ∙ ap (shown kind.boolean) (truths-invalid c.args.a.now c.validity.result c.slots.result c.validity.ensures c.slots.ensures.count c.tell_valid.ensures)
