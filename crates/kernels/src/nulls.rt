@@ -2,7 +2,6 @@
 
 ghost use Rattle.std.specs.Prelude.{◌≡◌, ◌<◌, ◌≤◌, ℕ, not, true, false, length, IfOk, IfErr};
 ghost use Rattle.arrays.specs.Kind as kind;
-ghost use Rattle.arrays.specs.Kind.{same_kind};
 ghost use Rattle.arrays.specs.Seen.{valid_at, valid_in};
 ghost use Rattle.arrays.specs.Slot.{holds_at};
 ghost use Rattle.kernels.specs.Nulls.{nulls};
@@ -10,7 +9,7 @@ ghost use Rattle.arrays.specs.Shown.{shown};
 
 use crate::fault::KernelFault;
 use arrays::validity::is_valid;
-use arrays::{Array, View, ViewType};
+use arrays::{Array, IntType, View, ViewType, Width};
 use colbits::Bits;
 use colbits::lanes::flipped;
 use std::alloc::Global;
@@ -23,10 +22,9 @@ pub fn is_null(alloc: Global, a: &View<'_>) -> Result<Array, KernelFault>
     ensures ok { IfOk result (λ r. r ≡ shown kind.boolean (nulls a.now.items)) }
     ensures err { IfErr result (λ e. e ≡ KernelFault.NoMemory) }
 {
-    if is_encoded(a) {
+    if may_name_nulls(a) {
         return Ok(array_of(alloc, &NullsOf { view: a })?);
     }
-    tell_valid(a);
     let invalid = Invalid {
         validity: a.validity(),
         slots: a.slots(),
@@ -34,37 +32,46 @@ pub fn is_null(alloc: Global, a: &View<'_>) -> Result<Array, KernelFault>
     Ok(array_of(alloc, &invalid)?)
 }
 
-/// Whether the view is dictionary-encoded.
-fn is_encoded(view: &View<'_>) -> bool
-    ensures { result ≡ same_kind view.now.kind kind.dict }
-{
-    match view.ty() {
-        ViewType::Dict => true,
-        _ => false,
-    }
-}
-
-/// Says that a slot holds an item where it is valid, if no dictionary is named. Nothing is looked at.
-fn tell_valid(view: &View<'_>)
-    requires { same_kind view.now.kind kind.dict ≡ false }
-    ensures { (i : ℕ) → i < length view.now.items → holds_at view.now i ≡ valid_at view.now i }
+/// Whether a slot that is valid may hold no item. Nothing is looked at but whether a dictionary has a bitmap.
+fn may_name_nulls(view: &View<'_>) -> bool
+    ensures { result ≡ false → (i : ℕ) → i < length view.now.items → holds_at view.now i ≡ valid_at view.now i }
 {
     match view.ty() {
         ViewType::Int(ty) => {
             let _ = view.numbers(ty);
+            false
         }
         ViewType::Bool => {
             let _ = view.bool_bits();
+            false
         }
         ViewType::Utf8 => {
             let _ = view.texts();
+            false
         }
         ViewType::List(_) => {
             let _ = view.lists();
+            false
         }
-        ViewType::Dict => unreachable!(),
+        ViewType::Dict => may_have_null_entries(view),
     }
 }
+
+/// Whether an entry that a valid slot names may be null.
+fn may_have_null_entries(view: &View<'_>) -> bool
+    requires { view.now.kind ≡ kind.dict }
+    ensures { result ≡ false → (i : ℕ) → i < length view.now.items → holds_at view.now i ≡ valid_at view.now i }
+{
+    let (codes, entries) = (view.codes(), view.entries());
+    let (_, _) = (codes.numbers(INT32), entries.texts());
+    entries.validity().is_some()
+}
+
+/// The type of codes.
+const INT32: IntType = IntType {
+    bits: Width::W32,
+    signed: true,
+};
 
 /// Whether a slot isn't valid.
 #[derive(Drop)]

@@ -4,9 +4,9 @@ use Rattle.arrays.specs.Shown.{shown}
 use Rattle.kernels.proofs.NullLemmas.{truths-invalid, truths-nulls}
 use Rattle.kernels.proofs.nulls.is_null.Goals as goal
 
-pub returns-then-is_encoded-clause-ok : goal.returns-then-is_encoded-clause-ok
-returns-then-is_encoded-clause-ok c = c.in_ok-array_of.ensures ∙ ap (shown kind.boolean) (truths-nulls c.args.a.now)
+pub returns-then-may_name_nulls-clause-ok : goal.returns-then-may_name_nulls-clause-ok
+returns-then-may_name_nulls-clause-ok c = c.in_ok-array_of.ensures ∙ ap (shown kind.boolean) (truths-nulls c.args.a.now)
 
 pub returns-clause-ok : goal.returns-clause-ok
 returns-clause-ok c =
-    c.in_ok-array_of-2.ensures ∙ ap (shown kind.boolean) (truths-invalid c.args.a.now c.validity.result c.slots.result c.validity.ensures c.slots.ensures.count c.tell_valid.ensures)
+    c.in_ok-array_of-2.ensures ∙ ap (shown kind.boolean) (truths-invalid c.args.a.now c.validity.result c.slots.result c.validity.ensures c.slots.ensures.count (c.may_name_nulls.ensures c.if-may_name_nulls.false))

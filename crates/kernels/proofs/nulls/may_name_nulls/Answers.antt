@@ -3,17 +3,17 @@ use Rattle.arrays.specs.Item.{boolean, int, list, list_of, text}
 use Rattle.arrays.specs.Number.{number_at}
 use Rattle.arrays.specs.Offsets.{of_slot}
 use Rattle.kernels.proofs.NullLemmas.{holds_valid}
-use Rattle.kernels.proofs.nulls.tell_valid.Goals as goal
+use Rattle.kernels.proofs.nulls.may_name_nulls.Goals as goal
 
 pub returns-in-Int : goal.returns-in-Int
-returns-in-Int c = holds_valid (λ j. int (number_at c.in-Int.ty c.numbers.result.now j)) c.args.view.now c.numbers.ensures.numbers (λ j. refl)
+returns-in-Int c = λ h. holds_valid (λ j. int (number_at c.in-Int.ty c.numbers.result.now j)) c.args.view.now c.numbers.ensures.numbers (λ j. refl)
 
 pub returns-in-Bool : goal.returns-in-Bool
-returns-in-Bool c = holds_valid (λ j. boolean (slice_index_or c.bool_bits.result j false)) c.args.view.now c.bool_bits.ensures.values (λ j. refl)
+returns-in-Bool c = λ h. holds_valid (λ j. boolean (slice_index_or c.bool_bits.result j false)) c.args.view.now c.bool_bits.ensures.values (λ j. refl)
 
 pub returns-in-Utf8 : goal.returns-in-Utf8
-returns-in-Utf8 c = holds_valid (λ j. text (of_slot c.texts.result.offsets.now c.texts.result.bytes.now j)) c.args.view.now c.texts.ensures.texts.texts (λ j. refl)
+returns-in-Utf8 c = λ h. holds_valid (λ j. text (of_slot c.texts.result.offsets.now c.texts.result.bytes.now j)) c.args.view.now c.texts.ensures.texts.texts (λ j. refl)
 
 pub returns-in-List : goal.returns-in-List
-returns-in-List c =
+returns-in-List c = λ h.
     holds_valid (λ j. list (list_of (of_slot c.lists.result.offsets.now c.lists.result.child.items j))) c.args.view.now c.lists.ensures.value.lists (λ j. refl)
