@@ -5,3 +5,4 @@ pub mod OperatorLemmas
 pub mod ColumnLemmas
 pub mod FilterLemmas
 pub mod TreeLemmas
+pub mod BesideLemmas

@@ -1,5 +1,5 @@
 -- What operators make of columns.
-use Rattle.std.proofs.Common.{◌≡◌, ◌∙◌, ℕ, ◌<◌, ◌&&◌, ℤ, List, length, Bool, true, false, not, cond, eqb, is_some, replicate, zero-add, Option, Some, None, Result, Ok, Err, IfErr, IsErrAnd, ap, ap₂, sym, refl, subst, true≢false, eq-eqb, inl, inr}
+use Rattle.std.proofs.Common.{◌≡◌, ◌∙◌, ℕ, ◌&&◌, ℤ, List, length, Bool, true, false, not, cond, eqb, is_some, replicate, zero-add, Option, Some, None, Result, Ok, Err, IfErr, IsErrAnd, ap, sym, refl, subst, true≢false, eq-eqb, inl, inr}
 use Rattle.arrays.specs.Item.{Item, null, int, boolean, text, list, is_null}
 use Rattle.arrays.specs.Slot.{holds_at}
 use Rattle.types.specs.Number.{is_of_type}
@@ -30,15 +30,13 @@ use Rattle.query.specs.declared.sort.Sort.{Sort}
 use Rattle.query.specs.declared.sort.Sort.TheVariants.{Int, Literal, Text, Truth}
 use Rattle.evaluate.proofs.PlaceLemmas.{IsPlaced, IsPlacedIn, StopsOutside, binary_placed, exact_placed, sole_fault, unary_placed}
 use Rattle.evaluate.proofs.SortLemmas.{comparable, one_int, truths}
-use Rattle.evaluate.specs.Making.{AreMade, IsSettled, StopsMaking, comparison_of, held_by, in_order, stop_of}
-use Rattle.evaluate.specs.Slices.{AreEnough, column_of, item_in, sort_in}
+use Rattle.evaluate.specs.Making.{AreMade, StopsMaking, comparison_of, held_by, in_order, stop_of}
 use Rattle.evaluate.specs.Value.{comparison, of_one, of_two}
 use Rattle.evaluate.specs.declared.stop.Stop as stop
 use Rattle.evaluate.specs.declared.stop.Stop.TheVariants as stops
-use Rattle.evaluate.specs.declared.values.Operand.{Operand}
 use Rattle.evaluate.specs.declared.values.Operand.TheVariants.{Made}
 use Rattle.evaluate.specs.declared.values.Values.{Values}
-use Rattle.evaluate.specs.declared.values.Values.TheVariants.{Column, Number}
+use Rattle.evaluate.specs.declared.values.Values.TheVariants.{Column}
 
 -- ---- truth values
 
@@ -46,7 +44,7 @@ sole : (b : Bool) (s : Sort) → is_some (cond b (Some s) None) ≡ true → con
 sole true s h = refl
 sole false s h = absurd (true≢false (sym h))
 
-truth_made : (s : Option Sort) (made : ℕ → Item) (n : ℕ) (a : Seen) → s ≡ Some Truth → IsPlaced kind.boolean made n a → AreMade s made n (Column (Made a))
+pub truth_made : (s : Option Sort) (made : ℕ → Item) (n : ℕ) (a : Seen) → s ≡ Some Truth → IsPlaced kind.boolean made n a → AreMade s made n (Column (Made a))
 truth_made s made n a is placed = record {
   sort = is ∙ ap (λ k. Some (sort_of_kind k)) (sym placed.kind);
   enough = placed.len;
@@ -61,7 +59,7 @@ no_fault suit n m e fine same (inl is) =
     ap (λ b. cond (not b) (Some TypesDiffer) (cond (not (eqb n m)) (Some LengthsDiffer) None)) fine ∙ ap (λ b. cond (not b) (Some LengthsDiffer) None) (eq-eqb n m same) in
     let never : ◌≡◌ {A = Option KernelFault} None (Some e) = sym none ∙ is in absurd (cc never)
 
-no_type_fault : (suit : Bool) (e : KernelFault) → suit ≡ true → IsKernelFault (cond suit None (Some TypesDiffer)) (cond suit None (Some TypesDiffer)) e → stop_of e ≡ stops.NoMemory
+pub no_type_fault : (suit : Bool) (e : KernelFault) → suit ≡ true → IsKernelFault (cond suit None (Some TypesDiffer)) (cond suit None (Some TypesDiffer)) e → stop_of e ≡ stops.NoMemory
 no_type_fault suit e fine (inr wanting) = ap stop_of wanting.0
 no_type_fault suit e fine (inl is) =
     let never : ◌≡◌ {A = Option KernelFault} None (Some e) = sym (ap (λ b. cond b None (Some TypesDiffer)) fine) ∙ is in absurd (cc never)
@@ -135,7 +133,7 @@ comparison_sort op.IsNull c s t h = absurd cc
 same_some : (c d : CmpOp) → ◌≡◌ {A = Option CmpOp} (Some c) (Some d) → c ≡ d
 same_some c d h = cc
 
-comparison_value : (o : Op) (c : CmpOp) (x y : Item) → comparison_of o ≡ Some c → comparison c x y ≡ of_two o x y
+pub comparison_value : (o : Op) (c : CmpOp) (x y : Item) → comparison_of o ≡ Some c → comparison c x y ≡ of_two o x y
 comparison_value op.Add c x y h = absurd cc
 comparison_value op.Sub c x y h = absurd cc
 comparison_value op.Mul c x y h = absurd cc
@@ -199,7 +197,7 @@ stopped (Err f) e P h p = subst P (sym h) p
 
 -- ---- literals
 
-settled_kind : (t : IntType) (k : Kind) → sorts.settled t (sort_of_kind k) ≡ Some (sort_of_kind k)
+pub settled_kind : (t : IntType) (k : Kind) → sorts.settled t (sort_of_kind k) ≡ Some (sort_of_kind k)
 settled_kind t (kind.int s) = refl
 settled_kind t kind.boolean = refl
 settled_kind t kind.utf8 = refl
@@ -295,23 +293,13 @@ texts_made first o c t u n r named h is =
     truth_made (in_order first (sorts.sort_of_two o) Text Text) (λ i. in_order first (of_two o) (text t) (text u)) n r (compared_sort first o c kind.utf8 named h)
     (record { kind = placed.kind; len = placed.len; each = λ i below. placed.each i below ∙ compared_item first o c t (text u) named })
 
--- ---- literals that become columns
-
-pub number_settled : (t : IntType) (z : ℤ) (n : ℕ) (r : Seen) → is_some (sorts.settled t (Literal z)) ≡ true → r ≡ shown (kind.int t) (replicate n (int z)) → IsSettled t (Number z) n (Made r)
-number_settled t z n r h is = record {
-  sort = sole (is_of_type t z) (Int t) h ∙ ap (λ (s : Seen). Some (sort_of_kind s.kind)) (sym is);
-  len = ap (λ (s : Seen). length s.items) is ∙ length-replicate n (int z);
-  each = λ i below. ap (λ (s : Seen). item_at s.items i) is ∙ get_or-replicate n i (int z) null below;
-}
+-- ---- literals and columns
 
 pub number_fits : (t : IntType) (z : ℤ) → is_some (sorts.settled t (Literal z)) ≡ true → is_of_type t z ≡ true
 number_fits t z h = go (is_of_type t z) h where
   go : (b : Bool) → is_some (cond b (Some (Int t)) None) ≡ true → b ≡ true
   go true h = refl
   go false h = h
-
-pub column_settled : (t : IntType) (o : Operand) (n : ℕ) → length (column_of o).items ≡ n → IsSettled t (Column o) n o
-column_settled t o n long = record { sort = settled_kind t (column_of o).kind; len = long; each = λ i below. refl }
 
 -- What an operator makes of what two operands become.
 pub settled_sort : (o : Op) (s t a b : Sort) → sorts.settled (sorts.type_beside t) s ≡ Some a → sorts.settled (sorts.type_beside s) t ≡ Some b → sorts.sort_of_two o s t ≡ sorts.of_two o a b
@@ -324,34 +312,6 @@ left_fits o s t h = go (sorts.settled (sorts.type_beside t) s) h where
   go None h = h
   go (Some a) h = refl
 
-pub right_fits : (o : Op) (s t : Sort) → is_some (sorts.sort_of_two o s t) ≡ true → is_some (sorts.settled (sorts.type_beside s) t) ≡ true
-right_fits o s t h = go (sorts.settled (sorts.type_beside t) s) (sorts.settled (sorts.type_beside s) t) h where
-  go : (a b : Option Sort) → is_some (option_and_then (λ a. option_and_then (λ b. sorts.of_two o a b) b) a) ≡ true → is_some b ≡ true
-  go None b h = absurd (true≢false (sym h))
-  go (Some a) None h = h
-  go (Some a) (Some b) h = refl
-
-module _ (o : Op) (n : ℕ) (v w : Values) (p q : Operand) (left : IsSettled (sorts.type_beside (sort_in w)) v n p) (right : IsSettled (sorts.type_beside (sort_in v)) w n q) where
-  abbrev of_both : Option Sort
-  of_both = sorts.of_two o (sort_of_kind (column_of p).kind) (sort_of_kind (column_of q).kind)
-
-  abbrev items_both : ℕ → Item
-  items_both i = of_two o (item_at (column_of p).items i) (item_at (column_of q).items i)
-
-  pub sort_both : sorts.sort_of_two o (sort_in v) (sort_in w) ≡ of_both
-  sort_both = settled_sort o (sort_in v) (sort_in w) (sort_of_kind (column_of p).kind) (sort_of_kind (column_of q).kind) left.sort right.sort
-
-  item_both : (i : ℕ) → i < n → of_two o (item_in v i) (item_in w i) ≡ items_both i
-  item_both i below = ap₂ (of_two o) (sym (left.each i below)) (sym (right.each i below))
-
-  pub both_made : (r : Values) → AreMade of_both items_both (length (column_of p).items) r → AreMade (sorts.sort_of_two o (sort_in v) (sort_in w)) (λ i. of_two o (item_in v i) (item_in w i)) n r
-  both_made r made = record {
-    sort = sort_both ∙ made.sort;
-    enough = subst (λ m. AreEnough m r) left.len made.enough;
-    each = λ i below. ap₂ held_by sort_both (item_both i below) ∙ made.each i (subst (λ m. i < m) (sym left.len) below);
-  }
-
-  pub both_stop : (e : stop.Stop) → StopsMaking of_both items_both (length (column_of p).items) e → StopsMaking (sorts.sort_of_two o (sort_in v) (sort_in w)) (λ i. of_two o (item_in v i) (item_in w i)) n e
-  both_stop (stops.Bad row) at =
-      let below : row < n = subst (λ m. row < m) left.len at.0 in (below, ap₂ held_by sort_both (item_both row below) ∙ at.1)
-  both_stop stops.NoMemory at = tt
+-- Two columns.
+pub columns_sort : (o : Op) (k l : Kind) → sorts.sort_of_two o (sort_of_kind k) (sort_of_kind l) ≡ sorts.of_two o (sort_of_kind k) (sort_of_kind l)
+columns_sort o k l = settled_sort o (sort_of_kind k) (sort_of_kind l) (sort_of_kind k) (sort_of_kind l) (settled_kind (sorts.type_beside (sort_of_kind l)) k) (settled_kind (sorts.type_beside (sort_of_kind k)) l)

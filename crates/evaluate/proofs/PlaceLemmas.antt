@@ -68,7 +68,7 @@ all_before p xs is = go (nat_lt (position_or_len p xs) (length xs)) refl where
 none_outside : (t : IntType) (xs : List Item) → position (is_outside t) xs ≡ None → (i : ℕ) → i < length xs → is_outside t (item_at xs i) ≡ false
 none_outside t xs is i below = fails_before_first (is_outside t) xs i null (omega (arith, below, all_before (is_outside t) xs is))
 
-one_length : (a b : Seen) → length a.items ≡ length b.items → are_one_int a.kind b.kind ≡ true → operands_fault a b ≡ None
+pub one_length : (a b : Seen) → length a.items ≡ length b.items → are_one_int a.kind b.kind ≡ true → operands_fault a b ≡ None
 one_length a b lengths kinds =
     ap (λ k. cond (not k) (Some TypesDiffer) (cond (not (eqb (length a.items) (length b.items))) (Some LengthsDiffer) None)) kinds
     ∙ ap (λ k. cond (not k) (Some LengthsDiffer) None) (eq-eqb (length a.items) (length b.items) lengths)

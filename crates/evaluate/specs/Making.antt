@@ -2,7 +2,6 @@
 use Rattle.std.specs.Prelude.{◌≡◌, ℕ, ◌<◌, Bool, true, false, length, Option, Some, None, Ok, slice_index_or, ⊤}
 use Rattle.arrays.specs.Batch.{Batch}
 use Rattle.arrays.specs.Item.{Item, null}
-use Rattle.types.specs.declared.int_type.IntType.{IntType}
 use Rattle.kernels.specs.Lift.{item_at}
 use Rattle.kernels.specs.declared.comparison.CmpOp.{CmpOp}
 use Rattle.kernels.specs.declared.comparison.CmpOp.TheVariants as cmp
@@ -12,7 +11,7 @@ use Rattle.kernels.specs.declared.fault.KernelFault.TheVariants.{LengthsDiffer, 
 use Rattle.query.specs.declared.expr.Op.{Op}
 use Rattle.query.specs.declared.expr.Op.TheVariants as op
 use Rattle.query.specs.Columns.{sort_at}
-use Rattle.query.specs.Sorts.{settled, sort_of_kind}
+use Rattle.query.specs.Sorts.{sort_of_kind}
 use Rattle.query.specs.Tree.{Tree}
 use Rattle.query.specs.declared.sort.Sort.{Sort}
 use Rattle.evaluate.specs.Slices.{AreEnough, column_of, item_in, row_in, sort_in}
@@ -61,12 +60,6 @@ is_text_alone (Number z) = false
 is_text_alone (Text s) = true
 is_text_alone (Column o) = false
 
--- The values at n rows as a column, a literal being of the type.
-pub record IsSettled (t : IntType) (v : Values) (n : ℕ) (o : Operand) : Type 0 where
-  pub sort : settled t (sort_in v) ≡ Some (sort_of_kind (column_of o).kind)
-  pub len : length (column_of o).items ≡ n
-  pub each : (i : ℕ) → i < n → item_at (column_of o).items i ≡ item_in v i
-
 -- ---- comparisons
 
 -- The comparison that an operator is.
@@ -78,6 +71,15 @@ comparison_of op.Le = Some cmp.Le
 comparison_of op.Gt = Some cmp.Gt
 comparison_of op.Ge = Some cmp.Ge
 comparison_of o = None
+
+-- The same comparison of the second with the first.
+abbrev pub turned : CmpOp → CmpOp
+turned cmp.Eq = cmp.Eq
+turned cmp.Ne = cmp.Ne
+turned cmp.Lt = cmp.Gt
+turned cmp.Le = cmp.Ge
+turned cmp.Gt = cmp.Lt
+turned cmp.Ge = cmp.Le
 
 -- f of the first and the second, or of the second and the first.
 abbrev pub in_order : {A B : Type 0} → Bool → (A → A → B) → A → A → B

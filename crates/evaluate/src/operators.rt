@@ -5,18 +5,17 @@ ghost use Rattle.arrays.specs.Item as item;
 ghost use Rattle.kernels.specs.Lift.{item_at};
 ghost use Rattle.query.specs.Sorts as sorts;
 ghost use Rattle.query.specs.declared.sort.Sort.TheVariants as sort;
-ghost use Rattle.query.specs.Sorts.{settled, sort_of_kind, sort_of_one, sort_of_two, type_beside};
+ghost use Rattle.query.specs.Sorts.{sort_of_kind, sort_of_one, sort_of_two};
 ghost use Rattle.evaluate.specs.Value.{of_one, of_two};
-ghost use Rattle.evaluate.specs.Making.{AreMade, IsSettled, StopsMaking, in_order, is_text_alone};
+ghost use Rattle.evaluate.specs.Making.{AreMade, StopsMaking, in_order, is_text_alone};
 ghost use Rattle.evaluate.specs.Slices.{AreEnough, column_of, item_in, sort_in};
 
-use crate::columns;
 use crate::constant::{repeated_number, repeated_truth};
 use crate::stop::Stop;
 use crate::text::{compare_texts, compare_with_text};
 use crate::values::{Operand, Values};
-use arrays::{IntType, View, ViewType};
-use colbits::NoMemory;
+use crate::{columns, number};
+use arrays::View;
 use query::Op;
 use query::sort::INT64;
 use std::alloc::Global;
@@ -106,7 +105,7 @@ fn beside_text<'a>(
     }
 }
 
-/// What an operator makes of two operands that are columns, or literals that become columns.
+/// What an operator makes of two operands that aren't texts alone.
 fn of_columns<'a>(
     alloc: Global,
     op: Op,
@@ -123,48 +122,68 @@ fn of_columns<'a>(
     ensures ok { IfOk result (AreMade (sort_of_two op (sort_in left.entry) (sort_in right.entry)) (λ i. of_two op (item_in left.entry i) (item_in right.entry i)) len) }
     ensures err { IfErr result (StopsMaking (sort_of_two op (sort_in left.entry) (sort_in right.entry)) (λ i. of_two op (item_in left.entry i) (item_in right.entry i)) len) }
 {
-    let (beside_left, beside_right) = (type_beside(&left), type_beside(&right));
-    let a = settled(alloc, left, beside_right, len)?;
-    let b = settled(alloc, right, beside_left, len)?;
-    columns::of_two(alloc, op, &a.view(), &b.view())
-}
-
-/// The type of a literal directly beside the values.
-fn type_beside(values: &Values<'_>) -> IntType
-    ensures { result ≡ type_beside (sort_in values.now) }
-{
-    match values {
-        Values::Column(column) => type_beside_column(&column.view()),
-        Values::Number(_) | Values::Text(_) => INT64,
-    }
-}
-
-/// The type of a literal directly beside a column.
-fn type_beside_column(column: &View<'_>) -> IntType
-    ensures { result ≡ type_beside (sort_of_kind column.now.kind) }
-{
-    match column.ty() {
-        ViewType::Int(ty) => ty,
-        _ => INT64,
-    }
-}
-
-/// The values as a column, a literal as one of the type.
-fn settled<'a>(
-    alloc: Global,
-    values: Values<'a>,
-    ty: IntType,
-    len: usize,
-) -> Result<Operand<'a>, NoMemory>
-    requires short { len ≤ 2147483647 }
-    requires fits { is_some (settled ty (sort_in values)) ≡ true }
-    requires column { is_text_alone values ≡ false }
-    requires enough { AreEnough len values }
-    ensures { IfOk result (IsSettled ty values.entry len) }
-{
-    match values {
-        Values::Number(number) => Ok(Operand::Made(repeated_number(alloc, ty, number, len)?)),
+    match left {
+        Values::Number(number) => behind_number(alloc, op, number, right, len),
+        Values::Column(column) => behind_column(alloc, op, &column.view(), right),
         Values::Text(_) => unreachable!(),
-        Values::Column(column) => Ok(column),
     }
+}
+
+/// What an operator makes of a column and what stands behind it.
+fn behind_column<'a>(
+    alloc: Global,
+    op: Op,
+    column: &View<'_>,
+    right: Values<'_>,
+) -> Result<Values<'a>, Stop>
+    requires sort { is_some (sort_of_two op (sort_of_kind column.now.kind) (sort_in right)) ≡ true }
+    requires enough { AreEnough (length column.now.items) right }
+    requires right_column { is_text_alone right ≡ false }
+    ensures ok { IfOk result (AreMade (sort_of_two op (sort_of_kind column.now.kind) (sort_in right.entry)) (λ i. of_two op (item_at column.now.items i) (item_in right.entry i)) (length column.now.items)) }
+    ensures err { IfErr result (StopsMaking (sort_of_two op (sort_of_kind column.now.kind) (sort_in right.entry)) (λ i. of_two op (item_at column.now.items i) (item_in right.entry i)) (length column.now.items)) }
+{
+    match right {
+        Values::Number(number) => number::of_two(alloc, op, column, number, false),
+        Values::Column(right) => columns::of_two(alloc, op, column, &right.view()),
+        Values::Text(_) => unreachable!(),
+    }
+}
+
+/// What an operator makes of a number and what stands behind it.
+fn behind_number<'a>(
+    alloc: Global,
+    op: Op,
+    number: i128,
+    right: Values<'_>,
+    len: usize,
+) -> Result<Values<'a>, Stop>
+    requires short { len ≤ 2147483647 }
+    requires sort { is_some (sort_of_two op (sort.Literal number) (sort_in right)) ≡ true }
+    requires enough { AreEnough len right }
+    requires right_column { is_text_alone right ≡ false }
+    ensures ok { IfOk result (AreMade (sort_of_two op (sort.Literal number) (sort_in right.entry)) (λ i. of_two op (item.int number) (item_in right.entry i)) len) }
+    ensures err { IfErr result (StopsMaking (sort_of_two op (sort.Literal number) (sort_in right.entry)) (λ i. of_two op (item.int number) (item_in right.entry i)) len) }
+{
+    match right {
+        Values::Number(right) => of_numbers(alloc, op, number, right, len),
+        Values::Column(right) => number::of_two(alloc, op, &right.view(), number, true),
+        Values::Text(_) => unreachable!(),
+    }
+}
+
+/// What an operator makes of two numbers, at each of `len` rows.
+fn of_numbers<'a>(
+    alloc: Global,
+    op: Op,
+    left: i128,
+    right: i128,
+    len: usize,
+) -> Result<Values<'a>, Stop>
+    requires short { len ≤ 2147483647 }
+    requires sort { is_some (sort_of_two op (sort.Literal left) (sort.Literal right)) ≡ true }
+    ensures ok { IfOk result (AreMade (sort_of_two op (sort.Literal left) (sort.Literal right)) (λ i. of_two op (item.int left) (item.int right)) len) }
+    ensures err { IfErr result (StopsMaking (sort_of_two op (sort.Literal left) (sort.Literal right)) (λ i. of_two op (item.int left) (item.int right)) len) }
+{
+    let column = repeated_number(alloc, INT64, left, len)?;
+    number::of_two(alloc, op, &column.view(), right, false)
 }
