@@ -1,5 +1,6 @@
 mod deciding;
 mod logic;
+mod with_numbers;
 
 use arrays::{Array, View};
 use kernels::{
