@@ -13,5 +13,6 @@ pub mod MemoLemmas
 pub mod CountLemmas
 pub mod ColumnLemmas
 pub mod RunLemmas
+pub mod MaskLemmas
 pub mod FieldLemmas
 pub mod AnsweringLemmas

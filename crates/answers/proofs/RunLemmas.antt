@@ -2,9 +2,9 @@
 use Rattle.std.proofs.Common.{◌≡◌, ◌∙◌, ℕ, zero, suc, ◌+◌, ◌<◌, ◌≤◌, Bool, true, false, cond, List, [], ◌∷◌, ◌++◌, length, filter, map, take, is_some, Option, Some, None, Result, Ok, Err, IfOk, IfErr, refl, sym, ap, subst, arith, append_assoc, below_more, zero-add}
 use Rattle.std.specs.Prelude.{All, is_none, unwrap_or}
 use Rattle.std.specs.List.{range_with_len}
-use Rattle.std.proofs.lemmas.List.{append-nil, map-append, take_more}
+use Rattle.std.proofs.lemmas.List.{append-nil, length-map, map-append, take_more}
 use Rattle.std.proofs.lemmas.List.Elements.{All-nil, All-cons, All-head, All-tail, filter-append}
-use Rattle.std.proofs.lemmas.List.FromFn.{get_or-map-range_with_len, length-map-range_with_len, map-range_with_len_more}
+use Rattle.std.proofs.lemmas.List.FromFn.{get_or-map-range_with_len, length-map-range_with_len, length-range_with_len, map-range_with_len_more}
 use Rattle.std.proofs.lemmas.List.Sums.{length-filter, count_by-le-length}
 use Rattle.arrays.specs.Batch.{Batch, Row, Table, row_of, rows_of}
 use Rattle.arrays.specs.Item.{Item, null, int, boolean, text, list}
@@ -122,6 +122,15 @@ kept-push o start n k is =
       one : (k : Bool) (start n : ℕ) → map (λ i. start + i) (cond k (n ∷ []) []) ≡ cond k ((start + n) ∷ []) []
       one true start n = refl
       one false start n = refl
+
+each_kept : (xs : List ℕ) → filter (keeps None) xs ≡ xs
+each_kept [] = refl
+each_kept (x ∷ xs) = ap (λ l. x ∷ l) (each_kept xs)
+
+pub length-kept : (o : Option Values) (start n : ℕ) → o ≡ None → n ≡ length (kept_in o start n)
+length-kept (Some v) start n none = absurd cc
+length-kept None start n none =
+    sym (length-map (filter (keeps None) (range_with_len 0 n)) (λ i. start + i) ∙ ap (λ (l : List ℕ). length l) (each_kept (range_with_len 0 n)) ∙ length-range_with_len 0 n)
 
 module _ (b : Batch) (start : ℕ) (f : Option (Tree ℕ)) (o : Option Values) where
   abbrev Told : ℕ → Type 0

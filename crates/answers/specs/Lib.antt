@@ -14,4 +14,5 @@ pub mod Keys
 pub mod Memo
 pub mod Grouping
 pub mod Runs
+pub mod Masks
 pub mod Answers

@@ -14,6 +14,7 @@ mod grouping;
 pub mod groups;
 mod items;
 mod key_set;
+mod mask;
 mod memo;
 mod number_column;
 mod number_keys;

@@ -71,16 +71,16 @@ add_count-requires-clause-room c =
     let b = c.args.batch.now in
     let f = (asked c.args.query.now).filter in
     let r = c.requires.room in
-    let all = all_kept b.fields f r.0 (c.counts_rows.ensures c.if-counts_rows.true).filter in
+    let all = all_kept b.fields f r.0 (c.counts_all.ensures c.if-counts_all.true).1 in
     (filter (is_kept b.fields f) r.0, omega (arith, r.1, ap length all, c.from.ensures, c.rows.ensures), r.2)
 
-pub returns-then-counts_rows-clause-ok : goal.returns-then-counts_rows-clause-ok
-returns-then-counts_rows-clause-ok c = λ rows has.
+pub returns-then-counts_all-clause-ok : goal.returns-then-counts_all-clause-ok
+returns-then-counts_all-clause-ok c = λ rows has.
     let b = c.args.batch.now in
     let q = c.args.query.now in
     let f = (asked q).filter in
     let p = is_kept b.fields f in
-    let alone = c.counts_rows.ensures c.if-counts_rows.true in
+    let alone = c.counts_all.ensures c.if-counts_all.true in
     let e : filter p rows ++ rows_of b ≡ filter p (rows ++ rows_of b) =
-    ap (λ (l : Table). filter p rows ++ l) (sym (all_kept b.fields f (rows_of b) alone.filter)) ∙ sym (filter-append p rows (rows_of b)) in
-    subst (λ (l : Table). HasGroups q l c.add_count.new.self) e (c.add_count.ensures (filter p rows) (rows_of b) (length-rows b ∙ sym (c.from.ensures ∙ c.rows.ensures)) has)
+    ap (λ (l : Table). filter p rows ++ l) (sym (all_kept b.fields f (rows_of b) alone.1)) ∙ sym (filter-append p rows (rows_of b)) in
+    subst (λ (l : Table). HasGroups q l c.add_count.new.self) e (c.add_count.ensures.groups (filter p rows) (rows_of b) (length-rows b ∙ sym (c.from.ensures ∙ c.rows.ensures)) has)
