@@ -16,3 +16,4 @@ pub mod RunLemmas
 pub mod MaskLemmas
 pub mod FieldLemmas
 pub mod AnsweringLemmas
+pub mod MergeLemmas
