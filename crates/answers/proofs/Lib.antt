@@ -17,3 +17,4 @@ pub mod MaskLemmas
 pub mod FieldLemmas
 pub mod AnsweringLemmas
 pub mod MergeLemmas
+pub mod SendingLemmas

@@ -22,6 +22,7 @@ mod numbering;
 mod numbers;
 mod part;
 mod run;
+mod sending;
 mod source;
 mod text_set;
 mod total;
