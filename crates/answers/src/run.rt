@@ -1,6 +1,6 @@
 //! The rows of a batch, one slice after the other.
 
-ghost use Rattle.std.specs.Prelude.{◌≡◌, ◌+◌, ◌<◌, ◌^◌, ◌++◌, IfErr, IfOk, None, OnOk, true};
+ghost use Rattle.std.specs.Prelude.{◌≡◌, ◌+◌, ◌<◌, ◌≤◌, ◌^◌, ◌++◌, IfErr, IfOk, None, OnOk, true};
 ghost use Rattle.arrays.specs.Batch.{Table, rows_of};
 ghost use Rattle.query.specs.Asked.{asked};
 ghost use Rattle.query.specs.Fault.{fits};
@@ -32,20 +32,47 @@ pub(crate) fn add_batch(
     ensures sound { IfOk result (λ done. AreSound batch.now 0 batch.now.rows (asked query.now).filter) }
     ensures err { IfErr result (StopsAt batch.now 0 batch.now.rows (asked query.now).filter) }
 {
+    let rows = batch.rows() as usize;
+    add_part(alloc, grouping, query, batch, 0, rows)
+}
+
+/// Adds those of so many rows of a batch from the start on that the query's filter keeps, or tells the least of them where the
+/// filter is bad, counted from the start.
+pub(crate) fn add_part(
+    alloc: Global,
+    grouping: &mut Grouping,
+    query: &Query,
+    batch: &RecordBatch,
+    start: usize,
+    rows: usize,
+) -> Result<(), Stop>
+    requires fits { fits batch.now.fields (asked query.now) ≡ true }
+    requires within { start + rows ≤ batch.now.rows }
+    requires room { HasRoomFor batch.now.fields query.now rows grouping.old }
+    ensures ok { (before : Table) → HasKept batch.now.fields query.now before grouping.old
+        → OnOk result (HasKept batch.now.fields query.now (before ++ rows_in batch.now start rows) grouping.new) }
+    ensures sound { IfOk result (λ done. AreSound batch.now start rows (asked query.now).filter) }
+    ensures err { IfErr result (StopsAt batch.now start rows (asked query.now).filter) }
+{
     if counts_all(query) {
-        grouping.add_count(query, u64::from(batch.rows()));
+        grouping.add_count(query, rows as u64);
         return Ok(());
     }
-    let rows = batch.rows() as usize;
+    // There are no more rows than a batch may have.
+    let _rows = batch.rows();
     grouping.begin(query, batch)?;
     let mut kept = Vec::new(alloc);
-    let mut start: usize = 0;
-    while start < rows {
-        let len = SLICE.min(rows - start);
-        let slice = Slice { batch, start, len };
+    let mut at: usize = 0;
+    while at < rows {
+        let len = SLICE.min(rows - at);
+        let slice = Slice {
+            batch,
+            start: start + at,
+            len,
+        };
         match add_slice(alloc, grouping, query, slice, &mut kept) {
-            Ok(()) => start += len,
-            Err(Stop::Bad(row)) => return Err(Stop::Bad(start + row)),
+            Ok(()) => at += len,
+            Err(Stop::Bad(row)) => return Err(Stop::Bad(at + row)),
             Err(Stop::NoMemory) => return Err(Stop::NoMemory),
         }
     }
