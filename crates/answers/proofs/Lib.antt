@@ -17,4 +17,5 @@ pub mod MaskLemmas
 pub mod FieldLemmas
 pub mod AnsweringLemmas
 pub mod MergeLemmas
+pub mod PieceLemmas
 pub mod SendingLemmas

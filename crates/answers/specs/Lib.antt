@@ -16,4 +16,5 @@ pub mod Grouping
 pub mod Merging
 pub mod Runs
 pub mod Masks
+pub mod Pieces
 pub mod Answers

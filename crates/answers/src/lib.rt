@@ -21,6 +21,7 @@ mod number_keys;
 mod numbering;
 mod numbers;
 mod part;
+mod piece;
 mod run;
 mod sending;
 mod source;
