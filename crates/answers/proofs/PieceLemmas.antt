@@ -1,6 +1,8 @@
 -- The rows of a piece, batch by batch.
 use Rattle.std.proofs.Common.{◌≡◌, ◌∙◌, ℕ, zero, suc, ◌+◌, ◌-◌, ◌<◌, ◌≤◌, List, [], ◌∷◌, ◌++◌, length, map, take, drop, get_or, position, Option, Some, All, refl, sym, ap, subst, arith, length-append, zero-add}
-use Rattle.std.specs.Prelude.{false, is_none, min, true}
+use Rattle.std.specs.Prelude.{◌*◌, ◌/◌, Err, IfErr, IfOk, Ok, Result, false, is_none, min}
+use Rattle.std.proofs.Math.Nat.{div-mul-le_self}
+use Rattle.std.proofs.lemmas.Nat.{le-div, mul-le}
 use Rattle.std.specs.List.{range_with_len}
 use Rattle.std.proofs.lemmas.Grind.{common_steps}
 use Rattle.std.proofs.lemmas.List.{length-drop, length-take}
@@ -14,7 +16,8 @@ use Rattle.query.specs.Tree.{Tree}
 use Rattle.query.specs.declared.queries.Query.{Query}
 use Rattle.answers.specs.Answers.{all_rows}
 use Rattle.answers.specs.Groups.{is_bad, verdict}
-use Rattle.answers.specs.Pieces.{HasRun, IsGood, between}
+use Rattle.answers.specs.Pieces.{HasRun, IsGood, IsPiece, IsPieceRefusal, between, cut_at}
+use Rattle.query.specs.declared.fault.QueryFault.{QueryFault}
 use Rattle.answers.specs.Runs.{AreSound, HasKept, IsBadRow, rows_in}
 use Rattle.answers.specs.declared.grouping.Grouping.{Grouping}
 use Rattle.answers.proofs.AnsweringLemmas.{bad_alike, few_next, first_at, has_kept_alike, rows_next}
@@ -161,3 +164,20 @@ piece_run bs i b below is from to start n first count fields q old new same run 
       subst (λ (rows : Table). HasKept fields q rows new) (sym (piece_next bs i b below is from to start n first count))
       (has_kept_alike b.fields fields q (between from to (all_rows (take i bs)) ++ rows_in b start n) new same kept);
 }
+
+-- ---- where the pieces are cut
+
+pub cuts_rise : (rows pieces place : ℕ) → 1 ≤ pieces → cut_at rows pieces place ≤ cut_at rows pieces (place + 1)
+cuts_rise rows pieces place one =
+    le-div (rows * place / pieces) (rows * (place + 1)) pieces (omega (arith, one))
+    (omega (arith, div-mul-le_self (rows * place) pieces, mul-le rows place rows (place + 1) (omega arith) (omega arith)))
+
+pub is_piece : (fields : List FieldShape) (q : Query) (rows : Table) (pieces place from to : ℕ) (r : Result Grouping QueryFault)
+    → from ≡ cut_at (length rows) pieces place → to ≡ cut_at (length rows) pieces (place + 1)
+    → IfOk r (HasRun fields q (between from to rows)) → IfErr r (IsPieceRefusal fields (asked q).filter from (between from to rows))
+    → IsPiece fields q rows pieces place r
+is_piece fields q rows pieces place from to (Ok g) first last ok err =
+    subst (λ n. HasRun fields q (between n (cut_at (length rows) pieces (place + 1)) rows) g) first (subst (λ n. HasRun fields q (between from n rows) g) last ok)
+is_piece fields q rows pieces place from to (Err e) first last ok err =
+    subst (λ n. IsPieceRefusal fields (asked q).filter n (between n (cut_at (length rows) pieces (place + 1)) rows) e) first
+    (subst (λ n. IsPieceRefusal fields (asked q).filter from (between from n rows) e) last err)

@@ -1,5 +1,5 @@
 -- Pieces of the rows of all batches.
-use Rattle.std.specs.Prelude.{◌≡◌, ◌⊎◌, ℕ, ◌+◌, false, List, Option, Some, All, position, take, drop}
+use Rattle.std.specs.Prelude.{◌≡◌, ◌⊎◌, ℕ, ◌+◌, ◌*◌, ◌/◌, false, List, Option, Some, Result, Ok, Err, All, length, position, take, drop}
 use Rattle.arrays.specs.Batch.{Row, Table}
 use Rattle.types.specs.Shape.{FieldShape}
 use Rattle.query.specs.Asked.{asked}
@@ -26,3 +26,16 @@ pub record HasRun (fields : List FieldShape) (q : Query) (rows : Table) (g : Gro
 -- The rows, of which the first is at this place, are refused at the least of them where the filter is bad, or a growth was refused.
 abbrev pub IsPieceRefusal : List FieldShape → Option (Tree ℕ) → ℕ → Table → QueryFault → Type 0
 IsPieceRefusal fields f from rows e = ((n : ℕ) × (position (is_bad fields f) rows ≡ Some n) × (e ≡ Overflow (from + n))) ⊎ (e ≡ NoMemory)
+
+-- The first row of a piece: the pieces are neighbours, and as long as one another but for a row.
+abbrev pub cut_at : ℕ → ℕ → ℕ → ℕ
+cut_at rows pieces place = rows * place / pieces
+
+-- The rows of a piece.
+abbrev pub piece : ℕ → ℕ → Table → Table
+piece pieces place rows = between (cut_at (length rows) pieces place) (cut_at (length rows) pieces (place + 1)) rows
+
+-- What is known of a piece once all of its rows were looked at.
+abbrev pub IsPiece : List FieldShape → Query → Table → ℕ → ℕ → Result Grouping QueryFault → Type 0
+IsPiece fields q rows pieces place (Ok g) = HasRun fields q (piece pieces place rows) g
+IsPiece fields q rows pieces place (Err e) = IsPieceRefusal fields (asked q).filter (cut_at (length rows) pieces place) (piece pieces place rows) e
