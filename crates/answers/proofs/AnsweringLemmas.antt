@@ -17,20 +17,13 @@ use Rattle.answers.specs.Answers.{all_rows}
 use Rattle.answers.specs.Groups.{groups, grouped, is_bad, is_kept, unless_bad, verdict, verdict_of}
 use Rattle.answers.specs.Columns.{show_column}
 use Rattle.answers.specs.Grouping.{IsGrouped}
+use Rattle.answers.specs.Pieces.{HasRun, IsGood}
 use Rattle.answers.specs.Runs.{AreSound, HasKept, IsBadRow}
 use Rattle.answers.specs.declared.grouping.Grouping.{Grouping}
 use Rattle.answers.proofs.FieldLemmas.{same_sorts, same_value}
 use Rattle.answers.specs.Groups.{GroupShape}
 use Rattle.answers.proofs.GroupLemmas.{take_past}
 use Rattle.answers.proofs.RunLemmas.{all_rows_taken, bad_here, length-rows, rows_more, sound_at}
-
-abbrev pub IsGood : List FieldShape → Option (Tree ℕ) → Row → Type 0
-IsGood fields f row = is_bad fields f row ≡ false
-
--- The groups of the rows that the filter keeps; it is bad at none of these rows.
-pub record HasRun (fields : List FieldShape) (q : Query) (rows : Table) (g : Grouping) : Type 0 where
-  pub good : All (IsGood fields (asked q).filter) rows
-  pub kept : HasKept fields q rows g
 
 -- ---- the first place where a test passes
 
@@ -47,10 +40,10 @@ module _ (p : Row → Bool) where
       ap (λ b. cond (not b) (1 + position_or_len p (front ++ x ∷ rest)) 0) (All-head (λ x. p x ≡ false) y front h)
       ∙ omega (arith, found_at front rest x (All-tail (λ x. p x ≡ false) y front h) passes)
 
-  nowhere : (xs : Table) → All (λ x. p x ≡ false) xs → position p xs ≡ None
+  pub nowhere : (xs : Table) → All (λ x. p x ≡ false) xs → position p xs ≡ None
   nowhere xs h = ap (λ b. cond b (Some (position_or_len p xs)) None) (le-ltb (position_or_len p xs) (length xs) (omega (arith, not_found xs h)))
 
-  first_at : (front rest : Table) (x : Row) → All (λ x. p x ≡ false) front → p x ≡ true → position p (front ++ x ∷ rest) ≡ Some (length front)
+  pub first_at : (front rest : Table) (x : Row) → All (λ x. p x ≡ false) front → p x ≡ true → position p (front ++ x ∷ rest) ≡ Some (length front)
   first_at front rest x h passes =
       let n = found_at front rest x h passes in
       ap (λ b. cond b (Some (position_or_len p (front ++ x ∷ rest))) None)
@@ -92,7 +85,7 @@ module _ (bs : List Batch) (i : ℕ) (b : Batch) (below : i < length bs) (is : b
       ∙ flat_map-append rows_of (take i bs) (b ∷ [])
       ∙ ap (λ l. all_rows (take i bs) ++ l) (append-nil (rows_of b))
 
-  rows_split : all_rows bs ≡ (all_rows (take i bs) ++ rows_of b) ++ all_rows (drop (i + 1) bs)
+  pub rows_split : all_rows bs ≡ (all_rows (take i bs) ++ rows_of b) ++ all_rows (drop (i + 1) bs)
   rows_split =
       ap all_rows (sym (take-append-drop (i + 1) bs))
       ∙ flat_map-append rows_of (take (i + 1) bs) (drop (i + 1) bs)

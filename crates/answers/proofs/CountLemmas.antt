@@ -21,7 +21,7 @@ no_parts : (rows : Table) → map (key_of []) rows ≡ replicate (length rows) [
 no_parts [] = refl
 no_parts (r ∷ rows) = ap (λ (l : Keys). [] ∷ l) (no_parts rows)
 
-sole_key : (rows : Table) → keys_of [] rows ≡ [] ∷ []
+pub sole_key : (rows : Table) → keys_of [] rows ≡ [] ∷ []
 sole_key rows = keys-more [] [] rows ∙ ap (with_keys ([] ∷ [])) (no_parts rows) ∙ alike ([] ∷ []) [] 0 refl (length rows)
 
 all_rows : (rows : Table) → rows_of_key [] rows [] ≡ rows

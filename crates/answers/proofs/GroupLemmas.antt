@@ -153,7 +153,7 @@ no_rows by (r ∷ rows) key h =
     (λ no. ap (λ b. cond b (r ∷ rows_of_key by rows key) (rows_of_key by rows key)) no
     ∙ no_rows by rows key (either_false (same_key key (key_of by r)) (is_among (map (key_of by) rows) key) h))
 
-none_yet : (by : List ℕ) (rows : Table) (key : List Item) → is_among (keys_of by rows) key ≡ false → rows_of_key by rows key ≡ []
+pub none_yet : (by : List ℕ) (rows : Table) (key : List Item) → is_among (keys_of by rows) key ≡ false → rows_of_key by rows key ≡ []
 none_yet by rows key new =
     no_rows by rows key (either_false (is_among (first_keys by) key) (is_among (map (key_of by) rows) key)
     (sym (list_any-append (same_key key) (first_keys by) (map (key_of by) rows))

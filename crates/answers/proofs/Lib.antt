@@ -13,5 +13,9 @@ pub mod MemoLemmas
 pub mod CountLemmas
 pub mod ColumnLemmas
 pub mod RunLemmas
+pub mod MaskLemmas
 pub mod FieldLemmas
 pub mod AnsweringLemmas
+pub mod MergeLemmas
+pub mod PieceLemmas
+pub mod SendingLemmas

@@ -2,9 +2,9 @@
 use Rattle.std.proofs.Common.{◌≡◌, ◌∙◌, ℕ, zero, suc, ◌+◌, ◌<◌, ◌≤◌, Bool, true, false, cond, List, [], ◌∷◌, ◌++◌, length, filter, map, take, is_some, Option, Some, None, Result, Ok, Err, IfOk, IfErr, refl, sym, ap, subst, arith, append_assoc, below_more, zero-add}
 use Rattle.std.specs.Prelude.{All, is_none, unwrap_or}
 use Rattle.std.specs.List.{range_with_len}
-use Rattle.std.proofs.lemmas.List.{append-nil, map-append, take_more}
+use Rattle.std.proofs.lemmas.List.{append-nil, length-map, map-append, take_more}
 use Rattle.std.proofs.lemmas.List.Elements.{All-nil, All-cons, All-head, All-tail, filter-append}
-use Rattle.std.proofs.lemmas.List.FromFn.{get_or-map-range_with_len, length-map-range_with_len, map-range_with_len_more}
+use Rattle.std.proofs.lemmas.List.FromFn.{get_or-map-range_with_len, length-map-range_with_len, length-range_with_len, map-range_with_len_more}
 use Rattle.std.proofs.lemmas.List.Sums.{length-filter, count_by-le-length}
 use Rattle.arrays.specs.Batch.{Batch, Row, Table, row_of, rows_of}
 use Rattle.arrays.specs.Item.{Item, null, int, boolean, text, list}
@@ -90,18 +90,19 @@ rows-push b start n = map-range_with_len_more (row_in b start) 0 n n (zero-add n
 pub length-rows_in : (b : Batch) (start n : ℕ) → length (rows_in b start n) ≡ n
 length-rows_in b start n = length-map-range_with_len (row_in b start) 0 n
 
-pub rows_split : (b : Batch) (start n : ℕ) → rows_in b 0 (start + n) ≡ rows_in b 0 start ++ rows_in b start n
-rows_split b start zero =
-    let e : start + 0 ≡ start = omega arith in
-    ap (rows_in b 0) e ∙ sym (append-nil (rows_in b 0 start))
-rows_split b start (suc n) =
-    let e : start + suc n ≡ start + n + 1 = omega arith in
+pub rows_split : (b : Batch) (start at n : ℕ) → rows_in b start (at + n) ≡ rows_in b start at ++ rows_in b (start + at) n
+rows_split b start at zero =
+    let e : at + 0 ≡ at = omega arith in
+    ap (rows_in b start) e ∙ sym (append-nil (rows_in b start at))
+rows_split b start at (suc n) =
+    let e : at + suc n ≡ at + n + 1 = omega arith in
     let f : n + 1 ≡ suc n = omega arith in
-    ap (rows_in b 0) e ∙ rows-push b 0 (start + n)
-    ∙ ap (λ l. l ++ row_in b 0 (start + n) ∷ []) (rows_split b start n)
-    ∙ append_assoc (rows_in b 0 start) (rows_in b start n) (row_in b 0 (start + n) ∷ [])
-    ∙ ap (λ i. rows_in b 0 start ++ (rows_in b start n ++ row_of b.columns i ∷ [])) (zero-add (start + n))
-    ∙ ap (λ l. rows_in b 0 start ++ l) (sym (rows-push b start n) ∙ ap (rows_in b start) f)
+    let g : start + (at + n) ≡ start + at + n = omega arith in
+    ap (rows_in b start) e ∙ rows-push b start (at + n)
+    ∙ ap (λ l. l ++ row_in b start (at + n) ∷ []) (rows_split b start at n)
+    ∙ append_assoc (rows_in b start at) (rows_in b (start + at) n) (row_in b start (at + n) ∷ [])
+    ∙ ap (λ i. rows_in b start at ++ (rows_in b (start + at) n ++ row_of b.columns i ∷ [])) g
+    ∙ ap (λ l. rows_in b start at ++ l) (sym (rows-push b (start + at) n) ∙ ap (rows_in b (start + at)) f)
 
 alike : (f g : ℕ → Row) (xs : List ℕ) → ((i : ℕ) → f i ≡ g i) → map f xs ≡ map g xs
 alike f g [] same = refl
@@ -122,6 +123,15 @@ kept-push o start n k is =
       one : (k : Bool) (start n : ℕ) → map (λ i. start + i) (cond k (n ∷ []) []) ≡ cond k ((start + n) ∷ []) []
       one true start n = refl
       one false start n = refl
+
+each_kept : (xs : List ℕ) → filter (keeps None) xs ≡ xs
+each_kept [] = refl
+each_kept (x ∷ xs) = ap (λ l. x ∷ l) (each_kept xs)
+
+pub length-kept : (o : Option Values) (start n : ℕ) → o ≡ None → n ≡ length (kept_in o start n)
+length-kept (Some v) start n none = absurd cc
+length-kept None start n none =
+    sym (length-map (filter (keeps None) (range_with_len 0 n)) (λ i. start + i) ∙ ap (λ (l : List ℕ). length l) (each_kept (range_with_len 0 n)) ∙ length-range_with_len 0 n)
 
 module _ (b : Batch) (start : ℕ) (f : Option (Tree ℕ)) (o : Option Values) where
   abbrev Told : ℕ → Type 0
@@ -185,24 +195,28 @@ bad_here b f row h = ap (λ k. verdict b.fields f (row_of b.columns k)) (sym (ze
 
 -- ---- slice by slice
 
--- The rows before a place are sound.
-abbrev pub AreSoundTo : Batch → Option (Tree ℕ) → ℕ → Type 0
-AreSoundTo b f n = (i : ℕ) → i < n → is_bad b.fields f (row_in b 0 i) ≡ false
+-- The first n of the rows from the start on are sound.
+abbrev pub AreSoundTo : Batch → Option (Tree ℕ) → ℕ → ℕ → Type 0
+AreSoundTo b f start n = (i : ℕ) → i < n → is_bad b.fields f (row_in b start i) ≡ false
 
-at_offset : (b : Batch) (f : Option (Tree ℕ)) (start j : ℕ) → is_bad b.fields f (row_in b start j) ≡ false → is_bad b.fields f (row_in b 0 (start + j)) ≡ false
-at_offset b f start j h = ap (λ k. is_bad b.fields f (row_of b.columns k)) (zero-add (start + j)) ∙ h
+at_offset : (b : Batch) (f : Option (Tree ℕ)) (start at j : ℕ) → is_bad b.fields f (row_in b (start + at) j) ≡ false → is_bad b.fields f (row_in b start (at + j)) ≡ false
+at_offset b f start at j h =
+    let g : start + (at + j) ≡ start + at + j = omega arith in
+    ap (λ k. is_bad b.fields f (row_of b.columns k)) g ∙ h
 
-pub sound_more : (b : Batch) (f : Option (Tree ℕ)) (start n : ℕ) → AreSoundTo b f start → ((i : ℕ) → i < n → is_bad b.fields f (row_in b start i) ≡ false) → AreSoundTo b f (start + n)
-sound_more b f start zero before more = λ i below. before i (omega (arith, below))
-sound_more b f start (suc n) before more = λ i below.
-    below_more (λ k. is_bad b.fields f (row_in b 0 k) ≡ false) (start + n)
-    (sound_more b f start n before (λ j under. more j (omega (arith, under))))
-    (at_offset b f start n (more n (omega arith)))
+pub sound_more : (b : Batch) (f : Option (Tree ℕ)) (start at n : ℕ) → AreSoundTo b f start at → ((i : ℕ) → i < n → is_bad b.fields f (row_in b (start + at) i) ≡ false) → AreSoundTo b f start (at + n)
+sound_more b f start at zero before more = λ i below. before i (omega (arith, below))
+sound_more b f start at (suc n) before more = λ i below.
+    below_more (λ k. is_bad b.fields f (row_in b start k) ≡ false) (at + n)
+    (sound_more b f start at n before (λ j under. more j (omega (arith, under))))
+    (at_offset b f start at n (more n (omega arith)))
     i (omega (arith, below))
 
-pub bad_row : (b : Batch) (f : Option (Tree ℕ)) (start n rows row : ℕ) → AreSoundTo b f start → start + n ≤ rows → IsBadRow b start n f row → IsBadRow b 0 rows f (start + row)
-bad_row b f start n rows row before within bad = record {
-  within = omega (arith, bad.within, within);
-  bad = ap (λ k. verdict b.fields f (row_of b.columns k)) (zero-add (start + row)) ∙ bad.bad;
-  before = sound_more b f start row before bad.before;
-}
+pub bad_row : (b : Batch) (f : Option (Tree ℕ)) (start at n len row : ℕ) → AreSoundTo b f start at → at + n ≤ len → IsBadRow b (start + at) n f row → IsBadRow b start len f (at + row)
+bad_row b f start at n len row before within bad =
+    let g : start + (at + row) ≡ start + at + row = omega arith in
+    record {
+      within = omega (arith, bad.within, within);
+      bad = ap (λ k. verdict b.fields f (row_of b.columns k)) g ∙ bad.bad;
+      before = sound_more b f start at row before bad.before;
+    }

@@ -1,9 +1,8 @@
 -- What is known of the groups of the rows so far.
-use Rattle.std.specs.Prelude.{◌≡◌, ◌^◌, ◌≤◌, ◌+◌, ℕ, List, [], ◌∷◌, None, length, map}
+use Rattle.std.specs.Prelude.{◌≡◌, ◌^◌, ◌≤◌, ◌+◌, ℕ, List, [], ◌∷◌, length, map}
 use Rattle.std.specs.List.{IsDistinct}
 use Rattle.arrays.specs.Batch.{Batch, Table}
 use Rattle.arrays.specs.Item.{Item}
-use Rattle.query.specs.Asked.{asked}
 use Rattle.query.specs.declared.expr.Agg.{Agg}
 use Rattle.query.specs.declared.expr.Agg.TheVariants.{Rows}
 use Rattle.query.specs.declared.queries.Query.{Query}
@@ -40,8 +39,7 @@ IsReadyFor b q g = KnowsEntries g.keys b q.by.items g.memo
 abbrev pub HasRoom : Query → ℕ → Grouping → Type 0
 HasRoom q n g = (rows : Table) × (length rows + n ≤ 2 ^ 40) × HasGroups q rows g
 
--- The query only asks how many rows there are.
+-- The query only asks how many rows are kept.
 pub record CountsRows (q : Query) : Type 0 where
-  pub filter : (asked q).filter ≡ None
   pub by : q.by.items ≡ []
   pub aggs : q.aggs.items ≡ Rows ∷ []

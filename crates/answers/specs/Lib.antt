@@ -13,5 +13,8 @@ pub mod Parts
 pub mod Keys
 pub mod Memo
 pub mod Grouping
+pub mod Merging
 pub mod Runs
+pub mod Masks
+pub mod Pieces
 pub mod Answers

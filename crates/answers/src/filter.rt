@@ -1,18 +1,18 @@
 //! Which rows of a slice a query looks at.
 
-ghost use Rattle.std.specs.Prelude.{◌≡◌, ◌<◌, ◌+◌, ◌^◌, IfOk, IfErr, OnOk, length, true};
+ghost use Rattle.std.specs.Prelude.{◌≡◌, ◌<◌, ◌+◌, ◌^◌, ◌++◌, ℕ, IfOk, IfErr, None, OnOk, Some, filter, length, true};
+ghost use Rattle.std.specs.List.{range_with_len};
 ghost use Rattle.query.specs.Asked.{asked};
 ghost use Rattle.query.specs.Fault.{fits};
-ghost use Rattle.arrays.specs.Kind as kind;
-ghost use Rattle.kernels.specs.Lift.{item_at};
-ghost use Rattle.evaluate.specs.Slices.{column_of};
-ghost use Rattle.answers.specs.Runs.{AreTruths, AreVerdicts, StopsAt, is_true, keeps, kept_in};
+ghost use Rattle.answers.specs.Masks.{set_rows};
+ghost use Rattle.answers.specs.Runs.{AreTruths, AreVerdicts, StopsAt, keeps, kept_in};
 
+use crate::mask::Mask;
 use colbits::NoMemory;
 use evaluate::filter::evaluate_filter;
 use evaluate::slice::Slice;
 use evaluate::stop::Stop;
-use evaluate::values::{Operand, Values};
+use evaluate::values::Values;
 use query::Query;
 use std::alloc::Global;
 
@@ -41,34 +41,42 @@ pub(crate) fn keep_rows(
     ensures { OnOk result (kept.new.items ≡ kept_in values.now start len) }
 {
     kept.clear();
+    match values {
+        Some(values) => mask_of(values, len).push_places(kept, start),
+        None => push_all(kept, start, len),
+    }
+}
+
+/// Puts the places of so many rows from the start on behind what is there.
+fn push_all(kept: &mut Vec<usize>, start: usize, len: usize) -> Result<(), NoMemory>
+    requires { start + len < 2 ^ 40 }
+    ensures { OnOk result (kept.new.items ≡ kept.old.items ++ kept_in None start len) }
+{
     for i in 0..len {
-        if keeps(values, i, len) {
-            kept.push(start + i)?;
-        }
+        kept.push(start + i)?;
     }
     Ok(())
 }
 
-/// Whether row `i` of so many is kept.
-fn keeps(values: &Option<Values<'_>>, i: usize, len: usize) -> bool
-    requires truths { AreTruths len values.now }
-    requires within { i < len }
-    ensures { result ≡ keeps values.now i }
+/// How many of so many rows are kept.
+pub(crate) fn count_rows(values: &Option<Values<'_>>, len: usize) -> usize
+    requires { AreTruths len values.now }
+    ensures { (start : ℕ) → result ≡ length (kept_in values.now start len) }
 {
-    let Some(values) = values else {
-        return true;
-    };
-    if let Values::Column(column) = values {
-        return is_true(column, i);
+    match values {
+        Some(values) => mask_of(values, len).count(),
+        None => len,
     }
-    false
 }
 
-/// Whether the item is true.
-fn is_true(column: &Operand<'_>, i: usize) -> bool
-    requires kind { (column_of column.now).kind ≡ kind.boolean }
-    requires within { i < length (column_of column.now).items }
-    ensures { result ≡ is_true (item_at (column_of column.now).items i) }
+/// Which of so many rows are kept, where the values of the filter are these.
+fn mask_of<'a>(values: &'a Values<'_>, len: usize) -> Mask<'a>
+    requires { AreTruths len (Some values.now) }
+    ensures rows { set_rows result.validity result.bits ≡ filter (keeps (Some values.now)) (range_with_len 0 len) }
+    ensures size { length result.bits ≡ len }
 {
-    column.view().bool_at(i).unwrap_or(false)
+    if let Values::Column(column) = values {
+        return Mask::of(&column.view());
+    }
+    unreachable!()
 }

@@ -1,7 +1,7 @@
 //! The groups of rows, while they come.
 
 ghost use Rattle.std.specs.Prelude.{◌≡◌, ◌<◌, ◌≤◌, ◌+◌, ◌^◌, ◌++◌, [], All, IfOk, List, None, OnOk, ℕ, length, map, true};
-ghost use Rattle.arrays.specs.Batch.{Table, row_of};
+ghost use Rattle.arrays.specs.Batch.{Batch, Table, row_of};
 ghost use Rattle.query.specs.Asked.{asked};
 ghost use Rattle.query.specs.Columns.{sort_at};
 ghost use Rattle.query.specs.Fault.{agg_fault, fits};
@@ -94,7 +94,8 @@ impl Grouping {
     pub(crate) fn add_count(&mut self, query: &Query, rows: u64)
         requires alone { CountsRows query.now }
         requires room { HasRoom query.now rows self.old }
-        ensures { (before more : Table) → length more ≡ rows → HasGroups query.now before self.old → HasGroups query.now (before ++ more) self.new }
+        ensures groups { (before more : Table) → length more ≡ rows → HasGroups query.now before self.old → HasGroups query.now (before ++ more) self.new }
+        ensures ready { (b : Batch) → IsReadyFor b query.now self.old → IsReadyFor b query.now self.new }
     {
         self.columns[0].add_count(rows)
     }

@@ -1,13 +1,13 @@
 //! The rows of a batch, one slice after the other.
 
-ghost use Rattle.std.specs.Prelude.{◌≡◌, ◌+◌, ◌<◌, ◌^◌, ◌++◌, IfErr, IfOk, OnOk, true};
+ghost use Rattle.std.specs.Prelude.{◌≡◌, ◌+◌, ◌<◌, ◌≤◌, ◌^◌, ◌++◌, IfErr, IfOk, None, OnOk, true};
 ghost use Rattle.arrays.specs.Batch.{Table, rows_of};
 ghost use Rattle.query.specs.Asked.{asked};
 ghost use Rattle.query.specs.Fault.{fits};
 ghost use Rattle.answers.specs.Grouping.{CountsRows, IsReadyFor};
 ghost use Rattle.answers.specs.Runs.{AreSound, HasKept, HasRoomFor, StopsAt, rows_in};
 
-use crate::filter::{filter_values, keep_rows};
+use crate::filter::{count_rows, filter_values, keep_rows};
 use crate::grouping::Grouping;
 use arrays::RecordBatch;
 use evaluate::slice::Slice;
@@ -32,27 +32,54 @@ pub(crate) fn add_batch(
     ensures sound { IfOk result (λ done. AreSound batch.now 0 batch.now.rows (asked query.now).filter) }
     ensures err { IfErr result (StopsAt batch.now 0 batch.now.rows (asked query.now).filter) }
 {
-    if counts_rows(query) {
-        grouping.add_count(query, u64::from(batch.rows()));
+    let rows = batch.rows() as usize;
+    add_part(alloc, grouping, query, batch, 0, rows)
+}
+
+/// Adds those of so many rows of a batch from the start on that the query's filter keeps, or tells the least of them where the
+/// filter is bad, counted from the start.
+pub(crate) fn add_part(
+    alloc: Global,
+    grouping: &mut Grouping,
+    query: &Query,
+    batch: &RecordBatch,
+    start: usize,
+    rows: usize,
+) -> Result<(), Stop>
+    requires fits { fits batch.now.fields (asked query.now) ≡ true }
+    requires within { start + rows ≤ batch.now.rows }
+    requires room { HasRoomFor batch.now.fields query.now rows grouping.old }
+    ensures ok { (before : Table) → HasKept batch.now.fields query.now before grouping.old
+        → OnOk result (HasKept batch.now.fields query.now (before ++ rows_in batch.now start rows) grouping.new) }
+    ensures sound { IfOk result (λ done. AreSound batch.now start rows (asked query.now).filter) }
+    ensures err { IfErr result (StopsAt batch.now start rows (asked query.now).filter) }
+{
+    if counts_all(query) {
+        grouping.add_count(query, rows as u64);
         return Ok(());
     }
-    let rows = batch.rows() as usize;
+    // There are no more rows than a batch may have.
+    let _rows = batch.rows();
     grouping.begin(query, batch)?;
     let mut kept = Vec::new(alloc);
-    let mut start: usize = 0;
-    while start < rows {
-        let len = SLICE.min(rows - start);
-        let slice = Slice { batch, start, len };
+    let mut at: usize = 0;
+    while at < rows {
+        let len = SLICE.min(rows - at);
+        let slice = Slice {
+            batch,
+            start: start + at,
+            len,
+        };
         match add_slice(alloc, grouping, query, slice, &mut kept) {
-            Ok(()) => start += len,
-            Err(Stop::Bad(row)) => return Err(Stop::Bad(start + row)),
+            Ok(()) => at += len,
+            Err(Stop::Bad(row)) => return Err(Stop::Bad(at + row)),
             Err(Stop::NoMemory) => return Err(Stop::NoMemory),
         }
     }
     Ok(())
 }
 
-/// Adds the rows of a slice that the query's filter keeps; their places are kept in between.
+/// Adds the rows of a slice that the query's filter keeps; their places are kept in between, unless they are only counted.
 fn add_slice(
     alloc: Global,
     grouping: &mut Grouping,
@@ -72,17 +99,25 @@ fn add_slice(
     ensures err { IfErr result (StopsAt slice.entry.batch.now slice.entry.start slice.entry.len (asked query.now).filter) }
 {
     let values = filter_values(alloc, query, slice)?;
+    if counts_rows(query) {
+        grouping.add_count(query, count_rows(&values, slice.len) as u64);
+        return Ok(());
+    }
     keep_rows(kept, &values, slice.start, slice.len)?;
     grouping.add(alloc, query, slice.batch, kept)?;
     Ok(())
 }
 
-/// Whether the query only asks how many rows there are.
+/// Whether the query only asks how many rows there are, whatever stands in them.
+fn counts_all(query: &Query) -> bool
+    ensures { result ≡ true → CountsRows query.now × ((asked query.now).filter ≡ None) }
+{
+    query.filter.is_none() && counts_rows(query)
+}
+
+/// Whether the query only asks how many rows are kept.
 fn counts_rows(query: &Query) -> bool
     ensures { result ≡ true → CountsRows query.now }
 {
-    query.filter.is_none()
-        && query.by.is_empty()
-        && query.aggs.len() == 1
-        && query.aggs[0] == Agg::Rows
+    query.by.is_empty() && query.aggs.len() == 1 && query.aggs[0] == Agg::Rows
 }

@@ -1,7 +1,7 @@
 use Rattle.std.proofs.Common.{◌≡◌, length, map, take}
 use Rattle.std.specs.Arc.{arc_value}
 use Rattle.answers.specs.Answers.{all_rows, first_fields}
-use Rattle.answers.proofs.AnsweringLemmas.{HasRun}
+use Rattle.answers.specs.Pieces.{HasRun}
 use Rattle.answers.proofs.answering.answer_in_one.Given as goal
 
 -- The rows of the batches so far.

@@ -10,8 +10,8 @@ add_count-requires c =
     let r = c.requires.room in
     (length r.0, one_column q.by.items q.aggs.items c.requires.alone.by c.requires.alone.aggs r.0 g.keys g.columns.items c.index_mut.result.now r.2.0 c.index_mut.ensures.value, r.1)
 
-pub returns : goal.returns
-returns c = λ before more count h.
+pub returns-clause-groups : goal.returns-clause-groups
+returns-clause-groups c = λ before more count h.
     let q = c.args.query.now in
     let g = c.args.self.now in
     let old = one_column q.by.items q.aggs.items c.requires.alone.by c.requires.alone.aggs before g.keys g.columns.items c.index_mut.result.now h.0 c.index_mut.ensures.value in (

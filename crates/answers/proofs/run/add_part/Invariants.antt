@@ -1,0 +1,18 @@
+use Rattle.std.proofs.Common.{◌-◌, ◌≤◌, ◌++◌}
+use Rattle.arrays.specs.Batch.{Table}
+use Rattle.query.specs.Asked.{asked}
+use Rattle.answers.specs.Grouping.{IsReadyFor}
+use Rattle.answers.specs.Runs.{HasKept, rows_in}
+use Rattle.answers.proofs.RunLemmas.{AreSoundTo}
+use Rattle.answers.proofs.run.add_part.Given as goal
+
+-- The slices so far.
+abbrev pub invariant-loop-at : goal.invariant-loop-at
+invariant-loop-at l =
+    (l.at ≤ l.rows)
+    × ((before : Table) → HasKept l.batch.fields l.query before l.fn.grouping → HasKept l.batch.fields l.query (before ++ rows_in l.batch l.start l.at) l.grouping)
+    × AreSoundTo l.batch (asked l.query).filter l.start l.at
+    × IsReadyFor l.batch l.query l.grouping
+
+abbrev pub decreases-loop-at : goal.decreases-loop-at
+decreases-loop-at l = l.rows - l.at
