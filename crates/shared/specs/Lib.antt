@@ -1,0 +1,5 @@
+pub mod Hand
+pub mod Missing
+pub mod Balance
+pub mod Gathered
+pub mod Opened
