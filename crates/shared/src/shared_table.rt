@@ -89,7 +89,7 @@ impl<C: Ledger, Q: Ledger> SharedTable<C, Q> {
         self.lock.lock(wait).append(worker, batch)
     }
 
-    /// The table as it is when the lock is got. It has all that the worker appended.
+    /// The table as it is when the lock is got.
     pub fn snapshot<W: Wait>(
         &self,
         wait: &W,
