@@ -29,9 +29,9 @@ use Rattle.arrowtab.specs.declared.wanted.Wanted.{Wanted}
 use Rattle.arrowtab.specs.declared.run_fault.FileFault.TheVariants.{CannotRead, Json, Refused}
 use Rattle.arrowtab.specs.declared.run_fault.RunFault.{RunFault}
 use Rattle.arrowtab.specs.declared.run_fault.RunFault.TheVariants.{NoMemory, OfFile, QueryUnread, QueryRefused}
-use Rattle.shared.specs.Cause.{IsLegal, batch_cause, difference, handed_cause}
-use Rattle.shared.specs.History.{History}
-use Rattle.shared.specs.declared.refusal.Refusal.{Refusal}
+use Rattle.table.specs.Cause.{IsLegal, batch_cause, difference, handed_cause}
+use Rattle.table.specs.History.{History}
+use Rattle.table.specs.declared.refusal.Refusal.{Refusal}
 
 -- ---- lists
 

@@ -14,9 +14,9 @@ use Rattle.arrays.specs.Shape.{FieldShape}
 use Rattle.json_places.specs.JsonTable.{Table, items_of, table_of, tables_of}
 use Rattle.arrow_text.specs.Text.{document, text}
 use Rattle.serde_json.specs.Written.{compact_text}
-use Rattle.shared.specs.Export.{IsLawful}
-use Rattle.shared.specs.History.{History}
-use Rattle.shared.proofs.BatchLemmas.{HasColumns-rows_of, length-rows_of, whole}
+use Rattle.table.specs.Export.{IsLawful}
+use Rattle.table.specs.History.{History}
+use Rattle.table.proofs.BatchLemmas.{HasColumns-rows_of, length-rows_of, whole}
 use Rattle.arrowtab.specs.Output.{added_table}
 
 -- the items of a lawful batch's columns are those of its rows

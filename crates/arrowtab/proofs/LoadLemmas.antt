@@ -11,9 +11,9 @@ use Rattle.arrowtab.specs.Alone.{AreAlike, StopsBatch, StopsFile, alone, batches
 use Rattle.arrowtab.specs.declared.run_fault.FileFault.TheVariants.{CannotRead, Json, Refused}
 use Rattle.arrowtab.specs.declared.run_fault.RunFault.{RunFault}
 use Rattle.arrowtab.specs.declared.run_fault.RunFault.TheVariants.{NoMemory, OfFile, QueryUnread, QueryRefused}
-use Rattle.shared.specs.Cause.{IsLegal, batch_cause}
-use Rattle.shared.specs.Contents.{Contents}
-use Rattle.shared.specs.History.{History}
+use Rattle.table.specs.Cause.{IsLegal, batch_cause}
+use Rattle.table.specs.Contents.{Contents}
+use Rattle.table.specs.History.{History}
 
 abbrev pub Shared : Type 0
 Shared = Arc Batch Global

@@ -6,7 +6,7 @@ use Rattle.query.specs.Asked.{Asked}
 use Rattle.query.specs.Resolved.{resolved}
 use Rattle.query.specs.declared.fault.QueryFault.{QueryFault}
 use Rattle.query.specs.declared.fault.QueryFault.TheVariants as fault
-use Rattle.shared.specs.History.{History}
+use Rattle.table.specs.History.{History}
 use Rattle.arrowtab.specs.Queried.{PrintsGroups, PrintsPlaced, RefusesGroups, at_row, under_fields}
 use Rattle.arrowtab.specs.Wanted.{IsUnanswered, IsUnplaced}
 use Rattle.arrowtab.specs.declared.run_fault.RunFault.{RunFault}

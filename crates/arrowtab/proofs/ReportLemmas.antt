@@ -17,8 +17,8 @@ use Rattle.group.specs.Summary.{AreStats, scalar_item}
 use Rattle.group.specs.declared.stats.ColumnStats.{ColumnStats}
 use Rattle.arrowtab.specs.Shown.{worker_lines, worker_line, column_line, column_lines, field_line}
 use Rattle.arrays.specs.Batch.{Table, column}
-use Rattle.shared.specs.History.{History, book, rows, of}
-use Rattle.shared.proofs.HistoryLemmas.{rows-push}
+use Rattle.table.specs.History.{History, book, rows, of}
+use Rattle.table.proofs.HistoryLemmas.{rows-push}
 
 -- ---- the shares of a history, pair by pair
 

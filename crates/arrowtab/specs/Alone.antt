@@ -4,10 +4,10 @@ use Rattle.std.specs.List.{AllByRecursion, flat_map}
 use Rattle.arrays.specs.Batch.{Batch, rows_of}
 use Rattle.arrays.specs.File.{File}
 use Rattle.arrays.specs.Shape.{FieldShape}
-use Rattle.shared.specs.History.{History}
-use Rattle.shared.specs.Stored.{stored_fields}
-use Rattle.shared.specs.Cause.{batch_cause, difference, IsLegal}
-use Rattle.shared.specs.declared.refusal.Refusal.{Refusal}
+use Rattle.table.specs.History.{History}
+use Rattle.table.specs.Stored.{stored_fields}
+use Rattle.table.specs.Cause.{batch_cause, difference, IsLegal}
+use Rattle.table.specs.declared.refusal.Refusal.{Refusal}
 use Rattle.arrowtab.specs.declared.run_fault.FileFault.TheVariants.{CannotRead, Json, Refused}
 use Rattle.arrowtab.specs.declared.run_fault.RunFault.{RunFault}
 use Rattle.arrowtab.specs.declared.run_fault.RunFault.TheVariants.{NoMemory, OfFile, QueryUnread, QueryRefused}

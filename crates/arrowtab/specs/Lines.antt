@@ -4,7 +4,7 @@ use Rattle.std.specs.Fmt.{decimal}
 use Rattle.ends.specs.Line.{message}
 use Rattle.arrowtab.specs.RefusalText.{refusal_text}
 use Rattle.json_places.specs.JsonFaultText.{fault_text}
-use Rattle.shared.specs.declared.refusal.Refusal.{Refusal}
+use Rattle.table.specs.declared.refusal.Refusal.{Refusal}
 use Rattle.json_places.specs.declared.path.Step.{Step}
 use Rattle.json_places.specs.declared.fault.JsonFaultKind.{JsonFaultKind}
 

@@ -4,10 +4,10 @@ use mathlib.Core.List.{IsPrefix}
 use Rattle.arrays.specs.Shape.{FieldShape}
 use Rattle.arrays.specs.Batch.{Table}
 use Rattle.json_places.specs.JsonTable.{FileData, rows_of}
-use Rattle.shared.specs.History.{History, of}
+use Rattle.table.specs.History.{History, of}
 use Rattle.arrowtab.specs.Plan.{planned}
-use Rattle.shared.specs.Cause.{IsLegal, difference, handed_cause}
-use Rattle.shared.specs.declared.refusal.Refusal.{Refusal}
+use Rattle.table.specs.Cause.{IsLegal, difference, handed_cause}
+use Rattle.table.specs.declared.refusal.Refusal.{Refusal}
 
 -- A batch of a file: the fields of the file, and the rows.
 pub record FileBatch : Type 0 where

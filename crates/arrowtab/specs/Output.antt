@@ -12,7 +12,7 @@ use Rattle.job.specs.declared.asked.Command.TheVariants.{Stats, Export, Query}
 use Rattle.query.specs.Asked.{Asked}
 use Rattle.query.specs.declared.fault.QueryFault.{QueryFault}
 use Rattle.query_json.specs.QueryAsked.{ReadsQueryText}
-use Rattle.shared.specs.History.{History}
+use Rattle.table.specs.History.{History}
 use Rattle.arrowtab.specs.Queried.{PrintsGroups, RefusesGroups}
 use Rattle.arrowtab.specs.Shown.{shown}
 

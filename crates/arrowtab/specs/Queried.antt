@@ -6,7 +6,7 @@ use Rattle.query.specs.Asked.{Asked}
 use Rattle.query.specs.Resolved.{resolved}
 use Rattle.query.specs.declared.fault.QueryFault.{QueryFault}
 use Rattle.query.specs.declared.fault.QueryFault.TheVariants.{Overflow}
-use Rattle.shared.specs.History.{History, rows}
+use Rattle.table.specs.History.{History, rows}
 use Rattle.arrowtab.specs.GroupLines.{group_lines}
 
 -- The text is the lines of the groups that a query by positions asks of the rows.

@@ -1,8 +1,8 @@
 -- How a refusal is told.
 use Rattle.std.specs.Prelude.{ℕ, List, ◌++◌, codes}
 use Rattle.std.specs.Fmt.{decimal}
-use Rattle.shared.specs.declared.refusal.Refusal.{Refusal}
-use Rattle.shared.specs.declared.refusal.Refusal.TheVariants.{SchemaDiffers, NullInNonNullable, TableFull, BookFull, TextsFull, NoMemory}
+use Rattle.table.specs.declared.refusal.Refusal.{Refusal}
+use Rattle.table.specs.declared.refusal.Refusal.TheVariants.{SchemaDiffers, NullInNonNullable, TableFull, BookFull, TextsFull, NoMemory}
 
 -- The number and the name, then each field with its value.
 abbrev pub refusal_text : Refusal → List ℕ

@@ -5,8 +5,8 @@ use Rattle.std.specs.Io.KnownBytes.{Appends, Keeps}
 use Rattle.ends.specs.Line.{memory_line, output_line}
 use Rattle.ends.specs.Sink.{AppendsFront}
 use Rattle.arrays.specs.Shape.{FieldShape}
-use Rattle.shared.specs.History.{History}
-use Rattle.shared.specs.Stored.{stored_fields}
+use Rattle.table.specs.History.{History}
+use Rattle.table.specs.Stored.{stored_fields}
 use Rattle.job.specs.declared.asked.Command.{Command}
 use Rattle.job.specs.declared.asked.Command.TheVariants.{Stats, Export, Query}
 use Rattle.query.specs.FaultText.{query_fault_text}
@@ -18,7 +18,7 @@ use Rattle.arrowtab.specs.Loaded.{IsLoaded, IsStopped, batches_of}
 use Rattle.arrow_json.specs.JsonFile.{Reads, BytesFault}
 use Rattle.json_places.specs.JsonFaultText.{fault_text}
 use Rattle.json_places.specs.JsonTable.{FileData}
-use Rattle.shared.specs.declared.refusal.Refusal.{Refusal}
+use Rattle.table.specs.declared.refusal.Refusal.{Refusal}
 use Rattle.json_places.specs.declared.path.Step.{Step}
 use Rattle.json_places.specs.declared.fault.JsonFaultKind.{JsonFaultKind}
 

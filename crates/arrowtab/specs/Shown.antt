@@ -12,7 +12,7 @@ use Rattle.arrays.specs.Kind as kind
 use Rattle.arrays.specs.Kind.{Kind}
 use Rattle.arrays.specs.Shape.{FieldShape, kind_of_field, name_of}
 use Rattle.arrays.specs.Batch.{Table, column}
-use Rattle.shared.specs.History.{History, rows, of}
+use Rattle.table.specs.History.{History, rows, of}
 use Rattle.group.specs.Stats.{nulls_of, sum_of, least_of, greatest_of}
 
 -- ---- lines over plain numbers and texts

@@ -10,7 +10,7 @@ use Rattle.query.specs.declared.fault.QueryFault.{QueryFault}
 use Rattle.query.specs.declared.fault.QueryFault.TheVariants.{Overflow}
 use Rattle.query.specs.declared.queries.QueryText.{QueryText}
 use Rattle.query_json.specs.QueryAsked.{ReadsQueryText}
-use Rattle.shared.specs.History.{History, rows}
+use Rattle.table.specs.History.{History, rows}
 use Rattle.arrowtab.specs.Output.{exported}
 use Rattle.arrowtab.specs.Queried.{PrintsGroups, RefusesGroups}
 use Rattle.arrowtab.specs.Run.{FailedQuery}

@@ -4,7 +4,7 @@ ghost use Rattle.arrowtab.specs.Alone.{fields_for, Shows, StopsWanted};
 ghost use Rattle.arrowtab.specs.Explained.{Explains};
 ghost use Rattle.arrowtab.specs.Run.{Answers};
 ghost use Rattle.arrowtab.specs.Wanted.{IsUnprinted, PrintsWanted};
-ghost use Rattle.shared.specs.Cause.{IsLegal};
+ghost use Rattle.table.specs.Cause.{IsLegal};
 
 use crate::export::export_text;
 use crate::groups::groups_text;
@@ -16,9 +16,9 @@ use crate::wanted::{Wanted, wanted_of};
 use arrays::File;
 use ends::Source;
 use job::Command;
-use shared::Version;
 use std::alloc::Global;
 use std::thread::Threads;
+use table::Version;
 
 /// Reads the command's query, then all sources, one after the other, and makes the command's output for their files.
 pub(crate) fn answer<T: Threads + Sync, S: Source>(

@@ -1,12 +1,12 @@
 //! The output of `export`.
 ghost use Rattle.std.specs.Prelude.{◌≡◌, OnOk, IfOk, string_bytes};
 ghost use Rattle.arrowtab.specs.Output.{exported};
-ghost use Rattle.shared.specs.Cause.{IsLegal};
+ghost use Rattle.table.specs.Cause.{IsLegal};
 
 use arrow_text::print_file;
 use colbits::NoMemory;
-use shared::Version;
 use std::alloc::Global;
+use table::Version;
 
 /// What `export` prints for a version of the table.
 pub(crate) fn export_text(alloc: Global, version: &Version) -> Result<String, NoMemory>

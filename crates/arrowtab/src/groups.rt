@@ -10,9 +10,9 @@ use crate::group_lines::group_lines;
 use crate::run_fault::RunFault;
 use answers::OpenGate;
 use query::{Query, QueryFault, QueryText, resolve};
-use shared::Version;
 use std::alloc::Global;
 use std::thread::Threads;
+use table::Version;
 
 /// What `query` prints for a version of the table, whose rows are looked at in so many pieces.
 pub(crate) fn groups_text<T: Threads + Sync>(

@@ -3,14 +3,14 @@ ghost use Rattle.std.specs.Prelude.{◌≡◌, ◌++◌, ◌∷◌, ◌<◌, ℕ
 ghost use Rattle.std.specs.Arc.{arc_value};
 ghost use Rattle.std.specs.List.{AllByRecursion};
 ghost use Rattle.arrays.specs.Batch.{rows_of};
-ghost use Rattle.shared.specs.Cause.{difference};
+ghost use Rattle.table.specs.Cause.{difference};
 ghost use Rattle.arrowtab.specs.Alone.{alone, AreAlike, batches_in, fields_for, Stops, StopsBatch, StopsFile};
 
 use crate::run_fault::{FileFault, RunFault};
 use arrays::{File, RecordBatch};
-use shared::{Refusal, TableState};
 use std::alloc::Global;
 use std::sync::Arc;
+use table::{Refusal, TableState};
 
 /// A table with the batches of all files in their order, all of them added by worker 0. It has the first file's schema. The
 /// first batch that is refused stops it.

@@ -3,8 +3,8 @@ ghost use Rattle.std.specs.Prelude.{◌≡◌, IfOk, string_bytes};
 ghost use Rattle.arrowtab.specs.RefusalText.{refusal_text};
 
 use colbits::NoMemory;
-pub use shared::Refusal;
 use std::alloc::Global;
+pub use table::Refusal;
 
 /// The refusal as it is told: its number and name, then each of its fields.
 pub fn refusal_text(alloc: Global, refusal: Refusal) -> Result<String, NoMemory>

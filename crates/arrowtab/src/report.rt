@@ -4,15 +4,15 @@ ghost use Rattle.std.specs.Prelude.{List, ◌≡◌, ◌++◌, length, OnOk, IfO
 ghost use Rattle.arrays.specs.Shape.{field_of, kind_of_field};
 ghost use Rattle.arrowtab.specs.Shown.{shown, worker_lines, column_lines, field_line};
 ghost use Rattle.group.specs.Summary.{AreStats};
-ghost use Rattle.shared.specs.Cause.{IsLegal};
-ghost use Rattle.shared.specs.History.{of, rows};
+ghost use Rattle.table.specs.Cause.{IsLegal};
+ghost use Rattle.table.specs.History.{of, rows};
 
 use crate::text::{column_line, push_rows_line, push_worker_line};
 use arrays::Field;
 use colbits::NoMemory;
 use group::ColumnStats;
-use shared::Version;
 use std::alloc::Global;
+use table::Version;
 
 /// What `stats` prints for so many workers and a version of the table that they loaded.
 pub(crate) fn stats_text(alloc: Global, workers: u32, version: &Version) -> Result<String, NoMemory>

@@ -1,8 +1,8 @@
 use arrow_json::JsonFault;
 use colbits::NoMemory;
 use query::QueryFault;
-use shared::Refusal;
 use std::alloc::AllocFailed;
+use table::Refusal;
 
 /// Why there is no output.
 #[derive(Debug, Drop)]

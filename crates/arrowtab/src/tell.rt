@@ -10,8 +10,8 @@ use arrow_json::{JsonFault, fault_text};
 use colbits::NoMemory;
 use ends::{Sink, tell_memory, write_line};
 use query::query_fault_text;
-use shared::Refusal;
 use std::alloc::Global;
+use table::Refusal;
 
 /// Writes the line of a fault, with the name of its file where it is one of a file, or that memory ran out where there was
 /// none for the line. A failure of the sink can't be told any more; it stands in the sink's count.

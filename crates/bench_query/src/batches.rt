@@ -4,9 +4,9 @@ ghost use Rattle.std.specs.Prelude.{◌<◌};
 
 use arrays::{Array, DataType, Field, IntType, RawArray, RecordBatch, Schema, Width, validate};
 use colbits::Buffer;
-use shared::{TableState, Version};
 use std::alloc::Global;
 use std::sync::Arc;
+use table::{TableState, Version};
 
 /// A table of so many batches of so many rows; none where memory ran out.
 pub(crate) fn filled(alloc: Global, batches: u32, rows: u32) -> Option<Arc<Version>> {

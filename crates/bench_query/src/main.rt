@@ -16,10 +16,10 @@ use batches::filled;
 use group::Scalar;
 use query::{Query, resolve};
 use query_json::read_query;
-use shared::Version;
 use std::env;
 use std::process::ExitCode;
 use std::thread::Threads;
+use table::Version;
 
 fn main(rt: HostRuntime) -> ExitCode {
     let Ok(mut words) = env::args(&rt) else {

@@ -7,9 +7,9 @@ ghost use Rattle.std.specs.declared.sync.Arc.{Arc};
 
 use arrays::{Array, DataType, Field, IntType, RawArray, RecordBatch, Schema, Width, validate};
 use colbits::Buffer;
-use shared::{TableState, Version};
 use std::alloc::Global;
 use std::sync::Arc;
+use table::{TableState, Version};
 
 /// How many rows a batch has.
 const ROWS: u32 = 1000;

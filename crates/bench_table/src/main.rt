@@ -8,9 +8,9 @@
 mod batches;
 
 use batches::filled;
-use shared::Version;
 use std::env;
 use std::process::ExitCode;
+use table::Version;
 
 fn main(rt: HostRuntime) -> ExitCode {
     let Ok(mut words) = env::args(&rt) else {

@@ -5,7 +5,7 @@
 //! same one in each run, that decides which growth of the calls it is (`tools/refused_growths.sh`).
 #![tactic(auto)]
 
-mod of_shared;
+mod of_table;
 mod outcome;
 
 use outcome::Outcome;
@@ -23,8 +23,8 @@ fn main(rt: HostRuntime) -> ExitCode {
         return ExitCode::SUCCESS;
     }
     let calls = [
-        ("the same batch", of_shared::admits_again(rt.alloc())),
-        ("another batch", of_shared::admits_another(rt.alloc())),
+        ("the same batch", of_table::admits_again(rt.alloc())),
+        ("another batch", of_table::admits_another(rt.alloc())),
     ];
     tell(&rt, &calls)
 }

@@ -1,21 +1,18 @@
-//! The table of one thread: batches admitted one after the other, and versions that show what was admitted.
+//! A table that many workers append to at once, each from a thread of its own.
 #![tactic(auto)]
 
-mod admission;
-mod cause;
-mod columns;
-pub mod entry;
-mod export;
-mod held;
-pub mod laws;
-mod nulls;
-pub mod refusal;
-pub mod state;
-mod stats;
-mod stored;
-pub mod version;
+pub mod fault;
+mod lending;
+mod locked;
+mod missing;
+pub mod opening;
+pub mod outcome;
+pub mod shared_table;
+pub mod worker;
 
-pub use entry::Entry;
-pub use refusal::Refusal;
-pub use state::TableState;
-pub use version::Version;
+pub use fault::{GatherCause, GatherFault, OpenFault};
+pub use opening::open;
+pub use outcome::{Outcome, Receipt};
+pub use shared_table::{Gathered, SharedTable};
+pub use table::{Entry, Refusal, TableState, Version};
+pub use worker::Worker;

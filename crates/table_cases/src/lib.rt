@@ -2,6 +2,6 @@
 #![tactic(auto)]
 
 #[cfg(test)]
-mod of_shared;
+mod of_table;
 #[cfg(test)]
 mod testing;

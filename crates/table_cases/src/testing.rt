@@ -2,9 +2,9 @@
 
 use arrays::{RecordBatch, Schema};
 use samples::{Sample, field, sampled};
-use shared::TableState;
 use std::alloc::Global;
 use std::test::Fail;
+use table::TableState;
 
 /// So many rows, and of each column the name, whether it may hold nulls, and what it holds.
 pub(crate) type Batch = (u32, &'static [(&'static str, bool, Sample)]);

@@ -1,7 +1,7 @@
 use Rattle.std.proofs.Common.{◌≡◌, ◌∙◌, true, ap, subst, sym}
 use Rattle.query.specs.Asked.{asked}
 use Rattle.query.specs.Fault.{fits}
-use Rattle.shared.specs.Contents.{Contents}
+use Rattle.table.specs.Contents.{Contents}
 use Rattle.bench_query.proofs.tell_answered.Goals as goal
 
 pub tell_last-requires-after_bounds : goal.tell_last-requires-after_bounds

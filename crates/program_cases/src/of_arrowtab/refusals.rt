@@ -1,8 +1,8 @@
 //! How refusals are told.
 
 use arrowtab::refusal::refusal_text;
-use shared::Refusal;
 use std::test::Fail;
+use table::Refusal;
 
 /// Each refusal, and how it is told.
 const TOLD: [(Refusal, &str); 6] = [

@@ -4,7 +4,7 @@ use Rattle.std.proofs.lemmas.List.{length-map}
 use Rattle.std.proofs.lemmas.Option.{slice_get-get_or}
 use Rattle.arrays.specs.Shape.{FieldShape, field_of}
 use Rattle.arrays.specs.Batch.{column}
-use Rattle.shared.specs.History.{rows}
+use Rattle.table.specs.History.{rows}
 use Rattle.arrowtab.specs.Shown.{column_lines, field_line}
 use Rattle.arrowtab.proofs.ReportLemmas.{field-at, column_lines-more, one_line_more}
 use Rattle.arrowtab.proofs.report.push_column_lines.Goals as goal

@@ -1,5 +1,5 @@
 use Rattle.std.proofs.Common.{◌≡◌, ◌++◌, string_bytes, take}
-use Rattle.shared.specs.History.{rows}
+use Rattle.table.specs.History.{rows}
 use Rattle.arrowtab.specs.Shown.{column_lines}
 use Rattle.arrowtab.proofs.report.push_column_lines.Given as goal
 

@@ -1,5 +1,5 @@
 use Rattle.std.proofs.Common.{◌∙◌, ◌<◌, length, ap, sym, arith}
-use Rattle.shared.specs.History.{History, rows}
+use Rattle.table.specs.History.{History, rows}
 use Rattle.arrowtab.proofs.ReportLemmas.{calls-own, rows-own, of-other}
 use Rattle.arrowtab.proofs.report.share.Goals as goal
 use Rattle.arrowtab.proofs.report.share.Goals.{then-entry-worker, else-entry-worker}

@@ -1,5 +1,5 @@
 use Rattle.std.proofs.Common.{◌≡◌, ◌*◌, ◌≤◌, length, take}
-use Rattle.shared.specs.History.{of, rows}
+use Rattle.table.specs.History.{of, rows}
 use Rattle.arrowtab.proofs.report.share.Given as goal
 
 -- the worker's share of the entries so far

@@ -1,7 +1,0 @@
-use Rattle.std.proofs.Common.{All, take}
-use Rattle.arrays.specs.Seen.{Seen}
-use Rattle.arrays.specs.Typed.{IsItemOf}
-use Rattle.shared.proofs.admission.tell_all.Given as goal
-
-abbrev pub invariant-loop-column : goal.invariant-loop-column
-invariant-loop-column l = All (λ (c : Seen). All (IsItemOf c.kind) c.items) (take l.column-index l.columns)

@@ -1,6 +1,0 @@
-use Rattle.std.proofs.Common.{◌≡◌, map, take}
-use Rattle.shared.specs.Export.{copied}
-use Rattle.shared.proofs.export.columns_of.Given as goal
-
-abbrev pub invariant-loop-column : goal.invariant-loop-column
-invariant-loop-column l = l.parts.items ≡ map (copied l.start l.rows) (take l.column-index l.columns)

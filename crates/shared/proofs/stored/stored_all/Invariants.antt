@@ -1,7 +1,0 @@
-use Rattle.std.proofs.Common.{◌≡◌, take}
-use Rattle.arrays.specs.Shape.{fields_of}
-use Rattle.shared.specs.Stored.{stored_fields}
-use Rattle.shared.proofs.stored.stored_all.Given as goal
-
-abbrev pub invariant-loop-field : goal.invariant-loop-field
-invariant-loop-field l = fields_of l.stored.items ≡ stored_fields (fields_of (take l.field-index l.fields))

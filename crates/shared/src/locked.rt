@@ -1,0 +1,101 @@
+//! What lies under the lock.
+
+ghost use Rattle.std.specs.Prelude.{◌≡◌, ◌⊎◌, ◌≤◌, IfErr, IfOk, None, OnErr, OnOk, Some, length, sum_by};
+ghost use Rattle.std.specs.Arc.{arc_value};
+ghost use Rattle.shared.specs.Hand.{IsKept, IsRaised, calls_of_hand, rows_of_hand};
+ghost use Rattle.table.specs.Cause.{IsLegal, batch_cause, early_cause};
+ghost use Rattle.table.specs.Contents.{Contents, admitted};
+ghost use Rattle.table.specs.History.{rows};
+
+use crate::lending::tell_totals;
+use crate::outcome::Receipt;
+use crate::worker::Worker;
+use arrays::RecordBatch;
+use colbits::NoMemory;
+use std::marker::Model;
+use std::sync::Arc;
+use std::sync::ledger::{Book, Ledger, Share};
+use table::{Refusal, TableState, Version};
+
+/// A table with the ledgers of its workers' calls and rows. Each time that its lock is got, the first counts the entries of
+/// the book and the second its rows, and each entry is of one of the table's workers.
+#[derive(Drop)]
+pub(crate) struct Locked<C: Ledger, Q: Ledger> {
+    pub(crate) state: TableState,
+    pub(crate) call_book: Book<C>,
+    pub(crate) row_book: Book<Q>,
+    /// No part of the ledger; the workers lend it theirs.
+    pub(crate) no_calls: Share<C>,
+    /// The same of the ledger of rows.
+    pub(crate) no_rows: Share<Q>,
+}
+
+impl<C: Ledger, Q: Ledger> Model for Locked<C, Q> {
+    ghost use Rattle.table.specs.Contents.{Contents, contents_code};
+
+    ghost Value = { Contents };
+
+    ghost coded = { contents_code };
+
+    ghost use Rattle.std.specs.Prelude.{◌≡◌, length};
+    ghost use Rattle.shared.specs.Balance.{IsBalanced, IsOfWorkers};
+
+    ghost view = { λ l. l.state };
+
+    ghost invariant = { λ l. IsBalanced l.call_book.total l.row_book.total l.state.history
+        × IsOfWorkers C.parts l.state.history
+        × (Q.parts ≡ C.parts)
+        × (l.no_calls.parts ≡ 0)
+        × (l.no_calls.amount ≡ 0)
+        × (l.no_rows.parts ≡ 0)
+        × (l.no_rows.amount ≡ 0) };
+}
+
+impl<C: Ledger, Q: Ledger> Locked<C, Q> {
+    /// Adds a batch of a worker, which it counts, as `TableState::admit` does. After a refusal nothing is changed.
+    pub(crate) fn append(
+        &mut self,
+        worker: &mut Worker<C, Q>,
+        batch: &RecordBatch,
+    ) -> Result<Receipt, Refusal>
+        ensures number { IfOk result (λ r. r.entry ≡ length self.old.history) }
+        ensures allowed { OnOk result (batch_cause self.old.fields self.old.history batch.now ≡ None) }
+        ensures added { OnOk result (self.new ≡ admitted self.old worker.old.number batch.now) }
+        ensures err { IfErr result (λ e. ((e ≡ Refusal.NoMemory) × (early_cause self.old.fields self.old.history batch.now ≡ None))
+            ⊎ (batch_cause self.old.fields self.old.history batch.now ≡ Some e)) }
+        ensures kept { OnErr result (self.new ≡ self.old) }
+        ensures legal { IsLegal self.new.fields self.new.history }
+        ensures raised { OnOk result (IsRaised batch.now.rows worker.old worker.new) }
+        ensures left { OnErr result (worker.new ≡ worker.old) }
+    {
+        let entry = self.state.admit(worker.number, batch)?;
+        worker.raise(&mut self.call_book, &mut self.row_book, batch.rows());
+        Ok(Receipt { entry })
+    }
+
+    /// The table as it is.
+    pub(crate) fn version(&self) -> Result<Arc<Version>, NoMemory>
+        ensures { IfOk result (λ v. arc_value v ≡ self.now) }
+    {
+        self.state.version()
+    }
+
+    /// The table as it is, with all its workers there.
+    pub(crate) fn gather(&mut self, workers: &mut [Worker<C, Q>]) -> Result<Arc<Version>, NoMemory>
+        requires { C.parts ≤ length workers.old }
+        ensures workers { workers.new ≡ workers.old }
+        ensures same { self.new ≡ self.old }
+        ensures version { IfOk result (λ v. arc_value v ≡ self.old) }
+        ensures calls { length self.old.history ≡ sum_by calls_of_hand workers.old }
+        ensures rows { length (rows self.old.history) ≡ sum_by rows_of_hand workers.old }
+    {
+        tell_totals(
+            &mut self.call_book,
+            &mut self.row_book,
+            &mut self.no_calls,
+            &mut self.no_rows,
+            workers,
+        );
+        self.state.version()
+    }
+}

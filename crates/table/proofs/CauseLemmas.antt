@@ -1,0 +1,110 @@
+-- What refuses a batch before its texts are looked at.
+use Rattle.std.proofs.Common.{◌≡◌, ◌∙◌, ◌||◌, ℕ, ◌+◌, ◌-◌, ◌<◌, ◌≤◌, ◌^◌, List, [], ◌∷◌, length, map, not, Bool, true, false, cond, eqb, Option, Some, None, option_map, position, ap, sym, refl, subst, arith, eq-eqb, lt-ltb, le-ltb}
+use Rattle.std.specs.Prelude.{string_bytes}
+use Rattle.std.specs.List.{zip}
+use Rattle.std.specs.Str.{bytes_eq}
+use Rattle.std.proofs.lemmas.Bool.{eqb-true, ne_eqb}
+use Rattle.arrays.specs.Batch.{Batch, batch_fault, rows_of, Table}
+use Rattle.arrays.specs.Kind.{kind_of, same_kind}
+use Rattle.arrays.specs.Seen.{Seen}
+use Rattle.arrays.specs.Shape.{FieldShape, Shape, field_of, field_step, fields_of, kind_of_field, name_of, shape_step}
+use Rattle.types.specs.declared.data_type.Field.{Field, fold_out-Field, out-Field}
+use Rattle.types.proofs.SchemaLemmas.{position-map}
+use Rattle.types.proofs.ShapeLemmas.{kind_of_field-field_of}
+use Rattle.std.specs.Bool.{then_some}
+use Rattle.arrays.specs.First.{first}
+use Rattle.table.specs.Cause.{difference, differs, early_cause, is_book_full, is_table_full, null_cause}
+use Rattle.table.specs.Columns.{HasColumns}
+use Rattle.table.specs.History.{History, rows}
+use Rattle.table.specs.Stored.{is_stored_as, stored_kind}
+use Rattle.table.specs.declared.refusal.Refusal.{Refusal}
+use Rattle.table.specs.declared.refusal.Refusal.TheVariants.{BookFull, SchemaDiffers, TableFull}
+use Rattle.table.proofs.BatchLemmas.{HasColumns-rows_of, length-rows_of}
+
+-- ---- fields
+
+named : (f : Field) → name_of (field_of f) ≡ string_bytes (out-Field f).name
+named f = ap name_of (fold_out-Field Shape FieldShape shape_step field_step f)
+
+pub differs-fields : (a b : Field) → differs (field_of a, field_of b) ≡ (not (bytes_eq (string_bytes (out-Field a).name) (string_bytes (out-Field b).name)) || not (is_stored_as (out-Field a).ty (out-Field b).ty))
+differs-fields a b =
+    let k = kind_of_field (field_of a) in
+    let l = kind_of_field (field_of b) in
+    ap (λ n. not (bytes_eq n (name_of (field_of b))) || not (same_kind k (stored_kind l))) (named a)
+    ∙ ap (λ n. not (bytes_eq (string_bytes (out-Field a).name) n) || not (same_kind k (stored_kind l))) (named b)
+    ∙ ap (λ j. not (bytes_eq (string_bytes (out-Field a).name) (string_bytes (out-Field b).name)) || not (same_kind j (stored_kind l))) (kind_of_field-field_of a)
+    ∙ ap (λ j. not (bytes_eq (string_bytes (out-Field a).name) (string_bytes (out-Field b).name)) || not (same_kind (kind_of (out-Field a).ty) (stored_kind j))) (kind_of_field-field_of b)
+
+zip-map : {A B : Type 0} (f : A → B) (xs ys : List A) → zip (map f xs) (map f ys) ≡ map (λ p. (f p.0, f p.1)) (zip xs ys)
+zip-map f [] ys = refl
+zip-map f (x ∷ xs) [] = refl
+zip-map f (x ∷ xs) (y ∷ ys) = ap (λ l. (f x, f y) ∷ l) (zip-map f xs ys)
+
+pub position-fields : (stored handed : List Field) → position differs (zip (fields_of stored) (fields_of handed)) ≡ position (λ p. differs (field_of p.0, field_of p.1)) (zip stored handed)
+position-fields stored handed =
+    ap (position differs) (zip-map field_of stored handed) ∙ position-map differs _ (λ (p : Field × Field). (field_of p.0, field_of p.1)) (λ p. refl) (zip stored handed)
+
+-- what was found among fields is what there is among their shapes
+pub found-fields : (stored handed : List FieldShape) (xs ys : List Field) (o : Option ℕ) → fields_of xs ≡ stored → fields_of ys ≡ handed
+    → o ≡ position (λ p. differs (field_of p.0, field_of p.1)) (zip xs ys) → position differs (zip stored handed) ≡ o
+found-fields stored handed xs ys o these those is =
+    ap (λ l. position differs (zip l handed)) (sym these) ∙ ap (λ l. position differs (zip (fields_of xs) l)) (sym those) ∙ position-fields xs ys ∙ sym is
+
+-- ---- the first difference
+
+pub difference-some : (stored handed : List FieldShape) (c : ℕ) → position differs (zip stored handed) ≡ Some c → difference stored handed ≡ Some c
+difference-some stored handed c is = ap (λ o. first (o ∷ (cond (eqb (length stored) (length handed)) None (Some (length (zip stored handed)))) ∷ [])) is
+
+pub difference-same : (stored handed : List FieldShape) → position differs (zip stored handed) ≡ None → length stored ≡ length handed → difference stored handed ≡ None
+difference-same stored handed none same =
+    ap (λ o. first (o ∷ (cond (eqb (length stored) (length handed)) None (Some (length (zip stored handed)))) ∷ [])) none
+    ∙ ap (λ b. first (None ∷ cond b None (Some (length (zip stored handed))) ∷ [])) (eq-eqb (length stored) (length handed) same)
+
+pub difference-many : (stored handed : List FieldShape) (k : ℕ) → position differs (zip stored handed) ≡ None → (length stored ≡ length handed → ⊥) → length (zip stored handed) ≡ k
+    → difference stored handed ≡ Some k
+difference-many stored handed k none other size =
+    ap (λ o. first (o ∷ (cond (eqb (length stored) (length handed)) None (Some (length (zip stored handed)))) ∷ [])) none
+    ∙ ap (λ b. first (None ∷ cond b None (Some (length (zip stored handed))) ∷ [])) (ne_eqb (length stored) (length handed) other)
+    ∙ ap (λ n. Some n) size
+
+-- where nothing differs there are as many fields
+pub same_count : (stored handed : List FieldShape) → difference stored handed ≡ None → length stored ≡ length handed
+same_count stored handed none = go (position differs (zip stored handed)) (eqb (length stored) (length handed)) refl none where
+  go : (o : Option ℕ) (b : Bool) → eqb (length stored) (length handed) ≡ b → first (o ∷ cond b None (Some (length (zip stored handed))) ∷ []) ≡ None → length stored ≡ length handed
+  go (Some c) b is h = absurd cc
+  go None false is h = absurd cc
+  go None true is h = eqb-true (length stored) (length handed) is
+
+-- ---- one refusal after the other
+
+abbrev causes : Option ℕ → Option Refusal → Bool → Bool → Option Refusal
+causes column nulls full book = first (option_map (λ c. SchemaDiffers c) column ∷ nulls ∷ then_some full TableFull ∷ then_some book BookFull ∷ [])
+
+pub early-by : (fields : List FieldShape) (h : History) (b : Batch) (column : Option ℕ) (nulls : Option Refusal) (full book : Bool) → column ≡ difference fields b.fields
+    → nulls ≡ null_cause fields (rows_of b) → is_table_full h (rows_of b) ≡ full → is_book_full h ≡ book → causes column nulls full book ≡ early_cause fields h b
+early-by fields h b column nulls full book column_is nulls_is full_is book_is =
+    ap (λ o. causes o nulls full book) column_is
+    ∙ ap (λ o. causes (difference fields b.fields) o full book) nulls_is
+    ∙ ap (λ t. causes (difference fields b.fields) (null_cause fields (rows_of b)) t book) (sym full_is)
+    ∙ ap (λ t. causes (difference fields b.fields) (null_cause fields (rows_of b)) (is_table_full h (rows_of b)) t) (sym book_is)
+
+pub column-told : (fields stored handed : List FieldShape) (b : Batch) (o : Option ℕ) → stored ≡ fields → handed ≡ b.fields → o ≡ difference stored handed → o ≡ difference fields b.fields
+column-told fields stored handed b o these those is = is ∙ ap (λ f. difference f handed) these ∙ ap (difference fields) those
+
+-- the first null of the columns is that of the batch's rows
+pub nulls-told : (fields given : List FieldShape) (b : Batch) (columns : List Seen) (o : Option Refusal) → batch_fault b.fields b.rows b.columns ≡ None → given ≡ fields → columns ≡ b.columns
+    → ((t : Table) → HasColumns t columns → o ≡ null_cause given t) → o ≡ null_cause fields (rows_of b)
+nulls-told fields given b columns o lawful these those told =
+    told (rows_of b) (subst (HasColumns (rows_of b)) (sym those) (HasColumns-rows_of b lawful)) ∙ ap (λ f. null_cause f (rows_of b)) these
+
+pub table-full : (h : History) (b : Batch) → 2 ^ 40 < length (rows h) + b.rows → is_table_full h (rows_of b) ≡ true
+table-full h b over = lt-ltb (2 ^ 40) (length (rows h) + length (rows_of b)) (omega (arith, over, length-rows_of b))
+
+pub table-free : (h : History) (b : Batch) → length (rows h) + b.rows ≤ 2 ^ 40 → is_table_full h (rows_of b) ≡ false
+table-free h b within = le-ltb (2 ^ 40) (length (rows h) + length (rows_of b)) (omega (arith, within, length-rows_of b))
+
+pub book-full : (h : History) → length h ≡ 2 ^ 32 - 1 → is_book_full h ≡ true
+book-full h full = eq-eqb (length h) (2 ^ 32 - 1) full
+
+pub book-free : (h : History) → (length h ≡ 2 ^ 32 - 1 → ⊥) → is_book_full h ≡ false
+book-free h free = ne_eqb (length h) (2 ^ 32 - 1) free

@@ -1,0 +1,24 @@
+-- What the proofs of this crate share.
+pub mod HistoryLemmas
+pub mod FrontLemmas
+pub mod TableLemmas
+pub mod HeldLemmas
+pub mod PutLemmas
+pub mod CodeLemmas
+pub mod EarlyLemmas
+pub mod SuitLemmas
+pub mod GrownLemmas
+pub mod KeptLemmas
+pub mod BackLemmas
+pub mod ReadyLemmas
+pub mod StateLemmas
+pub mod RecodedLemmas
+pub mod KindLemmas
+pub mod StatsLemmas
+pub mod StoredLemmas
+pub mod EmptyLemmas
+pub mod BatchLemmas
+pub mod NullLemmas
+pub mod CauseLemmas
+pub mod ExportLemmas
+pub mod AnswerLemmas

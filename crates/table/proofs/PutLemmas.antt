@@ -1,0 +1,161 @@
+-- A table with what is new put in.
+use Rattle.std.proofs.Common.{◌≡◌, ◌∙◌, ℕ, ◌+◌, ◌-◌, ◌<◌, ◌≤◌, ◌^◌, List, [], ◌∷◌, ◌++◌, length, map, Bool, true, false, Option, None, Some, cond, ap, sym, refl, subst, arith, length-append}
+use Rattle.std.specs.Prelude.{option_map}
+use Rattle.std.specs.Arc.{arc_value}
+use Rattle.std.specs.List.{enumerate_from}
+use Rattle.std.proofs.lemmas.Bool.{ltb-false}
+use Rattle.std.proofs.lemmas.List.{map-append}
+use Rattle.arrays.specs.Batch.{Batch, rows_of, Table}
+use Rattle.arrays.specs.Seen.{Seen}
+use Rattle.arrays.specs.Shape.{FieldShape}
+use Rattle.group.specs.declared.stats.ColumnStats.{ColumnStats}
+use Rattle.std.specs.Bool.{then_some}
+use Rattle.table.specs.Cause.{IsLegal, batch_cause, cause, difference, is_book_full, is_table_full, null_cause, texts_cause}
+use Rattle.table.specs.Contents.{Contents, admitted}
+use Rattle.table.specs.Held.{IsHeld, IsPut, IsSame, batches_of, book_of, dictionaries_in, pieces_of, show}
+use Rattle.table.specs.History.{History, cut, rows}
+use Rattle.table.specs.Lawful.{LawfulTable, counted, dictionaries_of, table_of, texts_in}
+use Rattle.table.specs.Ready.{AreTexts, IsReady}
+use Rattle.table.specs.declared.held.Prepared.{Prepared}
+use Rattle.table.specs.declared.held.Held.{Held}
+use Rattle.table.specs.declared.refusal.Refusal.TheVariants.{BookFull, SchemaDiffers, TableFull}
+use Rattle.table.proofs.BatchLemmas.{length-rows_of}
+use Rattle.table.proofs.HeldLemmas.{rows-shown}
+use Rattle.table.proofs.HistoryLemmas.{IsLegal-push, cut-push, length-cut}
+use Rattle.table.proofs.TableLemmas.{Lawful-push, table_of-push}
+use Rattle.types.proofs.FirstLemmas.{first-none, then_some-none}
+
+-- ---- no refusal
+
+-- what no cause means
+pub record Allowed (fields : List FieldShape) (h : History) (t : Table) : Type 0 where
+  pub nulls : null_cause fields t ≡ None
+  pub rows : length (rows h) + length t ≤ 2 ^ 40
+  pub entries : length h ≡ 2 ^ 32 - 1 → ⊥
+  pub texts : texts_cause fields h t ≡ None
+
+pub Allowed-none : (fields : List FieldShape) (h : History) (t : Table) → cause fields h t ≡ None → Allowed fields h t
+Allowed-none fields h t none =
+    let a = first-none (null_cause fields t) (then_some (is_table_full h t) TableFull ∷ then_some (is_book_full h) BookFull ∷ texts_cause fields h t ∷ []) none in
+    let b = first-none (then_some (is_table_full h t) TableFull) (then_some (is_book_full h) BookFull ∷ texts_cause fields h t ∷ []) a.1 in
+    let d = first-none (then_some (is_book_full h) BookFull) (texts_cause fields h t ∷ []) b.1 in
+    let e = first-none (texts_cause fields h t) [] d.1 in
+    record {
+      nulls = a.0;
+      rows = ltb-false (2 ^ 40) (length (rows h) + length t) (then_some-none (is_table_full h t) TableFull b.0);
+      entries = λ full. Rattle.std.proofs.Common.true≢false (sym (Rattle.std.proofs.Common.eq-eqb (length h) (2 ^ 32 - 1) full) ∙ then_some-none (is_book_full h) BookFull d.0);
+      texts = e.0;
+    }
+
+pub cause-none : (fields : List FieldShape) (h : History) (b : Batch) → batch_cause fields h b ≡ None → cause fields h (rows_of b) ≡ None
+cause-none fields h b none =
+    let a = first-none (option_map (λ c. SchemaDiffers c) (difference fields b.fields)) (cause fields h (rows_of b) ∷ []) none in
+    (first-none (cause fields h (rows_of b)) [] a.1).0
+
+-- ---- the same parts
+
+pub Held-same : (h g : Held) → IsSame h g → IsHeld h → IsHeld g
+Held-same h g same is = record {
+  lawful =
+      subst (λ (f : List FieldShape). LawfulTable f (batches_of g) (pieces_of g) (arc_value g.stats).items (dictionaries_in g) (book_of g)) (sym same.schema)
+      (subst (λ (b : List Batch). LawfulTable (arc_value h.schema) b (pieces_of g) (arc_value g.stats).items (dictionaries_in g) (book_of g)) (sym same.batches)
+      (subst (λ (p : List (List ColumnStats)). LawfulTable (arc_value h.schema) (batches_of h) p (arc_value g.stats).items (dictionaries_in g) (book_of g)) (sym same.pieces)
+      (subst (λ (s : List ColumnStats). LawfulTable (arc_value h.schema) (batches_of h) (pieces_of h) s (dictionaries_in g) (book_of g)) (sym same.stats)
+      (subst (λ (d : List (Option Seen)). LawfulTable (arc_value h.schema) (batches_of h) (pieces_of h) (arc_value h.stats).items d (book_of g)) (sym same.dictionaries)
+      (subst (λ (e : List (ℕ × ℕ)). LawfulTable (arc_value h.schema) (batches_of h) (pieces_of h) (arc_value h.stats).items (dictionaries_in h) e) (sym same.book) is.lawful)))));
+  rows = same.rows ∙ is.rows ∙ ap counted (sym same.book);
+  legal =
+      subst (λ (f : List FieldShape). IsLegal f (show g).history) (sym same.schema)
+      (subst (λ (s : Contents). IsLegal (arc_value h.schema) s.history) (sym (show-same h g same)) is.legal);
+}
+  where
+    show-same : (h g : Held) → IsSame h g → show g ≡ show h
+    show-same h g same = λ i. record {
+      fields = same.schema i;
+      history = cut (same.book i) (table_of (same.batches i));
+      batches = map rows_of (same.batches i);
+    }
+
+pub show-same : (h g : Held) → IsSame h g → show g ≡ show h
+show-same h g same = λ i. record {
+  fields = same.schema i;
+  history = cut (same.book i) (table_of (same.batches i));
+  batches = map rows_of (same.batches i);
+}
+
+-- ---- one batch more
+
+module _ (h g : Held) (b : Batch) (worker : ℕ) (p : Prepared) (is : IsHeld h) (ready : IsReady h b p) (put : IsPut worker p h g) where
+  same_cause : cause (arc_value h.schema) (show h).history (rows_of b) ≡ None
+  same_cause = cause-none (arc_value h.schema) (show h).history b ready.allowed
+
+  free : Allowed (arc_value h.schema) (show h).history (rows_of b)
+  free = Allowed-none (arc_value h.schema) (show h).history (rows_of b) same_cause
+
+  size : (arc_value p.batch).rows ≡ length (rows_of (arc_value p.batch))
+  size = sym (length-rows_of (arc_value p.batch))
+
+  table : table_of (batches_of g) ≡ table_of (batches_of h) ++ rows_of b
+  table = ap table_of put.batches ∙ table_of-push (batches_of h) (arc_value p.batch) ∙ ap (λ (t : Table). table_of (batches_of h) ++ t) ready.rows
+
+  few : counted (book_of h) + (arc_value p.batch).rows ≤ 2 ^ 40
+  few =
+      omega (arith, free.rows, size, ap (λ (t : Table). length t) ready.rows, is.lawful.counts, ap (λ (t : Table). length t) (rows-shown h is))
+
+  short : length (book_of h) + 1 < 2 ^ 32
+  short =
+      elim (Rattle.std.proofs.Math.Nat.eq-or-lt_of_le below) [
+        | Rattle.std.proofs.Common.inl eq ↦ absurd (free.entries (length-cut (book_of h) (table_of (batches_of h)) ∙ omega (arith, eq)))
+        | Rattle.std.proofs.Common.inr lt ↦ omega (arith, lt)
+      ]
+    where
+      below : length (book_of h) + 1 ≤ 2 ^ 32
+      below = omega (arith, is.lawful.short)
+
+  lawful : LawfulTable (arc_value h.schema) (batches_of h ++ arc_value p.batch ∷ []) (pieces_of h ++ (arc_value p.batch_stats).items ∷ []) (arc_value p.stats).items (map (option_map arc_value) p.dictionaries.items) (book_of h ++ (worker, (arc_value p.batch).rows) ∷ [])
+  lawful =
+      let t = table_of (batches_of h) in
+      Lawful-push (arc_value h.schema) (batches_of h) (pieces_of h) (arc_value h.stats).items (dictionaries_in h) (book_of h) is.lawful
+      (arc_value p.batch) (arc_value p.batch_stats).items (arc_value p.stats).items (map (option_map arc_value) p.dictionaries.items) worker (arc_value p.batch).rows
+      ready.stored
+      (subst (λ (u : Table). Rattle.table.specs.Lawful.AreStatsOf (arc_value h.schema) u (arc_value p.batch_stats).items) (sym ready.rows) ready.piece)
+      (subst (λ (u : Table). Rattle.table.specs.Lawful.AreStatsOf (arc_value h.schema) (t ++ u) (arc_value p.stats).items) (sym ready.rows) ready.statistics)
+      (ready.texts ∙ ap (λ (u : Table). dictionaries_of (arc_value h.schema) (t ++ u)) (sym ready.rows))
+      ready.front size few short
+
+  history : cut (book_of h ++ (worker, (arc_value p.batch).rows) ∷ []) (table_of (batches_of h) ++ rows_of b) ≡ (show h).history ++ (worker, rows_of b) ∷ []
+  history = cut-push (book_of h) (table_of (batches_of h)) (rows_of b) worker (arc_value p.batch).rows is.lawful.counts (size ∙ ap (λ (t : Table). length t) ready.rows)
+
+  pub put-shows : show g ≡ admitted (show h) worker b
+  put-shows =
+      let fields = put.schema in
+      let cuts : (show g).history ≡ (show h).history ++ (worker, rows_of b) ∷ [] =
+      ap (λ (e : List (ℕ × ℕ)). cut e (table_of (batches_of g))) put.book ∙ ap (λ (t : Table). cut (book_of h ++ (worker, (arc_value p.batch).rows) ∷ []) t) table ∙ history in
+      let tables : (show g).batches ≡ (show h).batches ++ rows_of b ∷ [] =
+      ap (λ (l : List Batch). map rows_of l) put.batches ∙ map-append rows_of (batches_of h) (arc_value p.batch ∷ []) ∙ ap (λ (t : Table). map rows_of (batches_of h) ++ t ∷ []) ready.rows in
+      λ i. record { fields = fields i; history = cuts i; batches = tables i }
+
+  pub put-held : IsHeld g
+  put-held = record {
+    lawful =
+        subst (λ (f : List FieldShape). LawfulTable f (batches_of g) (pieces_of g) (arc_value g.stats).items (dictionaries_in g) (book_of g)) (sym put.schema)
+        (subst (λ (l : List Batch). LawfulTable (arc_value h.schema) l (pieces_of g) (arc_value g.stats).items (dictionaries_in g) (book_of g)) (sym put.batches)
+        (subst (λ (l : List (List ColumnStats)). LawfulTable (arc_value h.schema) (batches_of h ++ arc_value p.batch ∷ []) l (arc_value g.stats).items (dictionaries_in g) (book_of g)) (sym put.pieces)
+        (subst (λ (s : List ColumnStats). LawfulTable (arc_value h.schema) (batches_of h ++ arc_value p.batch ∷ []) (pieces_of h ++ (arc_value p.batch_stats).items ∷ []) s (dictionaries_in g) (book_of g)) (sym (ap (λ (v : Rattle.std.specs.declared.vec.Vec.Vec ColumnStats Rattle.std.specs.declared.alloc.Global.Global). v.items) put.stats))
+        (subst (λ (d : List (Option Seen)). LawfulTable (arc_value h.schema) (batches_of h ++ arc_value p.batch ∷ []) (pieces_of h ++ (arc_value p.batch_stats).items ∷ []) (arc_value p.stats).items d (book_of g)) (sym put.dictionaries)
+        (subst (λ (e : List (ℕ × ℕ)). LawfulTable (arc_value h.schema) (batches_of h ++ arc_value p.batch ∷ []) (pieces_of h ++ (arc_value p.batch_stats).items ∷ []) (arc_value p.stats).items (map (option_map arc_value) p.dictionaries.items) e) (sym put.book) lawful)))));
+    rows = put.rows ∙ ap (λ n. n + (arc_value p.batch).rows) is.rows ∙ sym (Rattle.table.proofs.TableLemmas.counted-push (book_of h) (worker, (arc_value p.batch).rows)) ∙ ap counted (sym put.book);
+    legal =
+        subst (λ (f : List FieldShape). IsLegal f (show g).history) (sym put.schema)
+        (subst (λ (s : Contents). IsLegal (arc_value h.schema) s.history) (sym put-shows)
+        (IsLegal-push (arc_value h.schema) (show h).history (worker, rows_of b) is.legal ready.typed same_cause));
+  }
+
+  pub put-few : h.rows + (arc_value p.batch).rows ≤ 2 ^ 40
+  put-few = omega (arith, few, is.rows)
+
+  pub put-texts : (pools : List (List (List ℕ))) → AreTexts h (table_of (batches_of h) ++ rows_of b) pools → AreTexts g (table_of (batches_of g)) pools
+  put-texts pools are =
+      are
+      ∙ ap (λ (t : Table). map (texts_in t) (enumerate_from 0 (arc_value h.schema))) (sym table)
+      ∙ ap (λ (f : List FieldShape). map (texts_in (table_of (batches_of g))) (enumerate_from 0 f)) (sym put.schema)

@@ -1,0 +1,127 @@
+-- A batch ready to be put into a table.
+use Rattle.std.proofs.Common.{◌≡◌, ◌∙◌, ℕ, List, ◌++◌, length, map, Option, None, Some, option_map, ap, sym, subst, arith, inl, inr}
+use Rattle.std.specs.Prelude.{Result, Ok, Err, IfErr, IsErrAnd, ◌⊎◌}
+use Rattle.std.specs.Arc.{arc_value}
+use Rattle.std.specs.List.{AllZip, enumerate_from, zip}
+use Rattle.arrays.specs.Batch.{Batch, batch_fault, rows_of, Table}
+use Rattle.arrays.specs.Seen.{Seen}
+use Rattle.arrays.specs.Shape.{FieldShape}
+use Rattle.group.specs.declared.stats.ColumnStats.{ColumnStats}
+use Rattle.table.specs.Cause.{batch_cause, difference, early_cause, null_cause}
+use Rattle.table.specs.Counted.{AreJoined, AreTheirs}
+use Rattle.table.specs.Held.{IsHeld, batches_of, show}
+use Rattle.table.specs.Lawful.{AreStatsOf, NamesFront, dictionaries_of, table_of, texts_in}
+use Rattle.table.specs.Ready.{AreTexts, IsReady}
+use Rattle.table.specs.Recoded.{dictionary_for, full_cause, grown, stored_seen}
+use Rattle.table.specs.declared.held.Prepared.{Prepared}
+use Rattle.table.specs.declared.held.Held.{Held}
+use Rattle.table.specs.declared.refusal.Refusal.{Refusal}
+use Rattle.table.specs.declared.refusal.Refusal.TheVariants.{NoMemory}
+use Rattle.table.proofs.HeldLemmas.{rows-shown}
+use Rattle.table.proofs.EarlyLemmas.{early-none, few-rows, late-cause}
+use Rattle.table.proofs.GrownLemmas.{count-all, dictionary-all, full-cause, grown-all}
+use Rattle.table.proofs.KeptLemmas.{IsFew, Kept, few-all, front-all, joined-all, kept-all, kept-lawful, kept-rows, same-many, theirs-all}
+use Rattle.table.proofs.SuitLemmas.{AllSuit, AreTyped, suits-batch, typed-rows}
+
+pub some-none : {X : Type 0} (o : Option X) (x : X) → o ≡ Some x → o ≡ None → ⊥
+some-none o x some none = cc
+
+-- A refusal told of the columns is told of the batch.
+pub told : {T : Type 0} (r : Result T Refusal) (e : Refusal) (o p : Option Refusal) → IsErrAnd r (λ x. x ≡ e) → (e ≡ NoMemory) ⊎ (o ≡ Some e) → o ≡ p
+    → IfErr r (λ x. (x ≡ NoMemory) ⊎ (p ≡ Some x))
+told (Ok v) e o p same found is = tt
+told (Err x) e o p same found is = elim found [ inl h ↦ inl (same ∙ h) | inr h ↦ inr (sym is ∙ h ∙ ap (λ y. Some y) (sym same)) ]
+
+module _ (h : Held) (b : Batch) (is : IsHeld h) (early : early_cause (arc_value h.schema) (show h).history b ≡ None)
+    (lawful : batch_fault b.fields b.rows b.columns ≡ None) (typed : AreTyped b.columns)
+    (pools : List (List (List ℕ))) (are : AreTexts h (table_of (batches_of h)) pools) (columns : List Seen) (same : columns ≡ b.columns) where
+  abbrev fields : List FieldShape
+  fields = arc_value h.schema
+
+  abbrev before : Table
+  before = table_of (batches_of h)
+
+  abbrev places : List (ℕ × FieldShape)
+  places = enumerate_from 0 (arc_value h.schema)
+
+  free : (difference fields b.fields ≡ None) × (null_cause fields (rows_of b) ≡ None)
+  free = early-none fields (show h).history b early
+
+  all : AllSuit (rows_of b) places b.columns
+  all = suits-batch fields b free.0 lawful typed
+
+  paired : zip pools columns ≡ zip (map (texts_in before) places) b.columns
+  paired = ap (λ l. zip l columns) are ∙ ap (λ (l : List Seen). zip (map (texts_in before) places) l) same
+
+  pub pools-count : length pools ≡ length columns
+  pools-count = ap (λ (l : List (List (List ℕ))). length l) are ∙ count-all before (rows_of b) places b.columns all ∙ ap (λ (l : List Seen). length l) (sym same)
+
+  pub pools-dictionaries : map (option_map arc_value) h.dictionaries.items ≡ map dictionary_for (zip pools columns)
+  unfolding dictionaries_of
+  pools-dictionaries = is.lawful.texts ∙ sym (dictionary-all before (rows_of b) places b.columns all) ∙ ap (map dictionary_for) (sym paired)
+
+  pub full-batch : full_cause pools columns ≡ batch_cause fields (show h).history b
+  full-batch =
+      ap (λ l. full_cause l columns) are
+      ∙ ap (λ (l : List Seen). full_cause (map (texts_in before) places) l) same
+      ∙ ap (λ (t : Table). full_cause (map (texts_in t) places) b.columns) (sym (rows-shown h is))
+      ∙ full-cause (show h).history (rows_of b) fields b.columns all
+      ∙ sym (late-cause fields (show h).history b early)
+
+  pub pools-grown : map grown (zip pools columns) ≡ map (texts_in (before ++ rows_of b)) places
+  pools-grown = ap (map grown) paired ∙ grown-all before (rows_of b) places b.columns all
+
+  kept : AllZip (Kept (rows_of b)) places (map stored_seen (zip pools columns))
+  kept = subst (λ l. AllZip (Kept (rows_of b)) places (map stored_seen l)) (sym paired) (kept-all before (rows_of b) places b.columns all)
+
+  pub piece-ready : (stats : List ColumnStats) → AreTheirs (map stored_seen (zip pools columns)) stats → AreStatsOf fields (rows_of b) stats
+  piece-ready stats theirs = theirs-all (rows_of b) places (map stored_seen (zip pools columns)) stats kept theirs
+
+  pub stats-count : (stats : List ColumnStats) → AreTheirs (map stored_seen (zip pools columns)) stats → length stats ≡ length (arc_value h.stats).items
+  stats-count stats theirs = same-many before (rows_of b) places (arc_value h.stats).items stats is.lawful.statistics (piece-ready stats theirs)
+
+  pub stats-few : (stats : List ColumnStats) → AreTheirs (map stored_seen (zip pools columns)) stats
+      → AllZip IsFew (arc_value h.stats).items stats
+  stats-few stats theirs =
+      few-all before (rows_of b) places (arc_value h.stats).items stats is.lawful.statistics (piece-ready stats theirs)
+      (omega (arith, few-rows fields (show h).history b early, ap (λ (t : Table). length t) (rows-shown h is)))
+
+  pub stored-lawful : batch_fault fields b.rows (map stored_seen (zip pools columns)) ≡ None
+  stored-lawful = kept-lawful fields b (map stored_seen (zip pools columns)) kept lawful
+
+  pub ready : (p : Prepared) → full_cause pools columns ≡ None → (arc_value p.batch).fields ≡ fields → (arc_value p.batch).rows ≡ b.rows
+      → (arc_value p.batch).columns ≡ map stored_seen (zip pools columns)
+      → map (option_map arc_value) p.dictionaries.items ≡ map dictionary_for (zip (map grown (zip pools columns)) columns)
+      → AreTheirs (map stored_seen (zip pools columns)) (arc_value p.batch_stats).items
+      → AreJoined (arc_value h.stats).items (arc_value p.batch_stats).items (arc_value p.stats).items
+      → IsReady h b p
+  unfolding dictionaries_of
+  ready p fits of_fields size of_columns words theirs joins =
+      let stored = map stored_seen (zip pools columns) in
+      let under : AllZip (Kept (rows_of b)) places (arc_value p.batch).columns = subst (AllZip (Kept (rows_of b)) places) (sym of_columns) kept in
+      let shown_rows = kept-rows (rows_of b) places b (arc_value p.batch) all under size in
+      let piece = piece-ready (arc_value p.batch_stats).items theirs in
+      record {
+        allowed = sym full-batch ∙ fits;
+        stored = record {
+          same = of_fields;
+          lawful =
+              ap (λ (f : List FieldShape). batch_fault f (arc_value p.batch).rows (arc_value p.batch).columns) of_fields
+              ∙ ap (λ n. batch_fault fields n (arc_value p.batch).columns) size
+              ∙ ap (λ (l : List Seen). batch_fault fields b.rows l) of_columns
+              ∙ stored-lawful;
+          nulls = ap (λ (t : Table). null_cause fields t) shown_rows ∙ free.1;
+        };
+        rows = shown_rows;
+        typed = typed-rows fields b free.0 lawful typed;
+        piece = piece;
+        statistics = joined-all before (rows_of b) places (arc_value h.stats).items (arc_value p.batch_stats).items (arc_value p.stats).items is.lawful.statistics piece joins;
+        texts =
+            words
+            ∙ ap (λ l. map dictionary_for (zip l columns)) pools-grown
+            ∙ ap (λ (l : List Seen). map dictionary_for (zip (map (texts_in (before ++ rows_of b)) places) l)) same
+            ∙ dictionary-all (before ++ rows_of b) (rows_of b) places b.columns all;
+        front =
+            subst (λ (l : List Seen). AllZip NamesFront l (map (option_map arc_value) p.dictionaries.items)) (sym of_columns)
+            (subst (AllZip NamesFront stored) (sym words) (front-all pools columns));
+      }

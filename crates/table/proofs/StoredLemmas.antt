@@ -1,0 +1,33 @@
+-- A schema as a table stores it.
+use Rattle.std.proofs.Common.{◌≡◌, ◌∙◌, List, Option, None, Some, option_map, position, ap, refl}
+use Rattle.std.specs.Option.{option_or}
+use Rattle.arrays.specs.Schema.{holds_dict, is_deep, schema_fault}
+use Rattle.arrays.specs.Shape.{FieldShape, boolean, dict, field, int, list, utf8}
+use Rattle.types.specs.declared.schema.SchemaFault.{SchemaFault}
+use Rattle.types.specs.declared.schema.SchemaFault.TheVariants.{DictInList, TooDeep}
+use Rattle.types.proofs.SchemaLemmas.{position-map}
+use Rattle.table.specs.Stored.{stored_field, stored_fields}
+
+same_deep : (f : FieldShape) → is_deep (stored_field f) ≡ is_deep f
+same_deep (field name nullable (int t)) = refl
+same_deep (field name nullable boolean) = refl
+same_deep (field name nullable utf8) = refl
+same_deep (field name nullable (list f)) = refl
+same_deep (field name nullable dict) = refl
+
+same_dict : (f : FieldShape) → holds_dict (stored_field f) ≡ holds_dict f
+same_dict (field name nullable (int t)) = refl
+same_dict (field name nullable boolean) = refl
+same_dict (field name nullable utf8) = refl
+same_dict (field name nullable (list f)) = refl
+same_dict (field name nullable dict) = refl
+
+-- no list gets deeper, and none gets a dictionary
+pub schema_fault-stored : (fields : List FieldShape) → schema_fault (stored_fields fields) ≡ schema_fault fields
+schema_fault-stored fields =
+    ap (λ p. option_or (option_map (λ c. TooDeep c) p) (option_map (λ c. DictInList c) (position holds_dict (stored_fields fields)))) (position-map is_deep is_deep stored_field same_deep fields)
+    ∙ ap (λ p. option_or (option_map (λ c. TooDeep c) (position is_deep fields)) (option_map (λ c. DictInList c) p)) (position-map holds_dict holds_dict stored_field same_dict fields)
+
+pub no_fault : (o : Option SchemaFault) (e : SchemaFault) → o ≡ None → o ≡ Some e → ⊥
+no_fault None e none some = absurd cc
+no_fault (Some x) e none some = absurd cc

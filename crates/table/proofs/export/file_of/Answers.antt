@@ -1,0 +1,35 @@
+use Rattle.std.proofs.Common.{◌≡◌, ◌∙◌, All, List, ap, map, subst, sym}
+use Rattle.std.proofs.lemmas.Simd.{map-map}
+use Rattle.std.specs.Arc.{arc_value}
+use Rattle.std.specs.List.{AllByRecursion}
+use Rattle.arrays.specs.Batch.{Batch, rows_of}
+use Rattle.arrays.specs.File.{File}
+use Rattle.arrays.specs.Shape.{FieldShape}
+use Rattle.table.specs.Held.{show}
+use Rattle.table.specs.Export.{IsLawful, IsUnder}
+use Rattle.table.proofs.ExportLemmas.{Shared, are-batches, are-lawful, are-under}
+use Rattle.table.proofs.export.file_of.Goals as goal
+
+pub new-requires : goal.new-requires
+new-requires c =
+    let batches = c.in_ok-batches.batches.items in
+    are-batches c.in_ok-copy.field-0 batches
+    (subst (λ (f : List FieldShape). All (λ (b : Shared). IsUnder f (arc_value b)) batches) (sym (c.in_ok-copy.ensures ∙ c.deref.ensures)) c.in_ok-batches.ensures.under)
+
+pub returns-clause-tables : goal.returns-clause-tables
+returns-clause-tables c =
+    ap (λ (f : File). map rows_of f.batches) c.new.ensures
+    ∙ map-map rows_of (λ (b : Shared). arc_value b) c.in_ok-batches.batches.items
+    ∙ c.in_ok-batches.ensures.tables
+
+pub returns-clause-under : goal.returns-clause-under
+returns-clause-under c =
+    let batches = c.in_ok-batches.batches.items in
+    subst (λ (f : File). AllByRecursion (λ (b : Batch). b.fields ≡ f.fields) f.batches) (sym c.new.ensures)
+    (are-under c.in_ok-copy.field-0 batches
+    (subst (λ (f : List FieldShape). All (λ (b : Shared). IsUnder f (arc_value b)) batches) (sym (c.in_ok-copy.ensures ∙ c.deref.ensures)) c.in_ok-batches.ensures.under))
+
+pub returns-clause-lawful : goal.returns-clause-lawful
+returns-clause-lawful c =
+    subst (λ (f : File). AllByRecursion IsLawful f.batches) (sym c.new.ensures)
+    (are-lawful (show c.args.held.now).fields c.in_ok-batches.batches.items c.in_ok-batches.ensures.under)

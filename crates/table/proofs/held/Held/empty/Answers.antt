@@ -1,0 +1,17 @@
+use Rattle.std.proofs.Common.{◌∙◌, List, [], ap, refl, subst, sym}
+use Rattle.std.specs.Arc.{arc_value}
+use Rattle.std.specs.declared.alloc.Global.{Global}
+use Rattle.std.specs.declared.vec.Vec.{Vec}
+use Rattle.arrays.specs.Shape.{FieldShape}
+use Rattle.group.specs.declared.stats.ColumnStats.{ColumnStats}
+use Rattle.table.specs.Lawful.{AreStatsOf, dictionaries_of}
+use Rattle.table.proofs.EmptyLemmas.{held-empty}
+use Rattle.table.proofs.held.Held.empty.Goals as goal
+
+pub returns-clause-held : goal.returns-clause-held
+returns-clause-held c =
+    let kept = c.in_ok-new.ensures.ok in
+    held-empty _ c.new-2.ensures.items c.new-3.ensures.items c.new-5.ensures.items refl
+    (subst (λ (v : Vec ColumnStats Global). AreStatsOf (arc_value c.in_ok-new.field-0) [] v.items) (sym c.in_ok-new-2.ensures.ok)
+    (subst (λ (f : List FieldShape). AreStatsOf f [] c.in_ok-stats.stats.items) (c.fields.ensures.value ∙ sym kept) c.in_ok-stats.ensures))
+    (c.in_ok-dictionaries.ensures ∙ ap (λ (f : List FieldShape). dictionaries_of f []) (c.fields-2.ensures.value ∙ sym kept))

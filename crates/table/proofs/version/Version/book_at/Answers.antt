@@ -1,0 +1,22 @@
+use Rattle.std.proofs.Common.{◌∙◌, ◌<◌, ℕ, List, ap, arith, length, option_map, sym}
+use Rattle.std.specs.Prelude.{slice_get}
+use Rattle.std.proofs.lemmas.Option.{slice_get-map, slice_get_read}
+use Rattle.table.specs.Contents.{Contents}
+use Rattle.table.specs.Held.{pair_of}
+use Rattle.table.specs.History.{book}
+use Rattle.table.proofs.HeldLemmas.{book-shown, length-book}
+use Rattle.table.proofs.version.Version.book_at.Goals as goal
+
+pub index-requires : goal.index-requires
+index-requires c =
+    let held = c.self.inside.held in
+    omega (arith, c.requires, held.book.ok.0, length-book held, ap (λ (s : Contents). length s.history) c.self.view_is)
+
+pub returns : goal.returns
+returns c =
+    let held = c.self.inside.held in
+    let below : c.args.i < held.book.len = omega (arith, c.requires, held.book.ok.0, length-book held, ap (λ (s : Contents). length s.history) c.self.view_is) in
+    ap (λ (s : Contents). slice_get (book s.history) c.args.i) (sym c.self.view_is)
+    ∙ ap (λ (l : List (ℕ × ℕ)). slice_get l c.args.i) (book-shown held c.self.invariant)
+    ∙ slice_get-map pair_of held.book.items c.args.i
+    ∙ ap (option_map pair_of) (slice_get_read held.book.items held.book.len c.args.i c.index.result.now held.book.ok.0 below c.index.ensures)

@@ -1,0 +1,11 @@
+pub mod History
+pub mod Contents
+pub mod Stored
+pub mod Cause
+pub mod Columns
+pub mod Recoded
+pub mod Counted
+pub mod Lawful
+pub mod Held
+pub mod Ready
+pub mod Export

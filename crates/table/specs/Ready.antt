@@ -1,0 +1,25 @@
+-- A batch that is ready to be put in.
+use Rattle.std.specs.Prelude.{◌≡◌, ◌++◌, ℕ, List, map, None, option_map}
+use Rattle.std.specs.Arc.{arc_value}
+use Rattle.std.specs.List.{AllZip, enumerate_from}
+use Rattle.arrays.specs.Batch.{Batch, rows_of, Table}
+use Rattle.table.specs.Cause.{IsTableOf, batch_cause}
+use Rattle.table.specs.Held.{batches_of, show}
+use Rattle.table.specs.Lawful.{AreStatsOf, IsStored, NamesFront, dictionaries_of, table_of, texts_in}
+use Rattle.table.specs.declared.held.Prepared.{Prepared}
+use Rattle.table.specs.declared.held.Held.{Held}
+
+-- The pools have the texts of the table's columns, and no others.
+abbrev pub AreTexts : Held → Table → List (List (List ℕ)) → Type 0
+AreTexts h t pools = pools ≡ map (texts_in t) (enumerate_from 0 (arc_value h.schema))
+
+-- What is ready is the batch as it is stored after what the table holds.
+pub record IsReady (h : Held) (b : Batch) (p : Prepared) : Type 0 where
+  pub allowed : batch_cause (arc_value h.schema) (show h).history b ≡ None
+  pub stored : IsStored (arc_value h.schema) (arc_value p.batch)
+  pub rows : rows_of (arc_value p.batch) ≡ rows_of b
+  pub typed : IsTableOf (arc_value h.schema) (rows_of b)
+  pub piece : AreStatsOf (arc_value h.schema) (rows_of b) (arc_value p.batch_stats).items
+  pub statistics : AreStatsOf (arc_value h.schema) (table_of (batches_of h) ++ rows_of b) (arc_value p.stats).items
+  pub texts : map (option_map arc_value) p.dictionaries.items ≡ dictionaries_of (arc_value h.schema) (table_of (batches_of h) ++ rows_of b)
+  pub front : AllZip NamesFront (arc_value p.batch).columns (map (option_map arc_value) p.dictionaries.items)

@@ -1,0 +1,92 @@
+//! A batch made ready for a table, before anything of the table changes.
+
+ghost use Rattle.std.specs.Prelude.{◌≡◌, ◌⊎◌, ◌++◌, All, IfErr, IfOk, None, OnErr, OnOk, Some};
+ghost use Rattle.std.specs.Arc.{arc_value};
+ghost use Rattle.std.specs.List.{AllZip};
+ghost use mathlib.Core.List.{IsPrefix};
+ghost use Rattle.arrays.specs.Batch.{rows_of};
+ghost use Rattle.arrays.specs.Typed.{IsItemOf};
+ghost use Rattle.table.specs.Cause.{batch_cause, early_cause};
+ghost use Rattle.table.specs.Held.{IsHeld, batches_of, show};
+ghost use Rattle.table.specs.Lawful.{table_of};
+ghost use Rattle.table.specs.Ready.{AreTexts, IsReady};
+
+use crate::columns::{Columns, cut_back, stored_columns};
+use crate::held::{Held, Prepared};
+use crate::refusal::Refusal;
+use crate::stats::{joined_all, stats_of_all};
+use arrays::{Array, RecordBatch};
+use pool::TextPool;
+use std::alloc::Global;
+use std::sync::Arc;
+
+/// Makes a batch ready. Nothing that the table shows changes: its pools have the new texts, and have them no more where
+/// the batch is refused. Nothing but its texts and the memory can stand against it here.
+pub(crate) fn prepare(
+    alloc: Global,
+    held: &Held,
+    pools: &mut Vec<TextPool>,
+    batch: &RecordBatch,
+) -> Result<Prepared, Refusal>
+    requires held { IsHeld held.now }
+    requires pools { AreTexts held.now (table_of (batches_of held.now)) pools.old.items }
+    requires allowed { early_cause (arc_value held.now.schema) (show held.now).history batch.now ≡ None }
+    ensures ok { IfOk result (λ p. IsReady held.now batch.now p) }
+    ensures pools { OnOk result (AreTexts held.now (table_of (batches_of held.now) ++ rows_of batch.now) pools.new.items) }
+    ensures err { IfErr result (λ e. (e ≡ Refusal.NoMemory)
+        ⊎ (batch_cause (arc_value held.now.schema) (show held.now).history batch.now ≡ Some e)) }
+    ensures kept { OnErr result (pools.new.items ≡ pools.old.items) }
+{
+    match recoded(alloc, held, pools, batch) {
+        Ok(prepared) => Ok(prepared),
+        Err(refusal) => {
+            cut_back(pools, &held.dictionaries);
+            Err(refusal)
+        }
+    }
+}
+
+/// The same where no other refusal stands, but the pools keep what was added where it fails.
+fn recoded(
+    alloc: Global,
+    held: &Held,
+    pools: &mut Vec<TextPool>,
+    batch: &RecordBatch,
+) -> Result<Prepared, Refusal>
+    requires held { IsHeld held.now }
+    requires pools { AreTexts held.now (table_of (batches_of held.now)) pools.old.items }
+    requires allowed { early_cause (arc_value held.now.schema) (show held.now).history batch.now ≡ None }
+    ensures ok { IfOk result (λ p. IsReady held.now batch.now p) }
+    ensures pools { OnOk result (AreTexts held.now (table_of (batches_of held.now) ++ rows_of batch.now) pools.new.items) }
+    ensures err { IfErr result (λ e. (e ≡ Refusal.NoMemory)
+        ⊎ (batch_cause (arc_value held.now.schema) (show held.now).history batch.now ≡ Some e)) }
+    ensures begun { AllZip IsPrefix pools.old.items pools.new.items }
+{
+    tell_all(batch.columns());
+    let Columns {
+        columns,
+        dictionaries,
+    } = stored_columns(alloc, &held.dictionaries, pools, batch.columns())?;
+    let batch_stats = stats_of_all(alloc, &columns)?;
+    let stats = joined_all(alloc, &held.stats, &batch_stats)?;
+    let schema = held.schema.copy(alloc)?;
+    let Ok(batch) = RecordBatch::new(schema, batch.rows(), columns) else {
+        // The columns are as long as those of the batch, and of the stored types.
+        unreachable!();
+    };
+    Ok(Prepared {
+        batch: Arc::new(alloc, batch)?,
+        batch_stats: Arc::new(alloc, batch_stats)?,
+        stats: Arc::new(alloc, stats)?,
+        dictionaries,
+    })
+}
+
+/// Says that each item of each column is null or of the column's kind.
+fn tell_all(columns: &[Array])
+    ensures { All (λ c. All (IsItemOf c.kind) c.items) columns.now }
+{
+    for column in columns {
+        column.view().tell_items();
+    }
+}

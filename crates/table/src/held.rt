@@ -1,0 +1,118 @@
+//! What a table holds: the same under its lock and in a version.
+
+ghost use Rattle.std.specs.Prelude.{◌≡◌, ◌+◌, ◌^◌, ◌≤◌, IfOk, OnOk, map, option_map};
+ghost use Rattle.std.specs.Arc.{arc_value};
+ghost use Rattle.table.specs.Held.{HasRoom, IsPut, IsSame};
+
+mod empty;
+
+use crate::entry::Entry;
+use arrays::{RecordBatch, Schema, Words};
+use colbits::NoMemory;
+use group::ColumnStats;
+use std::alloc::Global;
+use std::sync::Arc;
+
+/// The parts of a table. All but the numbers is shared by those who hold it.
+#[derive(Drop)]
+pub(crate) struct Held {
+    /// The fields as they are stored: each top-level text is dictionary-encoded.
+    pub(crate) schema: Arc<Schema>,
+    pub(crate) rows: u64,
+    pub(crate) batches: Vec<Arc<RecordBatch>>,
+    /// The statistics of each batch, one for each column.
+    pub(crate) batch_stats: Vec<Arc<Vec<ColumnStats>>>,
+    /// The statistics of each column.
+    pub(crate) stats: Arc<Vec<ColumnStats>>,
+    /// The newest dictionary of each column of texts.
+    pub(crate) dictionaries: Vec<Option<Arc<Words>>>,
+    pub(crate) book: Vec<Entry>,
+}
+
+/// A batch as it is stored, and what the table holds with it: all that is new.
+#[derive(Drop)]
+pub(crate) struct Prepared {
+    pub(crate) batch: Arc<RecordBatch>,
+    pub(crate) batch_stats: Arc<Vec<ColumnStats>>,
+    pub(crate) stats: Arc<Vec<ColumnStats>>,
+    pub(crate) dictionaries: Vec<Option<Arc<Words>>>,
+}
+
+impl Held {
+    /// Makes room for one batch more, so that putting it in can't fail.
+    pub(crate) fn reserve(&mut self) -> Result<(), NoMemory>
+        ensures room { OnOk result (HasRoom self.new) }
+        ensures same { IsSame self.old self.new }
+    {
+        self.batches.reserve(1)?;
+        self.batch_stats.reserve(1)?;
+        self.book.reserve(1)?;
+        Ok(())
+    }
+
+    /// Puts a prepared batch of a worker in. No memory is taken.
+    pub(crate) fn put_in(&mut self, worker: u32, new: Prepared)
+        requires room { HasRoom self.old }
+        requires few { self.old.rows + (arc_value new.batch).rows ≤ 2 ^ 40 }
+        ensures { IsPut worker new self.old self.new }
+    {
+        let Prepared {
+            batch,
+            batch_stats,
+            stats,
+            dictionaries,
+        } = new;
+        let rows = batch.rows();
+        self.batches.push_reserved(batch);
+        self.batch_stats.push_reserved(batch_stats);
+        self.book.push_reserved(Entry { worker, rows });
+        self.stats = stats;
+        self.dictionaries = dictionaries;
+        self.rows += u64::from(rows);
+    }
+
+    /// The same parts, shared: no column, no statistic and no text is copied.
+    pub(crate) fn share(&self, alloc: Global) -> Result<Held, NoMemory>
+        ensures { IfOk result (λ h. IsSame self.now h) }
+    {
+        let mut book = Vec::with_capacity(alloc, self.book.len())?;
+        book.extend_from_slice(&self.book)?;
+        Ok(Held {
+            schema: self.schema.clone()?,
+            rows: self.rows,
+            batches: all_shared(alloc, &self.batches)?,
+            batch_stats: all_shared(alloc, &self.batch_stats)?,
+            stats: self.stats.clone()?,
+            dictionaries: dictionaries_shared(alloc, &self.dictionaries)?,
+            book,
+        })
+    }
+}
+
+/// The same values, shared.
+fn all_shared<T: Drop>(alloc: Global, values: &[Arc<T>]) -> Result<Vec<Arc<T>>, NoMemory>
+    ensures { IfOk result (λ v. map arc_value v.items ≡ map arc_value values.now) }
+{
+    let mut all = Vec::with_capacity(alloc, values.len())?;
+    for value in values {
+        all.push(value.clone()?)?;
+    }
+    Ok(all)
+}
+
+/// The same dictionaries, shared.
+fn dictionaries_shared(
+    alloc: Global,
+    dictionaries: &[Option<Arc<Words>>],
+) -> Result<Vec<Option<Arc<Words>>>, NoMemory>
+    ensures { IfOk result (λ v. map (option_map arc_value) v.items ≡ map (option_map arc_value) dictionaries.now) }
+{
+    let mut all = Vec::with_capacity(alloc, dictionaries.len())?;
+    for dictionary in dictionaries {
+        all.push(match dictionary {
+            Some(words) => Some(words.clone()?),
+            None => None,
+        })?;
+    }
+    Ok(all)
+}

@@ -1,0 +1,74 @@
+//! A table before its first batch.
+
+ghost use Rattle.std.specs.Prelude.{◌≡◌, [], IfOk, List, map, option_map};
+ghost use Rattle.std.specs.Arc.{arc_value};
+ghost use Rattle.std.specs.List.{enumerate_from};
+ghost use Rattle.arrays.specs.Kind as kind;
+ghost use Rattle.arrays.specs.Shape.{fields_of};
+ghost use Rattle.arrays.specs.Shown.{shown};
+ghost use Rattle.table.specs.Held.{IsHeld, show};
+ghost use Rattle.table.specs.Lawful.{AreStatsOf, dictionaries_of};
+ghost use Rattle.table.specs.Stored.{stored_fields};
+
+use super::Held;
+use crate::stored::stored_schema;
+use arrays::{DataType, Field, Schema, ViewType, Words};
+use colbits::NoMemory;
+use group::ColumnStats;
+use pool::TextPool;
+use std::alloc::Global;
+use std::sync::Arc;
+
+impl Held {
+    /// Nothing yet, of the fields of a schema.
+    pub(crate) fn empty(alloc: Global, schema: Schema) -> Result<Held, NoMemory>
+        ensures held { IfOk result (λ h. IsHeld h) }
+        ensures shows { IfOk result (λ h. show h ≡ record { fields = stored_fields schema; history = []; batches = [] }) }
+    {
+        let schema = stored_schema(alloc, schema)?;
+        let stats = no_stats(alloc, schema.fields())?;
+        let dictionaries = no_entries(alloc, schema.fields())?;
+        Ok(Held {
+            schema: Arc::new(alloc, schema)?,
+            rows: 0,
+            batches: Vec::new(alloc),
+            batch_stats: Vec::new(alloc),
+            stats: Arc::new(alloc, stats)?,
+            dictionaries,
+            book: Vec::new(alloc),
+        })
+    }
+}
+
+/// The statistics of columns without rows.
+fn no_stats(alloc: Global, fields: &[Field]) -> Result<Vec<ColumnStats>, NoMemory>
+    ensures { IfOk result (λ v. AreStatsOf (fields_of fields.now) [] v.items) }
+{
+    let mut stats = Vec::with_capacity(alloc, fields.len())?;
+    for field in fields {
+        stats.push(ColumnStats::empty(ViewType::of(&field.ty)))?;
+    }
+    Ok(stats)
+}
+
+/// A dictionary without texts for each stored column of texts.
+fn no_entries(alloc: Global, fields: &[Field]) -> Result<Vec<Option<Arc<Words>>>, NoMemory>
+    ensures { IfOk result (λ v. map (option_map arc_value) v.items ≡ dictionaries_of (fields_of fields.now) []) }
+{
+    let mut dictionaries = Vec::with_capacity(alloc, fields.len())?;
+    for field in fields {
+        dictionaries.push(match field.ty {
+            DataType::Dict => Some(no_words(alloc)?),
+            _ => None,
+        })?;
+    }
+    Ok(dictionaries)
+}
+
+/// A dictionary without texts.
+fn no_words(alloc: Global) -> Result<Arc<Words>, NoMemory>
+    ensures { IfOk result (λ w. arc_value w ≡ shown kind.utf8 []) }
+{
+    let texts = TextPool::new(alloc).to_array(alloc)?;
+    Ok(Arc::new(alloc, Words::of(texts))?)
+}

@@ -1,0 +1,21 @@
+//! The table of one thread: batches admitted one after the other, and versions that show what was admitted.
+#![tactic(auto)]
+
+mod admission;
+mod cause;
+mod columns;
+pub mod entry;
+mod export;
+mod held;
+pub mod laws;
+mod nulls;
+pub mod refusal;
+pub mod state;
+mod stats;
+mod stored;
+pub mod version;
+
+pub use entry::Entry;
+pub use refusal::Refusal;
+pub use state::TableState;
+pub use version::Version;

@@ -1,0 +1,99 @@
+//! A table that grows, batch by batch.
+
+ghost use Rattle.std.specs.Prelude.{◌≡◌, ◌⊎◌, [], IfErr, IfOk, None, OnErr, OnOk, Some, length, replicate};
+ghost use Rattle.std.specs.Arc.{arc_value};
+ghost use Rattle.table.specs.Cause.{IsLegal, batch_cause, early_cause};
+ghost use Rattle.table.specs.Contents.{Contents, admitted};
+ghost use Rattle.table.specs.Stored.{stored_fields};
+
+use crate::admission::prepare;
+use crate::cause::early_refusal;
+use crate::held::Held;
+use crate::refusal::Refusal;
+use crate::version::Version;
+use arrays::{RecordBatch, Schema};
+use colbits::NoMemory;
+use pool::TextPool;
+use std::alloc::Global;
+use std::marker::Model;
+use std::sync::Arc;
+
+/// A table that batches are admitted to, one after the other.
+///
+/// Clauses see its fields as they are stored, what was added and by whom, and the rows of each batch.
+#[derive(Drop)]
+pub struct TableState {
+    alloc: Global,
+    held: Held,
+    /// The texts of each column, for columns of texts.
+    pools: Vec<TextPool>,
+}
+
+impl Model for TableState {
+    ghost use Rattle.table.specs.Contents.{Contents, contents_code};
+
+    ghost Value = { Contents };
+
+    ghost coded = { contents_code };
+
+    ghost use Rattle.table.specs.Held.{IsHeld, batches_of, show};
+    ghost use Rattle.table.specs.Lawful.{table_of};
+    ghost use Rattle.table.specs.Ready.{AreTexts};
+
+    ghost view = { λ s. show s.held };
+
+    ghost invariant = { λ s. IsHeld s.held × AreTexts s.held (table_of (batches_of s.held)) s.pools.items };
+}
+
+impl TableState {
+    /// An empty table for batches of the schema. Its stored schema has each top-level text dictionary-encoded.
+    pub fn new(alloc: Global, schema: Schema) -> Result<TableState, NoMemory>
+        ensures { IfOk result (λ t. t ≡ record { fields = stored_fields schema; history = []; batches = [] }) }
+    {
+        let count = schema.len();
+        let held = Held::empty(alloc, schema)?;
+        let pools = no_texts(alloc, count)?;
+        Ok(TableState { alloc, held, pools })
+    }
+
+    /// Adds a batch of a worker at the end, and gives the number of its entry in the book, from 0. A batch without rows
+    /// is admitted too. After a refusal the table is as it was. Want of memory is told only where nothing else stands that
+    /// can be told without any: the fields, a null, a full table or a full book. What was added is always a legal history.
+    pub fn admit(&mut self, worker: u32, batch: &RecordBatch) -> Result<u32, Refusal>
+        ensures number { IfOk result (λ n. n ≡ length self.old.history) }
+        ensures allowed { OnOk result (batch_cause self.old.fields self.old.history batch.now ≡ None) }
+        ensures added { OnOk result (self.new ≡ admitted self.old worker batch.now) }
+        ensures err { IfErr result (λ e. ((e ≡ Refusal.NoMemory) × (early_cause self.old.fields self.old.history batch.now ≡ None))
+            ⊎ (batch_cause self.old.fields self.old.history batch.now ≡ Some e)) }
+        ensures kept { OnErr result (self.new ≡ self.old) }
+        ensures legal { IsLegal self.new.fields self.new.history }
+    {
+        if let Some(refusal) = early_refusal(&self.held, batch) {
+            return Err(refusal);
+        }
+        let number = self.held.book.len() as u32;
+        self.held.reserve()?;
+        let new = prepare(self.alloc, &self.held, &mut self.pools, batch)?;
+        self.held.put_in(worker, new);
+        Ok(number)
+    }
+
+    /// The table as it is, to be shared and read. No column is copied.
+    pub fn version(&self) -> Result<Arc<Version>, NoMemory>
+        ensures { IfOk result (λ v. arc_value v ≡ self.now) }
+    {
+        let version = Version::of(self.held.share(self.alloc)?);
+        Ok(Arc::new(self.alloc, version)?)
+    }
+}
+
+/// So many pools without texts.
+fn no_texts(alloc: Global, count: usize) -> Result<Vec<TextPool>, NoMemory>
+    ensures { IfOk result (λ v. v.items ≡ replicate count []) }
+{
+    let mut pools = Vec::with_capacity(alloc, count)?;
+    for _column in 0..count {
+        pools.push(TextPool::new(alloc))?;
+    }
+    Ok(pools)
+}

@@ -1,0 +1,171 @@
+//! What a table holds at a moment.
+
+ghost use Rattle.std.specs.Prelude.{ℕ, ◌≡◌, ◌<◌, ◌≤◌, ◌^◌, All, IfErr, IfOk, Some, length, map, option_map, slice_get, slice_index_or, [], true};
+ghost use Rattle.std.specs.Arc.{arc_value};
+ghost use Rattle.std.specs.List.{AllByRecursion};
+ghost use Rattle.answers.specs.Answers.{IsAnswer, IsRefusal};
+ghost use Rattle.arrays.specs.Batch.{rows_of, column};
+ghost use Rattle.arrays.specs.Shape.{FieldShape, kind_of_field};
+ghost use Rattle.group.specs.Summary.{AreStats};
+ghost use Rattle.query.specs.Asked.{asked};
+ghost use Rattle.query.specs.Fault.{fits};
+ghost use Rattle.table.specs.Export.{IsLawful};
+ghost use Rattle.table.specs.Cause.{IsLegal};
+ghost use Rattle.table.specs.Held.{IsHeld, pair_of, show};
+ghost use Rattle.table.specs.History.{book, rows};
+ghost use Rattle.table.specs.Lawful.{EndsWithEntry, IsStored, NamesFronts, dictionaries_of, table_of};
+
+use crate::entry::Entry;
+use crate::export::file_of;
+use crate::held::Held;
+use answers::{Answer, Gate};
+use arrays::{File, RecordBatch, Schema, Words};
+use colbits::NoMemory;
+use group::ColumnStats;
+use query::{Query, QueryFault};
+use std::alloc::Global;
+use std::marker::Model;
+use std::sync::Arc;
+use std::thread::Threads;
+
+/// A table at a moment, to be read.
+///
+/// Clauses see its fields as they are stored, what was added and by whom, and the rows of each batch.
+#[derive(Drop)]
+pub struct Version {
+    held: Held,
+}
+
+impl Model for Version {
+    ghost use Rattle.table.specs.Contents.{Contents, contents_code};
+
+    ghost Value = { Contents };
+
+    ghost coded = { contents_code };
+
+    ghost use Rattle.table.specs.Held.{IsHeld, show};
+
+    ghost view = { λ v. show v.held };
+
+    ghost invariant = { λ v. IsHeld v.held };
+}
+
+impl Version {
+    /// The version of what a table holds.
+    pub(crate) fn of(held: Held) -> Version
+        requires { IsHeld held }
+        ensures { result ≡ show held }
+    {
+        Version { held }
+    }
+
+    /// The fields as they are stored.
+    pub fn schema(&self) -> &Schema
+        ensures { result.now ≡ self.now.fields }
+    {
+        &self.held.schema
+    }
+
+    /// How many rows there are.
+    pub fn rows(&self) -> u64
+        ensures count { result ≡ length (rows self.now.history) }
+        ensures few { result ≤ 2 ^ 40 }
+        ensures legal { IsLegal self.now.fields self.now.history }
+    {
+        self.held.rows
+    }
+
+    /// The batches, in the order in which they came: their rows, one batch after the other, are those of the table. Each ends where an entry of the book ends, and a dictionary that one
+    /// of its columns names begins that of the table's column, so that codes mean the same text in both.
+    pub fn batches(&self) -> &[Arc<RecordBatch>]
+        ensures value { map (λ b. rows_of (arc_value b)) result.now ≡ self.now.batches }
+        ensures lawful { All (λ b. IsStored self.now.fields (arc_value b)) result.now }
+        ensures rows { table_of (map arc_value result.now) ≡ rows self.now.history }
+        ensures ends { (i : ℕ) → i ≤ length result.now → EndsWithEntry (map arc_value result.now) (book self.now.history) i }
+        ensures fronts { All (λ b. NamesFronts self.now.fields (rows self.now.history) (arc_value b)) result.now }
+    {
+        &self.held.batches
+    }
+
+    /// The statistics of column `k` of batch `b`.
+    pub fn batch_stats(&self, b: usize, k: usize) -> &ColumnStats
+        requires batch { b < length self.now.batches }
+        requires column { k < length self.now.fields }
+        ensures { (f : FieldShape) → slice_get self.now.fields k ≡ Some f
+            → AreStats result.now (kind_of_field f) (column (slice_index_or self.now.batches b []) k) }
+    {
+        &self.held.batch_stats[b][k]
+    }
+
+    /// The statistics of column `k`.
+    pub fn stats(&self, k: usize) -> &ColumnStats
+        requires { k < length self.now.fields }
+        ensures { (f : FieldShape) → slice_get self.now.fields k ≡ Some f
+            → AreStats result.now (kind_of_field f) (column (rows self.now.history) k) }
+    {
+        &self.held.stats[k]
+    }
+
+    /// The dictionary of column `k`, none where it isn't one of texts: its distinct texts in order of first appearance.
+    pub fn dictionary(&self, k: usize) -> Option<&Words>
+        requires { k < length self.now.fields }
+        ensures { slice_get (dictionaries_of self.now.fields (rows self.now.history)) k ≡ Some (option_map (λ w. w.now) result) }
+    {
+        match &self.held.dictionaries[k] {
+            Some(words) => Some(words),
+            None => None,
+        }
+    }
+
+    /// What the query answers over all rows, batch after batch. The number of pieces, from 1 to 64, says on how many threads
+    /// they may be looked at, and changes nothing of the answer.
+    ///
+    /// # Errors
+    /// `Overflow` with the least of the rows where a part of the filter is outside its type; `NoMemory` where a growth was refused.
+    pub fn answer<T: Threads + Sync, G: Gate>(
+        &self,
+        threads: &T,
+        alloc: Global,
+        query: &Query,
+        pieces: u32,
+        gate: &G,
+    ) -> Result<Answer, QueryFault>
+        requires fits { fits self.now.fields (asked query.now) ≡ true }
+        requires some { 1 ≤ pieces }
+        requires most { pieces ≤ 64 }
+        ensures ok { IfOk result (IsAnswer self.now.fields (asked query.now) (rows self.now.history)) }
+        ensures err { IfErr result (IsRefusal self.now.fields (asked query.now) (rows self.now.history)) }
+    {
+        // They are few enough, as is said with their number.
+        let _rows = self.rows();
+        answers::answer(threads, alloc, self.batches(), query, pieces, gate)
+    }
+
+    /// The stored schema, and one batch for each entry of the book: what each call added, in its order. A batch that one
+    /// call added whole is shared; the rows of an entry that are a part of one are copied, save that dictionaries are shared.
+    /// `NoMemory` where a growth was refused.
+    pub fn export(&self, alloc: Global) -> Result<File, NoMemory>
+        ensures fields { IfOk result (λ f. f.fields ≡ self.now.fields) }
+        ensures tables { IfOk result (λ f. map rows_of f.batches ≡ map (λ e. e.1) self.now.history) }
+        ensures under { IfOk result (λ f. AllByRecursion (λ b. b.fields ≡ f.fields) f.batches) }
+        ensures lawful { IfOk result (λ f. AllByRecursion IsLawful f.batches) }
+        ensures legal { IsLegal self.now.fields self.now.history }
+    {
+        file_of(alloc, &self.held)
+    }
+
+    /// How many entries the book has: one for each accepted call.
+    pub fn book_len(&self) -> u32
+        ensures { result ≡ length self.now.history }
+    {
+        self.held.book.len() as u32
+    }
+
+    /// Entry `i` of the book.
+    pub fn book_at(&self, i: u32) -> Entry
+        requires { i < length self.now.history }
+        ensures { slice_get (book self.now.history) i ≡ Some (pair_of result) }
+    {
+        self.held.book[i as usize]
+    }
+}
