@@ -1,0 +1,107 @@
+//! What workers append, and what is gathered of it.
+
+ghost use Rattle.std.specs.Prelude.{◌≡◌};
+
+use arrays::{RecordBatch, Schema};
+use samples::{Flat, INT8, Parts, Sample, field, sampled};
+use shared::{Entry, GatherCause, GatherFault, Refusal, Version, open};
+use std::alloc::Global;
+use std::marker::Brand;
+use std::process::Abort;
+use std::sync::Wait;
+use std::sync::ledger::{Blank, Ledger};
+use std::test::Fail;
+
+const SEVEN_AND_NINE: Parts = (Flat::Int(INT8), 2, &[None, Some(&[7, 9])]);
+
+/// So many rows without columns.
+fn rows_of(alloc: Global, rows: u32) -> Result<RecordBatch, Fail> {
+    Ok(RecordBatch::new(Schema::new(Vec::new(alloc))?, rows, Vec::new(alloc))?)
+}
+
+/// Two rows of a column of numbers of this name.
+fn numbers(alloc: Global, name: &str) -> Result<RecordBatch, Fail> {
+    let array = sampled(alloc, Sample::Of(SEVEN_AND_NINE))?;
+    let fields = vec![in alloc; field(alloc, name, true, array.ty().copy(alloc)?)?]?;
+    Ok(RecordBatch::new(Schema::new(fields)?, 2, vec![in alloc; array]?)?)
+}
+
+#[test]
+fn two_workers_append(rt: HostRuntime) -> Result<(), Fail> {
+    appended::<Brand, Brand, _>(&rt, rt.alloc(), Blank::new(2), Blank::new(2))
+}
+
+/// The first worker appends 2 rows, the second 3, the first none; the first alone isn't all.
+fn appended<C: Ledger, Q: Ledger, R: Wait + Abort>(
+    rt: &R,
+    alloc: Global,
+    calls: Blank,
+    rows: Blank,
+) -> Result<(), Fail>
+    requires calls { (calls.name ≡ C.name) × (calls.parts ≡ C.parts) × (calls.parts ≡ 2) }
+    requires rows { (rows.name ≡ Q.name) × (rows.parts ≡ Q.parts) × (rows.parts ≡ 2) }
+{
+    let schema = Schema::new(Vec::new(alloc))?;
+    let (table, mut workers) = open::<C, Q>(alloc, schema, 2, calls, rows)?;
+    let mut second = workers.pop().expect(rt, "two workers");
+    let mut first = workers.pop().expect(rt, "two workers");
+    assert!(rt; first.number() == 0 && second.number() == 1);
+    let one = table.append(rt, &mut first, &rows_of(alloc, 2)?)?;
+    let two = table.append(rt, &mut second, &rows_of(alloc, 3)?)?;
+    let three = table.append(rt, &mut first, &rows_of(alloc, 0)?)?;
+    assert!(rt; one.entry() == 0 && two.entry() == 1 && three.entry() == 2);
+    assert!(rt; first.calls() == 2 && first.rows() == 2);
+    assert!(rt; second.calls() == 1 && second.rows() == 3);
+    let seen = table.snapshot(rt, &mut second)?;
+    assert!(rt; seen.rows() == 5 && seen.book_len() == 3);
+    workers.push(first)?;
+    let GatherFault {
+        cause,
+        table,
+        mut workers,
+    } = table.gather(rt, workers).err().expect(rt, "one is missing");
+    assert!(rt; cause == GatherCause::WorkerMissing { number: 1 });
+    workers.push(second)?;
+    let gathered = table.gather(rt, workers).ok().expect(rt, "all are there");
+    assert!(rt; gathered.workers.len() == 2);
+    let version = &*gathered.version;
+    assert!(rt; version.rows() == 5 && version.book_len() == 3);
+    expect_entry(rt, version, 0, Entry { worker: 0, rows: 2 });
+    expect_entry(rt, version, 1, Entry { worker: 1, rows: 3 });
+    expect_entry(rt, version, 2, Entry { worker: 0, rows: 0 });
+    Ok(())
+}
+
+/// Asserts what the book's entry at this place says.
+fn expect_entry(rt: &impl Abort, version: &Version, place: u32, entry: Entry) {
+    assert!(rt; place < version.book_len());
+    assert!(rt; version.book_at(place) == entry);
+}
+
+#[test]
+fn a_batch_with_other_names_is_refused(rt: HostRuntime) -> Result<(), Fail> {
+    refused::<Brand, Brand, _>(&rt, rt.alloc(), Blank::new(1), Blank::new(1))
+}
+
+/// A batch with another name for its column changes nothing; one with the table's name is appended.
+fn refused<C: Ledger, Q: Ledger, R: Wait + Abort>(
+    rt: &R,
+    alloc: Global,
+    calls: Blank,
+    rows: Blank,
+) -> Result<(), Fail>
+    requires calls { (calls.name ≡ C.name) × (calls.parts ≡ C.parts) × (calls.parts ≡ 1) }
+    requires rows { (rows.name ≡ Q.name) × (rows.parts ≡ Q.parts) × (rows.parts ≡ 1) }
+{
+    let batch = numbers(alloc, "s")?;
+    let schema = batch.schema().copy(alloc)?;
+    let (table, mut workers) = open::<C, Q>(alloc, schema, 1, calls, rows)?;
+    let mut worker = workers.pop().expect(rt, "one worker");
+    let other = table.append(rt, &mut worker, &numbers(alloc, "t")?);
+    assert!(rt; other == Err(Refusal::SchemaDiffers { column: 0 }));
+    assert!(rt; worker.calls() == 0 && worker.rows() == 0);
+    let receipt = table.append(rt, &mut worker, &batch)?;
+    assert!(rt; receipt.entry() == 0 && worker.calls() == 1 && worker.rows() == 2);
+    assert!(rt; table.snapshot(rt, &mut worker)?.rows() == 2);
+    Ok(())
+}
