@@ -1,6 +1,6 @@
 -- What the proofs of this crate share.
-pub mod ListLemmas
 pub mod SameLemmas
+pub mod ListLemmas
 pub mod FirstsLemmas
 pub mod RowLemmas
 pub mod TallyLemmas
@@ -16,6 +16,9 @@ pub mod RunLemmas
 pub mod MaskLemmas
 pub mod FieldLemmas
 pub mod AnsweringLemmas
+pub mod KindLemmas
 pub mod MergeLemmas
+pub mod MergedLemmas
 pub mod PieceLemmas
+pub mod WholeLemmas
 pub mod SendingLemmas

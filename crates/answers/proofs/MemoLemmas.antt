@@ -188,7 +188,16 @@ learned keys new m n z x key is h more at null_is learns =
       },
     )
 
--- ---- one row after the other
+-- ---- one key after the other
+
+pushed_key : (initial keys new front more : Keys) (key : List Item) (numbers : List ℕ) (n : ℕ) → more ≡ front ++ key ∷ []
+    → keys ≡ with_keys initial front → AreNumbers keys front numbers → IsNumbered keys new key n
+    → (new ≡ with_keys initial more) × AreNumbers new more (numbers ++ n ∷ [])
+pushed_key initial keys new front more key numbers n longer are at step = (
+  step.keys_are ∙ ap (λ l. insert_key same_key l key) are
+      ∙ sym (ap (λ l. with_keys initial l) longer ∙ fold_push (insert_key same_key) initial front key),
+  subst (λ l. AreNumbers new l (numbers ++ n ∷ [])) (sym longer) (numbers-push keys new front key numbers n step.keys_are at step.there),
+)
 
 pub next_number : (by : List ℕ) (columns : List Seen) (rows : List ℕ) (i : ℕ) (initial keys new : Keys) (numbers : List ℕ) (n : ℕ) → i < length rows
     → keys ≡ with_keys initial (keys_at by columns (take i rows)) → AreNumbers keys (keys_at by columns (take i rows)) numbers
@@ -196,14 +205,15 @@ pub next_number : (by : List ℕ) (columns : List Seen) (rows : List ℕ) (i : �
     → (new ≡ with_keys initial (keys_at by columns (take (i + 1) rows))) × AreNumbers new (keys_at by columns (take (i + 1) rows)) (numbers ++ n ∷ [])
 next_number by columns rows i initial keys new numbers n below are at step =
     let row = get_or rows i 0 in
-    let key = key_of by (row_of columns row) in
-    let front = keys_at by columns (take i rows) in
-    let more : keys_at by columns (take (i + 1) rows) ≡ front ++ key ∷ [] =
-    ap (keys_at by columns) (take_more rows i 0 below) ∙ map-append (λ r. key_of by (row_of columns r)) (take i rows) (row ∷ []) in (
-      step.keys_are ∙ ap (λ l. insert_key same_key l key) are
-          ∙ sym (ap (λ l. with_keys initial l) more ∙ fold_push (insert_key same_key) initial front key),
-      subst (λ l. AreNumbers new l (numbers ++ n ∷ [])) (sym more) (numbers-push keys new front key numbers n step.keys_are at step.there),
-    )
+    pushed_key initial keys new (keys_at by columns (take i rows)) (keys_at by columns (take (i + 1) rows)) (key_of by (row_of columns row)) numbers n
+    (ap (keys_at by columns) (take_more rows i 0 below) ∙ map-append (λ r. key_of by (row_of columns r)) (take i rows) (row ∷ []))
+    are at step
+
+pub next_key : (wanted : Keys) (i : ℕ) (initial keys new : Keys) (numbers : List ℕ) (n : ℕ) → i < length wanted
+    → keys ≡ with_keys initial (take i wanted) → AreNumbers keys (take i wanted) numbers → IsNumbered keys new (slice_index_or wanted i []) n
+    → (new ≡ with_keys initial (take (i + 1) wanted)) × AreNumbers new (take (i + 1) wanted) (numbers ++ n ∷ [])
+next_key wanted i initial keys new numbers n below are at step =
+    pushed_key initial keys new (take i wanted) (take (i + 1) wanted) (slice_index_or wanted i []) numbers n (take_more wanted i [] below) are at step
 
 module _ (view column : Seen) (code : Option ℤ) (row : ℕ) (is : view ≡ encoded (codes_of view) (dictionary_of view)) (of : column ≡ codes_of view)
     (item : slice_index_or column.items row null ≡ item_of code) where

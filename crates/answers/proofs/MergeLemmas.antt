@@ -25,6 +25,7 @@ use Rattle.answers.specs.Columns.{ColumnShape, column_of}
 use Rattle.answers.specs.Grouping.{IsGrouped, tables_of}
 use Rattle.answers.specs.Groups.{key_of, keys_of, rows_of_key}
 use Rattle.answers.specs.Keys.{AreNumbers, with_keys}
+use Rattle.answers.specs.Kinds.{IsComparable}
 use Rattle.answers.specs.Merging.{merged, put_all, spread_all}
 use Rattle.answers.specs.Same.{same_key}
 use Rattle.answers.specs.Spread.{padded}
@@ -141,21 +142,25 @@ tables-merged by rows more new ks numbers apart once are h =
     ap (λ b. rows_of_key by rows x ++ cond b (rows_of_key by more x) []) absent ∙ ap (λ (t : Table). rows_of_key by rows x ++ t) (sym none))
     ∙ sym (filter-append (λ (r : Row). same_key x (key_of by r)) rows more))
 
--- The groups of the rows, and those of the rows behind them whose keys have these numbers, are together the groups of all.
-pub groups-merged : (by : List ℕ) (aggs : List (Agg ℕ)) (rows more : Table) (keys ks new : Keys) (columns others changed : List ColumnShape) (numbers : List ℕ)
-    → IsGrouped by aggs rows keys columns → IsGrouped by aggs more ks others → new ≡ with_keys keys ks → AreNumbers new ks numbers
-    → changed ≡ map (column_of (spread_all numbers (tables_of by more ks) (padded (length new) [] (tables_of by rows keys)))) aggs
-    → IsGrouped by aggs (rows ++ more) new changed
-groups-merged by aggs rows more keys ks new columns others changed numbers a b is at changes =
-    let apart : IsDistinct same_key new = subst (IsDistinct same_key) (sym is) (distinct-more keys ks a.apart) in
-    let tables : padded (length new) [] (tables_of by rows keys) ≡ tables_of by rows new =
-    ap (λ (l : Keys). padded (length l) [] (tables_of by rows keys)) is ∙ tables-padded by rows keys ks a.keys_are ∙ ap (tables_of by rows) (sym is) in
-    record {
-      keys_are = is ∙ ap (λ (l : Keys). with_keys l ks) a.keys_are ∙ ap (with_keys (keys_of by rows)) b.keys_are ∙ sym (keys-merged by rows more);
-      apart = apart;
-      columns_are = changes ∙ ap (λ (l : List Table). map (column_of (spread_all numbers (tables_of by more ks) l)) aggs) tables
-          ∙ ap (λ (l : List Table). map (column_of l) aggs) (tables-merged by rows more new ks numbers apart b.apart b.keys_are at);
-    }
+module _ (by : List ℕ) (aggs : List (Agg ℕ)) (rows more : Table) (keys ks new : Keys) (columns others : List ColumnShape) (numbers : List ℕ)
+    (a : IsGrouped by aggs rows keys columns) (b : IsGrouped by aggs more ks others) (is : new ≡ with_keys keys ks) (at : AreNumbers new ks numbers) where
+  new_apart : IsDistinct same_key new
+  new_apart = subst (IsDistinct same_key) (sym is) (distinct-more keys ks a.apart)
+
+  pub spread_tables : spread_all numbers (tables_of by more ks) (padded (length new) [] (tables_of by rows keys)) ≡ tables_of by (rows ++ more) new
+  spread_tables =
+      ap (spread_all numbers (tables_of by more ks))
+      (ap (λ (l : Keys). padded (length l) [] (tables_of by rows keys)) is ∙ tables-padded by rows keys ks a.keys_are ∙ ap (tables_of by rows) (sym is))
+      ∙ tables-merged by rows more new ks numbers new_apart b.apart b.keys_are at
+
+  -- The groups of the rows, and those of the rows behind them whose keys have these numbers, are together the groups of all.
+  pub groups-merged : (changed : List ColumnShape) → changed ≡ map (column_of (spread_all numbers (tables_of by more ks) (padded (length new) [] (tables_of by rows keys)))) aggs
+      → IsGrouped by aggs (rows ++ more) new changed
+  groups-merged changed changes = record {
+    keys_are = is ∙ ap (λ (l : Keys). with_keys l ks) a.keys_are ∙ ap (with_keys (keys_of by rows)) b.keys_are ∙ sym (keys-merged by rows more);
+    apart = new_apart;
+    columns_are = changes ∙ ap (λ (l : List Table). map (column_of l) aggs) spread_tables;
+  }
 
 -- ---- what an aggregate knows of both
 
@@ -199,34 +204,37 @@ held-one kind.dict (boolean b) plain h = absurd h
 held-one kind.dict (text s) plain h = refl
 held-one kind.dict (list l) plain h = absurd h
 
-held-ordered : (k : Kind) (xs : List Item) → is_list k ≡ false → All (IsItemOf k) xs → held xs ≡ ordered k xs
-held-ordered k [] plain h = refl
-held-ordered k (x ∷ xs) plain h =
-    ap (λ b. cond b (x ∷ held xs) (held xs)) (held-one k x plain (All-head (IsItemOf k) x xs h))
-    ∙ ap (λ l. cond (is_ordered k x) (x ∷ l) l) (held-ordered k xs plain (All-tail (IsItemOf k) x xs h))
+held-ordered : (k : Kind) (xs : List Item) → All (λ x. (is_list k ≡ false) × IsItemOf k x) xs → held xs ≡ ordered k xs
+held-ordered k [] h = refl
+held-ordered k (x ∷ xs) h =
+    let P : Item → Type 0 = λ y. (is_list k ≡ false) × IsItemOf k y in
+    let here = All-head P x xs h in
+    ap (λ b. cond b (x ∷ held xs) (held xs)) (held-one k x here.0 here.1)
+    ∙ ap (λ l. cond (is_ordered k x) (x ∷ l) l) (held-ordered k xs (All-tail P x xs h))
 
--- The items are of one kind, which isn't one of lists: the least of items of several kinds depends on the order in which they are compared.
-pub tally-merged : (a : Agg ℕ) (k : Kind) (xs ys : List Item) → is_list k ≡ false → All (IsItemOf k) xs → All (IsItemOf k) ys
-    → tally_of a (xs ++ ys) ≡ merged a (tally_of a xs) (tally_of a ys)
-tally-merged agg.Rows k xs ys plain are more = ap counted (length-append xs ys)
-tally-merged (agg.Count c) k xs ys plain are more = ap counted (ap (λ (l : List Item). length l) (held-append xs ys) ∙ length-append (held xs) (held ys))
-tally-merged (agg.Sum c) k xs ys plain are more =
+-- The least of items of several kinds would depend on the order in which they are compared.
+pub tally-merged : (kinds : ℕ → Kind) (a : Agg ℕ) (xs ys : List Item) → All (IsComparable kinds a) xs → All (IsComparable kinds a) ys → tally_of a (xs ++ ys) ≡ merged a (tally_of a xs) (tally_of a ys)
+tally-merged kinds agg.Rows xs ys are more = ap counted (length-append xs ys)
+tally-merged kinds (agg.Count c) xs ys are more = ap counted (ap (λ (l : List Item). length l) (held-append xs ys) ∙ length-append (held xs) (held ys))
+tally-merged kinds (agg.Sum c) xs ys are more =
     ap summed (filter_map-append number_of xs ys)
     ∙ ap (λ n. summed_as n (reduce ◌+ℤ◌ (numbers_of xs ++ numbers_of ys))) (length-append (numbers_of xs) (numbers_of ys))
     ∙ ap (summed_as (length (numbers_of xs) + length (numbers_of ys))) (sum-append (numbers_of xs) (numbers_of ys))
-tally-merged (agg.Least c) k xs ys plain are more =
+tally-merged kinds (agg.Least c) xs ys are more =
+    let k = kinds c in
     ap (λ l. bettered (reduce lesser l)) (held-append xs ys)
-    ∙ ap (λ l. bettered (reduce lesser (l ++ held ys))) (held-ordered k xs plain are)
-    ∙ ap (λ l. bettered (reduce lesser (ordered k xs ++ l))) (held-ordered k ys plain more)
+    ∙ ap (λ l. bettered (reduce lesser (l ++ held ys))) (held-ordered k xs are)
+    ∙ ap (λ l. bettered (reduce lesser (ordered k xs ++ l))) (held-ordered k ys more)
     ∙ ap (λ l. bettered (reduce lesser l)) (sym (filter-append (is_ordered k) xs ys))
     ∙ ap bettered (least-append k xs ys)
-    ∙ ap (λ l. bettered (better lesser (reduce lesser l) (least_of k ys))) (sym (held-ordered k xs plain are))
-    ∙ ap (λ l. bettered (better lesser (reduce lesser (held xs)) (reduce lesser l))) (sym (held-ordered k ys plain more))
-tally-merged (agg.Greatest c) k xs ys plain are more =
+    ∙ ap (λ l. bettered (better lesser (reduce lesser l) (least_of k ys))) (sym (held-ordered k xs are))
+    ∙ ap (λ l. bettered (better lesser (reduce lesser (held xs)) (reduce lesser l))) (sym (held-ordered k ys more))
+tally-merged kinds (agg.Greatest c) xs ys are more =
+    let k = kinds c in
     ap (λ l. bettered (reduce greater l)) (held-append xs ys)
-    ∙ ap (λ l. bettered (reduce greater (l ++ held ys))) (held-ordered k xs plain are)
-    ∙ ap (λ l. bettered (reduce greater (ordered k xs ++ l))) (held-ordered k ys plain more)
+    ∙ ap (λ l. bettered (reduce greater (l ++ held ys))) (held-ordered k xs are)
+    ∙ ap (λ l. bettered (reduce greater (ordered k xs ++ l))) (held-ordered k ys more)
     ∙ ap (λ l. bettered (reduce greater l)) (sym (filter-append (is_ordered k) xs ys))
     ∙ ap bettered (greatest-append k xs ys)
-    ∙ ap (λ l. bettered (better greater (reduce greater l) (greatest_of k ys))) (sym (held-ordered k xs plain are))
-    ∙ ap (λ l. bettered (better greater (reduce greater (held xs)) (reduce greater l))) (sym (held-ordered k ys plain more))
+    ∙ ap (λ l. bettered (better greater (reduce greater l) (greatest_of k ys))) (sym (held-ordered k xs are))
+    ∙ ap (λ l. bettered (better greater (reduce greater (held xs)) (reduce greater l))) (sym (held-ordered k ys more))

@@ -6,7 +6,7 @@ use Rattle.std.specs.List.{IsDistinct, list_any}
 use Rattle.std.specs.Str.{bytes_eq}
 use Rattle.std.proofs.lemmas.Bool.{eqb-true, eqb-false}
 use Rattle.std.proofs.lemmas.Cmp.{nat_list_eq_equiv}
-use Rattle.std.proofs.lemmas.List.{map-append, take_more, get_or_append_left}
+use Rattle.std.proofs.lemmas.List.{map-append, length-map, take_more, get_or-map, get_or_append_left}
 use Rattle.std.proofs.lemmas.List.Elements.{All-head, All-tail, All-push, All-weaker, All-get_or}
 use Rattle.std.proofs.lemmas.Map.Keys.{apart_from_distinct}
 use Rattle.std.proofs.lemmas.Option.{slice_get-map, slice_get_within, get_or_from_slice_get}
@@ -98,11 +98,28 @@ module _ (ts us : List (List ℕ)) (begins : IsPrefix ts us) where
       ∙ ap (λ x. key_of (take i by) row ++ x ∷ []) item
       ∙ sym (ap (λ l. key_of l row) (take_more by i 0 below) ∙ map-append (λ c. slice_index_or row c null) (take i by) (get_or by i 0 ∷ []))
 
+  -- One part more, for one that names other texts.
+  pub rename-push : (others : List (List ℕ)) (parts : List Part) (i : ℕ) (ps new : List Part) (p d : Part) → i < length parts
+      → key_of_parts ts ps ≡ key_of_parts others (take i parts) → All (IsWithin (length ts)) ps → item_of_part us p ≡ item_of_part others (get_or parts i d)
+      → new ≡ ps ++ p ∷ [] → key_of_parts us new ≡ key_of_parts others (take (i + 1) parts)
+  rename-push others parts i ps new p d below key within item is =
+      ap (key_of_parts us) is ∙ map-append (item_of_part us) ps (p ∷ [])
+      ∙ ap (λ l. l ++ item_of_part us p ∷ []) (key-grown ps within ∙ key)
+      ∙ ap (λ x. key_of_parts others (take i parts) ++ x ∷ []) item
+      ∙ sym (ap (key_of_parts others) (take_more parts i d below) ∙ map-append (item_of_part others) (take i parts) (get_or parts i d ∷ []))
+
   pub within-push : (ps new : List Part) (p : Part) → All (IsWithin (length ts)) ps → IsWithin (length us) p → new ≡ ps ++ p ∷ [] → All (IsWithin (length us)) new
   within-push ps new p within here is =
       subst (All (IsWithin (length us))) (sym is) (All-push (IsWithin (length us)) ps p (All-weaker (IsWithin (length ts)) (IsWithin (length us)) within-grown ps within) here)
 
 -- ---- keys in a set
+
+pub key_there : (ts : List (List ℕ)) (ks : List (ArrayVec Part)) (keys : List (List Item)) (n : ℕ) (k : ArrayVec Part) → keys_shown ts ks ≡ keys
+    → n < length keys → k ≡ get_or ks n k → key_of_parts ts k.items ≡ slice_index_or keys n []
+key_there ts ks keys n k are below is =
+    let key : ArrayVec Part → List Item = λ l. key_of_parts ts l.items in
+    let within : n < length ks = omega (arith, below, ap length are, length-map ks key) in
+    ap key is ∙ sym (get_or-map key ks n k [] within) ∙ ap (λ l. slice_index_or l n []) are
 
 module _ (ts : List (List ℕ)) (once : IsDistinct bytes_eq ts) where
   texts_same : (m n : ℕ) → m < length ts → n < length ts → eqb m n ≡ bytes_eq (get_or ts m []) (get_or ts n [])

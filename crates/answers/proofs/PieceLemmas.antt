@@ -1,12 +1,13 @@
 -- The rows of a piece, batch by batch.
-use Rattle.std.proofs.Common.{◌≡◌, ◌∙◌, ℕ, zero, suc, ◌+◌, ◌-◌, ◌<◌, ◌≤◌, List, [], ◌∷◌, ◌++◌, length, map, take, drop, get_or, position, Option, Some, All, refl, sym, ap, subst, arith, length-append, zero-add}
-use Rattle.std.specs.Prelude.{◌*◌, ◌/◌, Err, IfErr, IfOk, Ok, Result, false, is_none, min}
-use Rattle.std.proofs.Math.Nat.{div-mul-le_self}
+use Rattle.std.proofs.Common.{◌≡◌, ◌∙◌, ℕ, zero, suc, ◌+◌, ◌-◌, ◌<◌, ◌≤◌, Bool, true, not, cond, List, [], ◌∷◌, ◌++◌, length, map, take, drop, get_or, position, Option, Some, None, All, refl, sym, ap, subst, arith, length-append, take-append-drop, zero-add, le_refl}
+use Rattle.std.specs.Prelude.{◌*◌, ◌/◌, Err, IfErr, IfOk, Ok, Result, false, is_none, min, nat_lt}
+use Rattle.std.proofs.Math.Nat.{div-le_of_le-mul, div-mul-le_self, mul-div_cancel, mul-zero, mul_comm, zero-div}
+use Rattle.std.proofs.lemmas.Bool.{lt-ltb, ltb-true}
 use Rattle.std.proofs.lemmas.Nat.{le-div, mul-le}
-use Rattle.std.specs.List.{range_with_len}
+use Rattle.std.specs.List.{position_or_len, range_with_len}
 use Rattle.std.proofs.lemmas.Grind.{common_steps}
-use Rattle.std.proofs.lemmas.List.{length-drop, length-take}
-use Rattle.std.proofs.lemmas.List.Elements.{All-append, All-cons, All-nil}
+use Rattle.std.proofs.lemmas.List.{append_assoc, length-drop, length-take, take_all}
+use Rattle.std.proofs.lemmas.List.Elements.{All-append, All-cons, All-drop, All-head, All-nil, All-tail, All-take}
 use Rattle.colbits.proofs.BitLemmas.{map-range-same}
 use Rattle.arrays.specs.Batch.{Batch, Row, Table, row_of, rows_of}
 use Rattle.evaluate.specs.Slices.{row_in}
@@ -16,7 +17,7 @@ use Rattle.query.specs.Tree.{Tree}
 use Rattle.query.specs.declared.queries.Query.{Query}
 use Rattle.answers.specs.Answers.{all_rows}
 use Rattle.answers.specs.Groups.{is_bad, verdict}
-use Rattle.answers.specs.Pieces.{HasRun, IsGood, IsPiece, IsPieceRefusal, between, cut_at}
+use Rattle.answers.specs.Pieces.{HasRun, IsGood, IsPiece, IsPieceRefusal, between, cut_at, piece}
 use Rattle.query.specs.declared.fault.QueryFault.{QueryFault}
 use Rattle.answers.specs.Runs.{AreSound, HasKept, IsBadRow, rows_in}
 use Rattle.answers.specs.declared.grouping.Grouping.{Grouping}
@@ -24,6 +25,7 @@ use Rattle.answers.proofs.AnsweringLemmas.{bad_alike, few_next, first_at, has_ke
 use Rattle.answers.proofs.AnsweringLemmas.{rows_split as rows_apart}
 use Rattle.answers.proofs.GroupLemmas.{take_past}
 use Rattle.answers.proofs.RunLemmas.{length-rows_in, rows_split}
+use Rattle.answers.proofs.SameLemmas.{either}
 
 pub none_between : (from to : ℕ) → between from to [] ≡ []
 none_between zero zero = refl
@@ -181,3 +183,79 @@ is_piece fields q rows pieces place from to (Ok g) first last ok err =
 is_piece fields q rows pieces place from to (Err e) first last ok err =
     subst (λ n. IsPieceRefusal fields (asked q).filter n (between n (cut_at (length rows) pieces (place + 1)) rows) e) first
     (subst (λ n. IsPieceRefusal fields (asked q).filter from (between from n rows) e) last err)
+
+pub first_cut : (rows pieces : ℕ) → cut_at rows pieces 0 ≡ 0
+first_cut rows pieces = ap (λ n. n / pieces) (mul-zero rows) ∙ zero-div pieces
+
+pub last_cut : (rows pieces : ℕ) → 1 ≤ pieces → cut_at rows pieces pieces ≡ rows
+last_cut rows pieces one = mul-div_cancel rows (omega (arith, one))
+
+pub cuts_within : (rows pieces place : ℕ) → place ≤ pieces → cut_at rows pieces place ≤ rows
+cuts_within rows pieces place within =
+    div-le_of_le-mul pieces (omega (arith, mul-le rows place rows pieces (le_refl rows) within, mul_comm rows pieces))
+
+-- ---- the rows of one piece more
+
+pub front_next : (rows : Table) (from to : ℕ) → from ≤ to → between 0 to rows ≡ between 0 from rows ++ between from to rows
+front_next [] from to order =
+    none_between 0 to ∙ sym (ap (λ (l : Table). l ++ between from to []) (none_between 0 from) ∙ none_between from to)
+front_next (r ∷ rows) zero to order = refl
+front_next (r ∷ rows) (suc from) zero order = absurd (omega (arith, order))
+front_next (r ∷ rows) (suc from) (suc to) order = ap (λ (l : Table). r ∷ l) (front_next rows from to (omega (arith, order)))
+
+pub pieces_next : (rows : Table) (pieces place : ℕ) → 1 ≤ pieces
+    → between 0 (cut_at (length rows) pieces (place + 1)) rows ≡ between 0 (cut_at (length rows) pieces place) rows ++ piece pieces place rows
+pieces_next rows pieces place one =
+    front_next rows (cut_at (length rows) pieces place) (cut_at (length rows) pieces (place + 1)) (cuts_rise (length rows) pieces place one)
+
+pub front_whole : (rows : Table) → between 0 (length rows) rows ≡ rows
+front_whole rows = take_all (length rows) rows (le_refl (length rows))
+
+pub all_between : (P : Row → Type 0) (from to : ℕ) (rows : Table) → All P rows → All P (between from to rows)
+all_between P from to rows h = All-drop P from (take to rows) (All-take P to rows h)
+
+-- ---- the first place where a test passes, in a piece
+
+module _ (p : Row → Bool) where
+  behind_front : (front rows : Table) → All (λ r. p r ≡ false) front → position_or_len p (front ++ rows) ≡ length front + position_or_len p rows
+  behind_front [] rows h = sym (zero-add (position_or_len p rows))
+  behind_front (r ∷ front) rows h =
+      ap (λ b. cond (not b) (1 + position_or_len p (front ++ rows)) 0) (All-head (λ r. p r ≡ false) r front h)
+      ∙ omega (arith, behind_front front rows (All-tail (λ r. p r ≡ false) r front h))
+
+  before_rest : (rows rest : Table) → position_or_len p rows < length rows → position_or_len p (rows ++ rest) ≡ position_or_len p rows
+  before_rest [] rest h = absurd (omega (arith, h))
+  before_rest (r ∷ rows) rest h =
+      either (p r)
+      (λ passes. ap (λ b. cond (not b) (1 + position_or_len p (rows ++ rest)) 0) passes ∙ sym (ap (λ b. cond (not b) (1 + position_or_len p rows) 0) passes))
+      (λ fails.
+      let later : 1 + position_or_len p rows < suc (length rows) = subst (λ b. cond (not b) (1 + position_or_len p rows) 0 < suc (length rows)) fails h in
+      ap (λ b. cond (not b) (1 + position_or_len p (rows ++ rest)) 0) fails
+      ∙ ap (λ n. 1 + n) (before_rest rows rest (omega (arith, later)))
+      ∙ sym (ap (λ b. cond (not b) (1 + position_or_len p rows) 0) fails))
+
+  where_found : (rows : Table) (n : ℕ) → position p rows ≡ Some n → (position_or_len p rows ≡ n) × (n < length rows)
+  where_found rows n h = go (nat_lt (position_or_len p rows) (length rows)) refl h where
+    go : (b : Bool) → nat_lt (position_or_len p rows) (length rows) ≡ b → cond b (Some (position_or_len p rows)) None ≡ Some n
+        → (position_or_len p rows ≡ n) × (n < length rows)
+    go true is found =
+        let at : position_or_len p rows ≡ n = cc in
+        (at, omega (arith, at, ltb-true (position_or_len p rows) (length rows) is))
+    go false is found = absurd cc
+
+  -- Where no row before the piece passes, the first of the piece is the first of all.
+  pub bad_in_piece : (rows : Table) (from to n : ℕ) → from ≤ to → from ≤ length rows → All (λ r. p r ≡ false) (between 0 from rows)
+      → position p (between from to rows) ≡ Some n → position p rows ≡ Some (from + n)
+  bad_in_piece rows from to n order within good here =
+      let front = between 0 from rows in
+      let part = between from to rows in
+      let rest = drop to rows in
+      let found = where_found part n here in
+      let split : rows ≡ front ++ (part ++ rest) =
+      sym (take-append-drop to rows) ∙ ap (λ (l : Table). l ++ rest) (front_next rows from to order) ∙ append_assoc front part rest in
+      let place : position_or_len p rows ≡ from + n =
+      ap (position_or_len p) split ∙ behind_front front (part ++ rest) good
+      ∙ omega (arith, within, length-between 0 from rows, found.0, before_rest part rest (omega (arith, found.0, found.1))) in
+      let inside : position_or_len p rows < length rows =
+      omega (arith, place, found.1, within, length-between 0 from rows, ap length split, length-append front (part ++ rest), length-append part rest) in
+      ap (λ b. cond b (Some (position_or_len p rows)) None) (lt-ltb (position_or_len p rows) (length rows) inside) ∙ ap Some place

@@ -6,7 +6,7 @@ use Rattle.arrays.specs.Item.{Item, null}
 use Rattle.arrays.specs.Kind as kind
 use Rattle.arrays.specs.Kind.{Kind}
 use Rattle.arrays.specs.Slot.{is_list, is_int}
-use Rattle.types.specs.Shape.{FieldShape, boolean, field}
+use Rattle.types.specs.Shape.{FieldShape, boolean, field, kind_of_field}
 use Rattle.query.specs.Columns.{sort_at}
 use Rattle.query.specs.Fault.{fault_unless}
 use Rattle.query.specs.Sorts as sorts
@@ -17,7 +17,9 @@ use Rattle.query.specs.declared.sort.Sort.{Sort}
 use Rattle.arrays.specs.Seen.{Seen, valid_at}
 use Rattle.arrays.specs.Values.{valid_values}
 use Rattle.evaluate.proofs.ColumnLemmas.{whole, field_there, sort_there, row_item, place_within}
+use Rattle.answers.specs.Kinds.{kind_at}
 use Rattle.answers.specs.Rows.{IsColumn}
+use Rattle.std.proofs.lemmas.List.{get_or-map}
 use Rattle.std.proofs.lemmas.List.FromFn.{get_or-map-range_with_len}
 
 -- A lawful batch has a column where a position has a sort.
@@ -33,6 +35,15 @@ is_column b place c lawful ok is =
       len = ap (λ (s : Seen). length s.items) is ∙ w.len place c below;
       item = λ i inside. ap (λ (s : Seen). slice_index_or s.items i null) is ∙ sym (row_item b.columns i place c below);
     }
+
+-- The column at a place is of the kind of the field there.
+pub kind_there : (b : Batch) (place : ℕ) (c : Seen) → batch_fault b.fields b.rows b.columns ≡ None → is_ok (sort_at b.fields place) ≡ true
+    → c ≡ get_or b.columns place c → c.kind ≡ kind_at b.fields place
+kind_there b place c lawful ok is =
+    let f : FieldShape = field [] false boolean in
+    ap (λ (s : Seen). s.kind) is
+    ∙ (whole b.fields b.rows b.columns lawful).kind place c f (place_within b place lawful ok)
+    ∙ sym (get_or-map kind_of_field b.fields place f kind.boolean (field_there b.fields place ok))
 
 -- The value where the slot is valid, else null.
 pub valid_item : (value : ℕ → Item) (s : Seen) (i : ℕ) (b : Bool) → s.items ≡ valid_values value s → i < length s.items → valid_at s i ≡ b

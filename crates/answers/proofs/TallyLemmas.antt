@@ -97,7 +97,7 @@ best_is : (end : End) (c : ℕ) (xs : List Item) → tally_of (agg_at end c) xs 
 best_is Least c xs = refl
 best_is Greatest c xs = refl
 
-not_better : (end : End) (o : Option Item) (x : Item) → is_null x ≡ true → is_better end o x ≡ false
+pub not_better : (end : End) (o : Option Item) (x : Item) → is_null x ≡ true → is_better end o x ≡ false
 not_better end None x h = ap not h
 not_better Least (Some null) null h = refl
 not_better Least (Some (int z)) null h = refl
@@ -115,11 +115,11 @@ module _ (picked : Item → Item → Item) (test : Item → Item → Bool) (more
   better-item : (xs : List Item) (x : Item) (b : Item) → fold picked b (xs ++ x ∷ []) ≡ (if test (fold picked b xs) x then x else fold picked b xs)
   better-item xs x b = fold_push picked b xs x ∙ more (fold picked b xs) x
 
-some_cond : (b : Bool) (x y : Item) → cond b (Some x) (Some y) ≡ Some (cond b x y)
+pub some_cond : (b : Bool) (x y : Item) → cond b (Some x) (Some y) ≡ Some (cond b x y)
 some_cond true x y = refl
 some_cond false x y = refl
 
-item_first : (end : End) (x : Item) → is_null x ≡ false → with_item end None x ≡ Some x
+pub item_first : (end : End) (x : Item) → is_null x ≡ false → with_item end None x ≡ Some x
 item_first end x is = ap (λ b. cond (not b) (Some x) None) is
 
 with_more : (end : End) (ys : List Item) (x : Item) → is_null x ≡ false → with_item end (reduce (pick end) ys) x ≡ reduce (pick end) (ys ++ x ∷ [])

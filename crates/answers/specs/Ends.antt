@@ -17,6 +17,10 @@ abbrev pub is_further : End → Item → Item → Bool
 is_further Least x y = is_gt (order x y)
 is_further Greatest x y = is_gt (order y x)
 
+-- The one of two items that is further to the end, the first where neither is.
+abbrev pub further : End → Item → Item → Item
+further end x y = if is_further end x y then y else x
+
 -- Whether the item is the first one, or further than the best one so far.
 abbrev pub is_better : End → Option Item → Item → Bool
 is_better end None y = not (is_null y)

@@ -13,6 +13,7 @@ pub mod Parts
 pub mod Keys
 pub mod Memo
 pub mod Grouping
+pub mod Kinds
 pub mod Merging
 pub mod Runs
 pub mod Masks

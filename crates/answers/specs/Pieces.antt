@@ -1,5 +1,5 @@
 -- Pieces of the rows of all batches.
-use Rattle.std.specs.Prelude.{◌≡◌, ◌⊎◌, ℕ, ◌+◌, ◌*◌, ◌/◌, false, List, Option, Some, Result, Ok, Err, All, length, position, take, drop}
+use Rattle.std.specs.Prelude.{◌≡◌, ◌⊎◌, ◌<◌, ◌≤◌, ◌^◌, ℕ, ◌+◌, ◌*◌, ◌/◌, false, List, Option, Some, Result, Ok, Err, All, length, position, slice_index_or, take, drop}
 use Rattle.arrays.specs.Batch.{Row, Table}
 use Rattle.types.specs.Shape.{FieldShape}
 use Rattle.query.specs.Asked.{asked}
@@ -8,6 +8,7 @@ use Rattle.query.specs.declared.fault.QueryFault.{QueryFault}
 use Rattle.query.specs.declared.fault.QueryFault.TheVariants.{Overflow, NoMemory}
 use Rattle.query.specs.declared.queries.Query.{Query}
 use Rattle.answers.specs.Groups.{is_bad}
+use Rattle.answers.specs.Kinds.{AreComparable, kind_at}
 use Rattle.answers.specs.Runs.{HasKept}
 use Rattle.answers.specs.declared.grouping.Grouping.{Grouping}
 
@@ -39,3 +40,10 @@ piece pieces place rows = between (cut_at (length rows) pieces place) (cut_at (l
 abbrev pub IsPiece : List FieldShape → Query → Table → ℕ → ℕ → Result Grouping QueryFault → Type 0
 IsPiece fields q rows pieces place (Ok g) = HasRun fields q (piece pieces place rows) g
 IsPiece fields q rows pieces place (Err e) = IsPieceRefusal fields (asked q).filter (cut_at (length rows) pieces place) (piece pieces place rows) e
+
+-- The pieces of rows, of which there are no more than a table may have, and whose items can be compared.
+pub record ArePieces (fields : List FieldShape) (q : Query) (rows : Table) (looked : List (Result Grouping QueryFault)) : Type 0 where
+  pub some : 1 ≤ length looked
+  pub few : length rows ≤ 2 ^ 40
+  pub comparable : All (AreComparable (kind_at fields) q.aggs.items) rows
+  pub each : (place : ℕ) (r : Result Grouping QueryFault) → place < length looked → IsPiece fields q rows (length looked) place (slice_index_or looked place r)

@@ -1,7 +1,7 @@
 -- What is known of the rows that a query keeps, slice by slice.
-use Rattle.std.specs.Prelude.{◌≡◌, ◌+◌, ◌<◌, ◌≤◌, ◌^◌, ℕ, Bool, true, false, List, Option, Some, None, Result, Ok, Err, unwrap_or, filter, length, map, ⊤}
+use Rattle.std.specs.Prelude.{◌≡◌, ◌+◌, ◌<◌, ◌≤◌, ◌^◌, ℕ, Bool, true, false, List, Option, Some, None, unwrap_or, filter, length, map, ⊤}
 use Rattle.std.specs.List.{range_with_len}
-use Rattle.arrays.specs.Batch.{Batch, Table, rows_of}
+use Rattle.arrays.specs.Batch.{Batch, Table}
 use Rattle.arrays.specs.Item.{Item}
 use Rattle.types.specs.Shape.{FieldShape}
 use Rattle.query.specs.Asked.{asked}
@@ -63,8 +63,3 @@ HasKept fields q rows g = HasGroups q (filter (is_kept fields (asked q).filter) 
 -- There are so many rows more than have come, and together no more than a table may have.
 abbrev pub HasRoomFor : List FieldShape → Query → ℕ → Grouping → Type 0
 HasRoomFor fields q n g = (rows : Table) × (length rows + n ≤ 2 ^ 40) × HasKept fields q rows g
-
--- What is known of a batch once all of its rows were looked at.
-abbrev pub IsLookedAt : Query → Batch → Result Grouping Stop → Type 0
-IsLookedAt q b (Ok g) = HasKept b.fields q (rows_of b) g × AreSound b 0 b.rows (asked q).filter
-IsLookedAt q b (Err e) = StopsAt b 0 b.rows (asked q).filter e

@@ -1,19 +1,20 @@
 //! Queries over batches.
 
-ghost use Rattle.std.specs.Prelude.{◌≡◌, ◌≤◌, ◌^◌, All, IfErr, IfOk, length, map, true};
+ghost use Rattle.std.specs.Prelude.{◌≡◌, ◌≤◌, ◌^◌, All, IfErr, IfOk, List, length, map, true};
 ghost use Rattle.std.specs.Arc.{arc_value};
-ghost use Rattle.arrays.specs.Batch.{Batch};
-ghost use Rattle.types.specs.Shape.{kind_of_field};
+ghost use Rattle.arrays.specs.Batch.{Batch, Table};
+ghost use Rattle.types.specs.Shape.{FieldShape, kind_of_field};
 ghost use Rattle.query.specs.Asked.{asked};
 ghost use Rattle.query.specs.Fault.{fits};
 ghost use Rattle.answers.specs.Answers.{IsAnswer, IsRefusal, all_rows, first_fields};
+ghost use Rattle.answers.specs.Pieces.{ArePieces, HasRun, IsPieceRefusal};
 
+use crate::counting::count_all;
 use crate::gate::Gate;
 use crate::grouping::Grouping;
 use crate::groups::Answer;
-use crate::run::add_batch;
+use crate::piece::look_at_pieces;
 use arrays::RecordBatch;
-use evaluate::stop::Stop;
 use query::{Query, QueryFault};
 use std::alloc::Global;
 use std::sync::Arc;
@@ -23,14 +24,15 @@ use std::thread::Threads;
 ///
 /// The batches are of the same types, whatever their fields' names, and the query fits each of them, which no batches meet too. The
 /// groups stand in order of first appearance; a query without keys has one group, also over no rows.
-/// The number of pieces, from 1 to 64, says on how many threads the rows may be looked at, and changes nothing of the answer: today
-/// they are looked at as one piece, whose `gate` is passed once, before its first row.
+/// The rows are cut into so many neighbouring pieces, from 1 to 64, within batches too, and each is looked at in a thread of its own.
+/// It passes the `gate` once, as its piece's work number 0, before its first row, where the piece has none too. The number of pieces
+/// changes nothing of the answer.
 ///
 /// # Errors
 /// `Overflow` with the least of all rows where a part of the filter is outside its type, whatever stands round that part;
 /// `NoMemory` where a growth was refused.
 pub fn answer<T: Threads + Sync, G: Gate>(
-    _threads: &T,
+    threads: &T,
     alloc: Global,
     batches: &[Arc<RecordBatch>],
     query: &Query,
@@ -45,35 +47,26 @@ pub fn answer<T: Threads + Sync, G: Gate>(
     ensures ok { IfOk result (IsAnswer (first_fields (map arc_value batches.now)) (asked query.now) (all_rows (map arc_value batches.now))) }
     ensures err { IfErr result (IsRefusal (first_fields (map arc_value batches.now)) (asked query.now) (all_rows (map arc_value batches.now))) }
 {
-    gate.pass(0, 0);
-    answer_in_one(alloc, batches, query)
+    let rows = count_all(batches, query);
+    let looked = look_at_pieces(threads, alloc, batches, query, rows, pieces, gate)?;
+    let whole = merge_pieces(alloc, query, looked)?;
+    Ok(whole.tell(alloc)?)
 }
 
-/// What the query answers over the rows of all batches, as one piece: `Overflow` with the least of these rows where the filter is bad,
-/// or `NoMemory` where a growth was refused.
-fn answer_in_one(
+/// The groups of all rows, whose pieces stand in their order: the first piece with a bad row has the least one.
+fn merge_pieces(
     alloc: Global,
-    batches: &[Arc<RecordBatch>],
     query: &Query,
-) -> Result<Answer, QueryFault>
-    requires types { All (λ (b : Batch). map kind_of_field b.fields ≡ map kind_of_field (first_fields (map arc_value batches.now))) (map arc_value batches.now) }
-    requires fits { All (λ (b : Batch). fits b.fields (asked query.now) ≡ true) (map arc_value batches.now) }
-    requires few { length (all_rows (map arc_value batches.now)) ≤ 2 ^ 40 }
-    ensures ok { IfOk result (IsAnswer (first_fields (map arc_value batches.now)) (asked query.now) (all_rows (map arc_value batches.now))) }
-    ensures err { IfErr result (IsRefusal (first_fields (map arc_value batches.now)) (asked query.now) (all_rows (map arc_value batches.now))) }
+    looked: Vec<Result<Grouping, QueryFault>>,
+) -> Result<Grouping, QueryFault>
+    requires { (fields : List FieldShape) × (rows : Table) × ArePieces fields query.now rows looked.items }
+    ensures ok { (fields : List FieldShape) (rows : Table) → ArePieces fields query.now rows looked.items → IfOk result (HasRun fields query.now rows) }
+    ensures err { (fields : List FieldShape) (rows : Table) → ArePieces fields query.now rows looked.items
+        → IfErr result (IsPieceRefusal fields (asked query.now).filter 0 rows) }
 {
-    let mut grouping = Grouping::new(alloc, query)?;
-    let mut before: u64 = 0;
-    for batch in batches {
-        match add_batch(alloc, &mut grouping, query, batch) {
-            Ok(()) => before += u64::from(batch.rows()),
-            Err(Stop::Bad(row)) => {
-                return Err(QueryFault::Overflow {
-                    row: before + row as u64,
-                });
-            }
-            Err(Stop::NoMemory) => return Err(QueryFault::NoMemory),
-        }
+    let mut whole = Grouping::new(alloc, query)?;
+    for piece in looked {
+        whole.merge(alloc, piece?)?;
     }
-    Ok(grouping.tell(alloc)?)
+    Ok(whole)
 }

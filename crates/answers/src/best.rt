@@ -5,6 +5,7 @@ ghost use Rattle.std.specs.Ordering.{is_gt};
 ghost use Rattle.kernels.specs.Order.{order};
 ghost use Rattle.group.specs.Summary.{scalar_item};
 ghost use Rattle.arrays.specs.Item.{is_null};
+ghost use Rattle.answers.specs.Answers.{item_in};
 ghost use Rattle.answers.specs.Ends.{is_better, is_further, item_if_any, with_item};
 ghost use Rattle.answers.specs.Values.{item_of_value};
 
@@ -58,6 +59,18 @@ fn owned(alloc: Global, value: Value<'_>) -> Result<Option<Scalar>, NoMemory>
         Value::Int(number) => Ok(Some(Scalar::Int(number))),
         Value::Bool(truth) => Ok(Some(Scalar::Bool(truth))),
         Value::Text(text) => Ok(Some(Scalar::Text(String::from_str(alloc, text)?))),
+    }
+}
+
+/// The item of a value, null where there is none.
+pub(crate) fn value_of(value: &Option<Scalar>) -> Value<'_>
+    ensures { item_of_value result ≡ item_in value.entry.now }
+{
+    match value {
+        Some(Scalar::Int(number)) => Value::Int(*number),
+        Some(Scalar::Bool(truth)) => Value::Bool(*truth),
+        Some(Scalar::Text(text)) => Value::Text(text.as_str()),
+        None => Value::Null,
     }
 }
 

@@ -2,7 +2,8 @@
 
 ghost use Rattle.std.specs.Prelude.{◌≡◌, ◌^◌, ◌≤ℤ◌, None, neg_ℤ, option_map, pos};
 ghost use Rattle.arrays.specs.Item.{int};
-ghost use Rattle.answers.specs.Ends.{number_if_any, with_item};
+ghost use Rattle.group.specs.Joined.{better};
+ghost use Rattle.answers.specs.Ends.{further, number_if_any, with_item};
 
 use crate::end::{End, is_further};
 
@@ -32,6 +33,21 @@ impl BestNumber {
     {
         if self.number == NONE || is_further(end, self.number, number) {
             BestNumber { number }
+        } else {
+            self
+        }
+    }
+
+    /// The further one of both.
+    #[inline(always)]
+    pub(crate) fn or_better(self, end: End, other: BestNumber) -> BestNumber
+        ensures { number_if_any result.number ≡ better (further end) (number_if_any self.number) (number_if_any other.number) }
+    {
+        if self.number == NONE {
+            return other;
+        }
+        if other.number != NONE && is_further(end, self.number, other.number) {
+            other
         } else {
             self
         }

@@ -2,6 +2,7 @@
 
 ghost use Rattle.std.specs.Prelude.{◌≡◌, ◌<◌, ◌≤◌, ◌+◌, ◌^◌, ◌++◌, [], All, IfOk, List, None, OnOk, ℕ, length, map, true};
 ghost use Rattle.arrays.specs.Batch.{Batch, Table, row_of};
+ghost use Rattle.arrays.specs.Kind.{Kind};
 ghost use Rattle.query.specs.Asked.{asked};
 ghost use Rattle.query.specs.Columns.{sort_at};
 ghost use Rattle.query.specs.Fault.{agg_fault, fits};
@@ -10,6 +11,8 @@ ghost use Rattle.answers.specs.Answers.{item_in, shape_of};
 ghost use Rattle.answers.specs.Columns.{ColumnShape, column_of, show_column, told_at};
 ghost use Rattle.answers.specs.Grouping.{CountsRows, HasGroups, HasRoom, IsColumnOf, IsGrouped, IsReadyFor};
 ghost use Rattle.answers.specs.Groups.{grouped};
+ghost use Rattle.answers.specs.Kinds.{AreComparable};
+ghost use Rattle.answers.specs.Merging.{AreAlike, spread_all};
 ghost use Rattle.answers.specs.Spread.{padded, spread};
 ghost use Rattle.answers.specs.Tallies.{tally_of};
 
@@ -100,6 +103,30 @@ impl Grouping {
         self.columns[0].add_count(rows)
     }
 
+    /// Adds the groups of rows that come behind.
+    pub(crate) fn merge(&mut self, alloc: Global, other: Grouping) -> Result<(), NoMemory>
+        requires room { (q : Query) × (kinds : ℕ → Kind) × (rows : Table) × (more : Table) × (length rows + length more ≤ 2 ^ 40)
+            × HasGroups q rows self.old × HasGroups q more other
+            × All (AreComparable kinds q.aggs.items) rows × All (AreComparable kinds q.aggs.items) more }
+        ensures { (q : Query) (kinds : ℕ → Kind) (rows more : Table) → HasGroups q rows self.old → HasGroups q more other
+            → All (AreComparable kinds q.aggs.items) rows → All (AreComparable kinds q.aggs.items) more
+            → OnOk result (HasGroups q (rows ++ more) self.new) }
+    {
+        if self.keys.len() == 0 {
+            *self = other;
+            return Ok(());
+        }
+        self.keys.number_all(&other.keys, &mut self.numbers)?;
+        let groups = self.keys.len();
+        join_columns(
+            alloc,
+            &mut self.columns,
+            groups,
+            &other.columns,
+            &self.numbers,
+        )
+    }
+
     /// The groups: of each its key, and what is told of its rows.
     pub(crate) fn tell(&self, alloc: Global) -> Result<Answer, NoMemory>
         requires { All (λ c. length (show_column c).tallies ≡ length self.now.keys) self.now.columns.items }
@@ -154,6 +181,33 @@ fn add_to_columns(
 {
     for i in 0..columns.len() {
         columns[i].extend(alloc, groups, batch, rows, numbers)?;
+    }
+    Ok(())
+}
+
+/// Adds the columns of the rows behind, beside which the numbers of their groups stand. There are so many groups then.
+fn join_columns(
+    alloc: Global,
+    columns: &mut [TallyColumn],
+    groups: usize,
+    others: &[TallyColumn],
+    numbers: &[usize],
+) -> Result<(), NoMemory>
+    requires same { map (λ c. (show_column c).agg) others.now ≡ map (λ c. (show_column c).agg) columns.old }
+    requires inside { All (λ n. n < groups) numbers.now }
+    requires few { (kinds : ℕ → Kind) × (tables : List Table) × (more : List Table)
+        × All (IsColumnOf tables) columns.old × All (IsColumnOf more) others.now
+        × All (λ c. AreAlike kinds tables (show_column c).agg) columns.old × All (λ c. AreAlike kinds more (show_column c).agg) columns.old
+        × (length tables ≤ groups) × (length more ≡ length numbers.now)
+        × All (λ t. length t ≤ 2 ^ 40) (spread_all numbers.now more (padded groups [] tables)) }
+    ensures { (kinds : ℕ → Kind) (tables more : List Table)
+        → All (IsColumnOf tables) columns.old → All (IsColumnOf more) others.now
+        → All (λ c. AreAlike kinds tables (show_column c).agg) columns.old → All (λ c. AreAlike kinds more (show_column c).agg) columns.old
+        → OnOk result (map show_column columns.new
+        ≡ map (λ c. column_of (spread_all numbers.now more (padded groups [] tables)) (show_column c).agg) columns.old) }
+{
+    for i in 0..columns.len() {
+        columns[i].join(alloc, groups, &others[i], numbers)?;
     }
     Ok(())
 }

@@ -5,11 +5,12 @@ ghost use Rattle.arrays.specs.Item.{Item};
 ghost use Rattle.arrays.specs.Slot.{is_list};
 ghost use Rattle.answers.specs.Columns.{show_item, show_number};
 ghost use Rattle.answers.specs.Ends.{agg_at};
+ghost use Rattle.answers.specs.Merging.{merge_all};
 ghost use Rattle.answers.specs.Picked.{items_at};
 ghost use Rattle.answers.specs.Spread.{padded, spread};
 ghost use Rattle.answers.specs.Tallies.{AreTallies};
 
-use crate::best::put_better;
+use crate::best::{put_better, value_of};
 use crate::best_number::BestNumber;
 use crate::end::End;
 use crate::value::value_in;
@@ -38,6 +39,25 @@ pub(crate) fn add_items(
         let number = numbers[i];
         let value = value_in(view, rows[i]);
         put_better(alloc, &mut bests[number], end, value)?;
+    }
+    Ok(())
+}
+
+/// Adds the bests of other groups, beside which the numbers of their groups stand.
+pub(crate) fn merge_items(
+    alloc: Global,
+    bests: &mut [Option<Scalar>],
+    end: End,
+    others: &[Option<Scalar>],
+    numbers: &[usize],
+) -> Result<(), NoMemory>
+    requires lengths { length numbers.now ≡ length others.now }
+    requires inside { All (λ n. n < length bests.old) numbers.now }
+    ensures { OnOk result (map show_item bests.new ≡ merge_all (agg_at end 0) numbers.now (map show_item others.now) (map show_item bests.old)) }
+{
+    for i in 0..others.len() {
+        let number = numbers[i];
+        put_better(alloc, &mut bests[number], end, value_of(&others[i]))?;
     }
     Ok(())
 }

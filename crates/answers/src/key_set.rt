@@ -1,6 +1,6 @@
 //! The keys of groups, each once.
 
-ghost use Rattle.std.specs.Prelude.{◌≡◌, ◌<◌, ◌≤◌, [], All, IfOk, None, OnOk, Some, length, map, slice_get};
+ghost use Rattle.std.specs.Prelude.{◌≡◌, ◌<◌, ◌≤◌, [], All, IfOk, None, OnOk, Some, length, map, slice_get, slice_index_or};
 ghost use mathlib.Core.List.{IsPrefix};
 ghost use Rattle.arrays.specs.Batch.{row_of};
 ghost use Rattle.indexmap.specs.IndexSet.{insert_key};
@@ -8,6 +8,7 @@ ghost use Rattle.query.specs.Columns.{sort_at};
 ghost use Rattle.query.specs.Fault.{key_fault};
 ghost use Rattle.answers.specs.Answers.{item_in};
 ghost use Rattle.answers.specs.Groups.{key_of};
+ghost use Rattle.answers.specs.Keys.{AreNumbers, with_keys};
 ghost use Rattle.answers.specs.Parts.{IsWithin, item_of_part, key_of_parts};
 ghost use Rattle.answers.specs.Same.{same_key};
 ghost use Rattle.answers.specs.Values.{item_of_value};
@@ -111,6 +112,37 @@ impl KeySet {
     }
 }
 
+impl KeySet {
+    /// Puts the number of each key of the other set in place of what was there. A key that is new is put at the end.
+    pub(crate) fn number_all(
+        &mut self,
+        other: &KeySet,
+        numbers: &mut Vec<usize>,
+    ) -> Result<(), NoMemory>
+        ensures keys { OnOk result (self.new ≡ with_keys self.old other.now) }
+        ensures numbers { OnOk result (AreNumbers self.new other.now numbers.new.items) }
+    {
+        numbers.clear();
+        for place in 0..other.len() {
+            numbers.push(self.number_of_key(other, place)?)?;
+        }
+        Ok(())
+    }
+
+    /// The number of a key of another set, which is put at the end where it is new.
+    fn number_of_key(&mut self, other: &KeySet, place: usize) -> Result<usize, NoMemory>
+        requires { place < length other.now }
+        ensures keys { OnOk result (self.new ≡ insert_key same_key self.old (slice_index_or other.now place [])) }
+        ensures number { IfOk result (λ n. slice_get self.new n ≡ Some (slice_index_or other.now place [])) }
+    {
+        let keys = other.keys.as_slice();
+        let parts = renamed_parts(&mut self.texts, &other.texts, keys[place].as_slice())?;
+        let _len = self.texts.len();
+        let (number, _is_new) = self.keys.insert_full(parts)?;
+        Ok(number)
+    }
+}
+
 /// The items that parts stand for; none is null.
 fn items_of(alloc: Global, texts: &TextSet, parts: &[Part]) -> Result<Vec<Option<Scalar>>, NoMemory>
     requires { All (IsWithin (length texts.now)) parts.now }
@@ -128,14 +160,11 @@ fn item_of(alloc: Global, texts: &TextSet, part: Part) -> Result<Option<Scalar>,
     requires { IsWithin (length texts.now) part }
     ensures { IfOk result (λ s. item_in s ≡ item_of_part texts.now part) }
 {
-    match part {
-        Part::Null => Ok(None),
-        Part::Int(number) => Ok(Some(Scalar::Int(number))),
-        Part::Bool(truth) => Ok(Some(Scalar::Bool(truth))),
-        Part::Text(place) => match texts.text_at(place) {
-            Some(text) => Ok(Some(Scalar::Text(String::from_str(alloc, text)?))),
-            None => unreachable!(),
-        },
+    match value_of(texts, part) {
+        Value::Null => Ok(None),
+        Value::Int(number) => Ok(Some(Scalar::Int(number))),
+        Value::Bool(truth) => Ok(Some(Scalar::Bool(truth))),
+        Value::Text(text) => Ok(Some(Scalar::Text(String::from_str(alloc, text)?))),
     }
 }
 
@@ -159,6 +188,42 @@ fn parts_of(
         parts.push(part_of(texts, value)?);
     }
     Ok(parts)
+}
+
+/// The parts that stand for the same items as these, which name other texts. Their texts are among the texts then.
+fn renamed_parts(
+    texts: &mut TextSet,
+    others: &TextSet,
+    parts: &[Part],
+) -> Result<ArrayVec<Part, 4>, NoMemory>
+    requires few { length parts.now ≤ 4 }
+    requires named { All (IsWithin (length others.now)) parts.now }
+    ensures key { IfOk result (λ k. key_of_parts texts.new k.items ≡ key_of_parts others.now parts.now) }
+    ensures within { IfOk result (λ k. All (IsWithin (length texts.new)) k.items) }
+    ensures begins { IsPrefix texts.old texts.new }
+{
+    let mut renamed = ArrayVec::new();
+    for part in parts {
+        let value = value_of(others, *part);
+        renamed.push(part_of(texts, value)?);
+    }
+    Ok(renamed)
+}
+
+/// The item that a part stands for.
+fn value_of(texts: &TextSet, part: Part) -> Value<'_>
+    requires { IsWithin (length texts.now) part }
+    ensures { item_of_value result ≡ item_of_part texts.now part }
+{
+    match part {
+        Part::Null => Value::Null,
+        Part::Int(number) => Value::Int(number),
+        Part::Bool(truth) => Value::Bool(truth),
+        Part::Text(place) => match texts.text_at(place) {
+            Some(text) => Value::Text(text),
+            None => unreachable!(),
+        },
+    }
 }
 
 /// The part that stands for an item. Its text is among the texts then.

@@ -87,7 +87,8 @@ pub(crate) fn look_at_pieces<T: Threads + Sync, G: Gate>(
     requires rows { rows ≡ length (all_rows (map arc_value batches.now)) }
     requires one { 1 ≤ pieces }
     requires most { pieces ≤ 64 }
-    ensures { let bs = map arc_value batches.now in
+    ensures len { IfOk result (λ v. length v.items ≡ pieces) }
+    ensures each { let bs = map arc_value batches.now in
         IfOk result (λ v. (place : ℕ) (r : Result _ _) → place < pieces
         → IsPiece (first_fields bs) query.now (all_rows bs) pieces place (slice_index_or v.items place r)) }
 {

@@ -18,24 +18,6 @@ use std::alloc::Global;
 /// The most rows that are looked at together, so that what is known of them takes the same memory for batches of any size.
 const SLICE: usize = 16384;
 
-/// Adds the rows of a batch that the query's filter keeps, or tells the least of its rows where the filter is bad.
-pub(crate) fn add_batch(
-    alloc: Global,
-    grouping: &mut Grouping,
-    query: &Query,
-    batch: &RecordBatch,
-) -> Result<(), Stop>
-    requires fits { fits batch.now.fields (asked query.now) ≡ true }
-    requires room { HasRoomFor batch.now.fields query.now batch.now.rows grouping.old }
-    ensures ok { (rows : Table) → HasKept batch.now.fields query.now rows grouping.old
-        → OnOk result (HasKept batch.now.fields query.now (rows ++ rows_of batch.now) grouping.new) }
-    ensures sound { IfOk result (λ done. AreSound batch.now 0 batch.now.rows (asked query.now).filter) }
-    ensures err { IfErr result (StopsAt batch.now 0 batch.now.rows (asked query.now).filter) }
-{
-    let rows = batch.rows() as usize;
-    add_part(alloc, grouping, query, batch, 0, rows)
-}
-
 /// Adds those of so many rows of a batch from the start on that the query's filter keeps, or tells the least of them where the
 /// filter is bad, counted from the start.
 pub(crate) fn add_part(

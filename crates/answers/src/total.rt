@@ -1,6 +1,6 @@
 //! Counts and sums of numbers.
 
-ghost use Rattle.std.specs.Prelude.{◌≡◌, ◌+◌, ◌*◌, ◌^◌, ◌<◌, ◌≤ℤ◌, ◌+ℤ◌, neg_ℤ, pos};
+ghost use Rattle.std.specs.Prelude.{◌≡◌, ◌+◌, ◌*◌, ◌^◌, ◌<◌, ◌≤◌, ◌≤ℤ◌, ◌+ℤ◌, neg_ℤ, pos};
 ghost use Rattle.answers.specs.Totals.{sum_if_any};
 
 /// How many numbers there were, and their sum: 0 where there was none.
@@ -33,6 +33,19 @@ impl Total {
         Total {
             count: self.count + 1,
             sum: self.sum + number,
+        }
+    }
+
+    /// With the numbers of another one.
+    #[inline(always)]
+    pub(crate) fn with_total(self, other: Total) -> Total
+        requires { self.count + other.count ≤ 2 ^ 40 }
+        ensures count { result.count ≡ self.count + other.count }
+        ensures sum { result.sum ≡ self.sum +ℤ other.sum }
+    {
+        Total {
+            count: self.count + other.count,
+            sum: self.sum + other.sum,
         }
     }
 

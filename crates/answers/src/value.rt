@@ -7,6 +7,7 @@ ghost use Rattle.arrays.specs.Item.{null};
 ghost use Rattle.arrays.specs.Slot.{is_list, item_of, item_of_bool, item_of_text};
 ghost use Rattle.query.specs.Columns.{sort_at};
 ghost use Rattle.query.specs.Fault.{key_fault};
+ghost use Rattle.answers.specs.Kinds.{kind_at};
 ghost use Rattle.answers.specs.Rows.{IsColumn};
 ghost use Rattle.answers.specs.Values.{item_of_value};
 
@@ -26,6 +27,7 @@ pub(crate) fn column_at<'a>(batch: &'a RecordBatch, place: u32) -> View<'a>
     requires { is_ok (sort_at batch.now.fields place) ≡ true }
     ensures column { slice_get batch.now.columns place ≡ Some result }
     ensures items { IsColumn batch.now place result }
+    ensures kind { result.kind ≡ kind_at batch.now.fields place }
 {
     let columns = batch.columns();
     columns[place as usize].view()

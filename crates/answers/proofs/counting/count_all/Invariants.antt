@@ -1,12 +1,12 @@
-use Rattle.std.proofs.Common.{◌≡◌, length, map, take}
+use Rattle.std.proofs.Common.{◌≡◌, All, length, map, take}
 use Rattle.std.specs.Arc.{arc_value}
 use Rattle.answers.specs.Answers.{all_rows, first_fields}
-use Rattle.answers.specs.Pieces.{HasRun}
-use Rattle.answers.proofs.answering.answer_in_one.Given as goal
+use Rattle.answers.specs.Kinds.{AreComparable, kind_at}
+use Rattle.answers.proofs.counting.count_all.Given as goal
 
 -- The rows of the batches so far.
 abbrev pub invariant-loop-batch : goal.invariant-loop-batch
 invariant-loop-batch l =
     let batches = map arc_value l.batches in
     let front = all_rows (take l.batch-index batches) in
-    (l.before ≡ length front) × HasRun (first_fields batches) l.query front l.grouping
+    (l.rows ≡ length front) × All (AreComparable (kind_at (first_fields batches)) l.query.aggs.items) front

@@ -1,0 +1,28 @@
+-- Items of one kind.
+use Rattle.std.specs.Prelude.{◌≡◌, ℕ, false, List, map, slice_index_or, All, ⊤}
+use Rattle.arrays.specs.Batch.{Row}
+use Rattle.arrays.specs.Item.{Item}
+use Rattle.arrays.specs.Kind as kind
+use Rattle.arrays.specs.Kind.{Kind}
+use Rattle.arrays.specs.Slot.{is_list}
+use Rattle.arrays.specs.Typed.{IsItemOf}
+use Rattle.types.specs.Shape.{FieldShape, kind_of_field}
+use Rattle.query.specs.declared.expr.Agg.{Agg}
+use Rattle.query.specs.declared.expr.Agg.TheVariants.{Rows, Count, Sum, Least, Greatest}
+use Rattle.answers.specs.Tallies.{item_for}
+
+-- The kind of the field at a place; one of the kinds where there is no field.
+abbrev pub kind_at : List FieldShape → ℕ → Kind
+kind_at fields c = slice_index_or (map kind_of_field fields) c kind.boolean
+
+-- An item of which the least or the greatest is sought is null or of its column's kind, which isn't one of lists.
+abbrev pub IsComparable : (ℕ → Kind) → Agg ℕ → Item → Type 0
+IsComparable kinds Rows x = ⊤
+IsComparable kinds (Count c) x = ⊤
+IsComparable kinds (Sum c) x = ⊤
+IsComparable kinds (Least c) x = (is_list (kinds c) ≡ false) × IsItemOf (kinds c) x
+IsComparable kinds (Greatest c) x = (is_list (kinds c) ≡ false) × IsItemOf (kinds c) x
+
+-- What each aggregate looks at in a row can be compared.
+abbrev pub AreComparable : (ℕ → Kind) → List (Agg ℕ) → Row → Type 0
+AreComparable kinds aggs row = All (λ (a : Agg ℕ). IsComparable kinds a (item_for a row)) aggs
