@@ -1,0 +1,7 @@
+//! Tests of answers, which are asked for in any number of pieces.
+#![tactic(auto)]
+
+#[cfg(test)]
+mod pieces;
+#[cfg(test)]
+mod testing;
