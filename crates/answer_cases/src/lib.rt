@@ -2,6 +2,10 @@
 #![tactic(auto)]
 
 #[cfg(test)]
+mod gates;
+#[cfg(test)]
 mod pieces;
 #[cfg(test)]
 mod testing;
+#[cfg(test)]
+mod together;
