@@ -1,7 +1,8 @@
 #!/usr/bin/env python3
 """Measures grouped queries beside plain Rust that is written by hand for each, and beside SQLite in memory.
 
-    bench/query.py [RUNS [QUERY..]]
+    bench/query.py [RUNS [QUERY..]]          in one piece
+    bench/query.py pieces [RUNS [QUERY..]]   in 1, 2, 4 and 64 pieces on threads
 
 Builds bench/query.rs by cargo in a folder of its own; `crates/bench_query` has to be built before (`rt run` there). Where
 VENDORED names a folder of vendored crates, cargo takes indexmap from there. 8 million rows in 80 batches; the runs
@@ -31,15 +32,15 @@ QUERIES = {
 }
 
 
-def seconds(program, query, times):
+def seconds(program, query, times, pieces):
     begin = time.monotonic()
-    out = subprocess.run([program, query, str(BATCHES), str(ROWS), str(times)], stdout=subprocess.PIPE, check=True).stdout
+    out = subprocess.run([program, query, str(BATCHES), str(ROWS), str(times), str(pieces)], stdout=subprocess.PIPE, check=True).stdout
     return time.monotonic() - begin, out
 
 
-def one_answer(program, query, times):
-    once, first = seconds(program, query, 1)
-    often, last = seconds(program, query, times + 1)
+def one_answer(program, query, times, pieces=1):
+    once, first = seconds(program, query, 1, pieces)
+    often, last = seconds(program, query, times + 1, pieces)
     assert first == last
     return 1000 * (often - once) / times, first
 
@@ -73,27 +74,52 @@ def table():
     return base
 
 
-def main():
-    runs = int(sys.argv[1]) if len(sys.argv) > 1 else 5
+def beside_sqlite(peer, runs, names):
     base = table()
+    for name in names:
+        text, statement = QUERIES[name]
+        pairs = []
+        for _ in range(runs):
+            ours, said = one_answer(OURS, text, 10)
+            theirs, told = one_answer(peer, name, 10)
+            assert said == told, (name, said, told)
+            pairs.append((ours, theirs))
+        ours = statistics.median(pair[0] for pair in pairs)
+        theirs = statistics.median(pair[1] for pair in pairs)
+        begin = time.monotonic()
+        told = base.execute(statement).fetchone()
+        sqlite = 1000 * (time.monotonic() - begin)
+        assert " ".join(map(str, told)) == said.decode().strip(), (name, said, told)
+        print(f"{name}: {ours:.1f} ms beside {theirs:.1f} ms, {ours / theirs:.2f}; SQLite {sqlite:.0f} ms", flush=True)
+
+
+def in_pieces(peer, runs, names):
+    for name in names:
+        text = QUERIES[name][0]
+        took = {pieces: ([], []) for pieces in (1, 2, 4, 64)}
+        for _ in range(runs):
+            answers = set()
+            for pieces, (ours, theirs) in took.items():
+                time_taken, said = one_answer(OURS, text, 10, pieces)
+                ours.append(time_taken)
+                time_taken, told = one_answer(peer, name, 10, pieces)
+                theirs.append(time_taken)
+                answers |= {said, told}
+            assert len(answers) == 1, (name, answers)
+        for pieces, pair in took.items():
+            ours, theirs = map(statistics.median, pair)
+            one, other = (statistics.median(times) for times in took[1])
+            print(f"{name} in {pieces}: {ours:.1f} ms, {one / ours:.2f} times as fast as in 1; the other {theirs:.1f} ms, {other / theirs:.2f}", flush=True)
+
+
+def main():
+    words = sys.argv[1:]
+    pieces = words[:1] == ["pieces"]
+    words = words[pieces:]
+    runs = int(words[0]) if words else 5
+    names = words[1:] or list(QUERIES)[:2 if pieces else None]
     with tempfile.TemporaryDirectory() as folder:
-        peer = built(folder)
-        for name, (text, statement) in QUERIES.items():
-            if sys.argv[2:] and name not in sys.argv[2:]:
-                continue
-            pairs = []
-            for _ in range(runs):
-                ours, said = one_answer(OURS, text, 10)
-                theirs, told = one_answer(peer, name, 10)
-                assert said == told, (name, said, told)
-                pairs.append((ours, theirs))
-            ours = statistics.median(pair[0] for pair in pairs)
-            theirs = statistics.median(pair[1] for pair in pairs)
-            begin = time.monotonic()
-            told = base.execute(statement).fetchone()
-            sqlite = 1000 * (time.monotonic() - begin)
-            assert " ".join(map(str, told)) == said.decode().strip(), (name, said, told)
-            print(f"{name}: {ours:.1f} ms beside {theirs:.1f} ms, {ours / theirs:.2f}; SQLite {sqlite:.0f} ms", flush=True)
+        (in_pieces if pieces else beside_sqlite)(built(folder), runs, names)
 
 
 main()

@@ -1,8 +1,11 @@
-//! The queries of `bench_query` in plain Rust, each written by hand over the same columns. `query QUERY BATCHES ROWS TIMES`.
+//! The queries of `bench_query` in plain Rust, each written by hand over the same columns, in pieces on scoped threads.
+//! `query QUERY BATCHES ROWS TIMES PIECES`.
 
 use indexmap::IndexMap;
 use std::env::args;
 use std::hint::black_box;
+use std::ops::Range;
+use std::thread::scope;
 
 fn spread(place: u32) -> u32 {
     place.wrapping_mul(2_654_435_761)
@@ -59,14 +62,44 @@ impl Batch {
     }
 }
 
-/// `sum(v)` by `k`: how many groups there are, and the sums that are there, added up.
-fn sums_by_text(batches: &[Batch]) -> (usize, i128) {
+/// Some neighbouring rows of a batch.
+type Slice<'a> = (&'a Batch, Range<usize>);
+
+/// The rows of a piece: those of all batches are cut into so many.
+fn piece(batches: &[Batch], pieces: usize, place: usize) -> Vec<Slice<'_>> {
+    let all: usize = batches.iter().map(Batch::rows).sum();
+    let (from, to) = (all * place / pieces, all * (place + 1) / pieces);
+    let mut before = 0;
+    let mut slices = Vec::new();
+    for batch in batches {
+        let within = |at: usize| at.saturating_sub(before).min(batch.rows());
+        slices.push((batch, within(from)..within(to)));
+        before += batch.rows();
+    }
+    slices
+}
+
+/// What is known of each piece, in their order.
+fn of_pieces<'a, X: Send>(batches: &'a [Batch], pieces: usize, look: impl Fn(Vec<Slice<'a>>) -> X + Sync) -> Vec<X> {
+    if pieces == 1 {
+        return vec![look(piece(batches, 1, 0))];
+    }
+    scope(|threads| {
+        let look = &look;
+        let work: Vec<_> = (0..pieces).map(|place| threads.spawn(move || look(piece(batches, pieces, place)))).collect();
+        work.into_iter().map(|work| work.join().expect("a piece")).collect()
+    })
+}
+
+type Sums<'a> = IndexMap<Option<&'a str>, Option<i128>>;
+
+fn sums_of<'a>(slices: Vec<Slice<'a>>) -> Sums<'a> {
     let mut groups: IndexMap<Option<&str>, ()> = IndexMap::new();
     let mut sums: Vec<Option<i128>> = Vec::new();
-    for batch in batches {
+    for (batch, rows) in slices {
         let mut known: Vec<Option<usize>> = vec![None; batch.k.texts.len()];
         let mut null: Option<usize> = None;
-        for i in 0..batch.rows() {
+        for i in rows {
             let code = batch.k.codes[i] as usize;
             let valid = batch.k.validity.get(i);
             let place = if valid { &mut known[code] } else { &mut null };
@@ -80,7 +113,20 @@ fn sums_by_text(batches: &[Batch]) -> (usize, i128) {
             }
         }
     }
-    (groups.len(), sums.iter().flatten().sum())
+    groups.into_keys().zip(sums).collect()
+}
+
+/// `sum(v)` by `k`: how many groups there are, and the sums that are there, added up.
+fn sums_by_text(batches: &[Batch], pieces: usize) -> (usize, i128) {
+    let mut parts = of_pieces(batches, pieces, sums_of).into_iter();
+    let mut all = parts.next().expect("a piece");
+    for (key, sum) in parts.flatten() {
+        let cell = all.entry(key).or_insert(None);
+        if let Some(sum) = sum {
+            *cell = Some(cell.unwrap_or(0) + sum);
+        }
+    }
+    (all.len(), all.values().flatten().sum())
 }
 
 #[derive(Clone, Copy)]
@@ -89,25 +135,39 @@ struct Ends {
     ends: Option<(i64, i64)>,
 }
 
-/// `rows`, `least(v)`, `greatest(v)` by `g`: how many groups there are, and all these added up.
-fn ends_by_number(batches: &[Batch]) -> (usize, i128) {
+fn farther(ends: Option<(i64, i64)>, (a, b): (i64, i64)) -> Option<(i64, i64)> {
+    Some(ends.map_or((a, b), |(least, greatest)| (least.min(a), greatest.max(b))))
+}
+
+fn ends_of(slices: Vec<Slice<'_>>) -> IndexMap<Option<i32>, Ends> {
     let mut groups: IndexMap<Option<i32>, Ends> = IndexMap::new();
-    for batch in batches {
-        for i in 0..batch.rows() {
+    for (batch, rows) in slices {
+        for i in rows {
             let key = batch.g.validity.get(i).then(|| batch.g.values[i]);
             let cell = groups.entry(key).or_insert(Ends { rows: 0, ends: None });
             cell.rows += 1;
             if batch.v.validity.get(i) {
-                let v = batch.v.values[i];
-                cell.ends = Some(cell.ends.map_or((v, v), |(least, greatest)| (least.min(v), greatest.max(v))));
+                cell.ends = farther(cell.ends, (batch.v.values[i], batch.v.values[i]));
             }
         }
     }
-    let told = |cell: &Ends| i128::from(cell.rows) + cell.ends.map_or(0, |(a, b)| i128::from(a) + i128::from(b));
-    (groups.len(), groups.values().map(told).sum())
+    groups
 }
 
-/// `rows` where `v + 1 > 5 and not is_null(k)`, word by word of the validities.
+/// `rows`, `least(v)`, `greatest(v)` by `g`: how many groups there are, and all these added up.
+fn ends_by_number(batches: &[Batch], pieces: usize) -> (usize, i128) {
+    let mut parts = of_pieces(batches, pieces, ends_of).into_iter();
+    let mut all = parts.next().expect("a piece");
+    for (key, part) in parts.flatten() {
+        let cell = all.entry(key).or_insert(Ends { rows: 0, ends: None });
+        cell.rows += part.rows;
+        cell.ends = part.ends.map_or(cell.ends, |ends| farther(cell.ends, ends));
+    }
+    let told = |cell: &Ends| i128::from(cell.rows) + cell.ends.map_or(0, |(a, b)| i128::from(a) + i128::from(b));
+    (all.len(), all.values().map(told).sum())
+}
+
+/// `rows` where `v + 1 > 5 and not is_null(k)`, word by word of the validities, in one piece.
 fn rows_where(batches: &[Batch]) -> Option<(usize, i128)> {
     let mut rows: u64 = 0;
     for batch in batches {
@@ -129,15 +189,16 @@ fn rows_where(batches: &[Batch]) -> Option<(usize, i128)> {
 
 fn main() {
     let words: Vec<String> = args().collect();
-    let [_, query, batches, rows, times] = &words[..] else { panic!("QUERY BATCHES ROWS TIMES") };
+    let [_, query, batches, rows, times, pieces] = &words[..] else { panic!("QUERY BATCHES ROWS TIMES PIECES") };
     let (count, rows): (u32, usize) = (batches.parse().expect("batches"), rows.parse().expect("rows"));
     let batches: Vec<Batch> = (0..count).map(|b| Batch::new(rows, b.wrapping_mul(rows as u32))).collect();
     let mut last = (0, 0);
+    let pieces: usize = pieces.parse().expect("pieces");
     for _ in 0..times.parse::<usize>().expect("times") {
         let batches = black_box(&batches[..]);
         last = match query.as_str() {
-            "sum-by-text" => sums_by_text(batches),
-            "ends-by-number" => ends_by_number(batches),
+            "sum-by-text" => sums_by_text(batches, pieces),
+            "ends-by-number" => ends_by_number(batches, pieces),
             "rows-where" => rows_where(batches).expect("no overflow"),
             _ => panic!("no such query"),
         };

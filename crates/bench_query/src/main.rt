@@ -1,11 +1,11 @@
-//! `bench_query QUERY BATCHES ROWS TIMES` fills a table with so many batches of so many rows, each with texts `k` of which
+//! `bench_query QUERY BATCHES ROWS TIMES PIECES` fills a table with so many batches of so many rows, each with texts `k` of which
 //! 1,000 differ, numbers `g` of which 100,000 differ, and numbers `v`. It answers the query, whose JSON text QUERY is, so many
-//! times, and prints how many groups the last answer has, and the numbers of their cells added up.
+//! times in so many pieces, and prints how many groups the last answer has, and the numbers of their cells added up.
 //!
 //! Without arguments it answers a query over one batch of 1,000 rows.
 #![tactic(auto)]
 
-ghost use Rattle.std.specs.Prelude.{◌≡◌, true};
+ghost use Rattle.std.specs.Prelude.{◌≡◌, ◌≤◌, true};
 ghost use Rattle.query.specs.Asked.{asked};
 ghost use Rattle.query.specs.Fault.{fits};
 
@@ -31,42 +31,43 @@ fn main(rt: HostRuntime) -> ExitCode {
             &rt,
             &rt,
             "{\"by\":[\"k\"],\"aggs\":[{\"agg\":\"sum\",\"column\":\"v\"}]}",
-            1,
-            1000,
-            1,
+            (1, 1000),
+            (1, 1),
         );
     };
     match (
         number(words.next()),
         number(words.next()),
         number(words.next()),
+        number(words.next()),
     ) {
-        (Some(batches), Some(rows), Some(times)) => tell_answered(
+        (Some(batches), Some(rows), Some(times), Some(pieces)) => tell_answered(
             &rt,
             &rt,
             query.as_str(),
-            batches,
-            rows,
-            times,
+            (batches, rows),
+            (times, pieces),
         ),
         _ => refused(&rt),
     }
 }
 
-// How many batches, rows or times.
+// How many batches, rows, times or pieces.
 fn number(word: Option<String>) -> Option<u32> {
     word?.as_str().parse().ok()
 }
 
-// Fills a table, and prints what the query answers.
+// Fills a table with so many batches of so many rows, and prints what the query answers, so many times in so many pieces.
 fn tell_answered<T: Threads + Sync>(
     rt: &HostRuntime,
     threads: &T,
     query: &str,
-    batches: u32,
-    rows: u32,
-    times: u32,
+    (batches, rows): (u32, u32),
+    (times, pieces): (u32, u32),
 ) -> ExitCode {
+    if !(1..=64).contains(&pieces) {
+        return refused(rt);
+    }
     let Some(version) = filled(rt.alloc(), batches, rows) else {
         return told(rt, "no memory");
     };
@@ -76,22 +77,24 @@ fn tell_answered<T: Threads + Sync>(
     let Ok(query) = resolve(rt.alloc(), &text, version.schema()) else {
         return told(rt, "no query of this table");
     };
-    tell_last(rt, threads, &version, &query, times)
+    tell_last(rt, threads, &version, &query, (times, pieces))
 }
 
-// Prints what the query answers, which it does so many times.
+// Prints what the query answers, which it does so many times in so many pieces.
 fn tell_last<T: Threads + Sync>(
     rt: &HostRuntime,
     threads: &T,
     version: &Version,
     query: &Query,
-    times: u32,
+    (times, pieces): (u32, u32),
 ) -> ExitCode
-    requires { fits version.now.fields (asked query.now) ≡ true }
+    requires fits { fits version.now.fields (asked query.now) ≡ true }
+    requires one { 1 ≤ pieces }
+    requires most { pieces ≤ 64 }
 {
     let mut last = None;
     for _ in 0..times {
-        let Ok(answer) = version.answer(threads, rt.alloc(), query, 1, &OpenGate) else {
+        let Ok(answer) = version.answer(threads, rt.alloc(), query, pieces, &OpenGate) else {
             return told(rt, "no answer");
         };
         last = Some((answer.groups.len(), sum_of(&answer)));
