@@ -81,9 +81,7 @@ impl TallyColumn {
         match self {
             TallyColumn::Rows(counts) => merge_each(counts, &Counts, others, numbers),
             TallyColumn::Count(_place, counts) => merge_each(counts, &Counts, others, numbers),
-            TallyColumn::Sum(_place, _totals) => unreachable!(),
-            TallyColumn::Numbers(_end, _place, _numbers) => unreachable!(),
-            TallyColumn::Items(_end, _place, _items) => unreachable!(),
+            _ => unreachable!(),
         }
     }
 
@@ -97,10 +95,7 @@ impl TallyColumn {
     {
         match self {
             TallyColumn::Sum(_place, totals) => merge_each(totals, &Sums, others, numbers),
-            TallyColumn::Rows(_counts) => unreachable!(),
-            TallyColumn::Count(_place, _counts) => unreachable!(),
-            TallyColumn::Numbers(_end, _place, _numbers) => unreachable!(),
-            TallyColumn::Items(_end, _place, _items) => unreachable!(),
+            _ => unreachable!(),
         }
     }
 
@@ -126,9 +121,7 @@ impl TallyColumn {
                 let others = scalars_of(alloc, others)?;
                 merge_items(alloc, items, *end, &others, numbers)
             }
-            TallyColumn::Rows(_counts) => unreachable!(),
-            TallyColumn::Count(_place, _counts) => unreachable!(),
-            TallyColumn::Sum(_place, _totals) => unreachable!(),
+            _ => unreachable!(),
         }
     }
 
@@ -155,9 +148,7 @@ impl TallyColumn {
             TallyColumn::Items(end, _place, items) => {
                 merge_items(alloc, items, *end, others, numbers)
             }
-            TallyColumn::Rows(_counts) => unreachable!(),
-            TallyColumn::Count(_place, _counts) => unreachable!(),
-            TallyColumn::Sum(_place, _totals) => unreachable!(),
+            _ => unreachable!(),
         }
     }
 }
