@@ -6,6 +6,7 @@ ghost use Rattle.shared.specs.Hand.{IsKept, IsRaised, calls_of_hand, rows_of_han
 ghost use Rattle.table.specs.Cause.{IsLegal, batch_cause, early_cause};
 ghost use Rattle.table.specs.Contents.{Contents, admitted};
 ghost use Rattle.table.specs.History.{rows};
+ghost use Rattle.table.specs.Made.{IsMade};
 
 use crate::lending::tell_totals;
 use crate::outcome::Receipt;
@@ -15,7 +16,7 @@ use colbits::NoMemory;
 use std::marker::Model;
 use std::sync::Arc;
 use std::sync::ledger::{Book, Ledger, Share};
-use table::{Refusal, TableState, Version};
+use table::{Ready, Refusal, TableState, Version};
 
 /// A table with the ledgers of its workers' calls and rows. Each time that its lock is got, the first counts the entries of
 /// the book and the second its rows, and each entry is of one of the table's workers.
@@ -52,12 +53,14 @@ impl<C: Ledger, Q: Ledger> Model for Locked<C, Q> {
 }
 
 impl<C: Ledger, Q: Ledger> Locked<C, Q> {
-    /// Adds a batch of a worker, which it counts, as `TableState::admit` does. After a refusal nothing is changed.
+    /// Adds a batch of a worker, which it counts, as `TableState::admit_ready` does. After a refusal nothing is changed.
     pub(crate) fn append(
         &mut self,
         worker: &mut Worker<C, Q>,
         batch: &RecordBatch,
+        ready: Result<Ready, NoMemory>,
     ) -> Result<Receipt, Refusal>
+        requires { IfOk ready (IsMade batch.now) }
         ensures number { IfOk result (λ r. r.entry ≡ length self.old.history) }
         ensures allowed { OnOk result (batch_cause self.old.fields self.old.history batch.now ≡ None) }
         ensures added { OnOk result (self.new ≡ admitted self.old worker.old.number batch.now) }
@@ -68,7 +71,7 @@ impl<C: Ledger, Q: Ledger> Locked<C, Q> {
         ensures raised { OnOk result (IsRaised batch.now.rows worker.old worker.new) }
         ensures left { OnErr result (worker.new ≡ worker.old) }
     {
-        let entry = self.state.admit(worker.number, batch)?;
+        let entry = self.state.admit_ready(worker.number, batch, ready)?;
         worker.raise(&mut self.call_book, &mut self.row_book, batch.rows());
         Ok(Receipt { entry })
     }
