@@ -67,6 +67,7 @@ impl<C: Ledger, Q: Ledger> SharedTable<C, Q> {
     {
         let locked = Locked {
             state,
+            newest: None,
             call_book,
             row_book,
             no_calls,
@@ -94,7 +95,7 @@ impl<C: Ledger, Q: Ledger> SharedTable<C, Q> {
         self.lock.lock(wait).append(worker, batch, ready)
     }
 
-    /// The table as it is when the lock is got.
+    /// The table as it is when the lock is got. Where nothing was appended since the last one, it's the same version.
     pub fn snapshot<W: Wait>(
         &self,
         wait: &W,

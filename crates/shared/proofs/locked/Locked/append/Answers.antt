@@ -18,4 +18,5 @@ invariant_of-self-2 g c =
       c.self.invariant.4,
       c.self.invariant.5,
       c.self.invariant.6,
+      tt,
     )
