@@ -6,6 +6,7 @@ ghost use Rattle.shared.specs.Hand.{IsKept, IsRaised, calls_of_hand, rows_of_han
 ghost use Rattle.table.specs.Cause.{IsLegal, batch_cause, early_cause};
 ghost use Rattle.table.specs.Contents.{Contents, admitted};
 ghost use Rattle.table.specs.History.{rows};
+ghost use Rattle.table.specs.Made.{IsMade};
 
 use crate::lending::tell_totals;
 use crate::outcome::Receipt;
@@ -15,13 +16,15 @@ use colbits::NoMemory;
 use std::marker::Model;
 use std::sync::Arc;
 use std::sync::ledger::{Book, Ledger, Share};
-use table::{Refusal, TableState, Version};
+use table::{Ready, Refusal, TableState, Version};
 
-/// A table with the ledgers of its workers' calls and rows. Each time that its lock is got, the first counts the entries of
+/// A table with the ledgers of its workers' calls and rows, and the version of it that was asked for last. Each time that its lock is got, the first counts the entries of
 /// the book and the second its rows, and each entry is of one of the table's workers.
 #[derive(Drop)]
 pub(crate) struct Locked<C: Ledger, Q: Ledger> {
     pub(crate) state: TableState,
+    /// The last version that was asked for, where nothing was added since.
+    pub(crate) newest: Option<Arc<Version>>,
     pub(crate) call_book: Book<C>,
     pub(crate) row_book: Book<Q>,
     /// No part of the ledger; the workers lend it theirs.
@@ -37,7 +40,8 @@ impl<C: Ledger, Q: Ledger> Model for Locked<C, Q> {
 
     ghost coded = { contents_code };
 
-    ghost use Rattle.std.specs.Prelude.{◌≡◌, length};
+    ghost use Rattle.std.specs.Prelude.{◌≡◌, IfSome, length};
+    ghost use Rattle.std.specs.Arc.{arc_value};
     ghost use Rattle.shared.specs.Balance.{IsBalanced, IsOfWorkers};
 
     ghost view = { λ l. l.state };
@@ -48,16 +52,19 @@ impl<C: Ledger, Q: Ledger> Model for Locked<C, Q> {
         × (l.no_calls.parts ≡ 0)
         × (l.no_calls.amount ≡ 0)
         × (l.no_rows.parts ≡ 0)
-        × (l.no_rows.amount ≡ 0) };
+        × (l.no_rows.amount ≡ 0)
+        × IfSome l.newest (λ v. arc_value v ≡ l.state) };
 }
 
 impl<C: Ledger, Q: Ledger> Locked<C, Q> {
-    /// Adds a batch of a worker, which it counts, as `TableState::admit` does. After a refusal nothing is changed.
+    /// Adds a batch of a worker, which it counts, as `TableState::admit_ready` does. After a refusal nothing is changed.
     pub(crate) fn append(
         &mut self,
         worker: &mut Worker<C, Q>,
         batch: &RecordBatch,
+        ready: Result<Ready, NoMemory>,
     ) -> Result<Receipt, Refusal>
+        requires { IfOk ready (IsMade batch.now) }
         ensures number { IfOk result (λ r. r.entry ≡ length self.old.history) }
         ensures allowed { OnOk result (batch_cause self.old.fields self.old.history batch.now ≡ None) }
         ensures added { OnOk result (self.new ≡ admitted self.old worker.old.number batch.now) }
@@ -68,16 +75,23 @@ impl<C: Ledger, Q: Ledger> Locked<C, Q> {
         ensures raised { OnOk result (IsRaised batch.now.rows worker.old worker.new) }
         ensures left { OnErr result (worker.new ≡ worker.old) }
     {
-        let entry = self.state.admit(worker.number, batch)?;
+        let entry = self.state.admit_ready(worker.number, batch, ready)?;
+        self.newest = None;
         worker.raise(&mut self.call_book, &mut self.row_book, batch.rows());
         Ok(Receipt { entry })
     }
 
-    /// The table as it is.
-    pub(crate) fn version(&self) -> Result<Arc<Version>, NoMemory>
-        ensures { IfOk result (λ v. arc_value v ≡ self.now) }
+    /// The table as it is: the version that is kept, else a new one, which is kept for the next who asks.
+    pub(crate) fn version(&mut self) -> Result<Arc<Version>, NoMemory>
+        ensures same { self.new ≡ self.old }
+        ensures version { IfOk result (λ v. arc_value v ≡ self.old) }
     {
-        self.state.version()
+        if let Some(version) = &self.newest {
+            return Ok(version.clone()?);
+        }
+        let version = self.state.version()?;
+        self.newest = Some(version.clone()?);
+        Ok(version)
     }
 
     /// The table as it is, with all its workers there.
@@ -96,6 +110,6 @@ impl<C: Ledger, Q: Ledger> Locked<C, Q> {
             &mut self.no_rows,
             workers,
         );
-        self.state.version()
+        self.version()
     }
 }

@@ -43,6 +43,8 @@ pub fn open<C: Ledger, Q: Ledger>(
     let (call_book, mut call_share) = calls.open::<C>();
     let (row_book, mut row_share) = rows.open::<Q>();
     let hands = new_workers(alloc, workers, &mut call_share, &mut row_share)?;
-    let table = SharedTable::new(state, call_book, row_book, call_share, row_share, workers);
+    let table = SharedTable::new(
+        alloc, state, call_book, row_book, call_share, row_share, workers,
+    );
     Ok((table, hands))
 }

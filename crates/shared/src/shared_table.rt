@@ -14,16 +14,18 @@ use crate::outcome::Receipt;
 use crate::worker::Worker;
 use arrays::RecordBatch;
 use colbits::NoMemory;
+use std::alloc::Global;
 use std::marker::Model;
 use std::sync::ledger::{Book, Ledger, Share};
 use std::sync::{Arc, Mutex, Wait};
-use table::{Refusal, TableState, Version};
+use table::{Ready, Refusal, TableState, Version};
 
 /// A table that its workers append to, each in a thread of its own. Worker and table are of one call of `open`.
 ///
 /// Clauses see how many workers it has.
 #[derive(Drop)]
 pub struct SharedTable<C: Ledger, Q: Ledger> {
+    alloc: Global,
     lock: Mutex<Locked<C, Q>>,
     workers: u32,
 }
@@ -48,6 +50,7 @@ pub struct Gathered<C: Ledger, Q: Ledger> {
 impl<C: Ledger, Q: Ledger> SharedTable<C, Q> {
     /// A table that nothing was appended to, with its ledgers' books. The shares have no parts any more.
     pub(crate) fn new(
+        alloc: Global,
         state: TableState,
         call_book: Book<C>,
         row_book: Book<Q>,
@@ -64,19 +67,21 @@ impl<C: Ledger, Q: Ledger> SharedTable<C, Q> {
     {
         let locked = Locked {
             state,
+            newest: None,
             call_book,
             row_book,
             no_calls,
             no_rows,
         };
         SharedTable {
+            alloc,
             lock: Mutex::new(locked),
             workers,
         }
     }
 
-    /// Adds a batch of the worker, as `TableState::admit` does, while no other worker does. After a refusal the table and the
-    /// worker are as they were.
+    /// Adds a batch of the worker, as `TableState::admit` does, while no other worker does. What can be made of the batch
+    /// alone is made before. After a refusal the table and the worker are as they were.
     pub fn append<W: Wait>(
         &self,
         wait: &W,
@@ -86,10 +91,11 @@ impl<C: Ledger, Q: Ledger> SharedTable<C, Q> {
         ensures raised { OnOk result (IsRaised batch.now.rows worker.old worker.new) }
         ensures kept { OnErr result (IsKept worker.old worker.new) }
     {
-        self.lock.lock(wait).append(worker, batch)
+        let ready = Ready::new(self.alloc, batch);
+        self.lock.lock(wait).append(worker, batch, ready)
     }
 
-    /// The table as it is when the lock is got.
+    /// The table as it is when the lock is got. Where nothing was appended since the last one, it's the same version.
     pub fn snapshot<W: Wait>(
         &self,
         wait: &W,

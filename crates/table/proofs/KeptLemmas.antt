@@ -150,14 +150,24 @@ kept-lawful fields b stored kept lawful =
 abbrev TheStats : Table → List (ℕ × FieldShape) → List ColumnStats → Type 0
 TheStats t es stats = AllZip (λ (e : ℕ × FieldShape) (s : ColumnStats). AreStats s (kind_of_field e.1) (column t e.0)) es stats
 
-pub theirs-all : (u : Table) (es : List (ℕ × FieldShape)) (stored : List Seen) (stats : List ColumnStats) → AllZip (Kept u) es stored → AreTheirs stored stats → TheStats u es stats
-theirs-all u [] [] [] kept theirs = tt
-theirs-all u [] [] (s ∷ stats) kept theirs = absurd theirs
-theirs-all u [] (d ∷ stored) stats kept theirs = absurd kept
-theirs-all u (e ∷ es) [] stats kept theirs = absurd kept
-theirs-all u (e ∷ es) (d ∷ stored) [] kept theirs = absurd theirs
-theirs-all u (e ∷ es) (d ∷ stored) (s ∷ stats) kept theirs =
-    (subst (λ k. AreStats s k (column u e.0)) kept.0.kind (subst (AreStats s d.kind) kept.0.items theirs.0), theirs-all u es stored stats kept.1 theirs.1)
+-- Texts have the statistics of their codes.
+stats-stored : (s : ColumnStats) (k : Kind) (items : List Item) → AreStats s k items → AreStats s (stored_kind k) items
+stats-stored s kind.utf8 items is = record { rows = is.rows; nulls = is.nulls; sum = is.sum; least = is.least; greatest = is.greatest }
+stats-stored s kind.dict items is = is
+stats-stored s (kind.int t) items is = is
+stats-stored s kind.boolean items is = is
+stats-stored s (kind.list k) items is = is
+
+pub theirs-all : (u : Table) (es : List (ℕ × FieldShape)) (columns : List Seen) (stats : List ColumnStats) → AllSuit u es columns → AreTheirs columns stats → TheStats u es stats
+theirs-all u [] [] [] all theirs = tt
+theirs-all u [] [] (s ∷ stats) all theirs = absurd theirs
+theirs-all u [] (c ∷ columns) stats all theirs = absurd all
+theirs-all u (e ∷ es) [] stats all theirs = absurd all
+theirs-all u (e ∷ es) (c ∷ columns) [] all theirs = absurd theirs
+theirs-all u (e ∷ es) (c ∷ columns) (s ∷ stats) all theirs = (
+  subst (λ k. AreStats s k (column u e.0)) (sym all.0.kind) (subst (AreStats s (stored_kind c.kind)) (sym all.0.items) (stats-stored s c.kind c.items theirs.0)),
+  theirs-all u es columns stats all.1 theirs.1,
+)
 
 pub joined-all : (t u : Table) (es : List (ℕ × FieldShape)) (olds news stats : List ColumnStats) → TheStats t es olds → TheStats u es news → AreJoined olds news stats → TheStats (t ++ u) es stats
 joined-all t u [] [] [] [] old new both = tt

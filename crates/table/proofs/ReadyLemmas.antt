@@ -74,13 +74,13 @@ module _ (h : Held) (b : Batch) (is : IsHeld h) (early : early_cause (arc_value 
   kept : AllZip (Kept (rows_of b)) places (map stored_seen (zip pools columns))
   kept = subst (λ l. AllZip (Kept (rows_of b)) places (map stored_seen l)) (sym paired) (kept-all before (rows_of b) places b.columns all)
 
-  pub piece-ready : (stats : List ColumnStats) → AreTheirs (map stored_seen (zip pools columns)) stats → AreStatsOf fields (rows_of b) stats
-  piece-ready stats theirs = theirs-all (rows_of b) places (map stored_seen (zip pools columns)) stats kept theirs
+  pub piece-ready : (stats : List ColumnStats) → AreTheirs b.columns stats → AreStatsOf fields (rows_of b) stats
+  piece-ready stats theirs = theirs-all (rows_of b) places b.columns stats all theirs
 
-  pub stats-count : (stats : List ColumnStats) → AreTheirs (map stored_seen (zip pools columns)) stats → length stats ≡ length (arc_value h.stats).items
+  pub stats-count : (stats : List ColumnStats) → AreTheirs b.columns stats → length stats ≡ length (arc_value h.stats).items
   stats-count stats theirs = same-many before (rows_of b) places (arc_value h.stats).items stats is.lawful.statistics (piece-ready stats theirs)
 
-  pub stats-few : (stats : List ColumnStats) → AreTheirs (map stored_seen (zip pools columns)) stats
+  pub stats-few : (stats : List ColumnStats) → AreTheirs b.columns stats
       → AllZip IsFew (arc_value h.stats).items stats
   stats-few stats theirs =
       few-all before (rows_of b) places (arc_value h.stats).items stats is.lawful.statistics (piece-ready stats theirs)
@@ -92,7 +92,7 @@ module _ (h : Held) (b : Batch) (is : IsHeld h) (early : early_cause (arc_value 
   pub ready : (p : Prepared) → full_cause pools columns ≡ None → (arc_value p.batch).fields ≡ fields → (arc_value p.batch).rows ≡ b.rows
       → (arc_value p.batch).columns ≡ map stored_seen (zip pools columns)
       → map (option_map arc_value) p.dictionaries.items ≡ map dictionary_for (zip (map grown (zip pools columns)) columns)
-      → AreTheirs (map stored_seen (zip pools columns)) (arc_value p.batch_stats).items
+      → AreTheirs b.columns (arc_value p.batch_stats).items
       → AreJoined (arc_value h.stats).items (arc_value p.batch_stats).items (arc_value p.stats).items
       → IsReady h b p
   unfolding dictionaries_of

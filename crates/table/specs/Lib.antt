@@ -5,6 +5,7 @@ pub mod Cause
 pub mod Columns
 pub mod Recoded
 pub mod Counted
+pub mod Made
 pub mod Lawful
 pub mod Held
 pub mod Ready

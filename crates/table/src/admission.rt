@@ -1,4 +1,4 @@
-//! A batch made ready for a table, before anything of the table changes.
+//! A batch made ready to be put in, before anything of the table changes.
 
 ghost use Rattle.std.specs.Prelude.{◌≡◌, ◌⊎◌, ◌++◌, All, IfErr, IfOk, None, OnErr, OnOk, Some};
 ghost use Rattle.std.specs.Arc.{arc_value};
@@ -9,26 +9,30 @@ ghost use Rattle.arrays.specs.Typed.{IsItemOf};
 ghost use Rattle.table.specs.Cause.{batch_cause, early_cause};
 ghost use Rattle.table.specs.Held.{IsHeld, batches_of, show};
 ghost use Rattle.table.specs.Lawful.{table_of};
+ghost use Rattle.table.specs.Made.{IsMade};
 ghost use Rattle.table.specs.Ready.{AreTexts, IsReady};
 
 use crate::columns::{Columns, cut_back, stored_columns};
 use crate::held::{Held, Prepared};
+use crate::ready::Ready;
 use crate::refusal::Refusal;
-use crate::stats::{joined_all, stats_of_all};
+use crate::stats::joined_all;
 use arrays::{Array, RecordBatch};
 use pool::TextPool;
 use std::alloc::Global;
 use std::sync::Arc;
 
-/// Makes a batch ready. Nothing that the table shows changes: its pools have the new texts, and have them no more where
+/// Makes a batch ready to be put in, of what was made of it before. Nothing that the table shows changes: its pools have the new texts, and have them no more where
 /// the batch is refused. Nothing but its texts and the memory can stand against it here.
 pub(crate) fn prepare(
     alloc: Global,
     held: &Held,
     pools: &mut Vec<TextPool>,
     batch: &RecordBatch,
+    ready: Ready,
 ) -> Result<Prepared, Refusal>
     requires held { IsHeld held.now }
+    requires made { IsMade batch.now ready }
     requires pools { AreTexts held.now (table_of (batches_of held.now)) pools.old.items }
     requires allowed { early_cause (arc_value held.now.schema) (show held.now).history batch.now ≡ None }
     ensures ok { IfOk result (λ p. IsReady held.now batch.now p) }
@@ -37,7 +41,7 @@ pub(crate) fn prepare(
         ⊎ (batch_cause (arc_value held.now.schema) (show held.now).history batch.now ≡ Some e)) }
     ensures kept { OnErr result (pools.new.items ≡ pools.old.items) }
 {
-    match recoded(alloc, held, pools, batch) {
+    match recoded(alloc, held, pools, batch, ready) {
         Ok(prepared) => Ok(prepared),
         Err(refusal) => {
             cut_back(pools, &held.dictionaries);
@@ -52,8 +56,10 @@ fn recoded(
     held: &Held,
     pools: &mut Vec<TextPool>,
     batch: &RecordBatch,
+    ready: Ready,
 ) -> Result<Prepared, Refusal>
     requires held { IsHeld held.now }
+    requires made { IsMade batch.now ready }
     requires pools { AreTexts held.now (table_of (batches_of held.now)) pools.old.items }
     requires allowed { early_cause (arc_value held.now.schema) (show held.now).history batch.now ≡ None }
     ensures ok { IfOk result (λ p. IsReady held.now batch.now p) }
@@ -63,11 +69,14 @@ fn recoded(
     ensures begun { AllZip IsPrefix pools.old.items pools.new.items }
 {
     tell_all(batch.columns());
+    let Ready {
+        copies,
+        batch_stats,
+    } = ready;
     let Columns {
         columns,
         dictionaries,
-    } = stored_columns(alloc, &held.dictionaries, pools, batch.columns())?;
-    let batch_stats = stats_of_all(alloc, &columns)?;
+    } = stored_columns(alloc, &held.dictionaries, pools, batch.columns(), copies)?;
     let stats = joined_all(alloc, &held.stats, &batch_stats)?;
     let schema = held.schema.copy(alloc)?;
     let Ok(batch) = RecordBatch::new(schema, batch.rows(), columns) else {
@@ -76,7 +85,7 @@ fn recoded(
     };
     Ok(Prepared {
         batch: Arc::new(alloc, batch)?,
-        batch_stats: Arc::new(alloc, batch_stats)?,
+        batch_stats,
         stats: Arc::new(alloc, stats)?,
         dictionaries,
     })

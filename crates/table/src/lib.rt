@@ -9,6 +9,7 @@ mod export;
 mod held;
 pub mod laws;
 mod nulls;
+pub mod ready;
 pub mod refusal;
 pub mod state;
 mod stats;
@@ -16,6 +17,7 @@ mod stored;
 pub mod version;
 
 pub use entry::Entry;
+pub use ready::Ready;
 pub use refusal::Refusal;
 pub use state::TableState;
 pub use version::Version;

@@ -4,11 +4,13 @@ ghost use Rattle.std.specs.Prelude.{◌≡◌, ◌⊎◌, [], IfErr, IfOk, None,
 ghost use Rattle.std.specs.Arc.{arc_value};
 ghost use Rattle.table.specs.Cause.{IsLegal, batch_cause, early_cause};
 ghost use Rattle.table.specs.Contents.{Contents, admitted};
+ghost use Rattle.table.specs.Made.{IsMade};
 ghost use Rattle.table.specs.Stored.{stored_fields};
 
 use crate::admission::prepare;
 use crate::cause::early_refusal;
 use crate::held::Held;
+use crate::ready::Ready;
 use crate::refusal::Refusal;
 use crate::version::Version;
 use arrays::{RecordBatch, Schema};
@@ -68,12 +70,34 @@ impl TableState {
         ensures kept { OnErr result (self.new ≡ self.old) }
         ensures legal { IsLegal self.new.fields self.new.history }
     {
+        let ready = Ready::new(self.alloc, batch);
+        self.admit_ready(worker, batch, ready)
+    }
+
+    /// Does what `admit` does, with what was made of the batch before, or the want of memory that was met there. It is no part
+    /// of the table's surface: a table that lies under a lock calls it, so that the lock is held no longer than it must.
+    pub fn admit_ready(
+        &mut self,
+        worker: u32,
+        batch: &RecordBatch,
+        ready: Result<Ready, NoMemory>,
+    ) -> Result<u32, Refusal>
+        requires { IfOk ready (IsMade batch.now) }
+        ensures number { IfOk result (λ n. n ≡ length self.old.history) }
+        ensures allowed { OnOk result (batch_cause self.old.fields self.old.history batch.now ≡ None) }
+        ensures added { OnOk result (self.new ≡ admitted self.old worker batch.now) }
+        ensures err { IfErr result (λ e. ((e ≡ Refusal.NoMemory) × (early_cause self.old.fields self.old.history batch.now ≡ None))
+            ⊎ (batch_cause self.old.fields self.old.history batch.now ≡ Some e)) }
+        ensures kept { OnErr result (self.new ≡ self.old) }
+        ensures legal { IsLegal self.new.fields self.new.history }
+    {
         if let Some(refusal) = early_refusal(&self.held, batch) {
             return Err(refusal);
         }
+        let ready = ready?;
         let number = self.held.book.len() as u32;
         self.held.reserve()?;
-        let new = prepare(self.alloc, &self.held, &mut self.pools, batch)?;
+        let new = prepare(self.alloc, &self.held, &mut self.pools, batch, ready)?;
         self.held.put_in(worker, new);
         Ok(number)
     }

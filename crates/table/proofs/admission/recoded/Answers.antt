@@ -9,8 +9,9 @@ use Rattle.arrays.specs.Shape.{FieldShape}
 use Rattle.arrays.specs.Typed.{IsItemOf}
 use Rattle.group.specs.declared.stats.ColumnStats.{ColumnStats}
 use Rattle.table.specs.Cause.{batch_cause}
-use Rattle.table.specs.Counted.{AreJoined, AreTheirs}
+use Rattle.table.specs.Counted.{AreJoined}
 use Rattle.table.specs.Held.{show}
+use Rattle.table.specs.Made.{copied}
 use Rattle.table.specs.Recoded.{full_cause, stored_seen}
 use Rattle.table.proofs.KeptLemmas.{IsFew}
 use Rattle.table.proofs.ReadyLemmas.{some-none, told, full-batch, pools-count, pools-dictionaries, pools-grown, ready, stats-count, stats-few, stored-lawful}
@@ -29,6 +30,9 @@ stored_columns-requires-clause-dictionaries c =
     (subst (All (λ (d : Seen). All (IsItemOf d.kind) d.items)) c.columns.ensures.value c.tell_all.ensures)
     c.args.pools.now.items c.requires.pools c.columns-2.result.now c.columns-2.ensures.value
 
+pub stored_columns-requires-clause-copies : goal.stored_columns-requires-clause-copies
+stored_columns-requires-clause-copies c = c.requires.made.copies ∙ ap (λ (l : List Seen). map copied l) (sym c.columns-2.ensures.value)
+
 pub returns-in_err-columns-clause-err : goal.returns-in_err-columns-clause-err
 returns-in_err-columns-clause-err c =
     told c.from_residual.result c.in_err-columns.field-0.0 (full_cause c.args.pools.now.items c.columns-2.result.now)
@@ -39,24 +43,22 @@ returns-in_err-columns-clause-err c =
 
 pub joined_all-requires-clause-count : goal.joined_all-requires-clause-count
 joined_all-requires-clause-count c =
-    let theirs = subst (λ (l : List Seen). AreTheirs l c.in_ok-batch_stats.batch_stats.items) (c.deref-2.ensures.value ∙ c.in_ok-columns.ensures.columns) c.in_ok-batch_stats.ensures in
-    ap (λ (l : List ColumnStats). length l) c.deref-5.ensures.value
+    ap (λ (l : List ColumnStats). length l) (c.deref-5.ensures.value ∙ ap (λ (v : Vec ColumnStats Global). v.items) c.deref-4.ensures)
     ∙ stats-count c.args.held.now c.args.batch.now c.requires.held c.requires.allowed c.columns.ensures.lawful
     (subst (All (λ (d : Seen). All (IsItemOf d.kind) d.items)) c.columns.ensures.value c.tell_all.ensures)
     c.args.pools.now.items c.requires.pools c.columns-2.result.now c.columns-2.ensures.value
-    c.in_ok-batch_stats.batch_stats.items theirs
-    ∙ ap (λ (v : Vec ColumnStats Global). length v.items) (sym c.deref-3.ensures)
-    ∙ ap (λ (l : List ColumnStats). length l) (sym c.deref-4.ensures.value)
+    (arc_value c.args.ready.batch_stats).items c.requires.made.statistics
+    ∙ ap (λ (v : Vec ColumnStats Global). length v.items) (sym c.deref-2.ensures)
+    ∙ ap (λ (l : List ColumnStats). length l) (sym c.deref-3.ensures.value)
 
 pub joined_all-requires-clause-few : goal.joined_all-requires-clause-few
 joined_all-requires-clause-few c =
-    let theirs = subst (λ (l : List Seen). AreTheirs l c.in_ok-batch_stats.batch_stats.items) (c.deref-2.ensures.value ∙ c.in_ok-columns.ensures.columns) c.in_ok-batch_stats.ensures in
-    subst (λ (l : List ColumnStats). AllZip IsFew l c.deref-5.result.now) (ap (λ (v : Vec ColumnStats Global). v.items) (sym c.deref-3.ensures) ∙ sym c.deref-4.ensures.value)
-    (subst (λ (l : List ColumnStats). AllZip IsFew (arc_value c.args.held.now.stats).items l) (sym c.deref-5.ensures.value)
+    subst (λ (l : List ColumnStats). AllZip IsFew l c.deref-5.result.now) (ap (λ (v : Vec ColumnStats Global). v.items) (sym c.deref-2.ensures) ∙ sym c.deref-3.ensures.value)
+    (subst (λ (l : List ColumnStats). AllZip IsFew (arc_value c.args.held.now.stats).items l) (ap (λ (v : Vec ColumnStats Global). v.items) (sym c.deref-4.ensures) ∙ sym c.deref-5.ensures.value)
     (stats-few c.args.held.now c.args.batch.now c.requires.held c.requires.allowed c.columns.ensures.lawful
     (subst (All (λ (d : Seen). All (IsItemOf d.kind) d.items)) c.columns.ensures.value c.tell_all.ensures)
     c.args.pools.now.items c.requires.pools c.columns-2.result.now c.columns-2.ensures.value
-    c.in_ok-batch_stats.batch_stats.items theirs))
+    (arc_value c.args.ready.batch_stats).items c.requires.made.statistics))
 
 pub unreachable-requires : goal.unreachable-requires
 unreachable-requires c =
@@ -74,26 +76,22 @@ unreachable-requires c =
 
 pub returns-clause-ok : goal.returns-clause-ok
 returns-clause-ok c =
-    let theirs = subst (λ (l : List Seen). AreTheirs l c.in_ok-batch_stats.batch_stats.items) (c.deref-2.ensures.value ∙ c.in_ok-columns.ensures.columns) c.in_ok-batch_stats.ensures in
     let made = c.in-Ok.ensures.ok in
     let batch = c.in_ok-new.ensures.ok in
-    let pieces = c.in_ok-new-2.ensures.ok in
-    let stored = map stored_seen (zip c.args.pools.now.items c.columns-2.result.now) in
     ready c.args.held.now c.args.batch.now c.requires.held c.requires.allowed c.columns.ensures.lawful
     (subst (All (λ (d : Seen). All (IsItemOf d.kind) d.items)) c.columns.ensures.value c.tell_all.ensures)
     c.args.pools.now.items c.requires.pools c.columns-2.result.now c.columns-2.ensures.value
-    (record { batch = c.in_ok-new.field-0; batch_stats = c.in_ok-new-2.field-0; stats = c.in_ok-new-3.field-0; dictionaries = c.in_ok-columns.field-0.dictionaries })
+    (record { batch = c.in_ok-new.field-0; batch_stats = c.args.ready.batch_stats; stats = c.in_ok-new-2.field-0; dictionaries = c.in_ok-columns.field-0.dictionaries })
     c.in_ok-columns.ensures.fits
     (ap (λ (b : Batch). b.fields) batch ∙ made.0 ∙ c.in_ok-schema.ensures ∙ c.deref-6.ensures)
     (ap (λ (b : Batch). b.rows) batch ∙ made.1 ∙ c.rows.ensures)
     (ap (λ (b : Batch). b.columns) batch ∙ made.2 ∙ c.in_ok-columns.ensures.columns)
     c.in_ok-columns.ensures.dictionaries
-    (subst (λ (v : Vec ColumnStats Global). AreTheirs stored v.items) (sym pieces) theirs)
-    (subst (λ (v : Vec ColumnStats Global). AreJoined (arc_value c.args.held.now.stats).items v.items (arc_value c.in_ok-new-3.field-0).items) (sym pieces)
-    (subst (λ (v : Vec ColumnStats Global). AreJoined (arc_value c.args.held.now.stats).items c.in_ok-batch_stats.batch_stats.items v.items) (sym c.in_ok-new-3.ensures.ok)
-    (subst (λ (l : List ColumnStats). AreJoined (arc_value c.args.held.now.stats).items l c.in_ok-stats.stats.items) c.deref-5.ensures.value
+    c.requires.made.statistics
+    (subst (λ (v : Vec ColumnStats Global). AreJoined (arc_value c.args.held.now.stats).items (arc_value c.args.ready.batch_stats).items v.items) (sym c.in_ok-new-2.ensures.ok)
+    (subst (λ (l : List ColumnStats). AreJoined (arc_value c.args.held.now.stats).items l c.in_ok-stats.stats.items) (c.deref-5.ensures.value ∙ ap (λ (v : Vec ColumnStats Global). v.items) c.deref-4.ensures)
     (subst (λ (l : List ColumnStats). AreJoined l c.deref-5.result.now c.in_ok-stats.stats.items)
-    (c.deref-4.ensures.value ∙ ap (λ (v : Vec ColumnStats Global). v.items) c.deref-3.ensures) c.in_ok-stats.ensures))))
+    (c.deref-3.ensures.value ∙ ap (λ (v : Vec ColumnStats Global). v.items) c.deref-2.ensures) c.in_ok-stats.ensures)))
 
 pub returns-clause-pools : goal.returns-clause-pools
 returns-clause-pools c = c.in_ok-columns.ensures.pools ∙ pools-grown c.args.held.now c.args.batch.now c.requires.held c.requires.allowed c.columns.ensures.lawful

@@ -5,7 +5,7 @@ use Rattle.table.specs.Contents.{Contents, admitted}
 use Rattle.table.proofs.HeldLemmas.{length-book}
 use Rattle.table.proofs.PutLemmas.{Held-same, put-held, put-shows, put-texts, show-same}
 use Rattle.table.proofs.StateLemmas.{ready-few}
-use Rattle.table.proofs.state.TableState.admit.Goals as goal
+use Rattle.table.proofs.state.TableState.admit_ready.Goals as goal
 
 abbrev Early : Contents → Batch → Type 0
 Early s b = early_cause s.fields s.history b ≡ None
