@@ -22,3 +22,4 @@ pub mod NullLemmas
 pub mod CauseLemmas
 pub mod ExportLemmas
 pub mod AnswerLemmas
+pub mod SendingLemmas
