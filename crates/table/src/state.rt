@@ -70,8 +70,11 @@ impl TableState {
         ensures kept { OnErr result (self.new ≡ self.old) }
         ensures legal { IsLegal self.new.fields self.new.history }
     {
-        let ready = Ready::new(self.alloc, batch);
-        self.admit_ready(worker, batch, ready)
+        if let Some(refusal) = early_refusal(&self.held, batch) {
+            return Err(refusal);
+        }
+        let ready = Ready::new(self.alloc, batch)?;
+        self.put_ready(worker, batch, ready)
     }
 
     /// Does what `admit` does, with what was made of the batch before, or the want of memory that was met there. It is no part
@@ -91,10 +94,24 @@ impl TableState {
         ensures kept { OnErr result (self.new ≡ self.old) }
         ensures legal { IsLegal self.new.fields self.new.history }
     {
-        if let Some(refusal) = early_refusal(&self.held, batch) {
-            return Err(refusal);
+        match early_refusal(&self.held, batch) {
+            Some(refusal) => Err(refusal),
+            None => self.put_ready(worker, batch, ready?),
         }
-        let ready = ready?;
+    }
+
+    /// Puts a batch in, of what was made of it before. Nothing but its texts and the memory can stand against it.
+    fn put_ready(&mut self, worker: u32, batch: &RecordBatch, ready: Ready) -> Result<u32, Refusal>
+        requires made { IsMade batch.now ready }
+        requires allowed { early_cause self.old.fields self.old.history batch.now ≡ None }
+        ensures number { IfOk result (λ n. n ≡ length self.old.history) }
+        ensures allowed { OnOk result (batch_cause self.old.fields self.old.history batch.now ≡ None) }
+        ensures added { OnOk result (self.new ≡ admitted self.old worker batch.now) }
+        ensures err { IfErr result (λ e. (e ≡ Refusal.NoMemory)
+            ⊎ (batch_cause self.old.fields self.old.history batch.now ≡ Some e)) }
+        ensures kept { OnErr result (self.new ≡ self.old) }
+        ensures legal { IsLegal self.new.fields self.new.history }
+    {
         let number = self.held.book.len() as u32;
         self.held.reserve()?;
         let new = prepare(self.alloc, &self.held, &mut self.pools, batch, ready)?;

@@ -5,14 +5,14 @@ use Rattle.table.specs.Contents.{Contents, admitted}
 use Rattle.table.proofs.HeldLemmas.{length-book}
 use Rattle.table.proofs.PutLemmas.{Held-same, put-held, put-shows, put-texts, show-same}
 use Rattle.table.proofs.StateLemmas.{ready-few}
-use Rattle.table.proofs.state.TableState.admit_ready.Goals as goal
+use Rattle.table.proofs.state.TableState.put_ready.Goals as goal
 
 abbrev Early : Contents → Batch → Type 0
 Early s b = early_cause s.fields s.history b ≡ None
 
 pub prepare-requires-clause-allowed : goal.prepare-requires-clause-allowed
 prepare-requires-clause-allowed c =
-    subst (λ (s : Contents). Early s c.args.batch.now) (sym (show-same c.self.inside.held c.reserve.new.self c.reserve.ensures.same)) (sym c.in_default.ensures)
+    subst (λ (s : Contents). Early s c.args.batch.now) (sym (show-same c.self.inside.held c.reserve.new.self c.reserve.ensures.same ∙ c.self.view_is)) c.requires.allowed
 
 pub put_in-requires-clause-few : goal.put_in-requires-clause-few
 put_in-requires-clause-few c =
