@@ -18,8 +18,9 @@ use std::sync::Arc;
 use std::sync::ledger::{Book, Ledger, Share};
 use table::{Ready, Refusal, TableState, Version};
 
-/// A table with the ledgers of its workers' calls and rows, and the version of it that was asked for last. Each time that its lock is got, the first counts the entries of
-/// the book and the second its rows, and each entry is of one of the table's workers.
+/// A table with the ledgers of its workers' calls and rows, and the version of it that was asked for last. Each time that
+/// its lock is got, the first ledger counts the entries of the book and the second its rows, each entry is of one of the
+/// table's workers, and the version shows the table.
 #[derive(Drop)]
 pub(crate) struct Locked<C: Ledger, Q: Ledger> {
     pub(crate) state: TableState,
