@@ -77,7 +77,7 @@ fn tell_answered<T: Threads + Sync>(
     let Ok(query) = resolve(rt.alloc(), &text, version.schema()) else {
         return told(rt, "no query of this table");
     };
-    tell_last(rt, threads, &version, &query, (times, pieces))
+    tell_last(rt, threads, &version, &query, times, pieces)
 }
 
 // Prints what the query answers, which it does so many times in so many pieces.
@@ -86,7 +86,8 @@ fn tell_last<T: Threads + Sync>(
     threads: &T,
     version: &Version,
     query: &Query,
-    (times, pieces): (u32, u32),
+    times: u32,
+    pieces: u32,
 ) -> ExitCode
     requires fits { fits version.now.fields (asked query.now) ≡ true }
     requires one { 1 ≤ pieces }
