@@ -105,3 +105,45 @@ fn refused<C: Ledger, Q: Ledger, R: Wait + Abort>(
     assert!(rt; table.snapshot(rt, &mut worker)?.rows() == 2);
     Ok(())
 }
+
+#[test]
+fn a_snapshot_shows_what_was_appended_before(rt: HostRuntime) -> Result<(), Fail> {
+    seen::<Brand, Brand, _>(&rt, rt.alloc(), Blank::new(3), Blank::new(3))
+}
+
+/// The second worker sees what the others appended before it asked, and sees the same again where nothing was appended since.
+fn seen<C: Ledger, Q: Ledger, R: Wait + Abort>(
+    rt: &R,
+    alloc: Global,
+    calls: Blank,
+    rows: Blank,
+) -> Result<(), Fail>
+    requires calls { (calls.name ≡ C.name) × (calls.parts ≡ C.parts) × (calls.parts ≡ 3) }
+    requires rows { (rows.name ≡ Q.name) × (rows.parts ≡ Q.parts) × (rows.parts ≡ 3) }
+{
+    let schema = Schema::new(Vec::new(alloc))?;
+    let (table, mut workers) = open::<C, Q>(alloc, schema, 3, calls, rows)?;
+    let mut third = workers.pop().expect(rt, "three workers");
+    let mut second = workers.pop().expect(rt, "three workers");
+    let mut first = workers.pop().expect(rt, "three workers");
+    table.append(rt, &mut second, &rows_of(alloc, 1)?)?;
+    let before = table.snapshot(rt, &mut second)?;
+    table.append(rt, &mut first, &rows_of(alloc, 2)?)?;
+    table.append(rt, &mut third, &rows_of(alloc, 4)?)?;
+    let after = table.snapshot(rt, &mut second)?;
+    let other = table.append(rt, &mut first, &numbers(alloc, "s")?);
+    assert!(rt; other == Err(Refusal::SchemaDiffers { column: 0 }));
+    let again = table.snapshot(rt, &mut second)?;
+    assert!(rt; before.rows() == 1 && before.book_len() == 1);
+    expect_seen(rt, &after);
+    expect_seen(rt, &again);
+    Ok(())
+}
+
+/// Asserts that a version shows what the first and the third worker appended, too.
+fn expect_seen(rt: &impl Abort, version: &Version) {
+    assert!(rt; version.rows() == 7 && version.book_len() == 3);
+    expect_entry(rt, version, 0, Entry { worker: 1, rows: 1 });
+    expect_entry(rt, version, 1, Entry { worker: 0, rows: 2 });
+    expect_entry(rt, version, 2, Entry { worker: 2, rows: 4 });
+}
