@@ -29,7 +29,7 @@ use Rattle.answers.specs.declared.grouping.Grouping.{Grouping}
 use Rattle.answers.specs.declared.end.End.{End}
 use Rattle.answers.specs.declared.end.End.TheVariants.{Least, Greatest}
 use Rattle.answers.specs.declared.column.TallyColumn.{TallyColumn}
-use Rattle.answers.proofs.ColumnLemmas.{refilled}
+use Rattle.answers.proofs.ColumnLemmas.{refilled, shape}
 use Rattle.answers.proofs.GroupLemmas.{Keys}
 use Rattle.answers.proofs.MergeLemmas.{tally-merged}
 use Rattle.answers.proofs.SpreadLemmas.{set_shown}
@@ -249,9 +249,6 @@ merged_into_none q rows more g other none h k =
     subst (λ (t : Table). HasGroups q (t ++ more) other) (sym (no_rows q.by.items rows g.keys h.0.keys_are none)) k
 
 -- ---- columns
-
-abbrev pub shape : Agg ℕ → List TallyShape → ColumnShape
-shape a ts = record { agg = a; tallies = ts }
 
 module _ {C : Type 0} (show : C → TallyShape) (b a : Agg ℕ) (same : (s t : TallyShape) → merged b s t ≡ merged a s t) (s : ColumnShape) (old : List C) (is : s ≡ shape a (map show old))
     (lent : List C) (numbers : List ℕ) (more : List TallyShape) (lends : lent ≡ old) where

@@ -1,7 +1,8 @@
 use Rattle.std.proofs.Common.{◌∙◌, ap, map, sym}
 use Rattle.answers.specs.Columns.{show_column, show_item, show_number}
 use Rattle.answers.specs.Ends.{agg_at}
-use Rattle.answers.proofs.MergedLemmas.{cells_merged, items_merged, merged_at, shape}
+use Rattle.answers.proofs.ColumnLemmas.{shape}
+use Rattle.answers.proofs.MergedLemmas.{cells_merged, items_merged, merged_at}
 use Rattle.answers.proofs.column.TallyColumn.merge_items.Goals as goal
 
 pub returns-in_ok-merge_items-in-Numbers : goal.returns-in_ok-merge_items-in-Numbers
