@@ -1,12 +1,12 @@
 -- A type's own arithmetic.
-use Rattle.std.proofs.Common.{◌≡◌, ◌∙◌, ℕ, zero, suc, ◌+◌, ◌*◌, ◌<◌, ℤ, pos, List, [], ◌∷◌, ◌++◌, Bool, true, length, take, drop, get_or, ap, cond, sym, subst, refl, arith, add-one, add-zero, zero-add, zero-mul}
+use Rattle.std.proofs.Common.{◌≡◌, ◌∙◌, ℕ, zero, suc, ◌+◌, ◌*◌, ◌<◌, ℤ, pos, List, [], ◌∷◌, ◌++◌, Bool, length, take, drop, get_or, ap, cond, sym, subst, refl, arith, add-zero, zero-mul}
 use Rattle.std.specs.List.{flat_map, range_with_len}
 use Rattle.std.specs.Simd.{first_chunks}
 use Rattle.std.proofs.lemmas.List.{drop-drop}
 use Rattle.colbits.specs.Slice.{slice}
 use Rattle.types.specs.declared.int_type.IntType.{IntType}
-use Rattle.arrays.specs.Number.{is_of_type, bytes_of_number}
-use Rattle.kernels.specs.Computed.{AreOfType, AreResults, AreRows, bytes_of_results, held_at}
+use Rattle.arrays.specs.Number.{bytes_of_number}
+use Rattle.kernels.specs.Computed.{AreResults, AreRows, bytes_of_results, held_at}
 use Rattle.kernels.proofs.CheckedLemmas.{AreResults-word}
 
 -- ---- reading

@@ -1,4 +1,4 @@
-use Rattle.std.proofs.Common.{◌+◌, ◌≤◌, ◌<◌, ◌*◌, arith, rules, sym, subst, refl}
+use Rattle.std.proofs.Common.{◌≤◌, arith, rules, sym, subst}
 use Rattle.arrays.specs.Seen.{valid_in}
 use Rattle.kernels.specs.Computed.{AreResults, result_at}
 use Rattle.kernels.proofs.NativeLemmas.{AreResults-rows}
