@@ -149,6 +149,32 @@ fn add(a: &Numbers, b: &Numbers) -> Result<Numbers, usize> {
     Ok(Numbers { validity, values })
 }
 
+/// The sums with one number, or the least row whose sum overflows.
+fn add_number(a: &Numbers, number: i64) -> Result<Numbers, usize> {
+    let mut values = Vec::with_capacity(a.values.len());
+    for (k, numbers) in a.values.chunks(64).enumerate() {
+        let mut past = 0;
+        for value in numbers {
+            let sum = value.wrapping_add(number);
+            past |= (value ^ sum) & (number ^ sum);
+            values.push(sum);
+        }
+        if past < 0 {
+            let overflows = |i: &usize| a.validity.get(64 * k + i) && numbers[*i].checked_add(number).is_none();
+            if let Some(i) = (0..numbers.len()).find(overflows) {
+                return Err(64 * k + i);
+            }
+        }
+    }
+    Ok(Numbers { validity: Bitmap(a.validity.0.clone()), values })
+}
+
+fn greater_number(a: &Numbers, number: i64) -> Truths {
+    let word = |numbers: &[i64]| numbers.iter().enumerate().fold(0, |word, (i, value)| word | u64::from(*value > number) << i);
+    let values = Bitmap(a.values.chunks(64).map(word).collect());
+    Truths { validity: Bitmap(a.validity.0.clone()), values }
+}
+
 fn less(a: &Numbers, b: &Numbers) -> Truths {
     let word = |(a, b): (&[i64], &[i64])| a.iter().zip(b).enumerate().fold(0, |word, (i, (a, b))| word | u64::from(a < b) << i);
     let values = Bitmap(a.values.chunks(64).zip(b.values.chunks(64)).map(word).collect());
@@ -390,6 +416,14 @@ fn main() {
         "less" => {
             let (a, b) = (numbers(rows, 3), numbers(rows, 8));
             last_of(times, || less(black_box(&a), black_box(&b))).validity.zeros(rows)
+        }
+        "add-number" => {
+            let a = numbers(rows, 3);
+            last_of(times, || add_number(black_box(&a), black_box(1)).unwrap()).validity.zeros(rows)
+        }
+        "greater-number" => {
+            let a = numbers(rows, 3);
+            last_of(times, || greater_number(black_box(&a), black_box(5))).validity.zeros(rows)
         }
         "equal" => {
             let (a, b) = (texts(rows, 3), texts(rows, 8));

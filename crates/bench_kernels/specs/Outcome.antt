@@ -1,15 +1,16 @@
 -- What the measured kernels give.
-use Rattle.std.specs.Prelude.{◌+ℤ◌, map}
+use Rattle.std.specs.Prelude.{◌+ℤ◌, pos, map}
 use Rattle.arrays.specs.Kind as kind
 use Rattle.arrays.specs.Kind.{int32}
 use Rattle.arrays.specs.Seen.{Seen}
 use Rattle.arrays.specs.Shown.{shown}
 use Rattle.bench_kernels.specs.declared.kernel.Kernel.{Kernel}
-use Rattle.bench_kernels.specs.declared.kernel.Kernel.TheVariants.{Add, Less, Equal, And, Filter, Take, TakeTexts, RecodeFew, RecodeMany}
+use Rattle.bench_kernels.specs.declared.kernel.Kernel.TheVariants.{Add, Less, Equal, And, Filter, Take, TakeTexts, RecodeFew, RecodeMany, AddNumber, GreaterNumber}
 use Rattle.kernels.specs.Arithmetic.{results}
+use Rattle.kernels.specs.Beside.{number_beside}
 use Rattle.kernels.specs.Kleene.{conjunction}
 use Rattle.kernels.specs.Order.{compared}
-use Rattle.kernels.specs.declared.comparison.CmpOp.TheVariants.{Eq, Lt}
+use Rattle.kernels.specs.declared.comparison.CmpOp.TheVariants.{Eq, Gt, Lt}
 use Rattle.pool.specs.Codes.{code_item}
 use Rattle.pool.specs.Texts.{firsts, texts_of}
 use Rattle.select.specs.Chosen.{chosen}
@@ -30,3 +31,5 @@ outcome Take a b = chosen a.kind (λ items. taken items b.items) a
 outcome TakeTexts a b = chosen a.kind (λ items. taken items b.items) a
 outcome RecodeFew a b = codes_of a
 outcome RecodeMany a b = codes_of a
+outcome AddNumber a b = shown a.kind (results ◌+ℤ◌ a.items (number_beside a (pos 1)).items)
+outcome GreaterNumber a b = shown kind.boolean (compared Gt a.items (number_beside a (pos 5)).items)

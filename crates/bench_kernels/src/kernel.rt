@@ -5,7 +5,7 @@ ghost use Rattle.bench_kernels.specs.Outcome.{codes_of};
 
 use crate::columns::{numbers, repeated_texts, rows, short_numbers, texts, truths};
 use arrays::{Array, View, ViewType};
-use kernels::{CmpOp, add, compare, kleene_and};
+use kernels::{CmpOp, add, add_number, compare, compare_number, kleene_and};
 use pool::{TextPool, recode};
 use select::{filter, take};
 use std::alloc::Global;
@@ -31,6 +31,10 @@ pub enum Kernel {
     RecodeFew,
     /// `recode` of texts of which 200,000 differ.
     RecodeMany,
+    /// `add_number` of numbers of 64 bits and 1. The second column is of no use.
+    AddNumber,
+    /// `compare_number` of the same, by `Gt` and 5.
+    GreaterNumber,
 }
 
 impl Kernel {
@@ -47,6 +51,8 @@ impl Kernel {
         ensures take_texts { name.now ≡ codes "take-texts" → result ≡ Some Kernel.TakeTexts }
         ensures recode_few { name.now ≡ codes "recode-few" → result ≡ Some Kernel.RecodeFew }
         ensures recode_many { name.now ≡ codes "recode-many" → result ≡ Some Kernel.RecodeMany }
+        ensures add_number { name.now ≡ codes "add-number" → result ≡ Some Kernel.AddNumber }
+        ensures greater_number { name.now ≡ codes "greater-number" → result ≡ Some Kernel.GreaterNumber }
     {
         match name {
             "add" => Some(Kernel::Add),
@@ -58,6 +64,8 @@ impl Kernel {
             "take-texts" => Some(Kernel::TakeTexts),
             "recode-few" => Some(Kernel::RecodeFew),
             "recode-many" => Some(Kernel::RecodeMany),
+            "add-number" => Some(Kernel::AddNumber),
+            "greater-number" => Some(Kernel::GreaterNumber),
             _ => None,
         }
     }
@@ -87,6 +95,8 @@ impl Kernel {
             Kernel::TakeTexts => texts(alloc, count, 3),
             Kernel::RecodeFew => repeated_texts(alloc, count, 3, 1_000),
             Kernel::RecodeMany => repeated_texts(alloc, count, 3, 200_000),
+            Kernel::AddNumber => numbers(alloc, count, 3),
+            Kernel::GreaterNumber => numbers(alloc, count, 3),
         }
     }
 
@@ -101,6 +111,8 @@ impl Kernel {
             Kernel::TakeTexts => rows(alloc, count),
             Kernel::RecodeFew => truths(alloc, 0, 8),
             Kernel::RecodeMany => truths(alloc, 0, 8),
+            Kernel::AddNumber => truths(alloc, 0, 8),
+            Kernel::GreaterNumber => truths(alloc, 0, 8),
         }
     }
 
@@ -118,6 +130,8 @@ impl Kernel {
             Kernel::TakeTexts => take(alloc, a, b).ok(),
             Kernel::RecodeFew => recoded(alloc, a),
             Kernel::RecodeMany => recoded(alloc, a),
+            Kernel::AddNumber => add_number(alloc, a, 1).ok(),
+            Kernel::GreaterNumber => compare_number(alloc, CmpOp::Gt, a, 5).ok(),
         }
     }
 }

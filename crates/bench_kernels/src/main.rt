@@ -1,6 +1,6 @@
 //! `bench_kernels KERNEL ROWS TIMES` makes two columns of so many rows, runs a kernel on them so many times, and
 //! prints how many slots of the last result are null. KERNEL is `add`, `less`, `equal` (of texts), `and`, `filter`, `take`,
-//! `take-texts`, `recode-few` or `recode-many`. `bench_kernels concat ROWS TIMES` puts
+//! `take-texts`, `recode-few`, `recode-many`, `add-number` or `greater-number`. `bench_kernels concat ROWS TIMES` puts
 //! sixteen columns of so many rows together behind one another, `bench_kernels stats-of ROWS TIMES` prints the
 //! statistics of one column, and `bench_kernels null-count ROWS TIMES` how many of its slots are null.
 //! `bench_kernels BITS ROWS TIMES`, with `bits-and`, `bits-or`, `bits-not` or `bits-and-within` (a byte) for BITS, makes a bitmap
@@ -29,7 +29,7 @@ use validation::Parts;
 const FEW: u32 = 1000;
 
 /// All kernels.
-const EACH: [Kernel; 9] = [
+const EACH: [Kernel; 11] = [
     Kernel::Add,
     Kernel::Less,
     Kernel::Equal,
@@ -39,6 +39,8 @@ const EACH: [Kernel; 9] = [
     Kernel::TakeTexts,
     Kernel::RecodeFew,
     Kernel::RecodeMany,
+    Kernel::AddNumber,
+    Kernel::GreaterNumber,
 ];
 
 /// All operations on bitmaps.

@@ -1,5 +1,6 @@
 -- Results packed into a word, and words chosen bit by bit.
-use Rattle.std.proofs.Common.{◌≡◌, ◌∙◌, ℕ, ◌+◌, ◌*◌, ◌%◌, ◌^◌, ◌<◌, Bool, true, false, not, ◌&&◌, ◌||◌, cond, nat_lt, bit_or, refl, sym, ap}
+use Rattle.std.proofs.Common.{◌≡◌, ◌∙◌, ℕ, ◌+◌, ◌*◌, ◌%◌, ◌^◌, ◌<◌, Bool, true, false, not, ◌&&◌, ◌||◌, ◌==◌, cond, nat_lt, bit_or, List, length, get_or, set, get_or-set_other, get_or-set_same, ◌≢◌, arith, refl, sym, ap}
+use borrow.Author.Count.{below_more}
 use mir.Val.{bits as width}
 use Rattle.std.specs.Int.{Width, from_bool}
 use Rattle.std.specs.Int.Bits.{or_zero_r}
@@ -27,3 +28,16 @@ pub choice : (b there elsewhere : Bool) → ((b && there) || (not b && elsewhere
 choice true true elsewhere = refl
 choice true false elsewhere = refl
 choice false there elsewhere = refl
+
+-- a flag that is a truth value as a number
+pub flag_is : (b : Bool) → not (from_bool b == 0) ≡ b
+flag_is true = refl
+flag_is false = refl
+
+-- one more flag set
+pub flags_more : (f : ℕ → Bool) (flags : List ℕ) (j flag : ℕ) → j < length flags → flag ≡ from_bool (f j) → ((k : ℕ) → k < j → get_or flags k 0 ≡ from_bool (f k))
+    → (k : ℕ) → k < j + 1 → get_or (set flags j flag) k 0 ≡ from_bool (f k)
+flags_more f flags j flag within is before =
+    below_more (λ k. get_or (set flags j flag) k 0 ≡ from_bool (f k)) j
+    (λ k below. let ne : k ≢ j = omega arith in rw get_or-set_other (before k below))
+    (rw get_or-set_same is)

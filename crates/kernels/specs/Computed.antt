@@ -1,5 +1,5 @@
 -- Numbers of one type that are computed slot by slot.
-use Rattle.std.specs.Prelude.{◌≡◌, ℕ, ◌+◌, ◌*◌, ◌<◌, ◌&&◌, ℤ, pos, List, Bool, true, false, not, nat_lt, length, if◌then◌else◌}
+use Rattle.std.specs.Prelude.{◌≡◌, ℕ, ◌+◌, ◌*◌, ◌<◌, ◌&&◌, ℤ, pos, List, [], Bool, true, false, not, nat_lt, length, slice_index_or, if◌then◌else◌}
 use Rattle.std.specs.List.{flat_map, range_with_len}
 use Rattle.colbits.specs.Bit.{bit_in}
 use Rattle.types.specs.declared.int_type.IntType.{IntType}
@@ -29,6 +29,16 @@ held_at t result j = if is_of_type t (result j) then result j else pos 0
 -- The bytes of these numbers of the n slots from slot start on, one behind the other.
 unfoldable pub bytes_of_results : IntType → (ℕ → ℤ) → ℕ → ℕ → List ℕ
 bytes_of_results t result start n = flat_map (λ j. bytes_of_number t (held_at t result j)) (range_with_len start n)
+
+-- Unless it is told to be outside the type, the exact result is of the type, and the number is this result.
+pub record IsTold (t : IntType) (exact z : ℤ) (outside : Bool) : Type 0 where
+  pub of_type : outside ≡ false → is_of_type t exact ≡ true
+  pub number : outside ≡ false → z ≡ exact
+
+-- The results of the n slots from slot start on are of the type, and the rows are their bytes.
+pub record AreRows (t : IntType) (result : ℕ → ℤ) (start n : ℕ) (rows : List (List ℕ)) : Type 0 where
+  pub of_type : (j : ℕ) → j < n → is_of_type t (result (start + j)) ≡ true
+  pub bytes : (j : ℕ) → j < n → slice_index_or rows j [] ≡ bytes_of_number t (result (start + j))
 
 -- The word has a bit for each of the n slots from slot start on, 1 where the result is outside the type; all others are 0.
 pub record AreOutside (t : IntType) (result : ℕ → ℤ) (start n word : ℕ) : Type 0 where

@@ -8,12 +8,13 @@ ghost use Rattle.arrays.specs.Seen.{valid_in};
 ghost use Rattle.arrays.specs.ViewType.{view_kind};
 ghost use Rattle.kernels.specs.Arithmetic.{are_one_int, arithmetic_fault, operands_fault, results};
 ghost use Rattle.kernels.specs.Beside.{fault_from, fault_with, number_beside, number_fault};
-ghost use Rattle.kernels.specs.Computed.{AreOutside, AreResults, StopsAt, bytes_of_results, result_at};
+ghost use Rattle.kernels.specs.Computed.{AreOutside, AreResults, AreRows, IsTold, StopsAt, bytes_of_results, result_at};
 ghost use Rattle.kernels.specs.Fault.{IsKernelFault};
 ghost use Rattle.arrays.specs.Shown.{shown};
 
 use crate::fault::KernelFault;
-use crate::side::{Column, One, Side, number_bytes, type_with};
+use crate::native::{Native, Packed};
+use crate::side::{Column, One, Own, Side, number_bytes, type_with};
 use arrays::validity::buffer_of;
 use arrays::{Array, IntType, Integer, View, ViewType, Width};
 use colbits::{BitmapBuf, Bits, Buffer, NoMemory};
@@ -112,6 +113,10 @@ trait Operation {
         requires high_y { y ≤ℤ pos (2 ^ 64) }
         ensures some { IfSome result (λ z. z ≡ exact x y) }
         ensures none { IfNone result ((t : IntType) → is_of_type t (exact x y) ≡ false) };
+
+    /// The result by the type's own arithmetic, and whether it is outside the type.
+    fn own<T: Native>(x: T, y: T) -> (T, bool)
+        ensures { IsTold T.ty (exact (T.number x) (T.number y)) (T.number result.0) result.1 };
 }
 
 /// The first number and the second together.
@@ -125,6 +130,11 @@ impl Operation for Sum {
     #[inline(always)]
     fn apply(x: i128, y: i128) -> Option<i128> {
         Some(x + y)
+    }
+
+    #[inline(always)]
+    fn own<T: Native>(x: T, y: T) -> (T, bool) {
+        x.sum(y)
     }
 }
 
@@ -140,6 +150,11 @@ impl Operation for Difference {
     fn apply(x: i128, y: i128) -> Option<i128> {
         Some(x - y)
     }
+
+    #[inline(always)]
+    fn own<T: Native>(x: T, y: T) -> (T, bool) {
+        x.difference(y)
+    }
 }
 
 /// The second number less the first.
@@ -153,6 +168,11 @@ impl Operation for Reversed {
     #[inline(always)]
     fn apply(x: i128, y: i128) -> Option<i128> {
         Some(y - x)
+    }
+
+    #[inline(always)]
+    fn own<T: Native>(x: T, y: T) -> (T, bool) {
+        y.difference(x)
     }
 }
 
@@ -168,6 +188,11 @@ impl Operation for Product {
     fn apply(x: i128, y: i128) -> Option<i128> {
         x.checked_mul(y)
     }
+
+    #[inline(always)]
+    fn own<T: Native>(x: T, y: T) -> (T, bool) {
+        x.product(y)
+    }
 }
 
 /// The results of two columns, whose types and lengths are looked at here.
@@ -181,14 +206,14 @@ fn compute<O: Operation>(alloc: Global, a: &View<'_>, b: &View<'_>) -> Result<Ar
         return Err(KernelFault::LengthsDiffer);
     }
     match (ty.bits, ty.signed) {
-        (Width::W8, true) => computed::<O, i8>(alloc, a, b),
-        (Width::W8, false) => computed::<O, u8>(alloc, a, b),
-        (Width::W16, true) => computed::<O, i16>(alloc, a, b),
-        (Width::W16, false) => computed::<O, u16>(alloc, a, b),
-        (Width::W32, true) => computed::<O, i32>(alloc, a, b),
-        (Width::W32, false) => computed::<O, u32>(alloc, a, b),
-        (Width::W64, true) => computed::<O, i64>(alloc, a, b),
-        (Width::W64, false) => computed::<O, u64>(alloc, a, b),
+        (Width::W8, true) => computed::<O, i8, 1>(alloc, a, b),
+        (Width::W8, false) => computed::<O, u8, 1>(alloc, a, b),
+        (Width::W16, true) => computed::<O, i16, 2>(alloc, a, b),
+        (Width::W16, false) => computed::<O, u16, 2>(alloc, a, b),
+        (Width::W32, true) => computed::<O, i32, 4>(alloc, a, b),
+        (Width::W32, false) => computed::<O, u32, 4>(alloc, a, b),
+        (Width::W64, true) => computed::<O, i64, 8>(alloc, a, b),
+        (Width::W64, false) => computed::<O, u64, 8>(alloc, a, b),
     }
 }
 
@@ -207,7 +232,7 @@ fn one_type(a: ViewType<'_>, b: ViewType<'_>) -> Result<IntType, KernelFault>
 }
 
 /// The results of two columns of this integer type and of one length.
-fn computed<O: Operation, T: Integer>(
+fn computed<O: Operation, T: Packed<N>, const N: usize>(
     alloc: Global,
     a: &View<'_>,
     b: &View<'_>,
@@ -221,7 +246,7 @@ fn computed<O: Operation, T: Integer>(
 {
     let validity = both_valid(alloc, a, b)?;
     let (x, y) = (Column::<T>::of(a), Column::<T>::of(b));
-    let numbers = numbers::<O, T, _, _>(alloc, &x, &y, &bits_of(&validity), x.slots)?;
+    let numbers = numbers::<O, T, _, _, N>(alloc, &x, &y, &bits_of(&validity), x.slots)?;
     let values = Buffer::from_vec(numbers)?;
     Ok(Array::from_numbers(alloc, T::ty(), x.slots, buffer_of(validity), values)?)
 }
@@ -238,19 +263,19 @@ fn compute_with<O: Operation>(
 {
     let ty = type_with(a.ty(), number)?;
     match (ty.bits, ty.signed) {
-        (Width::W8, true) => computed_with::<O, i8>(alloc, a, number),
-        (Width::W8, false) => computed_with::<O, u8>(alloc, a, number),
-        (Width::W16, true) => computed_with::<O, i16>(alloc, a, number),
-        (Width::W16, false) => computed_with::<O, u16>(alloc, a, number),
-        (Width::W32, true) => computed_with::<O, i32>(alloc, a, number),
-        (Width::W32, false) => computed_with::<O, u32>(alloc, a, number),
-        (Width::W64, true) => computed_with::<O, i64>(alloc, a, number),
-        (Width::W64, false) => computed_with::<O, u64>(alloc, a, number),
+        (Width::W8, true) => computed_with::<O, i8, 1>(alloc, a, number),
+        (Width::W8, false) => computed_with::<O, u8, 1>(alloc, a, number),
+        (Width::W16, true) => computed_with::<O, i16, 2>(alloc, a, number),
+        (Width::W16, false) => computed_with::<O, u16, 2>(alloc, a, number),
+        (Width::W32, true) => computed_with::<O, i32, 4>(alloc, a, number),
+        (Width::W32, false) => computed_with::<O, u32, 4>(alloc, a, number),
+        (Width::W64, true) => computed_with::<O, i64, 8>(alloc, a, number),
+        (Width::W64, false) => computed_with::<O, u64, 8>(alloc, a, number),
     }
 }
 
 /// The results of a column of this integer type and a number of it.
-fn computed_with<O: Operation, T: Integer>(
+fn computed_with<O: Operation, T: Packed<N>, const N: usize>(
     alloc: Global,
     a: &View<'_>,
     number: i128,
@@ -271,7 +296,7 @@ fn computed_with<O: Operation, T: Integer>(
         slots: x.slots,
         of: PhantomData,
     };
-    let numbers = numbers::<O, T, _, _>(alloc, &x, &y, &bits_of(&validity), x.slots)?;
+    let numbers = numbers::<O, T, _, _, N>(alloc, &x, &y, &bits_of(&validity), x.slots)?;
     let values = Buffer::from_vec(numbers)?;
     Ok(Array::from_numbers(alloc, T::ty(), x.slots, buffer_of(validity), values)?)
 }
@@ -288,7 +313,7 @@ fn bits_of(validity: &Option<BitmapBuf>) -> Option<Bits<'_>>
 
 /// The results of `len` slots as numbers of the type, any number where a slot isn't valid. It stops in the first 64
 /// slots that hold a valid one whose result is outside the type.
-fn numbers<O: Operation, T: Integer, A: Side, B: Side>(
+fn numbers<O: Operation, T: Packed<N>, A: Own<T>, B: Own<T>, const N: usize>(
     alloc: Global,
     a: &A,
     b: &B,
@@ -309,10 +334,61 @@ fn numbers<O: Operation, T: Integer, A: Side, B: Side>(
     // A buffer is padded by at most 63 bytes, so that the numbers aren't copied again.
     let mut numbers = Vec::with_capacity(alloc, count * T::ty().bits.bytes() + 63)?;
     for w in 0..words {
-        push_checked::<O, T, A, B>(&mut numbers, a, b, valid, 64 * w, 64)?;
+        push_word::<O, T, A, B, N>(&mut numbers, a, b, valid, 64 * w)?;
     }
     push_checked::<O, T, A, B>(&mut numbers, a, b, valid, 64 * words, count - 64 * words)?;
     Ok(numbers)
+}
+
+/// Adds the results of the 64 slots from slot `start` on, and tells the first valid one that is outside the type. They are looked
+/// at one by one only where one of them, valid or not, is outside.
+fn push_word<O: Operation, T: Packed<N>, A: Own<T>, B: Own<T>, const N: usize>(
+    numbers: &mut Vec<u8>,
+    a: &A,
+    b: &B,
+    valid: &Option<Bits<'_>>,
+    start: usize,
+) -> Result<(), KernelFault>
+    requires short { start + 64 ≤ 2147483647 }
+    requires a { start + 64 ≤ A.count a.now }
+    requires b { start + 64 ≤ B.count b.now }
+    requires before { let exact = result_at O.exact (A.number a.now) (B.number b.now) in
+        AreResults T.ty exact (valid_in valid.now) start numbers.old.items }
+    ensures ok { let exact = result_at O.exact (A.number a.now) (B.number b.now) in
+        OnOk result (AreResults T.ty exact (valid_in valid.now) (start + 64) numbers.new.items) }
+    ensures err { let exact = result_at O.exact (A.number a.now) (B.number b.now) in
+        IfErr result (λ e. StopsAt T.ty exact (valid_in valid.now) (start + 64) e) }
+{
+    let mut rows = [[0; N]; 64];
+    if write_rows::<O, T, A, B, N>(&mut rows, a, b, start) {
+        return push_checked::<O, T, A, B>(numbers, a, b, valid, start, 64);
+    }
+    numbers.extend_from_slice(rows.as_flattened())?;
+    Ok(())
+}
+
+/// Writes the bytes of the results of the 64 slots from slot `start` on, and tells whether one of them is outside the type.
+#[inline(always)]
+fn write_rows<O: Operation, T: Packed<N>, A: Own<T>, B: Own<T>, const N: usize>(
+    rows: &mut [[u8; N]; 64],
+    a: &A,
+    b: &B,
+    start: usize,
+) -> bool
+    requires short { start + 64 ≤ 2147483647 }
+    requires a { start + 64 ≤ A.count a.now }
+    requires b { start + 64 ≤ B.count b.now }
+    ensures size { length rows.new ≡ 64 }
+    ensures rows { let exact = result_at O.exact (A.number a.now) (B.number b.now) in
+        result ≡ false → AreRows T.ty exact start 64 rows.new }
+{
+    let mut outside = false;
+    for j in 0..64 {
+        let (number, is_outside) = O::own(a.own(start + j), b.own(start + j));
+        outside |= is_outside;
+        rows[j] = number.bytes();
+    }
+    outside
 }
 
 /// Adds the results of `count` slots from slot `start` on, and tells the first valid one that is outside the type.

@@ -9,6 +9,7 @@ ghost use Rattle.arrays.specs.ViewType.{view_kind};
 ghost use Rattle.kernels.specs.Beside.{has_number};
 
 use crate::fault::KernelFault;
+use crate::native::Native;
 use arrays::{IntType, Integer, View, ViewType};
 use colbits::NoMemory;
 use std::alloc::Global;
@@ -28,6 +29,14 @@ pub(crate) trait Side {
         // A number of any of the eight types is from -2^64 to 2^64.
         ensures low { neg_ℤ (pos (2 ^ 64)) ≤ℤ result }
         ensures high { result ≤ℤ pos (2 ^ 64) };
+}
+
+/// A side whose numbers are of type `T`, told as such.
+pub(crate) trait Own<T: Native>: Side {
+    /// The number at slot `j`.
+    fn own(&self, j: usize) -> T
+        requires { j < Self.count self.now }
+        ensures { T.number result ≡ Self.number self.now j };
 }
 
 /// The numbers of a column of type `T`.
@@ -66,6 +75,13 @@ impl<'a, T: Integer> Side for Column<'a, T> {
     }
 }
 
+impl<'a, T: Native> Own<T> for Column<'a, T> {
+    #[inline(always)]
+    fn own(&self, j: usize) -> T {
+        T::read(self.numbers, j)
+    }
+}
+
 /// One number of type `T` at each slot. It is read from its bytes, so that the compiler knows its width.
 #[derive(Drop)]
 pub(crate) struct One<'a, T: Integer> {
@@ -83,6 +99,13 @@ impl<'a, T: Integer> Side for One<'a, T> {
     #[inline(always)]
     fn at(&self, _j: usize) -> i128 {
         T::at(self.bytes, 0)
+    }
+}
+
+impl<'a, T: Native> Own<T> for One<'a, T> {
+    #[inline(always)]
+    fn own(&self, _j: usize) -> T {
+        T::read(self.bytes, 0)
     }
 }
 

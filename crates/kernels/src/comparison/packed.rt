@@ -1,10 +1,11 @@
 //! Comparisons of 64 numbers each, packed into a word.
 
-ghost use Rattle.std.specs.Prelude.{◌≡◌, ℕ, ◌+◌, ◌≤◌, ◌<◌, ◌^◌, ◌&&◌, if◌then◌else◌};
+ghost use Rattle.std.specs.Prelude.{◌≡◌, ℕ, ◌+◌, ◌≤◌, ◌<◌, ◌^◌, ◌&&◌, ◌==◌, not, slice_index, if◌then◌else◌};
 ghost use Rattle.std.specs.Ordering.{int_cmp, is_eq, is_lt};
 ghost use Rattle.colbits.specs.Bit.{bit_in};
 
 use crate::side::Side;
+use std::simd::prelude::*;
 
 /// At which of places `i` to `i + 63` the first number is less, the first of them least significant.
 #[inline(always)]
@@ -14,11 +15,11 @@ pub(crate) fn are_less<A: Side, B: Side>(a: &A, b: &B, i: usize) -> u64
     requires b { i + 64 ≤ B.count b.now }
     ensures { (j : ℕ) → j < 64 → bit_in result j ≡ is_lt (int_cmp (A.number a.now (i + j)) (B.number b.now (i + j))) }
 {
-    let mut word = 0;
+    let mut flags = [0; 64];
     for j in 0..64 {
-        word |= u64::from(is_less(a.at(i + j), b.at(i + j))) << j;
+        flags[j] = u8::from(is_less(a.at(i + j), b.at(i + j)));
     }
-    word
+    word_of(flags)
 }
 
 /// At which of these places the two numbers are equal, likewise.
@@ -29,11 +30,21 @@ pub(crate) fn are_equal<A: Side, B: Side>(a: &A, b: &B, i: usize) -> u64
     requires b { i + 64 ≤ B.count b.now }
     ensures { (j : ℕ) → j < 64 → bit_in result j ≡ is_eq (int_cmp (A.number a.now (i + j)) (B.number b.now (i + j))) }
 {
-    let mut word = 0;
+    let mut flags = [0; 64];
     for j in 0..64 {
-        word |= u64::from(is_equal(a.at(i + j), b.at(i + j))) << j;
+        flags[j] = u8::from(is_equal(a.at(i + j), b.at(i + j)));
     }
-    word
+    word_of(flags)
+}
+
+/// A word that has 0 where the flag is 0, the first of them least significant.
+#[inline(always)]
+fn word_of(flags: [u8; 64]) -> u64
+    ensures { (j : ℕ) → j < 64 → bit_in result j ≡ not (slice_index flags j == 0) }
+{
+    u8x64::from_array(flags)
+        .simd_ne(u8x64::splat(0))
+        .to_bitmask()
 }
 
 /// Whether the first number is less.

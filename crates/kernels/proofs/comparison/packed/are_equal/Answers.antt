@@ -1,9 +1,9 @@
-use Rattle.std.proofs.Common.{◌+◌, ◌∙◌, ℕ, arith, w64}
-use Rattle.std.specs.Int.{w128}
+use Rattle.std.proofs.Common.{◌+◌, ◌∙◌, ◌==◌, ℕ, not, ap, arith, length-set}
+use Rattle.std.specs.Int.{from_bool, w128}
 use Rattle.std.proofs.lemmas.Int.{to_z-of_z}
 use Rattle.std.specs.Ordering.{int_cmp, is_eq}
 use Rattle.kernels.proofs.NumberLemmas.{FitsSigned-from_range}
-use Rattle.kernels.proofs.PackedLemmas.{bits-told}
+use Rattle.kernels.proofs.PackedLemmas.{flag_is, flags_more}
 use Rattle.kernels.proofs.comparison.packed.are_equal.Goals as goal
 
 pub loop-j-preserved : goal.loop-j-preserved
@@ -12,4 +12,10 @@ loop-j-preserved g c =
     let x = to_z-of_z w128 c.at.result (FitsSigned-from_range c.at.result c.at.ensures.low c.at.ensures.high) ∙ c.at.ensures.value in
     let y = to_z-of_z w128 c.at-in-loop-j.result (FitsSigned-from_range c.at-in-loop-j.result c.at-in-loop-j.ensures.low c.at-in-loop-j.ensures.high) ∙ c.at-in-loop-j.ensures.value in
     let is = c.is_equal.ensures ∙ (λ k. is_eq (int_cmp (x k) (y k))) in
-    bits-told w64 f c.loop-j.word c.loop-j.j c.from.result _ (omega arith) c.from.ensures is c.loop-j.invariant
+    record {
+      size = length-set c.loop-j.flags c.loop-j.j c.from.result ∙ c.loop-j.invariant.size;
+      flags = flags_more f c.loop-j.flags c.loop-j.j c.from.result (omega arith) (c.from.ensures ∙ ap from_bool is) c.loop-j.invariant.flags;
+    }
+
+pub returns : goal.returns
+returns g c j below = c.word_of.ensures j below ∙ ap (λ n. not (n == 0)) (c.loop-j.invariant.flags j (omega arith)) ∙ flag_is _
