@@ -126,6 +126,19 @@ number_key ts [] z d one is = absurd (omega (arith, one))
 number_key ts (p ∷ []) z d one is = ap (λ x. item_of_part ts x ∷ []) is
 number_key ts (p ∷ q ∷ ps) z d one is = absurd (omega (arith, one))
 
+int_part : (ts : List (List ℕ)) (p : Part) (z : ℤ) → item_of_part ts p ≡ int z → p ≡ part.Int z
+int_part ts part.Null z is = absurd cc
+int_part ts (part.Int y) z is = cc
+int_part ts (part.Bool b) z is = absurd cc
+int_part ts (part.Text n) z is = absurd cc
+
+pub number_parts : (ts : List (List ℕ)) (ps : List Part) (z : ℤ) (d : Part) → key_of_parts ts ps ≡ int z ∷ [] → (length ps ≡ 1) × (get_or ps 0 d ≡ part.Int z)
+number_parts ts [] z d is = absurd cc
+number_parts ts (p ∷ []) z d is =
+    let item : item_of_part ts p ≡ int z = cc in
+    (refl, int_part ts p z item)
+number_parts ts (p ∷ q ∷ ps) z d is = absurd cc
+
 pub number_within : (n : ℕ) (ps : List Part) (z : ℤ) → ps ≡ part.Int z ∷ [] → All (IsWithin n) ps
 number_within n ps z is = subst (All (IsWithin n)) (sym is) (All-cons (IsWithin n) (part.Int z) [] tt (All-nil (IsWithin n)))
 

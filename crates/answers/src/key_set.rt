@@ -1,6 +1,6 @@
 //! The keys of groups, each once.
 
-ghost use Rattle.std.specs.Prelude.{◌≡◌, ◌∷◌, ◌<◌, ◌≤◌, [], All, IfOk, IfSome, None, OnOk, Some, length, map, slice_get, slice_index_or};
+ghost use Rattle.std.specs.Prelude.{◌≡◌, ◌≢◌, ◌∷◌, ◌<◌, ◌≤◌, ℤ, [], All, IfOk, MatchOption, None, OnOk, Some, length, map, slice_get, slice_index_or};
 ghost use mathlib.Core.List.{IsPrefix};
 ghost use Rattle.arrays.specs.Batch.{row_of};
 ghost use Rattle.arrays.specs.Item.{int};
@@ -113,10 +113,10 @@ impl KeySet {
 }
 
 impl KeySet {
-    /// The number that a key is, where it is a number alone.
+    /// The number that a key is, where it is a number alone; none otherwise.
     pub(crate) fn number_alone(&self, place: usize) -> Option<i128>
         requires { place < length self.now }
-        ensures { IfSome result (λ z. slice_index_or self.now place [] ≡ int z ∷ []) }
+        ensures { MatchOption result ((z : ℤ) → slice_index_or self.now place [] ≢ int z ∷ []) (λ z. slice_index_or self.now place [] ≡ int z ∷ []) }
     {
         let keys = self.keys.as_slice();
         let parts = keys[place].as_slice();

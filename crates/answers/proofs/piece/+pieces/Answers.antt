@@ -1,11 +1,11 @@
-use Rattle.std.proofs.Common.{◌≡◌, ◌∙◌, ◌+◌, ◌-◌, ◌≤◌, List, ap, arith, inr, length, map, refl, subst, sym}
+use Rattle.std.proofs.Common.{◌≡◌, ◌∙◌, ◌+◌, ◌-◌, ◌≤◌, List, ap, arith, inr, map, refl, subst, sym}
 use Rattle.std.specs.Prelude.{◌/◌}
 use Rattle.std.specs.Arc.{arc_value}
 use Rattle.std.proofs.lemmas.Result.{err_from_is_err_and}
 use Rattle.arrays.specs.Batch.{Batch}
 use Rattle.query.specs.Asked.{asked}
 use Rattle.answers.specs.Answers.{all_rows, first_fields}
-use Rattle.answers.specs.Pieces.{AreLooked, HasRun, IsPieceRefusal, cut_at, rows_between}
+use Rattle.answers.specs.Pieces.{AreLooked, HasRun, cut_at, rows_between}
 use Rattle.answers.proofs.PieceLemmas.{are_looked, cuts_rise}
 use Rattle.answers.proofs.WholeLemmas.{front_refused, part_refused, pieces_joined, pieces_room}
 use Rattle.answers.proofs.piece.+pieces.Goals as goal
