@@ -1,6 +1,6 @@
 -- What is remembered of keys stays true while keys come.
 use Rattle.std.proofs.Common.{◌≡◌, ◌∙◌, ℕ, zero, suc, ◌<◌, Bool, true, false, ◌||◌, cond, List, [], ◌∷◌, ◌++◌, ◌+◌, ◌-◌, take, length, map, get_or, replicate, Option, Some, None, Result, Ok, Err, IfOk, ℤ, pos, negsuc, refl, sym, ap, subst, arith}
-use Rattle.std.specs.Prelude.{All, slice_get, slice_index_or, slice_set}
+use Rattle.std.specs.Prelude.{All, OnOk, slice_get, slice_index_or, slice_set}
 use Rattle.std.proofs.lemmas.List.{get_or-map, length-map, map-append, take_more}
 use Rattle.std.proofs.lemmas.List.Elements.{All-get_or}
 use Rattle.std.proofs.lemmas.Bool.Decides.{nat_tests}
@@ -165,6 +165,12 @@ step_entry r keys new m n key items place old now is h knows within at same null
             (subst (λ k. IsRemembered new k now) is k.1),
       )
       go (Err e) k = tt
+
+-- The number of a key of which nothing is remembered.
+pub step_other : {E : Type 0} (r : Result ℕ E) (keys new : Keys) (m : Memo) (key : List Item) → Remembers keys m → OnOk r (new ≡ insert_key same_key keys key)
+    → IfOk r (λ n. slice_get new n ≡ Some key) → IfOk r (λ n. IsNumbered keys new key n × Remembers new m)
+step_other (Ok n) keys new m key h more at = (record { keys_are = more; there = at }, subst (λ (l : Keys). Remembers l m) (sym more) (remembers-kept keys key m h))
+step_other (Err e) keys new m key h more at = tt
 
 -- A number that is remembered.
 pub found : (keys : Keys) (m : Memo) (z : ℤ) (n : ℕ) (key : List Item) → key ≡ int z ∷ [] → Remembers keys m → get int_eq m.numbers z ≡ Some n → IsNumbered keys keys key n

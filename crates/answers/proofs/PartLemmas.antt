@@ -1,20 +1,20 @@
 -- Parts of keys and the items that they stand for.
 use mathlib.Core.Logic.{⊎_elim}
-use Rattle.std.proofs.Common.{◌≡◌, ◌∙◌, ℕ, ◌+◌, ◌<◌, ◌≤◌, Bool, true, false, ◌&&◌, ◌||◌, cond, eqb, List, [], ◌∷◌, ◌++◌, length, take, get_or, Some, refl, sym, ap, subst, arith, append_assoc, length-append}
+use Rattle.std.proofs.Common.{◌≡◌, ◌∙◌, ℕ, ◌+◌, ◌<◌, ◌≤◌, Bool, true, false, ◌&&◌, ◌||◌, cond, eqb, List, [], ◌∷◌, ◌++◌, ℤ, length, take, get_or, Some, refl, sym, ap, subst, arith, append_assoc, length-append}
 use Rattle.std.specs.Prelude.{All, slice_get, slice_index_or, option_map, ◌⊎◌}
 use Rattle.std.specs.List.{IsDistinct, list_any}
 use Rattle.std.specs.Str.{bytes_eq}
 use Rattle.std.proofs.lemmas.Bool.{eqb-true, eqb-false}
 use Rattle.std.proofs.lemmas.Cmp.{nat_list_eq_equiv}
 use Rattle.std.proofs.lemmas.List.{map-append, length-map, take_more, get_or-map, get_or_append_left}
-use Rattle.std.proofs.lemmas.List.Elements.{All-head, All-tail, All-push, All-weaker, All-get_or}
+use Rattle.std.proofs.lemmas.List.Elements.{All-cons, All-head, All-nil, All-tail, All-push, All-weaker, All-get_or}
 use Rattle.std.proofs.lemmas.Map.Keys.{apart_from_distinct}
 use Rattle.std.proofs.lemmas.Option.{slice_get-map, slice_get_within, get_or_from_slice_get}
 use mathlib.Core.List.{IsPrefix}
 use lib.Pointwise.{pointwise}
 use Rattle.arrayvec.specs.ArrayVec.{ArrayVec}
 use Rattle.indexmap.specs.IndexSet.{insert_key}
-use Rattle.arrays.specs.Item.{Item, null, text}
+use Rattle.arrays.specs.Item.{Item, int, null, text}
 use Rattle.arrays.specs.Batch.{Row}
 use Rattle.answers.specs.declared.part.Part.{Part}
 use Rattle.answers.specs.declared.part.Part.TheVariants as part
@@ -120,6 +120,27 @@ key_there ts ks keys n k are below is =
     let key : ArrayVec Part → List Item = λ l. key_of_parts ts l.items in
     let within : n < length ks = omega (arith, below, ap length are, length-map ks key) in
     ap key is ∙ sym (get_or-map key ks n k [] within) ∙ ap (λ l. slice_index_or l n []) are
+
+pub number_key : (ts : List (List ℕ)) (ps : List Part) (z : ℤ) (d : Part) → length ps ≡ 1 → get_or ps 0 d ≡ part.Int z → key_of_parts ts ps ≡ int z ∷ []
+number_key ts [] z d one is = absurd (omega (arith, one))
+number_key ts (p ∷ []) z d one is = ap (λ x. item_of_part ts x ∷ []) is
+number_key ts (p ∷ q ∷ ps) z d one is = absurd (omega (arith, one))
+
+int_part : (ts : List (List ℕ)) (p : Part) (z : ℤ) → item_of_part ts p ≡ int z → p ≡ part.Int z
+int_part ts part.Null z is = absurd cc
+int_part ts (part.Int y) z is = cc
+int_part ts (part.Bool b) z is = absurd cc
+int_part ts (part.Text n) z is = absurd cc
+
+pub number_parts : (ts : List (List ℕ)) (ps : List Part) (z : ℤ) (d : Part) → key_of_parts ts ps ≡ int z ∷ [] → (length ps ≡ 1) × (get_or ps 0 d ≡ part.Int z)
+number_parts ts [] z d is = absurd cc
+number_parts ts (p ∷ []) z d is =
+    let item : item_of_part ts p ≡ int z = cc in
+    (refl, int_part ts p z item)
+number_parts ts (p ∷ q ∷ ps) z d is = absurd cc
+
+pub number_within : (n : ℕ) (ps : List Part) (z : ℤ) → ps ≡ part.Int z ∷ [] → All (IsWithin n) ps
+number_within n ps z is = subst (All (IsWithin n)) (sym is) (All-cons (IsWithin n) (part.Int z) [] tt (All-nil (IsWithin n)))
 
 module _ (ts : List (List ℕ)) (once : IsDistinct bytes_eq ts) where
   texts_same : (m n : ℕ) → m < length ts → n < length ts → eqb m n ≡ bytes_eq (get_or ts m []) (get_or ts n [])

@@ -1,12 +1,12 @@
 -- The rows of a piece, batch by batch.
-use Rattle.std.proofs.Common.{◌≡◌, ◌∙◌, ℕ, zero, suc, ◌+◌, ◌-◌, ◌<◌, ◌≤◌, Bool, true, not, cond, List, [], ◌∷◌, ◌++◌, length, map, take, drop, get_or, position, Option, Some, None, All, refl, sym, ap, subst, arith, length-append, take-append-drop, zero-add, le_refl}
+use Rattle.std.proofs.Common.{◌≡◌, ◌∙◌, ℕ, zero, suc, ◌+◌, ◌-◌, ◌<◌, ◌≤◌, Bool, true, not, cond, List, [], ◌∷◌, ◌++◌, length, map, take, drop, get_or, position, Option, Some, None, All, refl, sym, ap, subst, arith, length-append, zero-add, le_refl}
 use Rattle.std.specs.Prelude.{◌*◌, ◌/◌, Err, IfErr, IfOk, Ok, Result, false, is_none, min, nat_lt}
 use Rattle.std.proofs.Math.Nat.{div-le_of_le-mul, div-mul-le_self, mul-div_cancel, mul-zero, mul_comm, zero-div}
 use Rattle.std.proofs.lemmas.Bool.{lt-ltb, ltb-true}
 use Rattle.std.proofs.lemmas.Nat.{le-div, mul-le}
 use Rattle.std.specs.List.{position_or_len, range_with_len}
 use Rattle.std.proofs.lemmas.Grind.{common_steps}
-use Rattle.std.proofs.lemmas.List.{append_assoc, length-drop, length-take, take_all}
+use Rattle.std.proofs.lemmas.List.{length-drop, length-take, take_all}
 use Rattle.std.proofs.lemmas.List.Elements.{All-append, All-cons, All-drop, All-head, All-nil, All-tail, All-take}
 use Rattle.colbits.proofs.BitLemmas.{map-range-same}
 use Rattle.arrays.specs.Batch.{Batch, Row, Table, row_of, rows_of}
@@ -17,7 +17,7 @@ use Rattle.query.specs.Tree.{Tree}
 use Rattle.query.specs.declared.queries.Query.{Query}
 use Rattle.answers.specs.Answers.{all_rows}
 use Rattle.answers.specs.Groups.{is_bad, verdict}
-use Rattle.answers.specs.Pieces.{HasRun, IsGood, IsPiece, IsPieceRefusal, between, cut_at, piece}
+use Rattle.answers.specs.Pieces.{AreLooked, HasRun, IsGood, IsPieceRefusal, between, cut_at}
 use Rattle.query.specs.declared.fault.QueryFault.{QueryFault}
 use Rattle.answers.specs.Runs.{AreSound, HasKept, IsBadRow, rows_in}
 use Rattle.answers.specs.declared.grouping.Grouping.{Grouping}
@@ -87,7 +87,7 @@ rows-between b from to =
     ∙ ap (λ m. map (row_of b.columns) (range_with_len m (min to b.rows - start))) (zero-add start)
     ∙ sym (map-range-same (row_in b start) (row_of b.columns) 0 start (min to b.rows - start) (λ i. ap (λ k. row_of b.columns (start + k)) (zero-add i)))
 
-length-between : (from to : ℕ) (rows : Table) → length (between from to rows) ≡ min to (length rows) - from
+pub length-between : (from to : ℕ) (rows : Table) → length (between from to rows) ≡ min to (length rows) - from
 length-between from to rows = omega (arith, length-drop from (take to rows), length-take to rows)
 
 -- ---- the next batch
@@ -169,20 +169,20 @@ piece_run bs i b below is from to start n first count fields q old new same run 
 
 -- ---- where the pieces are cut
 
-pub cuts_rise : (rows pieces place : ℕ) → 1 ≤ pieces → cut_at rows pieces place ≤ cut_at rows pieces (place + 1)
-cuts_rise rows pieces place one =
-    le-div (rows * place / pieces) (rows * (place + 1)) pieces (omega (arith, one))
-    (omega (arith, div-mul-le_self (rows * place) pieces, mul-le rows place rows (place + 1) (omega arith) (omega arith)))
+pub cuts_rise : (rows pieces from to : ℕ) → 1 ≤ pieces → from ≤ to → cut_at rows pieces from ≤ cut_at rows pieces to
+cuts_rise rows pieces from to one order =
+    le-div (rows * from / pieces) (rows * to) pieces (omega (arith, one))
+    (omega (arith, div-mul-le_self (rows * from) pieces, mul-le rows from rows to (le_refl rows) order))
 
-pub is_piece : (fields : List FieldShape) (q : Query) (rows : Table) (pieces place from to : ℕ) (r : Result Grouping QueryFault)
-    → from ≡ cut_at (length rows) pieces place → to ≡ cut_at (length rows) pieces (place + 1)
-    → IfOk r (HasRun fields q (between from to rows)) → IfErr r (IsPieceRefusal fields (asked q).filter from (between from to rows))
-    → IsPiece fields q rows pieces place r
-is_piece fields q rows pieces place from to (Ok g) first last ok err =
-    subst (λ n. HasRun fields q (between n (cut_at (length rows) pieces (place + 1)) rows) g) first (subst (λ n. HasRun fields q (between from n rows) g) last ok)
-is_piece fields q rows pieces place from to (Err e) first last ok err =
-    subst (λ n. IsPieceRefusal fields (asked q).filter n (between n (cut_at (length rows) pieces (place + 1)) rows) e) first
-    (subst (λ n. IsPieceRefusal fields (asked q).filter from (between from n rows) e) last err)
+pub are_looked : (fields : List FieldShape) (q : Query) (rows : Table) (pieces from to first last : ℕ) (r : Result Grouping QueryFault)
+    → first ≡ cut_at (length rows) pieces from → last ≡ cut_at (length rows) pieces to
+    → IfOk r (HasRun fields q (between first last rows)) → IfErr r (IsPieceRefusal fields (asked q).filter first (between first last rows))
+    → AreLooked fields q rows pieces from to r
+are_looked fields q rows pieces from to first last (Ok g) low high ok err =
+    subst (λ n. HasRun fields q (between n (cut_at (length rows) pieces to) rows) g) low (subst (λ n. HasRun fields q (between first n rows) g) high ok)
+are_looked fields q rows pieces from to first last (Err e) low high ok err =
+    subst (λ n. IsPieceRefusal fields (asked q).filter n (between n (cut_at (length rows) pieces to) rows) e) low
+    (subst (λ n. IsPieceRefusal fields (asked q).filter first (between first n rows) e) high err)
 
 pub first_cut : (rows pieces : ℕ) → cut_at rows pieces 0 ≡ 0
 first_cut rows pieces = ap (λ n. n / pieces) (mul-zero rows) ∙ zero-div pieces
@@ -194,19 +194,22 @@ pub cuts_within : (rows pieces place : ℕ) → place ≤ pieces → cut_at rows
 cuts_within rows pieces place within =
     div-le_of_le-mul pieces (omega (arith, mul-le rows place rows pieces (le_refl rows) within, mul_comm rows pieces))
 
--- ---- the rows of one piece more
+-- ---- the rows of pieces, and of those behind them
 
-pub front_next : (rows : Table) (from to : ℕ) → from ≤ to → between 0 to rows ≡ between 0 from rows ++ between from to rows
+front_next : (rows : Table) (from to : ℕ) → from ≤ to → between 0 to rows ≡ between 0 from rows ++ between from to rows
 front_next [] from to order =
     none_between 0 to ∙ sym (ap (λ (l : Table). l ++ between from to []) (none_between 0 from) ∙ none_between from to)
 front_next (r ∷ rows) zero to order = refl
 front_next (r ∷ rows) (suc from) zero order = absurd (omega (arith, order))
 front_next (r ∷ rows) (suc from) (suc to) order = ap (λ (l : Table). r ∷ l) (front_next rows from to (omega (arith, order)))
 
-pub pieces_next : (rows : Table) (pieces place : ℕ) → 1 ≤ pieces
-    → between 0 (cut_at (length rows) pieces (place + 1)) rows ≡ between 0 (cut_at (length rows) pieces place) rows ++ piece pieces place rows
-pieces_next rows pieces place one =
-    front_next rows (cut_at (length rows) pieces place) (cut_at (length rows) pieces (place + 1)) (cuts_rise (length rows) pieces place one)
+pub both_parts : (rows : Table) (from middle to : ℕ) → from ≤ middle → middle ≤ to → between from to rows ≡ between from middle rows ++ between middle to rows
+both_parts [] from middle to low high =
+    none_between from to ∙ sym (ap (λ (l : Table). l ++ between middle to []) (none_between from middle) ∙ none_between middle to)
+both_parts (r ∷ rows) zero middle to low high = front_next (r ∷ rows) middle to high
+both_parts (r ∷ rows) (suc from) zero to low high = absurd (omega (arith, low))
+both_parts (r ∷ rows) (suc from) (suc middle) zero low high = absurd (omega (arith, high))
+both_parts (r ∷ rows) (suc from) (suc middle) (suc to) low high = both_parts rows from middle to (omega (arith, low)) (omega (arith, high))
 
 pub front_whole : (rows : Table) → between 0 (length rows) rows ≡ rows
 front_whole rows = take_all (length rows) rows (le_refl (length rows))
@@ -243,19 +246,17 @@ module _ (p : Row → Bool) where
         (at, omega (arith, at, ltb-true (position_or_len p rows) (length rows) is))
     go false is found = absurd cc
 
-  -- Where no row before the piece passes, the first of the piece is the first of all.
-  pub bad_in_piece : (rows : Table) (from to n : ℕ) → from ≤ to → from ≤ length rows → All (λ r. p r ≡ false) (between 0 from rows)
-      → position p (between from to rows) ≡ Some n → position p rows ≡ Some (from + n)
-  bad_in_piece rows from to n order within good here =
-      let front = between 0 from rows in
-      let part = between from to rows in
-      let rest = drop to rows in
-      let found = where_found part n here in
-      let split : rows ≡ front ++ (part ++ rest) =
-      sym (take-append-drop to rows) ∙ ap (λ (l : Table). l ++ rest) (front_next rows from to order) ∙ append_assoc front part rest in
-      let place : position_or_len p rows ≡ from + n =
-      ap (position_or_len p) split ∙ behind_front front (part ++ rest) good
-      ∙ omega (arith, within, length-between 0 from rows, found.0, before_rest part rest (omega (arith, found.0, found.1))) in
-      let inside : position_or_len p rows < length rows =
-      omega (arith, place, found.1, within, length-between 0 from rows, ap length split, length-append front (part ++ rest), length-append part rest) in
-      ap (λ b. cond b (Some (position_or_len p rows)) None) (lt-ltb (position_or_len p rows) (length rows) inside) ∙ ap Some place
+  pub found_in_front : (front rows : Table) (n : ℕ) → position p front ≡ Some n → position p (front ++ rows) ≡ Some n
+  found_in_front front rows n here =
+      let found = where_found front n here in
+      let place : position_or_len p (front ++ rows) ≡ n = before_rest front rows (omega (arith, found.0, found.1)) ∙ found.0 in
+      let inside : position_or_len p (front ++ rows) < length (front ++ rows) = omega (arith, place, found.1, length-append front rows) in
+      ap (λ b. cond b (Some (position_or_len p (front ++ rows))) None) (lt-ltb (position_or_len p (front ++ rows)) (length (front ++ rows)) inside) ∙ ap Some place
+
+  -- Where no row in front passes.
+  pub found_behind : (front rows : Table) (n : ℕ) → All (λ r. p r ≡ false) front → position p rows ≡ Some n → position p (front ++ rows) ≡ Some (length front + n)
+  found_behind front rows n good here =
+      let found = where_found rows n here in
+      let place : position_or_len p (front ++ rows) ≡ length front + n = behind_front front rows good ∙ ap (λ m. length front + m) found.0 in
+      let inside : position_or_len p (front ++ rows) < length (front ++ rows) = omega (arith, place, found.1, length-append front rows) in
+      ap (λ b. cond b (Some (position_or_len p (front ++ rows))) None) (lt-ltb (position_or_len p (front ++ rows)) (length (front ++ rows)) inside) ∙ ap Some place

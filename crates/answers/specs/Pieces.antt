@@ -1,12 +1,14 @@
 -- Pieces of the rows of all batches.
-use Rattle.std.specs.Prelude.{◌≡◌, ◌⊎◌, ◌<◌, ◌≤◌, ◌^◌, ℕ, ◌+◌, ◌*◌, ◌/◌, false, List, Option, Some, Result, Ok, Err, All, length, position, slice_index_or, take, drop}
-use Rattle.arrays.specs.Batch.{Row, Table}
-use Rattle.types.specs.Shape.{FieldShape}
+use Rattle.std.specs.Prelude.{◌≡◌, ◌⊎◌, ◌≤◌, ◌^◌, ℕ, ◌+◌, ◌*◌, ◌/◌, false, true, List, Option, Some, Result, Ok, Err, All, length, map, position, take, drop}
+use Rattle.arrays.specs.Batch.{Batch, Row, Table}
+use Rattle.types.specs.Shape.{FieldShape, kind_of_field}
 use Rattle.query.specs.Asked.{asked}
+use Rattle.query.specs.Fault.{fits}
 use Rattle.query.specs.Tree.{Tree}
 use Rattle.query.specs.declared.fault.QueryFault.{QueryFault}
 use Rattle.query.specs.declared.fault.QueryFault.TheVariants.{Overflow, NoMemory}
 use Rattle.query.specs.declared.queries.Query.{Query}
+use Rattle.answers.specs.Answers.{all_rows, first_fields}
 use Rattle.answers.specs.Groups.{is_bad}
 use Rattle.answers.specs.Kinds.{AreComparable, kind_at}
 use Rattle.answers.specs.Runs.{HasKept}
@@ -32,18 +34,21 @@ IsPieceRefusal fields f from rows e = ((n : ℕ) × (position (is_bad fields f) 
 abbrev pub cut_at : ℕ → ℕ → ℕ → ℕ
 cut_at rows pieces place = rows * place / pieces
 
--- The rows of a piece.
-abbrev pub piece : ℕ → ℕ → Table → Table
-piece pieces place rows = between (cut_at (length rows) pieces place) (cut_at (length rows) pieces (place + 1)) rows
+-- The rows of neighbouring pieces, from one up to another.
+abbrev pub rows_between : ℕ → ℕ → ℕ → Table → Table
+rows_between pieces from to rows = between (cut_at (length rows) pieces from) (cut_at (length rows) pieces to) rows
 
--- What is known of a piece once all of its rows were looked at.
-abbrev pub IsPiece : List FieldShape → Query → Table → ℕ → ℕ → Result Grouping QueryFault → Type 0
-IsPiece fields q rows pieces place (Ok g) = HasRun fields q (piece pieces place rows) g
-IsPiece fields q rows pieces place (Err e) = IsPieceRefusal fields (asked q).filter (cut_at (length rows) pieces place) (piece pieces place rows) e
+-- What is known of them once all of their rows were looked at.
+abbrev pub AreLooked : List FieldShape → Query → Table → ℕ → ℕ → ℕ → Result Grouping QueryFault → Type 0
+AreLooked fields q rows pieces from to (Ok g) = HasRun fields q (rows_between pieces from to rows) g
+AreLooked fields q rows pieces from to (Err e) = IsPieceRefusal fields (asked q).filter (cut_at (length rows) pieces from) (rows_between pieces from to rows) e
 
--- The pieces of rows, of which there are no more than a table may have, and whose items can be compared.
-pub record ArePieces (fields : List FieldShape) (q : Query) (rows : Table) (looked : List (Result Grouping QueryFault)) : Type 0 where
-  pub some : 1 ≤ length looked
-  pub few : length rows ≤ 2 ^ 40
-  pub comparable : All (AreComparable (kind_at fields) q.aggs.items) rows
-  pub each : (place : ℕ) (r : Result Grouping QueryFault) → place < length looked → IsPiece fields q rows (length looked) place (slice_index_or looked place r)
+-- The batches are of the same types, the query fits each of them, and their items can be compared. There are so many rows, no more than a table may have, and from 1 to 64 pieces.
+pub record IsAsked (bs : List Batch) (q : Query) (rows pieces : ℕ) : Type 0 where
+  pub types : All (λ (b : Batch). map kind_of_field b.fields ≡ map kind_of_field (first_fields bs)) bs
+  pub fits : All (λ (b : Batch). fits b.fields (asked q) ≡ true) bs
+  pub comparable : All (AreComparable (kind_at (first_fields bs)) q.aggs.items) (all_rows bs)
+  pub counted : rows ≡ length (all_rows bs)
+  pub few : length (all_rows bs) ≤ 2 ^ 40
+  pub one : 1 ≤ pieces
+  pub most : pieces ≤ 64

@@ -1,19 +1,17 @@
 //! Queries over batches.
 
-ghost use Rattle.std.specs.Prelude.{◌≡◌, ◌≤◌, ◌^◌, All, IfErr, IfOk, List, length, map, true};
+ghost use Rattle.std.specs.Prelude.{◌≡◌, ◌≤◌, ◌^◌, All, IfErr, IfOk, length, map, true};
 ghost use Rattle.std.specs.Arc.{arc_value};
-ghost use Rattle.arrays.specs.Batch.{Batch, Table};
-ghost use Rattle.types.specs.Shape.{FieldShape, kind_of_field};
+ghost use Rattle.arrays.specs.Batch.{Batch};
+ghost use Rattle.types.specs.Shape.{kind_of_field};
 ghost use Rattle.query.specs.Asked.{asked};
 ghost use Rattle.query.specs.Fault.{fits};
 ghost use Rattle.answers.specs.Answers.{IsAnswer, IsRefusal, all_rows, first_fields};
-ghost use Rattle.answers.specs.Pieces.{ArePieces, HasRun, IsPieceRefusal};
 
 use crate::counting::count_all;
 use crate::gate::Gate;
-use crate::grouping::Grouping;
 use crate::groups::Answer;
-use crate::piece::look_at_pieces;
+use crate::piece::{Cuts, look_at_pieces};
 use arrays::RecordBatch;
 use query::{Query, QueryFault};
 use std::alloc::Global;
@@ -48,25 +46,7 @@ pub fn answer<T: Threads + Sync, G: Gate>(
     ensures err { IfErr result (IsRefusal (first_fields (map arc_value batches.now)) (asked query.now) (all_rows (map arc_value batches.now))) }
 {
     let rows = count_all(batches, query);
-    let looked = look_at_pieces(threads, alloc, batches, query, rows, pieces, gate)?;
-    let whole = merge_pieces(alloc, query, looked)?;
+    let cuts = Cuts { rows, pieces };
+    let whole = look_at_pieces(threads, alloc, batches, query, cuts, 0, pieces, gate)?;
     Ok(whole.tell(alloc)?)
-}
-
-/// The groups of all rows, whose pieces stand in their order: the first piece with a bad row has the least one.
-fn merge_pieces(
-    alloc: Global,
-    query: &Query,
-    looked: Vec<Result<Grouping, QueryFault>>,
-) -> Result<Grouping, QueryFault>
-    requires { (fields : List FieldShape) × (rows : Table) × ArePieces fields query.now rows looked.items }
-    ensures ok { (fields : List FieldShape) (rows : Table) → ArePieces fields query.now rows looked.items → IfOk result (HasRun fields query.now rows) }
-    ensures err { (fields : List FieldShape) (rows : Table) → ArePieces fields query.now rows looked.items
-        → IfErr result (IsPieceRefusal fields (asked query.now).filter 0 rows) }
-{
-    let mut whole = Grouping::new(alloc, query)?;
-    for piece in looked {
-        whole.merge(alloc, piece?)?;
-    }
-    Ok(whole)
 }

@@ -21,6 +21,7 @@ use crate::groups::{Answer, Group};
 use crate::key_set::KeySet;
 use crate::memo::Memo;
 use crate::numbering::number_rows;
+use crate::other_keys::number_others;
 use arrays::RecordBatch;
 use colbits::NoMemory;
 use group::Scalar;
@@ -116,7 +117,12 @@ impl Grouping {
             *self = other;
             return Ok(());
         }
-        self.keys.number_all(&other.keys, &mut self.numbers)?;
+        number_others(
+            &mut self.keys,
+            &mut self.memo,
+            &mut self.numbers,
+            &other.keys,
+        )?;
         let groups = self.keys.len();
         join_columns(
             alloc,

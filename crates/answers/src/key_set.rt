@@ -1,14 +1,14 @@
 //! The keys of groups, each once.
 
-ghost use Rattle.std.specs.Prelude.{◌≡◌, ◌<◌, ◌≤◌, [], All, IfOk, None, OnOk, Some, length, map, slice_get, slice_index_or};
+ghost use Rattle.std.specs.Prelude.{◌≡◌, ◌≢◌, ◌∷◌, ◌<◌, ◌≤◌, ℤ, [], All, IfOk, MatchOption, None, OnOk, Some, length, map, slice_get, slice_index_or};
 ghost use mathlib.Core.List.{IsPrefix};
 ghost use Rattle.arrays.specs.Batch.{row_of};
+ghost use Rattle.arrays.specs.Item.{int};
 ghost use Rattle.indexmap.specs.IndexSet.{insert_key};
 ghost use Rattle.query.specs.Columns.{sort_at};
 ghost use Rattle.query.specs.Fault.{key_fault};
 ghost use Rattle.answers.specs.Answers.{item_in};
 ghost use Rattle.answers.specs.Groups.{key_of};
-ghost use Rattle.answers.specs.Keys.{AreNumbers, with_keys};
 ghost use Rattle.answers.specs.Parts.{IsWithin, item_of_part, key_of_parts};
 ghost use Rattle.answers.specs.Same.{same_key};
 ghost use Rattle.answers.specs.Values.{item_of_value};
@@ -113,24 +113,36 @@ impl KeySet {
 }
 
 impl KeySet {
-    /// Puts the number of each key of the other set in place of what was there. A key that is new is put at the end.
-    pub(crate) fn number_all(
-        &mut self,
-        other: &KeySet,
-        numbers: &mut Vec<usize>,
-    ) -> Result<(), NoMemory>
-        ensures keys { OnOk result (self.new ≡ with_keys self.old other.now) }
-        ensures numbers { OnOk result (AreNumbers self.new other.now numbers.new.items) }
+    /// The number that a key is, where it is a number alone; none otherwise.
+    pub(crate) fn number_alone(&self, place: usize) -> Option<i128>
+        requires { place < length self.now }
+        ensures { MatchOption result ((z : ℤ) → slice_index_or self.now place [] ≢ int z ∷ []) (λ z. slice_index_or self.now place [] ≡ int z ∷ []) }
     {
-        numbers.clear();
-        for place in 0..other.len() {
-            numbers.push(self.number_of_key(other, place)?)?;
+        let keys = self.keys.as_slice();
+        let parts = keys[place].as_slice();
+        if parts.len() != 1 {
+            return None;
         }
-        Ok(())
+        match parts[0] {
+            Part::Int(number) => Some(number),
+            _ => None,
+        }
+    }
+
+    /// The place of the key of a number alone, which is put at the end where it is new.
+    pub(crate) fn place_of_number(&mut self, number: i128) -> Result<usize, NoMemory>
+        ensures keys { OnOk result (self.new ≡ insert_key same_key self.old (int number ∷ [])) }
+        ensures place { IfOk result (λ n. slice_get self.new n ≡ Some (int number ∷ [])) }
+    {
+        let mut parts = ArrayVec::new();
+        parts.push(Part::Int(number));
+        let _len = self.texts.len();
+        let (place, _is_new) = self.keys.insert_full(parts)?;
+        Ok(place)
     }
 
     /// The number of a key of another set, which is put at the end where it is new.
-    fn number_of_key(&mut self, other: &KeySet, place: usize) -> Result<usize, NoMemory>
+    pub(crate) fn number_of_key(&mut self, other: &KeySet, place: usize) -> Result<usize, NoMemory>
         requires { place < length other.now }
         ensures keys { OnOk result (self.new ≡ insert_key same_key self.old (slice_index_or other.now place [])) }
         ensures number { IfOk result (λ n. slice_get self.new n ≡ Some (slice_index_or other.now place [])) }

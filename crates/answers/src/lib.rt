@@ -23,6 +23,7 @@ mod number_column;
 mod number_keys;
 mod numbering;
 mod numbers;
+mod other_keys;
 mod part;
 mod piece;
 mod run;

@@ -103,33 +103,26 @@ fn number_of_item(
     ensures entries { memo.new.entries ≡ memo.old.entries }
 {
     match number {
-        Some(number) => number_of_number(keys, memo, batch, by, row, number),
+        Some(number) => number_of_number(keys, memo, number),
         None => number_by(&mut memo.null, keys, batch, by, row),
     }
 }
 
-/// The number of a row's key, whose one item is this number.
+/// The number of the key of a number alone: the one that is known, or else the one that it has or gets, which is known then.
 #[inline(always)]
-fn number_of_number(
+pub(crate) fn number_of_number(
     keys: &mut KeySet,
     memo: &mut Memo,
-    batch: &RecordBatch,
-    by: &[u32],
-    row: usize,
     number: i128,
 ) -> Result<usize, NoMemory>
-    requires few { length by.now ≤ 4 }
-    requires plain { All (λ c. key_fault (sort_at batch.now.fields) c ≡ None) by.now }
-    requires within { row < batch.now.rows }
-    ensures number { let key = key_of by.now (row_of batch.now.columns row) in
-        key ≡ int number ∷ [] → Remembers keys.old memo.old
-        → IfOk result (λ n. IsNumbered keys.old keys.new key n × Remembers keys.new memo.new) }
+    ensures number { Remembers keys.old memo.old
+        → IfOk result (λ n. IsNumbered keys.old keys.new (int number ∷ []) n × Remembers keys.new memo.new) }
     ensures entries { memo.new.entries ≡ memo.old.entries }
 {
     if let Some(known) = memo.numbers.get(&number) {
         return Ok(*known);
     }
-    let new = keys.number_of(batch, by, row)?;
+    let new = keys.place_of_number(number)?;
     memo.numbers.insert(number, new)?;
     Ok(new)
 }

@@ -1,24 +1,24 @@
 //! Pieces of the rows of all batches.
 
-ghost use Rattle.std.specs.Prelude.{◌≡◌, ◌<◌, ◌≤◌, ◌-◌, ◌^◌, ℕ, All, IfErr, IfOk, Result, length, map, min, slice_index_or, true};
+ghost use Rattle.std.specs.Prelude.{◌≡◌, ◌+◌, ◌<◌, ◌≤◌, ◌-◌, ◌^◌, All, IfErr, IfOk, length, map, min, true};
 ghost use Rattle.std.specs.Arc.{arc_value};
+ghost use Rattle.std.specs.Thread.{IsSync};
 ghost use Rattle.arrays.specs.Batch.{Batch};
 ghost use Rattle.types.specs.Shape.{kind_of_field};
 ghost use Rattle.query.specs.Asked.{asked};
 ghost use Rattle.query.specs.Fault.{fits};
 ghost use Rattle.answers.specs.Answers.{all_rows, first_fields};
-ghost use Rattle.answers.specs.Pieces.{HasRun, IsPiece, IsPieceRefusal, between, cut_at};
+ghost use Rattle.answers.specs.Pieces.{AreLooked, HasRun, IsAsked, IsPieceRefusal, between, cut_at};
 
 use crate::gate::Gate;
 use crate::grouping::Grouping;
 use crate::run::add_part;
 use arrays::RecordBatch;
-use colbits::NoMemory;
 use evaluate::stop::Stop;
 use query::{Query, QueryFault};
 use std::alloc::Global;
 use std::sync::Arc;
-use std::thread::{Threads, map_indices};
+use std::thread::{Threads, join};
 
 /// The groups of the rows from one place up to another, over all batches, one batch after the other: `Overflow` with the least of
 /// these rows where the filter is bad, or `NoMemory` where a growth was refused.
@@ -70,60 +70,67 @@ fn within(place: u64, before: u64, rows: u64) -> u64
     place.saturating_sub(before).min(rows)
 }
 
-/// The groups of each piece of so many rows, or the piece's least row where the filter is bad. Each piece is looked at in a thread of
-/// its own, which passes the gate before its first row, where the piece is empty too.
+/// The groups of the rows of some neighbouring pieces, so many from one on, or the least of these rows where the filter is bad. Each
+/// piece is looked at in a thread of its own, which passes the gate before its first row, where the piece is empty too. What is known
+/// of one half of the pieces and of the other is put together once both are looked at.
+#[cycle(pieces)]
 pub(crate) fn look_at_pieces<T: Threads + Sync, G: Gate>(
     threads: &T,
     alloc: Global,
     batches: &[Arc<RecordBatch>],
     query: &Query,
-    rows: u64,
-    pieces: u32,
+    cuts: Cuts,
+    from: u32,
+    count: u32,
     gate: &G,
-) -> Result<Vec<Result<Grouping, QueryFault>>, NoMemory>
-    requires types { All (λ (b : Batch). map kind_of_field b.fields ≡ map kind_of_field (first_fields (map arc_value batches.now))) (map arc_value batches.now) }
-    requires fits { All (λ (b : Batch). fits b.fields (asked query.now) ≡ true) (map arc_value batches.now) }
-    requires few { length (all_rows (map arc_value batches.now)) ≤ 2 ^ 40 }
-    requires rows { rows ≡ length (all_rows (map arc_value batches.now)) }
-    requires one { 1 ≤ pieces }
-    requires most { pieces ≤ 64 }
-    ensures len { IfOk result (λ v. length v.items ≡ pieces) }
-    ensures each { let bs = map arc_value batches.now in
-        IfOk result (λ v. (place : ℕ) (r : Result _ _) → place < pieces
-        → IsPiece (first_fields bs) query.now (all_rows bs) pieces place (slice_index_or v.items place r)) }
+) -> Result<Grouping, QueryFault>
+    requires asked { IsAsked (map arc_value batches.now) query.now cuts.rows cuts.pieces }
+    requires some { 0 < count }
+    requires within { from + count ≤ cuts.pieces }
+    ensures { let bs = map arc_value batches.now in
+        AreLooked (first_fields bs) query.now (all_rows bs) cuts.pieces from (from + count) result }
 {
-    let looked = map_indices(
-        threads,
-        alloc,
-        pieces as usize,
-        &|place: usize| -> Result<Grouping, QueryFault>
-            requires types { All (λ (b : Batch). map kind_of_field b.fields ≡ map kind_of_field (first_fields (map arc_value batches.now))) (map arc_value batches.now) }
-            requires fits { All (λ (b : Batch). fits b.fields (asked query.now) ≡ true) (map arc_value batches.now) }
-            requires few { length (all_rows (map arc_value batches.now)) ≤ 2 ^ 40 }
-            requires rows { rows ≡ length (all_rows (map arc_value batches.now)) }
-            requires one { 1 ≤ pieces }
-            requires most { pieces ≤ 64 }
-            requires within { place < pieces }
-            ensures { let bs = map arc_value batches.entry.now in
-                IsPiece (first_fields bs) query.entry.now (all_rows bs) pieces place result }
-        {
-            gate.pass(place as u32, 0);
-            let from = cut_at(rows, pieces, place as u32);
-            let to = cut_at(rows, pieces, place as u32 + 1);
-            look_at_piece(alloc, batches, query, from, to)
-        },
-    )?;
-    Ok(looked)
+    if count == 1 {
+        gate.pass(from, 0);
+        let first = cuts.at(from);
+        let last = cuts.at(from + 1);
+        return look_at_piece(alloc, batches, query, first, last);
+    }
+    let low = count / 2;
+    let high = count - low;
+    let middle = from + low;
+    let front = move || -> Result<Grouping, QueryFault>
+        requires { IsSync T.row × IsSync G.row × IsAsked (map arc_value batches.now) query.now cuts.rows cuts.pieces × (0 < low) × (from + low ≤ cuts.pieces) }
+        ensures { let bs = map arc_value batches.entry.now in
+            AreLooked (first_fields bs) query.entry.now (all_rows bs) cuts.pieces from (from + low) result }
+    { look_at_pieces(threads, alloc, batches, query, cuts, from, low, gate) };
+    let back = move || -> Result<Grouping, QueryFault>
+        requires { IsSync T.row × IsSync G.row × IsAsked (map arc_value batches.now) query.now cuts.rows cuts.pieces × (0 < high) × (middle + high ≤ cuts.pieces) }
+        ensures { let bs = map arc_value batches.entry.now in
+            AreLooked (first_fields bs) query.entry.now (all_rows bs) cuts.pieces middle (middle + high) result }
+    { look_at_pieces(threads, alloc, batches, query, cuts, middle, high, gate) };
+    let (early, late) = join(threads, front, back);
+    let mut whole = early?;
+    whole.merge(alloc, late?)?;
+    Ok(whole)
 }
 
-/// The first row of a piece of so many rows; at the place behind the last piece, how many rows there are.
-fn cut_at(rows: u64, pieces: u32, place: u32) -> u64
-    requires few { rows ≤ 2 ^ 40 }
-    requires most { place ≤ 64 }
-    requires one { 1 ≤ pieces }
-    ensures { result ≡ cut_at rows pieces place }
-{
-    let place = u64::from(place);
-    let scaled = rows * place;
-    scaled / u64::from(pieces)
+/// Into how many neighbouring pieces so many rows are cut.
+#[derive(Clone, Copy, Debug)]
+pub(crate) struct Cuts {
+    pub(crate) rows: u64,
+    pub(crate) pieces: u32,
+}
+
+impl Cuts {
+    /// The first row of a piece; at the place behind the last piece, how many rows there are.
+    fn at(self, place: u32) -> u64
+        requires few { self.rows ≤ 2 ^ 40 }
+        requires most { place ≤ 64 }
+        requires one { 1 ≤ self.pieces }
+        ensures { result ≡ cut_at self.rows self.pieces place }
+    {
+        let scaled = self.rows * u64::from(place);
+        scaled / u64::from(self.pieces)
+    }
 }
