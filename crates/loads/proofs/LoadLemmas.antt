@@ -1,7 +1,7 @@
 -- One list of tables appended after another, and the plan of one file more.
-use Rattle.std.proofs.Common.{◌≡◌, ◌≢◌, ◌∙◌, ℕ, suc, ◌+◌, ◌%◌, ◌<◌, ◌≤◌, List, [], ◌∷◌, ◌++◌, length, map, take, get_or, Bool, true, false, cond, filter, Option, None, Some, OnOk, Result, Ok, Err, ap, sym, refl, subst, arith, length-append, zero-add}
+use Rattle.std.proofs.Common.{◌≡◌, ◌≢◌, ◌∙◌, ℕ, suc, ◌+◌, ◌%◌, ◌<◌, ◌≤◌, List, [], ◌∷◌, ◌++◌, length, map, take, get_or, Bool, true, false, cond, filter, Option, Some, OnOk, Result, Ok, Err, ap, sym, refl, subst, arith, length-append, zero-add}
 use Rattle.std.proofs.Math.ListN.{get_or-map}
-use Rattle.std.specs.Prelude.{◌==◌, nat_lt}
+use Rattle.std.specs.Prelude.{◌==◌, is_some, nat_lt}
 use Rattle.std.specs.List.{enumerate_from, flat_map}
 use Rattle.std.proofs.lemmas.Bool.Decides.{nat_tests}
 use Rattle.std.proofs.lemmas.Grind.{flat_map-append}
@@ -10,7 +10,7 @@ use Rattle.std.proofs.lemmas.List.Elements.{filter-append}
 use Rattle.std.proofs.lemmas.List.Sums.{sum_by-append}
 use Rattle.arrays.specs.Batch.{Batch, Table, rows_of}
 use Rattle.arrays.specs.File.{File}
-use Rattle.shared.specs.Hand.{Hand, IsKept, IsRaised, calls_of_hand}
+use Rattle.shared.specs.Hand.{Hand, IsRaised, calls_of_hand}
 use Rattle.shared.specs.declared.outcome.Receipt.{Receipt}
 use Rattle.loads.specs.Loaded.{HasLast, Loaded, tables_of}
 use Rattle.loads.specs.Plan.{planned}
@@ -22,12 +22,6 @@ on_ok (Ok x) f p = f p
 on_ok (Err e) f p = tt
 
 -- ---- lists of tables
-
-pub loaded_none : (h : Hand) → Loaded [] h h
-loaded_none h = record { number = refl; calls = omega arith; rows = omega arith }
-
-pub loaded_kept : (old new : Hand) → IsKept old new → Loaded [] old new
-loaded_kept old new is = record { number = is.number; calls = omega (arith, is.calls); rows = omega (arith, is.rows) }
 
 pub loaded_raised : (t : Table) (added : ℕ) (old new : Hand) → length t ≡ added → IsRaised added old new → Loaded (t ∷ []) old new
 loaded_raised t added old new size is = record { number = is.number; calls = omega (arith, is.calls); rows = omega (arith, is.rows, size) }
@@ -73,14 +67,11 @@ tables_at files n f bs below is same =
 
 -- ---- the last receipt
 
-pub last_none : (h : Hand) → HasLast (calls_of_hand h) h None
-last_none h = grind (arith, nat_tests)
-
 pub last_some : (first : ℕ) (t : Table) (old new : Hand) (r : Receipt) → first ≤ calls_of_hand old → Loaded (t ∷ []) old new → HasLast first new (Some r)
 last_some first t old new r before is = let more : first < calls_of_hand new = omega (arith, before, is.calls) in grind (arith, nat_tests)
 
-pub last_kept : (first : ℕ) (old new : Hand) (last : Option Receipt) → Loaded [] old new → HasLast first old last → HasLast first new last
-last_kept first old new last is has = has ∙ ap (λ n. nat_lt first n) (let same : calls_of_hand old ≡ calls_of_hand new = omega (arith, is.calls) in same)
+pub last_moved : (first : ℕ) (old new : Hand) (before last : Option Receipt) → new ≡ old → last ≡ before → HasLast first old before → HasLast first new last
+last_moved first old new before last same is has = ap (λ (p : Option Receipt). is_some p) is ∙ has ∙ ap (λ (h : Hand). nat_lt first (calls_of_hand h)) (sym same)
 
 -- ---- the plan
 

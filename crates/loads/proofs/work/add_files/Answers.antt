@@ -1,10 +1,10 @@
-use Rattle.std.proofs.Common.{◌∙◌, ◌+◌, ◌<◌, is_some, length, map, nat_lt, take, ap, subst, sym, arith}
+use Rattle.std.proofs.Common.{◌+◌, ◌<◌, length, map, take, subst, sym, arith}
 use Rattle.std.specs.Arc.{arc_value}
 use Rattle.arrays.specs.Batch.{rows_of}
-use Rattle.shared.specs.Hand.{Hand, calls_of_hand}
+use Rattle.shared.specs.Hand.{Hand}
 use Rattle.loads.specs.Loaded.{Loaded, tables_of}
 use Rattle.loads.specs.Plan.{planned}
-use Rattle.loads.proofs.LoadLemmas.{loaded_file, loaded_other, tables_at, tables_length}
+use Rattle.loads.proofs.LoadLemmas.{last_moved, loaded_file, loaded_other, tables_at, tables_length}
 use Rattle.loads.proofs.work.add_files.Goals as goal
 use Rattle.loads.proofs.work.add_files.Goals.{then-number-count+in_default, else-number-count}
 
@@ -26,10 +26,10 @@ loop-number-preserved g c =
                 (loaded_file (tables_of files) count place n (map rows_of bs) old mid new below w.if-number-count.true
                 (tables_at files n c.index-files-number.result bs c.loop-number-test.true c.index-files-number.is w.batches.ensures.value)
                 c.loop-number.invariant.loaded w.in_default.ensures.loaded);
-            last = ap is_some w.last-is ∙ w.add_batches-added.ensures.last ∙ ap (λ h. nat_lt c.args.first (calls_of_hand h)) (sym w.worker-is);
+            last = last_moved c.args.first new c.if-number-count.worker w.add_batches-added.new.last c.if-number-count.last w.worker-is w.last-is w.add_batches-added.ensures.last;
           }
       | else-number-count w ↦ record {
         loaded = subst is_new (sym w.worker-is) (loaded_other (tables_of files) count place n old mid below w.if-number-count.false c.loop-number.invariant.loaded);
-        last = ap is_some w.last-is ∙ c.loop-number.invariant.last ∙ ap (λ h. nat_lt c.args.first (calls_of_hand h)) (sym w.worker-is);
+        last = last_moved c.args.first mid c.if-number-count.worker c.loop-number.last c.if-number-count.last w.worker-is w.last-is c.loop-number.invariant.last;
       }
     ]
