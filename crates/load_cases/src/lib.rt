@@ -1,0 +1,9 @@
+//! Tests of files that are loaded by several workers.
+#![tactic(auto)]
+
+#[cfg(test)]
+mod gates;
+#[cfg(test)]
+mod loading;
+#[cfg(test)]
+mod testing;

@@ -1,0 +1,26 @@
+use Rattle.std.proofs.Common.{◌∙◌, ◌++◌, ◌∷◌, [], None, ap, arith, sym, vec_capacity, vec_len}
+use Rattle.shared.specs.declared.outcome.Outcome.{Outcome}
+use Rattle.loads.proofs.ToldLemmas.{pushed_items, receipt_more, receipts_same}
+use Rattle.loads.proofs.outcomes.push_receipts.Goals as goal
+use Rattle.loads.proofs.outcomes.push_receipts.Goals.{in-Some, in_default}
+
+pub loop-outcome-preserved : goal.loop-outcome-preserved
+loop-outcome-preserved c =
+    let all = c.args.outcomes.now in
+    let i = c.loop-outcome.outcome-index in
+    let below = c.loop-outcome-test.true in
+    let before = c.args.receipts.now.items in
+    let nothing : Outcome = record { last = None; stop = None } in
+    elim c.match-outcome.branch [
+      | in-Some w ↦ record {
+        items = ap (λ v. v.items) w.receipts-is
+            ∙ pushed_items w.push.result w.unwrap.result c.loop-outcome.receipts.items w.push.new.self.items w.in-Some.receipt w.unwrap.ensures w.push.ensures.items
+            ∙ ap (λ xs. xs ++ w.in-Some.receipt ∷ []) c.loop-outcome.invariant.items
+            ∙ receipt_more all i nothing before w.in-Some.receipt below w.in-Some.is;
+        room = omega (arith, c.loop-outcome.invariant.room, w.push.ensures.upper_bound, w.push.ensures.capacity, ap vec_len w.receipts-is, ap vec_capacity w.receipts-is);
+      }
+      | in_default w ↦ record {
+        items = ap (λ v. v.items) w.receipts-is ∙ c.loop-outcome.invariant.items ∙ ap (λ xs. before ++ xs) (sym (receipts_same all i nothing below w.in_default.is));
+        room = omega (arith, c.loop-outcome.invariant.room, ap vec_len w.receipts-is, ap vec_capacity w.receipts-is);
+      }
+    ]

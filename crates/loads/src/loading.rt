@@ -1,0 +1,62 @@
+//! Files loaded by workers, side by side.
+
+ghost use Rattle.std.specs.Prelude.{◌≡◌, ◌<◌, IfErr, IfOk, OnOk, length};
+ghost use Rattle.loads.specs.Loaded.{AllLoaded, tables_of};
+ghost use Rattle.loads.specs.Told.{AreReceipts, Stands};
+
+use crate::appending::Gated;
+use crate::fault::LoadFault;
+use crate::file_loading::append_files;
+use crate::outcomes::{fault_of, push_receipts, take_outcomes};
+use answers::Gate;
+use arrays::File;
+use shared::{Receipt, SharedTable, Worker};
+use std::alloc::Global;
+use std::sync::Wait;
+use std::sync::ledger::Ledger;
+use std::thread::Threads;
+
+/// Loads files into the table of the workers, each worker in a thread of its own: file f by the worker at the place that f
+/// leaves as remainder by the number of workers, file after file, and in each file batch after batch. Before its append number
+/// n of this call, counted from 0, a worker passes the gate with its place and n. A worker stops at its first refusal; the
+/// others go on.
+///
+/// The answer has the receipt of the last batch of each worker that appended any, in the order of the workers. What was left
+/// with the workers before is gone.
+///
+/// # Errors
+/// `Refused` with the least file, where any worker was stopped by another refusal than want of memory; `NoMemory` where workers
+/// were stopped by that alone. What was appended stays, and nothing is left with the workers. `NoMemory` too where there was no
+/// room for the answer, and then nothing was begun.
+pub fn load_all<
+    C: Ledger + Send + Sync,
+    Q: Ledger + Send + Sync,
+    W: Wait + Sync,
+    T: Threads + Sync,
+    G: Gate,
+>(
+    wait: &W,
+    threads: &T,
+    alloc: Global,
+    table: &SharedTable<C, Q>,
+    workers: &mut [Worker<C, Q>],
+    files: &[File],
+    gate: &G,
+) -> Result<Vec<Receipt>, LoadFault>
+    requires some { 0 < length workers.old }
+    ensures loaded { OnOk result (AllLoaded (tables_of files.now) workers.old workers.new) }
+    ensures receipts { IfOk result (λ v. AreReceipts v.items (tables_of files.now) workers.old workers.new) }
+    ensures err { IfErr result (λ e. Stands e (tables_of files.now) workers.old workers.new) }
+{
+    let count = workers.len();
+    let mut receipts = Vec::with_capacity(alloc, count)?;
+    let mut outcomes = Vec::with_capacity(alloc, count)?;
+    let gated = Gated { wait, table, gate };
+    append_files(threads, &gated, files, workers);
+    take_outcomes(workers, &mut outcomes);
+    if let Some(fault) = fault_of(&outcomes) {
+        return Err(fault);
+    }
+    push_receipts(&outcomes, &mut receipts);
+    Ok(receipts)
+}
