@@ -17,7 +17,7 @@ use Rattle.json_places.specs.JsonTable.{FileData, table_of}
 use Rattle.arrowtab.specs.Alone.{AreAlike, IsRefusedIn, IsRefusedOver, IsWhole, Shows, StopsWanted, alone, batches_in, fields_for}
 use Rattle.arrowtab.specs.Explained.{Explains, ExplainsFiles}
 use Rattle.arrowtab.specs.Loaded.{FileBatch, IsLoaded, IsStopped, added_by, batches_of, tables_of}
-use Rattle.arrowtab.specs.Plan.{planned}
+use Rattle.loads.specs.Plan.{planned}
 use Rattle.job.specs.declared.asked.Command.{Command}
 use Rattle.job.specs.declared.asked.Command.TheVariants as command
 use Rattle.query.specs.Resolved.{named}

@@ -7,3 +7,4 @@ mod RunLemmas
 mod ExportLemmas
 mod GroupLineLemmas
 mod QueryLemmas
+mod TogetherLemmas

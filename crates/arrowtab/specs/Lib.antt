@@ -1,5 +1,5 @@
 -- The words of this crate's contracts.
-pub mod Plan
+pub use Rattle.loads.specs.Plan
 pub mod RefusalText
 pub mod Shown
 pub mod GroupLines

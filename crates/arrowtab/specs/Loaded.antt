@@ -5,7 +5,7 @@ use Rattle.arrays.specs.Shape.{FieldShape}
 use Rattle.arrays.specs.Batch.{Table}
 use Rattle.json_places.specs.JsonTable.{FileData, rows_of}
 use Rattle.table.specs.History.{History, of}
-use Rattle.arrowtab.specs.Plan.{planned}
+use Rattle.loads.specs.Plan.{planned}
 use Rattle.table.specs.Cause.{IsLegal, difference, handed_cause}
 use Rattle.table.specs.declared.refusal.Refusal.{Refusal}
 

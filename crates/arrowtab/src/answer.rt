@@ -1,5 +1,5 @@
-//! The output of a job, or why there is none.
-ghost use Rattle.std.specs.Prelude.{◌^◌, ◌-◌, ◌<◌, All, IfErr, IfOk, length, map, string_bytes};
+//! The output of a job that one worker does, or why there is none.
+ghost use Rattle.std.specs.Prelude.{◌^◌, ◌-◌, ◌<◌, ◌≤◌, All, IfErr, IfOk, length, map, string_bytes};
 ghost use Rattle.arrowtab.specs.Alone.{fields_for, Shows, StopsWanted};
 ghost use Rattle.arrowtab.specs.Explained.{Explains};
 ghost use Rattle.arrowtab.specs.Run.{Answers};
@@ -54,25 +54,28 @@ fn answer_files<T: Threads + Sync>(
 {
     let table = load(alloc, files)?;
     let version = table.version()?;
-    output_of(threads, alloc, wanted, &version)
+    output_of(threads, alloc, wanted, 1, &version)
 }
 
-/// What is wanted, for a version of the table, which one worker has loaded.
-fn output_of<T: Threads + Sync>(
+/// What is wanted, for a version of the table that so many workers have loaded. A query is answered in as many pieces.
+pub(crate) fn output_of<T: Threads + Sync>(
     threads: &T,
     alloc: Global,
     wanted: &Wanted,
+    workers: u32,
     version: &Version,
 ) -> Result<String, RunFault>
+    requires some { 1 ≤ workers }
+    requires few { workers ≤ 64 }
     ensures legal { IsLegal version.now.fields version.now.history }
-    ensures output { IfOk result (λ text. PrintsWanted wanted.now 1 version.now.fields version.now.history (string_bytes text)) }
+    ensures output { IfOk result (λ text. PrintsWanted wanted.now workers version.now.fields version.now.history (string_bytes text)) }
     ensures err { IfErr result (IsUnprinted wanted.now version.now.fields version.now.history) }
 {
     // What a version holds is legal, as it says with the number of its rows.
     let _rows = version.rows();
     match wanted {
-        Wanted::Stats => Ok(stats_text(alloc, 1, version)?),
+        Wanted::Stats => Ok(stats_text(alloc, workers, version)?),
         Wanted::Export => Ok(export_text(alloc, version)?),
-        Wanted::Groups(query) => groups_text(threads, alloc, query, 1, version),
+        Wanted::Groups(query) => groups_text(threads, alloc, query, workers, version),
     }
 }

@@ -14,6 +14,7 @@ mod report;
 mod run_fault;
 mod tell;
 mod text;
+mod together;
 mod wanted;
 
 pub use arrow_json::{JsonFault, JsonFaultKind, Member, Path, Step, fault_text};

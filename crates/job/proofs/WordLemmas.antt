@@ -1,5 +1,7 @@
 -- What `clap` says of the words, at the program's command line.
-use Rattle.std.proofs.Common.{◌≡◌, ◌≢◌, List, Bool, true, false, refl, inl, inr}
+use Rattle.std.proofs.Common.{◌≡◌, ◌≢◌, ℕ, List, Bool, true, false, refl, inl, inr}
+use Rattle.std.specs.Prelude.{Option, None, Some}
+use Rattle.std.specs.Str.Parse.{digits_value, without_leading_plus}
 use Rattle.clap.proofs.OnLiterals.{clap_on_literals}
 use Rattle.clap.specs.Words.{HasKind, IsAmong, Text, fault_of, is_simple_and_free, kind_of, takes}
 use Rattle.clap.specs.declared.error.Error.{Error}
@@ -28,3 +30,9 @@ refused words error passes kinds other = record {
   kind = among words error other kinds;
   of_words = other;
 }
+
+-- a text that is there, and whose number is known wherever it is
+pub number_there : (text : Option Text) (n : ℕ) → text ≢ None → ((t : Text) → text ≡ Some t → digits_value 10 (without_leading_plus t) ≡ n)
+    → (t : Text) × (text ≡ Some t) × (digits_value 10 (without_leading_plus t) ≡ n)
+number_there None n there value = absurd (there refl)
+number_there (Some t) n there value = (t, refl, value t refl)

@@ -1,7 +1,8 @@
 -- Which job the words of the command line ask for, and why they ask for none. `clap` has functions of the words for both.
-use Rattle.std.specs.Prelude.{◌≡◌, ◌≢◌, ◌<◌, List, [], length, map, Option, Some, false, ⊤, codes, string_bytes, String}
+use Rattle.std.specs.Prelude.{◌≡◌, ◌≢◌, ◌<◌, ◌≤◌, ℕ, List, [], length, map, Option, Some, false, ⊤, codes, string_bytes, String}
+use Rattle.std.specs.Str.Parse.{digits_value, without_leading_plus}
 use Rattle.std.specs.declared.alloc.Global.{Global}
-use Rattle.clap.specs.Words.{IsAmong, Row, Text, all_of, fault_of, first_of, kind_of, subcommand_of, takes}
+use Rattle.clap.specs.Words.{IsAmong, Row, Text, all_of, fault_of, first_of, kind_of, one_of, subcommand_of, takes}
 use Rattle.clap.specs.declared.error.Error.{Error}
 use Rattle.clap.specs.declared.error.kind.ErrorKind.TheVariants.{OutOfMemory}
 use Rattle.job.specs.CommandLine.{arrowtab}
@@ -27,13 +28,17 @@ HasQuery rows (Query text) = first_of (codes "QUERY") rows ≡ Some (string_byte
 abbrev pub names_of : List (String Global) → List Text
 names_of names = map string_bytes names
 
--- What `clap` finds in the words is the command with its query, and the names of the files. It finds no number of workers yet.
+-- The number of workers is the value of --workers, in decimal digits.
+abbrev pub HasWorkers : List Row → ℕ → Type 0
+HasWorkers rows workers = (text : Text) × (one_of (codes "N") rows ≡ Some text) × (digits_value 10 (without_leading_plus text) ≡ workers)
+
+-- What `clap` finds in the words is the command with its query, the names of the files, and the number of workers.
 pub record Finds (found : Option (Text × List Row)) (job : Job) : Type 0 where
   pub rows : List Row
   pub command : found ≡ Some (word_of job.command, rows)
   pub query : HasQuery rows job.command
   pub names : all_of (codes "FILE") rows ≡ Some (names_of job.names.items)
-  pub workers : job.workers ≡ 1
+  pub workers : HasWorkers rows job.workers
 
 -- `clap` takes the words, and finds the job in them.
 pub record Asks (words : List Text) (job : Job) : Type 0 where
@@ -43,7 +48,8 @@ pub record Asks (words : List Text) (job : Job) : Type 0 where
 -- What running a job asks of it.
 pub record IsReady (job : Job) : Type 0 where
   pub some : 0 < length job.names.items
-  pub one_worker : job.workers ≡ 1
+  pub worker : 1 ≤ job.workers
+  pub few : job.workers ≤ 64
 
 -- `clap` doesn't take the words, and the error is of a kind that they give.
 pub record IsRefusal (words : List Text) (error : Error) : Type 0 where

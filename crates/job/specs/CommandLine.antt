@@ -1,7 +1,8 @@
 -- The commands of the program, as `clap` knows them.
-use Rattle.std.specs.Prelude.{ℕ, List, true, Some, codes}
+use Rattle.std.specs.Prelude.{ℕ, List, [], ◌∷◌, pos, true, Some, codes}
 use Rattle.clap.specs.Lexer.{usize_max}
 use Rattle.clap.specs.Words.{App, Rule, new_app, new_rule, with_rule, with_subcommand}
+use Rattle.clap.specs.declared.builder.value_parser.ValueParser.TheVariants as parser
 use Rattle.clap.specs.Simple.{on_top}
 
 -- FILE.., at least one.
@@ -11,15 +12,23 @@ files = record (new_rule (codes "FILE")) {
   required = true;
 }
 
--- NAME FILE..
+-- --workers N, from 1 to 64: 1 where it isn't given.
+abbrev pub workers : Rule
+workers = record (new_rule (codes "N")) {
+  long = Some (codes "workers");
+  defaults = codes "1" ∷ [];
+  parser = Some (parser.Signed (pos 1) (pos 64));
+}
+
+-- NAME --workers N FILE..
 abbrev pub over_files : List ℕ → App
-over_files name = with_rule (new_app name) files
+over_files name = with_rule (with_rule (new_app name) files) workers
 
 -- --query QUERY
 abbrev pub query : Rule
 query = record (new_rule (codes "QUERY")) { long = Some (codes "query"); required = true }
 
--- query --query QUERY FILE..
+-- query --query QUERY --workers N FILE..
 abbrev pub with_query : App
 with_query = with_rule (over_files (codes "query")) query
 
@@ -27,6 +36,6 @@ with_query = with_rule (over_files (codes "query")) query
 abbrev pub alone : App
 alone = on_top (λ top. record top { arg_required_else_help = true; subcommand_required = true }) (new_app (codes "arrowtab"))
 
--- stats FILE.., export FILE.., and query --query QUERY FILE..
+-- stats FILE.., export FILE.., and query --query QUERY FILE.., each with --workers N.
 abbrev pub arrowtab : App
 arrowtab = with_subcommand (with_subcommand (with_subcommand alone (over_files (codes "stats")).top) (over_files (codes "export")).top) with_query.top

@@ -1,10 +1,10 @@
 //! The commands of the program, as `clap` reads them.
 ghost use Rattle.std.specs.Prelude.{◌≡◌, IfOk, false};
 ghost use Rattle.clap.specs.Words.{app_of, rule_of};
-ghost use Rattle.job.specs.CommandLine.{arrowtab, files, over_files, query, with_query};
+ghost use Rattle.job.specs.CommandLine.{arrowtab, files, over_files, query, with_query, workers};
 ghost use Rattle.clap.specs.declared.builder.command.Command.TheViews.{out-Command};
 
-use clap::{Arg, Command};
+use clap::{Arg, Command, value_parser};
 use std::alloc::{AllocError, Global};
 
 /// The program: a command has to be there.
@@ -36,7 +36,7 @@ pub(crate) fn arrowtab<'a>(alloc: Global) -> Result<Command<'a>, AllocError>
     with_export.subcommand(query)
 }
 
-/// `query --query QUERY FILE..`
+/// `query --query QUERY --workers N FILE..`
 fn with_query<'a>(alloc: Global) -> Result<Command<'a>, AllocError>
     ensures line { IfOk result (λ command. app_of command ≡ with_query) }
     ensures local { IfOk result (λ command. (out-Command command).has_globals ≡ false) }
@@ -50,15 +50,17 @@ fn with_query<'a>(alloc: Global) -> Result<Command<'a>, AllocError>
     over.arg(query)
 }
 
-/// `NAME FILE..`
+/// `NAME --workers N FILE..`
 fn over_files<'a>(alloc: Global, name: &'a str, about: &'a str) -> Result<Command<'a>, AllocError>
     ensures line { IfOk result (λ command. app_of command ≡ over_files name.now) }
     ensures local { IfOk result (λ command. (out-Command command).has_globals ≡ false) }
 {
     let files = files(alloc);
+    let workers = workers(alloc);
     let bare = Command::new(alloc, name);
     let described = bare.about(about);
-    described.arg(files)
+    let over = described.arg(files)?;
+    over.arg(workers)
 }
 
 /// `--query QUERY`
@@ -81,4 +83,20 @@ fn files<'a>(alloc: Global) -> Arg<'a>
     let described = file.help("Files of one table, which has the first one's schema");
     let required = described.required(true);
     required.num_args(1..)
+}
+
+/// `--workers N`, from 1 to 64.
+fn workers<'a>(alloc: Global) -> Arg<'a>
+    ensures rule { rule_of result ≡ workers }
+    ensures local { result.global ≡ false }
+{
+    let number = Arg::new(alloc, "N");
+    let named = number.long("workers");
+    let described = named.help(
+        "How many workers load the files and answer the query at once, from 1 to 64",
+    );
+    let defaulted = described.default_value("1");
+    let numbers = value_parser!(u32);
+    let few = numbers.range(1..=64);
+    defaulted.value_parser(few)
 }

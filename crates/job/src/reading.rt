@@ -1,7 +1,7 @@
 //! The words of the command line as a job.
-ghost use Rattle.std.specs.Prelude.{◌≡◌, IfErr, IfOk, codes, map, option_map};
+ghost use Rattle.std.specs.Prelude.{◌≡◌, ◌≤◌, IfErr, IfOk, IfSome, codes, map, option_map};
 ghost use Rattle.clap.specs.Words.{all_of, first_of, found_of, rows_of, subcommand_rows_of};
-ghost use Rattle.job.specs.Asked.{Asks, Finds, HasQuery, IsFaultOf, IsNoLine, IsReady, names_of, word_of};
+ghost use Rattle.job.specs.Asked.{Asks, Finds, HasQuery, HasWorkers, IsFaultOf, IsNoLine, IsReady, names_of, word_of};
 
 use crate::asked::{Command, Job};
 use crate::command_line::arrowtab;
@@ -44,13 +44,16 @@ fn job_of(alloc: Global, matches: &ArgMatches<'_>) -> Result<Job, JobFault>
     if files.is_empty() {
         return Err(JobFault::Unread);
     }
+    let Some(workers) = workers_of(found) else {
+        return Err(JobFault::Unread);
+    };
     let Ok(names) = names_of(alloc, files) else {
         return Err(JobFault::NoMemory);
     };
     Ok(Job {
         command,
         names,
-        workers: 1,
+        workers,
     })
 }
 
@@ -96,6 +99,18 @@ fn files_of<'a, 'b>(found: &'b ArgMatches<'a>) -> Option<&'b [&'a str]>
         ≡ all_of (codes "FILE") (rows_of (found_of found.now)) }
 {
     found.get_strs("FILE")
+}
+
+/// What stands for `--workers`, if it is a number from 1 to 64.
+fn workers_of(found: &ArgMatches<'_>) -> Option<u32>
+    ensures value { IfSome result (HasWorkers (rows_of (found_of found.now))) }
+    ensures few { IfSome result (λ workers. (1 ≤ workers) × (workers ≤ 64)) }
+{
+    let workers = found.get_one::<u32>("N")?;
+    if workers < 1 || workers > 64 {
+        return None;
+    }
+    Some(workers)
 }
 
 /// Texts of their own.

@@ -6,4 +6,6 @@ mod gates;
 #[cfg(test)]
 mod loading;
 #[cfg(test)]
+mod soaking;
+#[cfg(test)]
 mod testing;

@@ -1,5 +1,5 @@
 //! `arrowtab stats FILE..` prints the statistics of the columns of Arrow integration JSON files, `arrowtab export FILE..` the
-//! table that they are, and `arrowtab query --query QUERY FILE..` what a query asks of it.
+//! table that they are, and `arrowtab query --query QUERY FILE..` what a query asks of it. With `--workers N` so many load the files.
 //!
 //! It ends with status 0 where all of that was written, 1 where a fault was told on standard error
 //! instead, and 2 where its arguments are others. `arrowtab --help` tells what it takes.
@@ -17,6 +17,7 @@ use output::OutputSink;
 use std::alloc::AllocError;
 use std::io::ErrorKind;
 use std::process::ExitCode;
+use std::sync::Wait;
 use std::thread::Threads;
 use std::{env, io};
 
@@ -62,8 +63,8 @@ fn sources_of<'a>(
     Ok(sources)
 }
 
-// Does the job, in threads of this handle, and answers the status.
-fn done<T: Threads + Sync>(threads: &T, rt: &HostRuntime, job: &Job) -> u8
+// Does the job, in threads of this handle, which may wait for one another, and answers the status.
+fn done<W: Wait + Sync, T: Threads + Sync>(wait: &W, threads: &T, rt: &HostRuntime, job: &Job) -> u8
     requires { IsReady job.now }
 {
     let Ok(mut sources) = sources_of(rt, &job.names) else {
@@ -73,6 +74,7 @@ fn done<T: Threads + Sync>(threads: &T, rt: &HostRuntime, job: &Job) -> u8
     let mut out = OutputSink::new(io::writer(rt));
     let mut err = OutputSink::new(io::writer(&errors));
     run(
+        wait,
         threads,
         rt.alloc(),
         job,
@@ -92,7 +94,7 @@ fn told(rt: &HostRuntime, fault: &JobFault) -> u8 {
 
 fn main(rt: HostRuntime) -> ExitCode {
     let status = match asked(&rt) {
-        Ok(job) => done(&rt, &rt, &job),
+        Ok(job) => done(&rt, &rt, &rt, &job),
         Err(fault) => told(&rt, &fault),
     };
     ExitCode::from(status)

@@ -7,12 +7,14 @@ mod queries;
 mod refusals;
 mod runs;
 mod several;
+mod together;
 mod words;
 
 use arrowtab::memory::{MemorySink, MemorySource};
 use arrowtab::{job, run};
 use std::alloc::{AllocError, Global};
 use std::process::Abort;
+use std::sync::Wait;
 use std::test::Fail;
 use std::thread::Threads;
 
@@ -33,7 +35,7 @@ pub(crate) fn source(alloc: Global, text: &str) -> Result<MemorySource, AllocErr
 
 /// Runs what the words ask for, from these sources to this output.
 pub(crate) fn ran(
-    rt: &(impl Abort + Threads + Sync),
+    rt: &(impl Abort + Wait + Threads + Sync),
     alloc: Global,
     words: &[&str],
     sources: &mut [MemorySource],
@@ -43,18 +45,17 @@ pub(crate) fn ran(
     requires out { out.failures < 2 ^ 64 - 1 }
 {
     let job = job(alloc, words)?;
-    assert!(rt; job.workers == 1);
     assert!(rt; !sources.is_empty());
     assert!(rt; job.names.len() == sources.len());
     let mut out = out;
     let mut err = MemorySink::new(alloc);
-    let status = run(rt, alloc, &job, sources, &mut out, &mut err);
+    let status = run(rt, rt, alloc, &job, sources, &mut out, &mut err);
     Ok(Outcome { status, out, err })
 }
 
 /// Asserts what a run over one file or two of these texts writes, and the line of its fault.
 pub(crate) fn expect(
-    rt: &(impl Abort + Threads + Sync),
+    rt: &(impl Abort + Wait + Threads + Sync),
     alloc: Global,
     words: &[&str],
     files: (&str, Option<&str>),

@@ -4,6 +4,7 @@ use super::{expect, ran};
 use arrowtab::memory::{MemorySink, MemorySource, Plan};
 use std::alloc::{AllocError, Global};
 use std::process::Abort;
+use std::sync::Wait;
 use std::test::Fail;
 use std::thread::Threads;
 
@@ -21,7 +22,7 @@ const NO_ROWS: &str =
 
 /// Asserts what a query over a file writes, and the line of its fault.
 fn expect_answer(
-    rt: &(impl Abort + Threads + Sync),
+    rt: &(impl Abort + Wait + Threads + Sync),
     alloc: Global,
     file: &str,
     query: &str,

@@ -66,6 +66,35 @@ fn a_command_takes_files(rt: HostRuntime) -> Result<(), Fail> {
     Ok(())
 }
 
+/// Words, and how many workers they ask for.
+const CREWS: [(&[&str], u32); 4] = [
+    (&["arrowtab", "stats", "--workers", "1", "A"], 1),
+    (&["arrowtab", "export", "A", "--workers=64"], 64),
+    (&["arrowtab", "stats", "--workers", "+7", "A"], 7),
+    (
+        &[
+            "arrowtab",
+            "query",
+            "--workers",
+            "2",
+            "--query",
+            "{}",
+            "A",
+            "B",
+        ],
+        2,
+    ),
+];
+
+#[test]
+fn a_command_takes_a_number_of_workers(rt: HostRuntime) -> Result<(), Fail> {
+    for (words, workers) in CREWS {
+        let job = job(rt.alloc(), words)?;
+        assert!(rt; job.workers == workers, "for {words:?}");
+    }
+    Ok(())
+}
+
 const HELP: &str = "Tells what files in Apache Arrow's JSON integration format hold, as one table
 
 Usage: arrowtab <COMMAND>
@@ -85,34 +114,37 @@ Exit status: 0 if all was done; 1 for a fault in a file, the output or memory;
 
 const STATS_HELP: &str = "Print rows, nulls, sum, least and greatest of each column
 
-Usage: arrowtab stats <FILE>...
+Usage: arrowtab stats [OPTIONS] <FILE>...
 
 Arguments:
   <FILE>...  Files of one table, which has the first one's schema
 
 Options:
-  -h, --help  Print help
+      --workers <N>  How many workers load the files and answer the query at once, from 1 to 64 [default: 1]
+  -h, --help         Print help
 ";
 
 const EXPORT_HELP: &str = "Print the table as one file, each text once in its dictionary
 
-Usage: arrowtab export <FILE>...
+Usage: arrowtab export [OPTIONS] <FILE>...
 
 Arguments:
   <FILE>...  Files of one table, which has the first one's schema
 
 Options:
-  -h, --help  Print help
+      --workers <N>  How many workers load the files and answer the query at once, from 1 to 64 [default: 1]
+  -h, --help         Print help
 ";
 
 const QUERY_HELP: &str = "Print a line for each group of rows, as a query asks
 
-Usage: arrowtab query --query <QUERY> <FILE>...
+Usage: arrowtab query [OPTIONS] --query <QUERY> <FILE>...
 
 Arguments:
   <FILE>...  Files of one table, which has the first one's schema
 
 Options:
+      --workers <N>    How many workers load the files and answer the query at once, from 1 to 64 [default: 1]
       --query <QUERY>  The query, an object of JSON with the members filter, by and aggs
   -h, --help           Print help
 ";
@@ -163,7 +195,7 @@ fn help_may_fail(rt: HostRuntime) -> Result<(), Fail> {
 }
 
 /// Words that are no job, what `clap` says of them, and whether that is the help that was asked for.
-const NO_JOBS: [(&[&str], &str, bool); 14] = [
+const NO_JOBS: [(&[&str], &str, bool); 16] = [
     (&["arrowtab", "--help"], HELP, true),
     (&["bin/arrowtab", "-h"], HELP, true),
     (&["arrowtab", "help"], HELP, true),
@@ -211,19 +243,33 @@ For more information, try '--help'.
         &["arrowtab", "query", "--query", "{}", "--query={}", "A"],
         "error: the argument '--query <QUERY>' cannot be used multiple times
 
-Usage: arrowtab query --query <QUERY> <FILE>...
+Usage: arrowtab query [OPTIONS] --query <QUERY> <FILE>...
 
 For more information, try '--help'.
 ",
         false,
     ),
     (
-        &["arrowtab", "stats", "--workers", "2", "A"],
-        "error: unexpected argument '--workers' found
+        &["arrowtab", "stats", "--workers", "0", "A"],
+        "error: invalid value '0' for '--workers <N>': 0 is not in 1..=64
 
-  tip: to pass '--workers' as a value, use '-- --workers'
+For more information, try '--help'.
+",
+        false,
+    ),
+    (
+        &["arrowtab", "export", "--workers", "65", "A"],
+        "error: invalid value '65' for '--workers <N>': 65 is not in 1..=64
 
-Usage: arrowtab stats <FILE>...
+For more information, try '--help'.
+",
+        false,
+    ),
+    (
+        &["arrowtab", "stats", "--workers", "2", "--workers", "3", "A"],
+        "error: the argument '--workers <N>' cannot be used multiple times
+
+Usage: arrowtab stats [OPTIONS] <FILE>...
 
 For more information, try '--help'.
 ",

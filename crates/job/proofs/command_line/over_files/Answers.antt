@@ -3,13 +3,17 @@ use Rattle.std.proofs.lemmas.Result.{IfOk-weaker}
 use Rattle.clap.specs.Simple.{app_of_fields}
 use Rattle.clap.specs.Words.{app_of, new_app, with_rule}
 use Rattle.clap.specs.declared.builder.command.Command.TheViews.{out-Command}
+use Rattle.job.specs.CommandLine.{files}
 use Rattle.job.proofs.command_line.over_files.Goals as goal
 
 pub returns : goal.returns
 returns c =
     let described : app_of c.about-described.result ≡ new_app c.args.name.now = ap app_of_fields c.about-described.ensures ∙ c.new-bare.ensures.app in
     let local : (out-Command c.about-described.result).has_globals ≡ false = ap (λ f. f.has_globals) c.about-described.ensures ∙ c.new-bare.ensures.local in
+    let is = c.in_ok-over.ensures in
+    let over : app_of c.in_ok-over.over ≡ with_rule (new_app c.args.name.now) files = is.shape c.files-files.ensures.local ∙ ap₂ with_rule described c.files-files.ensures.rule in
+    let over_local : (out-Command c.in_ok-over.over).has_globals ≡ false = is.globals ∙ ap₂ (λ (a b : Bool). a || b) local c.files-files.ensures.local in
     record {
-      line = IfOk-weaker c.arg.result _ _ (λ command added. added.shape c.files-files.ensures.local ∙ ap₂ with_rule described c.files-files.ensures.rule) c.arg.ensures;
-      local = IfOk-weaker c.arg.result _ _ (λ command added. added.globals ∙ ap₂ (λ (a b : Bool). a || b) local c.files-files.ensures.local) c.arg.ensures;
+      line = IfOk-weaker c.arg-2.result _ _ (λ command added. added.shape c.workers-workers.ensures.local ∙ ap₂ with_rule over c.workers-workers.ensures.rule) c.arg-2.ensures;
+      local = IfOk-weaker c.arg-2.result _ _ (λ command added. added.globals ∙ ap₂ (λ (a b : Bool). a || b) over_local c.workers-workers.ensures.local) c.arg-2.ensures;
     }

@@ -5,7 +5,7 @@ use Rattle.arrowtab.specs.Run.{front}
 use Rattle.ends.specs.Sink.{AppendsFront}
 use Rattle.arrowtab.specs.Told.{TookFault}
 use Rattle.arrowtab.proofs.RunLemmas.{excuse_told, named}
-use Rattle.arrowtab.proofs.invocation.run.Goals as goal
+use Rattle.arrowtab.proofs.invocation.run_alone.Goals as goal
 
 pub returns-in-Ok-clause-quiet : goal.returns-in-Ok-clause-quiet
 returns-in-Ok-clause-quiet g c = λ _.

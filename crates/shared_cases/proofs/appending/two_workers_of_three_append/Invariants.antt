@@ -1,4 +1,4 @@
-use Rattle.shared_cases.proofs.appending.two_workers_append.Given as goal
+use Rattle.shared_cases.proofs.appending.two_workers_of_three_append.Given as goal
 
 abbrev pub ghosts-appended-C-Ledger : goal.ghosts-appended-C-Ledger
 ghosts-appended-C-Ledger _ a = record { name = a.calls.name; parts = a.calls.parts }
