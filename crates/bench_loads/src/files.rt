@@ -1,12 +1,12 @@
 //! The files that are loaded: of each value the row follows.
 
-ghost use Rattle.std.specs.Prelude.{◌≡◌, All, IfSome};
+ghost use Rattle.std.specs.Prelude.{◌≡◌, All, IfOk};
 ghost use Rattle.std.specs.Arc.{arc_value};
 
 use arrays::{
     Array, DataType, Field, File, IntType, RawArray, RecordBatch, Schema, Width, validate,
 };
-use colbits::Buffer;
+use colbits::{Buffer, NoMemory};
 use std::alloc::Global;
 use std::sync::Arc;
 
@@ -15,27 +15,31 @@ pub(crate) fn make_files(alloc: Global, count: u32, batches: u32, rows: u32) -> 
     let batch = Arc::new(alloc, batch(alloc, rows)?).ok()?;
     let mut files = Vec::new(alloc);
     for _file in 0..count {
-        files.push(file(alloc, &batch, batches)?).ok()?;
+        files.push(file(alloc, &batch, batches).ok()?).ok()?;
     }
     Some(files)
 }
 
 /// A file that has a batch so many times.
-fn file(alloc: Global, batch: &Arc<RecordBatch>, batches: u32) -> Option<File> {
-    let schema = batch.schema().copy(alloc).ok()?;
+fn file(alloc: Global, batch: &Arc<RecordBatch>, batches: u32) -> Result<File, NoMemory> {
+    let schema = batch.schema().copy(alloc)?;
     let batches = repeated(alloc, batch, batches)?;
-    Some(File::new(schema, batches))
+    Ok(File::new(schema, batches))
 }
 
 /// A batch so many times.
-fn repeated(alloc: Global, batch: &Arc<RecordBatch>, count: u32) -> Option<Vec<Arc<RecordBatch>>>
-    ensures { IfSome result (λ v. All (λ b. arc_value b ≡ arc_value batch.now) v.items) }
+fn repeated(
+    alloc: Global,
+    batch: &Arc<RecordBatch>,
+    count: u32,
+) -> Result<Vec<Arc<RecordBatch>>, NoMemory>
+    ensures { IfOk result (λ v. All (λ b. arc_value b ≡ arc_value batch.now) v.items) }
 {
     let mut batches = Vec::new(alloc);
     for _place in 0..count {
-        batches.push(batch.clone().ok()?).ok()?;
+        batches.push(batch.clone()?)?;
     }
-    Some(batches)
+    Ok(batches)
 }
 
 /// A batch of so many rows of two columns of 64-bit numbers.
