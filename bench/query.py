@@ -31,6 +31,9 @@ QUERIES = {
                    "select 1, count(*) from t where v + 1 > 5 and k is not null"),
 }
 
+# how many answers a run gives, so that making the rows counts little beside them
+ANSWERS = {"sum-by-text": 60, "ends-by-number": 8, "rows-where": 300}
+
 
 def seconds(program, query, times, pieces):
     begin = time.monotonic()
@@ -80,8 +83,8 @@ def beside_sqlite(peer, runs, names):
         text, statement = QUERIES[name]
         pairs = []
         for _ in range(runs):
-            ours, said = one_answer(OURS, text, 10)
-            theirs, told = one_answer(peer, name, 10)
+            ours, said = one_answer(OURS, text, ANSWERS[name])
+            theirs, told = one_answer(peer, name, ANSWERS[name])
             assert said == told, (name, said, told)
             pairs.append((ours, theirs))
         ours = statistics.median(pair[0] for pair in pairs)
@@ -100,9 +103,9 @@ def in_pieces(peer, runs, names):
         for _ in range(runs):
             answers = set()
             for pieces, (ours, theirs) in took.items():
-                time_taken, said = one_answer(OURS, text, 10, pieces)
+                time_taken, said = one_answer(OURS, text, ANSWERS[name], pieces)
                 ours.append(time_taken)
-                time_taken, told = one_answer(peer, name, 10, pieces)
+                time_taken, told = one_answer(peer, name, ANSWERS[name], pieces)
                 theirs.append(time_taken)
                 answers |= {said, told}
             assert len(answers) == 1, (name, answers)
