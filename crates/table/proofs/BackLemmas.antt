@@ -1,5 +1,5 @@
 -- Texts that are taken back.
-use Rattle.std.proofs.Common.{◌≡◌, ◌∙◌, ℕ, suc, ◌≤◌, List, [], ◌∷◌, length, map, take, Bool, true, false, cond, Option, None, Some, option_map, ap, sym, refl, subst, arith}
+use Rattle.std.proofs.Common.{◌≡◌, ◌∙◌, ℕ, suc, ◌≤◌, List, [], ◌∷◌, length, map, take, Bool, true, false, cond, Option, None, Some, option_map, ap, refl, arith}
 use mathlib.Core.List.{IsPrefix}
 use Rattle.std.specs.Arc.{arc_value}
 use Rattle.std.specs.List.{AllZip, enumerate_from, zip}
@@ -16,7 +16,7 @@ use Rattle.pool.specs.Texts.{firsts, texts_of}
 use Rattle.table.specs.Held.{IsHeld, batches_of}
 use Rattle.arrays.specs.Batch.{Table, column}
 use Rattle.table.specs.Lawful.{dictionaries_of, dictionary_in, table_of, texts_in}
-use Rattle.table.specs.Ready.{AreTexts}
+use Rattle.table.specs.Ready.{BeginWithTexts, all_texts}
 use Rattle.table.specs.Recoded.{entry_count, shortened}
 use Rattle.table.specs.Stored.{is_text_field}
 use Rattle.table.specs.declared.held.Held.{Held}
@@ -65,18 +65,19 @@ length-both (d ∷ ds) [] news counts begun = absurd counts
 length-both (d ∷ ds) (o ∷ olds) [] counts begun = absurd begun
 length-both (d ∷ ds) (o ∷ olds) (n ∷ news) counts begun = ap suc (length-both ds olds news counts.1 begun.1)
 
-module _ (h : Held) (is : IsHeld h) (olds news : List (List (List ℕ))) (are : AreTexts h (table_of (batches_of h)) olds) (begun : AllZip IsPrefix olds news) where
-  counted-texts : AllZip SameCount h.dictionaries.items olds
+module _ (h : Held) (is : IsHeld h) (pools : List (List (List ℕ))) (begun : BeginWithTexts h (table_of (batches_of h)) pools) where
+  abbrev texts : List (List (List ℕ))
+  texts = all_texts h (table_of (batches_of h))
+
+  counted-texts : AllZip SameCount h.dictionaries.items texts
   unfolding dictionaries_of
-  counted-texts =
-      subst (AllZip SameCount h.dictionaries.items) (sym are)
-      (counts-all (table_of (batches_of h)) (enumerate_from 0 (arc_value h.schema)) h.dictionaries.items is.lawful.texts)
+  counted-texts = counts-all (table_of (batches_of h)) (enumerate_from 0 (arc_value h.schema)) h.dictionaries.items is.lawful.texts
 
-  pub back-count : length h.dictionaries.items ≡ length news
-  back-count = length-both h.dictionaries.items olds news counted-texts begun
+  pub back-count : length h.dictionaries.items ≡ length pools
+  back-count = length-both h.dictionaries.items texts pools counted-texts begun
 
-  pub back-within : AllZip (λ (d : Option (Arc Seen Global)) (pool : List (List ℕ)). entry_count d ≤ length pool) h.dictionaries.items news
-  back-within = within-all h.dictionaries.items olds news counted-texts begun
+  pub back-within : AllZip (λ (d : Option (Arc Seen Global)) (pool : List (List ℕ)). entry_count d ≤ length pool) h.dictionaries.items pools
+  back-within = within-all h.dictionaries.items texts pools counted-texts begun
 
-  pub back-same : map shortened (zip h.dictionaries.items news) ≡ olds
-  back-same = shortened-all h.dictionaries.items olds news counted-texts begun
+  pub back-same : map shortened (zip h.dictionaries.items pools) ≡ texts
+  back-same = shortened-all h.dictionaries.items texts pools counted-texts begun

@@ -2,6 +2,8 @@
 use Rattle.std.proofs.Common.{◌≡◌, ◌∙◌, ℕ, ◌+◌, ◌-◌, ◌<◌, ◌≤◌, ◌^◌, List, [], ◌∷◌, ◌++◌, length, map, Bool, true, false, Option, None, Some, cond, ap, sym, refl, subst, arith, length-append}
 use Rattle.std.specs.Prelude.{option_map}
 use Rattle.std.specs.Arc.{arc_value}
+use Rattle.std.specs.declared.alloc.Global.{Global}
+use Rattle.std.specs.declared.vec.Vec.{Vec}
 use Rattle.std.specs.List.{enumerate_from}
 use Rattle.std.proofs.lemmas.Bool.{ltb-false}
 use Rattle.std.proofs.lemmas.List.{map-append}
@@ -82,6 +84,33 @@ show-same h g same = λ i. record {
   history = cut (same.book i) (table_of (same.batches i));
   batches = map rows_of (same.batches i);
 }
+
+-- ---- what is shared, with a shared batch put in
+
+module _ (h s r : Held) (p q : Prepared) (shared : IsSame h s) (reserved : IsSame s r) (batch : arc_value q.batch ≡ arc_value p.batch) where
+  rows_new : (arc_value q.batch).rows ≡ (arc_value p.batch).rows
+  rows_new = ap (λ (b : Batch). b.rows) batch
+
+  pub shared-few : h.rows + (arc_value p.batch).rows ≤ 2 ^ 40 → r.rows + (arc_value q.batch).rows ≤ 2 ^ 40
+  shared-few few = omega (arith, few, shared.rows, reserved.rows, rows_new)
+
+  pub put-shared : (g : Held) (worker : ℕ) → IsPut worker q r g → arc_value q.batch_stats ≡ arc_value p.batch_stats → arc_value q.stats ≡ arc_value p.stats
+      → map (option_map arc_value) q.dictionaries.items ≡ map (option_map arc_value) p.dictionaries.items → IsPut worker p h g
+  put-shared g worker put pieces stats dictionaries = record {
+    schema = put.schema ∙ reserved.schema ∙ shared.schema;
+    rows = omega (arith, put.rows, shared.rows, reserved.rows, rows_new);
+    batches = put.batches ∙ ap (λ l. l ++ arc_value q.batch ∷ []) (reserved.batches ∙ shared.batches) ∙ ap (λ b. batches_of h ++ b ∷ []) batch;
+    pieces =
+        put.pieces
+        ∙ ap (λ l. l ++ (arc_value q.batch_stats).items ∷ []) (reserved.pieces ∙ shared.pieces)
+        ∙ ap (λ (v : Vec ColumnStats Global). pieces_of h ++ v.items ∷ []) pieces;
+    stats = put.stats ∙ stats;
+    dictionaries = put.dictionaries ∙ dictionaries;
+    book =
+        put.book
+        ∙ ap (λ l. l ++ (worker, (arc_value q.batch).rows) ∷ []) (reserved.book ∙ shared.book)
+        ∙ ap (λ n. book_of h ++ (worker, n) ∷ []) rows_new;
+  }
 
 -- ---- one batch more
 

@@ -2,6 +2,7 @@
 use Rattle.std.specs.Prelude.{◌≡◌, ◌++◌, ℕ, List, map, None, option_map}
 use Rattle.std.specs.Arc.{arc_value}
 use Rattle.std.specs.List.{AllZip, enumerate_from}
+use mathlib.Core.List.{IsPrefix}
 use Rattle.arrays.specs.Batch.{Batch, rows_of, Table}
 use Rattle.table.specs.Cause.{IsTableOf, batch_cause}
 use Rattle.table.specs.Held.{batches_of, show}
@@ -9,9 +10,17 @@ use Rattle.table.specs.Lawful.{AreStatsOf, IsStored, NamesFront, dictionaries_of
 use Rattle.table.specs.declared.held.Prepared.{Prepared}
 use Rattle.table.specs.declared.held.Held.{Held}
 
--- The pools have the texts of the table's columns, and no others.
+-- The texts of each of the table's columns.
+abbrev pub all_texts : Held → Table → List (List (List ℕ))
+all_texts h t = map (texts_in t) (enumerate_from 0 (arc_value h.schema))
+
+-- The pools have these, and no others.
 abbrev pub AreTexts : Held → Table → List (List (List ℕ)) → Type 0
-AreTexts h t pools = pools ≡ map (texts_in t) (enumerate_from 0 (arc_value h.schema))
+AreTexts h t pools = pools ≡ all_texts h t
+
+-- The pools have these first, and maybe others behind them.
+abbrev pub BeginWithTexts : Held → Table → List (List (List ℕ)) → Type 0
+BeginWithTexts h t pools = AllZip IsPrefix (all_texts h t) pools
 
 -- What is ready is the batch as it is stored after what the table holds.
 pub record IsReady (h : Held) (b : Batch) (p : Prepared) : Type 0 where

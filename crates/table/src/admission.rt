@@ -7,16 +7,18 @@ ghost use mathlib.Core.List.{IsPrefix};
 ghost use Rattle.arrays.specs.Batch.{rows_of};
 ghost use Rattle.arrays.specs.Typed.{IsItemOf};
 ghost use Rattle.table.specs.Cause.{batch_cause, early_cause};
+ghost use Rattle.table.specs.Contents.{admitted};
 ghost use Rattle.table.specs.Held.{IsHeld, batches_of, show};
 ghost use Rattle.table.specs.Lawful.{table_of};
 ghost use Rattle.table.specs.Made.{IsMade};
-ghost use Rattle.table.specs.Ready.{AreTexts, IsReady};
+ghost use Rattle.table.specs.Ready.{AreTexts, BeginWithTexts, IsReady};
 
 use crate::columns::{Columns, cut_back, stored_columns};
 use crate::held::{Held, Prepared};
-use crate::ready::Ready;
+use crate::made::Made;
 use crate::refusal::Refusal;
 use crate::stats::joined_all;
+use crate::version::Version;
 use arrays::{Array, RecordBatch};
 use pool::TextPool;
 use std::alloc::Global;
@@ -29,10 +31,10 @@ pub(crate) fn prepare(
     held: &Held,
     pools: &mut Vec<TextPool>,
     batch: &RecordBatch,
-    ready: Ready,
+    made: Made,
 ) -> Result<Prepared, Refusal>
     requires held { IsHeld held.now }
-    requires made { IsMade batch.now ready }
+    requires made { IsMade batch.now made }
     requires pools { AreTexts held.now (table_of (batches_of held.now)) pools.old.items }
     requires allowed { early_cause (arc_value held.now.schema) (show held.now).history batch.now ≡ None }
     ensures ok { IfOk result (λ p. IsReady held.now batch.now p) }
@@ -41,25 +43,88 @@ pub(crate) fn prepare(
         ⊎ (batch_cause (arc_value held.now.schema) (show held.now).history batch.now ≡ Some e)) }
     ensures kept { OnErr result (pools.new.items ≡ pools.old.items) }
 {
-    match recoded(alloc, held, pools, batch, ready) {
+    match recoded(alloc, held, pools, batch, made) {
         Ok(prepared) => Ok(prepared),
         Err(refusal) => {
-            cut_back(pools, &held.dictionaries);
+            take_back(held, pools);
             Err(refusal)
         }
     }
 }
 
-/// The same where no other refusal stands, but the pools keep what was added where it fails.
+/// Does what `prepare` does, and makes the version of what is held with the batch put in, while nothing is put in yet.
+pub(crate) fn prepare_shown(
+    alloc: Global,
+    held: &Held,
+    pools: &mut Vec<TextPool>,
+    worker: u32,
+    batch: &RecordBatch,
+    made: Made,
+) -> Result<(Prepared, Arc<Version>), Refusal>
+    requires held { IsHeld held.now }
+    requires made { IsMade batch.now made }
+    requires pools { AreTexts held.now (table_of (batches_of held.now)) pools.old.items }
+    requires allowed { early_cause (arc_value held.now.schema) (show held.now).history batch.now ≡ None }
+    ensures ok { IfOk result (λ r. IsReady held.now batch.now r.0) }
+    ensures shown { IfOk result (λ r. arc_value r.1 ≡ admitted (show held.now) worker batch.now) }
+    ensures pools { OnOk result (AreTexts held.now (table_of (batches_of held.now) ++ rows_of batch.now) pools.new.items) }
+    ensures err { IfErr result (λ e. (e ≡ Refusal.NoMemory)
+        ⊎ (batch_cause (arc_value held.now.schema) (show held.now).history batch.now ≡ Some e)) }
+    ensures kept { OnErr result (pools.new.items ≡ pools.old.items) }
+{
+    match recoded_shown(alloc, held, pools, worker, batch, made) {
+        Ok(prepared) => Ok(prepared),
+        Err(refusal) => {
+            take_back(held, pools);
+            Err(refusal)
+        }
+    }
+}
+
+/// Takes back the texts that pools have beside those of what is held.
+fn take_back(held: &Held, pools: &mut Vec<TextPool>)
+    requires held { IsHeld held.now }
+    requires begun { BeginWithTexts held.now (table_of (batches_of held.now)) pools.old.items }
+    ensures { AreTexts held.now (table_of (batches_of held.now)) pools.new.items }
+{
+    cut_back(pools, &held.dictionaries);
+}
+
+/// The same as `prepare_shown` where no other refusal stands, but the pools keep what was added where it fails.
+fn recoded_shown(
+    alloc: Global,
+    held: &Held,
+    pools: &mut Vec<TextPool>,
+    worker: u32,
+    batch: &RecordBatch,
+    made: Made,
+) -> Result<(Prepared, Arc<Version>), Refusal>
+    requires held { IsHeld held.now }
+    requires made { IsMade batch.now made }
+    requires pools { AreTexts held.now (table_of (batches_of held.now)) pools.old.items }
+    requires allowed { early_cause (arc_value held.now.schema) (show held.now).history batch.now ≡ None }
+    ensures ok { IfOk result (λ r. IsReady held.now batch.now r.0) }
+    ensures shown { IfOk result (λ r. arc_value r.1 ≡ admitted (show held.now) worker batch.now) }
+    ensures pools { OnOk result (AreTexts held.now (table_of (batches_of held.now) ++ rows_of batch.now) pools.new.items) }
+    ensures err { IfErr result (λ e. (e ≡ Refusal.NoMemory)
+        ⊎ (batch_cause (arc_value held.now.schema) (show held.now).history batch.now ≡ Some e)) }
+    ensures begun { AllZip IsPrefix pools.old.items pools.new.items }
+{
+    let prepared = recoded(alloc, held, pools, batch, made)?;
+    let version = Version::of(held.with_batch(alloc, worker, &prepared)?);
+    Ok((prepared, Arc::new(alloc, version)?))
+}
+
+/// The same as `prepare` where no other refusal stands, but the pools keep what was added where it fails.
 fn recoded(
     alloc: Global,
     held: &Held,
     pools: &mut Vec<TextPool>,
     batch: &RecordBatch,
-    ready: Ready,
+    made: Made,
 ) -> Result<Prepared, Refusal>
     requires held { IsHeld held.now }
-    requires made { IsMade batch.now ready }
+    requires made { IsMade batch.now made }
     requires pools { AreTexts held.now (table_of (batches_of held.now)) pools.old.items }
     requires allowed { early_cause (arc_value held.now.schema) (show held.now).history batch.now ≡ None }
     ensures ok { IfOk result (λ p. IsReady held.now batch.now p) }
@@ -69,10 +134,10 @@ fn recoded(
     ensures begun { AllZip IsPrefix pools.old.items pools.new.items }
 {
     tell_all(batch.columns());
-    let Ready {
+    let Made {
         copies,
         batch_stats,
-    } = ready;
+    } = made;
     let Columns {
         columns,
         dictionaries,

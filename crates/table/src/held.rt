@@ -71,29 +71,67 @@ impl Held {
         self.rows += u64::from(rows);
     }
 
-    /// The same parts, shared: no column, no statistic and no text is copied.
-    pub(crate) fn share(&self, alloc: Global) -> Result<Held, NoMemory>
+    /// The same parts, shared: no column, no statistic and no text is copied. Beside them lies room for so many batches more.
+    pub(crate) fn share(&self, alloc: Global, room: usize) -> Result<Held, NoMemory>
         ensures { IfOk result (λ h. IsSame self.now h) }
     {
-        let mut book = Vec::with_capacity(alloc, self.book.len())?;
+        let mut book = Vec::with_capacity(alloc, self.book.len().saturating_add(room))?;
         book.extend_from_slice(&self.book)?;
         Ok(Held {
             schema: self.schema.clone()?,
             rows: self.rows,
-            batches: all_shared(alloc, &self.batches)?,
-            batch_stats: all_shared(alloc, &self.batch_stats)?,
+            batches: all_shared(alloc, &self.batches, room)?,
+            batch_stats: all_shared(alloc, &self.batch_stats, room)?,
             stats: self.stats.clone()?,
             dictionaries: dictionaries_shared(alloc, &self.dictionaries)?,
             book,
         })
     }
+
+    /// The same parts, shared, with a prepared batch of a worker put in.
+    pub(crate) fn with_batch(
+        &self,
+        alloc: Global,
+        worker: u32,
+        new: &Prepared,
+    ) -> Result<Held, NoMemory>
+        requires { self.now.rows + (arc_value new.now.batch).rows ≤ 2 ^ 40 }
+        ensures { IfOk result (λ h. IsPut worker new.now self.now h) }
+    {
+        let mut held = self.share(alloc, 1)?;
+        held.reserve()?;
+        held.put_in(worker, new.share(alloc)?);
+        Ok(held)
+    }
 }
 
-/// The same values, shared.
-fn all_shared<T: Drop>(alloc: Global, values: &[Arc<T>]) -> Result<Vec<Arc<T>>, NoMemory>
+impl Prepared {
+    /// The same parts, shared.
+    fn share(&self, alloc: Global) -> Result<Prepared, NoMemory>
+        ensures batch { IfOk result (λ p. arc_value p.batch ≡ arc_value self.now.batch) }
+        ensures pieces { IfOk result (λ p. arc_value p.batch_stats ≡ arc_value self.now.batch_stats) }
+        ensures stats { IfOk result (λ p. arc_value p.stats ≡ arc_value self.now.stats) }
+        ensures dictionaries { IfOk result (λ p. map (option_map arc_value) p.dictionaries.items
+            ≡ map (option_map arc_value) self.now.dictionaries.items) }
+    {
+        Ok(Prepared {
+            batch: self.batch.clone()?,
+            batch_stats: self.batch_stats.clone()?,
+            stats: self.stats.clone()?,
+            dictionaries: dictionaries_shared(alloc, &self.dictionaries)?,
+        })
+    }
+}
+
+/// The same values, shared, with room for so many more.
+fn all_shared<T: Drop>(
+    alloc: Global,
+    values: &[Arc<T>],
+    room: usize,
+) -> Result<Vec<Arc<T>>, NoMemory>
     ensures { IfOk result (λ v. map arc_value v.items ≡ map arc_value values.now) }
 {
-    let mut all = Vec::with_capacity(alloc, values.len())?;
+    let mut all = Vec::with_capacity(alloc, values.len().saturating_add(room))?;
     for value in values {
         all.push(value.clone()?)?;
     }

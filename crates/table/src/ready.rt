@@ -1,56 +1,67 @@
-//! What of a batch is made before a table is looked at.
+//! A batch that is made ready for a table before the table is looked at.
 
-ghost use Rattle.std.specs.Prelude.{◌≡◌, IfOk, map};
-ghost use Rattle.table.specs.Made.{IsMade, copied};
+ghost use Rattle.std.specs.Prelude.{◌≡◌, IfOk};
+ghost use Rattle.table.specs.Made.{IsMade};
 
-use crate::stats::stats_of_all;
-use arrays::{Array, DataType, RecordBatch};
+use crate::made::Made;
+use arrays::RecordBatch;
 use colbits::NoMemory;
-use group::ColumnStats;
 use std::alloc::Global;
-use std::sync::Arc;
+use std::marker::Model;
 
-/// The parts of a batch that are stored as they are, copied, and its statistics. It is no part of the table's surface: a
-/// table that lies under a lock makes it before the lock is got.
+/// A batch with the parts of it that are stored as they are, copied, and its statistics: all that needs no table. A table
+/// that lies under a lock is handed one, so that the lock is held no longer than it must.
+///
+/// Clauses see the batch.
 #[derive(Drop)]
-pub struct Ready {
-    /// A copy of each column; none of one of texts, which is stored as codes.
-    pub(crate) copies: Vec<Option<Array>>,
-    /// The statistics of each column.
-    pub(crate) batch_stats: Arc<Vec<ColumnStats>>,
+pub struct Ready<'a> {
+    batch: &'a RecordBatch,
+    made: Made,
 }
 
-impl Ready {
-    /// What of the batch is made before a table is looked at.
-    pub fn new(alloc: Global, batch: &RecordBatch) -> Result<Ready, NoMemory>
-        ensures { IfOk result (IsMade batch.now) }
+impl<'a> Model for Ready<'a> {
+    ghost use Rattle.arrays.specs.Batch.{Batch, batch_code};
+
+    ghost Value = { Batch };
+
+    ghost coded = { batch_code };
+
+    ghost use Rattle.table.specs.Made.{IsMade};
+
+    ghost view = { λ r. r.batch.now };
+
+    ghost invariant = { λ r. IsMade r.batch.now r.made };
+}
+
+impl<'a> Ready<'a> {
+    /// The batch, made ready.
+    pub fn new(alloc: Global, batch: &'a RecordBatch) -> Result<Ready<'a>, NoMemory>
+        ensures { IfOk result (λ r. r ≡ batch.now) }
     {
-        let copies = copies_of(alloc, batch.columns())?;
-        let batch_stats = stats_of_all(alloc, batch.columns())?;
-        Ok(Ready {
-            copies,
-            batch_stats: Arc::new(alloc, batch_stats)?,
-        })
+        let made = Made::of(alloc, batch)?;
+        Ok(Ready { batch, made })
     }
-}
 
-/// Copies of the columns, none of those of texts.
-fn copies_of(alloc: Global, columns: &[Array]) -> Result<Vec<Option<Array>>, NoMemory>
-    ensures { IfOk result (λ v. v.items ≡ map copied columns.now) }
-{
-    let mut copies = Vec::with_capacity(alloc, columns.len())?;
-    for column in columns {
-        copies.push(copy_of(alloc, column)?)?;
+    /// The batch.
+    pub fn batch(&self) -> &'a RecordBatch
+        ensures { result.now ≡ self.now }
+    {
+        self.batch
     }
-    Ok(copies)
-}
 
-/// A copy of a column, none where it is one of texts.
-fn copy_of(alloc: Global, column: &Array) -> Result<Option<Array>, NoMemory>
-    ensures { IfOk result (λ c. c ≡ copied column.now) }
-{
-    match column.ty() {
-        DataType::Utf8 | DataType::Dict => Ok(None),
-        _ => Ok(Some(column.copy(alloc)?)),
+    /// How many rows the batch has.
+    pub fn rows(&self) -> u32
+        ensures { result ≡ self.now.rows }
+    {
+        self.batch.rows()
+    }
+
+    /// The batch, and what is made of it.
+    pub(crate) fn parts(self) -> (&'a RecordBatch, Made)
+        ensures batch { result.0.now ≡ self.entry }
+        ensures made { IsMade self.entry result.1 }
+    {
+        let Ready { batch, made } = self;
+        (batch, made)
     }
 }

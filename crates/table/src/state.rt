@@ -7,9 +7,10 @@ ghost use Rattle.table.specs.Contents.{Contents, admitted};
 ghost use Rattle.table.specs.Made.{IsMade};
 ghost use Rattle.table.specs.Stored.{stored_fields};
 
-use crate::admission::prepare;
+use crate::admission::{prepare, prepare_shown};
 use crate::cause::early_refusal;
 use crate::held::Held;
+use crate::made::Made;
 use crate::ready::Ready;
 use crate::refusal::Refusal;
 use crate::version::Version;
@@ -73,36 +74,54 @@ impl TableState {
         if let Some(refusal) = early_refusal(&self.held, batch) {
             return Err(refusal);
         }
-        let ready = Ready::new(self.alloc, batch)?;
-        self.put_ready(worker, batch, ready)
+        let made = Made::of(self.alloc, batch)?;
+        self.put_made(worker, batch, made)
     }
 
-    /// Does what `admit` does, with what was made of the batch before, or the want of memory that was met there. It is no part
-    /// of the table's surface: a table that lies under a lock calls it, so that the lock is held no longer than it must.
-    pub fn admit_ready(
-        &mut self,
-        worker: u32,
-        batch: &RecordBatch,
-        ready: Result<Ready, NoMemory>,
-    ) -> Result<u32, Refusal>
-        requires { IfOk ready (IsMade batch.now) }
+    /// Does what `admit` does with a batch that was made ready before, so that a lock over the table is held no longer than it
+    /// must.
+    pub fn admit_ready(&mut self, worker: u32, ready: Ready<'_>) -> Result<u32, Refusal>
         ensures number { IfOk result (λ n. n ≡ length self.old.history) }
-        ensures allowed { OnOk result (batch_cause self.old.fields self.old.history batch.now ≡ None) }
-        ensures added { OnOk result (self.new ≡ admitted self.old worker batch.now) }
-        ensures err { IfErr result (λ e. ((e ≡ Refusal.NoMemory) × (early_cause self.old.fields self.old.history batch.now ≡ None))
-            ⊎ (batch_cause self.old.fields self.old.history batch.now ≡ Some e)) }
+        ensures allowed { OnOk result (batch_cause self.old.fields self.old.history ready.entry ≡ None) }
+        ensures added { OnOk result (self.new ≡ admitted self.old worker ready.entry) }
+        ensures err { IfErr result (λ e. ((e ≡ Refusal.NoMemory) × (early_cause self.old.fields self.old.history ready.entry ≡ None))
+            ⊎ (batch_cause self.old.fields self.old.history ready.entry ≡ Some e)) }
         ensures kept { OnErr result (self.new ≡ self.old) }
         ensures legal { IsLegal self.new.fields self.new.history }
     {
+        let (batch, made) = ready.parts();
         match early_refusal(&self.held, batch) {
             Some(refusal) => Err(refusal),
-            None => self.put_ready(worker, batch, ready?),
+            None => self.put_made(worker, batch, made),
+        }
+    }
+
+    /// Does what `admit_ready` does, and gives the version of the table with the batch. It is made before the batch is put in,
+    /// so that who shows it to others has no step behind the admission that could still fail.
+    pub fn admit_shown(
+        &mut self,
+        worker: u32,
+        ready: Ready<'_>,
+    ) -> Result<(u32, Arc<Version>), Refusal>
+        ensures number { IfOk result (λ r. r.0 ≡ length self.old.history) }
+        ensures shown { IfOk result (λ r. arc_value r.1 ≡ self.new) }
+        ensures allowed { OnOk result (batch_cause self.old.fields self.old.history ready.entry ≡ None) }
+        ensures added { OnOk result (self.new ≡ admitted self.old worker ready.entry) }
+        ensures err { IfErr result (λ e. ((e ≡ Refusal.NoMemory) × (early_cause self.old.fields self.old.history ready.entry ≡ None))
+            ⊎ (batch_cause self.old.fields self.old.history ready.entry ≡ Some e)) }
+        ensures kept { OnErr result (self.new ≡ self.old) }
+        ensures legal { IsLegal self.new.fields self.new.history }
+    {
+        let (batch, made) = ready.parts();
+        match early_refusal(&self.held, batch) {
+            Some(refusal) => Err(refusal),
+            None => self.put_shown(worker, batch, made),
         }
     }
 
     /// Puts a batch in, of what was made of it before. Nothing but its texts and the memory can stand against it.
-    fn put_ready(&mut self, worker: u32, batch: &RecordBatch, ready: Ready) -> Result<u32, Refusal>
-        requires made { IsMade batch.now ready }
+    fn put_made(&mut self, worker: u32, batch: &RecordBatch, made: Made) -> Result<u32, Refusal>
+        requires made { IsMade batch.now made }
         requires allowed { early_cause self.old.fields self.old.history batch.now ≡ None }
         ensures number { IfOk result (λ n. n ≡ length self.old.history) }
         ensures allowed { OnOk result (batch_cause self.old.fields self.old.history batch.now ≡ None) }
@@ -114,16 +133,48 @@ impl TableState {
     {
         let number = self.held.book.len() as u32;
         self.held.reserve()?;
-        let new = prepare(self.alloc, &self.held, &mut self.pools, batch, ready)?;
+        let new = prepare(self.alloc, &self.held, &mut self.pools, batch, made)?;
         self.held.put_in(worker, new);
         Ok(number)
+    }
+
+    /// The same, with the version that shows the batch.
+    fn put_shown(
+        &mut self,
+        worker: u32,
+        batch: &RecordBatch,
+        made: Made,
+    ) -> Result<(u32, Arc<Version>), Refusal>
+        requires made { IsMade batch.now made }
+        requires allowed { early_cause self.old.fields self.old.history batch.now ≡ None }
+        ensures number { IfOk result (λ r. r.0 ≡ length self.old.history) }
+        ensures shown { IfOk result (λ r. arc_value r.1 ≡ self.new) }
+        ensures allowed { OnOk result (batch_cause self.old.fields self.old.history batch.now ≡ None) }
+        ensures added { OnOk result (self.new ≡ admitted self.old worker batch.now) }
+        ensures err { IfErr result (λ e. (e ≡ Refusal.NoMemory)
+            ⊎ (batch_cause self.old.fields self.old.history batch.now ≡ Some e)) }
+        ensures kept { OnErr result (self.new ≡ self.old) }
+        ensures legal { IsLegal self.new.fields self.new.history }
+    {
+        let number = self.held.book.len() as u32;
+        self.held.reserve()?;
+        let (prepared, version) = prepare_shown(
+            self.alloc,
+            &self.held,
+            &mut self.pools,
+            worker,
+            batch,
+            made,
+        )?;
+        self.held.put_in(worker, prepared);
+        Ok((number, version))
     }
 
     /// The table as it is, to be shared and read. No column is copied.
     pub fn version(&self) -> Result<Arc<Version>, NoMemory>
         ensures { IfOk result (λ v. arc_value v ≡ self.now) }
     {
-        let version = Version::of(self.held.share(self.alloc)?);
+        let version = Version::of(self.held.share(self.alloc, 0)?);
         Ok(Arc::new(self.alloc, version)?)
     }
 }

@@ -1,24 +1,10 @@
-use Rattle.std.proofs.Common.{◌∙◌, ◌≤◌, List, Option, length, ap, subst, sym, map}
-use Rattle.std.specs.List.{AllZip, zip}
-use Rattle.std.specs.declared.alloc.Global.{Global}
-use Rattle.std.specs.declared.sync.Arc.{Arc}
-use Rattle.arrays.specs.Seen.{Seen}
-use Rattle.table.specs.Recoded.{entry_count, shortened}
-use Rattle.table.proofs.BackLemmas.{back-count, back-same, back-within}
+use Rattle.std.proofs.Common.{◌∙◌, ℕ, List, subst, sym}
+use Rattle.std.specs.List.{AllZip}
+use mathlib.Core.List.{IsPrefix}
 use Rattle.table.proofs.admission.prepare.Goals as goal
 
-pub cut_back-requires-clause-count : goal.cut_back-requires-clause-count
-cut_back-requires-clause-count c =
-    ap (λ (l : List (Option (Arc Seen Global))). length l) c.deref.ensures.value
-    ∙ back-count c.args.held.now c.requires.held c.args.pools.now.items c.recoded.new.pools.items c.requires.pools c.recoded.ensures.begun
-
-pub cut_back-requires-clause-within : goal.cut_back-requires-clause-within
-cut_back-requires-clause-within c =
-    subst (λ (l : List (Option (Arc Seen Global))). AllZip (λ d pool. entry_count d ≤ length pool) l c.recoded.new.pools.items) (sym c.deref.ensures.value)
-    (back-within c.args.held.now c.requires.held c.args.pools.now.items c.recoded.new.pools.items c.requires.pools c.recoded.ensures.begun)
+pub take_back-requires-clause-begun : goal.take_back-requires-clause-begun
+take_back-requires-clause-begun c = subst (λ (l : List (List (List ℕ))). AllZip IsPrefix l c.recoded.new.pools.items) c.requires.pools c.recoded.ensures.begun
 
 pub returns-in-Err-clause-kept : goal.returns-in-Err-clause-kept
-returns-in-Err-clause-kept c =
-    c.cut_back.ensures
-    ∙ ap (λ (l : List (Option (Arc Seen Global))). map shortened (zip l c.recoded.new.pools.items)) c.deref.ensures.value
-    ∙ back-same c.args.held.now c.requires.held c.args.pools.now.items c.recoded.new.pools.items c.requires.pools c.recoded.ensures.begun
+returns-in-Err-clause-kept c = c.take_back.ensures ∙ sym c.requires.pools

@@ -47,7 +47,7 @@ joined_all-requires-clause-count c =
     ∙ stats-count c.args.held.now c.args.batch.now c.requires.held c.requires.allowed c.columns.ensures.lawful
     (subst (All (λ (d : Seen). All (IsItemOf d.kind) d.items)) c.columns.ensures.value c.tell_all.ensures)
     c.args.pools.now.items c.requires.pools c.columns-2.result.now c.columns-2.ensures.value
-    (arc_value c.args.ready.batch_stats).items c.requires.made.statistics
+    (arc_value c.args.made.batch_stats).items c.requires.made.statistics
     ∙ ap (λ (v : Vec ColumnStats Global). length v.items) (sym c.deref-2.ensures)
     ∙ ap (λ (l : List ColumnStats). length l) (sym c.deref-3.ensures.value)
 
@@ -58,7 +58,7 @@ joined_all-requires-clause-few c =
     (stats-few c.args.held.now c.args.batch.now c.requires.held c.requires.allowed c.columns.ensures.lawful
     (subst (All (λ (d : Seen). All (IsItemOf d.kind) d.items)) c.columns.ensures.value c.tell_all.ensures)
     c.args.pools.now.items c.requires.pools c.columns-2.result.now c.columns-2.ensures.value
-    (arc_value c.args.ready.batch_stats).items c.requires.made.statistics))
+    (arc_value c.args.made.batch_stats).items c.requires.made.statistics))
 
 pub unreachable-requires : goal.unreachable-requires
 unreachable-requires c =
@@ -81,14 +81,14 @@ returns-clause-ok c =
     ready c.args.held.now c.args.batch.now c.requires.held c.requires.allowed c.columns.ensures.lawful
     (subst (All (λ (d : Seen). All (IsItemOf d.kind) d.items)) c.columns.ensures.value c.tell_all.ensures)
     c.args.pools.now.items c.requires.pools c.columns-2.result.now c.columns-2.ensures.value
-    (record { batch = c.in_ok-new.field-0; batch_stats = c.args.ready.batch_stats; stats = c.in_ok-new-2.field-0; dictionaries = c.in_ok-columns.field-0.dictionaries })
+    (record { batch = c.in_ok-new.field-0; batch_stats = c.args.made.batch_stats; stats = c.in_ok-new-2.field-0; dictionaries = c.in_ok-columns.field-0.dictionaries })
     c.in_ok-columns.ensures.fits
     (ap (λ (b : Batch). b.fields) batch ∙ made.0 ∙ c.in_ok-schema.ensures ∙ c.deref-6.ensures)
     (ap (λ (b : Batch). b.rows) batch ∙ made.1 ∙ c.rows.ensures)
     (ap (λ (b : Batch). b.columns) batch ∙ made.2 ∙ c.in_ok-columns.ensures.columns)
     c.in_ok-columns.ensures.dictionaries
     c.requires.made.statistics
-    (subst (λ (v : Vec ColumnStats Global). AreJoined (arc_value c.args.held.now.stats).items (arc_value c.args.ready.batch_stats).items v.items) (sym c.in_ok-new-2.ensures.ok)
+    (subst (λ (v : Vec ColumnStats Global). AreJoined (arc_value c.args.held.now.stats).items (arc_value c.args.made.batch_stats).items v.items) (sym c.in_ok-new-2.ensures.ok)
     (subst (λ (l : List ColumnStats). AreJoined (arc_value c.args.held.now.stats).items l c.in_ok-stats.stats.items) (c.deref-5.ensures.value ∙ ap (λ (v : Vec ColumnStats Global). v.items) c.deref-4.ensures)
     (subst (λ (l : List ColumnStats). AreJoined l c.deref-5.result.now c.in_ok-stats.stats.items)
     (c.deref-3.ensures.value ∙ ap (λ (v : Vec ColumnStats Global). v.items) c.deref-2.ensures) c.in_ok-stats.ensures)))
