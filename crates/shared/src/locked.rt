@@ -6,12 +6,10 @@ ghost use Rattle.shared.specs.Hand.{IsKept, IsRaised, calls_of_hand, rows_of_han
 ghost use Rattle.table.specs.Cause.{IsLegal, batch_cause, early_cause};
 ghost use Rattle.table.specs.Contents.{Contents, admitted};
 ghost use Rattle.table.specs.History.{rows};
-ghost use Rattle.table.specs.Made.{IsMade};
 
 use crate::lending::tell_totals;
 use crate::outcome::Receipt;
 use crate::worker::Worker;
-use arrays::RecordBatch;
 use colbits::NoMemory;
 use std::marker::Model;
 use std::sync::Arc;
@@ -62,23 +60,22 @@ impl<C: Ledger, Q: Ledger> Locked<C, Q> {
     pub(crate) fn append(
         &mut self,
         worker: &mut Worker<C, Q>,
-        batch: &RecordBatch,
-        ready: Result<Ready, NoMemory>,
+        ready: Ready<'_>,
     ) -> Result<Receipt, Refusal>
-        requires { IfOk ready (IsMade batch.now) }
         ensures number { IfOk result (λ r. r.entry ≡ length self.old.history) }
-        ensures allowed { OnOk result (batch_cause self.old.fields self.old.history batch.now ≡ None) }
-        ensures added { OnOk result (self.new ≡ admitted self.old worker.old.number batch.now) }
-        ensures err { IfErr result (λ e. ((e ≡ Refusal.NoMemory) × (early_cause self.old.fields self.old.history batch.now ≡ None))
-            ⊎ (batch_cause self.old.fields self.old.history batch.now ≡ Some e)) }
+        ensures allowed { OnOk result (batch_cause self.old.fields self.old.history ready.entry ≡ None) }
+        ensures added { OnOk result (self.new ≡ admitted self.old worker.old.number ready.entry) }
+        ensures err { IfErr result (λ e. ((e ≡ Refusal.NoMemory) × (early_cause self.old.fields self.old.history ready.entry ≡ None))
+            ⊎ (batch_cause self.old.fields self.old.history ready.entry ≡ Some e)) }
         ensures kept { OnErr result (self.new ≡ self.old) }
         ensures legal { IsLegal self.new.fields self.new.history }
-        ensures raised { OnOk result (IsRaised batch.now.rows worker.old worker.new) }
+        ensures raised { OnOk result (IsRaised ready.entry.rows worker.old worker.new) }
         ensures left { OnErr result (worker.new ≡ worker.old) }
     {
-        let entry = self.state.admit_ready(worker.number, batch, ready)?;
+        let count = ready.rows();
+        let entry = self.state.admit_ready(worker.number, ready)?;
         self.newest = None;
-        worker.raise(&mut self.call_book, &mut self.row_book, batch.rows());
+        worker.raise(&mut self.call_book, &mut self.row_book, count);
         Ok(Receipt { entry })
     }
 

@@ -81,7 +81,8 @@ impl<C: Ledger, Q: Ledger> SharedTable<C, Q> {
     }
 
     /// Adds a batch of the worker, as `TableState::admit` does, while no other worker does. What can be made of the batch
-    /// alone is made before. After a refusal the table and the worker are as they were.
+    /// alone is made before; want of memory that is met there is told whatever else stands against the batch. After a refusal
+    /// the table and the worker are as they were.
     pub fn append<W: Wait>(
         &self,
         wait: &W,
@@ -91,8 +92,8 @@ impl<C: Ledger, Q: Ledger> SharedTable<C, Q> {
         ensures raised { OnOk result (IsRaised batch.now.rows worker.old worker.new) }
         ensures kept { OnErr result (IsKept worker.old worker.new) }
     {
-        let ready = Ready::new(self.alloc, batch);
-        self.lock.lock(wait).append(worker, batch, ready)
+        let ready = Ready::new(self.alloc, batch)?;
+        self.lock.lock(wait).append(worker, ready)
     }
 
     /// The table as it is when the lock is got. Where nothing was appended since the last one, it's the same version.

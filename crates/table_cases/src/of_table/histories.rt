@@ -16,7 +16,7 @@ const A_B: Parts = (
     &[None, Some(b"\0\0\0\0\x01\0\0\0\x02\0\0\0"), Some(b"ab")],
 );
 
-const A_AND_B: Batch = (2, &[("s", true, Sample::Of(A_B))]);
+pub(super) const A_AND_B: Batch = (2, &[("s", true, Sample::Of(A_B))]);
 
 /// The texts b and null.
 const B_NONE: Parts = (
@@ -29,7 +29,7 @@ const B_NONE: Parts = (
     ],
 );
 
-const B_AND_NULL: Batch = (2, &[("s", true, Sample::Of(B_NONE))]);
+pub(super) const B_AND_NULL: Batch = (2, &[("s", true, Sample::Of(B_NONE))]);
 
 /// The texts a, a, null by its entry, null, b, with a dictionary.
 const LETTERS: Batch = (5, &[("s", true, Sample::Coded)]);
@@ -498,7 +498,7 @@ fn has_book(version: &Version, book: &[(u32, u32)]) -> bool {
 }
 
 /// Whether columns of the batches hold this.
-fn shows_all(batches: &[Arc<RecordBatch>], shown: &[(usize, usize, Shown)]) -> bool {
+pub(super) fn shows_all(batches: &[Arc<RecordBatch>], shown: &[(usize, usize, Shown)]) -> bool {
     for (batch, column, shown) in shown {
         let array = match batches.get(*batch) {
             Some(batch) => batch.columns().get(*column),
@@ -516,7 +516,7 @@ fn shows_all(batches: &[Arc<RecordBatch>], shown: &[(usize, usize, Shown)]) -> b
 }
 
 /// Whether the dictionary of column 0 has these texts.
-fn has_words(version: &Version, words: Option<Shown>) -> bool {
+pub(super) fn has_words(version: &Version, words: Option<Shown>) -> bool {
     if version.schema().is_empty() {
         return false;
     }
