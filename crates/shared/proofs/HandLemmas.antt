@@ -10,7 +10,7 @@ abbrev count_below : ℕ → List Hand → ℕ
 count_below n [] = 0
 count_below n (h ∷ hands) = cond (nat_lt h.number n) 1 0 + count_below n hands
 
-abbrev count_of : ℕ → List Hand → ℕ
+abbrev pub count_of : ℕ → List Hand → ℕ
 count_of n [] = 0
 count_of n (h ∷ hands) = cond (h.number == n) 1 0 + count_of n hands
 
@@ -33,7 +33,7 @@ some_first : (b rest : Bool) (count : ℕ) → (b || rest) ≡ true → (rest �
 some_first true rest count is tail = omega arith
 some_first false rest count is tail = omega (arith, tail is)
 
-some : (n : ℕ) (hands : List Hand) → is_there hands n ≡ true → 1 ≤ count_of n hands
+pub some : (n : ℕ) (hands : List Hand) → is_there hands n ≡ true → 1 ≤ count_of n hands
 some n [] there = absurd (false≢true there)
 some n (h ∷ hands) there = some_first (h.number == n) (is_there hands n) (count_of n hands) there (some n hands)
 
@@ -49,5 +49,5 @@ enough n hands all = omega (arith, many n hands all, within n hands)
 
 -- a new worker more
 pub new_push : (first : ℕ) (hands : List Hand) (h : Hand) → AreNew first hands → IsNew (first + length hands) h → AreNew first (hands ++ h ∷ [])
-new_push first [] h all one = (record { numbered = one.numbered ∙ omega arith; calls = one.calls; rows = one.rows; left = one.left }, tt)
-new_push first (x ∷ hands) h all one = (all.0, new_push (first + 1) hands h all.1 (record { numbered = one.numbered ∙ omega arith; calls = one.calls; rows = one.rows; left = one.left }))
+new_push first [] h all one = (record { numbered = one.numbered ∙ omega arith; seen = one.seen; mine = one.mine; left = one.left }, tt)
+new_push first (x ∷ hands) h all one = (all.0, new_push (first + 1) hands h all.1 (record { numbered = one.numbered ∙ omega arith; seen = one.seen; mine = one.mine; left = one.left }))

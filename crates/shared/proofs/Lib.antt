@@ -1,3 +1,4 @@
 -- What the proofs of this crate share.
 pub mod HandLemmas
 pub mod BalanceLemmas
+pub mod PartLemmas

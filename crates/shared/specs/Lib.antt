@@ -1,3 +1,7 @@
+pub mod Code
+pub mod Left
+pub mod Named
+pub mod Parts
 pub mod Hand
 pub mod Missing
 pub mod Balance

@@ -1,13 +1,18 @@
 -- What stands against opening a table.
-use Rattle.std.specs.Prelude.{◌≡◌, ℕ, ◌<◌, ◌≤◌}
+use Rattle.std.specs.Prelude.{◌≡◌, ◌⊎◌, ℕ, ◌<◌, ◌≤◌}
 use Rattle.shared.specs.declared.fault.OpenFault.{OpenFault}
-use Rattle.shared.specs.declared.fault.OpenFault.TheVariants.{NoMemory, NoWorkers, TooMany}
+use Rattle.shared.specs.declared.fault.OpenFault.TheVariants.{NoMemory, NoPlace, NoWorkers, TooMany}
 
 -- A table has from 1 to 64 workers.
 abbrev pub IsCount : ℕ → Type 0
 IsCount workers = (1 ≤ workers) × (workers ≤ 64)
 
-abbrev pub IsOpenFault : ℕ → OpenFault → Type 0
-IsOpenFault workers NoWorkers = workers ≡ 0
-IsOpenFault workers TooMany = 64 < workers
-IsOpenFault workers NoMemory = IsCount workers
+-- It has at most 64 readers.
+abbrev pub IsFew : ℕ → Type 0
+IsFew readers = readers ≤ 64
+
+abbrev pub IsOpenFault : ℕ → ℕ → OpenFault → Type 0
+IsOpenFault workers readers NoWorkers = workers ≡ 0
+IsOpenFault workers readers TooMany = (1 ≤ workers) × ((64 < workers) ⊎ (64 < readers))
+IsOpenFault workers readers NoMemory = IsCount workers × IsFew readers
+IsOpenFault workers readers NoPlace = IsCount workers × IsFew readers × (1 ≤ readers)

@@ -1,6 +1,8 @@
 //! Why a table isn't opened, or isn't gathered.
 
+use crate::naming::Naming;
 use crate::shared_table::SharedTable;
+use crate::shown::Publish;
 use crate::worker::Worker;
 use colbits::NoMemory;
 use std::alloc::{AllocError, AllocFailed};
@@ -13,12 +15,15 @@ pub enum OpenFault {
     /// There is to be no worker.
     #[error("O1 NoWorkers")]
     NoWorkers,
-    /// There are to be over 64 workers.
+    /// There are to be over 64 workers, or over 64 readers.
     #[error("O2 TooMany")]
     TooMany,
     /// A growth was refused.
     #[error("O3 NoMemory")]
     NoMemory,
+    /// There was no place for a reader.
+    #[error("O4 NoPlace")]
+    NoPlace,
 }
 
 impl From<NoMemory> for OpenFault {
@@ -45,8 +50,8 @@ pub enum GatherCause {
 
 /// Why a table isn't gathered, with the table and the workers as they were handed in.
 #[derive(Drop)]
-pub struct GatherFault<C: Ledger, Q: Ledger> {
+pub struct GatherFault<C: Ledger, Q: Ledger, N: Naming, P: Publish<N>> {
     pub cause: GatherCause,
-    pub table: SharedTable<C, Q>,
-    pub workers: Vec<Worker<C, Q>>,
+    pub table: SharedTable<C, Q, N, P>,
+    pub workers: Vec<Worker<C, Q, N>>,
 }

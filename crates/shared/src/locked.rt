@@ -1,29 +1,39 @@
 //! What lies under the lock.
 
-ghost use Rattle.std.specs.Prelude.{◌≡◌, ◌⊎◌, ◌≤◌, IfErr, IfOk, None, OnErr, OnOk, Some, length, sum_by};
+ghost use Rattle.std.specs.Prelude.{◌≡◌, ◌⊎◌, ◌++◌, ◌∷◌, ◌<◌, ◌≤◌, ◌^◌, [], All, IfErr, IfOk, IfSome, None, OnErr, OnOk, Some, is_some, length, sum_by};
+ghost use mathlib.Core.List.{IsPrefix};
+ghost use Rattle.arrays.specs.Batch.{rows_of};
 ghost use Rattle.std.specs.Arc.{arc_value};
-ghost use Rattle.shared.specs.Hand.{IsKept, IsRaised, calls_of_hand, rows_of_hand};
+ghost use Rattle.shared.specs.Missing.{AllThere};
+ghost use Rattle.shared.specs.Hand.{HasAdded, HasSeen, IsPartOf, IsWhole, calls_of_hand, having_seen, rows_of_hand};
 ghost use Rattle.table.specs.Cause.{IsLegal, batch_cause, early_cause};
 ghost use Rattle.table.specs.Contents.{Contents, admitted};
 ghost use Rattle.table.specs.History.{rows};
 
 use crate::lending::tell_totals;
+use crate::naming::{Accepted, Event, Naming};
 use crate::outcome::Receipt;
+use crate::shown::{Publish, Shown};
 use crate::worker::Worker;
 use colbits::NoMemory;
+use histories::{Front, Head};
 use std::marker::Model;
-use std::sync::Arc;
 use std::sync::ledger::{Book, Ledger, Share};
+use std::sync::{Arc, Wait};
 use table::{Ready, Refusal, TableState, Version};
 
-/// A table with the ledgers of its workers' calls and rows, and the version of it that was asked for last. Each time that
-/// its lock is got, the first ledger counts the entries of the book and the second its rows, each entry is of one of the
-/// table's workers, and the version shows the table.
+/// A table with its history, the ledgers of its workers' calls and rows, the version of it that was asked for last, and who
+/// shows versions to readers. Each time that its lock is got, the history is the table's, each entry of it is of one of the
+/// table's workers, the first ledger counts its entries and the second its rows, and readers are shown the table.
 #[derive(Drop)]
-pub(crate) struct Locked<C: Ledger, Q: Ledger> {
+pub(crate) struct Locked<C: Ledger, Q: Ledger, N: Naming, P: Publish<N>> {
     pub(crate) state: TableState,
     /// The last version that was asked for, where nothing was added since.
     pub(crate) newest: Option<Arc<Version>>,
+    pub(crate) head: Head<Event, N>,
+    pub(crate) front: Front<Event, N>,
+    /// None where nobody reads.
+    pub(crate) publisher: Option<P>,
     pub(crate) call_book: Book<C>,
     pub(crate) row_book: Book<Q>,
     /// No part of the ledger; the workers lend it theirs.
@@ -32,7 +42,7 @@ pub(crate) struct Locked<C: Ledger, Q: Ledger> {
     pub(crate) no_rows: Share<Q>,
 }
 
-impl<C: Ledger, Q: Ledger> Model for Locked<C, Q> {
+impl<C: Ledger, Q: Ledger, N: Naming, P: Publish<N>> Model for Locked<C, Q, N, P> {
     ghost use Rattle.table.specs.Contents.{Contents, contents_code};
 
     ghost Value = { Contents };
@@ -42,6 +52,7 @@ impl<C: Ledger, Q: Ledger> Model for Locked<C, Q> {
     ghost use Rattle.std.specs.Prelude.{◌≡◌, IfSome, length};
     ghost use Rattle.std.specs.Arc.{arc_value};
     ghost use Rattle.shared.specs.Balance.{IsBalanced, IsOfWorkers};
+    ghost use Rattle.table.specs.Cause.{IsLegal};
 
     ghost view = { λ l. l.state };
 
@@ -52,35 +63,63 @@ impl<C: Ledger, Q: Ledger> Model for Locked<C, Q> {
         × (l.no_calls.amount ≡ 0)
         × (l.no_rows.parts ≡ 0)
         × (l.no_rows.amount ≡ 0)
-        × IfSome l.newest (λ v. arc_value v ≡ l.state) };
+        × IfSome l.newest (λ v. arc_value v ≡ l.state)
+        × (l.front ≡ l.state.history)
+        × (l.state.fields ≡ N.fields)
+        × IsLegal N.fields l.state.history
+        × IfSome l.publisher (λ p. P.shows p l.state) };
 }
 
-impl<C: Ledger, Q: Ledger> Locked<C, Q> {
-    /// Adds a batch of a worker, which it counts, as `TableState::admit_ready` does. After a refusal nothing is changed.
-    pub(crate) fn append(
+impl<C: Ledger, Q: Ledger, N: Naming, P: Publish<N>> Locked<C, Q, N, P> {
+    /// Adds a batch of a worker, which it counts, as `TableState::admit_ready` does, and shows it to readers. The worker sees the
+    /// table's history, up to its own batch where it was added. After a refusal nothing else is changed.
+    pub(crate) fn append<W: Wait>(
         &mut self,
-        worker: &mut Worker<C, Q>,
+        wait: &W,
+        worker: &mut Worker<C, Q, N>,
         ready: Ready<'_>,
-    ) -> Result<Receipt, Refusal>
-        ensures number { IfOk result (λ r. r.entry ≡ length self.old.history) }
-        ensures allowed { OnOk result (batch_cause self.old.fields self.old.history ready.entry ≡ None) }
+    ) -> Result<Receipt<N>, Refusal>
         ensures added { OnOk result (self.new ≡ admitted self.old worker.old.number ready.entry) }
-        ensures err { IfErr result (λ e. ((e ≡ Refusal.NoMemory) × (early_cause self.old.fields self.old.history ready.entry ≡ None))
-            ⊎ (batch_cause self.old.fields self.old.history ready.entry ≡ Some e)) }
         ensures kept { OnErr result (self.new ≡ self.old) }
-        ensures legal { IsLegal self.new.fields self.new.history }
-        ensures raised { OnOk result (IsRaised ready.entry.rows worker.old worker.new) }
-        ensures left { OnErr result (worker.new ≡ worker.old) }
+        ensures appended { OnOk result (HasAdded N.fields ready.entry worker.old worker.new) }
+        ensures receipt { IfOk result (λ r. r ≡ worker.new.seen) }
+        ensures seen { OnErr result (HasSeen N.fields worker.old worker.new) }
+        ensures cause { IfErr result (λ e. (e ≡ Refusal.NoMemory) ⊎ (batch_cause N.fields worker.new.seen ready.entry ≡ Some e)) }
     {
-        let count = ready.rows();
-        let entry = self.state.admit_ready(worker.number, ready)?;
+        begin(wait, &worker.seen, &self.front);
+        worker.see(&self.front);
+        let batch = ready.batch();
+        let next = admit(&mut self.state, self.publisher.is_some(), worker.number, ready)?;
+        let accepted = Accepted {
+            worker: worker.number,
+            batch,
+        };
+        add(wait, &self.head, &mut self.front, &accepted);
         self.newest = None;
-        worker.raise(&mut self.call_book, &mut self.row_book, count);
-        Ok(Receipt { entry })
+        show(wait, &mut self.publisher, next, &self.front);
+        worker.raise(&mut self.call_book, &mut self.row_book, &self.front, &accepted);
+        Ok(Receipt::new(self.front.again()))
+    }
+
+    /// The table as it is, with its history seen by the worker.
+    pub(crate) fn snapshot<W: Wait>(
+        &mut self,
+        wait: &W,
+        worker: &mut Worker<C, Q, N>,
+    ) -> Result<Arc<Version>, NoMemory>
+        ensures same { self.new ≡ self.old }
+        ensures seen { HasSeen N.fields worker.old worker.new }
+        ensures all { worker.new.seen ≡ self.old.history }
+        ensures version { IfOk result (λ v. arc_value v ≡ self.old) }
+        ensures fields { self.old.fields ≡ N.fields }
+    {
+        begin(wait, &worker.seen, &self.front);
+        worker.see(&self.front);
+        self.version()
     }
 
     /// The table as it is: the version that is kept, else a new one, which is kept for the next who asks.
-    pub(crate) fn version(&mut self) -> Result<Arc<Version>, NoMemory>
+    fn version(&mut self) -> Result<Arc<Version>, NoMemory>
         ensures same { self.new ≡ self.old }
         ensures version { IfOk result (λ v. arc_value v ≡ self.old) }
     {
@@ -92,14 +131,23 @@ impl<C: Ledger, Q: Ledger> Locked<C, Q> {
         Ok(version)
     }
 
-    /// The table as it is, with all its workers there.
-    pub(crate) fn gather(&mut self, workers: &mut [Worker<C, Q>]) -> Result<Arc<Version>, NoMemory>
-        requires { C.parts ≤ length workers.old }
+    /// The table as it is, with all its workers there. Each has its own part of the history.
+    #[tactic(auto, using(crate::proofs::PartLemmas::all_whole))]
+    pub(crate) fn gather<W: Wait>(
+        &mut self,
+        wait: &W,
+        workers: &mut [Worker<C, Q, N>],
+    ) -> Result<Arc<Version>, NoMemory>
+        requires { AllThere C.parts workers.old }
+        requires enough { C.parts ≤ length workers.old }
         ensures workers { workers.new ≡ workers.old }
         ensures same { self.new ≡ self.old }
         ensures version { IfOk result (λ v. arc_value v ≡ self.old) }
         ensures calls { length self.old.history ≡ sum_by calls_of_hand workers.old }
         ensures rows { length (rows self.old.history) ≡ sum_by rows_of_hand workers.old }
+        ensures fields { self.old.fields ≡ N.fields }
+        ensures legal { IsLegal N.fields self.old.history }
+        ensures whole { All (IsWhole self.old.history) workers.old }
     {
         tell_totals(
             &mut self.call_book,
@@ -108,6 +156,95 @@ impl<C: Ledger, Q: Ledger> Locked<C, Q> {
             &mut self.no_rows,
             workers,
         );
+        begin_all(wait, workers, &self.front);
         self.version()
+    }
+}
+
+/// Returns once the first front begins the second, as the shorter of two fronts does at once.
+pub(crate) fn begin<W: Wait, N: Naming>(wait: &W, seen: &Front<Event, N>, front: &Front<Event, N>)
+    ensures { IsPrefix seen.now front.now }
+{
+    for _ in wait.forever() {
+        if seen.begins(front) {
+            break;
+        }
+    }
+}
+
+/// The same of what each worker has seen.
+fn begin_all<C: Ledger, Q: Ledger, N: Naming, W: Wait>(
+    wait: &W,
+    workers: &[Worker<C, Q, N>],
+    front: &Front<Event, N>,
+)
+    ensures { All (IsPartOf C.parts front.now) workers.now }
+{
+    for worker in workers {
+        begin(wait, &worker.seen, front);
+        worker.tell();
+    }
+}
+
+/// Adds a worker's batch to all that the front has. It's tried again where the history is longer, which the lock rules out.
+fn add<W: Wait, N: Naming>(
+    wait: &W,
+    head: &Head<Event, N>,
+    front: &mut Front<Event, N>,
+    accepted: &Accepted<'_>,
+)
+    requires { length front.old < 2 ^ 62 }
+    ensures { front.new ≡ front.old ++ (accepted.now.worker, rows_of accepted.now.batch.now) ∷ [] }
+{
+    for _ in wait.forever() {
+        if front.add(head, accepted) {
+            break;
+        }
+    }
+}
+
+/// Admits a worker's batch, with the version of the table with it where somebody can see it.
+fn admit(
+    state: &mut TableState,
+    is_shown: bool,
+    worker: u32,
+    ready: Ready<'_>,
+) -> Result<Option<Arc<Version>>, Refusal>
+    ensures shown { IfOk result (λ v. is_some v ≡ is_shown) }
+    ensures version { IfOk result (λ o. IfSome o (λ v. arc_value v ≡ state.new)) }
+    ensures room { OnOk result (length state.old.history < 2 ^ 32) }
+    ensures allowed { OnOk result (batch_cause state.old.fields state.old.history ready.entry ≡ None) }
+    ensures added { OnOk result (state.new ≡ admitted state.old worker ready.entry) }
+    ensures err { IfErr result (λ e. (e ≡ Refusal.NoMemory) ⊎ (batch_cause state.old.fields state.old.history ready.entry ≡ Some e)) }
+    ensures kept { OnErr result (state.new ≡ state.old) }
+    ensures legal { IsLegal state.new.fields state.new.history }
+{
+    if is_shown {
+        let (_entry, version) = state.admit_shown(worker, ready)?;
+        Ok(Some(version))
+    } else {
+        let _entry = state.admit_ready(worker, ready)?;
+        Ok(None)
+    }
+}
+
+/// Shows readers the next version, which there is where anybody shows it.
+fn show<W: Wait, N: Naming, P: Publish<N>>(
+    wait: &W,
+    publisher: &mut Option<P>,
+    next: Option<Arc<Version>>,
+    front: &Front<Event, N>,
+)
+    requires there { is_some next ≡ is_some publisher.old }
+    requires version { IfSome next (λ v. (front.now ≡ (arc_value v).history) × ((arc_value v).fields ≡ N.fields)) }
+    ensures { IfSome next (λ v. IfSome publisher.new (λ p. P.shows p (arc_value v))) }
+    ensures same { is_some publisher.new ≡ is_some publisher.old }
+{
+    let Some(version) = next else {
+        return;
+    };
+    if let Some(publisher) = publisher {
+        let front = front.again();
+        publisher.show(wait, Shown { version, front });
     }
 }

@@ -3,13 +3,14 @@
 ghost use Rattle.std.specs.Prelude.{◌≡◌, ◌≤◌, IfNone, MatchOption, length};
 ghost use Rattle.shared.specs.Missing.{AllThere, IsMissing, is_there};
 
+use crate::naming::Naming;
 use crate::worker::Worker;
 use std::sync::ledger::Ledger;
 
 /// The least number below the count that none of the workers has. Where there is none, there are as many workers.
 #[tactic(auto, using(crate::proofs::HandLemmas::enough))]
-pub(crate) fn first_missing<C: Ledger, Q: Ledger>(
-    workers: &[Worker<C, Q>],
+pub(crate) fn first_missing<C: Ledger, Q: Ledger, N: Naming>(
+    workers: &[Worker<C, Q, N>],
     count: u32,
 ) -> Option<u32>
     ensures told { MatchOption result (AllThere count workers.now) (IsMissing count workers.now) }
@@ -24,7 +25,7 @@ pub(crate) fn first_missing<C: Ledger, Q: Ledger>(
 }
 
 /// Whether one of the workers has the number.
-fn is_there<C: Ledger, Q: Ledger>(workers: &[Worker<C, Q>], number: u32) -> bool
+fn is_there<C: Ledger, Q: Ledger, N: Naming>(workers: &[Worker<C, Q, N>], number: u32) -> bool
     ensures { result ≡ is_there workers.now number }
 {
     for worker in workers {

@@ -1,50 +1,150 @@
-//! How a table with workers begins.
+//! How a table with workers and readers begins.
 
-ghost use Rattle.std.specs.Prelude.{◌≡◌, IfErr, IfOk, OnOk, length};
+ghost use Rattle.std.specs.Prelude.{◌≡◌, ◌⊎◌, ◌≤◌, [], All, IfErr, IfOk, IfSome, OnOk, length};
+ghost use Rattle.left_right.specs.Handles.{pending, published};
+ghost use Rattle.std.specs.Arc.{arc_value};
 ghost use Rattle.shared.specs.Hand.{AreNew};
-ghost use Rattle.shared.specs.Opened.{IsCount, IsOpenFault};
+ghost use Rattle.shared.specs.Opened.{IsCount, IsFew, IsOpenFault};
+ghost use Rattle.table.specs.Stored.{stored_fields};
 
 use crate::fault::OpenFault;
-use crate::shared_table::SharedTable;
+use crate::naming::{Event, Naming};
+use crate::pair::Pair;
+use crate::reader::Reader;
+use crate::shared_table::{Books, SharedTable};
+use crate::shown::{Publisher, Shown};
 use crate::worker::{Worker, new_workers};
 use arrays::Schema;
+use colbits::NoMemory;
+use histories::Front;
+use left_right::WriteHandle;
 use std::alloc::Global;
 use std::sync::ledger::{Blank, Ledger};
-use table::TableState;
+use std::sync::{Arc, Wait};
+use table::{TableState, Version};
 
-/// The most workers that a table may have.
-const MOST_WORKERS: u32 = 64;
+/// The most workers that a table may have, and the most readers.
+const MOST: u32 = 64;
 
-/// A table of so many workers, from 1 to 64, for batches of the schema, and the workers, numbered from 0. The blanks are of
-/// the ledgers of their calls and of their rows, each with a part for each worker; a caller is a function over the ledgers'
-/// names that is handed the blanks.
-pub fn open<C: Ledger, Q: Ledger>(
+/// What `open` gives: the table, its workers and its readers.
+pub type Opened<C, Q, N, R> = (SharedTable<C, Q, N, Publisher<N, R>>, Vec<Worker<C, Q, N>>, Vec<Reader<N>>);
+
+/// A table of so many workers, from 1 to 64, and readers, up to 64, for batches of the schema; the workers, numbered from 0,
+/// and the readers. The blanks are of the ledgers of the workers' calls and of their rows, each with a part for each worker,
+/// and the pair was made of the same schema; a caller is a function over their names that is handed them.
+///
+/// # Errors
+/// `NoWorkers`, `TooMany` by the numbers; `NoMemory` where a growth was refused; `NoPlace` where a reader was given no place,
+/// which may be without cause.
+pub fn open<C: Ledger, Q: Ledger, N: Naming, R: Wait + Drop>(
+    wait: R,
     alloc: Global,
     schema: Schema,
     workers: u32,
+    readers: u32,
     calls: Blank,
     rows: Blank,
-) -> Result<(SharedTable<C, Q>, Vec<Worker<C, Q>>), OpenFault>
+    pair: Pair,
+) -> Result<Opened<C, Q, N, R>, OpenFault>
     requires calls { (calls.name ≡ C.name) × (calls.parts ≡ C.parts) × (calls.parts ≡ workers) }
     requires rows { (rows.name ≡ Q.name) × (rows.parts ≡ Q.parts) × (rows.parts ≡ workers) }
+    requires pair { (pair.book ≡ N.book) × (pair.fields ≡ N.fields) × (pair.fields ≡ stored_fields schema) }
     ensures table { IfOk result (λ r. r.0 ≡ workers) }
     ensures count { IfOk result (λ r. length r.1.items ≡ workers) }
     ensures new { IfOk result (λ r. AreNew 0 r.1.items) }
-    ensures few { OnOk result (IsCount workers) }
-    ensures err { IfErr result (IsOpenFault workers) }
+    ensures readers { IfOk result (λ r. length r.2.items ≡ readers) }
+    ensures unread { IfOk result (λ r. All (λ known. known ≡ []) r.2.items) }
+    ensures few { OnOk result (IsCount workers × IsFew readers) }
+    ensures err { IfErr result (IsOpenFault workers readers) }
 {
     if workers == 0 {
         return Err(OpenFault::NoWorkers);
     }
-    if workers > MOST_WORKERS {
+    if workers > MOST || readers > MOST {
         return Err(OpenFault::TooMany);
     }
     let state = TableState::new(alloc, schema)?;
-    let (call_book, mut call_share) = calls.open::<C>();
-    let (row_book, mut row_share) = rows.open::<Q>();
-    let hands = new_workers(alloc, workers, &mut call_share, &mut row_share)?;
-    let table = SharedTable::new(
-        alloc, state, call_book, row_book, call_share, row_share, workers,
-    );
-    Ok((table, hands))
+    let (opened, version) = pair.into_parts();
+    let (head, front) = opened.named::<N>();
+    let (call_book, mut no_calls) = calls.open::<C>();
+    let (row_book, mut no_rows) = rows.open::<Q>();
+    let hands = new_workers(alloc, workers, &mut no_calls, &mut no_rows, &front)?;
+    let (publisher, all) = new_readers(wait, alloc, readers, version, &front)?;
+    let books = Books {
+        call_book,
+        row_book,
+        no_calls,
+        no_rows,
+    };
+    let table = SharedTable::new(alloc, state, (head, front), publisher, books, workers);
+    Ok((table, hands, all))
+}
+
+/// So many readers, who know nothing yet, and who shows versions to them: nobody where there is no reader.
+fn new_readers<N: Naming, R: Wait + Drop>(
+    wait: R,
+    alloc: Global,
+    count: u32,
+    version: Arc<Version>,
+    front: &Front<Event, N>,
+) -> Result<(Option<Publisher<N, R>>, Vec<Reader<N>>), OpenFault>
+    requires few { IsFew count }
+    requires front { front.now ≡ [] }
+    requires version { ((arc_value version).history ≡ []) × ((arc_value version).fields ≡ N.fields) }
+    ensures shown { IfOk result (λ r. IfSome r.0 (λ p. (published p ≡ arc_value version) × (pending p ≡ []))) }
+    ensures count { IfOk result (λ r. length r.1.items ≡ count) }
+    ensures unread { IfOk result (λ r. All (λ known. known ≡ []) r.1.items) }
+    ensures err { IfErr result (λ e. (e ≡ OpenFault.NoMemory) ⊎ ((e ≡ OpenFault.NoPlace) × (1 ≤ count))) }
+{
+    let mut readers = Vec::with_capacity(alloc, count as usize)?;
+    if count == 0 {
+        return Ok((None, readers));
+    }
+    let publisher = new_publisher(wait, alloc, &version, front)?;
+    for _ in 0..count {
+        let Ok(handle) = publisher.handle() else {
+            return Err(OpenFault::NoPlace);
+        };
+        readers.push(Reader::new(handle, front.again()))?;
+    }
+    Ok((Some(publisher), readers))
+}
+
+/// Who shows versions to readers, with the first one shown.
+fn new_publisher<N: Naming, R: Wait + Drop>(
+    wait: R,
+    alloc: Global,
+    version: &Arc<Version>,
+    front: &Front<Event, N>,
+) -> Result<Publisher<N, R>, NoMemory>
+    requires front { front.now ≡ (arc_value version.now).history }
+    requires fields { (arc_value version.now).fields ≡ N.fields }
+    ensures { IfOk result (λ p. (published p ≡ arc_value version.now) × (pending p ≡ [])) }
+{
+    let first = Shown::new(version, front)?;
+    let second = Shown::new(version, front)?;
+    let mut publisher = WriteHandle::new(alloc, wait, first, second, MOST as usize)?;
+    // The queue of what is to be shown gets both its places now, so that no append has to ask for one.
+    publish_twice(&mut publisher, version, front)?;
+    Ok(publisher)
+}
+
+/// Shows the version that is shown, by two steps at once.
+fn publish_twice<N: Naming, R: Wait + Drop>(
+    publisher: &mut Publisher<N, R>,
+    version: &Arc<Version>,
+    front: &Front<Event, N>,
+) -> Result<(), NoMemory>
+    requires front { front.now ≡ (arc_value version.now).history }
+    requires fields { (arc_value version.now).fields ≡ N.fields }
+    requires nothing { pending publisher.old ≡ [] }
+    ensures { OnOk result ((published publisher.new ≡ arc_value version.now) × (pending publisher.new ≡ [])) }
+{
+    publisher
+        .append(Shown::new(version, front)?)
+        .map_err(|_| NoMemory)?;
+    publisher
+        .append(Shown::new(version, front)?)
+        .map_err(|_| NoMemory)?;
+    Ok(publisher.publish()?)
 }

@@ -1,0 +1,246 @@
+-- The parts that workers have of a history.
+use Rattle.std.proofs.Common.{◌≡◌, ◌∙◌, ◌⊎◌, inl, inr, ℕ, zero, suc, ◌+◌, ◌<◌, ◌≤◌, List, [], ◌∷◌, ◌++◌, length, filter, get_or, Bool, true, false, cond, refl, ap, sym, subst, arith, length-append}
+use Rattle.std.specs.Prelude.{◌==◌, All, nat_lt, sum_by}
+use Rattle.std.proofs.lemmas.Bool.Decides.{nat_tests}
+use Rattle.std.proofs.lemmas.List.{append-nil}
+use Rattle.std.proofs.lemmas.List.Elements.{filter-append}
+use mathlib.Core.List.{IsPrefix}
+use Rattle.arrays.specs.Batch.{Table}
+use Rattle.histories.proofs.PrefixLemmas.{prefix_trans}
+use Rattle.shared.proofs.HandLemmas.{count_of, some as some_of}
+use Rattle.shared.specs.Balance.{IsOfWorkers}
+use Rattle.shared.specs.Hand.{Hand, IsPartOf, IsWhole, calls_of_hand}
+use Rattle.shared.specs.Missing.{AllThere}
+use Rattle.shared.specs.Parts.{InOrder, sum_below}
+use Rattle.table.specs.History.{History, of}
+
+-- ---- items in their order
+
+module _ {A : Type 0} where
+  order_length : (xs ys : List A) → InOrder xs ys → length xs ≤ length ys
+  order_length [] ys o = omega arith
+  order_length (x ∷ xs) [] o = absurd o
+  order_length (x ∷ xs) (y ∷ ys) (inl p) = omega (arith, order_length xs ys p.1)
+  order_length (x ∷ xs) (y ∷ ys) (inr p) = omega (arith, order_length (x ∷ xs) ys p)
+
+  -- as many are all
+  order_whole : (xs ys : List A) → InOrder xs ys → length ys ≤ length xs → xs ≡ ys
+  order_whole [] [] o few = refl
+  order_whole [] (y ∷ ys) o few = absurd (omega (arith, few))
+  order_whole (x ∷ xs) [] o few = absurd o
+  order_whole (x ∷ xs) (y ∷ ys) (inl p) few = let rest = order_whole xs ys p.1 (omega (arith, few)) in cc (p.0, rest)
+  order_whole (x ∷ xs) (y ∷ ys) (inr p) few = absurd (omega (arith, few, order_length (x ∷ xs) ys p))
+
+  order_more : (xs ys zs : List A) → InOrder xs ys → InOrder xs (ys ++ zs)
+  order_more [] ys zs o = tt
+  order_more (x ∷ xs) [] zs o = absurd o
+  order_more (x ∷ xs) (y ∷ ys) zs (inl p) = inl (p.0, order_more xs ys zs p.1)
+  order_more (x ∷ xs) (y ∷ ys) zs (inr p) = inr (order_more (x ∷ xs) ys zs p)
+
+  order_push : (xs ys : List A) (z : A) → InOrder xs ys → InOrder (xs ++ z ∷ []) (ys ++ z ∷ [])
+  order_push [] [] z o = inl (refl, tt)
+  order_push [] (y ∷ ys) z o = inr (order_push [] ys z tt)
+  order_push (x ∷ xs) [] z o = absurd o
+  order_push (x ∷ xs) (y ∷ ys) z (inl p) = inl (p.0, order_push xs ys z p.1)
+  order_push (x ∷ xs) (y ∷ ys) z (inr p) = inr (order_push (x ∷ xs) ys z p)
+
+-- ---- a worker's part
+
+abbrev is_of : ℕ → ℕ × Table → Bool
+is_of w e = e.0 == w
+
+same_test : (a b : ℕ) → a ≡ b → (a == b) ≡ true
+same_test a b same = grind (arith, nat_tests)
+
+-- what stands in order in a part stands so in that of a longer history
+pub part_begun : (mine h k : History) (w : ℕ) → IsPrefix h k → InOrder mine (of h w) → InOrder mine (of k w)
+part_begun mine h k w begun o =
+    subst (λ (l : History). InOrder mine l)
+    (sym (filter-append (is_of w) h begun.0) ∙ ap (λ (l : History). of l w) begun.1)
+    (order_more mine (of h w) (of begun.0 w) o)
+
+-- one's own pair behind both
+pub part_pushed : (mine h : History) (w : ℕ) (t : Table) → InOrder mine (of h w) → InOrder (mine ++ (w, t) ∷ []) (of (h ++ (w, t) ∷ []) w)
+part_pushed mine h w t o =
+    let own : of ((w, t) ∷ []) w ≡ (w, t) ∷ [] = ap (λ b. cond b ((w, t) ∷ []) []) (same_test w w refl) in
+    subst (λ (l : History). InOrder (mine ++ (w, t) ∷ []) l)
+    (sym (filter-append (is_of w) h ((w, t) ∷ []) ∙ ap (λ (l : History). of h w ++ l) own))
+    (order_push mine (of h w) (w, t) o)
+
+pub part_more : (count : ℕ) (h k : History) (w : Hand) → IsPartOf count h w → IsPrefix h k → IsPartOf count k w
+part_more count h k w is begun = record {
+  below = is.below;
+  begun = prefix_trans w.seen h k is.begun begun;
+  ordered = part_begun w.mine h k w.number begun is.ordered;
+}
+
+-- ---- sums
+
+sum_same : (n : ℕ) (f g : ℕ → ℕ) → ((w : ℕ) → f w ≡ g w) → sum_below n f ≡ sum_below n g
+sum_same zero f g same = refl
+sum_same (suc n) f g same = omega (arith, sum_same n f g same, same n)
+
+sum_both : (n : ℕ) (f g : ℕ → ℕ) → sum_below n (λ w. f w + g w) ≡ sum_below n f + sum_below n g
+sum_both zero f g = refl
+sum_both (suc n) f g = omega (arith, sum_both n f g)
+
+sum_none : (n : ℕ) → sum_below n (λ w. 0) ≡ 0
+sum_none zero = refl
+sum_none (suc n) = omega (arith, sum_none n)
+
+sum_ones : (n : ℕ) → sum_below n (λ w. 1) ≡ n
+sum_ones zero = refl
+sum_ones (suc n) = omega (arith, sum_ones n)
+
+sum_less : (n : ℕ) (f g : ℕ → ℕ) → ((w : ℕ) → w < n → f w ≤ g w) → sum_below n f ≤ sum_below n g
+sum_less zero f g less = omega arith
+sum_less (suc n) f g less = omega (arith, sum_less n f g (λ w below. less w (omega (arith, below))), less n (omega arith))
+
+one_more : (a n k : ℕ) → cond (nat_lt a (suc n)) k 0 ≡ cond (nat_lt a n) k 0 + cond (a == n) k 0
+one_more a n k = grind (arith, nat_tests)
+
+sum_at : (n a k : ℕ) → sum_below n (λ w. cond (a == w) k 0) ≡ cond (nat_lt a n) k 0
+sum_at zero a k = grind (arith, nat_tests)
+sum_at (suc n) a k = omega (arith, sum_at n a k, one_more a n k)
+
+sum_of_one : (n a k : ℕ) → a < n → sum_below n (λ w. cond (a == w) k 0) ≡ k
+sum_of_one n a k below = let all = sum_at n a k in grind (arith, nat_tests, all, below)
+
+last_or_before : (w n : ℕ) → w < suc n → (b : Bool) → (w == n) ≡ b → (w < n) ⊎ (w ≡ n)
+last_or_before w n below true is = inr (grind (arith, nat_tests))
+last_or_before w n below false is = inl (grind (arith, nat_tests))
+
+-- where each is no more and all together are no less, each is no less
+sum_each : (n : ℕ) (f g : ℕ → ℕ) → ((w : ℕ) → w < n → f w ≤ g w) → sum_below n g ≤ sum_below n f → (w : ℕ) → w < n → g w ≤ f w
+sum_each zero f g less all w below = absurd (omega (arith, below))
+sum_each (suc n) f g less all w below =
+    let before = λ (v : ℕ) (lt : v < n). less v (omega (arith, lt)) in
+    let sums = sum_less n f g before in
+    let last = less n (omega arith) in
+    sum_cases n f g w (last_or_before w n below (w == n) refl) (λ lt. sum_each n f g before (omega (arith, all, last)) w lt) (omega (arith, all, sums))
+where
+  sum_cases : (n : ℕ) (f g : ℕ → ℕ) (w : ℕ) → (w < n) ⊎ (w ≡ n) → (w < n → g w ≤ f w) → g n ≤ f n → g w ≤ f w
+  sum_cases n f g w (inl lt) before last = before lt
+  sum_cases n f g w (inr same) before last = subst (λ m. g m ≤ f m) (sym same) last
+
+-- ---- all parts together
+
+length_one : (b : Bool) (e : ℕ × Table) (h : History) → length (cond b (e ∷ h) h) ≡ cond b 1 0 + length h
+length_one true e h = refl
+length_one false e h = refl
+
+-- the parts of all workers have as many pairs as the history
+parts_length : (count : ℕ) (h : History) → IsOfWorkers count h → sum_below count (λ w. length (of h w)) ≡ length h
+parts_length count [] all = sum_none count
+parts_length count (e ∷ h) all =
+    let first : e.0 < count = all 0 e (omega arith) in
+    let rest : IsOfWorkers count h = λ i d below. all (suc i) d (omega (arith, below)) in
+    omega (
+      arith,
+      sum_same count (λ w. length (of (e ∷ h) w)) (λ w. cond (e.0 == w) 1 0 + length (of h w)) (λ w. length_one (e.0 == w) e (of h w)),
+      sum_both count (λ w. cond (e.0 == w) 1 0) (λ w. length (of h w)),
+      sum_of_one count e.0 1 first,
+      parts_length count h rest,
+    )
+
+pub each_owns : (count : ℕ) (h : History) (m : ℕ → History) → IsOfWorkers count h → ((w : ℕ) → w < count → InOrder (m w) (of h w))
+    → sum_below count (λ w. length (m w)) ≡ length h → (w : ℕ) → w < count → m w ≡ of h w
+each_owns count h m all ordered sum w below =
+    let less = λ (v : ℕ) (lt : v < count). order_length (m v) (of h v) (ordered v lt) in
+    order_whole (m w) (of h w) (ordered w below)
+    (sum_each count (λ v. length (m v)) (λ v. length (of h v)) less (omega (arith, sum, parts_length count h all)) w below)
+
+-- ---- hands
+
+-- the pairs of all hands of a number
+abbrev mines : ℕ → List Hand → History
+mines w [] = []
+mines w (x ∷ hands) = cond (x.number == w) x.mine [] ++ mines w hands
+
+length_cond : (b : Bool) (xs : History) → length (cond b xs []) ≡ cond b (length xs) 0
+length_cond true xs = refl
+length_cond false xs = refl
+
+mines_sum : (count : ℕ) (h : History) (hands : List Hand) → All (IsPartOf count h) hands → sum_below count (λ w. length (mines w hands)) ≡ sum_by calls_of_hand hands
+mines_sum count h [] all = sum_none count
+mines_sum count h (x ∷ hands) all =
+    let rest : All (IsPartOf count h) hands = λ i d below. all (suc i) d (omega (arith, below)) in
+    omega (
+      arith,
+      sum_same count (λ w. length (mines w (x ∷ hands))) (λ w. cond (x.number == w) (length x.mine) 0 + length (mines w hands))
+        (λ w. length-append (cond (x.number == w) x.mine []) (mines w hands) ∙ ap (λ n. n + length (mines w hands)) (length_cond (x.number == w) x.mine)),
+      sum_both count (λ w. cond (x.number == w) (length x.mine) 0) (λ w. length (mines w hands)),
+      sum_of_one count x.number (length x.mine) (all 0 x (omega arith)).below,
+      mines_sum count h hands rest,
+    )
+
+counts_sum : (count : ℕ) (h : History) (hands : List Hand) → All (IsPartOf count h) hands → sum_below count (λ w. count_of w hands) ≡ length hands
+counts_sum count h [] all = sum_none count
+counts_sum count h (x ∷ hands) all =
+    let rest : All (IsPartOf count h) hands = λ i d below. all (suc i) d (omega (arith, below)) in
+    omega (
+      arith,
+      sum_both count (λ w. cond (x.number == w) 1 0) (λ w. count_of w hands),
+      sum_of_one count x.number 1 (all 0 x (omega arith)).below,
+      counts_sum count h hands rest,
+    )
+
+mines_none : (w : ℕ) (hands : List Hand) → count_of w hands ≤ 0 → mines w hands ≡ []
+mines_none w [] none = refl
+mines_none w (x ∷ hands) none = one w x hands (x.number == w) refl none
+where
+  one : (w : ℕ) (x : Hand) (hands : List Hand) (b : Bool) → (x.number == w) ≡ b → cond b 1 0 + count_of w hands ≤ 0 → cond b x.mine [] ++ mines w hands ≡ []
+  one w x hands true is none = absurd (omega (arith, none))
+  one w x hands false is none = mines_none w hands (omega (arith, none))
+
+-- the one hand of a number
+mine_first : (w : ℕ) (x : Hand) (hands : List Hand) → count_of w (x ∷ hands) ≤ 1 → (x.number == w) ≡ true → mines w (x ∷ hands) ≡ x.mine
+mine_first w x hands one is =
+    let none : count_of w hands ≤ 0 = let first = ap (λ b. cond b 1 0) is in omega (arith, one, first) in
+    ap (λ b. cond b x.mine [] ++ mines w hands) is ∙ ap (λ (l : History). x.mine ++ l) (mines_none w hands none) ∙ append-nil x.mine
+
+mine_at : (w : ℕ) (hands : List Hand) (i : ℕ) (d : Hand) → i < length hands → (get_or hands i d).number ≡ w → count_of w hands ≤ 1 → mines w hands ≡ (get_or hands i d).mine
+mine_at w [] i d below is one = absurd (omega (arith, below))
+mine_at w (x ∷ hands) zero d below is one = mine_first w x hands one (same_test x.number w is)
+mine_at w (x ∷ hands) (suc i) d below is one =
+    let there : 1 ≤ count_of w hands = counted w hands i d (omega (arith, below)) is in
+    rest w x hands i d below is one there (x.number == w) refl
+where
+  counted : (w : ℕ) (hands : List Hand) (i : ℕ) (d : Hand) → i < length hands → (get_or hands i d).number ≡ w → 1 ≤ count_of w hands
+  counted w [] i d below is = absurd (omega (arith, below))
+  counted w (x ∷ hands) zero d below is = let first = ap (λ b. cond b 1 0) (same_test x.number w is) in omega (arith, first)
+  counted w (x ∷ hands) (suc i) d below is = let tail = counted w hands i d (omega (arith, below)) is in omega (arith, tail)
+
+  rest : (w : ℕ) (x : Hand) (hands : List Hand) (i : ℕ) (d : Hand) → suc i < length (x ∷ hands) → (get_or hands i d).number ≡ w → cond (x.number == w) 1 0 + count_of w hands ≤ 1 → 1 ≤ count_of w hands
+      → (b : Bool) → (x.number == w) ≡ b → cond (x.number == w) x.mine [] ++ mines w hands ≡ (get_or hands i d).mine
+  rest w x hands i d below is one there true test = absurd (let first = ap (λ b. cond b 1 0) test in omega (arith, one, there, first))
+  rest w x hands i d below is one there false test =
+      ap (λ b. cond b x.mine [] ++ mines w hands) test ∙ mine_at w hands i d (omega (arith, below)) is (omega (arith, one))
+
+mines_ordered : (count : ℕ) (h : History) (w : ℕ) (hands : List Hand) → All (IsPartOf count h) hands → count_of w hands ≤ 1 → InOrder (mines w hands) (of h w)
+mines_ordered count h w [] all one = tt
+mines_ordered count h w (x ∷ hands) all one = first count h w x hands all one (x.number == w) refl
+where
+  first : (count : ℕ) (h : History) (w : ℕ) (x : Hand) (hands : List Hand) → All (IsPartOf count h) (x ∷ hands) → count_of w (x ∷ hands) ≤ 1 → (b : Bool) → (x.number == w) ≡ b
+      → InOrder (mines w (x ∷ hands)) (of h w)
+  first count h w x hands all one true test =
+      let number : x.number ≡ w = grind (arith, nat_tests) in
+      subst (λ (l : History). InOrder l (of h w)) (sym (mine_first w x hands one test)) (subst (λ n. InOrder x.mine (of h n)) number (all 0 x (omega arith)).ordered)
+  first count h w x hands all one false test =
+      subst (λ (l : History). InOrder l (of h w)) (sym (ap (λ b. cond b x.mine [] ++ mines w hands) test))
+      (mines_ordered count h w hands (λ i d below. all (suc i) d (omega (arith, below))) (omega (arith, one)))
+
+-- all hands of so many workers, who together made all calls, have each its own part
+pub all_whole : (count : ℕ) (h : History) (hands : List Hand) → IsOfWorkers count h → AllThere count hands → length hands ≤ count → All (IsPartOf count h) hands
+    → length h ≡ sum_by calls_of_hand hands → All (IsWhole h) hands
+all_whole count h hands workers there few all sum =
+    let some = λ (w : ℕ) (below : w < count). some_of w hands (there w below) in
+    let one = sum_each count (λ w. 1) (λ w. count_of w hands) some (omega (arith, counts_sum count h hands all, sum_ones count, few)) in
+    let owns = each_owns count h (λ w. mines w hands) workers (λ w below. mines_ordered count h w hands all (one w below)) (omega (arith, mines_sum count h hands all, sum)) in
+    λ i d below.
+        let x = get_or hands i d in
+        let is = all i d below in
+        record {
+          begun = is.begun;
+          whole = sym (owns x.number is.below) ∙ mine_at x.number hands i d below refl (one x.number is.below);
+        }

@@ -1,0 +1,19 @@
+-- What is left with a worker.
+use Rattle.std.specs.Prelude.{ℕ, Option, refl}
+use Rattle.std.specs.Coded.{Coded, code_by, coded_ℕ, coded_option, coded×}
+use Rattle.shared.specs.Code.{history_code, refusal_code}
+use Rattle.table.specs.History.{History}
+use Rattle.table.specs.declared.refusal.Refusal.{Refusal}
+
+-- The history of its last receipt; the file, the batch in it and the refusal that stopped it.
+pub record Left : Type 0 where
+  pub last : Option History
+  pub stop : Option (ℕ × ℕ × Refusal)
+
+abbrev pub left_code : Coded Left
+left_code =
+    code_by (Option History × Option (ℕ × (ℕ × Refusal)))
+    (coded× (coded_option history_code) (coded_option (coded× coded_ℕ (coded× coded_ℕ refusal_code))))
+    (λ l. (l.last, l.stop))
+    (λ p. record { last = p.0; stop = p.1 })
+    (λ _. refl)

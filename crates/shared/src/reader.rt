@@ -1,0 +1,92 @@
+//! Those who read a table without waiting for anyone.
+
+ghost use Rattle.std.specs.Prelude.{◌≡◌, ◌⊎◌, IfOk, OnErr};
+ghost use mathlib.Core.List.{IsPrefix};
+ghost use Rattle.std.specs.Arc.{arc_value};
+ghost use Rattle.table.specs.Cause.{IsLegal};
+
+use crate::naming::{Event, Naming};
+use crate::outcome::Receipt;
+use crate::shown::Shown;
+use colbits::NoMemory;
+use histories::Front;
+use left_right::ReadHandle;
+use std::marker::Model;
+use std::sync::Arc;
+use table::Version;
+
+/// One of those who read a table, each in a thread of its own. It takes no lock and waits for nobody.
+///
+/// Clauses see the history that it knows: the longest of those that it has seen or was told of, which the others begin.
+#[derive(Drop)]
+pub struct Reader<N: Naming> {
+    handle: ReadHandle<Shown<N>>,
+    known: Front<Event, N>,
+}
+
+impl<N: Naming> Model for Reader<N> {
+    ghost use Rattle.table.specs.History.{History};
+    ghost use Rattle.shared.specs.Code.{history_code};
+
+    ghost Value = { History };
+
+    ghost coded = { history_code };
+
+    ghost view = { λ r. r.known };
+}
+
+impl<N: Naming> Reader<N> {
+    /// A reader that knows nothing yet.
+    pub(crate) fn new(handle: ReadHandle<Shown<N>>, known: Front<Event, N>) -> Reader<N>
+        ensures { result ≡ known }
+    {
+        Reader { handle, known }
+    }
+
+    /// A version of the table that shows all that the reader knows; then it knows the version's history.
+    ///
+    /// # Errors
+    /// `NoMemory` where the copy of the version was refused, and where the table has ended. What is known stays.
+    pub fn latest(&mut self) -> Result<Arc<Version>, NoMemory>
+        ensures begun { IfOk result (λ v. IsPrefix self.old (arc_value v).history) }
+        ensures known { IfOk result (λ v. self.new ≡ (arc_value v).history) }
+        ensures fields { IfOk result (λ v. (arc_value v).fields ≡ N.fields) }
+        ensures legal { IfOk result (λ v. IsLegal N.fields (arc_value v).history) }
+        ensures kept { OnErr result (self.new ≡ self.old) }
+    {
+        let Some(shown) = self.shown()? else {
+            return Err(NoMemory);
+        };
+        let Shown { version, front } = shown;
+        // What is published never falls behind what a reader was told of, but only the rule of the pair knows that.
+        if !self.known.begins(&front) {
+            return Err(NoMemory);
+        }
+        let _rows = version.rows();
+        self.known = front;
+        Ok(version)
+    }
+
+    /// Learns of a batch that was appended: versions show it from now on.
+    pub fn learn(&mut self, receipt: &Receipt<N>)
+        ensures old { IsPrefix self.old self.new }
+        ensures told { IsPrefix receipt.now self.new }
+        ensures one { (self.new ≡ self.old) ⊎ (self.new ≡ receipt.now) }
+    {
+        if self.known.begins(&receipt.front) {
+            self.known = receipt.front.again();
+        } else {
+            let _begins = receipt.front.begins(&self.known);
+        }
+    }
+
+    /// A copy of what is shown, none where the table has ended.
+    fn shown(&mut self) -> Result<Option<Shown<N>>, NoMemory>
+        ensures { self.new ≡ self.old }
+    {
+        let Some(guard) = self.handle.enter() else {
+            return Ok(None);
+        };
+        Ok(Some(Shown::new(&guard.version, &guard.front)?))
+    }
+}

@@ -1,0 +1,114 @@
+//! What readers are shown, and who shows it.
+
+ghost use Rattle.std.specs.Prelude.{◌≡◌, ◌++◌, ◌∷◌, [], IfOk};
+ghost use Rattle.left_right.specs.Handles.{pending, published};
+ghost use Rattle.std.specs.Arc.{arc_value};
+ghost use Rattle.table.specs.Contents.{Contents};
+
+use crate::naming::{Event, Naming};
+use histories::Front;
+use left_right::{Absorb, WriteHandle};
+use std::alloc::AllocError;
+use std::marker::Model;
+use std::sync::{Arc, Wait};
+use table::Version;
+
+/// A version with its history.
+///
+/// Clauses see the version.
+#[derive(Drop)]
+pub struct Shown<N: Naming> {
+    pub(crate) version: Arc<Version>,
+    pub(crate) front: Front<Event, N>,
+}
+
+impl<N: Naming> Model for Shown<N> {
+    ghost use Rattle.table.specs.Contents.{Contents, contents_code};
+
+    ghost Value = { Contents };
+
+    ghost coded = { contents_code };
+
+    ghost use Rattle.std.specs.Prelude.{◌≡◌};
+    ghost use Rattle.std.specs.Arc.{arc_value};
+
+    ghost view = { λ s. arc_value s.version };
+
+    ghost invariant = { λ s. (s.front ≡ (arc_value s.version).history) × ((arc_value s.version).fields ≡ N.fields) };
+}
+
+impl<N: Naming> Shown<N> {
+    /// A copy of a version with its history.
+    pub(crate) fn new(version: &Arc<Version>, front: &Front<Event, N>) -> Result<Shown<N>, AllocError>
+        requires front { front.now ≡ (arc_value version.now).history }
+        requires fields { (arc_value version.now).fields ≡ N.fields }
+        ensures { IfOk result (λ s. s ≡ arc_value version.now) }
+    {
+        let version = version.clone()?;
+        Ok(Shown {
+            version,
+            front: front.again(),
+        })
+    }
+}
+
+impl<N: Naming> Absorb<Shown<N>> for Shown<N> {
+    type State = Version;
+
+    ghost state = { λ s. s };
+
+    ghost applied = { λ before next. next };
+
+    fn absorb_first(&mut self, operation: &Shown<N>, _other: &Shown<N>) -> Result<(), AllocError> {
+        *self = Shown::new(&operation.version, &operation.front)?;
+        Ok(())
+    }
+}
+
+/// Who shows versions to readers.
+pub trait Publish<N: Naming>: Drop {
+    ghost use Rattle.table.specs.Contents.{Contents};
+
+    /// What is shown.
+    ghost shows: { Self → Contents → Type 0 };
+
+    /// Shows the next version. It waits for readers of the one before the last.
+    fn show<W: Wait>(&mut self, wait: &W, next: Shown<N>)
+        ensures { shows self.new next };
+}
+
+/// The writer of a pair whose readers never wait.
+pub type Publisher<N, R> = WriteHandle<Shown<N>, Shown<N>, R>;
+
+impl<N: Naming, R: Wait + Drop> Publish<N> for WriteHandle<Shown<N>, Shown<N>, R> {
+    ghost use Rattle.std.specs.Prelude.{◌≡◌, []};
+    ghost use Rattle.left_right.specs.Handles.{pending, published};
+
+    ghost shows = { λ w c. (published w ≡ c) × (pending w ≡ []) };
+
+    fn show<W: Wait>(&mut self, wait: &W, next: Shown<N>) {
+        push(wait, self, next);
+        for _ in wait.forever() {
+            if self.publish().is_ok() {
+                break;
+            }
+        }
+    }
+}
+
+/// Has the next version wait to be shown. It's tried again where its place was refused.
+fn push<N: Naming, R: Wait + Drop, W: Wait>(
+    wait: &W,
+    publisher: &mut Publisher<N, R>,
+    next: Shown<N>,
+)
+    ensures { pending publisher.new ≡ pending publisher.old ++ next ∷ [] }
+{
+    let mut next = next;
+    for _ in wait.forever() {
+        match publisher.append(next) {
+            Ok(()) => break,
+            Err(again) => next = again,
+        }
+    }
+}
