@@ -1,61 +1,126 @@
 -- What all workers did, once their outcomes are taken.
-use Rattle.std.proofs.Common.{◌≡◌, ◌∙◌, ℕ, suc, ◌<◌, List, [], ◌∷◌, ◌++◌, length, map, get_or, None, ap, sym, refl, subst, arith, nat_lt}
-use Rattle.std.specs.List.{AllZip}
+use Rattle.std.proofs.Common.{◌≡◌, ◌∙◌, ℕ, zero, suc, ◌+◌, ◌<◌, List, [], ◌∷◌, ◌++◌, length, map, get_or, IfSome, Option, None, Some, Bool, true, false, cond, ap, sym, refl, subst, arith, nat_lt}
+use Rattle.std.specs.List.{AllZip, cons_option, filter_map, zip}
 use Rattle.std.proofs.lemmas.List.{get_or-map}
 use Rattle.std.proofs.lemmas.List.Elements.{AllZip-get_or}
-use Rattle.std.specs.Prelude.{unwrap_or}
-use Rattle.arrays.specs.Batch.{Table}
+use Rattle.std.specs.Prelude.{All, is_some, unwrap_or}
+use Rattle.arrays.specs.Batch.{Batch}
+use Rattle.arrays.specs.Shape.{FieldShape}
 use Rattle.shared.specs.Hand.{Hand, IsLeft, calls_of_hand}
-use Rattle.shared.specs.declared.outcome.Outcome.{Outcome}
-use Rattle.loads.specs.Loaded.{AllLoaded, AreRun, IsDone, IsRun, Loaded, before_stop, outcome_of}
-use Rattle.loads.specs.Told.{AllFinished}
+use Rattle.shared.specs.Left.{Left}
+use mathlib.Core.List.{IsPrefix}
+use Rattle.table.specs.History.{History, rows}
+use Rattle.loads.specs.Loaded.{AllLoaded, AreRun, HasLast, IsDone, IsNewest, IsRun, IsStopped, Loaded, before_stop, outcome_of}
+use Rattle.loads.specs.Told.{AllFinished, AreNewest, last_receipts, seen_of}
 
-run_left : (files : List (List Table)) (workers place : ℕ) (old mid new : Hand) (o : Outcome) → IsRun files workers place old mid o → IsLeft None mid new
-    → IsRun files workers place old new o
-run_left files workers place old mid new o is left = record {
-  there = is.there;
-  loaded = record { number = left.number ∙ is.loaded.number; calls = left.calls ∙ is.loaded.calls; rows = left.rows ∙ is.loaded.rows };
-  last = is.last ∙ ap (λ n. nat_lt (calls_of_hand old) n) (sym left.calls);
+run_left : (fields : List FieldShape) (files : List (List Batch)) (workers place : ℕ) (old mid new : Hand) (o : Left) → IsRun fields files workers place old mid o → IsLeft None mid new
+    → IsRun fields files workers place old new o
+run_left fields files workers place old mid new o is left = record {
+  stopped = subst (λ (h : History). IfSome o.stop (IsStopped fields files workers place h)) (sym left.seen) is.stopped;
+  loaded = record {
+    number = left.number ∙ is.loaded.number;
+    calls = ap (λ (h : History). length h) left.mine ∙ is.loaded.calls;
+    rows = ap (λ (h : History). length (rows h)) left.mine ∙ is.loaded.rows;
+    mine = left.mine ∙ is.loaded.mine;
+    begun = subst (λ (h : History). IsPrefix old.seen h) (sym left.seen) is.loaded.begun;
+    alike = is.loaded.alike;
+  };
+  last = is.last ∙ ap (λ (h : History). nat_lt (calls_of_hand old) (length h)) (sym left.mine);
+  newest = λ none. subst (λ (h : History). IfSome o.last (λ r. r ≡ h)) (sym left.seen) (is.newest none);
 }
 
 length_map : {A B : Type 0} (f : A → B) (xs : List A) → length (map f xs) ≡ length xs
 length_map f [] = refl
 length_map f (x ∷ xs) = ap (λ (n : ℕ). suc n) (length_map f xs)
 
-are_run : (files : List (List Table)) (old mid new : List Hand) (outcomes : List Outcome) → length mid ≡ length old → outcomes ≡ map outcome_of mid
-    → ((place : ℕ) (d : Hand) → place < length old → IsDone files (length old) place (get_or old place d) (get_or mid place d))
-    → AllZip (IsLeft None) mid new → AreRun files old new outcomes
-are_run files old mid new outcomes size same done taken =
-    let none : Outcome = record { last = None; stop = None } in
+are_run : (fields : List FieldShape) (files : List (List Batch)) (old mid new : List Hand) (outcomes : List Left) → length mid ≡ length old → outcomes ≡ map outcome_of mid
+    → ((place : ℕ) (d : Hand) → place < length old → IsDone fields files (length old) place (get_or old place d) (get_or mid place d))
+    → AllZip (IsLeft None) mid new → AreRun fields files old new outcomes
+are_run fields files old mid new outcomes size same done taken =
+    let none : Left = record { last = None; stop = None } in
     let left_at : (place : ℕ) (d : Hand) → place < length old → IsLeft None (get_or mid place d) (get_or new place d)
     = λ place d below. AllZip-get_or (IsLeft None) mid new place d d taken (omega (arith, below, size)) in
     record {
-      count = ap (λ (os : List Outcome). length os) same ∙ length_map outcome_of mid ∙ size;
+      kept = sym taken.0 ∙ size;
+      count = ap (λ (os : List Left). length os) same ∙ length_map outcome_of mid ∙ size;
       each = λ place d o below.
           let one = done place d below in
           let is : get_or outcomes place o ≡ one.outcome =
-          ap (λ (os : List Outcome). get_or os place o) same
+          ap (λ (os : List Left). get_or os place o) same
           ∙ get_or-map outcome_of mid place d o (omega (arith, below, size))
           ∙ ap (λ p. unwrap_or p none) one.left in
-          run_left files (length old) place (get_or old place d) (get_or mid place d) (get_or new place d) (get_or outcomes place o)
-          (subst (IsRun files (length old) place (get_or old place d) (get_or mid place d)) (sym is) one.run) (left_at place d below);
+          run_left fields files (length old) place (get_or old place d) (get_or mid place d) (get_or new place d) (get_or outcomes place o)
+          (subst (IsRun fields files (length old) place (get_or old place d) (get_or mid place d)) (sym is) one.run) (left_at place d below);
       left = λ place d below. (left_at place d below).rest;
     }
 
 -- the outcomes, in a list that was empty, tell how far the workers came
-pub are_told : (files : List (List Table)) (old mid new : List Hand) (first all shown : List Outcome) → length mid ≡ length old → first ≡ []
+pub are_told : (fields : List FieldShape) (files : List (List Batch)) (old mid new : List Hand) (first all shown : List Left) → length mid ≡ length old → first ≡ []
     → all ≡ first ++ map outcome_of mid → shown ≡ all
-    → ((place : ℕ) (d : Hand) → place < length old → IsDone files (length old) place (get_or old place d) (get_or mid place d))
-    → AllZip (IsLeft None) mid new → AreRun files old new shown
-are_told files old mid new first all shown size empty is same =
-    are_run files old mid new shown size (same ∙ is ∙ ap (λ (xs : List Outcome). xs ++ map outcome_of mid) empty)
+    → ((place : ℕ) (d : Hand) → place < length old → IsDone fields files (length old) place (get_or old place d) (get_or mid place d))
+    → AllZip (IsLeft None) mid new → AreRun fields files old new shown
+are_told fields files old mid new first all shown size empty is same =
+    are_run fields files old mid new shown size (same ∙ is ∙ ap (λ (xs : List Left). xs ++ map outcome_of mid) empty)
 
 -- where nobody was stopped, the whole plan is loaded
-pub all_loaded : (files : List (List Table)) (old new : List Hand) (outcomes : List Outcome) → AreRun files old new outcomes → AllFinished outcomes → AllLoaded files old new
-all_loaded files old new outcomes are finished =
-    let none : Outcome = record { last = None; stop = None } in
+pub all_loaded : (fields : List FieldShape) (files : List (List Batch)) (old new : List Hand) (outcomes : List Left) → AreRun fields files old new outcomes → AllFinished outcomes → AllLoaded fields files old new
+all_loaded fields files old new outcomes are finished =
+    let none : Left = record { last = None; stop = None } in
     record {
-      each = λ place d below. subst (λ p. Loaded (before_stop files (length old) place p) (get_or old place d) (get_or new place d))
+      kept = are.kept;
+      each = λ place d below. subst (λ p. Loaded fields (before_stop files (length old) place p) (get_or old place d) (get_or new place d))
           (finished place none (omega (arith, below, are.count))) (are.each place d none below).loaded;
       left = are.left;
     }
+
+-- ---- what was seen by those who appended
+
+newest_one : (b : Bool) (last : Option History) (seen : History) → is_some last ≡ b → IfSome last (λ r. r ≡ seen) → last ≡ cond b (Some seen) None
+newest_one true None seen is same = absurd (cc is)
+newest_one true (Some r) seen is same = ap (λ (h : History). Some h) same
+newest_one false None seen is same = refl
+newest_one false (Some r) seen is same = absurd (cc is)
+
+filter_same : {A B X : Type 0} (f : A → Option X) (g : B → Option X) (xs : List A) (ys : List B) → length xs ≡ length ys
+    → ((i : ℕ) (a : A) (b : B) → i < length xs → f (get_or xs i a) ≡ g (get_or ys i b)) → filter_map f xs ≡ filter_map g ys
+filter_same f g [] [] size same = refl
+filter_same f g [] (y ∷ ys) size same = absurd (omega (arith, size))
+filter_same f g (x ∷ xs) [] size same = absurd (omega (arith, size))
+filter_same f g (x ∷ xs) (y ∷ ys) size same =
+    let tail = filter_same f g xs ys (omega (arith, size)) (λ i a b below. same (suc i) a b (omega (arith, below))) in
+    ap (λ l. cons_option (f x) l) tail ∙ ap (λ o. cons_option o (filter_map g ys)) (same 0 x y (omega arith))
+
+zip_length : {A B : Type 0} (xs : List A) (ys : List B) → length ys ≡ length xs → length (zip xs ys) ≡ length xs
+zip_length [] ys size = refl
+zip_length (x ∷ xs) [] size = absurd (omega (arith, size))
+zip_length (x ∷ xs) (y ∷ ys) size = ap (λ (n : ℕ). suc n) (zip_length xs ys (omega (arith, size)))
+
+zip_at : {A B : Type 0} (xs : List A) (ys : List B) (i : ℕ) (a : A) (b : B) → length ys ≡ length xs → get_or (zip xs ys) i (a, b) ≡ (get_or xs i a, get_or ys i b)
+zip_at [] [] i a b size = refl
+zip_at [] (y ∷ ys) i a b size = absurd (omega (arith, size))
+zip_at (x ∷ xs) [] i a b size = absurd (omega (arith, size))
+zip_at (x ∷ xs) (y ∷ ys) zero a b size = refl
+zip_at (x ∷ xs) (y ∷ ys) (suc i) a b size = zip_at xs ys i a b (omega (arith, size))
+
+pub all_newest : (fields : List FieldShape) (files : List (List Batch)) (old new : List Hand) (outcomes : List Left) → AreRun fields files old new outcomes → AllFinished outcomes
+    → AreNewest (last_receipts outcomes) old new
+all_newest fields files old new outcomes are finished =
+    filter_same (λ (o : Left). o.last) seen_of outcomes (zip old new) (are.count ∙ sym (zip_length old new are.kept))
+    (λ i o p below.
+        let inside : i < length old = omega (arith, below, are.count) in
+        let run = are.each i p.0 o inside in
+        let run' = are.each i p.1 o inside in
+        let at = ap seen_of (zip_at old new i p.0 p.1 are.kept) in
+        newest_at (get_or outcomes i o) (get_or old i p.0) (get_or new i p.1) (get_or new i p.0) (get_or old i p.1) (same_at new i p.0 p.1 (omega (arith, inside, are.kept))) run.last (run.newest (finished i o below))
+        ∙ sym at)
+where
+  same_at : {A : Type 0} (xs : List A) (i : ℕ) (c d : A) → i < length xs → get_or xs i c ≡ get_or xs i d
+  same_at [] i c d below = absurd (omega (arith, below))
+  same_at (x ∷ xs) zero c d below = refl
+  same_at (x ∷ xs) (suc i) c d below = same_at xs i c d (omega (arith, below))
+
+  newest_at : (o : Left) (old new new' old' : Hand) → new' ≡ new → HasLast (calls_of_hand old) new' o.last → IsNewest new' o.last → o.last ≡ seen_of (old, new)
+  newest_at o old new new' old' same last newest =
+      newest_one (nat_lt (calls_of_hand old) (calls_of_hand new)) o.last new.seen
+      (last ∙ ap (λ (h : Hand). nat_lt (calls_of_hand old) (calls_of_hand h)) same)
+      (subst (λ (h : Hand). IfSome o.last (λ r. r ≡ h.seen)) same newest)

@@ -1,46 +1,50 @@
 //! How a worker's batch comes into the table.
 
-ghost use Rattle.std.specs.Prelude.{◌≡◌, ◌∷◌, [], OnErr, OnOk};
-ghost use Rattle.arrays.specs.Batch.{rows_of};
-ghost use Rattle.loads.specs.Loaded.{Loaded};
+ghost use Rattle.std.specs.Prelude.{◌≡◌, ◌∷◌, [], IfErr, IfOk, OnErr, OnOk};
+ghost use Rattle.loads.specs.Loaded.{Loaded, StandsFor};
 
 use answers::Gate;
 use arrays::RecordBatch;
-use shared::{Receipt, Refusal, SharedTable, Worker};
+use shared::{Naming, Publish, Receipt, Refusal, SharedTable, Worker};
 use std::sync::Wait;
 use std::sync::ledger::Ledger;
 
 /// What takes the batches of workers.
-pub(crate) trait Append<C: Ledger, Q: Ledger> {
-    /// Takes a batch of the worker at a place, whose append number `call` it is. After a refusal the worker is as it was.
+pub(crate) trait Append<C: Ledger, Q: Ledger, N: Naming> {
+    /// Takes a batch of the worker at a place, whose append number `call` it is. After a refusal the worker has seen more at
+    /// the most.
     fn append(
         &self,
         place: usize,
         call: u32,
-        worker: &mut Worker<C, Q>,
+        worker: &mut Worker<C, Q, N>,
         batch: &RecordBatch,
-    ) -> Result<Receipt, Refusal>
-        ensures raised { OnOk result (Loaded (rows_of batch.now ∷ []) worker.old worker.new) }
-        ensures kept { OnErr result (Loaded [] worker.old worker.new) };
+    ) -> Result<Receipt<N>, Refusal>
+        ensures raised { OnOk result (Loaded N.fields (batch.now ∷ []) worker.old worker.new) }
+        ensures receipt { IfOk result (λ r. r ≡ worker.new.seen) }
+        ensures kept { OnErr result (Loaded N.fields [] worker.old worker.new) }
+        ensures cause { IfErr result (StandsFor N.fields worker.new.seen batch.now) };
 }
 
 /// A table behind a gate.
 #[derive(Drop)]
-pub(crate) struct Gated<'a, C: Ledger, Q: Ledger, W: Wait, G: Gate> {
+pub(crate) struct Gated<'a, C: Ledger, Q: Ledger, N: Naming, P: Publish<N>, W: Wait, G: Gate> {
     pub(crate) wait: &'a W,
-    pub(crate) table: &'a SharedTable<C, Q>,
+    pub(crate) table: &'a SharedTable<C, Q, N, P>,
     pub(crate) gate: &'a G,
 }
 
-impl<'a, C: Ledger, Q: Ledger, W: Wait, G: Gate> Append<C, Q> for Gated<'a, C, Q, W, G> {
+impl<'a, C: Ledger, Q: Ledger, N: Naming, P: Publish<N>, W: Wait, G: Gate> Append<C, Q, N>
+    for Gated<'a, C, Q, N, P, W, G>
+{
     /// A place over 2^32 - 1 is that number to the gate.
     fn append(
         &self,
         place: usize,
         call: u32,
-        worker: &mut Worker<C, Q>,
+        worker: &mut Worker<C, Q, N>,
         batch: &RecordBatch,
-    ) -> Result<Receipt, Refusal> {
+    ) -> Result<Receipt<N>, Refusal> {
         let place = u32::try_from(place).unwrap_or(u32::MAX);
         self.gate.pass(place, call);
         self.table.append(self.wait, worker, batch)

@@ -1,14 +1,14 @@
 //! Files that are appended by all workers.
 
 ghost use Rattle.std.specs.Prelude.{◌≡◌, ◌<◌, ℕ, length, slice_index_or};
-ghost use Rattle.loads.specs.Loaded.{IsDone, tables_of};
+ghost use Rattle.loads.specs.Loaded.{IsDone, batches_of};
 ghost use Rattle.shared.specs.Hand.{Hand};
 
 use crate::appending::Append;
 use crate::running::{Task, run_all};
 use crate::work::work;
 use arrays::File;
-use shared::Worker;
+use shared::{Naming, Worker};
 use std::sync::ledger::Ledger;
 use std::thread::Threads;
 
@@ -20,14 +20,14 @@ pub(crate) struct FileLoading<'a, A> {
     count: usize,
 }
 
-impl<'a, C: Ledger, Q: Ledger, A: Append<C, Q>> Task<C, Q> for FileLoading<'a, A> {
-    ghost use Rattle.loads.specs.Loaded.{IsDone, tables_of};
+impl<'a, C: Ledger, Q: Ledger, N: Naming, A: Append<C, Q, N>> Task<C, Q, N> for FileLoading<'a, A> {
+    ghost use Rattle.loads.specs.Loaded.{IsDone, batches_of};
 
     ghost count = { λ l. l.count };
 
-    ghost does = { λ l place old new. IsDone (tables_of l.files.now) l.count place old new };
+    ghost does = { λ l place old new. IsDone N.fields (batches_of l.files.now) l.count place old new };
 
-    fn work(&self, place: usize, worker: &mut Worker<C, Q>) {
+    fn work(&self, place: usize, worker: &mut Worker<C, Q, N>) {
         work(self.table, self.files, self.count, place, worker);
     }
 }
@@ -36,12 +36,13 @@ impl<'a, C: Ledger, Q: Ledger, A: Append<C, Q>> Task<C, Q> for FileLoading<'a, A
 pub(crate) fn append_files<
     C: Ledger + Send + Sync,
     Q: Ledger + Send + Sync,
+    N: Naming + Send + Sync,
     T: Threads + Sync,
-    A: Append<C, Q> + Sync,
->(threads: &T, table: &A, files: &[File], workers: &mut [Worker<C, Q>])
+    A: Append<C, Q, N> + Sync,
+>(threads: &T, table: &A, files: &[File], workers: &mut [Worker<C, Q, N>])
     requires { 0 < length workers.old }
     ensures { (place : ℕ) (d : Hand) → place < length workers.old
-        → IsDone (tables_of files.now) (length workers.old) place (slice_index_or workers.old place d) (slice_index_or workers.new place d) }
+        → IsDone N.fields (batches_of files.now) (length workers.old) place (slice_index_or workers.old place d) (slice_index_or workers.new place d) }
 {
     let count = workers.len();
     let loading = FileLoading {

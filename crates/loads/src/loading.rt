@@ -1,8 +1,8 @@
 //! Files loaded by workers, side by side.
 
 ghost use Rattle.std.specs.Prelude.{◌≡◌, ◌<◌, IfErr, IfOk, OnOk, length};
-ghost use Rattle.loads.specs.Loaded.{AllLoaded, tables_of};
-ghost use Rattle.loads.specs.Told.{AreReceipts, Stands};
+ghost use Rattle.loads.specs.Loaded.{AllLoaded, batches_of};
+ghost use Rattle.loads.specs.Told.{AreNewest, AreReceipts, Stands};
 
 use crate::appending::Gated;
 use crate::fault::LoadFault;
@@ -10,7 +10,7 @@ use crate::file_loading::append_files;
 use crate::outcomes::{fault_of, push_receipts, take_outcomes};
 use answers::Gate;
 use arrays::File;
-use shared::{Receipt, SharedTable, Worker};
+use shared::{Naming, Publish, Receipt, SharedTable, Worker};
 use std::alloc::Global;
 use std::sync::Wait;
 use std::sync::ledger::Ledger;
@@ -31,6 +31,8 @@ use std::thread::Threads;
 pub fn load_all<
     C: Ledger + Send + Sync,
     Q: Ledger + Send + Sync,
+    N: Naming + Send + Sync,
+    P: Publish<N> + Send,
     W: Wait + Sync,
     T: Threads + Sync,
     G: Gate,
@@ -38,15 +40,16 @@ pub fn load_all<
     wait: &W,
     threads: &T,
     alloc: Global,
-    table: &SharedTable<C, Q>,
-    workers: &mut [Worker<C, Q>],
+    table: &SharedTable<C, Q, N, P>,
+    workers: &mut [Worker<C, Q, N>],
     files: &[File],
     gate: &G,
-) -> Result<Vec<Receipt>, LoadFault>
+) -> Result<Vec<Receipt<N>>, LoadFault>
     requires some { 0 < length workers.old }
-    ensures loaded { OnOk result (AllLoaded (tables_of files.now) workers.old workers.new) }
-    ensures receipts { IfOk result (λ v. AreReceipts v.items (tables_of files.now) workers.old workers.new) }
-    ensures err { IfErr result (λ e. Stands e (tables_of files.now) workers.old workers.new) }
+    ensures loaded { OnOk result (AllLoaded N.fields (batches_of files.now) workers.old workers.new) }
+    ensures receipts { IfOk result (λ v. AreReceipts v.items N.fields (batches_of files.now) workers.old workers.new) }
+    ensures newest { IfOk result (λ v. AreNewest v.items workers.old workers.new) }
+    ensures err { IfErr result (λ e. Stands e N.fields (batches_of files.now) workers.old workers.new) }
 {
     let count = workers.len();
     let mut receipts = Vec::with_capacity(alloc, count)?;

@@ -5,17 +5,17 @@ ghost use Rattle.std.specs.List.{AllZip, Any};
 ghost use Rattle.loads.specs.Loaded.{outcome_of};
 ghost use Rattle.loads.specs.Told.{AllFinished, IsLeastStop, IsTold, last_receipts};
 ghost use Rattle.shared.specs.Hand.{IsLeft};
-ghost use Rattle.shared.specs.declared.outcome.Outcome.{Outcome};
+ghost use Rattle.shared.specs.Left.{Left};
 
 use crate::fault::LoadFault;
-use shared::{Outcome, Receipt, Refusal, Worker};
+use shared::{Naming, Outcome, Receipt, Refusal, Worker};
 use std::sync::ledger::Ledger;
 
 /// Takes what was left with each worker, in order, into a list that has room for it. Of a worker with whom nothing was left, it
 /// is an outcome without receipt and without stop.
-pub(crate) fn take_outcomes<C: Ledger, Q: Ledger>(
-    workers: &mut [Worker<C, Q>],
-    outcomes: &mut Vec<Outcome>,
+pub(crate) fn take_outcomes<C: Ledger, Q: Ledger, N: Naming>(
+    workers: &mut [Worker<C, Q, N>],
+    outcomes: &mut Vec<Outcome<N>>,
 )
     requires { vec_len outcomes.old + length workers.old ≤ vec_capacity outcomes.old }
     ensures outcomes { outcomes.new.items ≡ outcomes.old.items ++ map outcome_of workers.old }
@@ -24,17 +24,13 @@ pub(crate) fn take_outcomes<C: Ledger, Q: Ledger>(
     let Some((worker, rest)) = workers.split_first_mut() else {
         return;
     };
-    let nothing = Outcome {
-        last: None,
-        stop: None,
-    };
-    let outcome = worker.take_left().unwrap_or(nothing);
+    let outcome = worker.take_left().unwrap_or(Outcome::new(None, None));
     outcomes.push(outcome).unwrap();
     take_outcomes(rest, outcomes);
 }
 
 /// What is to be told of the outcomes, if anything.
-pub(crate) fn fault_of(outcomes: &[Outcome]) -> Option<LoadFault>
+pub(crate) fn fault_of<N: Naming>(outcomes: &[Outcome<N>]) -> Option<LoadFault>
     ensures { IsTold result outcomes.now }
 {
     if let Some((file, batch, refusal)) = least_stop(outcomes) {
@@ -51,12 +47,12 @@ pub(crate) fn fault_of(outcomes: &[Outcome]) -> Option<LoadFault>
 }
 
 /// Whether any worker was stopped.
-fn any_stopped(outcomes: &[Outcome]) -> bool
+fn any_stopped<N: Naming>(outcomes: &[Outcome<N>]) -> bool
     ensures any { IsTrue result → Any (λ o. o.stop ≢ None) outcomes.now }
     ensures none { IsFalse result → AllFinished outcomes.now }
 {
     for outcome in outcomes {
-        if outcome.stop.is_some() {
+        if outcome.stop().is_some() {
             return true;
         }
     }
@@ -64,12 +60,12 @@ fn any_stopped(outcomes: &[Outcome]) -> bool
 }
 
 /// The stop in the least file, of those that were not for want of memory.
-fn least_stop(outcomes: &[Outcome]) -> Option<(usize, usize, Refusal)>
+fn least_stop<N: Naming>(outcomes: &[Outcome<N>]) -> Option<(usize, usize, Refusal)>
     ensures { IsLeastStop result outcomes.now }
 {
     let mut least = None;
     for outcome in outcomes {
-        if let Some(stop) = outcome.stop {
+        if let Some(stop) = outcome.stop() {
             least = lesser(least, stop);
         }
     }
@@ -81,7 +77,7 @@ fn lesser(
     least: Option<(usize, usize, Refusal)>,
     stop: (usize, usize, Refusal),
 ) -> Option<(usize, usize, Refusal)>
-    ensures { (outcomes : List Outcome) (o : Outcome) → o.stop ≡ Some stop → IsLeastStop least outcomes → IsLeastStop result (outcomes ++ o ∷ []) }
+    ensures { (outcomes : List Left) (o : Left) → o.stop ≡ Some stop → IsLeastStop least outcomes → IsLeastStop result (outcomes ++ o ∷ []) }
 {
     let (file, _, refusal) = stop;
     if let Refusal::NoMemory = refusal {
@@ -96,13 +92,13 @@ fn lesser(
 }
 
 /// Appends the receipts of the last batches to a list that has room for them.
-pub(crate) fn push_receipts(outcomes: &[Outcome], receipts: &mut Vec<Receipt>)
+pub(crate) fn push_receipts<N: Naming>(outcomes: &[Outcome<N>], receipts: &mut Vec<Receipt<N>>)
     requires { vec_len receipts.old + length outcomes.now ≤ vec_capacity receipts.old }
     ensures { receipts.new.items ≡ receipts.old.items ++ last_receipts outcomes.now }
 {
     for outcome in outcomes {
-        if let Some(receipt) = outcome.last {
-            receipts.push(receipt).unwrap();
+        if let Some(receipt) = outcome.last() {
+            receipts.push(receipt.again()).unwrap();
         }
     }
 }

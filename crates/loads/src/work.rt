@@ -1,51 +1,53 @@
 //! What one worker does.
 
-ghost use Rattle.std.specs.Prelude.{◌≡◌, ◌<◌, ◌≤◌, IfErr, OnOk, length, map, take};
+ghost use Rattle.std.specs.Prelude.{◌≡◌, ◌<◌, ◌≤◌, IfErr, IfSome, None, OnOk, Some, length, map, slice_get, take};
 ghost use Rattle.std.specs.Arc.{arc_value};
-ghost use Rattle.arrays.specs.Batch.{rows_of};
-ghost use Rattle.loads.specs.Loaded.{HasLast, IsDone, IsThere, Loaded, before_stop, tables_of};
+ghost use Rattle.arrays.specs.Batch.{Batch};
+ghost use Rattle.loads.specs.Loaded.{HasLast, IsDone, IsNewest, IsStopped, Loaded, StandsFor, batches_of, before_stop};
 ghost use Rattle.shared.specs.Hand.{calls_of_hand};
 
 use crate::appending::Append;
 use arrays::{File, RecordBatch};
-use shared::{Outcome, Receipt, Refusal, Worker};
+use shared::{Naming, Outcome, Receipt, Refusal, Worker};
 use std::sync::Arc;
 use std::sync::ledger::Ledger;
 
 /// Appends the files of a place of so many, and leaves with the worker how far it came.
-pub(crate) fn work<C: Ledger, Q: Ledger, A: Append<C, Q>>(
+pub(crate) fn work<C: Ledger, Q: Ledger, N: Naming, A: Append<C, Q, N>>(
     table: &A,
     files: &[File],
     count: usize,
     place: usize,
-    worker: &mut Worker<C, Q>,
+    worker: &mut Worker<C, Q, N>,
 )
     requires { place < count }
-    ensures { IsDone (tables_of files.now) count place worker.old worker.new }
+    ensures { IsDone N.fields (batches_of files.now) count place worker.old worker.new }
 {
     let first = worker.calls();
     let mut last = None;
     let stop = add_files(table, files, count, place, first, worker, &mut last);
-    worker.leave(Outcome { last, stop });
+    worker.leave(Outcome::new(last, stop));
 }
 
 /// Appends the files of a place, in order, up to the first refusal, and answers where that was. The worker had `first` calls
 /// when it began.
-fn add_files<C: Ledger, Q: Ledger, A: Append<C, Q>>(
+fn add_files<C: Ledger, Q: Ledger, N: Naming, A: Append<C, Q, N>>(
     table: &A,
     files: &[File],
     count: usize,
     place: usize,
     first: u32,
-    worker: &mut Worker<C, Q>,
-    last: &mut Option<Receipt>,
+    worker: &mut Worker<C, Q, N>,
+    last: &mut Option<Receipt<N>>,
 ) -> Option<(usize, usize, Refusal)>
     requires place { place < count }
     requires first { first ≤ calls_of_hand worker.old }
     requires last { HasLast first worker.old last.old }
-    ensures there { IsThere (tables_of files.now) count place result }
-    ensures loaded { Loaded (before_stop (tables_of files.now) count place result) worker.old worker.new }
+    requires newest { IsNewest worker.old last.old }
+    ensures stopped { IfSome result (IsStopped N.fields (batches_of files.now) count place worker.new.seen) }
+    ensures loaded { Loaded N.fields (before_stop (batches_of files.now) count place result) worker.old worker.new }
     ensures last { HasLast first worker.new last.new }
+    ensures newest { result ≡ None → IsNewest worker.new last.new }
 {
     for (number, file) in files.iter().enumerate() {
         if number % count == place {
@@ -59,20 +61,23 @@ fn add_files<C: Ledger, Q: Ledger, A: Append<C, Q>>(
 }
 
 /// Appends batches, in order, up to the first refusal, and answers at which of them that was.
-fn add_batches<C: Ledger, Q: Ledger, A: Append<C, Q>>(
+fn add_batches<C: Ledger, Q: Ledger, N: Naming, A: Append<C, Q, N>>(
     table: &A,
     batches: &[Arc<RecordBatch>],
     place: usize,
     first: u32,
-    worker: &mut Worker<C, Q>,
-    last: &mut Option<Receipt>,
+    worker: &mut Worker<C, Q, N>,
+    last: &mut Option<Receipt<N>>,
 ) -> Result<(), (usize, Refusal)>
     requires first { first ≤ calls_of_hand worker.old }
     requires last { HasLast first worker.old last.old }
-    ensures loaded { OnOk result (Loaded (map rows_of (map arc_value batches.now)) worker.old worker.new) }
+    requires newest { IsNewest worker.old last.old }
+    ensures loaded { OnOk result (Loaded N.fields (map arc_value batches.now) worker.old worker.new) }
     ensures there { IfErr result (λ s. s.0 < length batches.now) }
-    ensures stopped { IfErr result (λ s. Loaded (take s.0 (map rows_of (map arc_value batches.now))) worker.old worker.new) }
+    ensures stopped { IfErr result (λ s. Loaded N.fields (take s.0 (map arc_value batches.now)) worker.old worker.new) }
+    ensures stands { IfErr result (λ s. (b : Batch) → slice_get (map arc_value batches.now) s.0 ≡ Some b → StandsFor N.fields worker.new.seen b s.1) }
     ensures last { HasLast first worker.new last.new }
+    ensures newest { OnOk result (IsNewest worker.new last.new) }
 {
     for (number, batch) in batches.iter().enumerate() {
         match table.append(place, worker.calls() - first, worker, batch) {

@@ -1,6 +1,6 @@
 use mir.Syntax.{erased}
 use Rattle.std.proofs.Common.{◌∙◌, ◌++◌, List, ap, inl}
-use Rattle.shared.specs.declared.outcome.Receipt.{Receipt}
+use Rattle.table.specs.History.{History}
 use Rattle.loads.specs.Loaded.{tables_of}
 use Rattle.loads.specs.Told.{last_receipts}
 use Rattle.loads.proofs.RunLemmas.{all_loaded, are_told}
@@ -34,4 +34,4 @@ returns-clause-receipts g c =
     let told = are_told (tables_of c.args.files.now) c.args.workers.now c.append_files.new.workers c.take_outcomes.new.workers c.in_ok-outcomes.outcomes.items
     c.take_outcomes.new.outcomes.items shown c.append_files.auto.workers c.in_ok-outcomes.ensures.items c.take_outcomes.ensures.outcomes c.deref-2.ensures.value c.append_files.ensures
     c.take_outcomes.ensures.taken in
-    (shown, told, c.push_receipts.ensures ∙ ap (λ (xs : List Receipt). xs ++ last_receipts shown) c.in_ok-receipts.ensures.items)
+    (shown, told, c.push_receipts.ensures ∙ ap (λ (xs : List History). xs ++ last_receipts shown) c.in_ok-receipts.ensures.items)

@@ -1,5 +1,5 @@
 use Rattle.std.proofs.Common.{None, get_or, take}
-use Rattle.shared.specs.declared.outcome.Outcome.{Outcome}
+use Rattle.shared.specs.Left.{Left}
 use Rattle.loads.proofs.ToldLemmas.{least_more, least_same}
 use Rattle.loads.proofs.outcomes.least_stop.Goals as goal
 use Rattle.loads.proofs.outcomes.least_stop.Goals.{in-Some, in_default}
@@ -9,7 +9,7 @@ loop-outcome-preserved c =
     let all = c.args.outcomes.now in
     let i = c.loop-outcome.outcome-index in
     let below = c.loop-outcome-test.true in
-    let nothing : Outcome = record { last = None; stop = None } in
+    let nothing : Left = record { last = None; stop = None } in
     elim c.match-outcome.branch [
       | in-Some w ↦ least_more w.lesser-least.result c.match-outcome.least all i nothing below w.least-is
           (w.lesser-least.ensures (take i all) (get_or all i nothing) w.in-Some.is c.loop-outcome.invariant)

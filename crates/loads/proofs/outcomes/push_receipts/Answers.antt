@@ -1,5 +1,5 @@
 use Rattle.std.proofs.Common.{◌∙◌, ◌++◌, ◌∷◌, [], None, ap, arith, sym, vec_capacity, vec_len}
-use Rattle.shared.specs.declared.outcome.Outcome.{Outcome}
+use Rattle.shared.specs.Left.{Left}
 use Rattle.loads.proofs.ToldLemmas.{pushed_items, receipt_more, receipts_same}
 use Rattle.loads.proofs.outcomes.push_receipts.Goals as goal
 use Rattle.loads.proofs.outcomes.push_receipts.Goals.{in-Some, in_default}
@@ -10,7 +10,7 @@ loop-outcome-preserved c =
     let i = c.loop-outcome.outcome-index in
     let below = c.loop-outcome-test.true in
     let before = c.args.receipts.now.items in
-    let nothing : Outcome = record { last = None; stop = None } in
+    let nothing : Left = record { last = None; stop = None } in
     elim c.match-outcome.branch [
       | in-Some w ↦ record {
         items = ap (λ v. v.items) w.receipts-is

@@ -1,8 +1,11 @@
 use Rattle.std.proofs.Common.{map, take}
 use Rattle.std.specs.Arc.{arc_value}
-use Rattle.arrays.specs.Batch.{rows_of}
-use Rattle.loads.specs.Loaded.{HasLast, Loaded}
+use Rattle.loads.specs.Loaded.{HasLast, IsNewest, Loaded}
 use Rattle.loads.proofs.work.add_batches.Given as goal
 
 abbrev pub invariant-loop-number : goal.invariant-loop-number
-invariant-loop-number g l = record { loaded : Loaded (take l.number (map rows_of (map arc_value l.batches))) l.fn.worker l.worker; last : HasLast l.first l.worker l.last }
+invariant-loop-number g l = record {
+  loaded : Loaded g.N.Naming.fields (take l.number (map arc_value l.batches)) l.fn.worker l.worker;
+  last : HasLast l.first l.worker l.last;
+  newest : IsNewest l.worker l.last;
+}
