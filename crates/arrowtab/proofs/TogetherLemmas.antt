@@ -2,16 +2,15 @@
 use Rattle.std.proofs.Common.{◌≡◌, ◌∙◌, ℕ, ◌<◌, List, length, ap, arith, inl, inr, map, subst, sym}
 use Rattle.std.specs.Prelude.{None, Some}
 use Rattle.std.proofs.lemmas.List.{length-map}
-use Rattle.arrays.specs.Batch.{Batch, Table, rows_of}
 use Rattle.arrays.specs.File.{File}
 use Rattle.arrays.specs.Shape.{FieldShape}
 use Rattle.job.specs.declared.asked.Command.{Command}
-use Rattle.loads.specs.Loaded.{IsThere, tables_of}
+use Rattle.loads.specs.Loaded.{IsStopped, Stop, batches_of}
 use Rattle.loads.specs.Told.{Stands}
 use Rattle.loads.specs.declared.fault.LoadFault.{LoadFault}
 use Rattle.loads.specs.declared.fault.LoadFault.TheVariants as load
 use Rattle.shared.specs.Hand.{Hand}
-use Rattle.shared.specs.declared.outcome.Outcome.{Outcome}
+use Rattle.shared.specs.Left.{Left}
 use Rattle.table.specs.History.{History}
 use Rattle.table.specs.declared.refusal.Refusal.{Refusal}
 use Rattle.arrowtab.specs.Explained.{ExplainsFiles}
@@ -40,14 +39,15 @@ unprinted_of (wanted.Groups query) fields h count (QueryUnread f) why = tt
 unprinted_of (wanted.Groups query) fields h count (QueryRefused f) why = tt
 
 nobody : Hand
-nobody = record { number = 0; call_count = 0; row_count = 0; left = None }
+nobody = record { number = 0; seen = []; mine = []; left = None }
 
 -- a refusal that is told is of one of the files
-pub refused_of : (files : List File) (old new : List Hand) (file batch : ℕ) (refusal : Refusal) → Stands (load.Refused file batch refusal) (tables_of files) old new → file < length files
-refused_of files old new file batch refusal (inl told) =
+pub refused_of : (fields : List FieldShape) (files : List File) (old new : List Hand) (file batch : ℕ) (refusal : Refusal)
+    → Stands (load.Refused file batch refusal) fields (batches_of files) old new → file < length files
+refused_of fields files old new file batch refusal (inl told) =
     let met = told.2.met in
-    let run = told.1.each met.0 nobody met.1 (omega (arith, told.1.count, met.2)) in
-    let there : IsThere (tables_of files) (length old) met.0 (Some (file, batch, refusal)) =
-    subst (IsThere (tables_of files) (length old) met.0) (ap (λ (o : Outcome). o.stop) met.3 ∙ met.4) run.there in
-    omega (arith, there.0, length-map files (λ (f : File). map rows_of f.batches))
-refused_of files old new file batch refusal (inr none) = let e : load.Refused file batch refusal ≡ load.NoMemory = none.0 in absurd (cc)
+    let run = told.1.each met.0 nobody (record { last = None; stop = None }) met.1 (omega (arith, told.1.count, met.2)) in
+    let is : IsStopped fields (batches_of files) (length old) met.0 (get_or new met.0 nobody).seen (file, batch, refusal) =
+    subst (λ (o : Option Stop). IfSome o (IsStopped fields (batches_of files) (length old) met.0 (get_or new met.0 nobody).seen)) (ap (λ (o : Left). o.stop) met.3 ∙ met.4) run.stopped in
+    omega (arith, is.file, length-map files (λ (f : File). f.batches))
+refused_of fields files old new file batch refusal (inr none) = let e : load.Refused file batch refusal ≡ load.NoMemory = none.0 in absurd (cc)

@@ -1,5 +1,6 @@
 //! The output of a job that several workers do, or why there is none.
 ghost use Rattle.std.specs.Prelude.{◌≡◌, ◌^◌, ◌-◌, ◌<◌, ◌≤◌, All, IfErr, length, map};
+ghost use Rattle.arrowtab.specs.Alone.{fields_for};
 ghost use Rattle.arrowtab.specs.Told.{IsOfFile};
 
 use crate::answer::output_of;
@@ -11,7 +12,7 @@ use arrays::File;
 use ends::Source;
 use job::Command;
 use loads::{LoadFault, load_all};
-use shared::open;
+use shared::{Naming, Pair, open};
 use std::alloc::Global;
 use std::marker::Brand;
 use std::sync::ledger::{Blank, Ledger};
@@ -60,15 +61,24 @@ fn load_together<W: Wait + Sync, T: Threads + Sync>(
     requires few { workers ≤ 64 }
     ensures { IfErr result (IsOfFile (length files.items)) }
 {
+    let pair = Pair::new(alloc, files[0].schema())?;
     let (calls, rows) = (
         Blank::new(u64::from(workers)),
         Blank::new(u64::from(workers)),
     );
-    load_under::<Brand, Brand, W, T>(wait, threads, alloc, workers, &files, calls, rows)
+    load_under::<Brand, Brand, Brand, W, T>(
+        wait, threads, alloc, workers, &files, calls, rows, pair,
+    )
 }
 
-/// The same, under the names of two ledgers.
-fn load_under<C: Ledger + Send + Sync, Q: Ledger + Send + Sync, W: Wait + Sync, T: Threads + Sync>(
+/// The same, under the names of two ledgers and of a history.
+fn load_under<
+    C: Ledger + Send + Sync,
+    Q: Ledger + Send + Sync,
+    N: Naming + Send + Sync,
+    W: Wait + Sync,
+    T: Threads + Sync,
+>(
     wait: &W,
     threads: &T,
     alloc: Global,
@@ -76,16 +86,19 @@ fn load_under<C: Ledger + Send + Sync, Q: Ledger + Send + Sync, W: Wait + Sync, 
     files: &[File],
     calls: Blank,
     rows: Blank,
+    pair: Pair,
 ) -> Result<Arc<Version>, RunFault>
     requires some { 0 < length files.now }
     requires worker { 1 ≤ workers }
     requires few { workers ≤ 64 }
     requires calls { (calls.name ≡ C.name) × (calls.parts ≡ C.parts) × (calls.parts ≡ workers) }
     requires rows { (rows.name ≡ Q.name) × (rows.parts ≡ Q.parts) × (rows.parts ≡ workers) }
+    requires pair { (pair.book ≡ N.book) × (pair.fields ≡ N.fields) × (pair.fields ≡ fields_for files.now) }
     ensures { IfErr result (IsOfFile (length files.now)) }
 {
     let schema = files[0].schema().copy(alloc)?;
-    let Ok((table, mut hands)) = open::<C, Q>(alloc, schema, workers, calls, rows) else {
+    let opened = open::<C, Q, N, &W>(wait, alloc, schema, workers, 0, calls, rows, pair);
+    let Ok((table, mut hands, _readers)) = opened else {
         return Err(RunFault::NoMemory);
     };
     match load_all(

@@ -33,6 +33,12 @@ length_map : {A B : Type 0} (f : A → B) (xs : List A) → length (map f xs) �
 length_map f [] = refl
 length_map f (x ∷ xs) = ap (λ (n : ℕ). suc n) (length_map f xs)
 
+zipped_length : {A B : Type 0} (R : A → B → Type 0) (xs : List A) (ys : List B) → AllZip R xs ys → length ys ≡ length xs
+zipped_length R [] [] all = refl
+zipped_length R [] (y ∷ ys) all = absurd all
+zipped_length R (x ∷ xs) [] all = absurd all
+zipped_length R (x ∷ xs) (y ∷ ys) all = ap (λ (n : ℕ). suc n) (zipped_length R xs ys all.1)
+
 are_run : (fields : List FieldShape) (files : List (List Batch)) (old mid new : List Hand) (outcomes : List Left) → length mid ≡ length old → outcomes ≡ map outcome_of mid
     → ((place : ℕ) (d : Hand) → place < length old → IsDone fields files (length old) place (get_or old place d) (get_or mid place d))
     → AllZip (IsLeft None) mid new → AreRun fields files old new outcomes
@@ -41,7 +47,7 @@ are_run fields files old mid new outcomes size same done taken =
     let left_at : (place : ℕ) (d : Hand) → place < length old → IsLeft None (get_or mid place d) (get_or new place d)
     = λ place d below. AllZip-get_or (IsLeft None) mid new place d d taken (omega (arith, below, size)) in
     record {
-      kept = sym taken.0 ∙ size;
+      kept = zipped_length (IsLeft None) mid new taken ∙ size;
       count = ap (λ (os : List Left). length os) same ∙ length_map outcome_of mid ∙ size;
       each = λ place d o below.
           let one = done place d below in

@@ -5,6 +5,7 @@ ghost use mathlib.Core.List.{IsPrefix};
 ghost use Rattle.arrays.specs.Batch.{rows_of};
 ghost use Rattle.std.specs.Arc.{arc_value};
 ghost use Rattle.shared.specs.Missing.{AllThere};
+ghost use Rattle.shared.specs.Balance.{IsOfWorkers};
 ghost use Rattle.shared.specs.Hand.{HasAdded, HasSeen, IsPartOf, IsWhole, calls_of_hand, having_seen, rows_of_hand};
 ghost use Rattle.table.specs.Cause.{IsLegal, batch_cause, early_cause};
 ghost use Rattle.table.specs.Contents.{Contents, admitted};
@@ -146,6 +147,7 @@ impl<C: Ledger, Q: Ledger, N: Naming, P: Publish<N>> Locked<C, Q, N, P> {
         ensures calls { length self.old.history ≡ sum_by calls_of_hand workers.old }
         ensures rows { length (rows self.old.history) ≡ sum_by rows_of_hand workers.old }
         ensures fields { self.old.fields ≡ N.fields }
+        ensures known { IsOfWorkers C.parts self.old.history }
         ensures legal { IsLegal N.fields self.old.history }
         ensures whole { All (IsWhole self.old.history) workers.old }
     {

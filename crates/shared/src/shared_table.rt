@@ -2,6 +2,7 @@
 
 ghost use Rattle.std.specs.Prelude.{◌≡◌, ◌⊎◌, ◌≤◌, [], All, IfErr, IfOk, IfSome, OnErr, OnOk, Some, length, sum_by};
 ghost use Rattle.std.specs.Arc.{arc_value};
+ghost use Rattle.shared.specs.Balance.{IsOfWorkers};
 ghost use Rattle.shared.specs.Gathered.{Stands};
 ghost use Rattle.shared.specs.Hand.{HasAdded, HasSeen, IsKept, IsRaised, IsWhole, calls_of_hand, rows_of_hand};
 ghost use Rattle.shared.specs.Missing.{AllThere};
@@ -157,6 +158,7 @@ impl<C: Ledger, Q: Ledger, N: Naming, P: Publish<N>> SharedTable<C, Q, N, P> {
         ensures calls { IfOk result (λ g. length (arc_value g.version).history ≡ sum_by calls_of_hand workers.items) }
         ensures rows { IfOk result (λ g. length (rows (arc_value g.version).history) ≡ sum_by rows_of_hand workers.items) }
         ensures whole { IfOk result (λ g. All (IsWhole (arc_value g.version).history) workers.items) }
+        ensures known { IfOk result (λ g. IsOfWorkers self (arc_value g.version).history) }
         ensures legal { IfOk result (λ g. IsLegal N.fields (arc_value g.version).history) }
         ensures fields { IfOk result (λ g. (arc_value g.version).fields ≡ N.fields) }
         ensures err { IfErr result (λ f. Stands f.cause self workers.items) }
@@ -197,6 +199,7 @@ impl<C: Ledger, Q: Ledger, N: Naming, P: Publish<N>> SharedTable<C, Q, N, P> {
         ensures calls { IfOk result (λ v. length (arc_value v).history ≡ sum_by calls_of_hand workers.old) }
         ensures rows { IfOk result (λ v. length (rows (arc_value v).history) ≡ sum_by rows_of_hand workers.old) }
         ensures whole { IfOk result (λ v. All (IsWhole (arc_value v).history) workers.old) }
+        ensures known { IfOk result (λ v. IsOfWorkers self.now (arc_value v).history) }
         ensures legal { IfOk result (λ v. IsLegal N.fields (arc_value v).history) }
         ensures fields { IfOk result (λ v. (arc_value v).fields ≡ N.fields) }
     {
