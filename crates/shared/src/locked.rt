@@ -90,7 +90,12 @@ impl<C: Ledger, Q: Ledger, N: Naming, P: Publish<N>> Locked<C, Q, N, P> {
         begin(wait, &worker.seen, &self.front);
         worker.see(&self.front);
         let batch = ready.batch();
-        let next = admit(&mut self.state, self.publisher.is_some(), worker.number, ready)?;
+        let next = admit(
+            &mut self.state,
+            self.publisher.is_some(),
+            worker.number,
+            ready,
+        )?;
         let accepted = Accepted {
             worker: worker.number,
             batch,
@@ -98,7 +103,12 @@ impl<C: Ledger, Q: Ledger, N: Naming, P: Publish<N>> Locked<C, Q, N, P> {
         add(wait, &self.head, &mut self.front, &accepted);
         self.newest = None;
         show(wait, &mut self.publisher, next, &self.front);
-        worker.raise(&mut self.call_book, &mut self.row_book, &self.front, &accepted);
+        worker.raise(
+            &mut self.call_book,
+            &mut self.row_book,
+            &self.front,
+            &accepted,
+        );
         Ok(Receipt::new(self.front.again()))
     }
 
@@ -139,7 +149,7 @@ impl<C: Ledger, Q: Ledger, N: Naming, P: Publish<N>> Locked<C, Q, N, P> {
         wait: &W,
         workers: &mut [Worker<C, Q, N>],
     ) -> Result<Arc<Version>, NoMemory>
-        requires { AllThere C.parts workers.old }
+        requires all { AllThere C.parts workers.old }
         requires enough { C.parts ≤ length workers.old }
         ensures workers { workers.new ≡ workers.old }
         ensures same { self.new ≡ self.old }
@@ -239,7 +249,7 @@ fn show<W: Wait, N: Naming, P: Publish<N>>(
 )
     requires there { is_some next ≡ is_some publisher.old }
     requires version { IfSome next (λ v. (front.now ≡ (arc_value v).history) × ((arc_value v).fields ≡ N.fields)) }
-    ensures { IfSome next (λ v. IfSome publisher.new (λ p. P.shows p (arc_value v))) }
+    ensures shown { IfSome next (λ v. IfSome publisher.new (λ p. P.shows p (arc_value v))) }
     ensures same { is_some publisher.new ≡ is_some publisher.old }
 {
     let Some(version) = next else {

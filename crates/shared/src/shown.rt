@@ -39,7 +39,10 @@ impl<N: Naming> Model for Shown<N> {
 
 impl<N: Naming> Shown<N> {
     /// A copy of a version with its history.
-    pub(crate) fn new(version: &Arc<Version>, front: &Front<Event, N>) -> Result<Shown<N>, AllocError>
+    pub(crate) fn new(
+        version: &Arc<Version>,
+        front: &Front<Event, N>,
+    ) -> Result<Shown<N>, AllocError>
         requires front { front.now ≡ (arc_value version.now).history }
         requires fields { (arc_value version.now).fields ≡ N.fields }
         ensures { IfOk result (λ s. s ≡ arc_value version.now) }
@@ -86,7 +89,9 @@ impl<N: Naming, R: Wait + Drop> Publish<N> for WriteHandle<Shown<N>, Shown<N>, R
 
     ghost shows = { λ w c. (published w ≡ c) × (pending w ≡ []) };
 
-    fn show<W: Wait>(&mut self, wait: &W, next: Shown<N>) {
+    fn show<W: Wait>(&mut self, wait: &W, next: Shown<N>)
+        ensures { (published self.new ≡ next) × (pending self.new ≡ []) }
+    {
         push(wait, self, next);
         for _ in wait.forever() {
             if self.publish().is_ok() {
@@ -104,11 +109,11 @@ fn push<N: Naming, R: Wait + Drop, W: Wait>(
 )
     ensures { pending publisher.new ≡ pending publisher.old ++ next ∷ [] }
 {
-    let mut next = next;
+    let mut waiting = next;
     for _ in wait.forever() {
-        match publisher.append(next) {
+        match publisher.append(waiting) {
             Ok(()) => break,
-            Err(again) => next = again,
+            Err(again) => waiting = again,
         }
     }
 }
