@@ -171,7 +171,7 @@ mines_sum count h (x ∷ hands) all =
       arith,
       split,
       sum_same count (λ w. length (mines w (x ∷ hands))) (λ w. cond (x.number == w) (length x.mine) 0 + length (mines w hands))
-        (λ w. length-append (cond (x.number == w) x.mine []) (mines w hands) ∙ ap (λ n. n + length (mines w hands)) (length_cond (x.number == w) x.mine)),
+          (λ w. length-append (cond (x.number == w) x.mine []) (mines w hands) ∙ ap (λ n. n + length (mines w hands)) (length_cond (x.number == w) x.mine)),
       sum_both count (λ w. cond (x.number == w) (length x.mine) 0) (λ w. length (mines w hands)),
       sum_of_one count x.number (length x.mine) (all 0 x (omega arith)).below,
       mines_sum count h hands rest,
@@ -241,9 +241,9 @@ all_whole count h hands workers there few all sum =
     let one = sum_each count (λ w. 1) (λ w. count_of w hands) some (omega (arith, counts_sum count h hands all, sum_ones count, few)) in
     let owns = each_owns count h (λ w. mines w hands) workers (λ w below. mines_ordered count h w hands all (one w below)) (omega (arith, mines_sum count h hands all, sum)) in
     λ i d below.
-        let x = get_or hands i d in
-        let is = all i d below in
-        record {
-          begun = is.begun;
-          whole = sym (owns x.number is.below) ∙ mine_at x.number hands i d below refl (one x.number is.below);
-        }
+    let x = get_or hands i d in
+    let is = all i d below in
+    record {
+      begun = is.begun;
+      whole = sym (owns x.number is.below) ∙ mine_at x.number hands i d below refl (one x.number is.below);
+    }

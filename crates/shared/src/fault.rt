@@ -2,7 +2,7 @@
 
 use crate::naming::Naming;
 use crate::shared_table::SharedTable;
-use crate::shown::Publish;
+use crate::shown::{Publish, Shown};
 use crate::worker::Worker;
 use colbits::NoMemory;
 use std::alloc::{AllocError, AllocFailed};
@@ -72,7 +72,7 @@ pub enum GatherCause {
 
 /// Why a table isn't gathered, with the table and the workers as they were handed in.
 #[derive(Drop)]
-pub struct GatherFault<C: Ledger, Q: Ledger, N: Naming, P: Publish<N>> {
+pub struct GatherFault<C: Ledger, Q: Ledger, N: Naming, P: Publish<Item = Shown<N>>> {
     pub cause: GatherCause,
     pub table: SharedTable<C, Q, N, P>,
     pub workers: Vec<Worker<C, Q, N>>,

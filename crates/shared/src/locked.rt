@@ -27,7 +27,7 @@ use table::{Ready, Refusal, TableState, Version};
 /// shows versions to readers. Each time that its lock is got, the history is the table's, each entry of it is of one of the
 /// table's workers, the first ledger counts its entries and the second its rows, and readers are shown the table.
 #[derive(Drop)]
-pub(crate) struct Locked<C: Ledger, Q: Ledger, N: Naming, P: Publish<N>> {
+pub(crate) struct Locked<C: Ledger, Q: Ledger, N: Naming, P: Publish<Item = Shown<N>>> {
     pub(crate) state: TableState,
     /// The last version that was asked for, where nothing was added since.
     pub(crate) newest: Option<Arc<Version>>,
@@ -43,7 +43,7 @@ pub(crate) struct Locked<C: Ledger, Q: Ledger, N: Naming, P: Publish<N>> {
     pub(crate) no_rows: Share<Q>,
 }
 
-impl<C: Ledger, Q: Ledger, N: Naming, P: Publish<N>> Model for Locked<C, Q, N, P> {
+impl<C: Ledger, Q: Ledger, N: Naming, P: Publish<Item = Shown<N>>> Model for Locked<C, Q, N, P> {
     ghost use Rattle.table.specs.Contents.{Contents, contents_code};
 
     ghost Value = { Contents };
@@ -71,7 +71,7 @@ impl<C: Ledger, Q: Ledger, N: Naming, P: Publish<N>> Model for Locked<C, Q, N, P
         × IfSome l.publisher (λ p. P.shows p l.state) };
 }
 
-impl<C: Ledger, Q: Ledger, N: Naming, P: Publish<N>> Locked<C, Q, N, P> {
+impl<C: Ledger, Q: Ledger, N: Naming, P: Publish<Item = Shown<N>>> Locked<C, Q, N, P> {
     /// Adds a batch of a worker, which it counts, as `TableState::admit_ready` does, and shows it to readers. The worker sees the
     /// table's history, up to its own batch where it was added. After a refusal nothing else is changed.
     pub(crate) fn append<W: Wait>(
@@ -143,7 +143,6 @@ impl<C: Ledger, Q: Ledger, N: Naming, P: Publish<N>> Locked<C, Q, N, P> {
     }
 
     /// The table as it is, with all its workers there. Each has its own part of the history.
-    #[tactic(auto, using(crate::proofs::PartLemmas::all_whole))]
     pub(crate) fn gather<W: Wait>(
         &mut self,
         wait: &W,
@@ -193,9 +192,21 @@ fn begin_all<C: Ledger, Q: Ledger, N: Naming, W: Wait>(
     ensures { All (IsPartOf C.parts front.now) workers.now }
 {
     for worker in workers {
-        begin(wait, &worker.seen, front);
-        worker.tell();
+        begin_worker(wait, worker, front);
     }
+}
+
+/// The same of what one worker has seen.
+#[tactic(auto, using(crate::proofs::PartLemmas::part_more))]
+fn begin_worker<C: Ledger, Q: Ledger, N: Naming, W: Wait>(
+    wait: &W,
+    worker: &Worker<C, Q, N>,
+    front: &Front<Event, N>,
+)
+    ensures { IsPartOf C.parts front.now worker.now }
+{
+    worker.tell();
+    begin(wait, &worker.seen, front);
 }
 
 /// Adds a worker's batch to all that the front has. It's tried again where the history is longer, which the lock rules out.
@@ -241,7 +252,7 @@ fn admit(
 }
 
 /// Shows readers the next version, which there is where anybody shows it.
-fn show<W: Wait, N: Naming, P: Publish<N>>(
+fn show<W: Wait, N: Naming, P: Publish<Item = Shown<N>>>(
     wait: &W,
     publisher: &mut Option<P>,
     next: Option<Arc<Version>>,
