@@ -5,7 +5,7 @@ ghost use Rattle.std.specs.Prelude.{◌≡◌};
 ghost use Rattle.table.specs.Stored.{stored_fields};
 
 use arrays::Schema;
-use shared::{Naming, Pair, Publish, Reader, SharedTable, Worker, open};
+use shared::{Naming, Pair, Publish, Reader, SharedTable, Shown, Worker, open};
 use std::alloc::Global;
 use std::marker::Brand;
 use std::process::Abort;
@@ -21,7 +21,7 @@ pub trait Scene {
         C: Ledger + Send + Sync,
         Q: Ledger + Send + Sync,
         N: Naming + Send + Sync,
-        P: Publish<N> + Send,
+        P: Publish<Item = Shown<N>> + Send,
         R: Wait + Threads + Abort + Sync,
     >(
         rt: &R,
