@@ -43,9 +43,7 @@ pub fn play<S: Scene, R: Wait + Threads + Abort + Sync>(
     let pair = Pair::new(alloc, schema)?;
     let calls = Blank::new(u64::from(workers));
     let rows = Blank::new(u64::from(workers));
-    play_under::<Brand, Brand, Brand, S, R>(
-        rt, alloc, schema, workers, readers, calls, rows, pair,
-    )
+    play_under::<Brand, Brand, Brand, S, R>(rt, alloc, schema, workers, readers, calls, rows, pair)
 }
 
 /// The same, under the names of two ledgers and of a history.
@@ -70,7 +68,8 @@ fn play_under<
     requires pair { (pair.book ≡ N.book) × (pair.fields ≡ N.fields) × (pair.fields ≡ stored_fields schema.now) }
 {
     let schema = schema.copy(alloc)?;
-    let (table, workers, readers) =
-        open::<C, Q, N, &R>(rt, alloc, schema, workers, readers, calls, rows, pair)?;
+    let (table, workers, readers) = open::<C, Q, N, &R>(
+        rt, alloc, schema, workers, readers, calls, rows, pair,
+    )?;
     S::play(rt, alloc, table, workers, readers)
 }
