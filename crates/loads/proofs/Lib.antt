@@ -3,3 +3,4 @@ pub mod LoadLemmas
 pub mod ToldLemmas
 pub mod RunLemmas
 pub mod SendingLemmas
+pub mod PublisherLemmas
