@@ -14,13 +14,13 @@ ghost use Rattle.answers.specs.Same.{same_key};
 ghost use Rattle.answers.specs.Values.{item_of_value};
 
 use crate::part::Part;
+use crate::part_set::{PartSet, part_of_number};
 use crate::text_set::TextSet;
 use crate::value::{Value, value_at};
 use arrays::RecordBatch;
 use arrayvec::ArrayVec;
 use colbits::NoMemory;
 use group::Scalar;
-use indexmap::IndexSet;
 use std::alloc::Global;
 use std::marker::Model;
 
@@ -29,7 +29,7 @@ use std::marker::Model;
 pub(crate) struct KeySet {
     /// The texts that parts of keys name.
     texts: TextSet,
-    keys: IndexSet<ArrayVec<Part, 4>>,
+    keys: PartSet,
 }
 
 impl Model for KeySet {
@@ -55,7 +55,7 @@ impl KeySet {
     {
         KeySet {
             texts: TextSet::new(alloc),
-            keys: IndexSet::new(alloc),
+            keys: PartSet::new(alloc),
         }
     }
 
@@ -83,8 +83,7 @@ impl KeySet {
     {
         let parts = parts_of(&mut self.texts, batch, by, row)?;
         let _len = self.texts.len();
-        let (number, _is_new) = self.keys.insert_full(parts)?;
-        Ok(number)
+        self.keys.place_of(parts)
     }
 }
 
@@ -94,7 +93,7 @@ impl KeySet {
         ensures { OnOk result (self.new ≡ insert_key same_key self.old []) }
     {
         let _len = self.texts.len();
-        self.keys.insert(ArrayVec::new())?;
+        self.keys.place_of(ArrayVec::new())?;
         Ok(())
     }
 
@@ -107,51 +106,48 @@ impl KeySet {
         requires { number < length self.now }
         ensures { IfOk result (λ v. slice_get self.now number ≡ Some (map item_in v.items)) }
     {
-        let keys = self.keys.as_slice();
-        items_of(alloc, &self.texts, keys[number].as_slice())
+        match &self.keys {
+            PartSet::Numbers(numbers) => {
+                let part = part_of_number(numbers.as_slice()[number]);
+                items_of(alloc, &self.texts, &[part])
+            }
+            PartSet::Lists(lists) => {
+                items_of(alloc, &self.texts, lists.as_slice()[number].as_slice())
+            }
+        }
     }
 }
 
 impl KeySet {
-    /// The number that a key is, where it is a number alone; none otherwise.
-    pub(crate) fn number_alone(&self, place: usize) -> Option<i128>
-        requires { place < length self.now }
-        ensures { MatchOption result ((z : ℤ) → slice_index_or self.now place [] ≢ int z ∷ []) (λ z. slice_index_or self.now place [] ≡ int z ∷ []) }
-    {
-        let keys = self.keys.as_slice();
-        let parts = keys[place].as_slice();
-        if parts.len() != 1 {
-            return None;
-        }
-        match parts[0] {
-            Part::Int(number) => Some(number),
-            _ => None,
-        }
-    }
-
     /// The place of the key of a number alone, which is put at the end where it is new.
+    #[inline(always)]
     pub(crate) fn place_of_number(&mut self, number: i128) -> Result<usize, NoMemory>
         ensures keys { OnOk result (self.new ≡ insert_key same_key self.old (int number ∷ [])) }
         ensures place { IfOk result (λ n. slice_get self.new n ≡ Some (int number ∷ [])) }
     {
-        let mut parts = ArrayVec::new();
-        parts.push(Part::Int(number));
         let _len = self.texts.len();
-        let (place, _is_new) = self.keys.insert_full(parts)?;
-        Ok(place)
+        self.keys.place_of_number(number)
     }
 
     /// The number of a key of another set, which is put at the end where it is new.
+    #[inline(always)]
     pub(crate) fn number_of_key(&mut self, other: &KeySet, place: usize) -> Result<usize, NoMemory>
         requires { place < length other.now }
         ensures keys { OnOk result (self.new ≡ insert_key same_key self.old (slice_index_or other.now place [])) }
         ensures number { IfOk result (λ n. slice_get self.new n ≡ Some (slice_index_or other.now place [])) }
     {
-        let keys = other.keys.as_slice();
-        let parts = renamed_parts(&mut self.texts, &other.texts, keys[place].as_slice())?;
-        let _len = self.texts.len();
-        let (number, _is_new) = self.keys.insert_full(parts)?;
-        Ok(number)
+        match &other.keys {
+            PartSet::Numbers(numbers) => {
+                let _len = self.texts.len();
+                self.keys.place_of_number(numbers.as_slice()[place])
+            }
+            PartSet::Lists(lists) => {
+                let parts = lists.as_slice()[place].as_slice();
+                let renamed = renamed_parts(&mut self.texts, &other.texts, parts)?;
+                let _len = self.texts.len();
+                self.keys.place_of(renamed)
+            }
+        }
     }
 }
 

@@ -103,26 +103,7 @@ fn number_of_item(
     ensures entries { memo.new.entries ≡ memo.old.entries }
 {
     match number {
-        Some(number) => number_of_number(keys, memo, number),
+        Some(number) => keys.place_of_number(number),
         None => number_by(&mut memo.null, keys, batch, by, row),
     }
-}
-
-/// The number of the key of a number alone: the one that is known, or else the one that it has or gets, which is known then.
-#[inline(always)]
-pub(crate) fn number_of_number(
-    keys: &mut KeySet,
-    memo: &mut Memo,
-    number: i128,
-) -> Result<usize, NoMemory>
-    ensures number { Remembers keys.old memo.old
-        → IfOk result (λ n. IsNumbered keys.old keys.new (int number ∷ []) n × Remembers keys.new memo.new) }
-    ensures entries { memo.new.entries ≡ memo.old.entries }
-{
-    if let Some(known) = memo.numbers.get(&number) {
-        return Ok(*known);
-    }
-    let new = keys.place_of_number(number)?;
-    memo.numbers.insert(number, new)?;
-    Ok(new)
 }
