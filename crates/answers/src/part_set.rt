@@ -1,9 +1,9 @@
 //! The parts of keys, each key once.
 
-ghost use Rattle.std.specs.Prelude.{◌≡◌, ◌∷◌, ◌<◌, [], IfOk, List, MatchOption, OnOk, Some, length, slice_get, slice_index_or, true};
+ghost use Rattle.std.specs.Prelude.{◌≡◌, [], IfOk, OnOk, Some, length, map, slice_get};
+ghost use Rattle.std.specs.Option.{ForSome};
 ghost use Rattle.indexmap.specs.IndexSet.{insert_key};
-ghost use Rattle.answers.specs.PartSets.{IsPlaceOf, part_of_number, parts_shown, same_parts};
-ghost use Rattle.answers.specs.declared.part.Part.{Part as KeyPart};
+ghost use Rattle.answers.specs.PartSets.{part_of_number, parts_listed, parts_of_number, parts_shown, same_parts};
 
 use crate::part::Part;
 use arrayvec::ArrayVec;
@@ -44,8 +44,8 @@ impl PartSet {
     /// The place of the key of this number alone, or of null alone where it stands for null. The key is put at the end where it is new.
     #[inline(always)]
     pub(crate) fn place_of_number(&mut self, number: i128) -> Result<usize, NoMemory>
-        ensures keys { OnOk result (parts_shown self.new ≡ insert_key same_parts (parts_shown self.old) (part_of_number number ∷ [])) }
-        ensures place { IfOk result (IsPlaceOf (part_of_number number ∷ []) (parts_shown self.new)) }
+        ensures keys { OnOk result (parts_shown self.new ≡ insert_key same_parts (parts_shown self.old) (parts_of_number number)) }
+        ensures place { IfOk result (λ n. slice_get (parts_shown self.new) n ≡ Some (parts_of_number number)) }
     {
         match self {
             PartSet::Numbers(numbers) => place_in_numbers(numbers, number),
@@ -56,7 +56,7 @@ impl PartSet {
     /// The place of the key of these parts, which is put at the end where it is new.
     pub(crate) fn place_of(&mut self, parts: ArrayVec<Part, 4>) -> Result<usize, NoMemory>
         ensures keys { OnOk result (parts_shown self.new ≡ insert_key same_parts (parts_shown self.old) parts.items) }
-        ensures place { IfOk result (IsPlaceOf parts.items (parts_shown self.new)) }
+        ensures place { IfOk result (λ n. slice_get (parts_shown self.new) n ≡ Some parts.items) }
     {
         if let Some(number) = number_alone(parts.as_slice()) {
             return self.place_of_number(number);
@@ -76,6 +76,8 @@ impl PartSet {
 /// The place of a number in a set, where it is put at the end where it is new.
 #[inline(always)]
 fn place_in_numbers(numbers: &mut IndexSet<i128>, number: i128) -> Result<usize, NoMemory>
+    ensures keys { OnOk result (map parts_of_number numbers.new.keys ≡ insert_key same_parts (map parts_of_number numbers.old.keys) (parts_of_number number)) }
+    ensures place { IfOk result (λ n. slice_get (map parts_of_number numbers.new.keys) n ≡ Some (parts_of_number number)) }
 {
     let (place, _is_new) = numbers.insert_full(number)?;
     Ok(place)
@@ -86,6 +88,8 @@ fn place_in_lists(
     lists: &mut IndexSet<ArrayVec<Part, 4>>,
     parts: ArrayVec<Part, 4>,
 ) -> Result<usize, NoMemory>
+    ensures keys { OnOk result (parts_listed lists.new.keys ≡ insert_key same_parts (parts_listed lists.old.keys) parts.items) }
+    ensures place { IfOk result (λ n. slice_get (parts_listed lists.new.keys) n ≡ Some parts.items) }
 {
     let (place, _is_new) = lists.insert_full(parts)?;
     Ok(place)
@@ -93,10 +97,11 @@ fn place_in_lists(
 
 /// The keys of numbers, as lists of parts.
 fn lists_of(numbers: &IndexSet<i128>) -> Result<IndexSet<ArrayVec<Part, 4>>, NoMemory>
+    ensures { IfOk result (λ s. parts_listed s.keys ≡ map parts_of_number numbers.now.keys) }
 {
     let mut lists = IndexSet::new(*numbers.allocator());
     for number in numbers.as_slice() {
-        lists.insert(alone(*number))?;
+        place_in_lists(&mut lists, alone(*number))?;
     }
     Ok(lists)
 }
@@ -114,7 +119,7 @@ pub(crate) fn part_of_number(number: i128) -> Part
 
 /// The part that a number among numbers stands for, alone.
 fn alone(number: i128) -> ArrayVec<Part, 4>
-    ensures { result.items ≡ part_of_number number ∷ [] }
+    ensures { result.items ≡ parts_of_number number }
 {
     let mut parts = ArrayVec::new();
     parts.push(part_of_number(number));
@@ -123,6 +128,7 @@ fn alone(number: i128) -> ArrayVec<Part, 4>
 
 /// What the one part is among numbers; none where there are more parts, or it is of another kind.
 fn number_alone(parts: &[Part]) -> Option<i128>
+    ensures { ForSome result (λ z. parts.now ≡ parts_of_number z) }
 {
     if parts.len() != 1 {
         return None;
