@@ -38,14 +38,15 @@ impl Model for KeySet {
     ghost use Rattle.arrays.specs.Item.{Item};
     ghost use Rattle.layout.specs.Code.{items_code};
     ghost use Rattle.answers.specs.Parts.{AreWithin, keys_shown};
+    ghost use Rattle.answers.specs.PartSets.{parts_shown};
 
     ghost Value = { List (List Item) };
 
     ghost coded = { coded_list items_code };
 
-    ghost view = { λ s. keys_shown s.texts s.keys.keys };
+    ghost view = { λ s. keys_shown s.texts (parts_shown s.keys) };
 
-    ghost invariant = { λ s. AreWithin (length s.texts) s.keys.keys };
+    ghost invariant = { λ s. AreWithin (length s.texts) (parts_shown s.keys) };
 }
 
 impl KeySet {
@@ -122,6 +123,7 @@ impl KeySet {
     /// The place of the key of a number alone, which is put at the end where it is new.
     #[inline(always)]
     pub(crate) fn place_of_number(&mut self, number: i128) -> Result<usize, NoMemory>
+        requires high { number ≤ℤ pos (2 ^ 64) }
         ensures keys { OnOk result (self.new ≡ insert_key same_key self.old (int number ∷ [])) }
         ensures place { IfOk result (λ n. slice_get self.new n ≡ Some (int number ∷ [])) }
     {

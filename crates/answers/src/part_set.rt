@@ -1,6 +1,6 @@
 //! The parts of keys, each key once.
 
-ghost use Rattle.std.specs.Prelude.{◌≡◌, [], IfOk, OnOk, Some, length, map, slice_get};
+ghost use Rattle.std.specs.Prelude.{◌≡◌, [], IfOk, OnErr, OnOk, Some, length, map, slice_get};
 ghost use Rattle.std.specs.Option.{ForSome};
 ghost use Rattle.indexmap.specs.IndexSet.{insert_key};
 ghost use Rattle.answers.specs.PartSets.{part_of_number, parts_listed, parts_of_number, parts_shown, same_parts};
@@ -46,6 +46,7 @@ impl PartSet {
     pub(crate) fn place_of_number(&mut self, number: i128) -> Result<usize, NoMemory>
         ensures keys { OnOk result (parts_shown self.new ≡ insert_key same_parts (parts_shown self.old) (parts_of_number number)) }
         ensures place { IfOk result (λ n. slice_get (parts_shown self.new) n ≡ Some (parts_of_number number)) }
+        ensures err { OnErr result (parts_shown self.new ≡ parts_shown self.old) }
     {
         match self {
             PartSet::Numbers(numbers) => place_in_numbers(numbers, number),
@@ -57,6 +58,7 @@ impl PartSet {
     pub(crate) fn place_of(&mut self, parts: ArrayVec<Part, 4>) -> Result<usize, NoMemory>
         ensures keys { OnOk result (parts_shown self.new ≡ insert_key same_parts (parts_shown self.old) parts.items) }
         ensures place { IfOk result (λ n. slice_get (parts_shown self.new) n ≡ Some parts.items) }
+        ensures err { OnErr result (parts_shown self.new ≡ parts_shown self.old) }
     {
         if let Some(number) = number_alone(parts.as_slice()) {
             return self.place_of_number(number);
@@ -78,6 +80,7 @@ impl PartSet {
 fn place_in_numbers(numbers: &mut IndexSet<i128>, number: i128) -> Result<usize, NoMemory>
     ensures keys { OnOk result (map parts_of_number numbers.new.keys ≡ insert_key same_parts (map parts_of_number numbers.old.keys) (parts_of_number number)) }
     ensures place { IfOk result (λ n. slice_get (map parts_of_number numbers.new.keys) n ≡ Some (parts_of_number number)) }
+    ensures err { OnErr result (map parts_of_number numbers.new.keys ≡ map parts_of_number numbers.old.keys) }
 {
     let (place, _is_new) = numbers.insert_full(number)?;
     Ok(place)
@@ -90,6 +93,7 @@ fn place_in_lists(
 ) -> Result<usize, NoMemory>
     ensures keys { OnOk result (parts_listed lists.new.keys ≡ insert_key same_parts (parts_listed lists.old.keys) parts.items) }
     ensures place { IfOk result (λ n. slice_get (parts_listed lists.new.keys) n ≡ Some parts.items) }
+    ensures err { OnErr result (parts_listed lists.new.keys ≡ parts_listed lists.old.keys) }
 {
     let (place, _is_new) = lists.insert_full(parts)?;
     Ok(place)
