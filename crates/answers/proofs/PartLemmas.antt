@@ -1,7 +1,7 @@
 -- Parts of keys and the items that they stand for.
 use mathlib.Core.Logic.{⊎_elim}
 use Rattle.std.proofs.Common.{◌≡◌, ◌∙◌, ℕ, ◌+◌, ◌<◌, ◌≤◌, Bool, true, false, ◌&&◌, ◌||◌, cond, eqb, List, [], ◌∷◌, ◌++◌, ℤ, length, take, get_or, Some, refl, sym, ap, subst, arith, append_assoc, length-append}
-use Rattle.std.specs.Prelude.{All, slice_get, slice_index_or, option_map, ◌⊎◌}
+use Rattle.std.specs.Prelude.{All, IfOk, OnErr, OnOk, Result, Ok, Err, slice_get, slice_index_or, option_map, ◌⊎◌}
 use Rattle.std.specs.List.{IsDistinct, list_any}
 use Rattle.std.specs.Str.{bytes_eq}
 use Rattle.std.proofs.lemmas.Bool.{eqb-true, eqb-false}
@@ -9,7 +9,11 @@ use Rattle.std.proofs.lemmas.Cmp.{nat_list_eq_equiv}
 use Rattle.std.proofs.lemmas.List.{map-append, length-map, take_more, get_or-map, get_or_append_left}
 use Rattle.std.proofs.lemmas.List.Elements.{All-cons, All-head, All-nil, All-tail, All-push, All-weaker, All-get_or}
 use Rattle.std.proofs.lemmas.Map.Keys.{apart_from_distinct}
-use Rattle.std.proofs.lemmas.Option.{slice_get-map, slice_get_within, get_or_from_slice_get}
+use Rattle.std.proofs.lemmas.Option.{slice_get-get_or, slice_get-map}
+use Rattle.std.specs.Ordering.{int_eq}
+use Rattle.std.proofs.lemmas.Bool.Decides.{Decides-int_eq}
+use Rattle.std.proofs.lemmas.Int.{ints}
+use Rattle.arrayvec.specs.ArrayVec.{ArrayVec}
 use mathlib.Core.List.{IsPrefix}
 use lib.Pointwise.{pointwise}
 use Rattle.indexmap.specs.IndexSet.{insert_key}
@@ -18,7 +22,7 @@ use Rattle.arrays.specs.Batch.{Row}
 use Rattle.answers.specs.declared.part.Part.{Part}
 use Rattle.answers.specs.declared.part.Part.TheVariants as part
 use Rattle.answers.specs.Groups.{key_of}
-use Rattle.answers.specs.PartSets.{part_of_number, parts_of_number, parts_shown, same_parts}
+use Rattle.answers.specs.PartSets.{part_of_number, parts_listed, parts_of_number, same_parts}
 use Rattle.answers.specs.Parts.{AreWithin, IsWithin, item_of_part, key_of_parts, keys_shown, same_part}
 use Rattle.answers.specs.Same.{same_item, same_key}
 use Rattle.answers.proofs.SameLemmas.{either, same_key-Decides}
@@ -162,13 +166,11 @@ module _ (ts : List (List ℕ)) (once : IsDistinct bytes_eq ts) where
       ap (keys_shown ts) is ∙ joined ks k (list_any (same_parts k) ks)
       ∙ ap (λ b. cond b (keys_shown ts ks) (keys_shown ts ks ++ key k ∷ [])) (among_same k ks h g)
 
-  pub held_inserted : (ks : List (List Part)) (k : List Part) (b : Bool) → Held k → All Held ks → All Held (cond b ks (ks ++ k ∷ []))
-  held_inserted ks k true h g = g
-  held_inserted ks k false h g = All-push Held ks k g h
-
 -- Its number.
-pub key_stored : (ts : List (List ℕ)) (ks : List (List Part)) (n : ℕ) (k : List Part) → slice_get ks n ≡ Some k → slice_get (keys_shown ts ks) n ≡ Some (key_of_parts ts k)
-key_stored ts ks n k at = slice_get-map (key_of_parts ts) ks n ∙ ap (option_map (key_of_parts ts)) at
+pub numbered : {E : Type 0} (r : Result ℕ E) (ts : List (List ℕ)) (ks : List (List Part)) (k : List Part) → IfOk r (λ n. slice_get ks n ≡ Some k)
+    → IfOk r (λ n. slice_get (keys_shown ts ks) n ≡ Some (key_of_parts ts k))
+numbered (Ok n) ts ks k at = slice_get-map (key_of_parts ts) ks n ∙ ap (option_map (key_of_parts ts)) at
+numbered (Err e) ts ks k at = tt
 
 -- A number and null name no text.
 pub lone_within : (n : ℕ) (z : ℤ) → All (IsWithin n) (parts_of_number z)
@@ -176,3 +178,49 @@ lone_within n z = All-cons (IsWithin n) (part_of_number z) [] (go (int_eq z (pos
   go : (b : Bool) → IsWithin n (cond b part.Null (part.Int z))
   go true = tt
   go false = tt
+
+key_of_lone : (ts us : List (List ℕ)) (z : ℤ) (b : Bool) → item_of_part ts (cond b part.Null (part.Int z)) ≡ item_of_part us (cond b part.Null (part.Int z))
+key_of_lone ts us z true = refl
+key_of_lone ts us z false = refl
+
+pub lone_shown : (ts us : List (List ℕ)) (z : ℤ) → key_of_parts ts (parts_of_number z) ≡ key_of_parts us (parts_of_number z)
+lone_shown ts us z = ap (λ x. x ∷ []) (key_of_lone ts us z (int_eq z (pos 1267650600228229401496703205376)))
+
+-- A number that some integer type has isn't the one that stands for null.
+pub number_shown : (ts : List (List ℕ)) (z : ℤ) → z ≤ℤ pos (2 ^ 64) → key_of_parts ts (parts_of_number z) ≡ int z ∷ []
+number_shown ts z high =
+    either (int_eq z (pos 1267650600228229401496703205376))
+    (λ yes. absurd (too_high z high ((Decides-int_eq z (pos 1267650600228229401496703205376)).0 yes)))
+    (λ no. ap (λ b. item_of_part ts (cond b part.Null (part.Int z)) ∷ []) no) where
+      too_high : (z : ℤ) → z ≤ℤ pos (2 ^ 64) → z ≡ pos 1267650600228229401496703205376 → ⊥
+      too_high z high is = omega (arith, ints)
+
+-- The key at a place, by the number that is there, and by the parts.
+pub number_there : (ts : List (List ℕ)) (lists : List (List Part)) (keys : List (List Item)) (xs : List ℤ) (n : ℕ) (z : ℤ) → lists ≡ map parts_of_number xs
+    → keys_shown ts lists ≡ keys → n < length keys → z ≡ get_or xs n (pos 0) → key_of_parts ts (parts_of_number z) ≡ slice_index_or keys n []
+number_there ts lists keys xs n z shown are below is =
+    let long : n < length xs = omega (arith, below, ap length are, ap length shown, length-map lists (key_of_parts ts), length-map xs parts_of_number) in
+    key_there ts lists keys n (parts_of_number z) are below
+    (ap parts_of_number is ∙ sym (get_or-map parts_of_number xs n (pos 0) (parts_of_number z) long) ∙ ap (λ l. get_or l n (parts_of_number z)) (sym shown))
+
+pub list_there : (ts : List (List ℕ)) (lists : List (List Part)) (keys : List (List Item)) (xs : List (ArrayVec Part)) (n : ℕ) (v : ArrayVec Part) → lists ≡ parts_listed xs
+    → keys_shown ts lists ≡ keys → n < length keys → v ≡ get_or xs n v → key_of_parts ts v.items ≡ slice_index_or keys n []
+list_there ts lists keys xs n v shown are below is =
+    let items : ArrayVec Part → List Part = λ w. w.items in
+    let long : n < length xs = omega (arith, below, ap length are, ap length shown, length-map lists (key_of_parts ts), length-map xs items) in
+    key_there ts lists keys n v.items are below
+    (ap items is ∙ sym (get_or-map items xs n v v.items long) ∙ ap (λ l. get_or l n v.items) (sym shown))
+
+pub items_told : {V E : Type 0} (r : Result V E) (f : V → List Item) (keys : List (List Item)) (n : ℕ) (k : List Item) → n < length keys → k ≡ slice_index_or keys n []
+    → IfOk r (λ v. f v ≡ k) → IfOk r (λ v. slice_get keys n ≡ Some (f v))
+items_told (Ok v) f keys n k below is h = slice_get-get_or keys n [] below ∙ ap Some (sym (h ∙ is))
+items_told (Err e) f keys n k below is h = tt
+
+-- The keys are within, whether one was put in or not.
+pub within_placed : {E : Type 0} (r : Result ℕ E) (n : ℕ) (ks new : List (List Part)) (k : List Part) → All (IsWithin n) k → AreWithin n ks
+    → OnOk r (new ≡ insert_key same_parts ks k) → OnErr r (new ≡ ks) → AreWithin n new
+within_placed (Ok x) n ks new k h g is same = subst (AreWithin n) (sym is) (go (list_any (same_parts k) ks)) where
+  go : (b : Bool) → AreWithin n (cond b ks (ks ++ k ∷ []))
+  go true = g
+  go false = All-push (All (IsWithin n)) ks k g h
+within_placed (Err e) n ks new k h g is same = subst (AreWithin n) (sym same) g

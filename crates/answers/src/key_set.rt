@@ -1,6 +1,6 @@
 //! The keys of groups, each once.
 
-ghost use Rattle.std.specs.Prelude.{◌≡◌, ◌≢◌, ◌∷◌, ◌<◌, ◌≤◌, ℤ, [], All, IfOk, MatchOption, None, OnOk, Some, length, map, slice_get, slice_index_or};
+ghost use Rattle.std.specs.Prelude.{◌≡◌, ◌∷◌, ◌<◌, ◌≤◌, ◌≤ℤ◌, ◌^◌, [], All, IfOk, None, OnOk, Some, length, map, pos, slice_get, slice_index_or};
 ghost use mathlib.Core.List.{IsPrefix};
 ghost use Rattle.arrays.specs.Batch.{row_of};
 ghost use Rattle.arrays.specs.Item.{int};
@@ -9,7 +9,8 @@ ghost use Rattle.query.specs.Columns.{sort_at};
 ghost use Rattle.query.specs.Fault.{key_fault};
 ghost use Rattle.answers.specs.Answers.{item_in};
 ghost use Rattle.answers.specs.Groups.{key_of};
-ghost use Rattle.answers.specs.Parts.{IsWithin, item_of_part, key_of_parts};
+ghost use Rattle.answers.specs.Parts.{AreWithin, IsWithin, item_of_part, key_of_parts, keys_shown};
+ghost use Rattle.answers.specs.PartSets.{parts_of_number, parts_shown};
 ghost use Rattle.answers.specs.Same.{same_key};
 ghost use Rattle.answers.specs.Values.{item_of_value};
 
@@ -83,8 +84,7 @@ impl KeySet {
             ≡ Some (key_of by.now (row_of batch.now.columns row))) }
     {
         let parts = parts_of(&mut self.texts, batch, by, row)?;
-        let _len = self.texts.len();
-        self.keys.place_of(parts)
+        number_of_parts(&self.texts, &mut self.keys, parts)
     }
 }
 
@@ -93,8 +93,7 @@ impl KeySet {
     pub(crate) fn add_empty(&mut self) -> Result<(), NoMemory>
         ensures { OnOk result (self.new ≡ insert_key same_key self.old []) }
     {
-        let _len = self.texts.len();
-        self.keys.place_of(ArrayVec::new())?;
+        number_of_parts(&self.texts, &mut self.keys, ArrayVec::new())?;
         Ok(())
     }
 
@@ -109,11 +108,12 @@ impl KeySet {
     {
         match &self.keys {
             PartSet::Numbers(numbers) => {
-                let part = part_of_number(numbers.as_slice()[number]);
-                items_of(alloc, &self.texts, &[part])
+                let keys = numbers.as_slice();
+                items_of(alloc, &self.texts, &[part_of_number(keys[number])])
             }
             PartSet::Lists(lists) => {
-                items_of(alloc, &self.texts, lists.as_slice()[number].as_slice())
+                let keys = lists.as_slice();
+                items_of(alloc, &self.texts, keys[number].as_slice())
             }
         }
     }
@@ -127,8 +127,7 @@ impl KeySet {
         ensures keys { OnOk result (self.new ≡ insert_key same_key self.old (int number ∷ [])) }
         ensures place { IfOk result (λ n. slice_get self.new n ≡ Some (int number ∷ [])) }
     {
-        let _len = self.texts.len();
-        self.keys.place_of_number(number)
+        number_of_number(&self.texts, &mut self.keys, number)
     }
 
     /// The number of a key of another set, which is put at the end where it is new.
@@ -140,17 +139,50 @@ impl KeySet {
     {
         match &other.keys {
             PartSet::Numbers(numbers) => {
-                let _len = self.texts.len();
-                self.keys.place_of_number(numbers.as_slice()[place])
+                let keys = numbers.as_slice();
+                number_of_number(&self.texts, &mut self.keys, keys[place])
             }
             PartSet::Lists(lists) => {
-                let parts = lists.as_slice()[place].as_slice();
-                let renamed = renamed_parts(&mut self.texts, &other.texts, parts)?;
-                let _len = self.texts.len();
-                self.keys.place_of(renamed)
+                let keys = lists.as_slice();
+                let parts = renamed_parts(&mut self.texts, &other.texts, keys[place].as_slice())?;
+                number_of_parts(&self.texts, &mut self.keys, parts)
             }
         }
     }
+}
+
+/// The number of the key of these parts among keys, which is put at the end where it is new.
+fn number_of_parts(
+    texts: &TextSet,
+    keys: &mut PartSet,
+    parts: ArrayVec<Part, 4>,
+) -> Result<usize, NoMemory>
+    requires named { All (IsWithin (length texts.now)) parts.items }
+    requires within { AreWithin (length texts.now) (parts_shown keys.old) }
+    ensures keys { OnOk result (keys_shown texts.now (parts_shown keys.new)
+        ≡ insert_key same_key (keys_shown texts.now (parts_shown keys.old)) (key_of_parts texts.now parts.items)) }
+    ensures number { IfOk result (λ n. slice_get (keys_shown texts.now (parts_shown keys.new)) n ≡ Some (key_of_parts texts.now parts.items)) }
+    ensures within { AreWithin (length texts.now) (parts_shown keys.new) }
+{
+    let _len = texts.len();
+    keys.place_of(parts)
+}
+
+/// The same of the key of this number alone, or of null.
+#[inline(always)]
+fn number_of_number(
+    texts: &TextSet,
+    keys: &mut PartSet,
+    number: i128,
+) -> Result<usize, NoMemory>
+    requires within { AreWithin (length texts.now) (parts_shown keys.old) }
+    ensures keys { OnOk result (keys_shown texts.now (parts_shown keys.new)
+        ≡ insert_key same_key (keys_shown texts.now (parts_shown keys.old)) (key_of_parts texts.now (parts_of_number number))) }
+    ensures number { IfOk result (λ n. slice_get (keys_shown texts.now (parts_shown keys.new)) n ≡ Some (key_of_parts texts.now (parts_of_number number))) }
+    ensures within { AreWithin (length texts.now) (parts_shown keys.new) }
+{
+    let _len = texts.len();
+    keys.place_of_number(number)
 }
 
 /// The items that parts stand for; none is null.
