@@ -1,6 +1,6 @@
 -- Parts of keys and the items that they stand for.
 use mathlib.Core.Logic.{⊎_elim}
-use Rattle.std.proofs.Common.{◌≡◌, ◌∙◌, ℕ, ◌+◌, ◌<◌, ◌≤◌, Bool, true, false, ◌&&◌, ◌||◌, cond, eqb, List, [], ◌∷◌, ◌++◌, ℤ, length, take, get_or, Some, refl, sym, ap, subst, arith, append_assoc, length-append}
+use Rattle.std.proofs.Common.{◌≡◌, ◌∙◌, ℕ, ◌+◌, ◌<◌, ◌≤◌, Bool, true, false, ◌&&◌, ◌||◌, cond, eqb, List, [], ◌∷◌, ◌++◌, ℤ, pos, ◌^◌, ◌≤ℤ◌, length, map, take, get_or, Some, refl, sym, ap, subst, arith, append_assoc, length-append}
 use Rattle.std.specs.Prelude.{All, IfOk, OnErr, OnOk, Result, Ok, Err, slice_get, slice_index_or, option_map, ◌⊎◌}
 use Rattle.std.specs.List.{IsDistinct, list_any}
 use Rattle.std.specs.Str.{bytes_eq}
@@ -210,6 +210,15 @@ list_there ts lists keys xs n v shown are below is =
     let long : n < length xs = omega (arith, below, ap length are, ap length shown, length-map lists (key_of_parts ts), length-map xs items) in
     key_there ts lists keys n v.items are below
     (ap items is ∙ sym (get_or-map items xs n v v.items long) ∙ ap (λ l. get_or l n v.items) (sym shown))
+
+pub list_held : (ts : List (List ℕ)) (lists : List (List Part)) (keys : List (List Item)) (xs : List (ArrayVec Part)) (n : ℕ) (v : ArrayVec Part) → lists ≡ parts_listed xs
+    → keys_shown ts lists ≡ keys → n < length keys → v ≡ get_or xs n v → AreWithin (length ts) lists → All (IsWithin (length ts)) v.items
+list_held ts lists keys xs n v shown are below is held =
+    let W = All (IsWithin (length ts)) in
+    let items : ArrayVec Part → List Part = λ w. w.items in
+    let long : n < length xs = omega (arith, below, ap length are, ap length shown, length-map lists (key_of_parts ts), length-map xs items) in
+    let inside : n < length lists = omega (arith, long, ap length shown, length-map xs items) in
+    subst W (ap (λ l. get_or l n v.items) shown ∙ get_or-map items xs n v v.items long ∙ sym (ap items is)) (All-get_or W lists n v.items inside held)
 
 pub items_told : {V E : Type 0} (r : Result V E) (f : V → List Item) (keys : List (List Item)) (n : ℕ) (k : List Item) → n < length keys → k ≡ slice_index_or keys n []
     → IfOk r (λ v. f v ≡ k) → IfOk r (λ v. slice_get keys n ≡ Some (f v))

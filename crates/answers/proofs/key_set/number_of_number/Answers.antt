@@ -12,7 +12,7 @@ returns-clause-keys c =
     let ks = parts_shown c.args.keys.now in
     let z = c.args.number in
     on_ok c.place_of_number.result
-    (keys_inserted ts c.len-len.ensures.once ks (parts_shown c.place_of_number.new.self) (parts_of_number z) (lone_within (length ts) z) c.requires)
+    (keys_inserted ts c.len-len.ensures.once ks (parts_shown c.place_of_number.new.self) (parts_of_number z) (lone_within (length ts) z) c.requires.within)
     (rw (to_z-of_z w128 z c.ranges.number) at c.place_of_number.ensures.keys)
 
 pub returns-clause-number : goal.returns-clause-number
@@ -25,5 +25,5 @@ pub returns-clause-within : goal.returns-clause-within
 returns-clause-within c =
     let n = length c.args.texts.now in
     let z = c.args.number in
-    within_placed c.place_of_number.result n (parts_shown c.args.keys.now) (parts_shown c.place_of_number.new.self) (parts_of_number z) (lone_within n z) c.requires
+    within_placed c.place_of_number.result n (parts_shown c.args.keys.now) (parts_shown c.place_of_number.new.self) (parts_of_number z) (lone_within n z) c.requires.within
     (rw (to_z-of_z w128 z c.ranges.number) at c.place_of_number.ensures.keys) c.place_of_number.ensures.err

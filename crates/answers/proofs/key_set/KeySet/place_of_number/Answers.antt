@@ -15,7 +15,7 @@ returns-clause-keys c =
     let ts = c.self.inside.texts in
     let z = c.args.number in
     let new = keys_shown ts (parts_shown c.number_of_number.new.keys) in
-    subst (λ k. OnOk r (new ≡ insert_key same_key c.args.self.now k)) (number_shown ts z c.requires)
+    subst (λ k. OnOk r (new ≡ insert_key same_key c.args.self.now k)) (number_shown ts z c.requires.high)
     (subst (λ l. OnOk r (new ≡ insert_key same_key l (key_of_parts ts (parts_of_number z)))) c.self.view_is
     (rw (to_z-of_z w128 z c.ranges.number) at c.number_of_number.ensures.keys))
 
@@ -23,5 +23,5 @@ pub returns-clause-place : goal.returns-clause-place
 returns-clause-place c =
     let ts = c.self.inside.texts in
     let z = c.args.number in
-    subst (λ k. IfOk c.number_of_number.result (λ n. slice_get (keys_shown ts (parts_shown c.number_of_number.new.keys)) n ≡ Some k)) (number_shown ts z c.requires)
+    subst (λ k. IfOk c.number_of_number.result (λ n. slice_get (keys_shown ts (parts_shown c.number_of_number.new.keys)) n ≡ Some k)) (number_shown ts z c.requires.high)
     (rw (to_z-of_z w128 z c.ranges.number) at c.number_of_number.ensures.number)
