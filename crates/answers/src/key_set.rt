@@ -170,11 +170,7 @@ fn number_of_parts(
 
 /// The same of the key of this number alone, or of null.
 #[inline(always)]
-fn number_of_number(
-    texts: &TextSet,
-    keys: &mut PartSet,
-    number: i128,
-) -> Result<usize, NoMemory>
+fn number_of_number(texts: &TextSet, keys: &mut PartSet, number: i128) -> Result<usize, NoMemory>
     requires within { AreWithin (length texts.now) (parts_shown keys.old) }
     ensures keys { OnOk result (keys_shown texts.now (parts_shown keys.new)
         ≡ insert_key same_key (keys_shown texts.now (parts_shown keys.old)) (key_of_parts texts.now (parts_of_number number))) }

@@ -1,8 +1,8 @@
 //! The numbers of keys of one column of numbers.
 
-ghost use Rattle.std.specs.Prelude.{◌≡◌, ◌∷◌, ◌<◌, ◌≤◌, [], All, IfOk, None, OnOk, length, true};
+ghost use Rattle.std.specs.Prelude.{◌≡◌, ◌∷◌, ◌<◌, ◌≤◌, ◌≤ℤ◌, ◌^◌, [], All, IfOk, None, OnOk, length, pos, true};
+ghost use Rattle.std.specs.Option.{ForSome};
 ghost use Rattle.arrays.specs.Batch.{row_of};
-ghost use Rattle.arrays.specs.Item.{int};
 ghost use Rattle.arrays.specs.Kind as kind;
 ghost use Rattle.arrays.specs.Slot.{is_int, item_of};
 ghost use Rattle.query.specs.Columns.{sort_at};
@@ -97,6 +97,7 @@ fn number_of_item(
     requires few { length by.now ≤ 4 }
     requires plain { All (λ c. key_fault (sort_at batch.now.fields) c ≡ None) by.now }
     requires within { row < batch.now.rows }
+    requires high { ForSome number (λ z. z ≤ℤ pos (2 ^ 64)) }
     ensures number { let key = key_of by.now (row_of batch.now.columns row) in
         key ≡ item_of number ∷ [] → Remembers keys.old memo.old
         → IfOk result (λ n. IsNumbered keys.old keys.new key n × Remembers keys.new memo.new) }
