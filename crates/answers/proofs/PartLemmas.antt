@@ -15,7 +15,6 @@ use Rattle.std.proofs.lemmas.Bool.Decides.{Decides-int_eq}
 use Rattle.std.proofs.lemmas.Int.{ints}
 use Rattle.arrayvec.specs.ArrayVec.{ArrayVec}
 use mathlib.Core.List.{IsPrefix}
-use lib.Pointwise.{pointwise}
 use Rattle.indexmap.specs.IndexSet.{insert_key}
 use Rattle.arrays.specs.Item.{Item, int, null, text}
 use Rattle.arrays.specs.Batch.{Row}
@@ -25,7 +24,7 @@ use Rattle.answers.specs.Groups.{key_of}
 use Rattle.answers.specs.PartSets.{part_of_number, parts_listed, parts_of_number, same_parts}
 use Rattle.answers.specs.Parts.{AreWithin, IsWithin, item_of_part, key_of_parts, keys_shown, same_part}
 use Rattle.answers.specs.Same.{same_item, same_key}
-use Rattle.answers.proofs.SameLemmas.{either, same_key-Decides}
+use Rattle.answers.proofs.SameLemmas.{either}
 
 -- ---- texts that become more
 

@@ -17,7 +17,7 @@ use Rattle.answers.specs.declared.part.Part.{Part}
 use Rattle.answers.specs.declared.part.Part.TheVariants as part
 use Rattle.answers.specs.contracts.part.PartPartialEq as derived
 use Rattle.answers.specs.Parts.{same_part}
-use Rattle.answers.specs.PartSets.{part_of_number, parts_of_number, same_parts}
+use Rattle.answers.specs.PartSets.{parts_of_number, same_parts}
 use Rattle.answers.proofs.SameLemmas.{either}
 
 -- ---- the derived test

@@ -1,4 +1,4 @@
-use Rattle.std.proofs.Common.{◌≡◌, ◌∙◌, length}
+use Rattle.std.proofs.Common.{length}
 use Rattle.answers.specs.PartSets.{parts_shown}
 use Rattle.answers.proofs.ColumnLemmas.{on_ok}
 use Rattle.answers.proofs.PartLemmas.{keys_inserted, numbered, within_placed}
