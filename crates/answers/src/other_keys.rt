@@ -1,6 +1,6 @@
 //! The numbers of the keys of another set.
 
-ghost use Rattle.std.specs.Prelude.{◌≡◌, ◌<◌, [], IfOk, OnOk, length, slice_index_or};
+ghost use Rattle.std.specs.Prelude.{◌≡◌, OnOk};
 ghost use Rattle.answers.specs.Keys.{AreNumbers, with_keys};
 
 use crate::key_set::KeySet;
