@@ -1,5 +1,5 @@
 -- What is remembered of keys stays true while keys come.
-use Rattle.std.proofs.Common.{◌≡◌, ◌∙◌, ℕ, zero, suc, ◌<◌, Bool, true, false, ◌||◌, cond, List, [], ◌∷◌, ◌++◌, ◌+◌, ◌-◌, take, length, map, get_or, replicate, Option, Some, None, Result, Ok, Err, IfOk, ℤ, pos, negsuc, refl, sym, ap, subst, arith}
+use Rattle.std.proofs.Common.{◌≡◌, ◌∙◌, ℕ, zero, suc, ◌<◌, Bool, true, false, ◌||◌, List, [], ◌∷◌, ◌++◌, ◌+◌, ◌-◌, take, length, map, get_or, replicate, Option, Some, None, Result, Ok, Err, IfOk, ℤ, pos, negsuc, refl, sym, ap, subst, arith}
 use Rattle.std.specs.Prelude.{All, OnOk, slice_get, slice_index_or, slice_set}
 use Rattle.std.proofs.lemmas.List.{get_or-map, length-map, map-append, take_more}
 use Rattle.std.proofs.lemmas.List.Elements.{All-get_or}
@@ -7,11 +7,8 @@ use Rattle.std.proofs.lemmas.Bool.Decides.{nat_tests}
 use Rattle.std.proofs.lemmas.List.Sums.{fold_push}
 use Rattle.std.proofs.Math.Dec.{eqb}
 use Rattle.std.proofs.lemmas.Bool.{eqb-true, eqb-false}
-use Rattle.std.specs.Ordering.{int_eq}
-use Rattle.std.proofs.lemmas.Bool.Decides.{Decides-int_eq}
 use Rattle.std.proofs.lemmas.List.{get_or-set_same, get_or-set_other, length-set}
 use Rattle.std.proofs.lemmas.Option.{slice_get_within}
-use Rattle.indexmap.specs.IndexMap.{get}
 use Rattle.indexmap.specs.IndexSet.{insert_key}
 use Rattle.arrays.specs.Batch.{Batch, row_of}
 use Rattle.arrays.specs.Dictionary.{codes_of, dictionary_of, encoded, is_code, looked_up}
@@ -61,16 +58,10 @@ there_already keys n k at = inserted keys k true (among keys n k at)
 -- ---- all that is remembered
 
 pub remembers-kept : (keys : Keys) (k : List Item) (m : Memo) → Remembers keys m → Remembers (insert_key same_key keys k) m
-remembers-kept keys k m h = record {
-  null = remembered-kept keys k (null ∷ []) m.null h.null;
-  numbers = λ z. remembered-kept keys k (int z ∷ []) (get int_eq m.numbers z) (h.numbers z);
-}
+remembers-kept keys k m h = record { null = remembered-kept keys k (null ∷ []) m.null h.null }
 
 pub remembers-more : (keys more : Keys) (m : Memo) → Remembers keys m → Remembers (with_keys keys more) m
-remembers-more keys more m h = record {
-  null = remembered-more keys more (null ∷ []) m.null h.null;
-  numbers = λ z. remembered-more keys more (int z ∷ []) (get int_eq m.numbers z) (h.numbers z);
-}
+remembers-more keys more m h = record { null = remembered-more keys more (null ∷ []) m.null h.null }
 
 pub items-kept : (keys : Keys) (k : List Item) (items : List Item) (known : List (Option ℕ)) → KnowsItems keys items known → KnowsItems (insert_key same_key keys k) items known
 items-kept keys k items known h = record {
@@ -122,45 +113,38 @@ pub recalled : (keys : Keys) (key : List Item) (o : Option ℕ) (n : ℕ) → o 
 recalled keys key o n is h =
     let at = subst (IsRemembered keys key) is h in (record { keys_are = sym (there_already keys n key at); there = at }, h)
 
--- What is remembered goes on with the keys, where only the number of null is another.
-with_null : (keys new : Keys) (m n : Memo) (key : List Item) → new ≡ insert_key same_key keys key → Remembers keys m → n.numbers ≡ m.numbers → IsRemembered new (null ∷ []) n.null
-    → Remembers new n
-with_null keys new m n key is h same here =
-    let r : Remembers new m = subst (λ (l : Keys). Remembers l m) (sym is) (remembers-kept keys key m h) in
-    record { null = here; numbers = λ z. subst (λ x. IsRemembered new (int z ∷ []) (get int_eq x z)) (sym same) (r.numbers z) }
+same_null : (keys new : Keys) (m n : Memo) (key : List Item) → new ≡ insert_key same_key keys key → Remembers keys m → n.null ≡ m.null → Remembers new n
+same_null keys new m n key is h same = record {
+  null = subst (IsRemembered new (null ∷ [])) (sym same) (subst (λ (l : Keys). IsRemembered l (null ∷ []) m.null) (sym is) (remembered-kept keys key (null ∷ []) m.null h.null));
+}
 
-same_numbers : (keys new : Keys) (m n : Memo) (key : List Item) → new ≡ insert_key same_key keys key → Remembers keys m → n.numbers ≡ m.numbers → n.null ≡ m.null → Remembers new n
-same_numbers keys new m n key is h same null_is =
-    with_null keys new m n key is h same
-    (subst (IsRemembered new (null ∷ [])) (sym null_is) (subst (λ (l : Keys). IsRemembered l (null ∷ []) m.null) (sym is) (remembered-kept keys key (null ∷ []) m.null h.null)))
-
-pub step_null : {E : Type 0} (r : Result ℕ E) (keys new : Keys) (m n : Memo) (key : List Item) → key ≡ null ∷ [] → Remembers keys m → n.numbers ≡ m.numbers
+pub step_null : {E : Type 0} (r : Result ℕ E) (keys new : Keys) (m n : Memo) (key : List Item) → key ≡ null ∷ [] → Remembers keys m
     → (IsRemembered keys key m.null → IfOk r (λ x. IsNumbered keys new key x × IsRemembered new key n.null)) → IfOk r (λ x. IsNumbered keys new key x × Remembers new n)
-step_null r keys new m n key is h same f = go r (f (subst (λ k. IsRemembered keys k m.null) (sym is) h.null)) where
+step_null r keys new m n key is h f = go r (f (subst (λ k. IsRemembered keys k m.null) (sym is) h.null)) where
   go : {E : Type 0} (r : Result ℕ E) → IfOk r (λ x. IsNumbered keys new key x × IsRemembered new key n.null) → IfOk r (λ x. IsNumbered keys new key x × Remembers new n)
-  go (Ok x) k = (k.0, with_null keys new m n key k.0.keys_are h same (subst (λ k. IsRemembered new k n.null) is k.1))
+  go (Ok x) k = (k.0, record { null = subst (λ k. IsRemembered new k n.null) is k.1 })
   go (Err e) k = tt
 
 -- The same, where something is remembered of a dictionary's entries too.
 pub step_no_entry : {E : Type 0} (r : Result ℕ E) (keys new : Keys) (m n : Memo) (key items : List Item) (known : List (Option ℕ)) → key ≡ null ∷ [] → Remembers keys m
-    → KnowsItems keys items known → n.numbers ≡ m.numbers → (IsRemembered keys key m.null → IfOk r (λ x. IsNumbered keys new key x × IsRemembered new key n.null))
+    → KnowsItems keys items known → (IsRemembered keys key m.null → IfOk r (λ x. IsNumbered keys new key x × IsRemembered new key n.null))
     → IfOk r (λ x. IsNumbered keys new key x × Remembers new n × KnowsItems new items known)
-step_no_entry r keys new m n key items known is h knows same f = go r (step_null r keys new m n key is h same f) where
+step_no_entry r keys new m n key items known is h knows f = go r (step_null r keys new m n key is h f) where
   go : {E : Type 0} (r : Result ℕ E) → IfOk r (λ x. IsNumbered keys new key x × Remembers new n) → IfOk r (λ x. IsNumbered keys new key x × Remembers new n × KnowsItems new items known)
   go (Ok x) k = (k.0, k.1, subst (λ (l : Keys). KnowsItems l items known) (sym k.0.keys_are) (items-kept keys key items known knows))
   go (Err e) k = tt
 
 pub step_entry : {E : Type 0} (r : Result ℕ E) (keys new : Keys) (m n : Memo) (key items : List Item) (place : ℕ) (old now : Option ℕ) → key ≡ slice_index_or items place null ∷ []
     → Remembers keys m → KnowsItems keys items m.entries.items → place < length m.entries.items → old ≡ slice_index_or m.entries.items place None
-    → n.numbers ≡ m.numbers → n.null ≡ m.null → (IsRemembered keys key old → IfOk r (λ x. IsNumbered keys new key x × IsRemembered new key now))
+    → n.null ≡ m.null → (IsRemembered keys key old → IfOk r (λ x. IsNumbered keys new key x × IsRemembered new key now))
     → IfOk r (λ x. IsNumbered keys new key x × Remembers new n × KnowsItems new items (slice_set m.entries.items place now))
-step_entry r keys new m n key items place old now is h knows within at same null_is f =
+step_entry r keys new m n key items place old now is h knows within at same f =
     go r (f (subst (λ k. IsRemembered keys k old) (sym is) (subst (IsRemembered keys (slice_index_or items place null ∷ [])) (sym at) (knows.each place)))) where
       go : {E : Type 0} (r : Result ℕ E) → IfOk r (λ x. IsNumbered keys new key x × IsRemembered new key now)
           → IfOk r (λ x. IsNumbered keys new key x × Remembers new n × KnowsItems new items (slice_set m.entries.items place now))
       go (Ok x) k = (
         k.0,
-        same_numbers keys new m n key k.0.keys_are h same null_is,
+        same_null keys new m n key k.0.keys_are h same,
         items-set new items m.entries.items place now (subst (λ (l : Keys). KnowsItems l items m.entries.items) (sym k.0.keys_are) (items-kept keys key items m.entries.items knows)) within
             (subst (λ k. IsRemembered new k now) is k.1),
       )
@@ -171,28 +155,6 @@ pub step_other : {E : Type 0} (r : Result ℕ E) (keys new : Keys) (m : Memo) (k
     → IfOk r (λ n. slice_get new n ≡ Some key) → IfOk r (λ n. IsNumbered keys new key n × Remembers new m)
 step_other (Ok n) keys new m key h more at = (record { keys_are = more; there = at }, subst (λ (l : Keys). Remembers l m) (sym more) (remembers-kept keys key m h))
 step_other (Err e) keys new m key h more at = tt
-
--- A number that is remembered.
-pub found : (keys : Keys) (m : Memo) (z : ℤ) (n : ℕ) (key : List Item) → key ≡ int z ∷ [] → Remembers keys m → get int_eq m.numbers z ≡ Some n → IsNumbered keys keys key n
-found keys m z n key is h got =
-    let at : slice_get keys n ≡ Some key = subst (IsRemembered keys (int z ∷ [])) got (h.numbers z) ∙ ap Some (sym is) in
-    record { keys_are = sym (there_already keys n key at); there = at }
-
--- A number that is remembered from now on.
-pub learned : (keys new : Keys) (m n : Memo) (z : ℤ) (x : ℕ) (key : List Item) → key ≡ int z ∷ [] → Remembers keys m → new ≡ insert_key same_key keys key → slice_get new x ≡ Some key
-    → n.null ≡ m.null → ((q : ℤ) → get int_eq n.numbers q ≡ cond (int_eq z q) (Some x) (get int_eq m.numbers q)) → IsNumbered keys new key x × Remembers new n
-learned keys new m n z x key is h more at null_is learns =
-    let r : Remembers new m = subst (λ (l : Keys). Remembers l m) (sym more) (remembers-kept keys key m h) in (
-      record { keys_are = more; there = at },
-      record {
-        null = subst (IsRemembered new (null ∷ [])) (sym null_is) r.null;
-        numbers = λ q. subst (IsRemembered new (int q ∷ [])) (sym (learns q))
-            (either (int_eq z q)
-            (λ same. subst (λ b. IsRemembered new (int q ∷ []) (cond b (Some x) (get int_eq m.numbers q))) (sym same)
-            (at ∙ ap Some (is ∙ ap (λ w. int w ∷ []) ((Decides-int_eq z q).0 same))))
-            (λ other. subst (λ b. IsRemembered new (int q ∷ []) (cond b (Some x) (get int_eq m.numbers q))) (sym other) (r.numbers q)));
-      },
-    )
 
 -- ---- one key after the other
 

@@ -1,7 +1,7 @@
 -- Parts of keys and the items that they stand for.
 use mathlib.Core.Logic.{⊎_elim}
-use Rattle.std.proofs.Common.{◌≡◌, ◌∙◌, ℕ, ◌+◌, ◌<◌, ◌≤◌, Bool, true, false, ◌&&◌, ◌||◌, cond, eqb, List, [], ◌∷◌, ◌++◌, ℤ, length, take, get_or, Some, refl, sym, ap, subst, arith, append_assoc, length-append}
-use Rattle.std.specs.Prelude.{All, slice_get, slice_index_or, option_map, ◌⊎◌}
+use Rattle.std.proofs.Common.{◌≡◌, ◌∙◌, ℕ, ◌+◌, ◌<◌, ◌≤◌, Bool, true, false, ◌&&◌, ◌||◌, cond, eqb, List, [], ◌∷◌, ◌++◌, ℤ, pos, ◌^◌, ◌≤ℤ◌, length, map, take, get_or, Some, refl, sym, ap, subst, arith, append_assoc, length-append}
+use Rattle.std.specs.Prelude.{All, IfOk, OnErr, OnOk, Result, Ok, Err, slice_get, slice_index_or, option_map, ◌⊎◌}
 use Rattle.std.specs.List.{IsDistinct, list_any}
 use Rattle.std.specs.Str.{bytes_eq}
 use Rattle.std.proofs.lemmas.Bool.{eqb-true, eqb-false}
@@ -9,43 +9,22 @@ use Rattle.std.proofs.lemmas.Cmp.{nat_list_eq_equiv}
 use Rattle.std.proofs.lemmas.List.{map-append, length-map, take_more, get_or-map, get_or_append_left}
 use Rattle.std.proofs.lemmas.List.Elements.{All-cons, All-head, All-nil, All-tail, All-push, All-weaker, All-get_or}
 use Rattle.std.proofs.lemmas.Map.Keys.{apart_from_distinct}
-use Rattle.std.proofs.lemmas.Option.{slice_get-map, slice_get_within, get_or_from_slice_get}
-use mathlib.Core.List.{IsPrefix}
-use lib.Pointwise.{pointwise}
+use Rattle.std.proofs.lemmas.Option.{slice_get-get_or, slice_get-map}
+use Rattle.std.specs.Ordering.{int_eq}
+use Rattle.std.proofs.lemmas.Bool.Decides.{Decides-int_eq}
+use Rattle.std.proofs.lemmas.Int.{ints}
 use Rattle.arrayvec.specs.ArrayVec.{ArrayVec}
+use mathlib.Core.List.{IsPrefix}
 use Rattle.indexmap.specs.IndexSet.{insert_key}
 use Rattle.arrays.specs.Item.{Item, int, null, text}
 use Rattle.arrays.specs.Batch.{Row}
 use Rattle.answers.specs.declared.part.Part.{Part}
 use Rattle.answers.specs.declared.part.Part.TheVariants as part
-use Rattle.answers.specs.contracts.part.PartPartialEq as derived
 use Rattle.answers.specs.Groups.{key_of}
+use Rattle.answers.specs.PartSets.{part_of_number, parts_listed, parts_of_number, same_parts}
 use Rattle.answers.specs.Parts.{AreWithin, IsWithin, item_of_part, key_of_parts, keys_shown, same_part}
 use Rattle.answers.specs.Same.{same_item, same_key}
-use Rattle.answers.proofs.SameLemmas.{either, same_key-Decides}
-
--- ---- the derived test
-
-abbrev pub part_eq : Part → Part → Bool
-part_eq = (derived.TheImpl.ghosts).eq
-
-pub is_same_part : (p q : Part) → part_eq p q ≡ same_part p q
-is_same_part part.Null part.Null = refl
-is_same_part part.Null (part.Int y) = refl
-is_same_part part.Null (part.Bool y) = refl
-is_same_part part.Null (part.Text n) = refl
-is_same_part (part.Int x) part.Null = refl
-is_same_part (part.Int x) (part.Int y) = refl
-is_same_part (part.Int x) (part.Bool y) = refl
-is_same_part (part.Int x) (part.Text n) = refl
-is_same_part (part.Bool x) part.Null = refl
-is_same_part (part.Bool x) (part.Int y) = refl
-is_same_part (part.Bool x) (part.Bool y) = refl
-is_same_part (part.Bool x) (part.Text n) = refl
-is_same_part (part.Text m) part.Null = refl
-is_same_part (part.Text m) (part.Int y) = refl
-is_same_part (part.Text m) (part.Bool y) = refl
-is_same_part (part.Text m) (part.Text n) = refl
+use Rattle.answers.proofs.SameLemmas.{either}
 
 -- ---- texts that become more
 
@@ -75,18 +54,18 @@ module _ (ts us : List (List ℕ)) (begins : IsPrefix ts us) where
       let b : key_of_parts us ps ≡ key_of_parts ts ps = key-grown ps (All-tail (IsWithin (length ts)) p ps h) in
       cc (a, b)
 
-  pub keys-grown : (ks : List (ArrayVec Part)) → AreWithin (length ts) ks → keys_shown us ks ≡ keys_shown ts ks
+  pub keys-grown : (ks : List (List Part)) → AreWithin (length ts) ks → keys_shown us ks ≡ keys_shown ts ks
   keys-grown [] h = refl
   keys-grown (k ∷ ks) h =
-      let P : ArrayVec Part → Type 0 = λ k. All (IsWithin (length ts)) k.items in
-      let a = key-grown k.items (All-head P k ks h) in
+      let P : List Part → Type 0 = λ k. All (IsWithin (length ts)) k in
+      let a = key-grown k (All-head P k ks h) in
       let b : keys_shown us ks ≡ keys_shown ts ks = keys-grown ks (All-tail P k ks h) in
       cc (a, b)
 
-  pub are-grown : (ks : List (ArrayVec Part)) → AreWithin (length ts) ks → AreWithin (length us) ks
+  pub are-grown : (ks : List (List Part)) → AreWithin (length ts) ks → AreWithin (length us) ks
   are-grown ks h =
-      All-weaker (λ (k : ArrayVec Part). All (IsWithin (length ts)) k.items) (λ (k : ArrayVec Part). All (IsWithin (length us)) k.items)
-      (λ k g. All-weaker (IsWithin (length ts)) (IsWithin (length us)) within-grown k.items g) ks h
+      All-weaker (λ (k : List Part). All (IsWithin (length ts)) k) (λ (k : List Part). All (IsWithin (length us)) k)
+      (λ k g. All-weaker (IsWithin (length ts)) (IsWithin (length us)) within-grown k g) ks h
 
   -- One part more of a row's key.
   pub key-push : (by : List ℕ) (i : ℕ) (row : Row) (ps new : List Part) (p : Part) → i < length by → key_of_parts ts ps ≡ key_of (take i by) row
@@ -114,30 +93,12 @@ module _ (ts us : List (List ℕ)) (begins : IsPrefix ts us) where
 
 -- ---- keys in a set
 
-pub key_there : (ts : List (List ℕ)) (ks : List (ArrayVec Part)) (keys : List (List Item)) (n : ℕ) (k : ArrayVec Part) → keys_shown ts ks ≡ keys
-    → n < length keys → k ≡ get_or ks n k → key_of_parts ts k.items ≡ slice_index_or keys n []
+pub key_there : (ts : List (List ℕ)) (ks : List (List Part)) (keys : List (List Item)) (n : ℕ) (k : List Part) → keys_shown ts ks ≡ keys
+    → n < length keys → k ≡ get_or ks n k → key_of_parts ts k ≡ slice_index_or keys n []
 key_there ts ks keys n k are below is =
-    let key : ArrayVec Part → List Item = λ l. key_of_parts ts l.items in
+    let key : List Part → List Item = λ l. key_of_parts ts l in
     let within : n < length ks = omega (arith, below, ap length are, length-map ks key) in
     ap key is ∙ sym (get_or-map key ks n k [] within) ∙ ap (λ l. slice_index_or l n []) are
-
-pub number_key : (ts : List (List ℕ)) (ps : List Part) (z : ℤ) (d : Part) → length ps ≡ 1 → get_or ps 0 d ≡ part.Int z → key_of_parts ts ps ≡ int z ∷ []
-number_key ts [] z d one is = absurd (omega (arith, one))
-number_key ts (p ∷ []) z d one is = ap (λ x. item_of_part ts x ∷ []) is
-number_key ts (p ∷ q ∷ ps) z d one is = absurd (omega (arith, one))
-
-int_part : (ts : List (List ℕ)) (p : Part) (z : ℤ) → item_of_part ts p ≡ int z → p ≡ part.Int z
-int_part ts part.Null z is = absurd cc
-int_part ts (part.Int y) z is = cc
-int_part ts (part.Bool b) z is = absurd cc
-int_part ts (part.Text n) z is = absurd cc
-
-pub number_parts : (ts : List (List ℕ)) (ps : List Part) (z : ℤ) (d : Part) → key_of_parts ts ps ≡ int z ∷ [] → (length ps ≡ 1) × (get_or ps 0 d ≡ part.Int z)
-number_parts ts [] z d is = absurd cc
-number_parts ts (p ∷ []) z d is =
-    let item : item_of_part ts p ≡ int z = cc in
-    (refl, int_part ts p z item)
-number_parts ts (p ∷ q ∷ ps) z d is = absurd cc
 
 pub number_within : (n : ℕ) (ps : List Part) (z : ℤ) → ps ≡ part.Int z ∷ [] → All (IsWithin n) ps
 number_within n ps z is = subst (All (IsWithin n)) (sym is) (All-cons (IsWithin n) (part.Int z) [] tt (All-nil (IsWithin n)))
@@ -172,51 +133,102 @@ module _ (ts : List (List ℕ)) (once : IsDistinct bytes_eq ts) where
   part_same (part.Text m) (part.Bool y) h g = refl
   part_same (part.Text m) (part.Text n) h g = texts_same m n h g
 
-  parts_same : (ps qs : List Part) → All (IsWithin (length ts)) ps → All (IsWithin (length ts)) qs → pointwise part_eq ps qs ≡ same_key (key_of_parts ts ps) (key_of_parts ts qs)
+  parts_same : (ps qs : List Part) → All (IsWithin (length ts)) ps → All (IsWithin (length ts)) qs → same_parts ps qs ≡ same_key (key_of_parts ts ps) (key_of_parts ts qs)
   parts_same [] [] h g = refl
   parts_same [] (q ∷ qs) h g = refl
   parts_same (p ∷ ps) [] h g = refl
   parts_same (p ∷ ps) (q ∷ qs) h g =
       let W = IsWithin (length ts) in
-      ap (λ b. b && pointwise part_eq ps qs) (is_same_part p q ∙ part_same p q (All-head W p ps h) (All-head W q qs g))
+      ap (λ b. b && same_parts ps qs) (part_same p q (All-head W p ps h) (All-head W q qs g))
       ∙ ap (λ b. same_item (item_of_part ts p) (item_of_part ts q) && b) (parts_same ps qs (All-tail W p ps h) (All-tail W q qs g))
 
-  abbrev eq : ArrayVec Part → ArrayVec Part → Bool
-  eq v w = pointwise part_eq v.items w.items
+  abbrev key : List Part → List Item
+  key k = key_of_parts ts k
 
-  abbrev key : ArrayVec Part → List Item
-  key k = key_of_parts ts k.items
+  abbrev Held : List Part → Type 0
+  Held k = All (IsWithin (length ts)) k
 
-  abbrev Held : ArrayVec Part → Type 0
-  Held k = All (IsWithin (length ts)) k.items
-
-  among_same : (k : ArrayVec Part) (ks : List (ArrayVec Part)) → Held k → All Held ks → list_any (eq k) ks ≡ list_any (same_key (key k)) (keys_shown ts ks)
+  among_same : (k : List Part) (ks : List (List Part)) → Held k → All Held ks → list_any (same_parts k) ks ≡ list_any (same_key (key k)) (keys_shown ts ks)
   among_same k [] h g = refl
   among_same k (l ∷ ks) h g =
-      ap (λ b. b || list_any (eq k) ks) (parts_same k.items l.items h (All-head Held l ks g))
+      ap (λ b. b || list_any (same_parts k) ks) (parts_same k l h (All-head Held l ks g))
       ∙ ap (λ b. same_key (key k) (key l) || b) (among_same k ks h (All-tail Held l ks g))
 
-  joined : (ks : List (ArrayVec Part)) (k : ArrayVec Part) (b : Bool) → keys_shown ts (cond b ks (ks ++ k ∷ [])) ≡ cond b (keys_shown ts ks) (keys_shown ts ks ++ key k ∷ [])
+  joined : (ks : List (List Part)) (k : List Part) (b : Bool) → keys_shown ts (cond b ks (ks ++ k ∷ [])) ≡ cond b (keys_shown ts ks) (keys_shown ts ks ++ key k ∷ [])
   joined ks k true = refl
   joined ks k false = map-append key ks (k ∷ [])
 
   -- A key that was put in.
-  pub keys_inserted : (ks new : List (ArrayVec Part)) (k : ArrayVec Part) → Held k → All Held ks → new ≡ insert_key eq ks k
+  pub keys_inserted : (ks new : List (List Part)) (k : List Part) → Held k → All Held ks → new ≡ insert_key same_parts ks k
       → keys_shown ts new ≡ insert_key same_key (keys_shown ts ks) (key k)
   keys_inserted ks new k h g is =
-      ap (keys_shown ts) is ∙ joined ks k (list_any (eq k) ks)
+      ap (keys_shown ts) is ∙ joined ks k (list_any (same_parts k) ks)
       ∙ ap (λ b. cond b (keys_shown ts ks) (keys_shown ts ks ++ key k ∷ [])) (among_same k ks h g)
 
-  held_inserted : (ks : List (ArrayVec Part)) (k : ArrayVec Part) (b : Bool) → Held k → All Held ks → All Held (cond b ks (ks ++ k ∷ []))
-  held_inserted ks k true h g = g
-  held_inserted ks k false h g = All-push Held ks k g h
+-- Its number.
+pub numbered : {E : Type 0} (r : Result ℕ E) (ts : List (List ℕ)) (ks : List (List Part)) (k : List Part) → IfOk r (λ n. slice_get ks n ≡ Some k)
+    → IfOk r (λ n. slice_get (keys_shown ts ks) n ≡ Some (key_of_parts ts k))
+numbered (Ok n) ts ks k at = slice_get-map (key_of_parts ts) ks n ∙ ap (option_map (key_of_parts ts)) at
+numbered (Err e) ts ks k at = tt
 
-  -- Its number.
-  pub key_stored : (ks new : List (ArrayVec Part)) (k l : ArrayVec Part) (n : ℕ) → Held k → All Held ks → new ≡ insert_key eq ks k
-      → slice_get new n ≡ Some l → eq k l ≡ true → slice_get (keys_shown ts new) n ≡ Some (key k)
-  key_stored ks new k l n h g is at same =
-      let held : All Held new = subst (All Held) (sym is) (held_inserted ks k (list_any (eq k) ks) h g) in
-      let here : Held (get_or new n l) = All-get_or Held new n l (slice_get_within new n l at) held in
-      let held_l : Held l = subst Held (get_or_from_slice_get new n l l at) here in
-      slice_get-map key new n ∙ ap (option_map key) at
-      ∙ ap Some (sym ((same_key-Decides (key k) (key l)).0 (sym (parts_same k.items l.items h held_l) ∙ same)))
+-- A number and null name no text.
+pub lone_within : (n : ℕ) (z : ℤ) → All (IsWithin n) (parts_of_number z)
+lone_within n z = All-cons (IsWithin n) (part_of_number z) [] (go (int_eq z (pos 1267650600228229401496703205376))) (All-nil (IsWithin n)) where
+  go : (b : Bool) → IsWithin n (cond b part.Null (part.Int z))
+  go true = tt
+  go false = tt
+
+key_of_lone : (ts us : List (List ℕ)) (z : ℤ) (b : Bool) → item_of_part ts (cond b part.Null (part.Int z)) ≡ item_of_part us (cond b part.Null (part.Int z))
+key_of_lone ts us z true = refl
+key_of_lone ts us z false = refl
+
+pub lone_shown : (ts us : List (List ℕ)) (z : ℤ) → key_of_parts ts (parts_of_number z) ≡ key_of_parts us (parts_of_number z)
+lone_shown ts us z = ap (λ x. x ∷ []) (key_of_lone ts us z (int_eq z (pos 1267650600228229401496703205376)))
+
+-- A number that some integer type has isn't the one that stands for null.
+pub number_shown : (ts : List (List ℕ)) (z : ℤ) → z ≤ℤ pos (2 ^ 64) → key_of_parts ts (parts_of_number z) ≡ int z ∷ []
+number_shown ts z high =
+    either (int_eq z (pos 1267650600228229401496703205376))
+    (λ yes. absurd (too_high z high ((Decides-int_eq z (pos 1267650600228229401496703205376)).0 yes)))
+    (λ no. ap (λ b. item_of_part ts (cond b part.Null (part.Int z)) ∷ []) no) where
+      too_high : (z : ℤ) → z ≤ℤ pos (2 ^ 64) → z ≡ pos 1267650600228229401496703205376 → ⊥
+      too_high z high is = omega (arith, ints)
+
+-- The key at a place, by the number that is there, and by the parts.
+pub number_there : (ts : List (List ℕ)) (lists : List (List Part)) (keys : List (List Item)) (xs : List ℤ) (n : ℕ) (z : ℤ) → lists ≡ map parts_of_number xs
+    → keys_shown ts lists ≡ keys → n < length keys → z ≡ get_or xs n (pos 0) → key_of_parts ts (parts_of_number z) ≡ slice_index_or keys n []
+number_there ts lists keys xs n z shown are below is =
+    let long : n < length xs = omega (arith, below, ap length are, ap length shown, length-map lists (key_of_parts ts), length-map xs parts_of_number) in
+    key_there ts lists keys n (parts_of_number z) are below
+    (ap parts_of_number is ∙ sym (get_or-map parts_of_number xs n (pos 0) (parts_of_number z) long) ∙ ap (λ l. get_or l n (parts_of_number z)) (sym shown))
+
+pub list_there : (ts : List (List ℕ)) (lists : List (List Part)) (keys : List (List Item)) (xs : List (ArrayVec Part)) (n : ℕ) (v : ArrayVec Part) → lists ≡ parts_listed xs
+    → keys_shown ts lists ≡ keys → n < length keys → v ≡ get_or xs n v → key_of_parts ts v.items ≡ slice_index_or keys n []
+list_there ts lists keys xs n v shown are below is =
+    let items : ArrayVec Part → List Part = λ w. w.items in
+    let long : n < length xs = omega (arith, below, ap length are, ap length shown, length-map lists (key_of_parts ts), length-map xs items) in
+    key_there ts lists keys n v.items are below
+    (ap items is ∙ sym (get_or-map items xs n v v.items long) ∙ ap (λ l. get_or l n v.items) (sym shown))
+
+pub list_held : (ts : List (List ℕ)) (lists : List (List Part)) (keys : List (List Item)) (xs : List (ArrayVec Part)) (n : ℕ) (v : ArrayVec Part) → lists ≡ parts_listed xs
+    → keys_shown ts lists ≡ keys → n < length keys → v ≡ get_or xs n v → AreWithin (length ts) lists → All (IsWithin (length ts)) v.items
+list_held ts lists keys xs n v shown are below is held =
+    let W = All (IsWithin (length ts)) in
+    let items : ArrayVec Part → List Part = λ w. w.items in
+    let long : n < length xs = omega (arith, below, ap length are, ap length shown, length-map lists (key_of_parts ts), length-map xs items) in
+    let inside : n < length lists = omega (arith, long, ap length shown, length-map xs items) in
+    subst W (ap (λ l. get_or l n v.items) shown ∙ get_or-map items xs n v v.items long ∙ sym (ap items is)) (All-get_or W lists n v.items inside held)
+
+pub items_told : {V E : Type 0} (r : Result V E) (f : V → List Item) (keys : List (List Item)) (n : ℕ) (k : List Item) → n < length keys → k ≡ slice_index_or keys n []
+    → IfOk r (λ v. f v ≡ k) → IfOk r (λ v. slice_get keys n ≡ Some (f v))
+items_told (Ok v) f keys n k below is h = slice_get-get_or keys n [] below ∙ ap Some (sym (h ∙ is))
+items_told (Err e) f keys n k below is h = tt
+
+-- The keys are within, whether one was put in or not.
+pub within_placed : {E : Type 0} (r : Result ℕ E) (n : ℕ) (ks new : List (List Part)) (k : List Part) → All (IsWithin n) k → AreWithin n ks
+    → OnOk r (new ≡ insert_key same_parts ks k) → OnErr r (new ≡ ks) → AreWithin n new
+within_placed (Ok x) n ks new k h g is same = subst (AreWithin n) (sym is) (go (list_any (same_parts k) ks)) where
+  go : (b : Bool) → AreWithin n (cond b ks (ks ++ k ∷ []))
+  go true = g
+  go false = All-push (All (IsWithin n)) ks k g h
+within_placed (Err e) n ks new k h g is same = subst (AreWithin n) (sym same) g

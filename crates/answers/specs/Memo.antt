@@ -1,10 +1,8 @@
 -- What is remembered of the numbers of keys.
-use Rattle.std.specs.Prelude.{◌≡◌, ◌<◌, ℕ, ℤ, List, [], ◌∷◌, Option, Some, None, length, slice_get, slice_index_or, ⊤}
-use Rattle.std.specs.Ordering.{int_eq}
-use Rattle.indexmap.specs.IndexMap.{get}
+use Rattle.std.specs.Prelude.{◌≡◌, ◌<◌, ℕ, List, [], ◌∷◌, Option, Some, None, length, slice_get, slice_index_or, ⊤}
 use Rattle.indexmap.specs.IndexSet.{insert_key}
 use Rattle.arrays.specs.Batch.{Batch, row_of}
-use Rattle.arrays.specs.Item.{Item, null, int}
+use Rattle.arrays.specs.Item.{Item, null}
 use Rattle.arrays.specs.Kind as kind
 use Rattle.arrays.specs.Seen.{Seen}
 use Rattle.answers.specs.Groups.{key_of}
@@ -16,10 +14,9 @@ abbrev pub IsRemembered : List (List Item) → List Item → Option ℕ → Type
 IsRemembered keys k None = ⊤
 IsRemembered keys k (Some n) = slice_get keys n ≡ Some k
 
--- What is remembered of null and of numbers is true, whatever batch they came in.
+-- What is remembered of null is true, whatever batch it came in.
 pub record Remembers (keys : List (List Item)) (m : Memo) : Type 0 where
   pub null : IsRemembered keys (null ∷ []) m.null
-  pub numbers : (z : ℤ) → IsRemembered keys (int z ∷ []) (get int_eq m.numbers z)
 
 -- What is remembered of the entries of a dictionary is true, and there is room for each.
 pub record KnowsItems (keys : List (List Item)) (items : List Item) (known : List (Option ℕ)) : Type 0 where

@@ -2,7 +2,6 @@
 use Rattle.std.specs.Bool.{beq}
 use Rattle.std.specs.Ordering.{int_eq}
 use Rattle.std.specs.Prelude.{ℕ, ◌<◌, ◌==◌, Bool, true, false, List, [], map, slice_index_or, All, ⊤}
-use Rattle.arrayvec.specs.ArrayVec.{ArrayVec}
 use Rattle.arrays.specs.Item.{Item, null, int, boolean, text}
 use Rattle.answers.specs.declared.part.Part.{Part}
 use Rattle.answers.specs.declared.part.Part.TheVariants as part
@@ -25,11 +24,11 @@ abbrev pub key_of_parts : List (List ℕ) → List Part → List Item
 key_of_parts texts parts = map (item_of_part texts) parts
 
 -- The texts of all parts of all keys are some of so many.
-abbrev pub AreWithin : ℕ → List (ArrayVec Part) → Type 0
-AreWithin n keys = All (λ k. All (IsWithin n) k.items) keys
+abbrev pub AreWithin : ℕ → List (List Part) → Type 0
+AreWithin n keys = All (All (IsWithin n)) keys
 
-abbrev pub keys_shown : List (List ℕ) → List (ArrayVec Part) → List (List Item)
-keys_shown texts keys = map (λ k. key_of_parts texts k.items) keys
+abbrev pub keys_shown : List (List ℕ) → List (List Part) → List (List Item)
+keys_shown texts keys = map (key_of_parts texts) keys
 
 -- Whether two parts are the same.
 abbrev pub same_part : Part → Part → Bool

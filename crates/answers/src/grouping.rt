@@ -117,12 +117,7 @@ impl Grouping {
             *self = other;
             return Ok(());
         }
-        number_others(
-            &mut self.keys,
-            &mut self.memo,
-            &mut self.numbers,
-            &other.keys,
-        )?;
+        number_others(&mut self.keys, &mut self.numbers, &other.keys)?;
         let groups = self.keys.len();
         join_columns(
             alloc,

@@ -1,6 +1,6 @@
 //! The keys of groups, each once.
 
-ghost use Rattle.std.specs.Prelude.{◌≡◌, ◌≢◌, ◌∷◌, ◌<◌, ◌≤◌, ℤ, [], All, IfOk, MatchOption, None, OnOk, Some, length, map, slice_get, slice_index_or};
+ghost use Rattle.std.specs.Prelude.{◌≡◌, ◌∷◌, ◌<◌, ◌≤◌, ◌≤ℤ◌, ◌^◌, [], All, IfOk, None, OnOk, Some, length, map, pos, slice_get, slice_index_or};
 ghost use mathlib.Core.List.{IsPrefix};
 ghost use Rattle.arrays.specs.Batch.{row_of};
 ghost use Rattle.arrays.specs.Item.{int};
@@ -9,18 +9,19 @@ ghost use Rattle.query.specs.Columns.{sort_at};
 ghost use Rattle.query.specs.Fault.{key_fault};
 ghost use Rattle.answers.specs.Answers.{item_in};
 ghost use Rattle.answers.specs.Groups.{key_of};
-ghost use Rattle.answers.specs.Parts.{IsWithin, item_of_part, key_of_parts};
+ghost use Rattle.answers.specs.Parts.{AreWithin, IsWithin, item_of_part, key_of_parts, keys_shown};
+ghost use Rattle.answers.specs.PartSets.{parts_of_number, parts_shown};
 ghost use Rattle.answers.specs.Same.{same_key};
 ghost use Rattle.answers.specs.Values.{item_of_value};
 
 use crate::part::Part;
+use crate::part_set::{PartSet, part_of_number};
 use crate::text_set::TextSet;
 use crate::value::{Value, value_at};
 use arrays::RecordBatch;
 use arrayvec::ArrayVec;
 use colbits::NoMemory;
 use group::Scalar;
-use indexmap::IndexSet;
 use std::alloc::Global;
 use std::marker::Model;
 
@@ -29,7 +30,7 @@ use std::marker::Model;
 pub(crate) struct KeySet {
     /// The texts that parts of keys name.
     texts: TextSet,
-    keys: IndexSet<ArrayVec<Part, 4>>,
+    keys: PartSet,
 }
 
 impl Model for KeySet {
@@ -38,14 +39,15 @@ impl Model for KeySet {
     ghost use Rattle.arrays.specs.Item.{Item};
     ghost use Rattle.layout.specs.Code.{items_code};
     ghost use Rattle.answers.specs.Parts.{AreWithin, keys_shown};
+    ghost use Rattle.answers.specs.PartSets.{parts_shown};
 
     ghost Value = { List (List Item) };
 
     ghost coded = { coded_list items_code };
 
-    ghost view = { λ s. keys_shown s.texts s.keys.keys };
+    ghost view = { λ s. keys_shown s.texts (parts_shown s.keys) };
 
-    ghost invariant = { λ s. AreWithin (length s.texts) s.keys.keys };
+    ghost invariant = { λ s. AreWithin (length s.texts) (parts_shown s.keys) };
 }
 
 impl KeySet {
@@ -55,7 +57,7 @@ impl KeySet {
     {
         KeySet {
             texts: TextSet::new(alloc),
-            keys: IndexSet::new(alloc),
+            keys: PartSet::new(alloc),
         }
     }
 
@@ -82,9 +84,7 @@ impl KeySet {
             ≡ Some (key_of by.now (row_of batch.now.columns row))) }
     {
         let parts = parts_of(&mut self.texts, batch, by, row)?;
-        let _len = self.texts.len();
-        let (number, _is_new) = self.keys.insert_full(parts)?;
-        Ok(number)
+        number_of_parts(&self.texts, &mut self.keys, parts)
     }
 }
 
@@ -93,8 +93,7 @@ impl KeySet {
     pub(crate) fn add_empty(&mut self) -> Result<(), NoMemory>
         ensures { OnOk result (self.new ≡ insert_key same_key self.old []) }
     {
-        let _len = self.texts.len();
-        self.keys.insert(ArrayVec::new())?;
+        number_of_parts(&self.texts, &mut self.keys, ArrayVec::new())?;
         Ok(())
     }
 
@@ -107,52 +106,79 @@ impl KeySet {
         requires { number < length self.now }
         ensures { IfOk result (λ v. slice_get self.now number ≡ Some (map item_in v.items)) }
     {
-        let keys = self.keys.as_slice();
-        items_of(alloc, &self.texts, keys[number].as_slice())
+        match &self.keys {
+            PartSet::Numbers(numbers) => {
+                let keys = numbers.as_slice();
+                items_of(alloc, &self.texts, &[part_of_number(keys[number])])
+            }
+            PartSet::Lists(lists) => {
+                let keys = lists.as_slice();
+                items_of(alloc, &self.texts, keys[number].as_slice())
+            }
+        }
     }
 }
 
 impl KeySet {
-    /// The number that a key is, where it is a number alone; none otherwise.
-    pub(crate) fn number_alone(&self, place: usize) -> Option<i128>
-        requires { place < length self.now }
-        ensures { MatchOption result ((z : ℤ) → slice_index_or self.now place [] ≢ int z ∷ []) (λ z. slice_index_or self.now place [] ≡ int z ∷ []) }
-    {
-        let keys = self.keys.as_slice();
-        let parts = keys[place].as_slice();
-        if parts.len() != 1 {
-            return None;
-        }
-        match parts[0] {
-            Part::Int(number) => Some(number),
-            _ => None,
-        }
-    }
-
     /// The place of the key of a number alone, which is put at the end where it is new.
+    #[inline(always)]
     pub(crate) fn place_of_number(&mut self, number: i128) -> Result<usize, NoMemory>
+        requires high { number ≤ℤ pos (2 ^ 64) }
         ensures keys { OnOk result (self.new ≡ insert_key same_key self.old (int number ∷ [])) }
         ensures place { IfOk result (λ n. slice_get self.new n ≡ Some (int number ∷ [])) }
     {
-        let mut parts = ArrayVec::new();
-        parts.push(Part::Int(number));
-        let _len = self.texts.len();
-        let (place, _is_new) = self.keys.insert_full(parts)?;
-        Ok(place)
+        number_of_number(&self.texts, &mut self.keys, number)
     }
 
     /// The number of a key of another set, which is put at the end where it is new.
+    #[inline(always)]
     pub(crate) fn number_of_key(&mut self, other: &KeySet, place: usize) -> Result<usize, NoMemory>
         requires { place < length other.now }
         ensures keys { OnOk result (self.new ≡ insert_key same_key self.old (slice_index_or other.now place [])) }
         ensures number { IfOk result (λ n. slice_get self.new n ≡ Some (slice_index_or other.now place [])) }
     {
-        let keys = other.keys.as_slice();
-        let parts = renamed_parts(&mut self.texts, &other.texts, keys[place].as_slice())?;
-        let _len = self.texts.len();
-        let (number, _is_new) = self.keys.insert_full(parts)?;
-        Ok(number)
+        match &other.keys {
+            PartSet::Numbers(numbers) => {
+                let keys = numbers.as_slice();
+                number_of_number(&self.texts, &mut self.keys, keys[place])
+            }
+            PartSet::Lists(lists) => {
+                let keys = lists.as_slice();
+                let parts = renamed_parts(&mut self.texts, &other.texts, keys[place].as_slice())?;
+                number_of_parts(&self.texts, &mut self.keys, parts)
+            }
+        }
     }
+}
+
+/// The number of the key of these parts among keys, which is put at the end where it is new.
+fn number_of_parts(
+    texts: &TextSet,
+    keys: &mut PartSet,
+    parts: ArrayVec<Part, 4>,
+) -> Result<usize, NoMemory>
+    requires named { All (IsWithin (length texts.now)) parts.items }
+    requires within { AreWithin (length texts.now) (parts_shown keys.old) }
+    ensures keys { OnOk result (keys_shown texts.now (parts_shown keys.new)
+        ≡ insert_key same_key (keys_shown texts.now (parts_shown keys.old)) (key_of_parts texts.now parts.items)) }
+    ensures number { IfOk result (λ n. slice_get (keys_shown texts.now (parts_shown keys.new)) n ≡ Some (key_of_parts texts.now parts.items)) }
+    ensures within { AreWithin (length texts.now) (parts_shown keys.new) }
+{
+    let _len = texts.len();
+    keys.place_of(parts)
+}
+
+/// The same of the key of this number alone, or of null.
+#[inline(always)]
+fn number_of_number(texts: &TextSet, keys: &mut PartSet, number: i128) -> Result<usize, NoMemory>
+    requires within { AreWithin (length texts.now) (parts_shown keys.old) }
+    ensures keys { OnOk result (keys_shown texts.now (parts_shown keys.new)
+        ≡ insert_key same_key (keys_shown texts.now (parts_shown keys.old)) (key_of_parts texts.now (parts_of_number number))) }
+    ensures number { IfOk result (λ n. slice_get (keys_shown texts.now (parts_shown keys.new)) n ≡ Some (key_of_parts texts.now (parts_of_number number))) }
+    ensures within { AreWithin (length texts.now) (parts_shown keys.new) }
+{
+    let _len = texts.len();
+    keys.place_of_number(number)
 }
 
 /// The items that parts stand for; none is null.

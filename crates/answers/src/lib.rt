@@ -25,6 +25,7 @@ mod numbering;
 mod numbers;
 mod other_keys;
 mod part;
+mod part_set;
 mod piece;
 mod run;
 mod source;

@@ -12,7 +12,6 @@ use crate::key_set::KeySet;
 use crate::value::column_at;
 use arrays::{RecordBatch, ViewType};
 use colbits::NoMemory;
-use indexmap::IndexMap;
 use std::alloc::Global;
 
 /// The numbers of keys of one item each.
@@ -20,8 +19,6 @@ use std::alloc::Global;
 pub(crate) struct Memo {
     /// That of the key of null.
     pub(crate) null: Option<usize>,
-    /// Those of the keys of numbers.
-    pub(crate) numbers: IndexMap<i128, usize>,
     /// Those of the keys of a dictionary's entries, by their codes.
     pub(crate) entries: Vec<Option<usize>>,
 }
@@ -33,7 +30,6 @@ impl Memo {
     {
         Memo {
             null: None,
-            numbers: IndexMap::new(alloc),
             entries: Vec::new(alloc),
         }
     }

@@ -1,8 +1,8 @@
 //! The numbers of keys of one column of numbers.
 
-ghost use Rattle.std.specs.Prelude.{◌≡◌, ◌∷◌, ◌<◌, ◌≤◌, [], All, IfOk, None, OnOk, length, true};
+ghost use Rattle.std.specs.Prelude.{◌≡◌, ◌∷◌, ◌<◌, ◌≤◌, ◌≤ℤ◌, ◌^◌, [], All, IfOk, None, OnOk, length, pos, true};
+ghost use Rattle.std.specs.Option.{ForSome};
 ghost use Rattle.arrays.specs.Batch.{row_of};
-ghost use Rattle.arrays.specs.Item.{int};
 ghost use Rattle.arrays.specs.Kind as kind;
 ghost use Rattle.arrays.specs.Slot.{is_int, item_of};
 ghost use Rattle.query.specs.Columns.{sort_at};
@@ -97,32 +97,14 @@ fn number_of_item(
     requires few { length by.now ≤ 4 }
     requires plain { All (λ c. key_fault (sort_at batch.now.fields) c ≡ None) by.now }
     requires within { row < batch.now.rows }
+    requires high { ForSome number (λ z. z ≤ℤ pos (2 ^ 64)) }
     ensures number { let key = key_of by.now (row_of batch.now.columns row) in
         key ≡ item_of number ∷ [] → Remembers keys.old memo.old
         → IfOk result (λ n. IsNumbered keys.old keys.new key n × Remembers keys.new memo.new) }
     ensures entries { memo.new.entries ≡ memo.old.entries }
 {
     match number {
-        Some(number) => number_of_number(keys, memo, number),
+        Some(number) => keys.place_of_number(number),
         None => number_by(&mut memo.null, keys, batch, by, row),
     }
-}
-
-/// The number of the key of a number alone: the one that is known, or else the one that it has or gets, which is known then.
-#[inline(always)]
-pub(crate) fn number_of_number(
-    keys: &mut KeySet,
-    memo: &mut Memo,
-    number: i128,
-) -> Result<usize, NoMemory>
-    ensures number { Remembers keys.old memo.old
-        → IfOk result (λ n. IsNumbered keys.old keys.new (int number ∷ []) n × Remembers keys.new memo.new) }
-    ensures entries { memo.new.entries ≡ memo.old.entries }
-{
-    if let Some(known) = memo.numbers.get(&number) {
-        return Ok(*known);
-    }
-    let new = keys.place_of_number(number)?;
-    memo.numbers.insert(number, new)?;
-    Ok(new)
 }

@@ -20,4 +20,4 @@ returns c = λ items at h knows.
     let is : key ≡ slice_index_or items place null ∷ [] =
     at ∙ ap (λ n. slice_index_or items n null ∷ []) (sym place_is) in
     step_entry c.number_by.result c.args.keys.now c.number_by.new.keys m _ key items place c.index_mut.result.now c.number_by.new.known is h knows
-    below (c.index_mut.ensures.value ∙ get_or_default m.entries.items place c.index_mut.result.now None below) refl refl c.number_by.ensures
+    below (c.index_mut.ensures.value ∙ get_or_default m.entries.items place c.index_mut.result.now None below) refl c.number_by.ensures

@@ -7,17 +7,16 @@ use Rattle.answers.specs.Columns.{column_of, show_column}
 use Rattle.answers.specs.Grouping.{IsColumnOf, tables_of}
 use Rattle.answers.specs.Groups.{rows_of_key}
 use Rattle.answers.specs.Keys.{with_keys}
+use Rattle.answers.specs.Memo.{Remembers}
 use Rattle.answers.specs.Merging.{AreAlike, spread_all}
 use Rattle.answers.specs.Spread.{padded}
 use Rattle.answers.specs.declared.column.TallyColumn.{TallyColumn}
 use Rattle.answers.proofs.ColumnLemmas.{on_ok, refilled}
 use Rattle.answers.proofs.GroupLemmas.{are_columns, columns_fit, grown, length-numbers, numbers-inside, same_aggs, tables_short}
+use Rattle.answers.proofs.MemoLemmas.{remembers-more}
 use Rattle.answers.proofs.MergeLemmas.{groups-merged, spread_tables}
 use Rattle.answers.proofs.MergedLemmas.{aggs_alike, merged_into_none, same_aggs_twice}
 use Rattle.answers.proofs.grouping.Grouping.merge.Goals as goal
-
-pub number_others-requires : goal.number_others-requires
-number_others-requires c = c.requires.room.5.1
 
 pub join_columns-requires-clause-same : goal.join_columns-requires-clause-same
 join_columns-requires-clause-same c =
@@ -102,7 +101,7 @@ returns c = λ q kinds rows more h k are others_are.
           ∙ ap (λ m. map (λ (t : TallyColumn). column_of (spread_all numbers others (padded m [] tables)) (show_column t).agg) c.deref_mut.result.now) c.len-groups.ensures
           ∙ ap (map (λ (t : TallyColumn). column_of (spread_all numbers others (padded (length new) [] tables)) (show_column t).agg)) c.deref_mut.ensures.value
           ∙ same_aggs tables (spread_all numbers others (padded (length new) [] tables)) aggs cs h.0.columns_are),
-      c.in_ok-number_others.ensures.remembers,
+      subst (λ l. Remembers l g.memo) (sym is) (remembers-more g.keys o.keys g.memo h.1),
     ))
     (c.join_columns.ensures kinds tables others
     (subst (All (IsColumnOf tables)) (sym c.deref_mut.ensures.value) (are_columns tables aggs cs h.0.columns_are))

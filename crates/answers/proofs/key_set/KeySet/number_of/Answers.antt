@@ -1,26 +1,25 @@
-use Rattle.std.proofs.Common.{◌∙◌, Some, ap}
+use Rattle.std.proofs.Common.{◌≡◌, ◌∙◌, Some, subst}
+use Rattle.std.specs.Prelude.{IfOk, OnOk, slice_get}
 use Rattle.indexmap.specs.IndexSet.{insert_key}
-use Rattle.answers.specs.Parts.{key_of_parts}
+use Rattle.answers.specs.Parts.{key_of_parts, keys_shown}
+use Rattle.answers.specs.PartSets.{parts_shown}
 use Rattle.answers.specs.Same.{same_key}
-use Rattle.answers.proofs.PartLemmas.{are-grown, key_stored, keys-grown, keys_inserted}
+use Rattle.answers.proofs.PartLemmas.{are-grown, keys-grown}
 use Rattle.answers.proofs.key_set.KeySet.number_of.Goals as goal
+
+pub number_of_parts-requires-clause-within : goal.number_of_parts-requires-clause-within
+number_of_parts-requires-clause-within c = are-grown c.self.inside.texts c.parts_of.new.texts c.parts_of.ensures.begins (parts_shown c.self.inside.keys) c.self.invariant
 
 pub returns-clause-keys : goal.returns-clause-keys
 returns-clause-keys c =
+    let r = c.number_of_parts.result in
     let us = c.parts_of.new.texts in
-    let ks = c.self.inside.keys.keys in
-    let k = c.in_ok-parts.parts in
-    let held = are-grown c.self.inside.texts us c.parts_of.ensures.begins ks c.self.invariant in
-    keys_inserted us c.len-len.ensures.once ks c.insert_full.new.self.keys k c.in_ok-parts.ensures.within held c.in_ok-number.ensures.keys
-    ∙ ap (λ l. insert_key same_key l (key_of_parts us k.items)) (keys-grown c.self.inside.texts us c.parts_of.ensures.begins ks c.self.invariant ∙ c.self.view_is)
-    ∙ ap (insert_key same_key c.args.self.now) c.in_ok-parts.ensures.key
+    let new = keys_shown us (parts_shown c.number_of_parts.new.keys) in
+    let grown = keys-grown c.self.inside.texts us c.parts_of.ensures.begins (parts_shown c.self.inside.keys) c.self.invariant ∙ c.self.view_is in
+    subst (λ k. OnOk r (new ≡ insert_key same_key c.args.self.now k)) c.in_ok-parts.ensures.key
+    (subst (λ l. OnOk r (new ≡ insert_key same_key l (key_of_parts us c.in_ok-parts.parts.items))) grown c.number_of_parts.ensures.keys)
 
 pub returns-clause-number : goal.returns-clause-number
 returns-clause-number c =
-    let us = c.parts_of.new.texts in
-    let ks = c.self.inside.keys.keys in
-    let k = c.in_ok-parts.parts in
-    let held = are-grown c.self.inside.texts us c.parts_of.ensures.begins ks c.self.invariant in
-    let s = c.in_ok-number.ensures.stored in
-    key_stored us c.len-len.ensures.once ks c.insert_full.new.self.keys k s.0 c.in_ok-number.number c.in_ok-parts.ensures.within held c.in_ok-number.ensures.keys s.1 s.2
-    ∙ ap Some c.in_ok-parts.ensures.key
+    subst (λ k. IfOk c.number_of_parts.result (λ n. slice_get (keys_shown c.parts_of.new.texts (parts_shown c.number_of_parts.new.keys)) n ≡ Some k))
+    c.in_ok-parts.ensures.key c.number_of_parts.ensures.number

@@ -1,34 +1,70 @@
-use Rattle.std.proofs.Common.{◌≡◌, ◌∙◌, Some, ap, get_or}
+use Rattle.std.proofs.Common.{◌≡◌, ◌∙◌, Some, ap, get_or, length, pos, rules, subst, sym}
+use Rattle.std.proofs.lemmas.Int.{to_z-of_z}
+use Rattle.std.specs.Int.{w128}
+use Rattle.std.specs.Prelude.{All, FitsSigned, IfOk, OnOk, slice_get}
 use Rattle.indexmap.specs.IndexSet.{insert_key}
-use Rattle.answers.specs.Parts.{key_of_parts}
+use Rattle.answers.specs.Parts.{IsWithin, key_of_parts, keys_shown}
+use Rattle.answers.specs.PartSets.{parts_of_number, parts_shown}
 use Rattle.answers.specs.Same.{same_key}
-use Rattle.answers.proofs.PartLemmas.{are-grown, key_stored, key_there, keys-grown, keys_inserted}
+use Rattle.answers.proofs.PartLemmas.{keys-grown, list_held, list_there, lone_shown, number_there}
 use Rattle.answers.proofs.key_set.KeySet.number_of_key.Goals as goal
 
-pub returns-clause-keys : goal.returns-clause-keys
-returns-clause-keys c =
-    let us = c.renamed_parts.new.texts in
-    let ks = c.self.inside.keys.keys in
-    let k = c.in_ok-parts.parts in
-    let held = are-grown c.self.inside.texts us c.renamed_parts.ensures.begins ks c.self.invariant in
+pub renamed_parts-requires-clause-named : goal.renamed_parts-requires-clause-named
+renamed_parts-requires-clause-named c =
+    let ts = c.other.inside.texts in
     let x = c.index-keys-place.result in
-    let here : x ≡ get_or c.other.inside.keys.keys c.args.place x = c.index-keys-place.is ∙ ap (λ l. get_or l c.args.place x) c.as_slice-keys.ensures.keys in
-    let key = c.in_ok-parts.ensures.key ∙ ap (key_of_parts c.other.inside.texts) c.as_slice.ensures.value
-    ∙ key_there c.other.inside.texts c.other.inside.keys.keys c.args.other.now c.args.place x c.other.view_is c.requires here in
-    keys_inserted us c.len-len.ensures.once ks c.insert_full.new.self.keys k c.in_ok-parts.ensures.within held c.in_ok-number.ensures.keys
-    ∙ ap (λ l. insert_key same_key l (key_of_parts us k.items)) (keys-grown c.self.inside.texts us c.renamed_parts.ensures.begins ks c.self.invariant ∙ c.self.view_is)
-    ∙ ap (insert_key same_key c.args.self.now) key
+    let here : x ≡ get_or c.in-Lists.lists.keys c.args.place x = rw c.as_slice-keys-in-Lists.ensures.keys at c.index-keys-place.is in
+    subst (All (IsWithin (length ts))) (sym c.as_slice.ensures.value)
+    (list_held ts (parts_shown c.other.inside.keys) c.args.other.now c.in-Lists.lists.keys c.args.place x (ap parts_shown c.in-Lists.is) c.other.view_is c.requires here c.other.invariant)
 
-pub returns-clause-number : goal.returns-clause-number
-returns-clause-number c =
+pub returns-in-Numbers-clause-keys : goal.returns-in-Numbers-clause-keys
+returns-in-Numbers-clause-keys c =
+    let r = c.number_of_number.result in
+    let ts = c.self.inside.texts in
+    let os = c.other.inside.texts in
+    let n = c.args.place in
+    let z = get_or c.as_slice-keys.result.now n (pos 0) in
+    let fits : FitsSigned w128 z = search rules in
+    let key = lone_shown ts os z
+    ∙ number_there os (parts_shown c.other.inside.keys) c.args.other.now c.in-Numbers.numbers.keys n z (ap parts_shown c.in-Numbers.is) c.other.view_is c.requires
+    (ap (λ l. get_or l n (pos 0)) c.as_slice-keys.ensures.keys) in
+    let new = keys_shown ts (parts_shown c.number_of_number.new.keys) in
+    subst (λ k. OnOk r (new ≡ insert_key same_key c.args.self.now k)) key
+    (subst (λ l. OnOk r (new ≡ insert_key same_key l (key_of_parts ts (parts_of_number z)))) c.self.view_is (rw to_z-of_z at c.number_of_number.ensures.keys))
+
+pub returns-in-Numbers-clause-number : goal.returns-in-Numbers-clause-number
+returns-in-Numbers-clause-number c =
+    let ts = c.self.inside.texts in
+    let os = c.other.inside.texts in
+    let n = c.args.place in
+    let z = get_or c.as_slice-keys.result.now n (pos 0) in
+    let fits : FitsSigned w128 z = search rules in
+    let key = lone_shown ts os z
+    ∙ number_there os (parts_shown c.other.inside.keys) c.args.other.now c.in-Numbers.numbers.keys n z (ap parts_shown c.in-Numbers.is) c.other.view_is c.requires
+    (ap (λ l. get_or l n (pos 0)) c.as_slice-keys.ensures.keys) in
+    subst (λ k. IfOk c.number_of_number.result (λ n. slice_get (keys_shown ts (parts_shown c.number_of_number.new.keys)) n ≡ Some k)) key
+    (rw to_z-of_z at c.number_of_number.ensures.number)
+
+pub returns-in_ok-parts-in-Lists-clause-keys : goal.returns-in_ok-parts-in-Lists-clause-keys
+returns-in_ok-parts-in-Lists-clause-keys c =
+    let r = c.number_of_parts.result in
     let us = c.renamed_parts.new.texts in
-    let ks = c.self.inside.keys.keys in
-    let k = c.in_ok-parts.parts in
-    let held = are-grown c.self.inside.texts us c.renamed_parts.ensures.begins ks c.self.invariant in
-    let s = c.in_ok-number.ensures.stored in
+    let os = c.other.inside.texts in
     let x = c.index-keys-place.result in
-    let here : x ≡ get_or c.other.inside.keys.keys c.args.place x = c.index-keys-place.is ∙ ap (λ l. get_or l c.args.place x) c.as_slice-keys.ensures.keys in
-    let key = c.in_ok-parts.ensures.key ∙ ap (key_of_parts c.other.inside.texts) c.as_slice.ensures.value
-    ∙ key_there c.other.inside.texts c.other.inside.keys.keys c.args.other.now c.args.place x c.other.view_is c.requires here in
-    key_stored us c.len-len.ensures.once ks c.insert_full.new.self.keys k s.0 c.in_ok-number.number c.in_ok-parts.ensures.within held c.in_ok-number.ensures.keys s.1 s.2
-    ∙ ap Some key
+    let here : x ≡ get_or c.in-Lists.lists.keys c.args.place x = rw c.as_slice-keys-in-Lists.ensures.keys at c.index-keys-place.is in
+    let key = c.in_ok-parts-in-Lists.ensures.key ∙ ap (key_of_parts os) c.as_slice.ensures.value
+    ∙ list_there os (parts_shown c.other.inside.keys) c.args.other.now c.in-Lists.lists.keys c.args.place x (ap parts_shown c.in-Lists.is) c.other.view_is c.requires here in
+    let new = keys_shown us (parts_shown c.number_of_parts.new.keys) in
+    let grown = keys-grown c.self.inside.texts us c.renamed_parts.ensures.begins (parts_shown c.self.inside.keys) c.self.invariant ∙ c.self.view_is in
+    subst (λ k. OnOk r (new ≡ insert_key same_key c.args.self.now k)) key
+    (subst (λ l. OnOk r (new ≡ insert_key same_key l (key_of_parts us c.in_ok-parts-in-Lists.parts.items))) grown c.number_of_parts.ensures.keys)
+
+pub returns-in_ok-parts-in-Lists-clause-number : goal.returns-in_ok-parts-in-Lists-clause-number
+returns-in_ok-parts-in-Lists-clause-number c =
+    let os = c.other.inside.texts in
+    let x = c.index-keys-place.result in
+    let here : x ≡ get_or c.in-Lists.lists.keys c.args.place x = rw c.as_slice-keys-in-Lists.ensures.keys at c.index-keys-place.is in
+    let key = c.in_ok-parts-in-Lists.ensures.key ∙ ap (key_of_parts os) c.as_slice.ensures.value
+    ∙ list_there os (parts_shown c.other.inside.keys) c.args.other.now c.in-Lists.lists.keys c.args.place x (ap parts_shown c.in-Lists.is) c.other.view_is c.requires here in
+    subst (λ k. IfOk c.number_of_parts.result (λ n. slice_get (keys_shown c.renamed_parts.new.texts (parts_shown c.number_of_parts.new.keys)) n ≡ Some k)) key
+    c.number_of_parts.ensures.number

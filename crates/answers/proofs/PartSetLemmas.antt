@@ -1,0 +1,138 @@
+-- Keys in a set, and their parts.
+use lib.Pointwise.{pointwise, pointwise_decides}
+use Rattle.std.proofs.Common.{◌≡◌, ◌∙◌, ℕ, ℤ, pos, ◌+◌, ◌<◌, ◌≤◌, Bool, true, false, ◌&&◌, ◌||◌, cond, List, [], ◌∷◌, ◌++◌, length, map, take, get_or, Some, refl, rules, sym, ap, true≢false}
+use Rattle.std.specs.Prelude.{option_map, slice_get}
+use Rattle.std.specs.Bool.{Decides}
+use Rattle.std.specs.Cmp.{booleans_Decides, decided}
+use Rattle.std.specs.List.{IsDistinct, list_any}
+use Rattle.std.specs.Ordering.{int_eq}
+use Rattle.std.proofs.lemmas.Bool.{eqb-true}
+use Rattle.std.proofs.lemmas.Bool.Decides.{Decides-int_eq}
+use Rattle.std.proofs.lemmas.List.{map-append, take_all, take_more}
+use Rattle.std.proofs.lemmas.List.Sums.{fold_push}
+use Rattle.std.proofs.lemmas.Option.{slice_get-map}
+use Rattle.indexmap.specs.IndexSet.{insert_all, insert_key}
+use Rattle.indexmap.proofs.SetLemmas.{set_all_distinct}
+use Rattle.answers.specs.declared.part.Part.{Part}
+use Rattle.answers.specs.declared.part.Part.TheVariants as part
+use Rattle.answers.specs.contracts.part.PartPartialEq as derived
+use Rattle.answers.specs.Parts.{same_part}
+use Rattle.answers.specs.PartSets.{parts_of_number, same_parts}
+use Rattle.answers.proofs.SameLemmas.{either}
+
+-- ---- the derived test
+
+abbrev pub part_eq : Part → Part → Bool
+part_eq = (derived.TheImpl.ghosts).eq
+
+is_same_part : (p q : Part) → part_eq p q ≡ same_part p q
+is_same_part part.Null part.Null = refl
+is_same_part part.Null (part.Int y) = refl
+is_same_part part.Null (part.Bool y) = refl
+is_same_part part.Null (part.Text n) = refl
+is_same_part (part.Int x) part.Null = refl
+is_same_part (part.Int x) (part.Int y) = refl
+is_same_part (part.Int x) (part.Bool y) = refl
+is_same_part (part.Int x) (part.Text n) = refl
+is_same_part (part.Bool x) part.Null = refl
+is_same_part (part.Bool x) (part.Int y) = refl
+is_same_part (part.Bool x) (part.Bool y) = refl
+is_same_part (part.Bool x) (part.Text n) = refl
+is_same_part (part.Text m) part.Null = refl
+is_same_part (part.Text m) (part.Int y) = refl
+is_same_part (part.Text m) (part.Bool y) = refl
+is_same_part (part.Text m) (part.Text n) = refl
+
+pub are_same_parts : (ps qs : List Part) → pointwise part_eq ps qs ≡ same_parts ps qs
+are_same_parts [] [] = refl
+are_same_parts [] (q ∷ qs) = refl
+are_same_parts (p ∷ ps) [] = refl
+are_same_parts (p ∷ ps) (q ∷ qs) = ap (λ b. b && pointwise part_eq ps qs) (is_same_part p q) ∙ ap (λ b. same_part p q && b) (are_same_parts ps qs)
+
+-- ---- parts are the same exactly where they are equal
+
+parts_equal : (p q : Part) → same_part p q ≡ true → p ≡ q
+parts_equal part.Null part.Null h = refl
+parts_equal part.Null (part.Int y) h = absurd cc
+parts_equal part.Null (part.Bool y) h = absurd cc
+parts_equal part.Null (part.Text n) h = absurd cc
+parts_equal (part.Int x) part.Null h = absurd cc
+parts_equal (part.Int x) (part.Int y) h = ap part.Int ((Decides-int_eq x y).0 h)
+parts_equal (part.Int x) (part.Bool y) h = absurd cc
+parts_equal (part.Int x) (part.Text n) h = absurd cc
+parts_equal (part.Bool x) part.Null h = absurd cc
+parts_equal (part.Bool x) (part.Int y) h = absurd cc
+parts_equal (part.Bool x) (part.Bool y) h = ap part.Bool ((booleans_Decides x y).0 h)
+parts_equal (part.Bool x) (part.Text n) h = absurd cc
+parts_equal (part.Text m) part.Null h = absurd cc
+parts_equal (part.Text m) (part.Int y) h = absurd cc
+parts_equal (part.Text m) (part.Bool y) h = absurd cc
+parts_equal (part.Text m) (part.Text n) h = ap part.Text (eqb-true m n h)
+
+part_itself : (p : Part) → same_part p p ≡ true
+part_itself part.Null = refl
+part_itself (part.Int x) = (Decides-int_eq x x).1 refl
+part_itself (part.Bool x) = (booleans_Decides x x).1 refl
+part_itself (part.Text m) = search rules
+
+same_part-Decides : (p q : Part) → Decides (same_part p q) (p ≡ q)
+same_part-Decides p q = (parts_equal p q, λ e. ap (same_part p) (sym e) ∙ part_itself p)
+
+same_parts-Decides : (ps qs : List Part) → Decides (same_parts ps qs) (ps ≡ qs)
+same_parts-Decides = pointwise_decides same_part-Decides
+
+-- ---- a set of keys that are shown by their parts
+
+module _ {K : Type 0} (f : K → List Part) (eq : K → K → Bool) (alike : (x y : K) → eq x y ≡ same_parts (f x) (f y)) where
+  among_shown : (k : K) (ks : List K) → list_any (eq k) ks ≡ list_any (same_parts (f k)) (map f ks)
+  among_shown k [] = refl
+  among_shown k (l ∷ ks) = ap (λ b. b || list_any (eq k) ks) (alike k l) ∙ ap (λ b. same_parts (f k) (f l) || b) (among_shown k ks)
+
+  joined : (ks : List K) (k : K) (b : Bool) → map f (cond b ks (ks ++ k ∷ [])) ≡ cond b (map f ks) (map f ks ++ f k ∷ [])
+  joined ks k true = refl
+  joined ks k false = map-append f ks (k ∷ [])
+
+  pub inserted_shown : (ks : List K) (k : K) → map f (insert_key eq ks k) ≡ insert_key same_parts (map f ks) (f k)
+  inserted_shown ks k = joined ks k (list_any (eq k) ks) ∙ ap (λ b. cond b (map f ks) (map f ks ++ f k ∷ [])) (among_shown k ks)
+
+  pub place_shown : (ks : List K) (n : ℕ) (k l : K) → slice_get ks n ≡ Some l → eq k l ≡ true → slice_get (map f ks) n ≡ Some (f k)
+  place_shown ks n k l at is =
+      slice_get-map f ks n ∙ ap (option_map f) at ∙ ap Some (sym ((same_parts-Decides (f k) (f l)).0 (sym (alike k l) ∙ is)))
+
+-- ---- numbers and null
+
+abbrev none : ℤ
+none = pos 1267650600228229401496703205376
+
+differ : (x y : ℤ) → int_eq x none ≡ true → int_eq y none ≡ false → x ≡ y → ⊥
+differ x y p q e = true≢false (sym p ∙ ap (λ z. int_eq z none) e ∙ q)
+
+and_true : (b : Bool) → b ≡ (b && true)
+and_true true = refl
+and_true false = refl
+
+numbers_alike : (x y : ℤ) (a b : Bool) → int_eq x none ≡ a → int_eq y none ≡ b → int_eq x y ≡ (same_part (cond a part.Null (part.Int x)) (cond b part.Null (part.Int y)) && true)
+numbers_alike x y true true p q = (Decides-int_eq x y).1 ((Decides-int_eq x none).0 p ∙ sym ((Decides-int_eq y none).0 q))
+numbers_alike x y true false p q = either (int_eq x y) (λ yes. absurd (differ x y p q ((Decides-int_eq x y).0 yes))) (λ no. no)
+numbers_alike x y false true p q = either (int_eq x y) (λ yes. absurd (differ y x q p (sym ((Decides-int_eq x y).0 yes)))) (λ no. no)
+numbers_alike x y false false p q = and_true (int_eq x y)
+
+pub number_alike : (x y : ℤ) → int_eq x y ≡ same_parts (parts_of_number x) (parts_of_number y)
+number_alike x y = numbers_alike x y (int_eq x none) (int_eq y none) refl refl
+
+-- ---- numbers become lists
+
+pub listed_more : (xs : List ℤ) (i : ℕ) (lists new : List (List Part)) (ps : List Part) → i < length xs
+    → lists ≡ map parts_of_number (insert_all int_eq [] (take i xs)) → ps ≡ parts_of_number (get_or xs i (pos 0)) → new ≡ insert_key same_parts lists ps
+    → new ≡ map parts_of_number (insert_all int_eq [] (take (i + 1) xs))
+listed_more xs i lists new ps below are here is =
+    let x = get_or xs i (pos 0) in
+    let front = insert_all int_eq [] (take i xs) in
+    is ∙ ap (insert_key same_parts lists) here ∙ ap (λ l. insert_key same_parts l (parts_of_number x)) are
+    ∙ sym (inserted_shown parts_of_number int_eq number_alike front x)
+    ∙ ap (map parts_of_number) (sym (ap (insert_all int_eq []) (take_more xs i (pos 0) below) ∙ fold_push (insert_key int_eq) [] (take i xs) x))
+
+pub listed_all : (xs : List ℤ) (n : ℕ) (lists : List (List Part)) → length xs ≤ n → IsDistinct int_eq xs
+    → lists ≡ map parts_of_number (insert_all int_eq [] (take n xs)) → lists ≡ map parts_of_number xs
+listed_all xs n lists long apart are =
+    are ∙ ap (map parts_of_number) (ap (insert_all int_eq []) (take_all n xs long) ∙ set_all_distinct (decided int_eq Decides-int_eq) [] xs apart)
