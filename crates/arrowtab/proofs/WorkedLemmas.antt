@@ -133,5 +133,5 @@ output_stops wanted workers files v (Err fault) holds why = unprinted_held wante
 pub loading_stops : (wanted : Wanted) (workers : ℕ) (files : List File) (fault : RunFault) → StopsLoading workers files fault → StopsWanted wanted workers files fault
 loading_stops wanted workers files NoMemory stops = tt
 loading_stops wanted workers files (OfFile file fault) stops = stops
-loading_stops wanted workers files (QueryUnread fault) stops = tt
+loading_stops wanted workers files (QueryUnread fault) stops = absurd stops
 loading_stops wanted workers files (QueryRefused fault) stops = absurd stops
