@@ -2,6 +2,9 @@
 mod ReportLemmas
 mod LoadLemmas
 mod ReadLemmas
+mod PlanLemmas
+mod WorkedLemmas
+mod AloneLemmas
 mod AnswerLemmas
 mod RunLemmas
 mod ExportLemmas
