@@ -34,12 +34,6 @@ all_begun P xs ys begun all = all_from P xs (all_split P xs begun.0 (by_recursio
 pub map_begun : {A B : Type 0} (f : A → B) (xs ys : List A) → IsPrefix xs ys → IsPrefix (map f xs) (map f ys)
 map_begun f xs ys begun = (map f begun.0, sym (map-append f xs begun.0) ∙ ap (map f) begun.1)
 
-pub begun_itself : {A : Type 0} (xs : List A) → IsPrefix xs xs
-begun_itself xs = ([], append-nil xs)
-
-pub begun_then : {A : Type 0} (xs ys zs : List A) → IsPrefix xs ys → IsPrefix ys zs → IsPrefix xs zs
-begun_then xs ys zs first second = (first.0 ++ second.0, sym (append_assoc xs first.0 second.0) ∙ ap (λ l. l ++ second.0) first.1 ∙ second.1)
-
 -- a beginning that is no shorter is the whole
 whole_begun : {A : Type 0} (xs ys rest : List A) → xs ++ rest ≡ ys → length ys ≤ length xs → xs ≡ ys
 whole_begun xs ys [] is long = sym (append-nil xs) ∙ is

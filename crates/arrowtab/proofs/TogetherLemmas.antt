@@ -17,6 +17,7 @@ use Rattle.shared.specs.Balance.{IsOfWorkers}
 use Rattle.shared.specs.Hand.{AreNew, Hand, IsNew, IsPartOf, IsWhole}
 use Rattle.shared.specs.Left.{Left}
 use Rattle.shared.specs.Parts.{InOrder}
+use Rattle.table.proofs.FrontLemmas.{prefix_self, prefix_trans}
 use Rattle.table.specs.Cause.{IsLegal, batch_cause}
 use Rattle.table.specs.Contents.{Contents}
 use Rattle.table.specs.History.{History, of}
@@ -25,7 +26,7 @@ use Rattle.table.specs.declared.refusal.Refusal.TheVariants as refusal
 use Rattle.arrowtab.specs.Alone.{fields_for}
 use Rattle.arrowtab.specs.Loaded.{IsLoaded, IsStopped}
 use Rattle.arrowtab.specs.Worked.{Holds, listed}
-use Rattle.arrowtab.proofs.PlanLemmas.{all_begun, begun_itself, begun_then, by_recursion, each_planned, map_begun, order_begun, planned_front}
+use Rattle.arrowtab.proofs.PlanLemmas.{all_begun, by_recursion, each_planned, map_begun, order_begun, planned_front}
 use Rattle.arrowtab.proofs.WorkedLemmas.{loaded_of, stopped_of}
 
 nobody : Hand
@@ -91,7 +92,7 @@ holds_all workers files fields old new v some count same are all whole known leg
 -- whatever stopped a worker, what it added before begins its plan
 front_of : (fields : List FieldShape) (files : List (List Batch)) (workers place : ℕ) (seen : History) (o : Option Stop) → IfSome o (IsHalted fields files workers place seen)
     → IsPrefix (before_stop files workers place o) (planned files workers place)
-front_of fields files workers place seen None is = begun_itself (planned files workers place)
+front_of fields files workers place seen None is = prefix_self (planned files workers place)
 front_of fields files workers place seen (Some s) is = planned_front s.0 s.1 workers place files is.file is.own
 
 -- the cause that was told is a refusal's
@@ -112,7 +113,7 @@ others_begun fields files old new outcomes seen h are run whole begun w below =
     (added_new fields w bs (get_or old w nobody) (get_or new w nobody) (new_at 0 old w w nobody are below (sym (zero-add w))) is.loaded) in
     let part = subst (λ (l : History). IsPrefix (of seen w) l) all (of_begun seen h w begun) in
     let front = map_begun (λ (b : Batch). (w, rows_of b)) bs (planned files (length old) w) (front_of fields files (length old) w (get_or new w nobody).seen o.stop is.stopped) in
-    begun_then (of seen w) (pairs_of w bs) (pairs_of w (planned files (length old) w)) part front
+    prefix_trans (of seen w) (pairs_of w bs) (pairs_of w (planned files (length old) w)) part front
 
 -- the worker that was stopped
 pub record Halted (fields : List FieldShape) (files : List (List Batch)) (workers place file number : ℕ) (e : Refusal) (w : Hand) : Type 0 where
