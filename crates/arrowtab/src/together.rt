@@ -18,7 +18,7 @@ use arrays::File;
 use ends::Source;
 use job::Command;
 use loads::{LoadFault, load_all};
-use shared::{Naming, Pair, Publish, SharedTable, Worker, open};
+use shared::{Naming, Pair, Publish, SharedTable, Shown, Worker, open};
 use std::alloc::Global;
 use std::marker::Brand;
 use std::sync::ledger::{Blank, Ledger};
@@ -138,7 +138,7 @@ fn load_by<
     C: Ledger + Send + Sync,
     Q: Ledger + Send + Sync,
     N: Naming + Send + Sync,
-    P: Publish<N> + Send,
+    P: Publish<Item = Shown<N>> + Send,
     W: Wait + Sync,
     T: Threads + Sync,
 >(
@@ -184,7 +184,7 @@ fn load_by<
 }
 
 /// All that the workers of a table appended. As all of them are there, only want of memory is left to stand against it.
-fn gather_all<C: Ledger, Q: Ledger, N: Naming, P: Publish<N>, W: Wait>(
+fn gather_all<C: Ledger, Q: Ledger, N: Naming, P: Publish<Item = Shown<N>>, W: Wait>(
     wait: &W,
     table: SharedTable<C, Q, N, P>,
     hands: Vec<Worker<C, Q, N>>,
