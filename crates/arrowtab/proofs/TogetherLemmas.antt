@@ -1,5 +1,6 @@
 -- What several workers made of files, from what each of them shows.
-use Rattle.std.proofs.Common.{◌≡◌, ◌≢◌, ◌∙◌, ◌⊎◌, inl, inr, ℕ, zero, suc, ◌+◌, ◌%◌, ◌<◌, ◌≤◌, List, [], ◌∷◌, ◌++◌, Option, None, Some, IfSome, length, map, take, get_or, slice_get, ap, sym, refl, subst, arith, zero-add, add-zero}
+use Rattle.std.proofs.Common.{◌≡◌, ◌≢◌, ◌∙◌, ◌⊎◌, inl, inr, ℕ, zero, suc, ◌+◌, ◌%◌, ◌<◌, ◌≤◌, List, [], ◌∷◌, ◌++◌, Option, None, Some, IfSome, length, map, take, drop, get_or, slice_get, Result, Ok, Err, IfOk, ap, sym, refl, subst, arith, zero-add, add-zero}
+use Rattle.std.proofs.lemmas.List.{take_at}
 use Rattle.std.proofs.lemmas.List.Elements.{filter-append}
 use Rattle.std.proofs.lemmas.Option.{slice_get-get_or}
 use Rattle.std.specs.Prelude.{All, ◌==◌}
@@ -26,6 +27,7 @@ use Rattle.table.specs.declared.refusal.Refusal.TheVariants as refusal
 use Rattle.arrowtab.specs.Alone.{fields_for}
 use Rattle.arrowtab.specs.Loaded.{IsLoaded, IsStopped}
 use Rattle.arrowtab.specs.Worked.{Holds, listed}
+use Rattle.arrowtab.specs.declared.run_fault.RunFault.{RunFault}
 use Rattle.arrowtab.proofs.PlanLemmas.{all_begun, by_recursion, each_planned, map_begun, order_begun, planned_front}
 use Rattle.arrowtab.proofs.WorkedLemmas.{loaded_of, stopped_of}
 
@@ -76,7 +78,7 @@ loaded_all files fields old new h some are all whole known legal =
         (added_new fields w (planned (batches_of files) n w) (get_or old w nobody) (get_or new w nobody) (new_at 0 old w w nobody are below (sym (zero-add w))) (all.each w nobody below)))
     legal
 
-pub holds_all : (workers : ℕ) (files : List File) (fields : List FieldShape) (old new : List Hand) (v : Contents) → 1 ≤ workers → length old ≡ workers → fields ≡ fields_for files
+holds_all : (workers : ℕ) (files : List File) (fields : List FieldShape) (old new : List Hand) (v : Contents) → 1 ≤ workers → length old ≡ workers → fields ≡ fields_for files
     → AreNew 0 old → AllLoaded fields (batches_of files) old new
     → All (IsWhole v.history) new → IsOfWorkers workers v.history → IsLegal fields v.history → v.fields ≡ fields → Holds workers files v
 holds_all workers files fields old new v some count same are all whole known legal is = record {
@@ -194,3 +196,18 @@ stopped_all workers files fields old new h file number count e own some size sam
     subst (λ (fs : List FieldShape). IsStopped workers (listed files) fs file number e) same
     (subst (λ n. IsStopped n (listed files) fields file number e) size
     (stopped_one files fields old new h file number count e own (omega (arith, some, size)) are stands at part legal whole (subst (λ n. IsOfWorkers n h) (sym size) known)))
+
+-- ---- the workers, written back
+
+pub written_back : (len : ℕ) (old new : List Hand) → len ≡ length old → length new ≡ length old → take len (new ++ drop (length new) old) ≡ new
+written_back len old new size kept = take_at new (drop (length new) old) len (omega (arith, size, kept))
+
+pub ok_holds : {A : Type 0} (workers table : ℕ) (files : List File) (fields : List FieldShape) (old new back : List Hand) (r : Result A RunFault) (seen : A → Contents) → 1 ≤ workers → table ≡ workers
+    → length old ≡ workers → fields ≡ fields_for files → AreNew 0 old → AllLoaded fields (batches_of files) old new → back ≡ new
+    → IfOk r (λ v. All (IsWhole (seen v).history) back) → IfOk r (λ v. IsOfWorkers table (seen v).history) → IfOk r (λ v. IsLegal fields (seen v).history) → IfOk r (λ v. (seen v).fields ≡ fields)
+    → IfOk r (λ v. Holds workers files (seen v))
+ok_holds workers table files fields old new back (Ok v) seen some same size stored are all is whole known legal shown =
+    holds_all workers files fields old new (seen v) some size stored are all
+    (subst (λ (hands : List Hand). All (IsWhole (seen v).history) hands) is whole)
+    (subst (λ n. IsOfWorkers n (seen v).history) same known) legal shown
+ok_holds workers table files fields old new back (Err fault) seen some same size stored are all is whole known legal shown = tt
