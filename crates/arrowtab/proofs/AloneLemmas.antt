@@ -62,9 +62,9 @@ holds_alone files v same alike is legal = record {
       loaded_of 1 files (fields_for files) v.history (alike_each (fields_for files) files alike)
       (subst (IsOfWorkers 1) (sym is) (known_alone (batches_in files)))
       (λ w below.
-          let first : 0 ≡ w = omega (arith, below) in
-          subst (λ k. of v.history k ≡ pairs_of k (planned (batches_of files) 1 k)) first
-          (ap (λ (h : History). of h 0) is ∙ of_alone (batches_in files) ∙ ap (pairs_of 0) (sym (all_planned files))))
+      let first : 0 ≡ w = omega (arith, below) in
+      subst (λ k. of v.history k ≡ pairs_of k (planned (batches_of files) 1 k)) first
+      (ap (λ (h : History). of h 0) is ∙ of_alone (batches_in files) ∙ ap (pairs_of 0) (sym (all_planned files))))
       (subst (λ (fs : List FieldShape). IsLegal fs v.history) same legal);
 }
 

@@ -79,7 +79,7 @@ module _ {B : Type 0} where
         (subst (AllByRecursion P) (planned-own n f files workers (n % workers) refl) (all (n % workers) (omega (arith, some))))).0,
     each_from P (n + 1) workers files some (λ w below.
         (all_split P (cond ((n % workers) == w) f []) (planned_from (n + 1) files workers w)
-            (subst (AllByRecursion P) (planned-cons n f files workers w) (all w below))).1),
+        (subst (AllByRecursion P) (planned-cons n f files workers w) (all w below))).1),
   )
 
   pub each_planned : (P : B → Type 0) (workers : ℕ) (files : List (List B)) → 1 ≤ workers
@@ -91,25 +91,23 @@ module _ {B : Type 0} where
       → IsPrefix (planned_from n (take k files) workers place ++ take number (get_or files k [])) (planned_from n files workers place)
   front_from n k number workers place [] below own = absurd (omega (arith, below))
   front_from n zero number workers place (f ∷ files) below own =
-      let rest = planned_from (n + 1) files workers place in
-      (
+      let rest = planned_from (n + 1) files workers place in (
         drop number f ++ rest,
         sym (append_assoc (take number f) (drop number f) rest)
-        ∙ ap (λ l. l ++ rest) (take-append-drop number f)
-        ∙ sym (planned-own n f files workers place (ap (λ m. m % workers) (omega arith) ∙ own)),
+            ∙ ap (λ l. l ++ rest) (take-append-drop number f)
+            ∙ sym (planned-own n f files workers place (ap (λ m. m % workers) (omega arith) ∙ own)),
       )
   front_from n (suc k) number workers place (f ∷ files) below own =
       let first = cond ((n % workers) == place) f [] in
       let before = planned_from (n + 1) (take k files) workers place in
       let last = take number (get_or files k []) in
-      let tail = front_from (n + 1) k number workers place files (omega (arith, below)) (ap (λ m. m % workers) (omega arith) ∙ own) in
-      (
+      let tail = front_from (n + 1) k number workers place files (omega (arith, below)) (ap (λ m. m % workers) (omega arith) ∙ own) in (
         tail.0,
         ap (λ l. (l ++ last) ++ tail.0) (planned-cons n f (take k files) workers place)
-        ∙ ap (λ l. l ++ tail.0) (append_assoc first before last)
-        ∙ append_assoc first (before ++ last) tail.0
-        ∙ ap (λ l. first ++ l) tail.1
-        ∙ sym (planned-cons n f files workers place),
+            ∙ ap (λ l. l ++ tail.0) (append_assoc first before last)
+            ∙ append_assoc first (before ++ last) tail.0
+            ∙ ap (λ l. first ++ l) tail.1
+            ∙ sym (planned-cons n f files workers place),
       )
 
   pub planned_front : (k number workers place : ℕ) (files : List (List B)) → k < length files → k % workers ≡ place

@@ -74,8 +74,8 @@ loaded_all files fields old new h some are all whole known legal =
     (each_planned (IsAlike fields) n (batches_of files) some (λ w below. by_recursion (IsAlike fields) (planned (batches_of files) n w) (all.each w nobody below).alike))
     known
     (λ w below.
-        owns h w (planned (batches_of files) n w) (get_or new w nobody) (whole w nobody (omega (arith, below, all.kept)))
-        (added_new fields w (planned (batches_of files) n w) (get_or old w nobody) (get_or new w nobody) (new_at 0 old w w nobody are below (sym (zero-add w))) (all.each w nobody below)))
+    owns h w (planned (batches_of files) n w) (get_or new w nobody) (whole w nobody (omega (arith, below, all.kept)))
+    (added_new fields w (planned (batches_of files) n w) (get_or old w nobody) (get_or new w nobody) (new_at 0 old w w nobody are below (sym (zero-add w))) (all.each w nobody below)))
     legal
 
 holds_all : (workers : ℕ) (files : List File) (fields : List FieldShape) (old new : List Hand) (v : Contents) → 1 ≤ workers → length old ≡ workers → fields ≡ fields_for files

@@ -159,17 +159,27 @@ fn load_by<
     ensures err { IfErr result (StopsLoading workers files.now) }
 {
     let mut hands = hands;
-    match load_all(wait, threads, alloc, &table, hands.as_mut_slice(), files, &OpenGate) {
+    match load_all(
+        wait,
+        threads,
+        alloc,
+        &table,
+        hands.as_mut_slice(),
+        files,
+        &OpenGate,
+    ) {
         Ok(_) => gather_all(wait, table, hands),
         Err(LoadFault::NoMemory) => {
             table.close(wait);
             Err(RunFault::NoMemory)
         }
-        Err(LoadFault::Refused {
-            file,
-            batch,
-            refusal,
-        }) => {
+        Err(
+            LoadFault::Refused {
+                file,
+                batch,
+                refusal,
+            },
+        ) => {
             // What its worker had seen is legal, and has all of its own batches; the one history has those of the others.
             hands[file % hands.len()].tell();
             match gather_all(wait, table, hands) {
