@@ -11,3 +11,4 @@ mod ExportLemmas
 mod GroupLineLemmas
 mod QueryLemmas
 mod TogetherLemmas
+mod SettledLemmas
