@@ -27,3 +27,13 @@ balanced_push h next worker b calls row_count more_calls more_rows added is same
 -- it is of the workers where its worker is one
 pub workers_push : (h next : History) (worker : ℕ) (t : Table) (count : ℕ) → IsOfWorkers count h → next ≡ h ++ (worker, t) ∷ [] → worker < count → IsOfWorkers count next
 workers_push h next worker t count all same one = subst (IsOfWorkers count) (sym same) (All-push (λ (e : ℕ × Table). e.0 < count) h (worker, t) all one)
+
+-- it has the batch's rows more
+pub rows_pushed : (mine next : History) (worker : ℕ) (b : Batch) → next ≡ mine ++ (worker, rows_of b) ∷ [] → length (rows next) ≡ length (rows mine) + b.rows
+rows_pushed mine next worker b same = omega (
+  arith,
+  ap (λ (l : History). length (rows l)) same,
+  ap (λ (t : Table). length t) (rows-push mine (worker, rows_of b)),
+  length-append (rows mine) (rows_of b),
+  length-rows_of b,
+)

@@ -2,3 +2,4 @@
 pub mod HandLemmas
 pub mod BalanceLemmas
 pub mod PartLemmas
+pub mod SeenLemmas

@@ -4,6 +4,7 @@ use Rattle.std.specs.Prelude.{◌==◌, All, nat_lt, sum_by}
 use Rattle.std.proofs.lemmas.Bool.Decides.{nat_tests}
 use Rattle.std.proofs.lemmas.List.{append-nil}
 use Rattle.std.proofs.lemmas.List.Elements.{filter-append}
+use Rattle.std.proofs.lemmas.List.Sums.{sum_by-append}
 use mathlib.Core.List.{IsPrefix}
 use Rattle.arrays.specs.Batch.{Table}
 use Rattle.histories.proofs.PrefixLemmas.{prefix_trans}
@@ -110,6 +111,10 @@ last_or_before : (w n : ℕ) → w < suc n → (b : Bool) → (w == n) ≡ b →
 last_or_before w n below true is = inr (grind (arith, nat_tests))
 last_or_before w n below false is = inl (grind (arith, nat_tests))
 
+sum_cases : (n : ℕ) (f g : ℕ → ℕ) (w : ℕ) → (w < n) ⊎ (w ≡ n) → (w < n → g w ≤ f w) → g n ≤ f n → g w ≤ f w
+sum_cases n f g w (inl below) before last = before below
+sum_cases n f g w (inr same) before last = subst (λ m. g m ≤ f m) (sym same) last
+
 -- where each is no more and all together are no less, each is no less
 sum_each : (n : ℕ) (f g : ℕ → ℕ) → ((w : ℕ) → w < n → f w ≤ g w) → sum_below n g ≤ sum_below n f → (w : ℕ) → w < n → g w ≤ f w
 sum_each zero f g less all w below = absurd (omega (arith, below))
@@ -118,16 +123,12 @@ sum_each (suc n) f g less all w below =
     let sums = sum_less n f g before in
     let last = less n (omega arith) in
     sum_cases n f g w (last_or_before w n below (w == n) refl) (λ lt. sum_each n f g before (omega (arith, all, last)) w lt) (omega (arith, all, sums))
-where
-  sum_cases : (n : ℕ) (f g : ℕ → ℕ) (w : ℕ) → (w < n) ⊎ (w ≡ n) → (w < n → g w ≤ f w) → g n ≤ f n → g w ≤ f w
-  sum_cases n f g w (inl lt) before last = before lt
-  sum_cases n f g w (inr same) before last = subst (λ m. g m ≤ f m) (sym same) last
 
 -- ---- all parts together
 
 length_one : (b : Bool) (e : ℕ × Table) (h : History) → length (cond b (e ∷ h) h) ≡ cond b 1 0 + length h
-length_one true e h = refl
-length_one false e h = refl
+length_one true e h = omega arith
+length_one false e h = omega arith
 
 -- the parts of all workers have as many pairs as the history
 parts_length : (count : ℕ) (h : History) → IsOfWorkers count h → sum_below count (λ w. length (of h w)) ≡ length h
@@ -165,10 +166,12 @@ mines_sum : (count : ℕ) (h : History) (hands : List Hand) → All (IsPartOf co
 mines_sum count h [] all = sum_none count
 mines_sum count h (x ∷ hands) all =
     let rest : All (IsPartOf count h) hands = λ i d below. all (suc i) d (omega (arith, below)) in
+    let split : sum_by calls_of_hand (x ∷ hands) ≡ (0 + length x.mine) + sum_by calls_of_hand hands = sum_by-append calls_of_hand (x ∷ []) hands in
     omega (
       arith,
+      split,
       sum_same count (λ w. length (mines w (x ∷ hands))) (λ w. cond (x.number == w) (length x.mine) 0 + length (mines w hands))
-        (λ w. length-append (cond (x.number == w) x.mine []) (mines w hands) ∙ ap (λ n. n + length (mines w hands)) (length_cond (x.number == w) x.mine)),
+          (λ w. length-append (cond (x.number == w) x.mine []) (mines w hands) ∙ ap (λ n. n + length (mines w hands)) (length_cond (x.number == w) x.mine)),
       sum_both count (λ w. cond (x.number == w) (length x.mine) 0) (λ w. length (mines w hands)),
       sum_of_one count x.number (length x.mine) (all 0 x (omega arith)).below,
       mines_sum count h hands rest,
@@ -185,50 +188,50 @@ counts_sum count h (x ∷ hands) all =
       counts_sum count h hands rest,
     )
 
+none_first : (w : ℕ) (x : Hand) (hands : List Hand) (b : Bool) → cond b 1 0 + count_of w hands ≤ 0 → (count_of w hands ≤ 0 → mines w hands ≡ []) → cond b x.mine [] ++ mines w hands ≡ []
+none_first w x hands true none rest = absurd (omega (arith, none))
+none_first w x hands false none rest = rest (omega (arith, none))
+
 mines_none : (w : ℕ) (hands : List Hand) → count_of w hands ≤ 0 → mines w hands ≡ []
 mines_none w [] none = refl
-mines_none w (x ∷ hands) none = one w x hands (x.number == w) refl none
-where
-  one : (w : ℕ) (x : Hand) (hands : List Hand) (b : Bool) → (x.number == w) ≡ b → cond b 1 0 + count_of w hands ≤ 0 → cond b x.mine [] ++ mines w hands ≡ []
-  one w x hands true is none = absurd (omega (arith, none))
-  one w x hands false is none = mines_none w hands (omega (arith, none))
+mines_none w (x ∷ hands) none = none_first w x hands (x.number == w) none (λ few. mines_none w hands few)
 
 -- the one hand of a number
 mine_first : (w : ℕ) (x : Hand) (hands : List Hand) → count_of w (x ∷ hands) ≤ 1 → (x.number == w) ≡ true → mines w (x ∷ hands) ≡ x.mine
 mine_first w x hands one is =
-    let none : count_of w hands ≤ 0 = let first = ap (λ b. cond b 1 0) is in omega (arith, one, first) in
+    let none : count_of w hands ≤ 0 = let first = ap {B = ℕ} (λ b. cond b 1 0) is in omega (arith, one, first) in
     ap (λ b. cond b x.mine [] ++ mines w hands) is ∙ ap (λ (l : History). x.mine ++ l) (mines_none w hands none) ∙ append-nil x.mine
+
+counted_at : (w : ℕ) (hands : List Hand) (i : ℕ) (d : Hand) → i < length hands → (get_or hands i d).number ≡ w → 1 ≤ count_of w hands
+counted_at w [] i d below is = absurd (omega (arith, below))
+counted_at w (x ∷ hands) zero d below is = let one = ap {B = ℕ} (λ b. cond b 1 0) (same_test x.number w is) in omega (arith, one)
+counted_at w (x ∷ hands) (suc i) d below is = let tail = counted_at w hands i d (omega (arith, below)) is in omega (arith, tail)
+
+other_first : (w : ℕ) (x : Hand) (hands : List Hand) (mine : History) (b : Bool) → cond b 1 0 + count_of w hands ≤ 1 → 1 ≤ count_of w hands → mines w hands ≡ mine → cond b x.mine [] ++ mines w hands ≡ mine
+other_first w x hands mine true one there rest = absurd (omega (arith, one, there))
+other_first w x hands mine false one there rest = rest
 
 mine_at : (w : ℕ) (hands : List Hand) (i : ℕ) (d : Hand) → i < length hands → (get_or hands i d).number ≡ w → count_of w hands ≤ 1 → mines w hands ≡ (get_or hands i d).mine
 mine_at w [] i d below is one = absurd (omega (arith, below))
 mine_at w (x ∷ hands) zero d below is one = mine_first w x hands one (same_test x.number w is)
 mine_at w (x ∷ hands) (suc i) d below is one =
-    let there : 1 ≤ count_of w hands = counted w hands i d (omega (arith, below)) is in
-    rest w x hands i d below is one there (x.number == w) refl
-where
-  counted : (w : ℕ) (hands : List Hand) (i : ℕ) (d : Hand) → i < length hands → (get_or hands i d).number ≡ w → 1 ≤ count_of w hands
-  counted w [] i d below is = absurd (omega (arith, below))
-  counted w (x ∷ hands) zero d below is = let first = ap (λ b. cond b 1 0) (same_test x.number w is) in omega (arith, first)
-  counted w (x ∷ hands) (suc i) d below is = let tail = counted w hands i d (omega (arith, below)) is in omega (arith, tail)
+    other_first w x hands (get_or hands i d).mine (x.number == w) one (counted_at w hands i d (omega (arith, below)) is)
+    (mine_at w hands i d (omega (arith, below)) is (omega (arith, one)))
 
-  rest : (w : ℕ) (x : Hand) (hands : List Hand) (i : ℕ) (d : Hand) → suc i < length (x ∷ hands) → (get_or hands i d).number ≡ w → cond (x.number == w) 1 0 + count_of w hands ≤ 1 → 1 ≤ count_of w hands
-      → (b : Bool) → (x.number == w) ≡ b → cond (x.number == w) x.mine [] ++ mines w hands ≡ (get_or hands i d).mine
-  rest w x hands i d below is one there true test = absurd (let first = ap (λ b. cond b 1 0) test in omega (arith, one, there, first))
-  rest w x hands i d below is one there false test =
-      ap (λ b. cond b x.mine [] ++ mines w hands) test ∙ mine_at w hands i d (omega (arith, below)) is (omega (arith, one))
+first_ordered : (count : ℕ) (h : History) (w : ℕ) (x : Hand) (hands : List Hand) → IsPartOf count h x → count_of w (x ∷ hands) ≤ 1 → InOrder (mines w hands) (of h w) → (b : Bool) → (x.number == w) ≡ b
+    → InOrder (mines w (x ∷ hands)) (of h w)
+first_ordered count h w x hands is one rest true test =
+    let number : x.number ≡ w = grind (arith, nat_tests) in
+    subst (λ (l : History). InOrder l (of h w)) (sym (mine_first w x hands one test)) (subst (λ n. InOrder x.mine (of h n)) number is.ordered)
+first_ordered count h w x hands is one rest false test =
+    subst (λ (l : History). InOrder l (of h w)) (sym (ap (λ b. cond b x.mine [] ++ mines w hands) test)) rest
 
 mines_ordered : (count : ℕ) (h : History) (w : ℕ) (hands : List Hand) → All (IsPartOf count h) hands → count_of w hands ≤ 1 → InOrder (mines w hands) (of h w)
 mines_ordered count h w [] all one = tt
-mines_ordered count h w (x ∷ hands) all one = first count h w x hands all one (x.number == w) refl
-where
-  first : (count : ℕ) (h : History) (w : ℕ) (x : Hand) (hands : List Hand) → All (IsPartOf count h) (x ∷ hands) → count_of w (x ∷ hands) ≤ 1 → (b : Bool) → (x.number == w) ≡ b
-      → InOrder (mines w (x ∷ hands)) (of h w)
-  first count h w x hands all one true test =
-      let number : x.number ≡ w = grind (arith, nat_tests) in
-      subst (λ (l : History). InOrder l (of h w)) (sym (mine_first w x hands one test)) (subst (λ n. InOrder x.mine (of h n)) number (all 0 x (omega arith)).ordered)
-  first count h w x hands all one false test =
-      subst (λ (l : History). InOrder l (of h w)) (sym (ap (λ b. cond b x.mine [] ++ mines w hands) test))
-      (mines_ordered count h w hands (λ i d below. all (suc i) d (omega (arith, below))) (omega (arith, one)))
+mines_ordered count h w (x ∷ hands) all one =
+    first_ordered count h w x hands (all 0 x (omega arith)) one
+    (mines_ordered count h w hands (λ i d below. all (suc i) d (omega (arith, below))) (omega (arith, one)))
+    (x.number == w) refl
 
 -- all hands of so many workers, who together made all calls, have each its own part
 pub all_whole : (count : ℕ) (h : History) (hands : List Hand) → IsOfWorkers count h → AllThere count hands → length hands ≤ count → All (IsPartOf count h) hands
@@ -238,9 +241,9 @@ all_whole count h hands workers there few all sum =
     let one = sum_each count (λ w. 1) (λ w. count_of w hands) some (omega (arith, counts_sum count h hands all, sum_ones count, few)) in
     let owns = each_owns count h (λ w. mines w hands) workers (λ w below. mines_ordered count h w hands all (one w below)) (omega (arith, mines_sum count h hands all, sum)) in
     λ i d below.
-        let x = get_or hands i d in
-        let is = all i d below in
-        record {
-          begun = is.begun;
-          whole = sym (owns x.number is.below) ∙ mine_at x.number hands i d below refl (one x.number is.below);
-        }
+    let x = get_or hands i d in
+    let is = all i d below in
+    record {
+      begun = is.begun;
+      whole = sym (owns x.number is.below) ∙ mine_at x.number hands i d below refl (one x.number is.below);
+    }

@@ -10,10 +10,17 @@ pub record Left : Type 0 where
   pub last : Option History
   pub stop : Option (ℕ × ℕ × Refusal)
 
+abbrev stop_code : Coded (ℕ × ℕ × Refusal)
+stop_code =
+    code_by (ℕ × (ℕ × Refusal)) (coded× coded_ℕ (coded× coded_ℕ refusal_code))
+    (λ s. (s.0, (s.1, s.2)))
+    (λ p. (p.0, p.1.0, p.1.1))
+    (λ _. refl)
+
 abbrev pub left_code : Coded Left
 left_code =
-    code_by (Option History × Option (ℕ × (ℕ × Refusal)))
-    (coded× (coded_option history_code) (coded_option (coded× coded_ℕ (coded× coded_ℕ refusal_code))))
+    code_by (Option History × Option (ℕ × ℕ × Refusal))
+    (coded× (coded_option history_code) (coded_option stop_code))
     (λ l. (l.last, l.stop))
     (λ p. record { last = p.0; stop = p.1 })
     (λ _. refl)

@@ -1,5 +1,5 @@
 -- The parts that workers have of a history.
-use Rattle.std.specs.Prelude.{◌≡◌, ◌⊎◌, ℕ, zero, suc, ◌+◌, List, [], ◌∷◌, ⊤, ⊥}
+use Rattle.std.specs.Prelude.{◌≡◌, ◌⊎◌, ℕ, zero, suc, ◌+◌, List, [], ◌∷◌, ⊤}
 
 -- The items of the first list stand in the second in their order, with others perhaps between.
 module _ {A : Type 0} where

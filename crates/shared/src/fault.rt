@@ -2,7 +2,7 @@
 
 use crate::naming::Naming;
 use crate::shared_table::SharedTable;
-use crate::shown::Publish;
+use crate::shown::{Publish, Shown};
 use crate::worker::Worker;
 use colbits::NoMemory;
 use std::alloc::{AllocError, AllocFailed};
@@ -37,6 +37,28 @@ impl From<NoMemory> for OpenFault {
     }
 }
 
+impl From<AllocError> for OpenFault {
+    ghost use Rattle.std.specs.Prelude.{◌≡◌};
+    ghost use Rattle.shared.specs.declared.fault.OpenFault.TheVariants as fault;
+
+    ghost from_gives = { λ _ e. e ≡ fault.NoMemory };
+
+    fn from(_: AllocError) -> OpenFault {
+        OpenFault::NoMemory
+    }
+}
+
+impl<T: Drop> From<AllocFailed<T>> for OpenFault {
+    ghost use Rattle.std.specs.Prelude.{◌≡◌};
+    ghost use Rattle.shared.specs.declared.fault.OpenFault.TheVariants as fault;
+
+    ghost from_gives = { λ _ e. e ≡ fault.NoMemory };
+
+    fn from(_: AllocFailed<T>) -> OpenFault {
+        OpenFault::NoMemory
+    }
+}
+
 /// What stands against gathering a table.
 #[derive(Clone, Copy, Debug, PartialEq, Eq, Error)]
 pub enum GatherCause {
@@ -50,7 +72,7 @@ pub enum GatherCause {
 
 /// Why a table isn't gathered, with the table and the workers as they were handed in.
 #[derive(Drop)]
-pub struct GatherFault<C: Ledger, Q: Ledger, N: Naming, P: Publish<N>> {
+pub struct GatherFault<C: Ledger, Q: Ledger, N: Naming, P: Publish<Item = Shown<N>>> {
     pub cause: GatherCause,
     pub table: SharedTable<C, Q, N, P>,
     pub workers: Vec<Worker<C, Q, N>>,

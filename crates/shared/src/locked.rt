@@ -27,7 +27,7 @@ use table::{Ready, Refusal, TableState, Version};
 /// shows versions to readers. Each time that its lock is got, the history is the table's, each entry of it is of one of the
 /// table's workers, the first ledger counts its entries and the second its rows, and readers are shown the table.
 #[derive(Drop)]
-pub(crate) struct Locked<C: Ledger, Q: Ledger, N: Naming, P: Publish<N>> {
+pub(crate) struct Locked<C: Ledger, Q: Ledger, N: Naming, P: Publish<Item = Shown<N>>> {
     pub(crate) state: TableState,
     /// The last version that was asked for, where nothing was added since.
     pub(crate) newest: Option<Arc<Version>>,
@@ -43,7 +43,7 @@ pub(crate) struct Locked<C: Ledger, Q: Ledger, N: Naming, P: Publish<N>> {
     pub(crate) no_rows: Share<Q>,
 }
 
-impl<C: Ledger, Q: Ledger, N: Naming, P: Publish<N>> Model for Locked<C, Q, N, P> {
+impl<C: Ledger, Q: Ledger, N: Naming, P: Publish<Item = Shown<N>>> Model for Locked<C, Q, N, P> {
     ghost use Rattle.table.specs.Contents.{Contents, contents_code};
 
     ghost Value = { Contents };
@@ -71,7 +71,7 @@ impl<C: Ledger, Q: Ledger, N: Naming, P: Publish<N>> Model for Locked<C, Q, N, P
         × IfSome l.publisher (λ p. P.shows p l.state) };
 }
 
-impl<C: Ledger, Q: Ledger, N: Naming, P: Publish<N>> Locked<C, Q, N, P> {
+impl<C: Ledger, Q: Ledger, N: Naming, P: Publish<Item = Shown<N>>> Locked<C, Q, N, P> {
     /// Adds a batch of a worker, which it counts, as `TableState::admit_ready` does, and shows it to readers. The worker sees the
     /// table's history, up to its own batch where it was added. After a refusal nothing else is changed.
     pub(crate) fn append<W: Wait>(
@@ -90,7 +90,12 @@ impl<C: Ledger, Q: Ledger, N: Naming, P: Publish<N>> Locked<C, Q, N, P> {
         begin(wait, &worker.seen, &self.front);
         worker.see(&self.front);
         let batch = ready.batch();
-        let next = admit(&mut self.state, self.publisher.is_some(), worker.number, ready)?;
+        let next = admit(
+            &mut self.state,
+            self.publisher.is_some(),
+            worker.number,
+            ready,
+        )?;
         let accepted = Accepted {
             worker: worker.number,
             batch,
@@ -98,7 +103,12 @@ impl<C: Ledger, Q: Ledger, N: Naming, P: Publish<N>> Locked<C, Q, N, P> {
         add(wait, &self.head, &mut self.front, &accepted);
         self.newest = None;
         show(wait, &mut self.publisher, next, &self.front);
-        worker.raise(&mut self.call_book, &mut self.row_book, &self.front, &accepted);
+        worker.raise(
+            &mut self.call_book,
+            &mut self.row_book,
+            &self.front,
+            &accepted,
+        );
         Ok(Receipt::new(self.front.again()))
     }
 
@@ -133,13 +143,12 @@ impl<C: Ledger, Q: Ledger, N: Naming, P: Publish<N>> Locked<C, Q, N, P> {
     }
 
     /// The table as it is, with all its workers there. Each has its own part of the history.
-    #[tactic(auto, using(crate::proofs::PartLemmas::all_whole))]
     pub(crate) fn gather<W: Wait>(
         &mut self,
         wait: &W,
         workers: &mut [Worker<C, Q, N>],
     ) -> Result<Arc<Version>, NoMemory>
-        requires { AllThere C.parts workers.old }
+        requires all { AllThere C.parts workers.old }
         requires enough { C.parts ≤ length workers.old }
         ensures workers { workers.new ≡ workers.old }
         ensures same { self.new ≡ self.old }
@@ -183,9 +192,21 @@ fn begin_all<C: Ledger, Q: Ledger, N: Naming, W: Wait>(
     ensures { All (IsPartOf C.parts front.now) workers.now }
 {
     for worker in workers {
-        begin(wait, &worker.seen, front);
-        worker.tell();
+        begin_worker(wait, worker, front);
     }
+}
+
+/// The same of what one worker has seen.
+#[tactic(auto, using(crate::proofs::PartLemmas::part_more))]
+fn begin_worker<C: Ledger, Q: Ledger, N: Naming, W: Wait>(
+    wait: &W,
+    worker: &Worker<C, Q, N>,
+    front: &Front<Event, N>,
+)
+    ensures { IsPartOf C.parts front.now worker.now }
+{
+    worker.tell();
+    begin(wait, &worker.seen, front);
 }
 
 /// Adds a worker's batch to all that the front has. It's tried again where the history is longer, which the lock rules out.
@@ -231,7 +252,7 @@ fn admit(
 }
 
 /// Shows readers the next version, which there is where anybody shows it.
-fn show<W: Wait, N: Naming, P: Publish<N>>(
+fn show<W: Wait, N: Naming, P: Publish<Item = Shown<N>>>(
     wait: &W,
     publisher: &mut Option<P>,
     next: Option<Arc<Version>>,
@@ -239,7 +260,7 @@ fn show<W: Wait, N: Naming, P: Publish<N>>(
 )
     requires there { is_some next ≡ is_some publisher.old }
     requires version { IfSome next (λ v. (front.now ≡ (arc_value v).history) × ((arc_value v).fields ≡ N.fields)) }
-    ensures { IfSome next (λ v. IfSome publisher.new (λ p. P.shows p (arc_value v))) }
+    ensures shown { IfSome next (λ v. IfSome publisher.new (λ p. P.shows p (arc_value v))) }
     ensures same { is_some publisher.new ≡ is_some publisher.old }
 {
     let Some(version) = next else {

@@ -1,6 +1,6 @@
 //! How a table with workers and readers begins.
 
-ghost use Rattle.std.specs.Prelude.{◌≡◌, ◌⊎◌, ◌≤◌, [], All, IfErr, IfOk, IfSome, OnOk, length};
+ghost use Rattle.std.specs.Prelude.{◌≡◌, ◌⊎◌, ◌≤◌, [], IfErr, IfOk, IfSome, OnOk, length, replicate};
 ghost use Rattle.left_right.specs.Handles.{pending, published};
 ghost use Rattle.std.specs.Arc.{arc_value};
 ghost use Rattle.shared.specs.Hand.{AreNew};
@@ -27,7 +27,11 @@ use table::{TableState, Version};
 const MOST: u32 = 64;
 
 /// What `open` gives: the table, its workers and its readers.
-pub type Opened<C, Q, N, R> = (SharedTable<C, Q, N, Publisher<N, R>>, Vec<Worker<C, Q, N>>, Vec<Reader<N>>);
+pub type Opened<C, Q, N, R> = (
+    SharedTable<C, Q, N, Publisher<N, R>>,
+    Vec<Worker<C, Q, N>>,
+    Vec<Reader<N>>,
+);
 
 /// A table of so many workers, from 1 to 64, and readers, up to 64, for batches of the schema; the workers, numbered from 0,
 /// and the readers. The blanks are of the ledgers of the workers' calls and of their rows, each with a part for each worker,
@@ -52,8 +56,7 @@ pub fn open<C: Ledger, Q: Ledger, N: Naming, R: Wait + Drop>(
     ensures table { IfOk result (λ r. r.0 ≡ workers) }
     ensures count { IfOk result (λ r. length r.1.items ≡ workers) }
     ensures new { IfOk result (λ r. AreNew 0 r.1.items) }
-    ensures readers { IfOk result (λ r. length r.2.items ≡ readers) }
-    ensures unread { IfOk result (λ r. All (λ known. known ≡ []) r.2.items) }
+    ensures readers { IfOk result (λ r. r.2.items ≡ replicate readers []) }
     ensures few { OnOk result (IsCount workers × IsFew readers) }
     ensures err { IfErr result (IsOpenFault workers readers) }
 {
@@ -92,8 +95,7 @@ fn new_readers<N: Naming, R: Wait + Drop>(
     requires front { front.now ≡ [] }
     requires version { ((arc_value version).history ≡ []) × ((arc_value version).fields ≡ N.fields) }
     ensures shown { IfOk result (λ r. IfSome r.0 (λ p. (published p ≡ arc_value version) × (pending p ≡ []))) }
-    ensures count { IfOk result (λ r. length r.1.items ≡ count) }
-    ensures unread { IfOk result (λ r. All (λ known. known ≡ []) r.1.items) }
+    ensures readers { IfOk result (λ r. r.1.items ≡ replicate count []) }
     ensures err { IfErr result (λ e. (e ≡ OpenFault.NoMemory) ⊎ ((e ≡ OpenFault.NoPlace) × (1 ≤ count))) }
 {
     let mut readers = Vec::with_capacity(alloc, count as usize)?;
@@ -101,7 +103,7 @@ fn new_readers<N: Naming, R: Wait + Drop>(
         return Ok((None, readers));
     }
     let publisher = new_publisher(wait, alloc, &version, front)?;
-    for _ in 0..count {
+    for _reader in 0..count {
         let Ok(handle) = publisher.handle() else {
             return Err(OpenFault::NoPlace);
         };

@@ -75,10 +75,7 @@ impl<N: Naming> Model for Outcome<N> {
 
 impl<N: Naming> Outcome<N> {
     /// The receipt of the last batch that it appended, and the file, the batch in it and the refusal that stopped it.
-    pub fn new(
-        last: Option<Receipt<N>>,
-        stop: Option<(usize, usize, Refusal)>,
-    ) -> Outcome<N>
+    pub fn new(last: Option<Receipt<N>>, stop: Option<(usize, usize, Refusal)>) -> Outcome<N>
         ensures { result ≡ record { last = last; stop = stop } }
     {
         Outcome { last, stop }

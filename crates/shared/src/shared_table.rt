@@ -14,7 +14,7 @@ use crate::locked::Locked;
 use crate::missing::first_missing;
 use crate::naming::{Event, Naming};
 use crate::outcome::Receipt;
-use crate::shown::Publish;
+use crate::shown::{Publish, Shown};
 use crate::worker::Worker;
 use arrays::RecordBatch;
 use colbits::NoMemory;
@@ -30,13 +30,14 @@ use table::{Ready, Refusal, TableState, Version};
 ///
 /// Clauses see how many workers it has.
 #[derive(Drop)]
-pub struct SharedTable<C: Ledger, Q: Ledger, N: Naming, P: Publish<N>> {
+pub struct SharedTable<C: Ledger, Q: Ledger, N: Naming, P: Publish<Item = Shown<N>>> {
     alloc: Global,
     lock: Mutex<Locked<C, Q, N, P>>,
     workers: u32,
 }
 
-impl<C: Ledger, Q: Ledger, N: Naming, P: Publish<N>> Model for SharedTable<C, Q, N, P> {
+impl<C: Ledger, Q: Ledger, N: Naming, P: Publish<Item = Shown<N>>> Model
+    for SharedTable<C, Q, N, P> {
     ghost use Rattle.std.specs.Prelude.{◌≡◌, ℕ};
 
     ghost Value = { ℕ };
@@ -62,7 +63,7 @@ pub(crate) struct Books<C: Ledger, Q: Ledger> {
     pub(crate) no_rows: Share<Q>,
 }
 
-impl<C: Ledger, Q: Ledger, N: Naming, P: Publish<N>> SharedTable<C, Q, N, P> {
+impl<C: Ledger, Q: Ledger, N: Naming, P: Publish<Item = Shown<N>>> SharedTable<C, Q, N, P> {
     /// A table that nothing was appended to, with its history and its ledgers' books.
     pub(crate) fn new(
         alloc: Global,

@@ -1,6 +1,6 @@
 //! What readers are shown, and who shows it.
 
-ghost use Rattle.std.specs.Prelude.{◌≡◌, ◌++◌, ◌∷◌, [], IfOk};
+ghost use Rattle.std.specs.Prelude.{◌≡◌, ◌++◌, ◌∷◌, [], IfOk, fold};
 ghost use Rattle.left_right.specs.Handles.{pending, published};
 ghost use Rattle.std.specs.Arc.{arc_value};
 ghost use Rattle.table.specs.Contents.{Contents};
@@ -39,7 +39,10 @@ impl<N: Naming> Model for Shown<N> {
 
 impl<N: Naming> Shown<N> {
     /// A copy of a version with its history.
-    pub(crate) fn new(version: &Arc<Version>, front: &Front<Event, N>) -> Result<Shown<N>, AllocError>
+    pub(crate) fn new(
+        version: &Arc<Version>,
+        front: &Front<Event, N>,
+    ) -> Result<Shown<N>, AllocError>
         requires front { front.now ≡ (arc_value version.now).history }
         requires fields { (arc_value version.now).fields ≡ N.fields }
         ensures { IfOk result (λ s. s ≡ arc_value version.now) }
@@ -65,50 +68,67 @@ impl<N: Naming> Absorb<Shown<N>> for Shown<N> {
     }
 }
 
-/// Who shows versions to readers.
-pub trait Publish<N: Naming>: Drop {
-    ghost use Rattle.table.specs.Contents.{Contents};
+/// Who shows values to readers, one after the other.
+pub trait Publish: Drop {
+    type Item;
 
     /// What is shown.
-    ghost shows: { Self → Contents → Type 0 };
+    ghost shows: { Self → Self.Item → Type 0 };
 
-    /// Shows the next version. It waits for readers of the one before the last.
-    fn show<W: Wait>(&mut self, wait: &W, next: Shown<N>)
+    /// Shows the next value. It waits for readers of the one before the last.
+    fn show<W: Wait>(&mut self, wait: &W, next: Self::Item)
         ensures { shows self.new next };
 }
 
 /// The writer of a pair whose readers never wait.
 pub type Publisher<N, R> = WriteHandle<Shown<N>, Shown<N>, R>;
 
-impl<N: Naming, R: Wait + Drop> Publish<N> for WriteHandle<Shown<N>, Shown<N>, R> {
+/// What is shown is the last value applied to one before, and nothing waits to be shown.
+impl<T: Absorb<T> + Drop, R: Wait + Drop> Publish for WriteHandle<T, T, R> {
+    type Item = T;
+
     ghost use Rattle.std.specs.Prelude.{◌≡◌, []};
     ghost use Rattle.left_right.specs.Handles.{pending, published};
 
-    ghost shows = { λ w c. (published w ≡ c) × (pending w ≡ []) };
+    ghost shows = { λ w x. ((before : T.State) × (T.state (published w) ≡ T.applied before x)) × (pending w ≡ []) };
 
-    fn show<W: Wait>(&mut self, wait: &W, next: Shown<N>) {
+    fn show<W: Wait>(&mut self, wait: &W, next: T)
+        ensures applied { (before : T.State) × (T.state (published self.new) ≡ T.applied before next) }
+        ensures nothing { pending self.new ≡ [] }
+    {
         push(wait, self, next);
-        for _ in wait.forever() {
-            if self.publish().is_ok() {
-                break;
-            }
+        publish_all(wait, self);
+    }
+}
+
+/// Has the next value wait to be shown. It's tried again where its place was refused.
+fn push<T: Absorb<T> + Drop, R: Wait + Drop, W: Wait>(
+    wait: &W,
+    publisher: &mut WriteHandle<T, T, R>,
+    next: T,
+)
+    ensures { pending publisher.new ≡ pending publisher.old ++ next ∷ [] }
+{
+    let mut waiting = next;
+    for _ in wait.forever() {
+        match publisher.append(waiting) {
+            Ok(()) => break,
+            Err(again) => waiting = again,
         }
     }
 }
 
-/// Has the next version wait to be shown. It's tried again where its place was refused.
-fn push<N: Naming, R: Wait + Drop, W: Wait>(
+/// Shows all that waits to be shown. It's tried again where a growth was refused.
+fn publish_all<T: Absorb<T> + Drop, R: Wait + Drop, W: Wait>(
     wait: &W,
-    publisher: &mut Publisher<N, R>,
-    next: Shown<N>,
+    publisher: &mut WriteHandle<T, T, R>,
 )
-    ensures { pending publisher.new ≡ pending publisher.old ++ next ∷ [] }
+    ensures shown { T.state (published publisher.new) ≡ fold T.applied (T.state (published publisher.old)) (pending publisher.old) }
+    ensures nothing { pending publisher.new ≡ [] }
 {
-    let mut next = next;
     for _ in wait.forever() {
-        match publisher.append(next) {
-            Ok(()) => break,
-            Err(again) => next = again,
+        if publisher.publish().is_ok() {
+            break;
         }
     }
 }

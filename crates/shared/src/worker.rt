@@ -120,7 +120,9 @@ impl<C: Ledger, Q: Ledger, N: Naming> Worker<C, Q, N> {
     pub fn tell(&self)
         ensures legal { IsLegal N.fields self.now.seen }
         ensures part { IsPartOf C.parts self.now.seen self.now }
-    {}
+    {
+        let _number = self.number;
+    }
 
     /// Sees a history that begins with all that it has seen.
     pub(crate) fn see(&mut self, front: &Front<Event, N>)

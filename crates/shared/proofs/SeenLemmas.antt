@@ -1,0 +1,59 @@
+-- What stands of each answer that is there, and what readers are shown next.
+use Rattle.std.proofs.Common.{◌≡◌, ◌∙◌, ◌+◌, ◌≤◌, ◌^◌, List, ◌∷◌, [], refl, Bool, true, false, Option, Some, None, IfSome, IfOk, OnOk, Result, Ok, Err, ap, length, length-append, sym, subst, arith}
+use Rattle.std.specs.Prelude.{is_some, option_map}
+use Rattle.std.specs.Bool.{then_some}
+use Rattle.std.proofs.lemmas.Bool.Decides.{nat_tests}
+use Rattle.arrays.specs.Batch.{Batch, rows_of}
+use Rattle.arrays.specs.First.{first}
+use Rattle.arrays.specs.Shape.{FieldShape}
+use Rattle.shared.specs.Hand.{Hand, HasAdded, IsRaised}
+use Rattle.shared.proofs.BalanceLemmas.{rows_pushed}
+use Rattle.table.specs.Cause.{batch_cause, difference, is_book_full, is_table_full, null_cause, texts_cause}
+use Rattle.table.specs.Contents.{Contents}
+use Rattle.table.specs.History.{History, rows}
+use Rattle.table.specs.declared.refusal.Refusal.{Refusal}
+use Rattle.table.specs.declared.refusal.Refusal.TheVariants.{BookFull, SchemaDiffers, TableFull}
+use Rattle.table.proofs.BatchLemmas.{length-rows_of}
+
+pub ok_each : {A E : Type 0} {P Q : A → Type 0} (r : Result A E) → ((x : A) → P x → Q x) → IfOk r P → IfOk r Q
+ok_each (Ok x) f is = f x is
+ok_each (Err e) f is = tt
+
+pub some_each : {A : Type 0} {P Q : A → Type 0} (o : Option A) → ((x : A) → P x → Q x) → IfSome o P → IfSome o Q
+some_each None f is = tt
+some_each (Some x) f is = f x is
+
+-- where anybody shows versions, the next one is there, and it is the state's
+pub shown_next : {P V : Type 0} (shows : P → Contents → Type 0) (value : V → Contents) (next : Option V) (publisher : Option P) (state : Contents) → is_some next ≡ is_some publisher
+    → IfSome next (λ v. value v ≡ state) → IfSome next (λ v. IfSome publisher (λ p. shows p (value v))) → IfSome publisher (λ p. shows p state)
+shown_next shows value None None state same is shown = tt
+shown_next shows value None (Some p) state same is shown = absurd (cc same)
+shown_next shows value (Some v) None state same is shown = tt
+shown_next shows value (Some v) (Some p) state same is shown = subst (shows p) is shown
+
+not_full : (d n : Option Refusal) (full : Bool) (book texts : Option Refusal) → first (d ∷ first (n ∷ then_some full TableFull ∷ book ∷ texts ∷ []) ∷ []) ≡ None → full ≡ false
+not_full (Some d) n full book texts none = absurd (cc none)
+not_full None (Some n) full book texts none = absurd (cc none)
+not_full None None true book texts none = absurd (cc none)
+not_full None None false book texts none = refl
+
+-- a batch that nothing stood against has room
+pub room : (fields : List FieldShape) (h : History) (b : Batch) → batch_cause fields h b ≡ None → length (rows h) + b.rows ≤ 2 ^ 40
+room fields h b none =
+    let few : is_table_full h (rows_of b) ≡ false =
+    not_full (option_map (λ c. SchemaDiffers c) (difference fields b.fields)) (null_cause fields (rows_of b)) (is_table_full h (rows_of b)) (then_some (is_book_full h) BookFull) (texts_cause fields h (rows_of b)) none in
+    let size = length-rows_of b in
+    grind (arith, nat_tests, few, size)
+
+pub ok_all : {A E P Q : Type 0} (r : Result A E) → (P → Q) → OnOk r P → OnOk r Q
+ok_all (Ok x) f is = f is
+ok_all (Err e) f is = tt
+
+-- a worker that added a batch has one call more, and the batch's rows
+pub added_raised : (fields : List FieldShape) (b : Batch) (old new : Hand) → HasAdded fields b old new → IsRaised b.rows old new
+added_raised fields b old new is = record {
+  number = is.number;
+  calls = ap (λ (h : History). length h) is.mine ∙ length-append old.mine ((old.number, rows_of b) ∷ []);
+  rows = rows_pushed old.mine new.mine old.number b is.mine;
+  left = is.left;
+}

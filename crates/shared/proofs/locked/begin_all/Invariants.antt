@@ -1,0 +1,6 @@
+use Rattle.std.specs.Prelude.{All, take}
+use Rattle.shared.specs.Hand.{IsPartOf}
+use Rattle.shared.proofs.locked.begin_all.Given as goal
+
+abbrev pub invariant-loop-worker : goal.invariant-loop-worker
+invariant-loop-worker g l = All (IsPartOf g.C.Ledger.parts l.front) (take l.worker-index l.workers)

@@ -1,0 +1,10 @@
+use Rattle.std.proofs.Common.{ap, subst, sym}
+use Rattle.std.specs.Prelude.{All}
+use Rattle.shared.specs.Hand.{IsWhole}
+use Rattle.shared.proofs.SeenLemmas.{ok_each}
+use Rattle.table.specs.Contents.{Contents}
+use Rattle.shared.proofs.shared_table.SharedTable.all_of.Goals as goal
+
+pub returns-clause-whole : goal.returns-clause-whole
+returns-clause-whole g c =
+    ok_each c.gather.result (λ v is. subst (λ (s : Contents). All (IsWhole s.history) c.args.workers.now) (sym is) c.gather.ensures.whole) c.gather.ensures.version
