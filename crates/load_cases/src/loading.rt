@@ -1,17 +1,15 @@
 //! Which worker loads what, and what is told where a batch is refused.
 
-ghost use Rattle.std.specs.Prelude.{◌≡◌};
-
 use crate::gates::{Counting, Holding};
-use crate::testing::{Loads, expect_added, load};
+use crate::testing::{expect_added, load, numbers};
 use answers::OpenGate;
 use loads::LoadFault;
-use shared::Refusal;
+use scenes::{Scene, play};
+use shared::{Naming, Publish, Reader, Refusal, SharedTable, Worker};
 use std::alloc::Global;
-use std::marker::Brand;
 use std::process::Abort;
 use std::sync::Wait;
-use std::sync::ledger::{Blank, Ledger};
+use std::sync::ledger::Ledger;
 use std::test::Fail;
 use std::thread::Threads;
 
@@ -33,130 +31,148 @@ const OTHER_NAME: &str =
 
 #[test]
 fn files_go_to_the_workers_in_turn(rt: HostRuntime) -> Result<(), Fail> {
-    in_turn::<Brand, Brand, _>(&rt, rt.alloc(), Blank::new(2), Blank::new(2))
+    play::<InTurn, _>(&rt, rt.alloc(), &numbers(rt.alloc())?, 2, 0)
 }
 
 /// The first of two workers loads the first and the third file, the second the second, and both are at work together.
-fn in_turn<C: Ledger + Send + Sync, Q: Ledger + Send + Sync, R: Wait + Threads + Abort + Sync>(
-    rt: &R,
-    alloc: Global,
-    calls: Blank,
-    rows: Blank,
-) -> Result<(), Fail>
-    requires calls { (calls.name ≡ C.name) × (calls.parts ≡ C.parts) × (calls.parts ≡ 2) }
-    requires rows { (rows.name ≡ Q.name) × (rows.parts ≡ Q.parts) × (rows.parts ≡ 2) }
-{
-    let gate = Holding::new();
-    let files = [ONE_TO_THREE, FOUR, ONE_TO_THREE];
-    let Loads {
-        table,
-        workers,
-        answer,
-    } = load::<C, Q, _, _>(rt, alloc, 2, calls, rows, &files, &gate)?;
-    assert!(rt; gate.has_held());
-    let receipts = answer?;
-    assert!(rt; receipts.len() == 2);
-    let last = receipts[0].entry().max(receipts[1].entry());
-    assert!(rt; last == 4);
-    let ones: &[_] = &[
-        [Some(1), Some(2)].as_slice(),
-        &[Some(3)],
-        &[Some(1), Some(2)],
-        &[Some(3)],
-    ];
-    expect_added(rt, alloc, table, workers, &[ones, &[&[Some(4)]]])
+struct InTurn;
+
+impl Scene for InTurn {
+    fn play<
+        C: Ledger + Send + Sync,
+        Q: Ledger + Send + Sync,
+        N: Naming + Send + Sync,
+        P: Publish<N> + Send,
+        R: Wait + Threads + Abort + Sync,
+    >(
+        rt: &R,
+        alloc: Global,
+        table: SharedTable<C, Q, N, P>,
+        workers: Vec<Worker<C, Q, N>>,
+        _readers: Vec<Reader<N>>,
+    ) -> Result<(), Fail> {
+        let mut workers = workers;
+        let gate = Holding::new();
+        let files = [ONE_TO_THREE, FOUR, ONE_TO_THREE];
+        let receipts = load(rt, alloc, &table, &mut workers, &files, &gate)??;
+        assert!(rt; gate.has_held());
+        assert!(rt; receipts.len() == 2);
+        let last = receipts[0].entry().max(receipts[1].entry());
+        assert!(rt; last == 4);
+        let ones: &[_] = &[
+            [Some(1), Some(2)].as_slice(),
+            &[Some(3)],
+            &[Some(1), Some(2)],
+            &[Some(3)],
+        ];
+        expect_added(rt, alloc, table, workers, &[ones, &[&[Some(4)]]])
+    }
 }
 
 #[test]
 fn a_worker_without_a_file_appends_nothing(rt: HostRuntime) -> Result<(), Fail> {
-    alone::<Brand, Brand, _>(&rt, rt.alloc(), Blank::new(3), Blank::new(3))
+    play::<Alone, _>(&rt, rt.alloc(), &numbers(rt.alloc())?, 3, 0)
 }
 
 /// Of three workers only the first has a file.
-fn alone<C: Ledger + Send + Sync, Q: Ledger + Send + Sync, R: Wait + Threads + Abort + Sync>(
-    rt: &R,
-    alloc: Global,
-    calls: Blank,
-    rows: Blank,
-) -> Result<(), Fail>
-    requires calls { (calls.name ≡ C.name) × (calls.parts ≡ C.parts) × (calls.parts ≡ 3) }
-    requires rows { (rows.name ≡ Q.name) × (rows.parts ≡ Q.parts) × (rows.parts ≡ 3) }
-{
-    let gate = Counting::new();
-    let Loads {
-        table,
-        workers,
-        answer,
-    } = load::<C, Q, _, _>(rt, alloc, 3, calls, rows, &[ONE_TO_THREE], &gate)?;
-    assert!(rt; gate.has_let_in(2, 0));
-    let receipts = answer?;
-    assert!(rt; receipts.len() == 1 && receipts[0].entry() == 1);
-    let ones: &[_] = &[[Some(1), Some(2)].as_slice(), &[Some(3)]];
-    expect_added(rt, alloc, table, workers, &[ones, &[], &[]])
+struct Alone;
+
+impl Scene for Alone {
+    fn play<
+        C: Ledger + Send + Sync,
+        Q: Ledger + Send + Sync,
+        N: Naming + Send + Sync,
+        P: Publish<N> + Send,
+        R: Wait + Threads + Abort + Sync,
+    >(
+        rt: &R,
+        alloc: Global,
+        table: SharedTable<C, Q, N, P>,
+        workers: Vec<Worker<C, Q, N>>,
+        _readers: Vec<Reader<N>>,
+    ) -> Result<(), Fail> {
+        let mut workers = workers;
+        let gate = Counting::new();
+        let receipts = load(rt, alloc, &table, &mut workers, &[ONE_TO_THREE], &gate)??;
+        assert!(rt; gate.has_let_in(2, 0));
+        assert!(rt; receipts.len() == 1 && receipts[0].entry() == 1);
+        let ones: &[_] = &[[Some(1), Some(2)].as_slice(), &[Some(3)]];
+        expect_added(rt, alloc, table, workers, &[ones, &[], &[]])
+    }
 }
 
 #[test]
 fn the_least_file_that_was_refused_is_told(rt: HostRuntime) -> Result<(), Fail> {
-    refused::<Brand, Brand, _>(&rt, rt.alloc(), Blank::new(2), Blank::new(2))
+    play::<Refused, _>(&rt, rt.alloc(), &numbers(rt.alloc())?, 2, 0)
 }
 
 /// The second worker stops at the second batch of file 1, and leaves file 3 alone; the first stops at file 2.
-fn refused<C: Ledger + Send + Sync, Q: Ledger + Send + Sync, R: Wait + Threads + Abort + Sync>(
-    rt: &R,
-    alloc: Global,
-    calls: Blank,
-    rows: Blank,
-) -> Result<(), Fail>
-    requires calls { (calls.name ≡ C.name) × (calls.parts ≡ C.parts) × (calls.parts ≡ 2) }
-    requires rows { (rows.name ≡ Q.name) × (rows.parts ≡ Q.parts) × (rows.parts ≡ 2) }
-{
-    let gate = Counting::new();
-    let files = [FOUR, FIVE_SIX_NULL, OTHER_NAME, FOUR];
-    let Loads {
-        table,
-        mut workers,
-        answer,
-    } = load::<C, Q, _, _>(rt, alloc, 2, calls, rows, &files, &gate)?;
-    assert!(rt; gate.has_let_in(2, 2));
-    let fault = answer.err().expect(rt, "two files are refused");
-    let text = format!(in alloc; "{fault}")?;
-    assert_eq!(rt;
-        text.as_str(),
-        "L1 Refused file=1 batch=1 refusal=A2 NullInNonNullable column=0 row=1"
-    );
-    for worker in workers.iter_mut() {
-        assert!(rt; worker.take_left().is_none());
+struct Refused;
+
+impl Scene for Refused {
+    fn play<
+        C: Ledger + Send + Sync,
+        Q: Ledger + Send + Sync,
+        N: Naming + Send + Sync,
+        P: Publish<N> + Send,
+        R: Wait + Threads + Abort + Sync,
+    >(
+        rt: &R,
+        alloc: Global,
+        table: SharedTable<C, Q, N, P>,
+        workers: Vec<Worker<C, Q, N>>,
+        _readers: Vec<Reader<N>>,
+    ) -> Result<(), Fail> {
+        let mut workers = workers;
+        let gate = Counting::new();
+        let files = [FOUR, FIVE_SIX_NULL, OTHER_NAME, FOUR];
+        let answer = load(rt, alloc, &table, &mut workers, &files, &gate)?;
+        assert!(rt; gate.has_let_in(2, 2));
+        let fault = answer.err().expect(rt, "two files are refused");
+        let text = format!(in alloc; "{fault}")?;
+        assert_eq!(rt;
+            text.as_str(),
+            "L1 Refused file=1 batch=1 refusal=A2 NullInNonNullable column=0 row=1"
+        );
+        for worker in workers.iter_mut() {
+            assert!(rt; worker.take_left().is_none());
+        }
+        expect_added(rt, alloc, table, workers, &[&[&[Some(4)]], &[&[Some(5)]]])
     }
-    expect_added(rt, alloc, table, workers, &[&[&[Some(4)]], &[&[Some(5)]]])
 }
 
 #[test]
 fn one_worker_loads_all(rt: HostRuntime) -> Result<(), Fail> {
-    whole::<Brand, Brand, _>(&rt, rt.alloc(), Blank::new(1), Blank::new(1))
+    play::<Whole, _>(&rt, rt.alloc(), &numbers(rt.alloc())?, 1, 0)
 }
 
 /// One worker loads all files in their order, and stops at the first that is refused.
-fn whole<C: Ledger + Send + Sync, Q: Ledger + Send + Sync, R: Wait + Threads + Abort + Sync>(
-    rt: &R,
-    alloc: Global,
-    calls: Blank,
-    rows: Blank,
-) -> Result<(), Fail>
-    requires calls { (calls.name ≡ C.name) × (calls.parts ≡ C.parts) × (calls.parts ≡ 1) }
-    requires rows { (rows.name ≡ Q.name) × (rows.parts ≡ Q.parts) × (rows.parts ≡ 1) }
-{
-    let files = [FOUR, ONE_TO_THREE, OTHER_NAME, FIVE_SIX_NULL];
-    let Loads {
-        table,
-        workers,
-        answer,
-    } = load::<C, Q, _, _>(rt, alloc, 1, calls, rows, &files, &OpenGate)?;
-    let other = LoadFault::Refused {
-        file: 2,
-        batch: 0,
-        refusal: Refusal::SchemaDiffers { column: 0 },
-    };
-    assert!(rt; answer.err() == Some(other));
-    let ones: &[_] = &[[Some(4)].as_slice(), &[Some(1), Some(2)], &[Some(3)]];
-    expect_added(rt, alloc, table, workers, &[ones])
+struct Whole;
+
+impl Scene for Whole {
+    fn play<
+        C: Ledger + Send + Sync,
+        Q: Ledger + Send + Sync,
+        N: Naming + Send + Sync,
+        P: Publish<N> + Send,
+        R: Wait + Threads + Abort + Sync,
+    >(
+        rt: &R,
+        alloc: Global,
+        table: SharedTable<C, Q, N, P>,
+        workers: Vec<Worker<C, Q, N>>,
+        _readers: Vec<Reader<N>>,
+    ) -> Result<(), Fail> {
+        let mut workers = workers;
+        let files = [FOUR, ONE_TO_THREE, OTHER_NAME, FIVE_SIX_NULL];
+        let answer = load(rt, alloc, &table, &mut workers, &files, &OpenGate)?;
+        let other = LoadFault::Refused {
+            file: 2,
+            batch: 0,
+            refusal: Refusal::SchemaDiffers { column: 0 },
+        };
+        assert!(rt; answer.err() == Some(other));
+        let ones: &[_] = &[[Some(4)].as_slice(), &[Some(1), Some(2)], &[Some(3)]];
+        expect_added(rt, alloc, table, workers, &[ones])
+    }
 }

@@ -1,18 +1,16 @@
 //! Many workers that append for long: nothing is lost, and each worker's batches stay in their order.
 
-ghost use Rattle.std.specs.Prelude.{◌≡◌};
-
 use answers::OpenGate;
 use arrays::File;
 use arrow_json::read_file;
 use loads::load_all;
 use samples::shows_numbers;
-use shared::{Version, open};
+use scenes::{Scene, play};
+use shared::{Naming, Publish, Reader, SharedTable, Version, Worker};
 use std::alloc::Global;
-use std::marker::Brand;
 use std::process::Abort;
 use std::sync::Wait;
-use std::sync::ledger::{Blank, Ledger};
+use std::sync::ledger::Ledger;
 use std::test::Fail;
 use std::thread::Threads;
 
@@ -21,34 +19,43 @@ const EACH: u32 = 625;
 
 #[test]
 fn sixteen_workers_append_ten_thousand_batches(rt: HostRuntime) -> Result<(), Fail> {
-    soaked::<Brand, Brand, _>(&rt, rt.alloc(), Blank::new(16), Blank::new(16))
+    let first = numbers_from(rt.alloc(), 0)?;
+    play::<Soak, _>(&rt, rt.alloc(), first.schema(), 16, 0)
 }
 
 /// Each worker has a file of batches of one number, which go on from a thousand times its place.
-fn soaked<C: Ledger + Send + Sync, Q: Ledger + Send + Sync, R: Wait + Threads + Abort + Sync>(
-    rt: &R,
-    alloc: Global,
-    calls: Blank,
-    rows: Blank,
-) -> Result<(), Fail>
-    requires calls { (calls.name ≡ C.name) × (calls.parts ≡ C.parts) × (calls.parts ≡ 16) }
-    requires rows { (rows.name ≡ Q.name) × (rows.parts ≡ Q.parts) × (rows.parts ≡ 16) }
-{
-    let mut files = Vec::new(alloc);
-    for place in 0..16u32 {
-        files.push(numbers_from(alloc, 1000 * place)?)?;
+struct Soak;
+
+impl Scene for Soak {
+    fn play<
+        C: Ledger + Send + Sync,
+        Q: Ledger + Send + Sync,
+        N: Naming + Send + Sync,
+        P: Publish<N> + Send,
+        R: Wait + Threads + Abort + Sync,
+    >(
+        rt: &R,
+        alloc: Global,
+        table: SharedTable<C, Q, N, P>,
+        workers: Vec<Worker<C, Q, N>>,
+        _readers: Vec<Reader<N>>,
+    ) -> Result<(), Fail> {
+        let mut workers = workers;
+        let mut files = Vec::new(alloc);
+        for place in 0..16u32 {
+            files.push(numbers_from(alloc, 1000 * place)?)?;
+        }
+        assert!(rt; workers.len() == 16);
+        let receipts = load_all(rt, rt, alloc, &table, &mut workers, &files, &OpenGate)?;
+        assert!(rt; receipts.len() == 16);
+        let gathered = table.gather(rt, workers).ok().expect(rt, "all are there");
+        let version = &*gathered.version;
+        assert!(rt; version.rows() == 10_000 && version.book_len() == 10_000);
+        for place in 0..16u32 {
+            assert!(rt; has_appended(version, place, 1000 * place), "for {place}");
+        }
+        Ok(())
     }
-    let schema = files.first().expect(rt, "a file").schema().copy(alloc)?;
-    let (table, mut workers) = open::<C, Q>(alloc, schema, 16, calls, rows)?;
-    let receipts = load_all(rt, rt, alloc, &table, &mut workers, &files, &OpenGate)?;
-    assert!(rt; receipts.len() == 16);
-    let gathered = table.gather(rt, workers).ok().expect(rt, "all are there");
-    let version = &*gathered.version;
-    assert!(rt; version.rows() == 10_000 && version.book_len() == 10_000);
-    for place in 0..16u32 {
-        assert!(rt; has_appended(version, place, 1000 * place), "for {place}");
-    }
-    Ok(())
 }
 
 /// A file of batches of one number each: the first one, and those behind it.

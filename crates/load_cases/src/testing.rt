@@ -1,63 +1,50 @@
 //! What tests load, and what they ask of it.
 
-ghost use Rattle.std.specs.Prelude.{◌≡◌};
-
 use answers::Gate;
 use arrays::{DataType, File, Schema};
 use arrow_json::read_file;
 use loads::{LoadFault, load_all};
 use samples::{INT8, field, shows_numbers};
-use shared::{Receipt, SharedTable, Worker, open};
+use shared::{Naming, Publish, Receipt, SharedTable, Worker};
 use std::alloc::Global;
 use std::process::Abort;
 use std::sync::Wait;
-use std::sync::ledger::{Blank, Ledger};
+use std::sync::ledger::Ledger;
 use std::test::Fail;
 use std::thread::Threads;
 
 /// The numbers of a batch.
 pub(crate) type Numbers = &'static [Option<i128>];
 
-/// A table with its workers, and what was answered when they loaded files.
-#[derive(Drop)]
-pub(crate) struct Loads<C: Ledger, Q: Ledger> {
-    pub(crate) table: SharedTable<C, Q>,
-    pub(crate) workers: Vec<Worker<C, Q>>,
-    pub(crate) answer: Result<Vec<Receipt>, LoadFault>,
+/// A column `n` of numbers that holds no null.
+pub(crate) fn numbers(alloc: Global) -> Result<Schema, Fail> {
+    let fields = vec![in alloc; field(alloc, "n", false, DataType::Int(INT8))?]?;
+    Ok(Schema::new(fields)?)
 }
 
-/// So many workers load the files of these texts into a table with a column `n` of numbers that holds no null.
+/// What is answered when the workers load the files of these texts.
 pub(crate) fn load<
     C: Ledger + Send + Sync,
     Q: Ledger + Send + Sync,
+    N: Naming + Send + Sync,
+    P: Publish<N> + Send,
     R: Wait + Threads + Abort + Sync,
     G: Gate,
 >(
     rt: &R,
     alloc: Global,
-    workers: u32,
-    calls: Blank,
-    rows: Blank,
+    table: &SharedTable<C, Q, N, P>,
+    workers: &mut [Worker<C, Q, N>],
     texts: &[&str],
     gate: &G,
-) -> Result<Loads<C, Q>, Fail>
-    requires calls { (calls.name ≡ C.name) × (calls.parts ≡ C.parts) × (calls.parts ≡ workers) }
-    requires rows { (rows.name ≡ Q.name) × (rows.parts ≡ Q.parts) × (rows.parts ≡ workers) }
-{
-    let fields = vec![in alloc; field(alloc, "n", false, DataType::Int(INT8))?]?;
-    let (table, mut workers) = open::<C, Q>(alloc, Schema::new(fields)?, workers, calls, rows)?;
+) -> Result<Result<Vec<Receipt<N>>, LoadFault>, Fail> {
     let files = read_all(alloc, texts)?;
     assert!(rt; !workers.is_empty());
-    let answer = load_all(rt, rt, alloc, &table, &mut workers, &files, gate);
-    Ok(Loads {
-        table,
-        workers,
-        answer,
-    })
+    Ok(load_all(rt, rt, alloc, table, workers, &files, gate))
 }
 
 /// The files of these texts.
-pub(crate) fn read_all(alloc: Global, texts: &[&str]) -> Result<Vec<File>, Fail> {
+fn read_all(alloc: Global, texts: &[&str]) -> Result<Vec<File>, Fail> {
     let mut files = Vec::new(alloc);
     for text in texts {
         files.push(read_file(alloc, text.as_bytes())?)?;
@@ -66,11 +53,17 @@ pub(crate) fn read_all(alloc: Global, texts: &[&str]) -> Result<Vec<File>, Fail>
 }
 
 /// Asserts that each worker added these batches, in order, and nobody any other.
-pub(crate) fn expect_added<C: Ledger, Q: Ledger, R: Wait + Abort>(
+pub(crate) fn expect_added<
+    C: Ledger,
+    Q: Ledger,
+    N: Naming,
+    P: Publish<N>,
+    R: Wait + Abort,
+>(
     rt: &R,
     alloc: Global,
-    table: SharedTable<C, Q>,
-    workers: Vec<Worker<C, Q>>,
+    table: SharedTable<C, Q, N, P>,
+    workers: Vec<Worker<C, Q, N>>,
     expected: &[&[Numbers]],
 ) -> Result<(), Fail> {
     assert!(rt; workers.len() == expected.len());

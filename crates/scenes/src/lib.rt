@@ -1,0 +1,76 @@
+//! Tables with workers and readers that tests play on.
+#![tactic(auto)]
+
+ghost use Rattle.std.specs.Prelude.{◌≡◌};
+ghost use Rattle.table.specs.Stored.{stored_fields};
+
+use arrays::Schema;
+use shared::{Naming, Pair, Publish, Reader, SharedTable, Worker, open};
+use std::alloc::Global;
+use std::marker::Brand;
+use std::process::Abort;
+use std::sync::Wait;
+use std::sync::ledger::{Blank, Ledger};
+use std::test::Fail;
+use std::thread::Threads;
+
+/// What a test does with a table, its workers and its readers.
+pub trait Scene {
+    /// Plays on a table that nothing was appended to.
+    fn play<
+        C: Ledger + Send + Sync,
+        Q: Ledger + Send + Sync,
+        N: Naming + Send + Sync,
+        P: Publish<N> + Send,
+        R: Wait + Threads + Abort + Sync,
+    >(
+        rt: &R,
+        alloc: Global,
+        table: SharedTable<C, Q, N, P>,
+        workers: Vec<Worker<C, Q, N>>,
+        readers: Vec<Reader<N>>,
+    ) -> Result<(), Fail>;
+}
+
+/// Plays a scene on a table for batches of the schema, with so many workers and readers.
+pub fn play<S: Scene, R: Wait + Threads + Abort + Sync>(
+    rt: &R,
+    alloc: Global,
+    schema: &Schema,
+    workers: u32,
+    readers: u32,
+) -> Result<(), Fail> {
+    let pair = Pair::new(alloc, schema)?;
+    let calls = Blank::new(u64::from(workers));
+    let rows = Blank::new(u64::from(workers));
+    play_under::<Brand, Brand, Brand, S, R>(
+        rt, alloc, schema, workers, readers, calls, rows, pair,
+    )
+}
+
+/// The same, under the names of two ledgers and of a history.
+fn play_under<
+    C: Ledger + Send + Sync,
+    Q: Ledger + Send + Sync,
+    N: Naming + Send + Sync,
+    S: Scene,
+    R: Wait + Threads + Abort + Sync,
+>(
+    rt: &R,
+    alloc: Global,
+    schema: &Schema,
+    workers: u32,
+    readers: u32,
+    calls: Blank,
+    rows: Blank,
+    pair: Pair,
+) -> Result<(), Fail>
+    requires calls { (calls.name ≡ C.name) × (calls.parts ≡ C.parts) × (calls.parts ≡ workers) }
+    requires rows { (rows.name ≡ Q.name) × (rows.parts ≡ Q.parts) × (rows.parts ≡ workers) }
+    requires pair { (pair.book ≡ N.book) × (pair.fields ≡ N.fields) × (pair.fields ≡ stored_fields schema.now) }
+{
+    let schema = schema.copy(alloc)?;
+    let (table, workers, readers) =
+        open::<C, Q, N, &R>(rt, alloc, schema, workers, readers, calls, rows, pair)?;
+    S::play(rt, alloc, table, workers, readers)
+}

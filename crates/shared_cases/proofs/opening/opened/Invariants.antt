@@ -1,0 +1,10 @@
+use Rattle.shared_cases.proofs.opening.opened.Given as goal
+
+abbrev pub ghosts-opened_under-C-Ledger : goal.ghosts-opened_under-C-Ledger
+ghosts-opened_under-C-Ledger _ a = record { name = a.calls.name; parts = a.calls.parts }
+
+abbrev pub ghosts-opened_under-Q-Ledger : goal.ghosts-opened_under-Q-Ledger
+ghosts-opened_under-Q-Ledger _ a = record { name = a.rows.name; parts = a.rows.parts }
+
+abbrev pub ghosts-opened_under-N-Naming : goal.ghosts-opened_under-N-Naming
+ghosts-opened_under-N-Naming _ a = record { Naming = record { book = a.pair.book }; fields = a.pair.fields }

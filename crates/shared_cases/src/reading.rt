@@ -1,0 +1,107 @@
+//! What readers see of a table.
+
+use crate::testing::{
+    FIVE_AND_NULL, ONE_TO_THREE, SEVEN_AND_NINE, column, expect_entry, expect_numbers, schema_of,
+};
+use colbits::NoMemory;
+use scenes::{Scene, play};
+use shared::{Entry, Naming, Publish, Reader, Refusal, SharedTable, Worker};
+use std::alloc::Global;
+use std::process::Abort;
+use std::sync::Wait;
+use std::sync::ledger::Ledger;
+use std::test::Fail;
+use std::thread::Threads;
+
+#[test]
+fn a_reader_sees_what_it_learnt(rt: HostRuntime) -> Result<(), Fail> {
+    play::<Learning, _>(&rt, rt.alloc(), &schema_of(rt.alloc(), "s", false)?, 2, 1)
+}
+
+/// A reader sees both workers' batches once it has learnt of the later one, and no less after it has learnt of the earlier one
+/// and after a batch was refused. A version that it had before stays as it was.
+struct Learning;
+
+impl Scene for Learning {
+    fn play<
+        C: Ledger + Send + Sync,
+        Q: Ledger + Send + Sync,
+        N: Naming + Send + Sync,
+        P: Publish<N> + Send,
+        R: Wait + Threads + Abort + Sync,
+    >(
+        rt: &R,
+        alloc: Global,
+        table: SharedTable<C, Q, N, P>,
+        workers: Vec<Worker<C, Q, N>>,
+        readers: Vec<Reader<N>>,
+    ) -> Result<(), Fail> {
+        let (mut workers, mut readers) = (workers, readers);
+        let mut reader = readers.pop().expect(rt, "a reader");
+        let mut second = workers.pop().expect(rt, "two workers");
+        let mut first = workers.pop().expect(rt, "two workers");
+        let opening = reader.latest()?;
+        let one = table.append(rt, &mut first, &column(alloc, "s", SEVEN_AND_NINE, 2)?)?;
+        let two = table.append(rt, &mut second, &column(alloc, "s", ONE_TO_THREE, 3)?)?;
+        assert!(rt; one.entry() == 0 && two.again().entry() == 1);
+        reader.learn(&two);
+        let version = reader.latest()?;
+        assert!(rt; version.rows() == 5 && version.book_len() == 2);
+        expect_entry(rt, &version, 0, Entry { worker: 0, rows: 2 });
+        expect_entry(rt, &version, 1, Entry { worker: 1, rows: 3 });
+        expect_numbers(rt, &version, 0, &[Some(7), Some(9)]);
+        expect_numbers(rt, &version, 1, &[Some(1), Some(2), Some(3)]);
+        reader.learn(&one);
+        assert!(rt; reader.latest()?.rows() == 5);
+        assert!(rt; opening.rows() == 0 && opening.book_len() == 0);
+        let refused = table.append(rt, &mut first, &column(alloc, "s", FIVE_AND_NULL, 2)?);
+        assert!(rt; refused.err() == Some(Refusal::NullInNonNullable { column: 0, row: 1 }));
+        assert!(rt; first.rows() == 2 && first.calls() == 1);
+        assert!(rt; reader.latest()?.rows() == 5);
+        table.close(rt);
+        assert!(rt; reader.latest().err() == Some(NoMemory));
+        Ok(())
+    }
+}
+
+#[test]
+fn as_many_readers_as_there_may_be(rt: HostRuntime) -> Result<(), Fail> {
+    play::<Many, _>(&rt, rt.alloc(), &schema_of(rt.alloc(), "s", true)?, 64, 64)
+}
+
+/// Each of 64 workers appends, and each of 64 readers sees all that it had learnt of.
+struct Many;
+
+impl Scene for Many {
+    fn play<
+        C: Ledger + Send + Sync,
+        Q: Ledger + Send + Sync,
+        N: Naming + Send + Sync,
+        P: Publish<N> + Send,
+        R: Wait + Threads + Abort + Sync,
+    >(
+        rt: &R,
+        alloc: Global,
+        table: SharedTable<C, Q, N, P>,
+        workers: Vec<Worker<C, Q, N>>,
+        readers: Vec<Reader<N>>,
+    ) -> Result<(), Fail> {
+        let (mut workers, mut readers) = (workers, readers);
+        assert!(rt; workers.len() == 64 && readers.len() == 64);
+        let batch = column(alloc, "s", SEVEN_AND_NINE, 2)?;
+        for (worker, reader) in workers.iter_mut().zip(readers.iter_mut()) {
+            let receipt = table.append(rt, worker, &batch)?;
+            reader.learn(&receipt);
+        }
+        let mut seen = 0;
+        for reader in readers.iter_mut() {
+            let version = reader.latest()?;
+            assert!(rt; version.rows() == 128);
+            seen += 1;
+        }
+        assert!(rt; seen == 64);
+        let gathered = table.gather(rt, workers).ok().expect(rt, "all are there");
+        assert!(rt; gathered.version.rows() == 128 && gathered.version.book_len() == 64);
+        Ok(())
+    }
+}
