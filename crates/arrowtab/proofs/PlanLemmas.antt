@@ -8,7 +8,7 @@ use mathlib.Core.List.{IsPrefix}
 use Rattle.loads.specs.Plan.{planned}
 use Rattle.shared.specs.Parts.{InOrder}
 
-same_test : (a b : ℕ) → a ≡ b → (a == b) ≡ true
+pub same_test : (a b : ℕ) → a ≡ b → (a == b) ≡ true
 same_test a b same = grind (arith, nat_tests)
 
 -- ---- what holds of each item

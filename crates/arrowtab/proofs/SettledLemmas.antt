@@ -218,10 +218,10 @@ module _ (workers : ℕ) (files : List (List FileBatch)) (fields : List FieldSha
       (λ s t. ap g (map-append (λ (row : Row). get_or row c null) s t) ∙ joins (column s c) (column t c))
       (λ s t. flips (column s c) (column t c))
 
-  same_line : (field : FieldShape) (c : ℕ) → field_line field (column (rows h) c) ≡ field_line field (column (rows k) c)
-  same_line field c =
-      let kd = kind_of_field field in
-      let name = name_of field in
+  same_line : (f : FieldShape) (c : ℕ) → field_line f (column (rows h) c) ≡ field_line f (column (rows k) c)
+  same_line f c =
+      let kd = kind_of_field f in
+      let name = name_of f in
       let count : length (column (rows h) c) ≡ length (column (rows k) c) = same_stat c (λ xs. length xs) (λ m n. m + n) (λ xs ys. length-append xs ys) (λ xs ys. omega arith) in
       let nulls : nulls_of (column (rows h) c) ≡ nulls_of (column (rows k) c) = same_stat c nulls_of (λ m n. m + n) nulls-append (λ xs ys. omega arith) in
       let sum : sum_of kd (column (rows h) c) ≡ sum_of kd (column (rows k) c) = same_stat c (sum_of kd) both_sums (sum-append kd) (λ xs ys. flip_sums (sum_of kd xs) (sum_of kd ys)) in

@@ -1,9 +1,9 @@
 -- What several workers made of files, from what each of them shows.
-use Rattle.std.proofs.Common.{◌≡◌, ◌≢◌, ◌∙◌, ◌⊎◌, inl, inr, ℕ, zero, suc, ◌+◌, ◌%◌, ◌<◌, ◌≤◌, List, [], ◌∷◌, ◌++◌, Option, None, Some, IfSome, length, map, take, drop, get_or, slice_get, Result, Ok, Err, IfOk, ap, sym, refl, subst, arith, zero-add, add-zero}
+use Rattle.std.proofs.Common.{◌≡◌, ◌≢◌, ◌∙◌, ◌⊎◌, inl, inr, ℕ, zero, suc, ◌+◌, ◌%◌, ◌<◌, ◌≤◌, List, [], ◌∷◌, ◌++◌, Option, None, Some, IfSome, length, map, take, drop, get_or, slice_get, Result, Ok, Err, IfOk, Bool, true, false, ap, sym, refl, subst, arith, zero-add, add-zero}
 use Rattle.std.proofs.lemmas.List.{take_at}
 use Rattle.std.proofs.lemmas.List.Elements.{filter-append}
 use Rattle.std.proofs.lemmas.Option.{slice_get-get_or}
-use Rattle.std.specs.Prelude.{All, ◌==◌}
+use Rattle.std.specs.Prelude.{All, ◌==◌, ◌||◌}
 use Rattle.std.specs.List.{AllByRecursion}
 use mathlib.Core.List.{IsPrefix}
 use Rattle.arrays.specs.Batch.{Batch, Table, rows_of}
@@ -17,6 +17,7 @@ use Rattle.loads.specs.declared.fault.LoadFault.TheVariants as load
 use Rattle.shared.specs.Balance.{IsOfWorkers}
 use Rattle.shared.specs.Hand.{AreNew, Hand, IsNew, IsPartOf, IsWhole}
 use Rattle.shared.specs.Left.{Left}
+use Rattle.shared.specs.Missing.{AllThere, is_there}
 use Rattle.shared.specs.Parts.{InOrder}
 use Rattle.table.proofs.FrontLemmas.{prefix_self, prefix_trans}
 use Rattle.table.specs.Cause.{IsLegal, batch_cause}
@@ -28,7 +29,7 @@ use Rattle.arrowtab.specs.Alone.{fields_for}
 use Rattle.arrowtab.specs.Loaded.{IsLoaded, IsStopped}
 use Rattle.arrowtab.specs.Worked.{Holds, listed}
 use Rattle.arrowtab.specs.declared.run_fault.RunFault.{RunFault}
-use Rattle.arrowtab.proofs.PlanLemmas.{all_begun, by_recursion, each_planned, map_begun, order_begun, planned_front}
+use Rattle.arrowtab.proofs.PlanLemmas.{all_begun, by_recursion, each_planned, map_begun, order_begun, planned_front, same_test}
 use Rattle.arrowtab.proofs.WorkedLemmas.{loaded_of, stopped_of}
 
 nobody : Hand
@@ -196,6 +197,35 @@ stopped_all workers files fields old new h file number count e own some size sam
     subst (λ (fs : List FieldShape). IsStopped workers (listed files) fs file number e) same
     (subst (λ n. IsStopped n (listed files) fields file number e) size
     (stopped_one files fields old new h file number count e own (omega (arith, some, size)) are stands at part legal whole (subst (λ n. IsOfWorkers n h) (sym size) known)))
+
+-- ---- all workers are there
+
+there_at : (hands : List Hand) (place n : ℕ) (d : Hand) → place < length hands → (get_or hands place d).number ≡ n → is_there hands n ≡ true
+there_at [] place n d below is = absurd (omega (arith, below))
+there_at (h ∷ hands) zero n d below is = ap (λ b. b || is_there hands n) (same_test h.number n is)
+there_at (h ∷ hands) (suc k) n d below is = later (h.number == n) (is_there hands n) (there_at hands k n d (omega (arith, below)) is)
+  where
+    later : (b rest : Bool) → rest ≡ true → (b || rest) ≡ true
+    later true rest is = refl
+    later false rest is = is
+
+all_there : (workers : ℕ) (old new back : List Hand) → length old ≡ workers → length new ≡ length old → AreNew 0 old → back ≡ new
+    → ((w : ℕ) → w < length old → (get_or new w nobody).number ≡ (get_or old w nobody).number) → AllThere workers back
+all_there workers old new back size kept are is numbered n below =
+    let inside : n < length old = omega (arith, below, size) in
+    ap (λ hands. is_there hands n) is ∙ there_at new n n nobody (omega (arith, inside, kept)) (numbered n inside ∙ (new_at 0 old n n nobody are inside (sym (zero-add n))).numbered)
+
+pub loaded_there : (workers table : ℕ) (files : List File) (fields : List FieldShape) (old new back : List Hand) → table ≡ workers → length old ≡ workers → AreNew 0 old
+    → AllLoaded fields (batches_of files) old new → back ≡ new → AllThere table back
+loaded_there workers table files fields old new back same size are all is =
+    subst (λ n. AllThere n back) (sym same) (all_there workers old new back size all.kept are is (λ w below. (all.each w nobody below).number))
+
+pub stopped_there : (workers table : ℕ) (files : List File) (fields : List FieldShape) (old new back : List Hand) (file number : ℕ) (e : Refusal) → table ≡ workers → length old ≡ workers → AreNew 0 old
+    → Stands (load.Refused file number e) fields (batches_of files) old new → back ≡ new → AllThere table back
+stopped_there workers table files fields old new back file number e same size are (inr none) is = let wants : load.Refused file number e ≡ load.NoMemory = none.0 in absurd (cc)
+stopped_there workers table files fields old new back file number e same size are (inl told) is =
+    let none : Left = record { last = None; stop = None } in
+    subst (λ n. AllThere n back) (sym same) (all_there workers old new back size told.1.kept are is (λ w below. (told.1.each w nobody none below).loaded.number))
 
 -- ---- the workers, written back
 

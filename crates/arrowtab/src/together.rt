@@ -7,6 +7,7 @@ ghost use Rattle.arrowtab.specs.Run.{Answers};
 ghost use Rattle.arrowtab.specs.Worked.{Holds, Shows, StopsLoading, StopsWanted};
 ghost use Rattle.shared.specs.Balance.{IsOfWorkers};
 ghost use Rattle.shared.specs.Hand.{AreNew, IsWhole};
+ghost use Rattle.shared.specs.Missing.{AllThere};
 ghost use Rattle.table.specs.Cause.{IsLegal};
 
 use crate::answer::output_of;
@@ -18,7 +19,7 @@ use arrays::File;
 use ends::Source;
 use job::Command;
 use loads::{LoadFault, load_all};
-use shared::{Naming, Pair, Publish, SharedTable, Shown, Worker, open};
+use shared::{GatherCause, Naming, Pair, Publish, SharedTable, Shown, Worker, open};
 use std::alloc::Global;
 use std::marker::Brand;
 use std::sync::ledger::{Blank, Ledger};
@@ -193,12 +194,13 @@ fn load_by<
     }
 }
 
-/// All that the workers of a table appended. As all of them are there, only want of memory is left to stand against it.
+/// All that the workers of a table appended. As all of them are there, only want of memory can stand against it.
 fn gather_all<C: Ledger, Q: Ledger, N: Naming, P: Publish<Item = Shown<N>>, W: Wait>(
     wait: &W,
     table: SharedTable<C, Q, N, P>,
     hands: Vec<Worker<C, Q, N>>,
 ) -> Result<Arc<Version>, RunFault>
+    requires { AllThere table hands.items }
     ensures whole { IfOk result (λ v. All (IsWhole (arc_value v).history) hands.items) }
     ensures known { IfOk result (λ v. IsOfWorkers table (arc_value v).history) }
     ensures legal { IfOk result (λ v. IsLegal N.fields (arc_value v).history) }
@@ -207,9 +209,12 @@ fn gather_all<C: Ledger, Q: Ledger, N: Naming, P: Publish<Item = Shown<N>>, W: W
 {
     match table.gather(wait, hands) {
         Ok(gathered) => Ok(gathered.version),
-        Err(fault) => {
-            fault.table.close(wait);
-            Err(RunFault::NoMemory)
-        }
+        Err(fault) => match fault.cause {
+            GatherCause::NoMemory => {
+                fault.table.close(wait);
+                Err(RunFault::NoMemory)
+            }
+            GatherCause::WorkerMissing { .. } => unreachable!(),
+        },
     }
 }
