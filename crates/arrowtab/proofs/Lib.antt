@@ -12,3 +12,4 @@ mod GroupLineLemmas
 mod QueryLemmas
 mod TogetherLemmas
 mod SettledLemmas
+mod SendingLemmas
