@@ -5,7 +5,7 @@ use crate::testing::{expect_added, load, numbers};
 use answers::OpenGate;
 use loads::LoadFault;
 use scenes::{Scene, play};
-use shared::{Naming, Publish, Reader, Refusal, SharedTable, Worker};
+use shared::{Naming, Publish, Reader, Refusal, SharedTable, Shown, Worker};
 use std::alloc::Global;
 use std::process::Abort;
 use std::sync::Wait;
@@ -42,7 +42,7 @@ impl Scene for InTurn {
         C: Ledger + Send + Sync,
         Q: Ledger + Send + Sync,
         N: Naming + Send + Sync,
-        P: Publish<N> + Send,
+        P: Publish<Item = Shown<N>> + Send,
         R: Wait + Threads + Abort + Sync,
     >(
         rt: &R,
@@ -82,7 +82,7 @@ impl Scene for Alone {
         C: Ledger + Send + Sync,
         Q: Ledger + Send + Sync,
         N: Naming + Send + Sync,
-        P: Publish<N> + Send,
+        P: Publish<Item = Shown<N>> + Send,
         R: Wait + Threads + Abort + Sync,
     >(
         rt: &R,
@@ -114,7 +114,7 @@ impl Scene for Refused {
         C: Ledger + Send + Sync,
         Q: Ledger + Send + Sync,
         N: Naming + Send + Sync,
-        P: Publish<N> + Send,
+        P: Publish<Item = Shown<N>> + Send,
         R: Wait + Threads + Abort + Sync,
     >(
         rt: &R,
@@ -154,7 +154,7 @@ impl Scene for Whole {
         C: Ledger + Send + Sync,
         Q: Ledger + Send + Sync,
         N: Naming + Send + Sync,
-        P: Publish<N> + Send,
+        P: Publish<Item = Shown<N>> + Send,
         R: Wait + Threads + Abort + Sync,
     >(
         rt: &R,

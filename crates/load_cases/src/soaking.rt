@@ -6,7 +6,7 @@ use arrow_json::read_file;
 use loads::load_all;
 use samples::shows_numbers;
 use scenes::{Scene, play};
-use shared::{Naming, Publish, Reader, SharedTable, Version, Worker};
+use shared::{Naming, Publish, Reader, SharedTable, Shown, Version, Worker};
 use std::alloc::Global;
 use std::process::Abort;
 use std::sync::Wait;
@@ -31,7 +31,7 @@ impl Scene for Soak {
         C: Ledger + Send + Sync,
         Q: Ledger + Send + Sync,
         N: Naming + Send + Sync,
-        P: Publish<N> + Send,
+        P: Publish<Item = Shown<N>> + Send,
         R: Wait + Threads + Abort + Sync,
     >(
         rt: &R,

@@ -5,7 +5,7 @@ use arrays::{DataType, File, Schema};
 use arrow_json::read_file;
 use loads::{LoadFault, load_all};
 use samples::{INT8, field, shows_numbers};
-use shared::{Naming, Publish, Receipt, SharedTable, Worker};
+use shared::{Naming, Publish, Receipt, SharedTable, Shown, Worker};
 use std::alloc::Global;
 use std::process::Abort;
 use std::sync::Wait;
@@ -27,7 +27,7 @@ pub(crate) fn load<
     C: Ledger + Send + Sync,
     Q: Ledger + Send + Sync,
     N: Naming + Send + Sync,
-    P: Publish<N> + Send,
+    P: Publish<Item = Shown<N>> + Send,
     R: Wait + Threads + Abort + Sync,
     G: Gate,
 >(
@@ -57,7 +57,7 @@ pub(crate) fn expect_added<
     C: Ledger,
     Q: Ledger,
     N: Naming,
-    P: Publish<N>,
+    P: Publish<Item = Shown<N>>,
     R: Wait + Abort,
 >(
     rt: &R,

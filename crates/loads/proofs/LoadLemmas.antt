@@ -19,7 +19,7 @@ use Rattle.table.specs.Cause.{cause, difference}
 use Rattle.table.specs.History.{History}
 use Rattle.table.specs.declared.refusal.Refusal.{Refusal}
 use Rattle.table.specs.declared.refusal.Refusal.TheVariants.{SchemaDiffers}
-use Rattle.loads.specs.Loaded.{HasLast, IsAlike, IsStopped, Loaded, StandsFor, batches_of, pairs_of}
+use Rattle.loads.specs.Loaded.{HasLast, IsAlike, IsNewest, IsStopped, Loaded, StandsFor, batches_of, pairs_of}
 use Rattle.loads.specs.Plan.{planned}
 
 -- ---- answers
@@ -133,6 +133,10 @@ last_some fields first b old new r before is = let more : first < calls_of_hand 
 
 pub last_moved : (first : ℕ) (old new : Hand) (before last : Option History) → new ≡ old → last ≡ before → HasLast first old before → HasLast first new last
 last_moved first old new before last same is has = ap (λ (p : Option History). is_some p) is ∙ has ∙ ap (λ (h : Hand). nat_lt first (calls_of_hand h)) (sym same)
+
+pub newest_moved : (old new : Hand) (before last : Option History) → new ≡ old → last ≡ before → IsNewest old before → IsNewest new last
+newest_moved old new before last same is newest =
+    subst (λ (h : Hand). IsNewest h last) (sym same) (subst (λ o. IsNewest old o) (sym is) newest)
 
 pub last_kept : (fields : List FieldShape) (first : ℕ) (old new : Hand) (last : Option History) → Loaded fields [] old new → HasLast first old last → HasLast first new last
 last_kept fields first old new last is has = has ∙ ap (λ (n : ℕ). nat_lt first n) (omega (arith, is.calls))

@@ -108,6 +108,17 @@ zip_at (x ∷ xs) [] i a b size = absurd (omega (arith, size))
 zip_at (x ∷ xs) (y ∷ ys) zero a b size = refl
 zip_at (x ∷ xs) (y ∷ ys) (suc i) a b size = zip_at xs ys i a b (omega (arith, size))
 
+same_at : {A : Type 0} (xs : List A) (i : ℕ) (c d : A) → i < length xs → get_or xs i c ≡ get_or xs i d
+same_at [] i c d below = absurd (omega (arith, below))
+same_at (x ∷ xs) zero c d below = refl
+same_at (x ∷ xs) (suc i) c d below = same_at xs i c d (omega (arith, below))
+
+newest_at : (o : Left) (old new new' old' : Hand) → new' ≡ new → HasLast (calls_of_hand old) new' o.last → IsNewest new' o.last → o.last ≡ seen_of (old, new)
+newest_at o old new new' old' same last newest =
+    newest_one (nat_lt (calls_of_hand old) (calls_of_hand new)) o.last new.seen
+    (last ∙ ap (λ (h : Hand). nat_lt (calls_of_hand old) (calls_of_hand h)) same)
+    (subst (λ (h : Hand). IfSome o.last (λ r. r ≡ h.seen)) same newest)
+
 pub all_newest : (fields : List FieldShape) (files : List (List Batch)) (old new : List Hand) (outcomes : List Left) → AreRun fields files old new outcomes → AllFinished outcomes
     → AreNewest (last_receipts outcomes) old new
 all_newest fields files old new outcomes are finished =
@@ -119,14 +130,3 @@ all_newest fields files old new outcomes are finished =
         let at = ap seen_of (zip_at old new i p.0 p.1 are.kept) in
         newest_at (get_or outcomes i o) (get_or old i p.0) (get_or new i p.1) (get_or new i p.0) (get_or old i p.1) (same_at new i p.0 p.1 (omega (arith, inside, are.kept))) run.last (run.newest (finished i o below))
         ∙ sym at)
-where
-  same_at : {A : Type 0} (xs : List A) (i : ℕ) (c d : A) → i < length xs → get_or xs i c ≡ get_or xs i d
-  same_at [] i c d below = absurd (omega (arith, below))
-  same_at (x ∷ xs) zero c d below = refl
-  same_at (x ∷ xs) (suc i) c d below = same_at xs i c d (omega (arith, below))
-
-  newest_at : (o : Left) (old new new' old' : Hand) → new' ≡ new → HasLast (calls_of_hand old) new' o.last → IsNewest new' o.last → o.last ≡ seen_of (old, new)
-  newest_at o old new new' old' same last newest =
-      newest_one (nat_lt (calls_of_hand old) (calls_of_hand new)) o.last new.seen
-      (last ∙ ap (λ (h : Hand). nat_lt (calls_of_hand old) (calls_of_hand h)) same)
-      (subst (λ (h : Hand). IfSome o.last (λ r. r ≡ h.seen)) same newest)

@@ -5,7 +5,7 @@ ghost use Rattle.loads.specs.Loaded.{Loaded, StandsFor};
 
 use answers::Gate;
 use arrays::RecordBatch;
-use shared::{Naming, Publish, Receipt, Refusal, SharedTable, Worker};
+use shared::{Naming, Publish, Receipt, Refusal, SharedTable, Shown, Worker};
 use std::sync::Wait;
 use std::sync::ledger::Ledger;
 
@@ -28,15 +28,25 @@ pub(crate) trait Append<C: Ledger, Q: Ledger, N: Naming> {
 
 /// A table behind a gate.
 #[derive(Drop)]
-pub(crate) struct Gated<'a, C: Ledger, Q: Ledger, N: Naming, P: Publish<N>, W: Wait, G: Gate> {
+pub(crate) struct Gated<
+    'a,
+    C: Ledger,
+    Q: Ledger,
+    N: Naming,
+    P: Publish<Item = Shown<N>>,
+    W: Wait,
+    G: Gate,
+> {
     pub(crate) wait: &'a W,
     pub(crate) table: &'a SharedTable<C, Q, N, P>,
     pub(crate) gate: &'a G,
 }
 
-impl<'a, C: Ledger, Q: Ledger, N: Naming, P: Publish<N>, W: Wait, G: Gate> Append<C, Q, N>
-    for Gated<'a, C, Q, N, P, W, G>
-{
+impl<'a, C: Ledger, Q: Ledger, N: Naming, P: Publish<Item = Shown<N>>, W: Wait, G: Gate> Append<
+    C,
+    Q,
+    N,
+> for Gated<'a, C, Q, N, P, W, G> {
     /// A place over 2^32 - 1 is that number to the gate.
     fn append(
         &self,

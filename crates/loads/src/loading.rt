@@ -10,7 +10,7 @@ use crate::file_loading::append_files;
 use crate::outcomes::{fault_of, push_receipts, take_outcomes};
 use answers::Gate;
 use arrays::File;
-use shared::{Naming, Publish, Receipt, SharedTable, Worker};
+use shared::{Naming, Publish, Receipt, SharedTable, Shown, Worker};
 use std::alloc::Global;
 use std::sync::Wait;
 use std::sync::ledger::Ledger;
@@ -32,7 +32,7 @@ pub fn load_all<
     C: Ledger + Send + Sync,
     Q: Ledger + Send + Sync,
     N: Naming + Send + Sync,
-    P: Publish<N> + Send,
+    P: Publish<Item = Shown<N>> + Send,
     W: Wait + Sync,
     T: Threads + Sync,
     G: Gate,

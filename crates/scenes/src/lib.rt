@@ -5,7 +5,7 @@ ghost use Rattle.std.specs.Prelude.{◌≡◌};
 ghost use Rattle.table.specs.Stored.{stored_fields};
 
 use arrays::Schema;
-use shared::{Naming, Pair, Publish, Reader, SharedTable, Worker, open};
+use shared::{Naming, Pair, Publish, Reader, SharedTable, Shown, Worker, open};
 use std::alloc::Global;
 use std::marker::Brand;
 use std::process::Abort;
@@ -21,7 +21,7 @@ pub trait Scene {
         C: Ledger + Send + Sync,
         Q: Ledger + Send + Sync,
         N: Naming + Send + Sync,
-        P: Publish<N> + Send,
+        P: Publish<Item = Shown<N>> + Send,
         R: Wait + Threads + Abort + Sync,
     >(
         rt: &R,
@@ -43,9 +43,7 @@ pub fn play<S: Scene, R: Wait + Threads + Abort + Sync>(
     let pair = Pair::new(alloc, schema)?;
     let calls = Blank::new(u64::from(workers));
     let rows = Blank::new(u64::from(workers));
-    play_under::<Brand, Brand, Brand, S, R>(
-        rt, alloc, schema, workers, readers, calls, rows, pair,
-    )
+    play_under::<Brand, Brand, Brand, S, R>(rt, alloc, schema, workers, readers, calls, rows, pair)
 }
 
 /// The same, under the names of two ledgers and of a history.
@@ -70,7 +68,8 @@ fn play_under<
     requires pair { (pair.book ≡ N.book) × (pair.fields ≡ N.fields) × (pair.fields ≡ stored_fields schema.now) }
 {
     let schema = schema.copy(alloc)?;
-    let (table, workers, readers) =
-        open::<C, Q, N, &R>(rt, alloc, schema, workers, readers, calls, rows, pair)?;
+    let (table, workers, readers) = open::<C, Q, N, &R>(
+        rt, alloc, schema, workers, readers, calls, rows, pair,
+    )?;
     S::play(rt, alloc, table, workers, readers)
 }

@@ -7,7 +7,7 @@ use crate::testing::{
 use arrays::Schema;
 use scenes::{Scene, play};
 use shared::{
-    Entry, GatherCause, GatherFault, Naming, Publish, Reader, Refusal, SharedTable, Version,
+    Entry, GatherCause, GatherFault, Naming, Publish, Reader, Refusal, SharedTable, Shown, Version,
     Worker,
 };
 use std::alloc::Global;
@@ -30,7 +30,7 @@ impl Scene for TwoOfThree {
         C: Ledger + Send + Sync,
         Q: Ledger + Send + Sync,
         N: Naming + Send + Sync,
-        P: Publish<N> + Send,
+        P: Publish<Item = Shown<N>> + Send,
         R: Wait + Threads + Abort + Sync,
     >(
         rt: &R,
@@ -92,7 +92,7 @@ impl Scene for OtherName {
         C: Ledger + Send + Sync,
         Q: Ledger + Send + Sync,
         N: Naming + Send + Sync,
-        P: Publish<N> + Send,
+        P: Publish<Item = Shown<N>> + Send,
         R: Wait + Threads + Abort + Sync,
     >(
         rt: &R,
@@ -127,7 +127,7 @@ impl Scene for Snapshots {
         C: Ledger + Send + Sync,
         Q: Ledger + Send + Sync,
         N: Naming + Send + Sync,
-        P: Publish<N> + Send,
+        P: Publish<Item = Shown<N>> + Send,
         R: Wait + Threads + Abort + Sync,
     >(
         rt: &R,

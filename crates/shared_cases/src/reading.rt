@@ -5,7 +5,7 @@ use crate::testing::{
 };
 use colbits::NoMemory;
 use scenes::{Scene, play};
-use shared::{Entry, Naming, Publish, Reader, Refusal, SharedTable, Worker};
+use shared::{Entry, Naming, Publish, Reader, Refusal, SharedTable, Shown, Worker};
 use std::alloc::Global;
 use std::process::Abort;
 use std::sync::Wait;
@@ -27,7 +27,7 @@ impl Scene for Learning {
         C: Ledger + Send + Sync,
         Q: Ledger + Send + Sync,
         N: Naming + Send + Sync,
-        P: Publish<N> + Send,
+        P: Publish<Item = Shown<N>> + Send,
         R: Wait + Threads + Abort + Sync,
     >(
         rt: &R,
@@ -77,7 +77,7 @@ impl Scene for Many {
         C: Ledger + Send + Sync,
         Q: Ledger + Send + Sync,
         N: Naming + Send + Sync,
-        P: Publish<N> + Send,
+        P: Publish<Item = Shown<N>> + Send,
         R: Wait + Threads + Abort + Sync,
     >(
         rt: &R,

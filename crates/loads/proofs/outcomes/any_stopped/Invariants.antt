@@ -3,4 +3,4 @@ use Rattle.loads.specs.Told.{AllFinished}
 use Rattle.loads.proofs.outcomes.any_stopped.Given as goal
 
 abbrev pub invariant-loop-outcome : goal.invariant-loop-outcome
-invariant-loop-outcome l = AllFinished (take l.outcome-index l.outcomes)
+invariant-loop-outcome g l = AllFinished (take l.outcome-index l.outcomes)

@@ -3,4 +3,4 @@ use Rattle.loads.specs.Told.{IsLeastStop}
 use Rattle.loads.proofs.outcomes.least_stop.Given as goal
 
 abbrev pub invariant-loop-outcome : goal.invariant-loop-outcome
-invariant-loop-outcome l = IsLeastStop l.least (take l.outcome-index l.outcomes)
+invariant-loop-outcome g l = IsLeastStop l.least (take l.outcome-index l.outcomes)

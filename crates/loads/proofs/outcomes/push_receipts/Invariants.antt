@@ -3,7 +3,7 @@ use Rattle.loads.specs.Told.{last_receipts}
 use Rattle.loads.proofs.outcomes.push_receipts.Given as goal
 
 abbrev pub invariant-loop-outcome : goal.invariant-loop-outcome
-invariant-loop-outcome l = record {
+invariant-loop-outcome g l = record {
   items : l.receipts.items ≡ l.fn.receipts.items ++ last_receipts (take l.outcome-index l.outcomes);
   room : vec_len l.receipts + length l.outcomes ≤ vec_capacity l.receipts + l.outcome-index;
 }

@@ -6,5 +6,8 @@ ghosts-opened_under-C-Ledger _ a = record { name = a.calls.name; parts = a.calls
 abbrev pub ghosts-opened_under-Q-Ledger : goal.ghosts-opened_under-Q-Ledger
 ghosts-opened_under-Q-Ledger _ a = record { name = a.rows.name; parts = a.rows.parts }
 
-abbrev pub ghosts-opened_under-N-Naming : goal.ghosts-opened_under-N-Naming
-ghosts-opened_under-N-Naming _ a = record { Naming = record { book = a.pair.book }; fields = a.pair.fields }
+abbrev pub ghosts-opened_under-N-Naming-1 : goal.ghosts-opened_under-N-Naming-1
+ghosts-opened_under-N-Naming-1 _ a = record { fields = a.pair.fields }
+
+abbrev pub ghosts-opened_under-N-Naming-2 : goal.ghosts-opened_under-N-Naming-2
+ghosts-opened_under-N-Naming-2 _ a = record { book = a.pair.book }

@@ -1,9 +1,8 @@
-use Rattle.arrays.specs.Batch.{rows_of}
-use Rattle.table.proofs.BatchLemmas.{length-rows_of}
-use Rattle.loads.proofs.LoadLemmas.{loaded_raised, on_ok}
+use Rattle.loads.proofs.LoadLemmas.{loaded_none, loaded_one, on_err_both, on_ok_both}
 use Rattle.loads.proofs.appending.GatedAppend.append.Goals as goal
 
 pub returns-clause-raised : goal.returns-clause-raised
-returns-clause-raised g c =
-    let b = c.args.batch.now in
-    on_ok c.append.result (loaded_raised (rows_of b) b.rows c.args.worker.now c.append.new.worker (length-rows_of b)) c.append.ensures.raised
+returns-clause-raised g c = on_ok_both c.append.result (loaded_one g.N.Naming-1.fields c.args.batch.now c.args.worker.now c.append.new.worker) c.append.ensures.raised c.append.ensures.added
+
+pub returns-clause-kept : goal.returns-clause-kept
+returns-clause-kept g c = on_err_both c.append.result (loaded_none g.N.Naming-1.fields c.args.worker.now c.append.new.worker) c.append.ensures.kept c.append.ensures.seen
