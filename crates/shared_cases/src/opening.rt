@@ -35,9 +35,7 @@ fn opened<R: Wait + Abort>(
     let pair = Pair::new(alloc, schema)?;
     let calls = Blank::new(u64::from(workers));
     let rows = Blank::new(u64::from(workers));
-    opened_under::<Brand, Brand, Brand, R>(
-        rt, alloc, schema, workers, readers, calls, rows, pair,
-    )
+    opened_under::<Brand, Brand, Brand, R>(rt, alloc, schema, workers, readers, calls, rows, pair)
 }
 
 /// The same, under the names of two ledgers and of a history.
