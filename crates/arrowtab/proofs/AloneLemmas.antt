@@ -1,5 +1,5 @@
 -- What one worker alone makes of files.
-use Rattle.std.proofs.Common.{◌≡◌, ◌∙◌, IfErr, Result, Ok, Err, ℕ, zero, suc, ◌%◌, ◌<◌, List, [], ◌∷◌, ◌++◌, Some, length, map, take, slice_get, ap, sym, refl, subst, append_assoc, arith}
+use Rattle.std.proofs.Common.{◌≡◌, ◌∙◌, ℕ, zero, suc, ◌%◌, List, [], ◌∷◌, ◌++◌, Some, length, take, slice_get, ap, sym, refl, subst, arith}
 use Rattle.std.proofs.lemmas.List.{length-map, map-append, take_at}
 use Rattle.std.specs.List.{AllByRecursion, flat_map}
 use Rattle.arrays.specs.Batch.{Batch, rows_of}

@@ -4,7 +4,7 @@ use denote.Struct.Declared.{shape}
 use denote.Struct.Struct.{Struct}
 use denote.Builtin.{unit}
 use denote.RattleType.{RattleType}
-use Rattle.std.proofs.Crossing.{crosses, frees, send as heap-send, sync as heap-sync}
+use Rattle.std.proofs.Crossing.{crosses, frees, send as heap-send}
 use Rattle.std_heap.specs.contracts.Global as heap
 use Rattle.std_heap.specs.contracts.GlobalAllocator.TheImpl.{ghosts}
 use Rattle.atomic_table.proofs.send_lease.SendLease.TheSendSync as lease

@@ -1,10 +1,9 @@
 -- What several workers made of files, from what each of them shows.
-use Rattle.std.proofs.Common.{◌≡◌, ◌≢◌, ◌∙◌, ◌⊎◌, inl, inr, ℕ, zero, suc, ◌+◌, ◌%◌, ◌<◌, ◌≤◌, List, [], ◌∷◌, ◌++◌, Option, None, Some, IfSome, length, map, take, drop, get_or, slice_get, Result, Ok, Err, IfOk, Bool, true, false, ap, sym, refl, subst, arith, zero-add, add-zero}
+use Rattle.std.proofs.Common.{◌≡◌, ◌≢◌, ◌∙◌, inl, inr, ℕ, zero, suc, ◌+◌, ◌%◌, ◌<◌, ◌≤◌, List, [], ◌∷◌, ◌++◌, Option, None, Some, IfSome, length, take, drop, get_or, slice_get, Result, Ok, Err, IfOk, Bool, true, false, ap, sym, refl, subst, arith, zero-add, add-zero}
 use Rattle.std.proofs.lemmas.List.{take_at}
 use Rattle.std.proofs.lemmas.List.Elements.{filter-append}
 use Rattle.std.proofs.lemmas.Option.{slice_get-get_or}
 use Rattle.std.specs.Prelude.{All, ◌==◌, ◌||◌}
-use Rattle.std.specs.List.{AllByRecursion}
 use mathlib.Core.List.{IsPrefix}
 use Rattle.arrays.specs.Batch.{Batch, Table, rows_of}
 use Rattle.arrays.specs.File.{File}
@@ -12,7 +11,6 @@ use Rattle.arrays.specs.Shape.{FieldShape}
 use Rattle.loads.specs.Loaded.{AllLoaded, AreRun, IsAlike, IsStopped as IsHalted, Loaded, StandsFor, Stop, batches_of, before_stop, pairs_of}
 use Rattle.loads.specs.Plan.{planned}
 use Rattle.loads.specs.Told.{IsLeast, Stands}
-use Rattle.loads.specs.declared.fault.LoadFault.{LoadFault}
 use Rattle.loads.specs.declared.fault.LoadFault.TheVariants as load
 use Rattle.shared.specs.Balance.{IsOfWorkers}
 use Rattle.shared.specs.Hand.{AreNew, Hand, IsNew, IsPartOf, IsWhole}

@@ -1,5 +1,5 @@
 -- What workers loaded and what stopped them, from the pairs that each added.
-use Rattle.std.proofs.Common.{◌≡◌, ◌≢◌, ◌∙◌, IfOk, IfErr, Result, Ok, Err, ℕ, ◌%◌, ◌<◌, List, [], ◌∷◌, ◌++◌, None, Option, Some, option_map, map, take, slice_get, ap, sym, subst}
+use Rattle.std.proofs.Common.{◌≡◌, ◌≢◌, ◌∙◌, IfOk, IfErr, Result, Ok, Err, ℕ, ◌%◌, ◌<◌, List, [], ◌∷◌, ◌++◌, None, Some, option_map, map, take, slice_get, ap, sym, subst}
 use Rattle.std.proofs.lemmas.List.{map-append, take-map}
 use Rattle.std.proofs.lemmas.Option.{slice_get-map}
 use Rattle.std.proofs.lemmas.Simd.{map-map}
@@ -20,7 +20,6 @@ use Rattle.table.specs.declared.refusal.Refusal.{Refusal}
 use Rattle.arrowtab.specs.Loaded.{FileBatch, IsLoaded, IsStopped, added_by, tables_of}
 use Rattle.arrowtab.specs.Wanted.{IsUnprinted, PrintsWanted, RefusesWanted}
 use Rattle.arrowtab.specs.Worked.{Holds, IsRefusedOver, Shows, StopsLoading, StopsWanted, batch_of, listed}
-use Rattle.arrowtab.specs.declared.run_fault.FileFault.TheVariants.{CannotRead, Json, Refused}
 use Rattle.arrowtab.specs.declared.run_fault.RunFault.{RunFault}
 use Rattle.arrowtab.specs.declared.run_fault.RunFault.TheVariants.{NoMemory, OfFile, QueryUnread, QueryRefused}
 use Rattle.arrowtab.specs.declared.wanted.Wanted.{Wanted}
