@@ -2,9 +2,14 @@
 mod ReportLemmas
 mod LoadLemmas
 mod ReadLemmas
+mod PlanLemmas
+mod WorkedLemmas
+mod AloneLemmas
 mod AnswerLemmas
 mod RunLemmas
 mod ExportLemmas
 mod GroupLineLemmas
 mod QueryLemmas
 mod TogetherLemmas
+mod SettledLemmas
+mod SendingLemmas

@@ -15,17 +15,17 @@ use Rattle.arrowtab.specs.declared.run_fault.RunFault.{RunFault}
 use Rattle.arrowtab.specs.declared.run_fault.RunFault.TheVariants.{NoMemory, OfFile, QueryUnread, QueryRefused}
 
 -- the file of a fault that has a cause is one of those that were read
-pub named : (command : Command) (count : ℕ) (inputs : Inputs) (before after : List ℕ) (fault : RunFault) → length inputs ≡ count → length before ≡ count → Explains command inputs before after fault → IsOfFile count fault
-named command count inputs before after NoMemory same counts why = tt
-named command count inputs before after (OfFile file CannotRead) same counts why = omega (arith, counts, slice_get_within before file why.failed why.first)
-named command count inputs before after (OfFile file (Json f)) same counts why = omega (arith, same, slice_get_within inputs file why.input why.of_file)
-named command count inputs before after (OfFile file (Refused number refusal)) same counts why =
+pub named : (command : Command) (workers count : ℕ) (inputs : Inputs) (before after : List ℕ) (fault : RunFault) → length inputs ≡ count → length before ≡ count → Explains command workers inputs before after fault → IsOfFile count fault
+named command workers count inputs before after NoMemory same counts why = tt
+named command workers count inputs before after (OfFile file CannotRead) same counts why = omega (arith, counts, slice_get_within before file why.failed why.first)
+named command workers count inputs before after (OfFile file (Json f)) same counts why = omega (arith, same, slice_get_within inputs file why.input why.of_file)
+named command workers count inputs before after (OfFile file (Refused number refusal)) same counts why =
     omega (arith, same, slice_get_within (_) file why.stopped.batches why.stopped.in_files, length-map why.files batches_of, AllZip-long _ inputs why.files why.read)
-named command count inputs before after (QueryUnread f) same counts why = tt
-named command count inputs before after (QueryRefused f) same counts why = tt
+named command workers count inputs before after (QueryUnread f) same counts why = tt
+named command workers count inputs before after (QueryRefused f) same counts why = tt
 
-module _ (command : Command) (names : List (List ℕ)) (inputs : Inputs) (before after : List ℕ) (out err_old err_new : ℕ) (old new : Option (List ℕ)) where
-  told : (fault : RunFault) (text : List ℕ) → IsLineOf names fault text → Appends old new text → Explains command inputs before after fault → Excuse command names inputs before after out out err_old err_new old new
+module _ (command : Command) (workers : ℕ) (names : List (List ℕ)) (inputs : Inputs) (before after : List ℕ) (out err_old err_new : ℕ) (old new : Option (List ℕ)) where
+  told : (fault : RunFault) (text : List ℕ) → IsLineOf names fault text → Appends old new text → Explains command workers inputs before after fault → Excuse command workers names inputs before after out out err_old err_new old new
   told NoMemory text is took why = no_memory refl (subst (Appends old new) is took)
   told (OfFile file CannotRead) text is took why = source_failed file is.0 is.1 why (subst (Appends old new) is.2 took)
   told (OfFile file (Json g)) text is took why = not_read file is.0 g.kind g.path is.1 why (subst (Appends old new) is.2 took)
@@ -33,7 +33,7 @@ module _ (command : Command) (names : List (List ℕ)) (inputs : Inputs) (before
   told (QueryUnread g) text is took why = query_not_read g.kind g.path why (subst (Appends old new) is took)
   told (QueryRefused g) text is took why = query_refused g why (subst (Appends old new) is took)
 
-  pub excuse_told : (fault : RunFault) → TookFault names fault err_old err_new old new → Explains command inputs before after fault → Excuse command names inputs before after out out err_old err_new old new
+  pub excuse_told : (fault : RunFault) → TookFault names fault err_old err_new old new → Explains command workers inputs before after fault → Excuse command workers names inputs before after out out err_old err_new old new
   excuse_told fault (built text is (sink_failed h)) why = error_failed h
   excuse_told fault (built text is (line_taken h)) why = told fault text is h why
   excuse_told fault (not_built (sink_failed h)) why = error_failed h

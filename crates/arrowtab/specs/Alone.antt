@@ -11,9 +11,6 @@ use Rattle.table.specs.declared.refusal.Refusal.{Refusal}
 use Rattle.arrowtab.specs.declared.run_fault.FileFault.TheVariants.{CannotRead, Json, Refused}
 use Rattle.arrowtab.specs.declared.run_fault.RunFault.{RunFault}
 use Rattle.arrowtab.specs.declared.run_fault.RunFault.TheVariants.{NoMemory, OfFile, QueryUnread, QueryRefused}
-use Rattle.arrowtab.specs.declared.wanted.Wanted.{Wanted}
-use Rattle.arrowtab.specs.Wanted.{PrintsWanted, RefusesWanted}
-use Rattle.query.specs.declared.fault.QueryFault.{QueryFault}
 
 -- Worker 0 adds the batches, one after the other.
 abbrev pub alone : List Batch → History
@@ -78,25 +75,3 @@ Stops fields files (OfFile f (Json fault)) = ⊥
 Stops fields files (OfFile f (Refused number refusal)) = IsRefusedIn fields files f number refusal
 Stops fields files (QueryUnread f) = ⊥
 Stops fields files (QueryRefused f) = ⊥
-
--- The files' batches are all added, to a legal history.
-pub record IsWhole (fields : List FieldShape) (files : List File) : Type 0 where
-  pub alike : AllByRecursion (λ f. AreAlike fields f.batches) files
-  pub legal : IsLegal fields (alone (batches_in files))
-
--- The text is what is wanted of the files' batches.
-pub record Shows (wanted : Wanted) (fields : List FieldShape) (files : List File) (printed : List ℕ) : Type 0 where
-  pub whole : IsWhole fields files
-  pub prints : PrintsWanted wanted 1 fields (alone (batches_in files)) printed
-
--- The query that is wanted is refused over the files' batches.
-pub record IsRefusedOver (wanted : Wanted) (fields : List FieldShape) (files : List File) (fault : QueryFault) : Type 0 where
-  pub whole : IsWhole fields files
-  pub refused : RefusesWanted wanted fields (alone (batches_in files)) fault
-
--- The fault of adding the files, or of printing what is wanted of them.
-abbrev pub StopsWanted : Wanted → List FieldShape → List File → RunFault → Type 0
-StopsWanted wanted fields files NoMemory = ⊤
-StopsWanted wanted fields files (OfFile f fault) = Stops fields files (OfFile f fault)
-StopsWanted wanted fields files (QueryUnread f) = ⊥
-StopsWanted wanted fields files (QueryRefused f) = IsRefusedOver wanted fields files f

@@ -8,25 +8,31 @@ use Rattle.arrowtab.specs.declared.run_fault.FileFault.TheVariants.{CannotRead, 
 use Rattle.arrowtab.specs.declared.run_fault.RunFault.{RunFault}
 use Rattle.arrowtab.specs.declared.run_fault.RunFault.TheVariants.{NoMemory, OfFile, QueryUnread, QueryRefused}
 
--- The cause of a file's fault: a failure of its source in this call, a fault of its bytes, a refusal of one of its batches.
-abbrev pub ExplainsFile : Inputs → List ℕ → List ℕ → ℕ → FileFault → Type 0
-ExplainsFile inputs before after file CannotRead = FailedRead before after file
-ExplainsFile inputs before after file (Json f) = FailedFile inputs file f.kind f.path
-ExplainsFile inputs before after file (Refused number refusal) = Refuses inputs file number refusal
+-- The cause of a fault of reading a file: a failure of its source in this call, or a fault of its bytes.
+abbrev pub ExplainsRead : Inputs → List ℕ → List ℕ → ℕ → FileFault → Type 0
+ExplainsRead inputs before after file CannotRead = FailedRead before after file
+ExplainsRead inputs before after file (Json f) = FailedFile inputs file f.kind f.path
+ExplainsRead inputs before after file (Refused number refusal) = ⊥
 
--- The cause of a fault of the files alone.
+-- The cause of a fault of reading the files.
 abbrev pub ExplainsFiles : Inputs → List ℕ → List ℕ → RunFault → Type 0
 ExplainsFiles inputs before after NoMemory = ⊤
-ExplainsFiles inputs before after (OfFile file fault) = ExplainsFile inputs before after file fault
+ExplainsFiles inputs before after (OfFile file fault) = ExplainsRead inputs before after file fault
 ExplainsFiles inputs before after (QueryUnread f) = ⊥
 ExplainsFiles inputs before after (QueryRefused f) = ⊥
 
+-- The cause of a file's fault, for so many workers: one of reading it, or a refusal of one of its batches.
+abbrev pub ExplainsFile : ℕ → Inputs → List ℕ → List ℕ → ℕ → FileFault → Type 0
+ExplainsFile workers inputs before after file CannotRead = FailedRead before after file
+ExplainsFile workers inputs before after file (Json f) = FailedFile inputs file f.kind f.path
+ExplainsFile workers inputs before after file (Refused number refusal) = Refuses workers inputs file number refusal
+
 -- The cause of a fault: of a file, of the query's bytes, or of the query over the files' table.
-abbrev pub Explains : Command → Inputs → List ℕ → List ℕ → RunFault → Type 0
-Explains command inputs before after NoMemory = ⊤
-Explains command inputs before after (OfFile file fault) = ExplainsFile inputs before after file fault
-Explains command inputs before after (QueryUnread f) = FailedQuery command f.kind f.path
-Explains command inputs before after (QueryRefused f) = RefusesQuery command inputs f
+abbrev pub Explains : Command → ℕ → Inputs → List ℕ → List ℕ → RunFault → Type 0
+Explains command workers inputs before after NoMemory = ⊤
+Explains command workers inputs before after (OfFile file fault) = ExplainsFile workers inputs before after file fault
+Explains command workers inputs before after (QueryUnread f) = FailedQuery command f.kind f.path
+Explains command workers inputs before after (QueryRefused f) = RefusesQuery command workers inputs f
 
 -- The same of one source, by its number.
 abbrev pub ExplainsSource : ℕ → Option (List ℕ) → ℕ → ℕ → RunFault → Type 0

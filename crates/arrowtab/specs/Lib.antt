@@ -12,3 +12,4 @@ pub mod Run
 pub mod Explained
 pub mod Wanted
 pub mod Alone
+pub mod Worked

@@ -35,20 +35,20 @@ abbrev pub table_fields : List FileData → List FieldShape
 table_fields [] = []
 table_fields (file ∷ files) = stored_fields file.fields
 
--- The text is the command's output for the files of these sources and one worker: a legal history has the worker add
--- their batches, each in order.
-pub record Answers (command : Command) (inputs : Inputs) (text : List ℕ) : Type 0 where
+-- The text is the command's output for the files of these sources and so many workers: a legal history has each worker add
+-- its list of their batches, in order.
+pub record Answers (command : Command) (workers : ℕ) (inputs : Inputs) (text : List ℕ) : Type 0 where
   pub files : List FileData
   pub read : AreRead inputs files
   pub history : History
-  pub loaded : IsLoaded 1 (map batches_of files) (table_fields files) history
-  pub prints : Prints command 1 (table_fields files) history text
+  pub loaded : IsLoaded workers (map batches_of files) (table_fields files) history
+  pub prints : Prints command workers (table_fields files) history text
 
--- The sources' bytes are read, and a cause stands for a batch of a file, after those before it.
-pub record Refuses (inputs : Inputs) (file number : ℕ) (refusal : Refusal) : Type 0 where
+-- The sources' bytes are read, and a cause stands for a batch of a file, after those that its worker adds before it.
+pub record Refuses (workers : ℕ) (inputs : Inputs) (file number : ℕ) (refusal : Refusal) : Type 0 where
   pub files : List FileData
   pub read : AreRead inputs files
-  pub stopped : IsStopped 1 (map batches_of files) (table_fields files) file number refusal
+  pub stopped : IsStopped workers (map batches_of files) (table_fields files) file number refusal
 
 -- The command's query isn't read: this fault of its bytes stands.
 abbrev pub FailedQuery : Command → JsonFaultKind → List Step → Type 0
@@ -57,23 +57,23 @@ FailedQuery Export kind path = ⊥
 FailedQuery (Query bytes) kind path = QueryBytesFault (string_bytes bytes) kind path
 
 -- The files of these sources are loaded as for an answer, and the command's query is refused over their table.
-pub record RefusesQuery (command : Command) (inputs : Inputs) (fault : QueryFault) : Type 0 where
+pub record RefusesQuery (command : Command) (workers : ℕ) (inputs : Inputs) (fault : QueryFault) : Type 0 where
   pub files : List FileData
   pub read : AreRead inputs files
   pub history : History
-  pub loaded : IsLoaded 1 (map batches_of files) (table_fields files) history
+  pub loaded : IsLoaded workers (map batches_of files) (table_fields files) history
   pub refused : PrintsNothing command (table_fields files) history fault
 
 -- ---- a run, where its ends tell their bytes. An end that doesn't tell them is none here.
 
 -- The whole output was written.
-abbrev pub Wrote : Command → Inputs → Option (List ℕ) → Option (List ℕ) → Type 0
-Wrote command inputs old new = (text : List ℕ) × Answers command inputs text × Appends old new text
+abbrev pub Wrote : Command → ℕ → Inputs → Option (List ℕ) → Option (List ℕ) → Type 0
+Wrote command workers inputs old new = (text : List ℕ) × Answers command workers inputs text × Appends old new text
 
 -- The output took nothing, or a beginning of the text and a write failed.
-pub data WroteFront (command : Command) (inputs : Inputs) (old new : Option (List ℕ)) (failed failures : ℕ) : Type 0 where
-  nothing : Keeps old new → WroteFront command inputs old new failed failures
-  front : (text : List ℕ) → Answers command inputs text → AppendsFront old new text → failed < failures → WroteFront command inputs old new failed failures
+pub data WroteFront (command : Command) (workers : ℕ) (inputs : Inputs) (old new : Option (List ℕ)) (failed failures : ℕ) : Type 0 where
+  nothing : Keeps old new → WroteFront command workers inputs old new failed failures
+  front : (text : List ℕ) → Answers command workers inputs text → AppendsFront old new text → failed < failures → WroteFront command workers inputs old new failed failures
 
 -- A file's source failed in this call.
 pub record FailedRead (before after : List ℕ) (file : ℕ) : Type 0 where
@@ -90,19 +90,19 @@ pub record FailedFile (inputs : Inputs) (file : ℕ) (kind : JsonFaultKind) (pat
   pub stands : IfSome input (λ bytes. BytesFault bytes kind path)
 
 -- Why a run ends with status 1, and the line that the error sink then took.
-pub data Excuse (command : Command) (names : List (List ℕ)) (inputs : Inputs) (before after : List ℕ) (out_old out_new err_old err_new : ℕ) (old new : Option (List ℕ)) : Type 0 where
+pub data Excuse (command : Command) (workers : ℕ) (names : List (List ℕ)) (inputs : Inputs) (before after : List ℕ) (out_old out_new err_old err_new : ℕ) (old new : Option (List ℕ)) : Type 0 where
   -- the error sink failed
-  error_failed : err_old < err_new → Excuse command names inputs before after out_old out_new err_old err_new old new
+  error_failed : err_old < err_new → Excuse command workers names inputs before after out_old out_new err_old err_new old new
   -- the output can't be this: its line takes no memory
-  no_memory : out_new ≡ out_old → Appends old new memory_line → Excuse command names inputs before after out_old out_new err_old err_new old new
-  output_failed : out_old < out_new → Appends old new output_line → Excuse command names inputs before after out_old out_new err_old err_new old new
+  no_memory : out_new ≡ out_old → Appends old new memory_line → Excuse command workers names inputs before after out_old out_new err_old err_new old new
+  output_failed : out_old < out_new → Appends old new output_line → Excuse command workers names inputs before after out_old out_new err_old err_new old new
   source_failed : (file : ℕ) (name : List ℕ) → slice_get names file ≡ Some name → FailedRead before after file
-      → Appends old new (unread_line name) → Excuse command names inputs before after out_old out_new err_old err_new old new
+      → Appends old new (unread_line name) → Excuse command workers names inputs before after out_old out_new err_old err_new old new
   not_read : (file : ℕ) (name : List ℕ) (kind : JsonFaultKind) (path : List Step) → slice_get names file ≡ Some name → FailedFile inputs file kind path
-      → Appends old new (file_line name kind path) → Excuse command names inputs before after out_old out_new err_old err_new old new
-  refused : (file number : ℕ) (name : List ℕ) (refusal : Refusal) → slice_get names file ≡ Some name → Refuses inputs file number refusal
-      → Appends old new (refusal_line name number refusal) → Excuse command names inputs before after out_old out_new err_old err_new old new
+      → Appends old new (file_line name kind path) → Excuse command workers names inputs before after out_old out_new err_old err_new old new
+  refused : (file number : ℕ) (name : List ℕ) (refusal : Refusal) → slice_get names file ≡ Some name → Refuses workers inputs file number refusal
+      → Appends old new (refusal_line name number refusal) → Excuse command workers names inputs before after out_old out_new err_old err_new old new
   query_not_read : (kind : JsonFaultKind) (path : List Step) → FailedQuery command kind path
-      → Appends old new (query_line (fault_text kind path)) → Excuse command names inputs before after out_old out_new err_old err_new old new
-  query_refused : (fault : QueryFault) → RefusesQuery command inputs fault
-      → Appends old new (query_line (query_fault_text fault)) → Excuse command names inputs before after out_old out_new err_old err_new old new
+      → Appends old new (query_line (fault_text kind path)) → Excuse command workers names inputs before after out_old out_new err_old err_new old new
+  query_refused : (fault : QueryFault) → RefusesQuery command workers inputs fault
+      → Appends old new (query_line (query_fault_text fault)) → Excuse command workers names inputs before after out_old out_new err_old err_new old new

@@ -1,9 +1,9 @@
 //! The output of a job that one worker does, or why there is none.
 ghost use Rattle.std.specs.Prelude.{◌^◌, ◌-◌, ◌<◌, ◌≤◌, All, IfErr, IfOk, length, map, string_bytes};
-ghost use Rattle.arrowtab.specs.Alone.{fields_for, Shows, StopsWanted};
 ghost use Rattle.arrowtab.specs.Explained.{Explains};
 ghost use Rattle.arrowtab.specs.Run.{Answers};
 ghost use Rattle.arrowtab.specs.Wanted.{IsUnprinted, PrintsWanted};
+ghost use Rattle.arrowtab.specs.Worked.{Shows, StopsWanted};
 ghost use Rattle.table.specs.Cause.{IsLegal};
 
 use crate::export::export_text;
@@ -29,8 +29,8 @@ pub(crate) fn answer<T: Threads + Sync, S: Source>(
 ) -> Result<String, RunFault>
     requires some { 0 < length sources.old }
     requires room { All (λ s. S.failures s < 2 ^ 64 - 1) sources.old }
-    ensures ok { IfOk result (λ text. Answers command.now (map S.remaining sources.old) (string_bytes text)) }
-    ensures err { IfErr result (Explains command.now (map S.remaining sources.old) (map S.failures sources.old) (map S.failures sources.new)) }
+    ensures ok { IfOk result (λ text. Answers command.now 1 (map S.remaining sources.old) (string_bytes text)) }
+    ensures err { IfErr result (Explains command.now 1 (map S.remaining sources.old) (map S.failures sources.old) (map S.failures sources.new)) }
 {
     match wanted_of(alloc, command) {
         Ok(wanted) => match read_files(alloc, sources) {
@@ -49,12 +49,16 @@ fn answer_files<T: Threads + Sync>(
     files: Vec<File>,
 ) -> Result<String, RunFault>
     requires some { 0 < length files.items }
-    ensures ok { IfOk result (λ text. Shows wanted.now (fields_for files.items) files.items (string_bytes text)) }
-    ensures err { IfErr result (StopsWanted wanted.now (fields_for files.items) files.items) }
+    ensures ok { IfOk result (λ text. Shows wanted.now 1 files.items (string_bytes text)) }
+    ensures err { IfErr result (StopsWanted wanted.now 1 files.items) }
 {
-    let table = load(alloc, files)?;
-    let version = table.version()?;
-    output_of(threads, alloc, wanted, 1, &version)
+    match load(alloc, files) {
+        Ok(table) => {
+            let version = table.version()?;
+            output_of(threads, alloc, wanted, 1, &version)
+        }
+        Err(fault) => Err(fault),
+    }
 }
 
 /// What is wanted, for a version of the table that so many workers have loaded. A query is answered in as many pieces.

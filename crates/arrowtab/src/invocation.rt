@@ -1,9 +1,11 @@
 //! The program over any sources and any two sinks.
-ghost use Rattle.std.specs.Prelude.{◌≡◌, ◌^◌, ◌-◌, ◌<◌, ◌≤◌, All, length, map};
-ghost use Rattle.arrowtab.specs.Run.{Excuse, Wrote, WroteFront};
+ghost use Rattle.std.specs.Prelude.{◌≡◌, ◌^◌, ◌-◌, ◌<◌, ◌≤◌, All, IfErr, IfOk, length, map, string_bytes};
+ghost use Rattle.arrowtab.specs.Explained.{Explains};
+ghost use Rattle.arrowtab.specs.Run.{Answers, Excuse, Wrote, WroteFront};
 ghost use Rattle.job.specs.Asked.{names_of};
 
 use crate::answer::answer;
+use crate::run_fault::RunFault;
 use crate::tell::tell;
 use crate::together::answer_together;
 use ends::{Sink, Source, tell_output, write_whole};
@@ -17,7 +19,8 @@ use std::thread::Threads;
 ///
 /// Nothing goes to `out` before the whole answer is there. Where the ends tell their bytes, the
 /// contract says which they are; the count of failures of each end is to have room for one more. Several workers load
-/// the files at once, each in a thread of its own, and what they print is not in the contract, but for the status.
+/// the files at once, each in a thread of its own: whose batches come first is open, and the output is of one history that
+/// all of them saw a beginning of.
 pub fn run<W: Wait + Sync, T: Threads + Sync, S: Source, O: Sink, E: Sink>(
     wait: &W,
     threads: &T,
@@ -36,53 +39,21 @@ pub fn run<W: Wait + Sync, T: Threads + Sync, S: Source, O: Sink, E: Sink>(
     requires err_room { E.failures err.old < 2 ^ 64 - 1 }
     ensures status { result < 2 }
 
-    // One worker. Status 0: all of the output was written, and nothing was told.
-    ensures done { job.now.workers ≡ 1 → result ≡ 0
-        → Wrote job.now.command (map S.remaining sources.old) (O.taken out.old) (O.taken out.new) }
-    ensures silent { job.now.workers ≡ 1 → result ≡ 0 → err.new ≡ err.old }
+    // Status 0: all of the output was written, and nothing was told.
+    ensures done { result ≡ 0 → Wrote job.now.command job.now.workers (map S.remaining sources.old) (O.taken out.old) (O.taken out.new) }
+    ensures silent { result ≡ 0 → err.new ≡ err.old }
 
     // Status 1: none of it was, or a beginning of it where the output failed ..
-    ensures quiet { job.now.workers ≡ 1 → result ≡ 1 → WroteFront job.now.command (map S.remaining sources.old)
+    ensures quiet { result ≡ 1 → WroteFront job.now.command job.now.workers (map S.remaining sources.old)
         (O.taken out.old) (O.taken out.new) (O.failures out.old) (O.failures out.new) }
 
     // .. and there is a cause, whose line the error sink took.
-    ensures excused { job.now.workers ≡ 1 → result ≡ 1 → Excuse job.now.command (names_of job.now.names.items) (map S.remaining sources.old)
+    ensures excused { result ≡ 1 → Excuse job.now.command job.now.workers (names_of job.now.names.items) (map S.remaining sources.old)
         (map S.failures sources.old) (map S.failures sources.new)
         (O.failures out.old) (O.failures out.new) (E.failures err.old) (E.failures err.new)
         (E.taken err.old) (E.taken err.new) }
 {
-    if job.workers == 1 {
-        run_alone(threads, alloc, job, sources, out, err)
-    } else {
-        run_together(wait, threads, alloc, job, sources, out, err)
-    }
-}
-
-/// Does the job of one worker.
-fn run_alone<T: Threads + Sync, S: Source, O: Sink, E: Sink>(
-    threads: &T,
-    alloc: Global,
-    job: &Job,
-    sources: &mut [S],
-    out: &mut O,
-    err: &mut E,
-) -> u8
-    requires some { 0 < length sources.old }
-    requires named { length job.now.names.items ≡ length sources.old }
-    requires source_room { All (λ s. S.failures s < 2 ^ 64 - 1) sources.old }
-    requires out_room { O.failures out.old < 2 ^ 64 - 1 }
-    requires err_room { E.failures err.old < 2 ^ 64 - 1 }
-    ensures status { result < 2 }
-    ensures done { result ≡ 0 → Wrote job.now.command (map S.remaining sources.old) (O.taken out.old) (O.taken out.new) }
-    ensures silent { result ≡ 0 → err.new ≡ err.old }
-    ensures quiet { result ≡ 1 → WroteFront job.now.command (map S.remaining sources.old)
-        (O.taken out.old) (O.taken out.new) (O.failures out.old) (O.failures out.new) }
-    ensures excused { result ≡ 1 → Excuse job.now.command (names_of job.now.names.items) (map S.remaining sources.old)
-        (map S.failures sources.old) (map S.failures sources.new)
-        (O.failures out.old) (O.failures out.new) (E.failures err.old) (E.failures err.new)
-        (E.taken err.old) (E.taken err.new) }
-{
-    match answer(threads, alloc, &job.command, sources) {
+    match answer_job(wait, threads, alloc, job, sources) {
         Ok(text) => match write_whole(out, text.as_bytes()) {
             Ok(()) => 0,
             Err(_) => {
@@ -97,44 +68,25 @@ fn run_alone<T: Threads + Sync, S: Source, O: Sink, E: Sink>(
     }
 }
 
-/// Does the job of several workers.
-fn run_together<W: Wait + Sync, T: Threads + Sync, S: Source, O: Sink, E: Sink>(
+/// The output of the job, or why there is none. One worker takes no thread to load the files.
+fn answer_job<W: Wait + Sync, T: Threads + Sync, S: Source>(
     wait: &W,
     threads: &T,
     alloc: Global,
     job: &Job,
     sources: &mut [S],
-    out: &mut O,
-    err: &mut E,
-) -> u8
+) -> Result<String, RunFault>
     requires some { 0 < length sources.old }
-    requires named { length job.now.names.items ≡ length sources.old }
     requires worker { 1 ≤ job.now.workers }
     requires few { job.now.workers ≤ 64 }
-    requires source_room { All (λ s. S.failures s < 2 ^ 64 - 1) sources.old }
-    requires out_room { O.failures out.old < 2 ^ 64 - 1 }
-    requires err_room { E.failures err.old < 2 ^ 64 - 1 }
-    ensures { result < 2 }
+    requires room { All (λ s. S.failures s < 2 ^ 64 - 1) sources.old }
+    ensures ok { IfOk result (λ text. Answers job.now.command job.now.workers (map S.remaining sources.old) (string_bytes text)) }
+    ensures err { IfErr result (Explains job.now.command job.now.workers (map S.remaining sources.old)
+        (map S.failures sources.old) (map S.failures sources.new)) }
 {
-    let answered = answer_together(wait, threads, alloc, job.workers, &job.command, sources);
-    match answered {
-        Ok(text) => print_text(text.as_str(), out, err),
-        Err(fault) => {
-            tell(alloc, &job.names, &fault, err);
-            1
-        }
+    if job.workers == 1 {
+        answer(threads, alloc, &job.command, sources)
+    } else {
+        answer_together(wait, threads, alloc, job.workers, &job.command, sources)
     }
-}
-
-/// Writes the output, or tells that it failed, and answers the status.
-fn print_text<O: Sink, E: Sink>(text: &str, out: &mut O, err: &mut E) -> u8
-    requires out_room { O.failures out.old < 2 ^ 64 - 1 }
-    requires err_room { E.failures err.old < 2 ^ 64 - 1 }
-    ensures { result < 2 }
-{
-    if write_whole(out, text.as_bytes()).is_err() {
-        tell_output(err);
-        return 1;
-    }
-    0
 }

@@ -7,6 +7,7 @@ mod export;
 mod group_lines;
 mod groups;
 mod invocation;
+pub mod laws;
 mod load;
 mod reading;
 pub mod refusal;

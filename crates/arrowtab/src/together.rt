@@ -1,18 +1,25 @@
 //! The output of a job that several workers do, or why there is none.
-ghost use Rattle.std.specs.Prelude.{◌≡◌, ◌^◌, ◌-◌, ◌<◌, ◌≤◌, All, IfErr, length, map};
+ghost use Rattle.std.specs.Prelude.{◌≡◌, ◌^◌, ◌-◌, ◌<◌, ◌≤◌, All, IfErr, IfOk, length, map, string_bytes};
+ghost use Rattle.std.specs.Arc.{arc_value};
 ghost use Rattle.arrowtab.specs.Alone.{fields_for};
-ghost use Rattle.arrowtab.specs.Told.{IsOfFile};
+ghost use Rattle.arrowtab.specs.Explained.{Explains};
+ghost use Rattle.arrowtab.specs.Run.{Answers};
+ghost use Rattle.arrowtab.specs.Worked.{Holds, Shows, StopsLoading, StopsWanted};
+ghost use Rattle.shared.specs.Balance.{IsOfWorkers};
+ghost use Rattle.shared.specs.Hand.{AreNew, IsWhole};
+ghost use Rattle.shared.specs.Missing.{AllThere};
+ghost use Rattle.table.specs.Cause.{IsLegal};
 
 use crate::answer::output_of;
 use crate::reading::read_files;
 use crate::run_fault::{FileFault, RunFault};
-use crate::wanted::wanted_of;
+use crate::wanted::{Wanted, wanted_of};
 use answers::OpenGate;
 use arrays::File;
 use ends::Source;
 use job::Command;
 use loads::{LoadFault, load_all};
-use shared::{Naming, Pair, open};
+use shared::{GatherCause, Naming, Pair, Publish, SharedTable, Shown, Worker, open};
 use std::alloc::Global;
 use std::marker::Brand;
 use std::sync::ledger::{Blank, Ledger};
@@ -34,16 +41,36 @@ pub(crate) fn answer_together<W: Wait + Sync, T: Threads + Sync, S: Source>(
     requires room { All (λ s. S.failures s < 2 ^ 64 - 1) sources.old }
     requires worker { 1 ≤ workers }
     requires few { workers ≤ 64 }
-    ensures { IfErr result (IsOfFile (length sources.old)) }
+    ensures ok { IfOk result (λ text. Answers command.now workers (map S.remaining sources.old) (string_bytes text)) }
+    ensures err { IfErr result (Explains command.now workers (map S.remaining sources.old)
+        (map S.failures sources.old) (map S.failures sources.new)) }
 {
     match wanted_of(alloc, command) {
         Ok(wanted) => match read_files(alloc, sources) {
-            Ok(files) => {
-                let version = load_together(wait, threads, alloc, workers, files)?;
-                output_of(threads, alloc, &wanted, workers, &version)
-            }
+            Ok(files) => answer_loaded(wait, threads, alloc, workers, &wanted, files),
             Err(fault) => Err(fault),
         },
+        Err(fault) => Err(fault),
+    }
+}
+
+/// What is wanted, for files that so many workers load.
+fn answer_loaded<W: Wait + Sync, T: Threads + Sync>(
+    wait: &W,
+    threads: &T,
+    alloc: Global,
+    workers: u32,
+    wanted: &Wanted,
+    files: Vec<File>,
+) -> Result<String, RunFault>
+    requires some { 0 < length files.items }
+    requires worker { 1 ≤ workers }
+    requires few { workers ≤ 64 }
+    ensures ok { IfOk result (λ text. Shows wanted.now workers files.items (string_bytes text)) }
+    ensures err { IfErr result (StopsWanted wanted.now workers files.items) }
+{
+    match load_together(wait, threads, alloc, workers, files) {
+        Ok(version) => output_of(threads, alloc, wanted, workers, &version),
         Err(fault) => Err(fault),
     }
 }
@@ -59,7 +86,8 @@ fn load_together<W: Wait + Sync, T: Threads + Sync>(
     requires some { 0 < length files.items }
     requires worker { 1 ≤ workers }
     requires few { workers ≤ 64 }
-    ensures { IfErr result (IsOfFile (length files.items)) }
+    ensures ok { IfOk result (λ v. Holds workers files.items (arc_value v)) }
+    ensures err { IfErr result (StopsLoading workers files.items) }
 {
     let pair = Pair::new(alloc, files[0].schema())?;
     let (calls, rows) = (
@@ -94,13 +122,44 @@ fn load_under<
     requires calls { (calls.name ≡ C.name) × (calls.parts ≡ C.parts) × (calls.parts ≡ workers) }
     requires rows { (rows.name ≡ Q.name) × (rows.parts ≡ Q.parts) × (rows.parts ≡ workers) }
     requires pair { (pair.book ≡ N.book) × (pair.fields ≡ N.fields) × (pair.fields ≡ fields_for files.now) }
-    ensures { IfErr result (IsOfFile (length files.now)) }
+    ensures ok { IfOk result (λ v. Holds workers files.now (arc_value v)) }
+    ensures err { IfErr result (StopsLoading workers files.now) }
 {
     let schema = files[0].schema().copy(alloc)?;
-    let opened = open::<C, Q, N, &W>(wait, alloc, schema, workers, 0, calls, rows, pair);
-    let Ok((table, mut hands, _readers)) = opened else {
-        return Err(RunFault::NoMemory);
-    };
+    match open::<C, Q, N, &W>(wait, alloc, schema, workers, 0, calls, rows, pair) {
+        Ok((table, hands, _readers)) => {
+            load_by(wait, threads, alloc, workers, table, hands, files)
+        }
+        Err(_) => Err(RunFault::NoMemory),
+    }
+}
+
+/// The same, by the workers of a new table. A table that isn't gathered is closed.
+fn load_by<
+    C: Ledger + Send + Sync,
+    Q: Ledger + Send + Sync,
+    N: Naming + Send + Sync,
+    P: Publish<Item = Shown<N>> + Send,
+    W: Wait + Sync,
+    T: Threads + Sync,
+>(
+    wait: &W,
+    threads: &T,
+    alloc: Global,
+    workers: u32,
+    table: SharedTable<C, Q, N, P>,
+    hands: Vec<Worker<C, Q, N>>,
+    files: &[File],
+) -> Result<Arc<Version>, RunFault>
+    requires worker { 1 ≤ workers }
+    requires table { table ≡ workers }
+    requires count { length hands.items ≡ workers }
+    requires new { AreNew 0 hands.items }
+    requires fields { N.fields ≡ fields_for files.now }
+    ensures ok { IfOk result (λ v. Holds workers files.now (arc_value v)) }
+    ensures err { IfErr result (StopsLoading workers files.now) }
+{
+    let mut hands = hands;
     match load_all(
         wait,
         threads,
@@ -110,8 +169,11 @@ fn load_under<
         files,
         &OpenGate,
     ) {
-        Ok(_) => {}
-        Err(LoadFault::NoMemory) => return Err(RunFault::NoMemory),
+        Ok(_) => gather_all(wait, table, hands),
+        Err(LoadFault::NoMemory) => {
+            table.close(wait);
+            Err(RunFault::NoMemory)
+        }
         Err(
             LoadFault::Refused {
                 file,
@@ -119,16 +181,40 @@ fn load_under<
                 refusal,
             },
         ) => {
-            return Err(RunFault::OfFile {
-                file,
-                fault: FileFault::Refused { batch, refusal },
-            });
+            // What its worker had seen is legal, and has all of its own batches; the one history has those of the others.
+            hands[file % hands.len()].tell();
+            match gather_all(wait, table, hands) {
+                Ok(_) => Err(RunFault::OfFile {
+                    file,
+                    fault: FileFault::Refused { batch, refusal },
+                }),
+                Err(fault) => Err(fault),
+            }
         }
     }
+}
 
-    // All workers are there, so that only want of memory is left.
+/// All that the workers of a table appended. As all of them are there, only want of memory can stand against it.
+fn gather_all<C: Ledger, Q: Ledger, N: Naming, P: Publish<Item = Shown<N>>, W: Wait>(
+    wait: &W,
+    table: SharedTable<C, Q, N, P>,
+    hands: Vec<Worker<C, Q, N>>,
+) -> Result<Arc<Version>, RunFault>
+    requires { AllThere table hands.items }
+    ensures whole { IfOk result (λ v. All (IsWhole (arc_value v).history) hands.items) }
+    ensures known { IfOk result (λ v. IsOfWorkers table (arc_value v).history) }
+    ensures legal { IfOk result (λ v. IsLegal N.fields (arc_value v).history) }
+    ensures fields { IfOk result (λ v. (arc_value v).fields ≡ N.fields) }
+    ensures err { IfErr result (λ e. e ≡ RunFault.NoMemory) }
+{
     match table.gather(wait, hands) {
         Ok(gathered) => Ok(gathered.version),
-        Err(_) => Err(RunFault::NoMemory),
+        Err(fault) => match fault.cause {
+            GatherCause::NoMemory => {
+                fault.table.close(wait);
+                Err(RunFault::NoMemory)
+            }
+            GatherCause::WorkerMissing { .. } => unreachable!(),
+        },
     }
 }

@@ -1,0 +1,239 @@
+-- What doesn't depend on whose tables come first.
+use Rattle.std.proofs.Common.{◌≡◌, ◌∙◌, ℕ, zero, suc, ◌+◌, ◌<◌, ℤ, ◌<ℤ◌, ◌+ℤ◌, List, [], ◌∷◌, ◌++◌, Bool, true, false, cond, Option, None, Some, option_map, length, map, filter, get_or, ap, sym, refl, append_assoc, arith, length-append}
+use Rattle.std.specs.Prelude.{◌==◌, not}
+use Rattle.std.specs.Cmp.{IsTotalOrder, bool_cmp_total, int_ranks, ranks}
+use Rattle.std.specs.Cmp.Lexicographic.{slice_cmp}
+use Rattle.std.specs.List.{AllByRecursion, filter_map, flat_map, enumerate_from, range_with_len, reduce}
+use Rattle.std.specs.Ordering.{MatchOrdering, bool_cmp, int_cmp, is_gt, nat_cmp, ordering_reverse, ordering_then}
+use Rattle.std.specs.declared.cmp.Ordering.{Ordering}
+use Rattle.std.specs.declared.cmp.Ordering.TheVariants.{Less, Equal, Greater}
+use Rattle.std.proofs.lemmas.Bool.Decides.{nat_tests}
+use Rattle.std.proofs.lemmas.Cmp.{int_cmp_total, nat_list_cmp_total}
+use Rattle.std.proofs.lemmas.Int.{ints}
+use Rattle.std.proofs.lemmas.List.{length-map, map-append}
+use Rattle.arrays.specs.Batch.{Row, Table, column}
+use Rattle.arrays.specs.Item.{Item, boolean, int, null, text}
+use Rattle.arrays.specs.Kind as kind
+use Rattle.arrays.specs.Kind.{Kind}
+use Rattle.arrays.specs.Shape.{FieldShape, kind_of_field, name_of}
+use Rattle.group.proofs.JoinLemmas.{are_bytes, are_numbers, are_truths, bytes_of_text, cond-item, greatest-append, least-append, nulls-append, reduce-items, sum-append, truth_of}
+use Rattle.group.proofs.TallyLemmas.{no_greatest_of_lists, no_least_of_lists}
+use Rattle.group.specs.Joined.{better, both_sums}
+use Rattle.group.specs.Stats.{greater, greatest_of, is_bytes, is_number, is_truth, least_of, lesser, nulls_of, number_of, sum_of}
+use Rattle.table.specs.History.{History, of, rows}
+use Rattle.arrowtab.specs.Loaded.{FileBatch, IsLoaded, added_by}
+use Rattle.arrowtab.specs.Shown.{column_line, column_lines, field_line, rows_line, shown, worker_line, worker_lines}
+use Rattle.arrowtab.proofs.PlanLemmas.{by_recursion}
+
+-- ---- of two values the first in an order, whichever is named first
+
+flipped : {X : Type 0} (x y : X) (o p : Ordering) → o ≡ ordering_reverse p → (p ≡ Equal → x ≡ y) → cond (is_gt o) y x ≡ cond (is_gt p) x y
+flipped x y o Less is same = ap (λ r. cond (is_gt r) y x) is
+flipped x y o Equal is same = ap (λ r. cond (is_gt r) y x) is ∙ same refl
+flipped x y o Greater is same = ap (λ r. cond (is_gt r) y x) is
+
+better_flipped : {X : Type 0} (item : X → Item) (choose : Item → Item → Item) → ((x y : X) → choose (item x) (item y) ≡ choose (item y) (item x)) → (p q : Option X)
+    → better choose (option_map item p) (option_map item q) ≡ better choose (option_map item q) (option_map item p)
+better_flipped item choose flips None None = refl
+better_flipped item choose flips None (Some y) = refl
+better_flipped item choose flips (Some x) None = refl
+better_flipped item choose flips (Some x) (Some y) = ap (λ z. Some z) (flips x y)
+
+-- equal in the order are the same
+same_int : (x y : ℤ) → int_cmp x y ≡ Equal → x ≡ y
+same_int x y is = by_rank (int_cmp x y) (int_ranks x y) is where
+  by_rank : (o : Ordering) → MatchOrdering o (x <ℤ y) (x ≡ y) (y <ℤ x) → o ≡ Equal → x ≡ y
+  by_rank Less h e = absurd (cc e)
+  by_rank Equal h e = h
+  by_rank Greater h e = absurd (cc e)
+
+same_bool : (x y : Bool) → bool_cmp x y ≡ Equal → x ≡ y
+same_bool false false is = refl
+same_bool false true is = absurd (cc is)
+same_bool true false is = absurd (cc is)
+same_bool true true is = refl
+
+same_first : (x y : ℕ) (xs ys : List ℕ) (o : Ordering) → MatchOrdering o (x < y) (x ≡ y) (y < x) → (slice_cmp nat_cmp xs ys ≡ Equal → xs ≡ ys) → ordering_then o (slice_cmp nat_cmp xs ys) ≡ Equal
+    → x ∷ xs ≡ y ∷ ys
+same_first x y xs ys Less h rest e = absurd (cc e)
+same_first x y xs ys Equal h rest e = let tail = rest e in cc (h, tail)
+same_first x y xs ys Greater h rest e = absurd (cc e)
+
+same_bytes : (xs ys : List ℕ) → slice_cmp nat_cmp xs ys ≡ Equal → xs ≡ ys
+same_bytes [] [] is = refl
+same_bytes [] (y ∷ ys) is = absurd (cc is)
+same_bytes (x ∷ xs) [] is = absurd (cc is)
+same_bytes (x ∷ xs) (y ∷ ys) is = same_first x y xs ys (nat_cmp x y) (ranks x y) (same_bytes xs ys) is
+
+module _ {X : Type 0} (R : X → X → Ordering) (total : IsTotalOrder R) (same : (x y : X) → R x y ≡ Equal → x ≡ y) (item : X → Item) (p : Item → Bool) (values : List Item → List X)
+    (are : (xs : List Item) → filter p xs ≡ map item (values xs)) where
+  -- the least
+  least_is : (choose : Item → Item → Item) → ((x y : X) → choose (item x) (item y) ≡ item (cond (is_gt (R x y)) y x)) → (xs : List Item)
+      → reduce choose (filter p xs) ≡ option_map item (reduce (λ x y. cond (is_gt (R x y)) y x) (values xs))
+  least_is choose chooses xs = ap (reduce choose) (are xs) ∙ reduce-items item choose (λ x y. cond (is_gt (R x y)) y x) chooses (values xs)
+
+  flips_least : (choose : Item → Item → Item) → ((x y : X) → choose (item x) (item y) ≡ item (cond (is_gt (R x y)) y x)) → (x y : X) → choose (item x) (item y) ≡ choose (item y) (item x)
+  flips_least choose chooses x y = chooses x y ∙ ap item (flipped x y (R x y) (R y x) (total.antisymm x y) (λ e. sym (same y x e))) ∙ sym (chooses y x)
+
+  least_flipped : (choose : Item → Item → Item) → ((x y : X) → choose (item x) (item y) ≡ item (cond (is_gt (R x y)) y x)) → (xs ys : List Item)
+      → better choose (reduce choose (filter p xs)) (reduce choose (filter p ys)) ≡ better choose (reduce choose (filter p ys)) (reduce choose (filter p xs))
+  least_flipped choose chooses xs ys =
+      let a = least_is choose chooses xs in
+      let b = least_is choose chooses ys in
+      (λ j. better choose (a j) (b j))
+      ∙ better_flipped item choose (flips_least choose chooses) (reduce (λ x y. cond (is_gt (R x y)) y x) (values xs)) (reduce (λ x y. cond (is_gt (R x y)) y x) (values ys))
+      ∙ sym (λ j. better choose (b j) (a j))
+
+  -- the greatest
+  greatest_is : (choose : Item → Item → Item) → ((x y : X) → choose (item x) (item y) ≡ item (cond (is_gt (R y x)) y x)) → (xs : List Item)
+      → reduce choose (filter p xs) ≡ option_map item (reduce (λ x y. cond (is_gt (R y x)) y x) (values xs))
+  greatest_is choose chooses xs = ap (reduce choose) (are xs) ∙ reduce-items item choose (λ x y. cond (is_gt (R y x)) y x) chooses (values xs)
+
+  flips_greatest : (choose : Item → Item → Item) → ((x y : X) → choose (item x) (item y) ≡ item (cond (is_gt (R y x)) y x)) → (x y : X) → choose (item x) (item y) ≡ choose (item y) (item x)
+  flips_greatest choose chooses x y = chooses x y ∙ ap item (flipped x y (R y x) (R x y) (total.antisymm y x) (λ e. same x y e)) ∙ sym (chooses y x)
+
+  greatest_flipped : (choose : Item → Item → Item) → ((x y : X) → choose (item x) (item y) ≡ item (cond (is_gt (R y x)) y x)) → (xs ys : List Item)
+      → better choose (reduce choose (filter p xs)) (reduce choose (filter p ys)) ≡ better choose (reduce choose (filter p ys)) (reduce choose (filter p xs))
+  greatest_flipped choose chooses xs ys =
+      let a = greatest_is choose chooses xs in
+      let b = greatest_is choose chooses ys in
+      (λ j. better choose (a j) (b j))
+      ∙ better_flipped item choose (flips_greatest choose chooses) (reduce (λ x y. cond (is_gt (R y x)) y x) (values xs)) (reduce (λ x y. cond (is_gt (R y x)) y x) (values ys))
+      ∙ sym (λ j. better choose (b j) (a j))
+
+-- ---- the statistics of two columns, whichever comes first
+
+flip_least : (k : Kind) (xs ys : List Item) → better lesser (least_of k xs) (least_of k ys) ≡ better lesser (least_of k ys) (least_of k xs)
+flip_least (kind.int t) xs ys = least_flipped int_cmp int_cmp_total same_int int is_number (filter_map number_of) are_numbers lesser (λ x y. cond-item int (is_gt (int_cmp x y)) x y) xs ys
+flip_least kind.boolean xs ys = least_flipped bool_cmp bool_cmp_total same_bool boolean is_truth (filter_map truth_of) are_truths lesser (λ x y. cond-item boolean (is_gt (bool_cmp x y)) x y) xs ys
+flip_least kind.utf8 xs ys =
+    least_flipped (slice_cmp nat_cmp) nat_list_cmp_total same_bytes text is_bytes (filter_map bytes_of_text) are_bytes lesser (λ x y. cond-item text (is_gt (slice_cmp nat_cmp x y)) x y) xs ys
+flip_least (kind.list k) xs ys =
+    let a = no_least_of_lists (kind.list k) xs refl in
+    let b = no_least_of_lists (kind.list k) ys refl in
+    (λ j. better lesser (a j) (b j)) ∙ sym (λ j. better lesser (b j) (a j))
+flip_least kind.dict xs ys =
+    least_flipped (slice_cmp nat_cmp) nat_list_cmp_total same_bytes text is_bytes (filter_map bytes_of_text) are_bytes lesser (λ x y. cond-item text (is_gt (slice_cmp nat_cmp x y)) x y) xs ys
+
+flip_greatest : (k : Kind) (xs ys : List Item) → better greater (greatest_of k xs) (greatest_of k ys) ≡ better greater (greatest_of k ys) (greatest_of k xs)
+flip_greatest (kind.int t) xs ys = greatest_flipped int_cmp int_cmp_total same_int int is_number (filter_map number_of) are_numbers greater (λ x y. cond-item int (is_gt (int_cmp y x)) x y) xs ys
+flip_greatest kind.boolean xs ys = greatest_flipped bool_cmp bool_cmp_total same_bool boolean is_truth (filter_map truth_of) are_truths greater (λ x y. cond-item boolean (is_gt (bool_cmp y x)) x y) xs ys
+flip_greatest kind.utf8 xs ys =
+    greatest_flipped (slice_cmp nat_cmp) nat_list_cmp_total same_bytes text is_bytes (filter_map bytes_of_text) are_bytes greater (λ x y. cond-item text (is_gt (slice_cmp nat_cmp y x)) x y) xs ys
+flip_greatest (kind.list k) xs ys =
+    let a = no_greatest_of_lists (kind.list k) xs refl in
+    let b = no_greatest_of_lists (kind.list k) ys refl in
+    (λ j. better greater (a j) (b j)) ∙ sym (λ j. better greater (b j) (a j))
+flip_greatest kind.dict xs ys =
+    greatest_flipped (slice_cmp nat_cmp) nat_list_cmp_total same_bytes text is_bytes (filter_map bytes_of_text) are_bytes greater (λ x y. cond-item text (is_gt (slice_cmp nat_cmp y x)) x y) xs ys
+
+flip_sums : (a b : Option ℤ) → both_sums a b ≡ both_sums b a
+flip_sums None None = refl
+flip_sums None (Some y) = refl
+flip_sums (Some x) None = refl
+flip_sums (Some x) (Some y) = let same : x +ℤ y ≡ y +ℤ x = omega (arith, ints) in ap (λ z. Some z) same
+
+-- ---- the tables of a history, worker after worker
+
+abbrev is_other : ℕ → ℕ × Table → Bool
+is_other n e = not (e.0 == n)
+
+below_both : (n : ℕ) (e : ℕ × Table) (b : Bool) (l : History) → (e.0 == n) ≡ b → e.0 < suc n → AllByRecursion (λ (x : ℕ × Table). x.0 < n) l → AllByRecursion (λ (x : ℕ × Table). x.0 < n) (cond (not b) (e ∷ l) l)
+below_both n e true l is first rest = rest
+below_both n e false l is first rest = let less : e.0 < n = grind (arith, nat_tests) in (less, rest)
+
+others_below : (n : ℕ) (h : History) → AllByRecursion (λ e. e.0 < suc n) h → AllByRecursion (λ e. e.0 < n) (filter (is_other n) h)
+others_below n [] all = tt
+others_below n (e ∷ h) all = below_both n e (e.0 == n) (filter (is_other n) h) refl all.0 (others_below n h all.1)
+
+of_both : (n w : ℕ) (e : ℕ × Table) (b : Bool) (l h : History) → (e.0 == n) ≡ b → w < n → of l w ≡ of h w → of (cond (not b) (e ∷ l) l) w ≡ of (e ∷ h) w
+of_both n w e true l h is below rest = let other : (e.0 == w) ≡ false = grind (arith, nat_tests) in rest ∙ sym (ap (λ b. cond b (e ∷ of h w) (of h w)) other)
+of_both n w e false l h is below rest = ap (λ (m : History). cond (e.0 == w) (e ∷ m) m) rest
+
+others_of : (n w : ℕ) (h : History) → w < n → of (filter (is_other n) h) w ≡ of h w
+others_of n w [] below = refl
+others_of n w (e ∷ h) below = of_both n w e (e.0 == n) (filter (is_other n) h) h refl below (others_of n w h below)
+
+-- what is joined of two tables whichever comes first is the same for histories with the same rows of each worker
+module _ {X : Type 0} (f : Table → X) (join : X → X → X) (joins : (s t : Table) → f (s ++ t) ≡ join (f s) (f t)) (flips : (s t : Table) → join (f s) (f t) ≡ join (f t) (f s)) where
+  behind : (s t u : Table) → f t ≡ f u → f (s ++ t) ≡ f (s ++ u)
+  behind s t u same = joins s t ∙ ap (join (f s)) same ∙ sym (joins s u)
+
+  swapped : (s t u : Table) → f ((s ++ t) ++ u) ≡ f ((t ++ s) ++ u)
+  swapped s t u = joins (s ++ t) u ∙ ap (λ x. join x (f u)) (joins s t ∙ flips s t ∙ sym (joins t s)) ∙ sym (joins (t ++ s) u)
+
+  sorted : (e : ℕ × Table) (b : Bool) (own others : History) → f (e.1 ++ (rows own ++ rows others)) ≡ f (rows (cond b (e ∷ own) own) ++ rows (cond (not b) (e ∷ others) others))
+  sorted e true own others = ap f (sym (append_assoc e.1 (rows own) (rows others)))
+  sorted e false own others = ap f (sym (append_assoc e.1 (rows own) (rows others))) ∙ swapped e.1 (rows own) (rows others) ∙ ap f (append_assoc (rows own) e.1 (rows others))
+
+  parted : (n : ℕ) (h : History) → f (rows h) ≡ f (rows (of h n) ++ rows (filter (is_other n) h))
+  parted n [] = refl
+  parted n (e ∷ h) = behind e.1 (rows h) (rows (of h n) ++ rows (filter (is_other n) h)) (parted n h) ∙ sorted e (e.0 == n) (of h n) (filter (is_other n) h)
+
+  settled : (n : ℕ) (h k : History) → AllByRecursion (λ e. e.0 < n) h → AllByRecursion (λ e. e.0 < n) k → ((w : ℕ) → w < n → rows (of h w) ≡ rows (of k w)) → f (rows h) ≡ f (rows k)
+  settled zero [] [] all every same = refl
+  settled zero [] (e ∷ k) all every same = let none = every.0 in absurd (omega (arith, none))
+  settled zero (e ∷ h) k all every same = let none = all.0 in absurd (omega (arith, none))
+  settled (suc n) h k all every same =
+      let rest = settled n (filter (is_other n) h) (filter (is_other n) k) (others_below n h all) (others_below n k every)
+      (λ w below. ap rows (others_of n w h below) ∙ same w (omega (arith, below)) ∙ ap rows (sym (others_of n w k below))) in
+      parted n h
+      ∙ ap (λ t. f (t ++ rows (filter (is_other n) h))) (same n (omega arith))
+      ∙ behind (rows (of k n)) (rows (filter (is_other n) h)) (rows (filter (is_other n) k)) rest
+      ∙ sym (parted n k)
+
+-- ---- the text
+
+numbers_below : {P : ℕ → Type 0} (from count : ℕ) → ((w : ℕ) → w < from + count → P w) → AllByRecursion P (range_with_len from count)
+numbers_below from zero all = tt
+numbers_below from (suc count) all = (all from (omega arith), numbers_below (from + 1) count (λ w below. all w (omega (arith, below))))
+
+rows_added : (h : History) → rows h ≡ flat_map (λ t. t) (map (λ (e : ℕ × Table). e.1) h)
+rows_added [] = refl
+rows_added (e ∷ h) = ap (λ t. e.1 ++ t) (rows_added h)
+
+mapped_same : {X A : Type 0} (f g : X → List A) (xs : List X) → AllByRecursion (λ x. f x ≡ g x) xs → flat_map f xs ≡ flat_map g xs
+mapped_same f g [] all = refl
+mapped_same f g (x ∷ xs) all = ap (λ l. l ++ flat_map f xs) all.0 ∙ ap (λ l. g x ++ l) (mapped_same f g xs all.1)
+
+module _ (workers : ℕ) (files : List (List FileBatch)) (fields : List FieldShape) (h k : History) (one : IsLoaded workers files fields h) (other : IsLoaded workers files fields k) where
+  same_added : (w : ℕ) → w < workers → added_by h w ≡ added_by k w
+  same_added w below = one.each w below ∙ sym (other.each w below)
+
+  same_rows : (w : ℕ) → w < workers → rows (of h w) ≡ rows (of k w)
+  same_rows w below = rows_added (of h w) ∙ ap (flat_map (λ t. t)) (same_added w below) ∙ sym (rows_added (of k w))
+
+  same_calls : (w : ℕ) → w < workers → length (of h w) ≡ length (of k w)
+  same_calls w below = sym (length-map (of h w) (λ (e : ℕ × Table). e.1)) ∙ ap (λ (l : List Table). length l) (same_added w below) ∙ length-map (of k w) (λ (e : ℕ × Table). e.1)
+
+  same_of : {X : Type 0} (f : Table → X) (join : X → X → X) → ((s t : Table) → f (s ++ t) ≡ join (f s) (f t)) → ((s t : Table) → join (f s) (f t) ≡ join (f t) (f s)) → f (rows h) ≡ f (rows k)
+  same_of f join joins flips =
+      settled f join joins flips workers h k (by_recursion (λ (e : ℕ × Table). e.0 < workers) h one.known) (by_recursion (λ (e : ℕ × Table). e.0 < workers) k other.known) same_rows
+
+  -- the same of the items of a column
+  same_stat : {X : Type 0} (c : ℕ) (g : List Item → X) (join : X → X → X) → ((xs ys : List Item) → g (xs ++ ys) ≡ join (g xs) (g ys)) → ((xs ys : List Item) → join (g xs) (g ys) ≡ join (g ys) (g xs))
+      → g (column (rows h) c) ≡ g (column (rows k) c)
+  same_stat c g join joins flips =
+      same_of (λ t. g (column t c)) join
+      (λ s t. ap g (map-append (λ (row : Row). get_or row c null) s t) ∙ joins (column s c) (column t c))
+      (λ s t. flips (column s c) (column t c))
+
+  same_line : (f : FieldShape) (c : ℕ) → field_line f (column (rows h) c) ≡ field_line f (column (rows k) c)
+  same_line f c =
+      let kd = kind_of_field f in
+      let name = name_of f in
+      let count : length (column (rows h) c) ≡ length (column (rows k) c) = same_stat c (λ xs. length xs) (λ m n. m + n) (λ xs ys. length-append xs ys) (λ xs ys. omega arith) in
+      let nulls : nulls_of (column (rows h) c) ≡ nulls_of (column (rows k) c) = same_stat c nulls_of (λ m n. m + n) nulls-append (λ xs ys. omega arith) in
+      let sum : sum_of kd (column (rows h) c) ≡ sum_of kd (column (rows k) c) = same_stat c (sum_of kd) both_sums (sum-append kd) (λ xs ys. flip_sums (sum_of kd xs) (sum_of kd ys)) in
+      let least : least_of kd (column (rows h) c) ≡ least_of kd (column (rows k) c) = same_stat c (least_of kd) (better lesser) (least-append kd) (flip_least kd) in
+      let greatest : greatest_of kd (column (rows h) c) ≡ greatest_of kd (column (rows k) c) = same_stat c (greatest_of kd) (better greater) (greatest-append kd) (flip_greatest kd) in
+      λ j. column_line name kd (count j) (nulls j) (sum j) (least j) (greatest j)
+
+  pub same_shown : shown workers fields h ≡ shown workers fields k
+  same_shown =
+      let count : length (rows h) ≡ length (rows k) = same_of (λ t. length t) (λ m n. m + n) (λ s t. length-append s t) (λ s t. omega arith) in
+      let lines : worker_lines workers h ≡ worker_lines workers k =
+      mapped_same (λ w. worker_line w (length (of h w)) (length (rows (of h w)))) (λ w. worker_line w (length (of k w)) (length (rows (of k w)))) (range_with_len 0 workers)
+      (numbers_below 0 workers (λ w less. let below : w < workers = omega (arith, less) in λ j. worker_line w (same_calls w below j) (length (same_rows w below j)))) in
+      let columns : column_lines fields (rows h) ≡ column_lines fields (rows k) = ap (λ (line : ℕ × FieldShape → List ℕ). flat_map line (enumerate_from 0 fields)) (λ j. λ p. same_line p.1 p.0 j) in
+      λ j. rows_line (count j) ++ lines j ++ columns j

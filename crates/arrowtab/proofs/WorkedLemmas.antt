@@ -1,0 +1,136 @@
+-- What workers loaded and what stopped them, from the pairs that each added.
+use Rattle.std.proofs.Common.{◌≡◌, ◌≢◌, ◌∙◌, IfOk, IfErr, Result, Ok, Err, ℕ, ◌%◌, ◌<◌, List, [], ◌∷◌, ◌++◌, None, Some, option_map, map, take, slice_get, ap, sym, subst}
+use Rattle.std.proofs.lemmas.List.{map-append, take-map}
+use Rattle.std.proofs.lemmas.Option.{slice_get-map}
+use Rattle.std.proofs.lemmas.Simd.{map-map}
+use Rattle.std.specs.Prelude.{All}
+use Rattle.std.specs.List.{AllByRecursion}
+use mathlib.Core.List.{IsPrefix}
+use Rattle.arrays.specs.Batch.{Batch, Table, rows_of}
+use Rattle.arrays.specs.File.{File}
+use Rattle.arrays.specs.Shape.{FieldShape}
+use Rattle.loads.specs.Loaded.{IsAlike, batches_of, pairs_of}
+use Rattle.loads.specs.Plan.{planned}
+use Rattle.shared.specs.Balance.{IsOfWorkers}
+use Rattle.query.specs.declared.fault.QueryFault.{QueryFault}
+use Rattle.table.specs.Cause.{IsLegal, batch_cause, difference}
+use Rattle.table.specs.Contents.{Contents}
+use Rattle.table.specs.History.{History, of}
+use Rattle.table.specs.declared.refusal.Refusal.{Refusal}
+use Rattle.arrowtab.specs.Loaded.{FileBatch, IsLoaded, IsStopped, added_by, tables_of}
+use Rattle.arrowtab.specs.Wanted.{IsUnprinted, PrintsWanted, RefusesWanted}
+use Rattle.arrowtab.specs.Worked.{Holds, IsRefusedOver, Shows, StopsLoading, StopsWanted, batch_of, listed}
+use Rattle.arrowtab.specs.declared.run_fault.RunFault.{RunFault}
+use Rattle.arrowtab.specs.declared.run_fault.RunFault.TheVariants.{NoMemory, OfFile, QueryUnread, QueryRefused}
+use Rattle.arrowtab.specs.declared.wanted.Wanted.{Wanted}
+use Rattle.arrowtab.specs.declared.wanted.Wanted.TheVariants as wanted
+use Rattle.arrowtab.proofs.PlanLemmas.{all_from, map_begun, planned-map}
+
+-- ---- batches as they are seen
+
+abbrev table_of : ℕ × Table → Table
+table_of e = e.1
+
+added_tables : (worker : ℕ) (bs : List Batch) → map table_of (pairs_of worker bs) ≡ tables_of (map batch_of bs)
+added_tables worker bs = map-map table_of (λ (b : Batch). (worker, rows_of b)) bs ∙ sym (map-map (λ (b : FileBatch). b.rows) batch_of bs)
+
+planned_tables : (worker : ℕ) (files : List (List Batch)) (workers : ℕ) → map table_of (pairs_of worker (planned files workers worker)) ≡ tables_of (planned (map (map batch_of) files) workers worker)
+planned_tables worker files workers = added_tables worker (planned files workers worker) ∙ ap tables_of (sym (planned-map batch_of files workers worker))
+
+alike_mapped : (fields : List FieldShape) (bs : List Batch) → AllByRecursion (IsAlike fields) bs → AllByRecursion (λ (b : FileBatch). difference fields b.fields ≡ None) (map batch_of bs)
+alike_mapped fields [] alike = tt
+alike_mapped fields (b ∷ bs) alike = (alike.0, alike_mapped fields bs alike.1)
+
+alike_listed : (fields : List FieldShape) (files : List (List Batch)) → AllByRecursion (AllByRecursion (IsAlike fields)) files
+    → AllByRecursion (λ (bs : List FileBatch). All (λ b. difference fields b.fields ≡ None) bs) (map (map batch_of) files)
+alike_listed fields [] alike = tt
+alike_listed fields (bs ∷ files) alike = (
+  all_from (λ (b : FileBatch). difference fields b.fields ≡ None) (map batch_of bs) (alike_mapped fields bs alike.0),
+  alike_listed fields files alike.1,
+)
+
+-- ---- what was loaded
+
+pub loaded_of : (workers : ℕ) (files : List File) (fields : List FieldShape) (h : History) → AllByRecursion (AllByRecursion (IsAlike fields)) (batches_of files) → IsOfWorkers workers h
+    → ((w : ℕ) → w < workers → of h w ≡ pairs_of w (planned (batches_of files) workers w)) → IsLegal fields h → IsLoaded workers (listed files) fields h
+loaded_of workers files fields h alike known each legal = record {
+  alike = all_from (λ (bs : List FileBatch). All (λ b. difference fields b.fields ≡ None) bs) (listed files) (alike_listed fields (batches_of files) alike);
+  known = known;
+  each = λ w below. ap (map table_of) (each w below) ∙ planned_tables w (batches_of files) workers;
+  legal = legal;
+}
+
+-- ---- what stopped it
+
+fronts_listed : (files : List (List Batch)) (workers file number : ℕ) (bs : List Batch)
+    → map table_of (pairs_of (file % workers) (planned (take file files) workers (file % workers) ++ take number bs))
+    ≡ tables_of (planned (take file (map (map batch_of) files)) workers (file % workers) ++ take number (map batch_of bs))
+fronts_listed files workers file number bs =
+    let own = file % workers in
+    let before = planned (take file files) workers own in
+    added_tables own (before ++ take number bs)
+    ∙ ap tables_of (map-append batch_of before (take number bs))
+    ∙ ap (λ (l : List FileBatch). tables_of (map batch_of before ++ l)) (sym (take-map batch_of number bs))
+    ∙ ap (λ (l : List FileBatch). tables_of (l ++ take number (map batch_of bs)))
+    (sym (planned-map batch_of (take file files) workers own) ∙ ap (λ (fs : List (List FileBatch)). planned fs workers own) (sym (take-map (map batch_of) file files)))
+
+pub stopped_of : (workers : ℕ) (files : List File) (fields : List FieldShape) (file number : ℕ) (refusal : Refusal) (bs : List Batch) (b : Batch) (h : History)
+    → slice_get (batches_of files) file ≡ Some bs → slice_get bs number ≡ Some b → IsOfWorkers workers h
+    → of h (file % workers) ≡ pairs_of (file % workers) (planned (take file (batches_of files)) workers (file % workers) ++ take number bs)
+    → ((w : ℕ) → w < workers → w ≢ file % workers → IsPrefix (of h w) (pairs_of w (planned (batches_of files) workers w)))
+    → IsLegal fields h → batch_cause fields h b ≡ Some refusal → IsStopped workers (listed files) fields file number refusal
+stopped_of workers files fields file number refusal bs b h there inside known own others legal stands = record {
+  batches = map batch_of bs;
+  batch = batch_of b;
+  history = h;
+  in_files = slice_get-map (map batch_of) (batches_of files) file ∙ ap (option_map (map batch_of)) there;
+  in_file = slice_get-map batch_of bs number ∙ ap (option_map batch_of) inside;
+  known = known;
+  own = ap (map table_of) own ∙ fronts_listed (batches_of files) workers file number bs;
+  others = λ w below other.
+      subst (λ (l : List Table). IsPrefix (added_by h w) l) (planned_tables w (batches_of files) workers)
+      (map_begun table_of (of h w) (pairs_of w (planned (batches_of files) workers w)) (others w below other));
+  legal = legal;
+  stands = stands;
+}
+
+-- ---- what is printed of a table
+
+shows_held : (wanted : Wanted) (workers : ℕ) (files : List File) (v : Contents) (text : List ℕ) → Holds workers files v → PrintsWanted wanted workers v.fields v.history text → Shows wanted workers files text
+shows_held wanted workers files v text holds prints = record {
+  history = v.history;
+  loaded = holds.loaded;
+  prints = subst (λ (fs : List FieldShape). PrintsWanted wanted workers fs v.history text) holds.fields prints;
+}
+
+refused_held : (wanted : Wanted) (workers : ℕ) (files : List File) (v : Contents) (fault : QueryFault) → Holds workers files v → RefusesWanted wanted v.fields v.history fault → IsRefusedOver wanted workers files fault
+refused_held wanted workers files v fault holds refused = record {
+  history = v.history;
+  loaded = holds.loaded;
+  refused = subst (λ (fs : List FieldShape). RefusesWanted wanted fs v.history fault) holds.fields refused;
+}
+
+unprinted_held : (wanted : Wanted) (workers : ℕ) (files : List File) (v : Contents) (fault : RunFault) → Holds workers files v → IsUnprinted wanted v.fields v.history fault → StopsWanted wanted workers files fault
+unprinted_held wanted.Stats workers files v fault holds why = subst (StopsWanted wanted.Stats workers files) (sym why) tt
+unprinted_held wanted.Export workers files v fault holds why = subst (StopsWanted wanted.Export workers files) (sym why) tt
+unprinted_held (wanted.Groups query) workers files v NoMemory holds why = tt
+unprinted_held (wanted.Groups query) workers files v (OfFile file fault) holds why = absurd why
+unprinted_held (wanted.Groups query) workers files v (QueryUnread fault) holds why = absurd why
+unprinted_held (wanted.Groups query) workers files v (QueryRefused fault) holds why = refused_held (wanted.Groups query) workers files v fault holds why
+
+pub output_shows : {A : Type 0} (wanted : Wanted) (workers : ℕ) (files : List File) (v : Contents) (r : Result A RunFault) (text : A → List ℕ) → Holds workers files v
+    → IfOk r (λ t. PrintsWanted wanted workers v.fields v.history (text t)) → IfOk r (λ t. Shows wanted workers files (text t))
+output_shows wanted workers files v (Ok t) text holds prints = shows_held wanted workers files v (text t) holds prints
+output_shows wanted workers files v (Err fault) text holds prints = tt
+
+pub output_stops : {A : Type 0} (wanted : Wanted) (workers : ℕ) (files : List File) (v : Contents) (r : Result A RunFault) → Holds workers files v
+    → IfErr r (IsUnprinted wanted v.fields v.history) → IfErr r (StopsWanted wanted workers files)
+output_stops wanted workers files v (Ok t) holds why = tt
+output_stops wanted workers files v (Err fault) holds why = unprinted_held wanted workers files v fault holds why
+
+-- what stops the loading stops what is wanted
+pub loading_stops : (wanted : Wanted) (workers : ℕ) (files : List File) (fault : RunFault) → StopsLoading workers files fault → StopsWanted wanted workers files fault
+loading_stops wanted workers files NoMemory stops = tt
+loading_stops wanted workers files (OfFile file fault) stops = stops
+loading_stops wanted workers files (QueryUnread fault) stops = absurd stops
+loading_stops wanted workers files (QueryRefused fault) stops = absurd stops

@@ -1,0 +1,61 @@
+use Rattle.std.proofs.Common.{◌≡◌, ◌∙◌, ◌++◌, ◌%◌, List, ap, drop, get_or, length, subst, sym, take}
+use Rattle.std.specs.Arc.{arc_value}
+use Rattle.shared.specs.Balance.{IsOfWorkers}
+use Rattle.shared.specs.Hand.{AreNew, Hand, IsWhole}
+use Rattle.std.specs.Prelude.{All}
+use Rattle.arrowtab.proofs.TogetherLemmas.{loaded_there, ok_holds, stopped_all, stopped_there, written_back}
+use Rattle.arrowtab.proofs.together.load_by.Goals as goal
+
+pub returns-in-Ok-clause-ok : goal.returns-in-Ok-clause-ok
+returns-in-Ok-clause-ok g c =
+    let items = c.args.hands.items in
+    let old = c.as_mut_slice.result.now in
+    let new = c.load_all.new.workers in
+    let same : old ≡ items = c.as_mut_slice.ensures.value in
+    let size : length old ≡ c.args.workers = ap (λ (hands : List Hand). length hands) same ∙ c.requires.count in
+    let kept : length new ≡ length items = c.in-Ok.ensures.loaded.kept ∙ ap (λ (hands : List Hand). length hands) same in
+    ok_holds c.args.workers c.args.table c.args.files.now g.N.Naming-1.fields old new (take c.args.hands.len (new ++ drop (length new) items)) c.gather_all.result arc_value c.requires.worker c.requires.table
+    size c.requires.fields (subst (AreNew 0) (sym same) c.requires.new) c.in-Ok.ensures.loaded (written_back c.args.hands.len items new c.args.hands.ok.0 kept)
+    c.gather_all.ensures.whole c.gather_all.ensures.known c.gather_all.ensures.legal c.gather_all.ensures.fields
+
+pub returns-in-Ok-gather_all-clause-err : goal.returns-in-Ok-gather_all-clause-err
+returns-in-Ok-gather_all-clause-err g c =
+    let items = c.args.hands.items in
+    let old = c.as_mut_slice.result.now in
+    let new = c.load_all.new.workers in
+    let same : old ≡ items = c.as_mut_slice.ensures.value in
+    let size : length old ≡ c.args.workers = ap (λ (hands : List Hand). length hands) same ∙ c.requires.count in
+    let len : c.args.hands.len ≡ length items = c.args.hands.ok.0 in
+    let is : take c.args.hands.len (new ++ drop (length new) items) ≡ new = written_back c.args.hands.len items new len (c.load_all.auto.workers ∙ ap (λ (hands : List Hand). length hands) same) in
+    let own = c.index.result.now in
+    let count : c.len.result ≡ length old = c.len.ensures ∙ len ∙ sym (ap (λ (hands : List Hand). length hands) same) in
+    let h = (arc_value c.in-Ok-gather_all.field-0).history in
+    stopped_all c.args.workers c.args.files.now g.N.Naming-1.fields old new h c.in-Err-Refused.file c.in-Err-Refused.batch g.C.Ledger.parts c.in-Err-Refused.refusal own c.requires.worker
+    size c.requires.fields (subst (AreNew 0) (sym same) c.requires.new)
+    (rw c.in-Err-Refused.field-0-is at c.in-Err-Refused.ensures.err)
+    (c.index.ensures ∙ ap (λ (hands : List Hand). get_or hands (c.in-Err-Refused.file % c.len.result) own) is ∙ ap (λ n. get_or new (c.in-Err-Refused.file % n) own) count)
+    c.tell.ensures.part c.tell.ensures.legal
+    (subst (λ (hands : List Hand). All (IsWhole h) hands) is c.in-Ok-gather_all.ensures.whole)
+    (subst (λ n. IsOfWorkers n h) c.requires.table c.in-Ok-gather_all.ensures.known)
+
+pub gather_all-requires : goal.gather_all-requires
+gather_all-requires g c =
+    let items = c.args.hands.items in
+    let old = c.as_mut_slice.result.now in
+    let new = c.load_all.new.workers in
+    let same : old ≡ items = c.as_mut_slice.ensures.value in
+    let is : take c.args.hands.len (new ++ drop (length new) items) ≡ new =
+    written_back c.args.hands.len items new c.args.hands.ok.0 (c.load_all.auto.workers ∙ ap (λ (hands : List Hand). length hands) same) in
+    loaded_there c.args.workers c.args.table c.args.files.now g.N.Naming-1.fields old new (take c.args.hands.len (new ++ drop (length new) items)) c.requires.table
+    (ap (λ (hands : List Hand). length hands) same ∙ c.requires.count) (subst (AreNew 0) (sym same) c.requires.new) c.in-Ok.ensures.loaded is
+
+pub gather_all-requires-in-Err-Refused : goal.gather_all-requires-in-Err-Refused
+gather_all-requires-in-Err-Refused g c =
+    let items = c.args.hands.items in
+    let old = c.as_mut_slice.result.now in
+    let new = c.load_all.new.workers in
+    let same : old ≡ items = c.as_mut_slice.ensures.value in
+    let is : take c.args.hands.len (new ++ drop (length new) items) ≡ new =
+    written_back c.args.hands.len items new c.args.hands.ok.0 (c.load_all.auto.workers ∙ ap (λ (hands : List Hand). length hands) same) in
+    stopped_there c.args.workers c.args.table c.args.files.now g.N.Naming-1.fields old new (take c.args.hands.len (new ++ drop (length new) items)) c.in-Err-Refused.file c.in-Err-Refused.batch c.in-Err-Refused.refusal
+    c.requires.table (ap (λ (hands : List Hand). length hands) same ∙ c.requires.count) (subst (AreNew 0) (sym same) c.requires.new) (rw c.in-Err-Refused.field-0-is at c.in-Err-Refused.ensures.err) is
