@@ -32,6 +32,6 @@ module _ {E : Type 0} where
       → Moves IsCounted shown moved 0 (seen, (no_nib, None)) (λ n. either (n == old) (old + 1) n) (Adds (step 0 old (old + 1) e) (seen, (no_nib, None)))
   adds_moves seen e old count cells log kept begun away =
       subst
-        (λ (c : List Cell). (0 < length c) × ((cell c 0).1 ≡ true) × Goes IsCounted shown moved 0 (seen, (no_nib, None)) (λ n. either (n == old) (old + 1) n) (Adds (step 0 old (old + 1) e) (seen, (no_nib, None))) c log)
-        (sym kept)
-        (omega arith, refl, goes log seen e old count begun (length log == old) refl)
+      (λ (c : List Cell). (0 < length c) × ((cell c 0).1 ≡ true) × Goes IsCounted shown moved 0 (seen, (no_nib, None)) (λ n. either (n == old) (old + 1) n) (Adds (step 0 old (old + 1) e) (seen, (no_nib, None))) c log)
+      (sym kept)
+      (omega arith, refl, goes log seen e old count begun (length log == old) refl)

@@ -124,9 +124,9 @@ pub all_newest : (fields : List FieldShape) (files : List (List Batch)) (old new
 all_newest fields files old new outcomes are finished =
     filter_same (λ (o : Left). o.last) seen_of outcomes (zip old new) (are.count ∙ sym (zip_length old new are.kept))
     (λ i o p below.
-        let inside : i < length old = omega (arith, below, are.count) in
-        let run = are.each i p.0 o inside in
-        let run' = are.each i p.1 o inside in
-        let at = ap seen_of (zip_at old new i p.0 p.1 are.kept) in
-        newest_at (get_or outcomes i o) (get_or old i p.0) (get_or new i p.1) (get_or new i p.0) (get_or old i p.1) (same_at new i p.0 p.1 (omega (arith, inside, are.kept))) run.last (run.newest (finished i o below))
-        ∙ sym at)
+    let inside : i < length old = omega (arith, below, are.count) in
+    let run = are.each i p.0 o inside in
+    let run' = are.each i p.1 o inside in
+    let at = ap seen_of (zip_at old new i p.0 p.1 are.kept) in
+    newest_at (get_or outcomes i o) (get_or old i p.0) (get_or new i p.1) (get_or new i p.0) (get_or old i p.1) (same_at new i p.0 p.1 (omega (arith, inside, are.kept))) run.last (run.newest (finished i o below))
+    ∙ sym at)

@@ -40,15 +40,32 @@ module _ (C Q N P : RattleType) (c : ledger.Ghosts C.Denot) (q : ledger.Ghosts Q
       recorded_send (Struct (shape T)) T.D T.to T.to_one
       (struct_send (shape T) (
         search (state-send, crosses, sendable) depth 20,
-        (search (version-send, version-sync, crosses, sendable) depth 20,
-        (search (head.the_field_send, crosses, sendable) depth 20,
-        (search (front.the_send, crosses, sendable) depth 20,
-        (search (send-P, crosses, sendable) depth 20,
-        (search (book.the_send, crosses, sendable) depth 20,
-        (search (book.the_send, crosses, sendable) depth 20,
-        (search (share.the_send, crosses, sendable) depth 20,
-        (search (share.the_send, crosses, sendable) depth 20,
-        tt))))))))))
+        (
+          search (version-send, version-sync, crosses, sendable) depth 20,
+          (
+            search (head.the_field_send, crosses, sendable) depth 20,
+            (
+              search (front.the_send, crosses, sendable) depth 20,
+              (
+                search (send-P, crosses, sendable) depth 20,
+                (
+                  search (book.the_send, crosses, sendable) depth 20,
+                  (
+                    search (book.the_send, crosses, sendable) depth 20,
+                    (
+                      search (share.the_send, crosses, sendable) depth 20,
+                      (
+                        search (share.the_send, crosses, sendable) depth 20,
+                        tt,
+                      ),
+                    ),
+                  ),
+                ),
+              ),
+            ),
+          ),
+        ),
+      ))
 
   pub locked-send : IsSend (locked.the_field C Q N P m c q n p).row
   locked-send = search (inside-send, crosses, sendable) depth 20

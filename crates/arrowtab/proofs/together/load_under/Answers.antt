@@ -4,7 +4,7 @@ use denote.Ref.{ShrRef}
 use Rattle.shared.specs.contracts.shown.Shown as shown
 use Rattle.shared.specs.contracts.shown.ShownAbsorb.TheImpl as absorbs
 use Rattle.table.specs.contracts.version.Version as version
-use Rattle.arrowtab.proofs.SendingLemmas.{handle-send, shown-send, shown-sync}
+use Rattle.loads.proofs.PublisherLemmas.{handle-send, shown-send, shown-sync}
 use Rattle.arrowtab.proofs.together.load_under.Goals as goal
 
 pub load_by-requires-send-P : goal.load_by-requires-send-P

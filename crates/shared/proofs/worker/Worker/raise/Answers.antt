@@ -24,6 +24,6 @@ invariant_of-self g c =
       omega (arith, is.5, c.add.ensures.amount, c.audit.ensures.amount, ap (λ (h : History). length h) mine, length-append w.mine ((w.number, rows_of b) ∷ [])),
       omega (arith, is.6, c.add-2.ensures.amount, c.audit-2.ensures.amount, c.from-rows.ensures, c.rows.ensures, rows_pushed w.mine c.add-3.new.self w.number b mine),
       subst (λ (h : History). InOrder c.add-3.new.self (of h w.number)) (sym seen)
-      (subst (λ (h : History). InOrder h (of (w.seen ++ (w.number, rows_of b) ∷ []) w.number)) (sym mine) (part_pushed w.mine w.seen w.number (rows_of b) is.7)),
+          (subst (λ (h : History). InOrder h (of (w.seen ++ (w.number, rows_of b) ∷ []) w.number)) (sym mine) (part_pushed w.mine w.seen w.number (rows_of b) is.7)),
       subst (λ (h : History). IsLegal g.N.Naming-1.fields h) (sym c.again.ensures) c.requires.legal,
     )
