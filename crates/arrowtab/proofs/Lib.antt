@@ -12,4 +12,3 @@ mod GroupLineLemmas
 mod QueryLemmas
 mod TogetherLemmas
 mod SettledLemmas
-mod SendingLemmas
