@@ -1,8 +1,8 @@
 //! What workers append, and what is gathered of it.
 
 use crate::testing::{
-    NO_NUMBERS, ONE_TO_THREE, SEVEN_AND_NINE, column, expect_entry, expect_numbers, rows_of,
-    schema_of,
+    NO_NUMBERS, ONE_TO_THREE, SEVEN_AND_NINE, append_column, append_rows, column, expect_entry,
+    expect_numbers, schema_of,
 };
 use arrays::Schema;
 use scenes::{Scene, play};
@@ -40,32 +40,49 @@ impl Scene for TwoOfThree {
         _readers: Vec<Reader<N>>,
     ) -> Result<(), Fail> {
         let mut workers = workers;
-        let mut third = workers.pop().expect(rt, "three workers");
-        let mut second = workers.pop().expect(rt, "three workers");
-        let mut first = workers.pop().expect(rt, "three workers");
-        assert!(rt; first.number() == 0 && second.number() == 1 && third.number() == 2);
-        let one = table.append(rt, &mut first, &column(alloc, "s", SEVEN_AND_NINE, 2)?)?;
-        let two = table.append(rt, &mut second, &column(alloc, "s", ONE_TO_THREE, 3)?)?;
-        let three = table.append(rt, &mut first, &column(alloc, "s", NO_NUMBERS, 0)?)?;
-        assert!(rt; one.entry() == 0 && two.entry() == 1 && three.entry() == 2);
-        assert!(rt; first.calls() == 2 && first.rows() == 2);
-        assert!(rt; second.calls() == 1 && second.rows() == 3);
-        expect_appended(rt, &*table.snapshot(rt, &mut third)?);
-        workers.push(first)?;
-        let fault = table.gather(rt, workers).err();
-        let GatherFault {
-            cause,
-            table,
-            mut workers,
-        } = fault.expect(rt, "two are missing");
-        assert!(rt; cause == GatherCause::WorkerMissing { number: 1 });
-        workers.push(second)?;
-        workers.push(third)?;
-        let gathered = table.gather(rt, workers).ok().expect(rt, "all are there");
-        assert!(rt; gathered.workers.len() == 3);
-        expect_appended(rt, &*gathered.version);
-        Ok(())
+        append_five(rt, alloc, &table, &mut workers)?;
+        gather_late(rt, table, workers)
     }
+}
+
+/// Two of the workers append 5 rows, and the third sees them.
+fn append_five<C: Ledger, Q: Ledger, N: Naming, P: Publish<Item = Shown<N>>, R: Wait + Abort>(
+    rt: &R,
+    alloc: Global,
+    table: &SharedTable<C, Q, N, P>,
+    workers: &mut [Worker<C, Q, N>],
+) -> Result<(), Fail> {
+    assert!(rt; workers.len() == 3);
+    assert!(rt; append_column(rt, alloc, table, &mut workers[0], SEVEN_AND_NINE, 2)? == 0);
+    assert!(rt; append_column(rt, alloc, table, &mut workers[1], ONE_TO_THREE, 3)? == 1);
+    assert!(rt; append_column(rt, alloc, table, &mut workers[0], NO_NUMBERS, 0)? == 2);
+    assert!(rt; workers[0].number() == 0 && workers[0].calls() == 2 && workers[0].rows() == 2);
+    assert!(rt; workers[1].number() == 1 && workers[1].calls() == 1 && workers[1].rows() == 3);
+    expect_appended(rt, &*table.snapshot(rt, &mut workers[2])?);
+    Ok(())
+}
+
+/// Without its last two workers the table isn't gathered; with them it is.
+fn gather_late<C: Ledger, Q: Ledger, N: Naming, P: Publish<Item = Shown<N>>, R: Wait + Abort>(
+    rt: &R,
+    table: SharedTable<C, Q, N, P>,
+    workers: Vec<Worker<C, Q, N>>,
+) -> Result<(), Fail> {
+    let mut workers = workers;
+    let (third, second) = (workers.pop(), workers.pop());
+    let fault = table.gather(rt, workers).err();
+    let GatherFault {
+        cause,
+        table,
+        mut workers,
+    } = fault.expect(rt, "two are missing");
+    assert!(rt; cause == GatherCause::WorkerMissing { number: 1 });
+    workers.extend(second)?;
+    workers.extend(third)?;
+    let gathered = table.gather(rt, workers).ok().expect(rt, "all are there");
+    assert!(rt; gathered.workers.len() == 3);
+    expect_appended(rt, &*gathered.version);
+    Ok(())
 }
 
 /// Asserts that a version shows what the first two workers appended, batch by batch.
@@ -102,16 +119,28 @@ impl Scene for OtherName {
         _readers: Vec<Reader<N>>,
     ) -> Result<(), Fail> {
         let mut workers = workers;
-        let mut worker = workers.pop().expect(rt, "one worker");
-        let other = table.append(rt, &mut worker, &column(alloc, "t", SEVEN_AND_NINE, 2)?);
-        assert!(rt; other.err() == Some(Refusal::SchemaDiffers { column: 0 }));
-        assert!(rt; worker.calls() == 0 && worker.rows() == 0);
-        let receipt = table.append(rt, &mut worker, &column(alloc, "s", SEVEN_AND_NINE, 2)?)?;
-        assert!(rt; receipt.entry() == 0 && worker.calls() == 1 && worker.rows() == 2);
-        assert!(rt; table.snapshot(rt, &mut worker)?.rows() == 2);
+        for worker in workers.iter_mut() {
+            append_other(rt, alloc, &table, worker)?;
+        }
         table.close(rt);
         Ok(())
     }
+}
+
+/// Appends a batch with another name in vain, and then one with the table's name.
+fn append_other<C: Ledger, Q: Ledger, N: Naming, P: Publish<Item = Shown<N>>, R: Wait + Abort>(
+    rt: &R,
+    alloc: Global,
+    table: &SharedTable<C, Q, N, P>,
+    worker: &mut Worker<C, Q, N>,
+) -> Result<(), Fail> {
+    let other = table.append(rt, worker, &column(alloc, "t", SEVEN_AND_NINE, 2)?);
+    assert!(rt; other.err() == Some(Refusal::SchemaDiffers { column: 0 }));
+    assert!(rt; worker.calls() == 0 && worker.rows() == 0);
+    assert!(rt; append_column(rt, alloc, table, worker, SEVEN_AND_NINE, 2)? == 0);
+    assert!(rt; worker.calls() == 1 && worker.rows() == 2);
+    assert!(rt; table.snapshot(rt, worker)?.rows() == 2);
+    Ok(())
 }
 
 #[test]
@@ -137,22 +166,28 @@ impl Scene for Snapshots {
         _readers: Vec<Reader<N>>,
     ) -> Result<(), Fail> {
         let mut workers = workers;
-        let mut third = workers.pop().expect(rt, "three workers");
-        let mut second = workers.pop().expect(rt, "three workers");
-        let mut first = workers.pop().expect(rt, "three workers");
-        table.append(rt, &mut second, &rows_of(alloc, 1)?)?;
-        let before = table.snapshot(rt, &mut second)?;
-        table.append(rt, &mut first, &rows_of(alloc, 2)?)?;
-        table.append(rt, &mut third, &rows_of(alloc, 4)?)?;
-        let after = table.snapshot(rt, &mut second)?;
-        let other = table.append(rt, &mut first, &column(alloc, "s", SEVEN_AND_NINE, 2)?);
-        assert!(rt; other.err() == Some(Refusal::SchemaDiffers { column: 0 }));
-        let again = table.snapshot(rt, &mut second)?;
-        assert!(rt; before.rows() == 1 && before.book_len() == 1);
-        expect_seen(rt, &after);
-        expect_seen(rt, &again);
-        Ok(())
+        see_all(rt, alloc, &table, &mut workers)
     }
+}
+
+/// The second of three workers looks before the others append, after that, and again.
+fn see_all<C: Ledger, Q: Ledger, N: Naming, P: Publish<Item = Shown<N>>, R: Wait + Abort>(
+    rt: &R,
+    alloc: Global,
+    table: &SharedTable<C, Q, N, P>,
+    workers: &mut [Worker<C, Q, N>],
+) -> Result<(), Fail> {
+    assert!(rt; workers.len() == 3);
+    append_rows(rt, alloc, table, &mut workers[1], 1)?;
+    let before = table.snapshot(rt, &mut workers[1])?;
+    append_rows(rt, alloc, table, &mut workers[0], 2)?;
+    append_rows(rt, alloc, table, &mut workers[2], 4)?;
+    expect_seen(rt, &*table.snapshot(rt, &mut workers[1])?);
+    let other = table.append(rt, &mut workers[0], &column(alloc, "s", SEVEN_AND_NINE, 2)?);
+    assert!(rt; other.err() == Some(Refusal::SchemaDiffers { column: 0 }));
+    expect_seen(rt, &*table.snapshot(rt, &mut workers[1])?);
+    assert!(rt; before.rows() == 1 && before.book_len() == 1);
+    Ok(())
 }
 
 /// Asserts that a version shows what the first and the third worker appended, too.

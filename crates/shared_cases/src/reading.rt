@@ -5,7 +5,7 @@ use crate::testing::{
 };
 use colbits::NoMemory;
 use scenes::{Scene, play};
-use shared::{Entry, Naming, Publish, Reader, Refusal, SharedTable, Shown, Worker};
+use shared::{Entry, Naming, Publish, Reader, Refusal, SharedTable, Shown, Version, Worker};
 use std::alloc::Global;
 use std::process::Abort;
 use std::sync::Wait;
@@ -37,31 +37,62 @@ impl Scene for Learning {
         readers: Vec<Reader<N>>,
     ) -> Result<(), Fail> {
         let (mut workers, mut readers) = (workers, readers);
-        let mut reader = readers.pop().expect(rt, "a reader");
-        let mut second = workers.pop().expect(rt, "two workers");
-        let mut first = workers.pop().expect(rt, "two workers");
-        let opening = reader.latest()?;
-        let one = table.append(rt, &mut first, &column(alloc, "s", SEVEN_AND_NINE, 2)?)?;
-        let two = table.append(rt, &mut second, &column(alloc, "s", ONE_TO_THREE, 3)?)?;
-        assert!(rt; one.entry() == 0 && two.again().entry() == 1);
-        reader.learn(&two);
-        let version = reader.latest()?;
-        assert!(rt; version.rows() == 5 && version.book_len() == 2);
-        expect_entry(rt, &version, 0, Entry { worker: 0, rows: 2 });
-        expect_entry(rt, &version, 1, Entry { worker: 1, rows: 3 });
-        expect_numbers(rt, &version, 0, &[Some(7), Some(9)]);
-        expect_numbers(rt, &version, 1, &[Some(1), Some(2), Some(3)]);
-        reader.learn(&one);
-        assert!(rt; reader.latest()?.rows() == 5);
-        assert!(rt; opening.rows() == 0 && opening.book_len() == 0);
-        let refused = table.append(rt, &mut first, &column(alloc, "s", FIVE_AND_NULL, 2)?);
-        assert!(rt; refused.err() == Some(Refusal::NullInNonNullable { column: 0, row: 1 }));
-        assert!(rt; first.rows() == 2 && first.calls() == 1);
-        assert!(rt; reader.latest()?.rows() == 5);
+        for reader in readers.iter_mut() {
+            let opening = reader.latest()?;
+            learn_both(rt, alloc, &table, &mut workers, reader)?;
+            look_again(rt, alloc, &table, &mut workers, reader)?;
+            assert!(rt; opening.rows() == 0 && opening.book_len() == 0);
+        }
         table.close(rt);
-        assert!(rt; reader.latest().err() == Some(NoMemory));
+        for reader in readers.iter_mut() {
+            assert!(rt; reader.latest().err() == Some(NoMemory));
+        }
         Ok(())
     }
+}
+
+/// Two workers append a batch each; the reader learns of the second, sees both, and no less once it learns of the first.
+fn learn_both<C: Ledger, Q: Ledger, N: Naming, P: Publish<Item = Shown<N>>, R: Wait + Abort>(
+    rt: &R,
+    alloc: Global,
+    table: &SharedTable<C, Q, N, P>,
+    workers: &mut [Worker<C, Q, N>],
+    reader: &mut Reader<N>,
+) -> Result<(), Fail> {
+    assert!(rt; workers.len() == 2);
+    let one = table.append(rt, &mut workers[0], &column(alloc, "s", SEVEN_AND_NINE, 2)?)?;
+    let two = table.append(rt, &mut workers[1], &column(alloc, "s", ONE_TO_THREE, 3)?)?;
+    assert!(rt; one.entry() == 0 && two.again().entry() == 1);
+    reader.learn(&two);
+    expect_both(rt, &*reader.latest()?);
+    reader.learn(&one);
+    expect_both(rt, &*reader.latest()?);
+    Ok(())
+}
+
+/// Asserts that a version shows both workers' batches.
+fn expect_both(rt: &impl Abort, version: &Version) {
+    assert!(rt; version.rows() == 5 && version.book_len() == 2);
+    expect_entry(rt, version, 0, Entry { worker: 0, rows: 2 });
+    expect_entry(rt, version, 1, Entry { worker: 1, rows: 3 });
+    expect_numbers(rt, version, 0, &[Some(7), Some(9)]);
+    expect_numbers(rt, version, 1, &[Some(1), Some(2), Some(3)]);
+}
+
+/// A null is refused, and the reader sees what it saw.
+fn look_again<C: Ledger, Q: Ledger, N: Naming, P: Publish<Item = Shown<N>>, R: Wait + Abort>(
+    rt: &R,
+    alloc: Global,
+    table: &SharedTable<C, Q, N, P>,
+    workers: &mut [Worker<C, Q, N>],
+    reader: &mut Reader<N>,
+) -> Result<(), Fail> {
+    assert!(rt; workers.len() == 2);
+    let refused = table.append(rt, &mut workers[0], &column(alloc, "s", FIVE_AND_NULL, 2)?);
+    assert!(rt; refused.err() == Some(Refusal::NullInNonNullable { column: 0, row: 1 }));
+    assert!(rt; workers[0].rows() == 2 && workers[0].calls() == 1);
+    expect_both(rt, &*reader.latest()?);
+    Ok(())
 }
 
 #[test]
@@ -90,12 +121,10 @@ impl Scene for Many {
         assert!(rt; workers.len() == 64 && readers.len() == 64);
         let batch = column(alloc, "s", SEVEN_AND_NINE, 2)?;
         for (worker, reader) in workers.iter_mut().zip(readers.iter_mut()) {
-            let receipt = table.append(rt, worker, &batch)?;
-            reader.learn(&receipt);
+            reader.learn(&table.append(rt, worker, &batch)?);
         }
         for reader in readers.iter_mut() {
-            let version = reader.latest()?;
-            assert!(rt; version.rows() == 128);
+            assert!(rt; reader.latest()?.rows() == 128);
         }
         let gathered = table.gather(rt, workers).ok().expect(rt, "all are there");
         assert!(rt; gathered.version.rows() == 128 && gathered.version.book_len() == 64);

@@ -2,9 +2,11 @@
 
 use arrays::{RecordBatch, Schema};
 use samples::{Flat, INT8, Parts, Sample, field, sampled, shows_numbers};
-use shared::{Entry, Version};
+use shared::{Entry, Naming, Publish, SharedTable, Shown, Version, Worker};
 use std::alloc::Global;
 use std::process::Abort;
+use std::sync::Wait;
+use std::sync::ledger::Ledger;
 use std::test::Fail;
 
 pub(crate) const SEVEN_AND_NINE: Parts = (Flat::Int(INT8), 2, &[None, Some(&[7, 9])]);
@@ -31,6 +33,44 @@ pub(crate) fn column(
     let array = sampled(alloc, Sample::Of(parts))?;
     let fields = vec![in alloc; field(alloc, name, true, array.ty().copy(alloc)?)?]?;
     Ok(RecordBatch::new(Schema::new(fields)?, rows, vec![in alloc; array]?)?)
+}
+
+/// Appends so many rows of a column `s`, and gives the number of the entry.
+pub(crate) fn append_column<
+    C: Ledger,
+    Q: Ledger,
+    N: Naming,
+    P: Publish<Item = Shown<N>>,
+    R: Wait + Abort,
+>(
+    rt: &R,
+    alloc: Global,
+    table: &SharedTable<C, Q, N, P>,
+    worker: &mut Worker<C, Q, N>,
+    parts: Parts,
+    rows: u32,
+) -> Result<u32, Fail> {
+    let batch = column(alloc, "s", parts, rows)?;
+    Ok(table.append(rt, worker, &batch)?.entry())
+}
+
+/// Appends so many rows without columns.
+pub(crate) fn append_rows<
+    C: Ledger,
+    Q: Ledger,
+    N: Naming,
+    P: Publish<Item = Shown<N>>,
+    R: Wait + Abort,
+>(
+    rt: &R,
+    alloc: Global,
+    table: &SharedTable<C, Q, N, P>,
+    worker: &mut Worker<C, Q, N>,
+    rows: u32,
+) -> Result<(), Fail> {
+    let batch = rows_of(alloc, rows)?;
+    table.append(rt, worker, &batch)?;
+    Ok(())
 }
 
 /// A schema with one column of numbers of this name.
