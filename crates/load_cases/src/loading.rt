@@ -1,11 +1,11 @@
 //! Which worker loads what, and what is told where a batch is refused.
 
+use crate::cases::Case;
 use crate::gates::{Counting, Holding};
-use crate::testing::{expect_added, load, numbers};
+use crate::testing::{NUMBERS, expect_added, load, play, read_all};
 use answers::OpenGate;
 use loads::LoadFault;
-use scenes::{Scene, play};
-use shared::{Naming, Publish, Reader, Refusal, SharedTable, Shown, Worker};
+use shared::{Naming, Publish, Refusal, SharedTable, Shown, Worker};
 use std::alloc::Global;
 use std::process::Abort;
 use std::sync::Wait;
@@ -31,148 +31,183 @@ const OTHER_NAME: &str =
 
 #[test]
 fn files_go_to_the_workers_in_turn(rt: HostRuntime) -> Result<(), Fail> {
-    play::<InTurn, _>(&rt, rt.alloc(), &numbers(rt.alloc())?, 2, 0)
+    let alloc = rt.alloc();
+    play(
+        &rt,
+        &rt,
+        alloc,
+        2,
+        &read_all(alloc, &[NUMBERS])?,
+        Case::InTurn,
+    )
 }
 
 /// The first of two workers loads the first and the third file, the second the second, and both are at work together.
-struct InTurn;
-
-impl Scene for InTurn {
-    fn play<
-        C: Ledger + Send + Sync,
-        Q: Ledger + Send + Sync,
-        N: Naming + Send + Sync,
-        P: Publish<Item = Shown<N>> + Send,
-        R: Wait + Threads + Abort + Sync,
-    >(
-        rt: &R,
-        alloc: Global,
-        table: SharedTable<C, Q, N, P>,
-        workers: Vec<Worker<C, Q, N>>,
-        _readers: Vec<Reader<N>>,
-    ) -> Result<(), Fail> {
-        let mut workers = workers;
-        let gate = Holding::new();
-        let files = [ONE_TO_THREE, FOUR, ONE_TO_THREE];
-        let receipts = load(rt, alloc, &table, &mut workers, &files, &gate)??;
-        assert!(rt; gate.has_held());
-        assert!(rt; receipts.len() == 2);
-        let last = receipts[0].entry().max(receipts[1].entry());
-        assert!(rt; last == 4);
-        let ones: &[_] = &[
-            [Some(1), Some(2)].as_slice(),
-            &[Some(3)],
-            &[Some(1), Some(2)],
-            &[Some(3)],
-        ];
-        expect_added(rt, alloc, table, workers, &[ones, &[&[Some(4)]]])
-    }
+pub(crate) fn in_turn<
+    C: Ledger + Send + Sync,
+    Q: Ledger + Send + Sync,
+    N: Naming + Send + Sync,
+    P: Publish<Item = Shown<N>> + Send,
+    W: Wait + Sync,
+    T: Threads + Abort + Sync,
+>(
+    wait: &W,
+    rt: &T,
+    alloc: Global,
+    table: SharedTable<C, Q, N, P>,
+    workers: Vec<Worker<C, Q, N>>,
+) -> Result<(), Fail> {
+    let mut workers = workers;
+    let gate = Holding::new();
+    let files = [ONE_TO_THREE, FOUR, ONE_TO_THREE];
+    let receipts = load(wait, rt, alloc, &table, &mut workers, &files, &gate)??;
+    assert!(rt; gate.has_held());
+    assert!(rt; receipts.len() == 2);
+    let last = receipts[0].entry().max(receipts[1].entry());
+    assert!(rt; last == 4);
+    let ones: &[_] = &[
+        [Some(1), Some(2)].as_slice(),
+        &[Some(3)],
+        &[Some(1), Some(2)],
+        &[Some(3)],
+    ];
+    expect_added(wait, rt, alloc, table, workers, &[ones, &[&[Some(4)]]])
 }
 
 #[test]
 fn a_worker_without_a_file_appends_nothing(rt: HostRuntime) -> Result<(), Fail> {
-    play::<Alone, _>(&rt, rt.alloc(), &numbers(rt.alloc())?, 3, 0)
+    let alloc = rt.alloc();
+    play(
+        &rt,
+        &rt,
+        alloc,
+        3,
+        &read_all(alloc, &[NUMBERS])?,
+        Case::Alone,
+    )
 }
 
 /// Of three workers only the first has a file.
-struct Alone;
-
-impl Scene for Alone {
-    fn play<
-        C: Ledger + Send + Sync,
-        Q: Ledger + Send + Sync,
-        N: Naming + Send + Sync,
-        P: Publish<Item = Shown<N>> + Send,
-        R: Wait + Threads + Abort + Sync,
-    >(
-        rt: &R,
-        alloc: Global,
-        table: SharedTable<C, Q, N, P>,
-        workers: Vec<Worker<C, Q, N>>,
-        _readers: Vec<Reader<N>>,
-    ) -> Result<(), Fail> {
-        let mut workers = workers;
-        let gate = Counting::new();
-        let receipts = load(rt, alloc, &table, &mut workers, &[ONE_TO_THREE], &gate)??;
-        assert!(rt; gate.has_let_in(2, 0));
-        assert!(rt; receipts.len() == 1 && receipts[0].entry() == 1);
-        let ones: &[_] = &[[Some(1), Some(2)].as_slice(), &[Some(3)]];
-        expect_added(rt, alloc, table, workers, &[ones, &[], &[]])
-    }
+pub(crate) fn alone<
+    C: Ledger + Send + Sync,
+    Q: Ledger + Send + Sync,
+    N: Naming + Send + Sync,
+    P: Publish<Item = Shown<N>> + Send,
+    W: Wait + Sync,
+    T: Threads + Abort + Sync,
+>(
+    wait: &W,
+    rt: &T,
+    alloc: Global,
+    table: SharedTable<C, Q, N, P>,
+    workers: Vec<Worker<C, Q, N>>,
+) -> Result<(), Fail> {
+    let mut workers = workers;
+    let gate = Counting::new();
+    let receipts = load(
+        wait,
+        rt,
+        alloc,
+        &table,
+        &mut workers,
+        &[ONE_TO_THREE],
+        &gate,
+    )??;
+    assert!(rt; gate.has_let_in(2, 0));
+    assert!(rt; receipts.len() == 1 && receipts[0].entry() == 1);
+    let ones: &[_] = &[[Some(1), Some(2)].as_slice(), &[Some(3)]];
+    expect_added(wait, rt, alloc, table, workers, &[ones, &[], &[]])
 }
 
 #[test]
 fn the_least_file_that_was_refused_is_told(rt: HostRuntime) -> Result<(), Fail> {
-    play::<Refused, _>(&rt, rt.alloc(), &numbers(rt.alloc())?, 2, 0)
+    let alloc = rt.alloc();
+    play(
+        &rt,
+        &rt,
+        alloc,
+        2,
+        &read_all(alloc, &[NUMBERS])?,
+        Case::Refused,
+    )
 }
 
 /// The second worker stops at the second batch of file 1, and leaves file 3 alone; the first stops at file 2.
-struct Refused;
-
-impl Scene for Refused {
-    fn play<
-        C: Ledger + Send + Sync,
-        Q: Ledger + Send + Sync,
-        N: Naming + Send + Sync,
-        P: Publish<Item = Shown<N>> + Send,
-        R: Wait + Threads + Abort + Sync,
-    >(
-        rt: &R,
-        alloc: Global,
-        table: SharedTable<C, Q, N, P>,
-        workers: Vec<Worker<C, Q, N>>,
-        _readers: Vec<Reader<N>>,
-    ) -> Result<(), Fail> {
-        let mut workers = workers;
-        let gate = Counting::new();
-        let files = [FOUR, FIVE_SIX_NULL, OTHER_NAME, FOUR];
-        let answer = load(rt, alloc, &table, &mut workers, &files, &gate)?;
-        assert!(rt; gate.has_let_in(2, 2));
-        let fault = answer.err().expect(rt, "two files are refused");
-        let text = format!(in alloc; "{fault}")?;
-        assert_eq!(rt;
-            text.as_str(),
-            "L1 Refused file=1 batch=1 refusal=A2 NullInNonNullable column=0 row=1"
-        );
-        for worker in workers.iter_mut() {
-            assert!(rt; worker.take_left().is_none());
-        }
-        expect_added(rt, alloc, table, workers, &[&[&[Some(4)]], &[&[Some(5)]]])
+pub(crate) fn refused<
+    C: Ledger + Send + Sync,
+    Q: Ledger + Send + Sync,
+    N: Naming + Send + Sync,
+    P: Publish<Item = Shown<N>> + Send,
+    W: Wait + Sync,
+    T: Threads + Abort + Sync,
+>(
+    wait: &W,
+    rt: &T,
+    alloc: Global,
+    table: SharedTable<C, Q, N, P>,
+    workers: Vec<Worker<C, Q, N>>,
+) -> Result<(), Fail> {
+    let mut workers = workers;
+    let gate = Counting::new();
+    let files = [FOUR, FIVE_SIX_NULL, OTHER_NAME, FOUR];
+    let answer = load(wait, rt, alloc, &table, &mut workers, &files, &gate)?;
+    assert!(rt; gate.has_let_in(2, 2));
+    let fault = answer.err().expect(rt, "two files are refused");
+    let text = format!(in alloc; "{fault}")?;
+    assert_eq!(rt;
+        text.as_str(),
+        "L1 Refused file=1 batch=1 refusal=A2 NullInNonNullable column=0 row=1"
+    );
+    for worker in workers.iter_mut() {
+        assert!(rt; worker.take_left().is_none());
     }
+    expect_added(
+        wait,
+        rt,
+        alloc,
+        table,
+        workers,
+        &[&[&[Some(4)]], &[&[Some(5)]]],
+    )
 }
 
 #[test]
 fn one_worker_loads_all(rt: HostRuntime) -> Result<(), Fail> {
-    play::<Whole, _>(&rt, rt.alloc(), &numbers(rt.alloc())?, 1, 0)
+    let alloc = rt.alloc();
+    play(
+        &rt,
+        &rt,
+        alloc,
+        1,
+        &read_all(alloc, &[NUMBERS])?,
+        Case::Whole,
+    )
 }
 
 /// One worker loads all files in their order, and stops at the first that is refused.
-struct Whole;
-
-impl Scene for Whole {
-    fn play<
-        C: Ledger + Send + Sync,
-        Q: Ledger + Send + Sync,
-        N: Naming + Send + Sync,
-        P: Publish<Item = Shown<N>> + Send,
-        R: Wait + Threads + Abort + Sync,
-    >(
-        rt: &R,
-        alloc: Global,
-        table: SharedTable<C, Q, N, P>,
-        workers: Vec<Worker<C, Q, N>>,
-        _readers: Vec<Reader<N>>,
-    ) -> Result<(), Fail> {
-        let mut workers = workers;
-        let files = [FOUR, ONE_TO_THREE, OTHER_NAME, FIVE_SIX_NULL];
-        let answer = load(rt, alloc, &table, &mut workers, &files, &OpenGate)?;
-        let other = LoadFault::Refused {
-            file: 2,
-            batch: 0,
-            refusal: Refusal::SchemaDiffers { column: 0 },
-        };
-        assert!(rt; answer.err() == Some(other));
-        let ones: &[_] = &[[Some(4)].as_slice(), &[Some(1), Some(2)], &[Some(3)]];
-        expect_added(rt, alloc, table, workers, &[ones])
-    }
+pub(crate) fn whole<
+    C: Ledger + Send + Sync,
+    Q: Ledger + Send + Sync,
+    N: Naming + Send + Sync,
+    P: Publish<Item = Shown<N>> + Send,
+    W: Wait + Sync,
+    T: Threads + Abort + Sync,
+>(
+    wait: &W,
+    rt: &T,
+    alloc: Global,
+    table: SharedTable<C, Q, N, P>,
+    workers: Vec<Worker<C, Q, N>>,
+) -> Result<(), Fail> {
+    let mut workers = workers;
+    let files = [FOUR, ONE_TO_THREE, OTHER_NAME, FIVE_SIX_NULL];
+    let answer = load(wait, rt, alloc, &table, &mut workers, &files, &OpenGate)?;
+    let other = LoadFault::Refused {
+        file: 2,
+        batch: 0,
+        refusal: Refusal::SchemaDiffers { column: 0 },
+    };
+    assert!(rt; answer.err() == Some(other));
+    let ones: &[_] = &[[Some(4)].as_slice(), &[Some(1), Some(2)], &[Some(3)]];
+    expect_added(wait, rt, alloc, table, workers, &[ones])
 }

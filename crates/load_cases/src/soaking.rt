@@ -1,12 +1,13 @@
 //! Many workers that append for long: nothing is lost, and each worker's batches stay in their order.
 
+use crate::cases::Case;
+use crate::testing::play;
 use answers::OpenGate;
 use arrays::File;
 use arrow_json::read_file;
 use loads::load_all;
 use samples::shows_numbers;
-use scenes::{Scene, play};
-use shared::{Naming, Publish, Reader, SharedTable, Shown, Version, Worker};
+use shared::{Naming, Publish, SharedTable, Shown, Version, Worker};
 use std::alloc::Global;
 use std::process::Abort;
 use std::sync::Wait;
@@ -19,43 +20,41 @@ const EACH: u32 = 625;
 
 #[test]
 fn sixteen_workers_append_ten_thousand_batches(rt: HostRuntime) -> Result<(), Fail> {
-    let first = numbers_from(rt.alloc(), 0)?;
-    play::<Soak, _>(&rt, rt.alloc(), first.schema(), 16, 0)
+    let mut files = Vec::new(rt.alloc());
+    files.push(numbers_from(rt.alloc(), 0)?)?;
+    play(&rt, &rt, rt.alloc(), 16, &files, Case::Soak)
 }
 
 /// Each worker has a file of batches of one number, which go on from a thousand times its place.
-struct Soak;
-
-impl Scene for Soak {
-    fn play<
-        C: Ledger + Send + Sync,
-        Q: Ledger + Send + Sync,
-        N: Naming + Send + Sync,
-        P: Publish<Item = Shown<N>> + Send,
-        R: Wait + Threads + Abort + Sync,
-    >(
-        rt: &R,
-        alloc: Global,
-        table: SharedTable<C, Q, N, P>,
-        workers: Vec<Worker<C, Q, N>>,
-        _readers: Vec<Reader<N>>,
-    ) -> Result<(), Fail> {
-        let mut workers = workers;
-        let mut files = Vec::new(alloc);
-        for place in 0..16u32 {
-            files.push(numbers_from(alloc, 1000 * place)?)?;
-        }
-        assert!(rt; workers.len() == 16);
-        let receipts = load_all(rt, rt, alloc, &table, &mut workers, &files, &OpenGate)?;
-        assert!(rt; receipts.len() == 16);
-        let gathered = table.gather(rt, workers).ok().expect(rt, "all are there");
-        let version = &*gathered.version;
-        assert!(rt; version.rows() == 10_000 && version.book_len() == 10_000);
-        for place in 0..16u32 {
-            assert!(rt; has_appended(version, place, 1000 * place), "for {place}");
-        }
-        Ok(())
+pub(crate) fn soak<
+    C: Ledger + Send + Sync,
+    Q: Ledger + Send + Sync,
+    N: Naming + Send + Sync,
+    P: Publish<Item = Shown<N>> + Send,
+    W: Wait + Sync,
+    T: Threads + Abort + Sync,
+>(
+    wait: &W,
+    rt: &T,
+    alloc: Global,
+    table: SharedTable<C, Q, N, P>,
+    workers: Vec<Worker<C, Q, N>>,
+) -> Result<(), Fail> {
+    let mut workers = workers;
+    let mut files = Vec::new(alloc);
+    for place in 0..16u32 {
+        files.push(numbers_from(alloc, 1000 * place)?)?;
     }
+    assert!(rt; workers.len() == 16);
+    let receipts = load_all(wait, rt, alloc, &table, &mut workers, &files, &OpenGate)?;
+    assert!(rt; receipts.len() == 16);
+    let gathered = table.gather(wait, workers).ok().expect(rt, "all are there");
+    let version = &*gathered.version;
+    assert!(rt; version.rows() == 10_000 && version.book_len() == 10_000);
+    for place in 0..16u32 {
+        assert!(rt; has_appended(version, place, 1000 * place), "for {place}");
+    }
+    Ok(())
 }
 
 /// A file of batches of one number each: the first one, and those behind it.
