@@ -1,11 +1,11 @@
 //! What workers append, and what is gathered of it.
 
+use crate::scenes::{Scene, play};
 use crate::testing::{
     NO_NUMBERS, ONE_TO_THREE, SEVEN_AND_NINE, append_column, append_rows, column, expect_entry,
     expect_numbers, schema_of,
 };
 use arrays::Schema;
-use scenes::{Scene, play};
 use shared::{
     Entry, GatherCause, GatherFault, Naming, Publish, Reader, Refusal, SharedTable, Shown, Version,
     Worker,

@@ -8,4 +8,6 @@ mod opening;
 #[cfg(test)]
 mod reading;
 #[cfg(test)]
+mod scenes;
+#[cfg(test)]
 mod testing;

@@ -1,10 +1,10 @@
 //! What readers see of a table.
 
+use crate::scenes::{Scene, play};
 use crate::testing::{
     FIVE_AND_NULL, ONE_TO_THREE, SEVEN_AND_NINE, column, expect_entry, expect_numbers, schema_of,
 };
 use colbits::NoMemory;
-use scenes::{Scene, play};
 use shared::{Entry, Naming, Publish, Reader, Refusal, SharedTable, Shown, Version, Worker};
 use std::alloc::Global;
 use std::process::Abort;

@@ -1,5 +1,4 @@
 //! Tables with workers and readers that tests play on.
-#![tactic(auto)]
 
 ghost use Rattle.std.specs.Prelude.{◌≡◌};
 ghost use Rattle.table.specs.Stored.{stored_fields};
@@ -15,7 +14,7 @@ use std::test::Fail;
 use std::thread::Threads;
 
 /// What a test does with a table, its workers and its readers.
-pub trait Scene {
+pub(crate) trait Scene {
     /// Plays on a table that nothing was appended to.
     fn play<
         C: Ledger + Send + Sync,
@@ -33,7 +32,7 @@ pub trait Scene {
 }
 
 /// Plays a scene on a table for batches of the schema, with so many workers and readers.
-pub fn play<S: Scene, R: Wait + Threads + Abort + Sync>(
+pub(crate) fn play<S: Scene, R: Wait + Threads + Abort + Sync>(
     rt: &R,
     alloc: Global,
     schema: &Schema,

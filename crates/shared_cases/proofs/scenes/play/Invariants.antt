@@ -1,4 +1,4 @@
-use Rattle.scenes.proofs.play.Given as goal
+use Rattle.shared_cases.proofs.scenes.play.Given as goal
 
 abbrev pub ghosts-play_under-C-Ledger : goal.ghosts-play_under-C-Ledger
 ghosts-play_under-C-Ledger _ a = record { name = a.calls.name; parts = a.calls.parts }
