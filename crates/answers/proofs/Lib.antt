@@ -22,4 +22,5 @@ pub mod MergeLemmas
 pub mod MergedLemmas
 pub mod PieceLemmas
 pub mod WholeLemmas
+pub mod ToldLemmas
 pub mod SendingLemmas

@@ -1,15 +1,15 @@
 -- What is known of the groups of the rows so far.
-use Rattle.std.specs.Prelude.{◌≡◌, ◌^◌, ◌≤◌, ◌+◌, ℕ, List, [], ◌∷◌, length, map}
-use Rattle.std.specs.List.{IsDistinct}
+use Rattle.std.specs.Prelude.{◌≡◌, ◌^◌, ◌≤◌, ◌+◌, ℕ, List, [], ◌∷◌, All, length, map, slice_index_or}
+use Rattle.std.specs.List.{IsDistinct, range_with_len}
 use Rattle.arrays.specs.Batch.{Batch, Table}
 use Rattle.arrays.specs.Item.{Item}
 use Rattle.query.specs.declared.expr.Agg.{Agg}
 use Rattle.query.specs.declared.expr.Agg.TheVariants.{Rows}
 use Rattle.query.specs.declared.queries.Query.{Query}
-use Rattle.answers.specs.Groups.{keys_of, rows_of_key}
+use Rattle.answers.specs.Groups.{GroupShape, keys_of, rows_of_key}
 use Rattle.answers.specs.Memo.{KnowsEntries, Remembers}
 use Rattle.answers.specs.Same.{same_key}
-use Rattle.answers.specs.Columns.{ColumnShape, column_of, show_column}
+use Rattle.answers.specs.Columns.{ColumnShape, column_of, show_column, told_at}
 use Rattle.answers.specs.declared.column.TallyColumn.{TallyColumn}
 use Rattle.answers.specs.declared.grouping.Grouping.{Grouping}
 
@@ -43,3 +43,11 @@ HasRoom q n g = (rows : Table) × (length rows + n ≤ 2 ^ 40) × HasGroups q ro
 pub record CountsRows (q : Query) : Type 0 where
   pub by : q.by.items ≡ []
   pub aggs : q.aggs.items ≡ Rows ∷ []
+
+-- Each column has a cell for each key.
+abbrev pub IsFull : Grouping → Type 0
+IsFull g = All (λ c. length (show_column c).tallies ≡ length g.keys) g.columns.items
+
+-- What is answered of so many groups, from one on: of each its key, and what the columns tell.
+abbrev pub told_from : Grouping → ℕ → ℕ → List GroupShape
+told_from g from count = map (λ n. record { keys = slice_index_or g.keys n []; cells = map (told_at n) (map show_column g.columns.items) }) (range_with_len from count)

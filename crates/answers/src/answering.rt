@@ -12,6 +12,7 @@ use crate::counting::count_all;
 use crate::gate::Gate;
 use crate::groups::Answer;
 use crate::piece::{Cuts, look_at_pieces};
+use crate::telling::tell_groups;
 use arrays::RecordBatch;
 use query::{Query, QueryFault};
 use std::alloc::Global;
@@ -48,5 +49,6 @@ pub fn answer<T: Threads + Sync, G: Gate>(
     let rows = count_all(batches, query);
     let cuts = Cuts { rows, pieces };
     let whole = look_at_pieces(threads, alloc, batches, query, cuts, 0, pieces, gate)?;
-    Ok(whole.tell(alloc)?)
+    let groups = tell_groups(threads, alloc, &whole, 0, whole.keys.len(), pieces)?;
+    Ok(Answer { groups })
 }

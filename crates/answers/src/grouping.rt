@@ -6,25 +6,20 @@ ghost use Rattle.arrays.specs.Kind.{Kind};
 ghost use Rattle.query.specs.Asked.{asked};
 ghost use Rattle.query.specs.Columns.{sort_at};
 ghost use Rattle.query.specs.Fault.{agg_fault, fits};
-ghost use Rattle.query.specs.declared.expr.Agg.{Agg as Aggregate};
-ghost use Rattle.answers.specs.Answers.{item_in, shape_of};
-ghost use Rattle.answers.specs.Columns.{ColumnShape, column_of, show_column, told_at};
-ghost use Rattle.answers.specs.Grouping.{CountsRows, HasGroups, HasRoom, IsColumnOf, IsGrouped, IsReadyFor};
-ghost use Rattle.answers.specs.Groups.{grouped};
+ghost use Rattle.answers.specs.Columns.{column_of, show_column};
+ghost use Rattle.answers.specs.Grouping.{CountsRows, HasGroups, HasRoom, IsColumnOf, IsReadyFor};
 ghost use Rattle.answers.specs.Kinds.{AreComparable};
 ghost use Rattle.answers.specs.Merging.{AreAlike, spread_all};
 ghost use Rattle.answers.specs.Spread.{padded, spread};
 ghost use Rattle.answers.specs.Tallies.{tally_of};
 
 use crate::column::TallyColumn;
-use crate::groups::{Answer, Group};
 use crate::key_set::KeySet;
 use crate::memo::Memo;
 use crate::numbering::number_rows;
 use crate::other_keys::number_others;
 use arrays::RecordBatch;
 use colbits::NoMemory;
-use group::Scalar;
 use query::{Agg, Query};
 use std::alloc::Global;
 
@@ -127,21 +122,6 @@ impl Grouping {
             &self.numbers,
         )
     }
-
-    /// The groups: of each its key, and what is told of its rows.
-    pub(crate) fn tell(&self, alloc: Global) -> Result<Answer, NoMemory>
-        requires { All (λ c. length (show_column c).tallies ≡ length self.now.keys) self.now.columns.items }
-        ensures { (by : List ℕ) (aggs : List (Aggregate ℕ)) (rows : Table) → IsGrouped by aggs rows self.now.keys (map show_column self.now.columns.items)
-            → IfOk result (λ a. map shape_of a.groups.items ≡ grouped by aggs rows) }
-    {
-        let mut groups = Vec::with_capacity(alloc, self.keys.len())?;
-        for number in 0..self.keys.len() {
-            let keys = self.keys.key_at(alloc, number)?;
-            let cells = tell_all(alloc, &self.columns, number)?;
-            groups.push(Group { keys, cells })?;
-        }
-        Ok(Answer { groups })
-    }
 }
 
 /// The columns of the aggregates, of so many groups of no rows.
@@ -211,20 +191,4 @@ fn join_columns(
         columns[i].join(alloc, groups, &others[i], numbers)?;
     }
     Ok(())
-}
-
-/// What the columns tell of a group; none is null.
-fn tell_all(
-    alloc: Global,
-    columns: &[TallyColumn],
-    group: usize,
-) -> Result<Vec<Option<Scalar>>, NoMemory>
-    requires { All (λ c. group < length (show_column c).tallies) columns.now }
-    ensures { IfOk result (λ v. map item_in v.items ≡ map (told_at group) (map show_column columns.now)) }
-{
-    let mut cells = Vec::with_capacity(alloc, columns.len())?;
-    for column in columns {
-        cells.push(column.tell(alloc, group)?)?;
-    }
-    Ok(cells)
 }

@@ -29,6 +29,7 @@ mod part_set;
 mod piece;
 mod run;
 mod source;
+mod telling;
 mod text_set;
 mod total;
 mod value;

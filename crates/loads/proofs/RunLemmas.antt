@@ -1,9 +1,9 @@
 -- What all workers did, once their outcomes are taken.
-use Rattle.std.proofs.Common.{◌≡◌, ◌∙◌, ℕ, zero, suc, ◌+◌, ◌<◌, List, [], ◌∷◌, ◌++◌, length, map, get_or, IfSome, Option, None, Some, Bool, true, false, cond, ap, sym, refl, subst, arith, nat_lt}
+use Rattle.std.proofs.Common.{◌≡◌, ◌∙◌, ℕ, zero, suc, ◌<◌, List, [], ◌∷◌, ◌++◌, length, map, get_or, IfSome, Option, None, Some, Bool, true, false, cond, ap, sym, refl, subst, arith, nat_lt}
 use Rattle.std.specs.List.{AllZip, cons_option, filter_map, zip}
 use Rattle.std.proofs.lemmas.List.{get_or-map}
 use Rattle.std.proofs.lemmas.List.Elements.{AllZip-get_or}
-use Rattle.std.specs.Prelude.{All, is_some, unwrap_or}
+use Rattle.std.specs.Prelude.{is_some, unwrap_or}
 use Rattle.arrays.specs.Batch.{Batch}
 use Rattle.arrays.specs.Shape.{FieldShape}
 use Rattle.shared.specs.Hand.{Hand, IsLeft, calls_of_hand}

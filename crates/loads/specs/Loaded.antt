@@ -1,5 +1,5 @@
 -- How far workers come through their files.
-use Rattle.std.specs.Prelude.{◌≡◌, ◌⊎◌, ℕ, ◌+◌, ◌%◌, ◌<◌, ◌++◌, All, IfSome, List, [], length, map, slice_get, slice_index_or, sum_by, take, Option, None, Some, is_some, nat_lt, unwrap_or, ⊤}
+use Rattle.std.specs.Prelude.{◌≡◌, ◌⊎◌, ℕ, ◌+◌, ◌%◌, ◌<◌, ◌++◌, All, IfSome, List, [], length, map, slice_get, slice_index_or, sum_by, take, Option, None, Some, is_some, nat_lt, unwrap_or}
 use mathlib.Core.List.{IsPrefix}
 use Rattle.arrays.specs.Batch.{Batch, rows_of}
 use Rattle.arrays.specs.File.{File}

@@ -5,9 +5,9 @@ ghost use Rattle.loads.specs.Loaded.{IsDone, batches_of};
 ghost use Rattle.shared.specs.Hand.{Hand};
 
 use crate::appending::Append;
-use crate::running::{Task, run_all};
 use crate::work::work;
 use arrays::File;
+use crews::{Task, run_all};
 use shared::{Naming, Worker};
 use std::sync::ledger::Ledger;
 use std::thread::Threads;
@@ -20,7 +20,8 @@ pub(crate) struct FileLoading<'a, A> {
     count: usize,
 }
 
-impl<'a, C: Ledger, Q: Ledger, N: Naming, A: Append<C, Q, N>> Task<C, Q, N> for FileLoading<'a, A> {
+impl<'a, C: Ledger, Q: Ledger, N: Naming, A: Append<C, Q, N>> Task<Worker<C, Q, N>>
+    for FileLoading<'a, A> {
     ghost use Rattle.loads.specs.Loaded.{IsDone, batches_of};
 
     ghost count = { λ l. l.count };
@@ -40,7 +41,6 @@ pub(crate) fn append_files<
     T: Threads + Sync,
     A: Append<C, Q, N> + Sync,
 >(threads: &T, table: &A, files: &[File], workers: &mut [Worker<C, Q, N>])
-    requires { 0 < length workers.old }
     ensures { (place : ℕ) (d : Hand) → place < length workers.old
         → IsDone N.fields (batches_of files.now) (length workers.old) place (slice_index_or workers.old place d) (slice_index_or workers.new place d) }
 {

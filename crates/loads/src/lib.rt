@@ -6,7 +6,6 @@ pub mod fault;
 mod file_loading;
 pub mod loading;
 mod outcomes;
-mod running;
 mod work;
 
 pub use fault::LoadFault;

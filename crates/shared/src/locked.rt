@@ -85,7 +85,8 @@ impl<C: Ledger, Q: Ledger, N: Naming, P: Publish<Item = Shown<N>>> Locked<C, Q, 
         ensures appended { OnOk result (HasAdded N.fields ready.entry worker.old worker.new) }
         ensures receipt { IfOk result (λ r. r ≡ worker.new.seen) }
         ensures seen { OnErr result (HasSeen N.fields worker.old worker.new) }
-        ensures cause { IfErr result (λ e. (e ≡ Refusal.NoMemory) ⊎ (batch_cause N.fields worker.new.seen ready.entry ≡ Some e)) }
+        ensures cause { IfErr result (λ e. ((e ≡ Refusal.NoMemory) × (early_cause N.fields worker.new.seen ready.entry ≡ None))
+            ⊎ (batch_cause N.fields worker.new.seen ready.entry ≡ Some e)) }
     {
         begin(wait, &worker.seen, &self.front);
         worker.see(&self.front);
@@ -238,7 +239,8 @@ fn admit(
     ensures room { OnOk result (length state.old.history < 2 ^ 32) }
     ensures allowed { OnOk result (batch_cause state.old.fields state.old.history ready.entry ≡ None) }
     ensures added { OnOk result (state.new ≡ admitted state.old worker ready.entry) }
-    ensures err { IfErr result (λ e. (e ≡ Refusal.NoMemory) ⊎ (batch_cause state.old.fields state.old.history ready.entry ≡ Some e)) }
+    ensures err { IfErr result (λ e. ((e ≡ Refusal.NoMemory) × (early_cause state.old.fields state.old.history ready.entry ≡ None))
+        ⊎ (batch_cause state.old.fields state.old.history ready.entry ≡ Some e)) }
     ensures kept { OnErr result (state.new ≡ state.old) }
     ensures legal { IsLegal state.new.fields state.new.history }
 {

@@ -1,4 +1,4 @@
-use Rattle.std.proofs.Common.{List, filter, map}
+use Rattle.std.proofs.Common.{◌∙◌, List, filter, map}
 use Rattle.std.specs.Arc.{arc_value}
 use Rattle.std.proofs.lemmas.Result.{err_from_is_err_and}
 use Rattle.arrays.specs.Batch.{Batch}
@@ -6,6 +6,7 @@ use Rattle.query.specs.Asked.{asked}
 use Rattle.answers.specs.Answers.{all_rows, first_fields, shape_of}
 use Rattle.answers.specs.Groups.{is_kept}
 use Rattle.answers.proofs.GroupLemmas.{as_long}
+use Rattle.answers.proofs.ToldLemmas.{told_all}
 use Rattle.answers.proofs.WholeLemmas.{all_joined, is_answer, is_refusal}
 use Rattle.answers.proofs.answering.answer.Goals as goal
 
@@ -26,8 +27,8 @@ returns-in_err-whole-clause-err g c =
     let p = err_from_is_err_and c.from_residual.result c.from_residual.ensures.1 in
     rw (p.1, p.2) (is_refusal (first_fields batches) c.args.query.now (all_rows batches) c.args.pieces c.in_err-whole.field-0.0 c.requires.one c.in_err-whole.ensures)
 
-pub tell-requires : goal.tell-requires
-tell-requires g c =
+pub tell_groups-requires-clause-full : goal.tell_groups-requires-clause-full
+tell_groups-requires-clause-full g c κs lives =
     let batches : List Batch = map arc_value c.args.batches.now in
     let q = c.args.query.now in
     let run = all_joined (first_fields batches) q (all_rows batches) c.args.pieces c.in_ok-whole.whole c.requires.one c.in_ok-whole.ensures in
@@ -39,5 +40,6 @@ returns-clause-ok g c =
     let fields = first_fields batches in
     let q = c.args.query.now in
     let run = all_joined fields q (all_rows batches) c.args.pieces c.in_ok-whole.whole c.requires.one c.in_ok-whole.ensures in
-    is_answer fields q (all_rows batches) c.in_ok-whole.whole (map shape_of c.in_ok-tell.field-0.groups.items) run
-    (c.in_ok-tell.ensures q.by.items q.aggs.items (filter (is_kept fields (asked q).filter) (all_rows batches)) run.kept.0)
+    let rows = filter (is_kept fields (asked q).filter) (all_rows batches) in
+    is_answer fields q (all_rows batches) c.in_ok-whole.whole (map shape_of c.in_ok-groups.groups.items) run
+    (c.in_ok-groups.ensures ∙ told_all q.by.items q.aggs.items rows c.in_ok-whole.whole c.len.result c.len.ensures run.kept.0)

@@ -3,7 +3,6 @@ use Rattle.std.specs.Prelude.{◌/◌}
 use Rattle.std.specs.Arc.{arc_value}
 use Rattle.std.proofs.lemmas.Result.{err_from_is_err_and}
 use Rattle.arrays.specs.Batch.{Batch}
-use Rattle.query.specs.Asked.{asked}
 use Rattle.answers.specs.Answers.{all_rows, first_fields}
 use Rattle.answers.specs.Pieces.{AreLooked, HasRun, cut_at, rows_between}
 use Rattle.answers.proofs.PieceLemmas.{are_looked, cuts_rise}

@@ -1,9 +1,9 @@
-use Rattle.std.proofs.Common.{◌+◌, ◌<◌, IfSome, length, map, take, subst, sym, arith}
+use Rattle.std.proofs.Common.{◌+◌, ◌<◌, length, map, take, subst, sym, arith}
 use Rattle.std.proofs.lemmas.List.{length-map}
 use Rattle.std.specs.Arc.{arc_value}
 use Rattle.arrays.specs.File.{File}
 use Rattle.shared.specs.Hand.{Hand}
-use Rattle.loads.specs.Loaded.{IsNewest, Loaded, batches_of}
+use Rattle.loads.specs.Loaded.{Loaded, batches_of}
 use Rattle.loads.specs.Plan.{planned}
 use Rattle.loads.proofs.LoadLemmas.{batches_at, is_stopped, last_moved, loaded_file, loaded_other, loaded_stopped, mapped_length, newest_moved}
 use Rattle.loads.proofs.work.add_files.Goals as goal

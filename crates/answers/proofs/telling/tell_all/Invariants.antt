@@ -1,7 +1,7 @@
 use Rattle.std.proofs.Common.{◌≡◌, map, take}
 use Rattle.answers.specs.Answers.{item_in}
 use Rattle.answers.specs.Columns.{show_column, told_at}
-use Rattle.answers.proofs.grouping.tell_all.Given as goal
+use Rattle.answers.proofs.telling.tell_all.Given as goal
 
 -- What the columns so far tell.
 abbrev pub invariant-loop-column : goal.invariant-loop-column

@@ -1,0 +1,20 @@
+use Rattle.std.proofs.Common.{◌≡◌, ◌∙◌, ◌+◌, ◌-◌, ap, arith, map, subst}
+use Rattle.std.specs.Prelude.{◌/◌, IfOk}
+use Rattle.std.proofs.lemmas.List.{map-append}
+use Rattle.answers.specs.Answers.{shape_of}
+use Rattle.answers.specs.Grouping.{told_from}
+use Rattle.answers.proofs.ToldLemmas.{told_parts}
+use Rattle.answers.proofs.telling.+telling.Goals as goal
+
+pub returns : goal.returns
+returns g t c =
+    let whole = c.args.grouping.now in
+    let from = c.args.from in
+    let to = c.args.to in
+    let middle = from + (to - from) / 2 in
+    let front = c.in_ok-groups.groups.items in
+    let back = c.in_ok-late.field-0.items in
+    told_parts whole from middle to (map shape_of front) (map shape_of back) (map shape_of c.append.new.self.items) (omega arith) (omega (arith, c.requires.order))
+    (subst (λ r. IfOk r (λ v. map shape_of v.items ≡ told_from whole from (middle - from))) c.in_ok-groups.was c.join-early.ensures.first)
+    (subst (λ r. IfOk r (λ v. map shape_of v.items ≡ told_from whole middle (to - middle))) c.in_ok-late.was c.join-early.ensures.second)
+    (ap (map shape_of) c.in_ok-append.ensures.items ∙ map-append shape_of front back)

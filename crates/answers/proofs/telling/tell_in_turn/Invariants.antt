@@ -1,0 +1,8 @@
+use Rattle.std.proofs.Common.{◌≡◌, ◌-◌, map}
+use Rattle.answers.specs.Answers.{shape_of}
+use Rattle.answers.specs.Grouping.{told_from}
+use Rattle.answers.proofs.telling.tell_in_turn.Given as goal
+
+-- The groups so far.
+abbrev pub invariant-loop-number : goal.invariant-loop-number
+invariant-loop-number l = map shape_of l.groups.items ≡ told_from l.grouping l.from (l.number - l.from)

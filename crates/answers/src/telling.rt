@@ -1,0 +1,92 @@
+//! The groups as they are answered.
+
+ghost use Rattle.std.specs.Prelude.{◌≡◌, ◌-◌, ◌<◌, ◌≤◌, All, IfOk, length, map};
+ghost use Rattle.std.specs.Thread.{IsSync};
+ghost use Rattle.answers.specs.Answers.{item_in, shape_of};
+ghost use Rattle.answers.specs.Columns.{show_column, told_at};
+ghost use Rattle.answers.specs.Grouping.{IsFull, told_from};
+
+use crate::column::TallyColumn;
+use crate::grouping::Grouping;
+use crate::groups::Group;
+use colbits::NoMemory;
+use group::Scalar;
+use std::alloc::Global;
+use std::thread::{Threads, join};
+
+/// How many groups are told before others are told beside them.
+const FEW: usize = 4096;
+
+/// The groups from one up to another: of each its key, and what is told of its rows. Many are told in two halves, side by side,
+/// down to so many parts.
+#[cycle(telling)]
+pub(crate) fn tell_groups<T: Threads + Sync>(
+    threads: &T,
+    alloc: Global,
+    grouping: &Grouping,
+    from: usize,
+    to: usize,
+    parts: u32,
+) -> Result<Vec<Group>, NoMemory>
+    requires order { from ≤ to }
+    requires within { to ≤ length grouping.now.keys }
+    requires full { IsFull grouping.now }
+    ensures { IfOk result (λ v. map shape_of v.items ≡ told_from grouping.now from (to - from)) }
+{
+    let count = to - from;
+    if count <= FEW || parts <= 1 {
+        return tell_in_turn(alloc, grouping, from, to);
+    }
+    let middle = from + count / 2;
+    let fewer = parts / 2;
+    let more = parts - fewer;
+    let front = move || -> Result<Vec<Group>, NoMemory>
+        requires { IsSync T.row × (from ≤ middle) × (middle ≤ length grouping.now.keys) × IsFull grouping.now }
+        ensures { IfOk result (λ v. map shape_of v.items ≡ told_from grouping.entry.now from (middle - from)) }
+    { tell_groups(threads, alloc, grouping, from, middle, fewer) };
+    let back = move || -> Result<Vec<Group>, NoMemory>
+        requires { IsSync T.row × (middle ≤ to) × (to ≤ length grouping.now.keys) × IsFull grouping.now }
+        ensures { IfOk result (λ v. map shape_of v.items ≡ told_from grouping.entry.now middle (to - middle)) }
+    { tell_groups(threads, alloc, grouping, middle, to, more) };
+    let (early, late) = join(threads, front, back);
+    let mut groups = early?;
+    groups.append(&mut late?)?;
+    Ok(groups)
+}
+
+/// The same, one after the other.
+fn tell_in_turn(
+    alloc: Global,
+    grouping: &Grouping,
+    from: usize,
+    to: usize,
+) -> Result<Vec<Group>, NoMemory>
+    requires order { from ≤ to }
+    requires within { to ≤ length grouping.now.keys }
+    requires full { IsFull grouping.now }
+    ensures { IfOk result (λ v. map shape_of v.items ≡ told_from grouping.now from (to - from)) }
+{
+    let mut groups = Vec::with_capacity(alloc, to - from)?;
+    for number in from..to {
+        let keys = grouping.keys.key_at(alloc, number)?;
+        let cells = tell_all(alloc, &grouping.columns, number)?;
+        groups.push(Group { keys, cells })?;
+    }
+    Ok(groups)
+}
+
+/// What the columns tell of a group; none is null.
+fn tell_all(
+    alloc: Global,
+    columns: &[TallyColumn],
+    group: usize,
+) -> Result<Vec<Option<Scalar>>, NoMemory>
+    requires { All (λ c. group < length (show_column c).tallies) columns.now }
+    ensures { IfOk result (λ v. map item_in v.items ≡ map (told_at group) (map show_column columns.now)) }
+{
+    let mut cells = Vec::with_capacity(alloc, columns.len())?;
+    for column in columns {
+        cells.push(column.tell(alloc, group)?)?;
+    }
+    Ok(cells)
+}

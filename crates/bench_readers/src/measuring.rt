@@ -1,0 +1,142 @@
+//! The table that is measured.
+
+ghost use Rattle.std.specs.Prelude.{◌≡◌, ◌<◌, length};
+ghost use Rattle.table.specs.Stored.{stored_fields};
+
+use crate::hands::Hand;
+use crate::looking::{Looking, append};
+use arrays::{Array, DataType, Field, IntType, RawArray, RecordBatch, Schema, Width, validate};
+use colbits::Buffer;
+use crews::run_all;
+use shared::{Naming, Pair, Publish, Reader, SharedTable, Shown, Worker, open};
+use std::alloc::Global;
+use std::marker::Brand;
+use std::sync::Wait;
+use std::sync::ledger::{Blank, Ledger};
+use std::thread::Threads;
+
+/// How many batches stand, how many are appended, how many readers there are and how often each looks.
+#[derive(Clone, Copy)]
+pub(crate) struct Shape {
+    pub(crate) standing: u32,
+    pub(crate) appends: u32,
+    pub(crate) readers: u32,
+    pub(crate) looks: u32,
+}
+
+/// Makes the table, says when the batches stand, has all work together and says when they have ended.
+pub(crate) fn measure<W: Wait + Sync, T: Threads + Sync>(
+    rt: &HostRuntime,
+    wait: &W,
+    threads: &T,
+    alloc: Global,
+    shape: Shape,
+) -> Option<()> {
+    let batch = batch(alloc)?;
+    let schema = batch.schema().copy(alloc).ok()?;
+    let pair = Pair::new(alloc, &schema).ok()?;
+    let (calls, rows) = (Blank::new(1), Blank::new(1));
+    measure_under::<Brand, Brand, Brand, W, T>(
+        rt, wait, threads, alloc, shape, &batch, schema, calls, rows, pair,
+    )
+}
+
+/// The same, under the names of two ledgers and of a history.
+fn measure_under<
+    C: Ledger + Send + Sync,
+    Q: Ledger + Send + Sync,
+    N: Naming + Send + Sync,
+    W: Wait + Sync,
+    T: Threads + Sync,
+>(
+    rt: &HostRuntime,
+    wait: &W,
+    threads: &T,
+    alloc: Global,
+    shape: Shape,
+    batch: &RecordBatch,
+    schema: Schema,
+    calls: Blank,
+    rows: Blank,
+    pair: Pair,
+) -> Option<()>
+    requires calls { (calls.name ≡ C.name) × (calls.parts ≡ C.parts) × (calls.parts ≡ 1) }
+    requires rows { (rows.name ≡ Q.name) × (rows.parts ≡ Q.parts) × (rows.parts ≡ 1) }
+    requires pair { (pair.book ≡ N.book) × (pair.fields ≡ N.fields) × (pair.fields ≡ stored_fields schema) }
+{
+    match open::<C, Q, N, &W>(wait, alloc, schema, 1, shape.readers, calls, rows, pair) {
+        Ok((table, workers, readers)) => {
+            work_on(
+                rt, wait, threads, alloc, shape, batch, &table, workers, readers,
+            )
+        }
+        Err(_) => None,
+    }
+}
+
+/// Has the worker append what is to stand, and all work together.
+fn work_on<
+    C: Ledger + Send + Sync,
+    Q: Ledger + Send + Sync,
+    N: Naming + Send + Sync,
+    P: Publish<Item = Shown<N>> + Send,
+    W: Wait + Sync,
+    T: Threads + Sync,
+>(
+    rt: &HostRuntime,
+    wait: &W,
+    threads: &T,
+    alloc: Global,
+    shape: Shape,
+    batch: &RecordBatch,
+    table: &SharedTable<C, Q, N, P>,
+    workers: Vec<Worker<C, Q, N>>,
+    readers: Vec<Reader<N>>,
+) -> Option<()> {
+    let mut hands = Vec::new(alloc);
+    for worker in workers {
+        let mut worker = worker;
+        append(wait, table, batch, shape.standing, &mut worker);
+        hands.push(Hand::Appends(worker)).ok()?;
+    }
+    for reader in readers {
+        hands.push(Hand::Reads(reader)).ok()?;
+    }
+    println!(rt; "{} batches stand", shape.standing).ok()?;
+    let looking = Looking {
+        wait,
+        table,
+        batch,
+        count: hands.len(),
+        appends: shape.appends,
+        looks: shape.looks,
+    };
+    run_all(threads, &mut hands, &looking);
+    println!(rt; "{} were appended", shape.appends).ok()
+}
+
+/// A row of a number.
+fn batch(alloc: Global) -> Option<RecordBatch> {
+    let ty = DataType::Int(IntType {
+        bits: Width::W64,
+        signed: true,
+    });
+    let field = Field {
+        name: String::from_str(alloc, "n").ok()?,
+        nullable: true,
+        ty: ty.copy(alloc).ok()?,
+    };
+    let mut bytes = Vec::new(alloc);
+    bytes.extend_from_slice(&7i64.to_le_bytes()).ok()?;
+    let raw = RawArray {
+        ty,
+        length: 1,
+        null_count: None,
+        buffers: vec![in alloc; None, Some(Buffer::from_vec(bytes).ok()?)].ok()?,
+        children: Vec::new(alloc),
+        dictionary: None,
+    };
+    let column: Array = validate(alloc, raw).ok()?;
+    let schema = Schema::new(vec![in alloc; field].ok()?).ok()?;
+    RecordBatch::new(schema, 1, vec![in alloc; column].ok()?).ok()
+}

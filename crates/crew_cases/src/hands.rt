@@ -1,0 +1,43 @@
+//! Those who are at work on a table, each in a thread of its own.
+
+use shared::{Naming, Reader, Worker};
+use std::alloc::Global;
+use std::sync::ledger::Ledger;
+use std::test::Fail;
+
+/// A worker, or a reader.
+#[derive(Drop)]
+pub(crate) enum Hand<C: Ledger, Q: Ledger, N: Naming> {
+    Appends(Worker<C, Q, N>),
+    Reads(Reader<N>),
+}
+
+/// All workers, and behind them all readers.
+pub(crate) fn all_hands<C: Ledger, Q: Ledger, N: Naming>(
+    alloc: Global,
+    workers: Vec<Worker<C, Q, N>>,
+    readers: Vec<Reader<N>>,
+) -> Result<Vec<Hand<C, Q, N>>, Fail> {
+    let mut hands = Vec::new(alloc);
+    for worker in workers {
+        hands.push(Hand::Appends(worker))?;
+    }
+    for reader in readers {
+        hands.push(Hand::Reads(reader))?;
+    }
+    Ok(hands)
+}
+
+/// The workers among them.
+pub(crate) fn workers_of<C: Ledger, Q: Ledger, N: Naming>(
+    alloc: Global,
+    hands: Vec<Hand<C, Q, N>>,
+) -> Result<Vec<Worker<C, Q, N>>, Fail> {
+    let mut workers = Vec::new(alloc);
+    for hand in hands {
+        if let Hand::Appends(worker) = hand {
+            workers.push(worker)?;
+        }
+    }
+    Ok(workers)
+}

@@ -1,0 +1,8 @@
+//! Values at work together, each in a thread of its own.
+#![tactic(auto)]
+
+pub mod running;
+pub mod task;
+
+pub use running::run_all;
+pub use task::Task;
