@@ -49,7 +49,7 @@ pub state-sync : IsSync state.the_row
 state-sync = search (held-sync, pool-sync, crosses, sendable) depth 40
 
 pub version-send : IsSend version.the_row
-version-send = search (held-send, crosses, sendable) depth 20
+version-send = search (held-send, held-sync, crosses, sendable) depth 20
 
 pub version-sync : IsSync version.the_row
-version-sync = search (held-sync, crosses, sendable) depth 20
+version-sync = search (held-send, held-sync, crosses, sendable) depth 20

@@ -111,8 +111,8 @@ fn recoded_shown(
     ensures begun { AllZip IsPrefix pools.old.items pools.new.items }
 {
     let prepared = recoded(alloc, held, pools, batch, made)?;
-    let version = Version::of(held.with_batch(alloc, worker, &prepared)?);
-    Ok((prepared, Arc::new(alloc, version)?))
+    let version = Version::of(alloc, held.with_batch(alloc, worker, &prepared)?)?;
+    Ok((prepared, version))
 }
 
 /// The same as `prepare` where no other refusal stands, but the pools keep what was added where it fails.

@@ -174,8 +174,8 @@ impl TableState {
     pub fn version(&self) -> Result<Arc<Version>, NoMemory>
         ensures { IfOk result (λ v. arc_value v ≡ self.now) }
     {
-        let version = Version::of(self.held.share(self.alloc, 0)?);
-        Ok(Arc::new(self.alloc, version)?)
+        let held = self.held.share(self.alloc, 0)?;
+        Version::of(self.alloc, held)
     }
 }
 

@@ -30,10 +30,12 @@ use std::thread::Threads;
 
 /// A table at a moment, to be read.
 ///
+/// What it holds is shared by its copies (`share`), which are as good as it.
+///
 /// Clauses see its fields as they are stored, what was added and by whom, and the rows of each batch.
 #[derive(Drop)]
 pub struct Version {
-    held: Held,
+    held: Arc<Held>,
 }
 
 impl Model for Version {
@@ -43,27 +45,46 @@ impl Model for Version {
 
     ghost coded = { contents_code };
 
+    ghost use Rattle.std.specs.Arc.{arc_value};
     ghost use Rattle.table.specs.Held.{IsHeld, show};
 
-    ghost view = { λ v. show v.held };
+    ghost view = { λ v. show (arc_value v.held) };
 
-    ghost invariant = { λ v. IsHeld v.held };
+    ghost invariant = { λ v. IsHeld (arc_value v.held) };
 }
 
 impl Version {
     /// The version of what a table holds.
-    pub(crate) fn of(held: Held) -> Version
+    pub(crate) fn of(alloc: Global, held: Held) -> Result<Arc<Version>, NoMemory>
         requires { IsHeld held }
-        ensures { result ≡ show held }
+        ensures { IfOk result (λ v. arc_value v ≡ show held) }
     {
-        Version { held }
+        let held = Arc::new(alloc, held)?;
+        Ok(Arc::new(alloc, Version { held })?)
+    }
+
+    /// A copy, which shares what the version holds: nothing else is copied.
+    pub fn share(&self) -> Result<Version, NoMemory>
+        ensures { IfOk result (λ v. v ≡ self.now) }
+    {
+        Ok(Version {
+            held: self.held.clone()?,
+        })
+    }
+
+    /// What it shows.
+    fn held(&self) -> &Held
+        ensures shown { show result.now ≡ self.now }
+        ensures lawful { IsHeld result.now }
+    {
+        &self.held
     }
 
     /// The fields as they are stored.
     pub fn schema(&self) -> &Schema
         ensures { result.now ≡ self.now.fields }
     {
-        &self.held.schema
+        &self.held().schema
     }
 
     /// How many rows there are.
@@ -72,7 +93,7 @@ impl Version {
         ensures few { result ≤ 2 ^ 40 }
         ensures legal { IsLegal self.now.fields self.now.history }
     {
-        self.held.rows
+        self.held().rows
     }
 
     /// The batches, in the order in which they came: their rows, one batch after the other, are those of the table. Each ends where an entry of the book ends, and a dictionary that one
@@ -84,7 +105,7 @@ impl Version {
         ensures ends { (i : ℕ) → i ≤ length result.now → EndsWithEntry (map arc_value result.now) (book self.now.history) i }
         ensures fronts { All (λ b. NamesFronts self.now.fields (rows self.now.history) (arc_value b)) result.now }
     {
-        &self.held.batches
+        &self.held().batches
     }
 
     /// The statistics of column `k` of batch `b`.
@@ -94,7 +115,7 @@ impl Version {
         ensures { (f : FieldShape) → slice_get self.now.fields k ≡ Some f
             → AreStats result.now (kind_of_field f) (column (slice_index_or self.now.batches b []) k) }
     {
-        &self.held.batch_stats[b][k]
+        &self.held().batch_stats[b][k]
     }
 
     /// The statistics of column `k`.
@@ -103,7 +124,7 @@ impl Version {
         ensures { (f : FieldShape) → slice_get self.now.fields k ≡ Some f
             → AreStats result.now (kind_of_field f) (column (rows self.now.history) k) }
     {
-        &self.held.stats[k]
+        &self.held().stats[k]
     }
 
     /// The dictionary of column `k`, none where it isn't one of texts: its distinct texts in order of first appearance.
@@ -111,7 +132,7 @@ impl Version {
         requires { k < length self.now.fields }
         ensures { slice_get (dictionaries_of self.now.fields (rows self.now.history)) k ≡ Some (option_map (λ w. w.now) result) }
     {
-        match &self.held.dictionaries[k] {
+        match &self.held().dictionaries[k] {
             Some(words) => Some(words),
             None => None,
         }
@@ -151,14 +172,14 @@ impl Version {
         ensures lawful { IfOk result (λ f. AllByRecursion IsLawful f.batches) }
         ensures legal { IsLegal self.now.fields self.now.history }
     {
-        file_of(alloc, &self.held)
+        file_of(alloc, self.held())
     }
 
     /// How many entries the book has: one for each accepted call.
     pub fn book_len(&self) -> u32
         ensures { result ≡ length self.now.history }
     {
-        self.held.book.len() as u32
+        self.held().book.len() as u32
     }
 
     /// Entry `i` of the book.
@@ -166,6 +187,6 @@ impl Version {
         requires { i < length self.now.history }
         ensures { slice_get (book self.now.history) i ≡ Some (pair_of result) }
     {
-        self.held.book[i as usize]
+        self.held().book[i as usize]
     }
 }

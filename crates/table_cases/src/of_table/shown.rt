@@ -45,7 +45,10 @@ fn the_version_has_the_batch_and_those_before_stay(rt: HostRuntime) -> Result<()
     assert!(rt; has_words(&*after, Some(Shown::Texts(&[Some("b"), Some("a")]))));
     assert!(rt; shows_all(after.batches(), BOTH));
     assert!(rt; empty.rows() == 0 && empty.batches().is_empty());
+    let copy = before.share()?;
     assert!(rt; is_of_one(&*before));
+    drop(before);
+    assert!(rt; is_of_one(&copy));
     Ok(())
 }
 

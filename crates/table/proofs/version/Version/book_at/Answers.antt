@@ -9,14 +9,14 @@ use Rattle.table.proofs.version.Version.book_at.Goals as goal
 
 pub index-requires : goal.index-requires
 index-requires c =
-    let held = c.self.inside.held in
-    omega (arith, c.requires, held.book.ok.0, length-book held, ap (λ (s : Contents). length s.history) c.self.view_is)
+    let held = c.held.result.now in
+    omega (arith, c.requires, held.book.ok.0, length-book held, ap (λ (s : Contents). length s.history) c.held.ensures.shown)
 
 pub returns : goal.returns
 returns c =
-    let held = c.self.inside.held in
-    let below : c.args.i < held.book.len = omega (arith, c.requires, held.book.ok.0, length-book held, ap (λ (s : Contents). length s.history) c.self.view_is) in
-    ap (λ (s : Contents). slice_get (book s.history) c.args.i) (sym c.self.view_is)
-    ∙ ap (λ (l : List (ℕ × ℕ)). slice_get l c.args.i) (book-shown held c.self.invariant)
+    let held = c.held.result.now in
+    let below : c.args.i < held.book.len = omega (arith, c.requires, held.book.ok.0, length-book held, ap (λ (s : Contents). length s.history) c.held.ensures.shown) in
+    ap (λ (s : Contents). slice_get (book s.history) c.args.i) (sym c.held.ensures.shown)
+    ∙ ap (λ (l : List (ℕ × ℕ)). slice_get l c.args.i) (book-shown held c.held.ensures.lawful)
     ∙ slice_get-map pair_of held.book.items c.args.i
     ∙ ap (option_map pair_of) (slice_get_read held.book.items held.book.len c.args.i c.index.result.now held.book.ok.0 below c.index.ensures)

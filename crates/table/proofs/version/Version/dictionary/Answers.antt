@@ -13,26 +13,26 @@ use Rattle.table.proofs.version.Version.dictionary.Goals as goal
 
 pub index-requires : goal.index-requires
 index-requires c =
-    let held = c.self.inside.held in
-    omega (arith, c.requires, length-dictionaries held c.self.invariant, ap (λ (s : Contents). length s.fields) c.self.view_is, held.dictionaries.ok.0)
+    let held = c.held.result.now in
+    omega (arith, c.requires, length-dictionaries held c.held.ensures.lawful, ap (λ (s : Contents). length s.fields) c.held.ensures.shown, held.dictionaries.ok.0)
 
 pub returns-in-Some : goal.returns-in-Some
 returns-in-Some c =
-    let held = c.self.inside.held in
+    let held = c.held.result.now in
     let below : c.args.k < held.dictionaries.len =
-    omega (arith, c.requires, length-dictionaries held c.self.invariant, ap (λ (s : Contents). length s.fields) c.self.view_is, held.dictionaries.ok.0) in
+    omega (arith, c.requires, length-dictionaries held c.held.ensures.lawful, ap (λ (s : Contents). length s.fields) c.held.ensures.shown, held.dictionaries.ok.0) in
     let there = slice_get_read held.dictionaries.items held.dictionaries.len c.args.k c.index.result.now held.dictionaries.ok.0 below c.index.ensures in
-    ap (λ (s : Contents). slice_get (dictionaries_of s.fields (rows s.history)) c.args.k) (sym c.self.view_is)
-    ∙ dictionary-at held c.self.invariant c.args.k c.index.result.now there
+    ap (λ (s : Contents). slice_get (dictionaries_of s.fields (rows s.history)) c.args.k) (sym c.held.ensures.shown)
+    ∙ dictionary-at held c.held.ensures.lawful c.args.k c.index.result.now there
     ∙ ap (λ (o : Option (Arc Seen Global)). Some (option_map arc_value o)) c.in-Some.is
     ∙ ap (λ (s : Seen). Some (Some s)) (sym c.deref.ensures)
 
 pub returns-in-None : goal.returns-in-None
 returns-in-None c =
-    let held = c.self.inside.held in
+    let held = c.held.result.now in
     let below : c.args.k < held.dictionaries.len =
-    omega (arith, c.requires, length-dictionaries held c.self.invariant, ap (λ (s : Contents). length s.fields) c.self.view_is, held.dictionaries.ok.0) in
+    omega (arith, c.requires, length-dictionaries held c.held.ensures.lawful, ap (λ (s : Contents). length s.fields) c.held.ensures.shown, held.dictionaries.ok.0) in
     let there = slice_get_read held.dictionaries.items held.dictionaries.len c.args.k c.index.result.now held.dictionaries.ok.0 below c.index.ensures in
-    ap (λ (s : Contents). slice_get (dictionaries_of s.fields (rows s.history)) c.args.k) (sym c.self.view_is)
-    ∙ dictionary-at held c.self.invariant c.args.k c.index.result.now there
+    ap (λ (s : Contents). slice_get (dictionaries_of s.fields (rows s.history)) c.args.k) (sym c.held.ensures.shown)
+    ∙ dictionary-at held c.held.ensures.lawful c.args.k c.index.result.now there
     ∙ ap (λ (o : Option (Arc Seen Global)). Some (option_map arc_value o)) c.in-None.is

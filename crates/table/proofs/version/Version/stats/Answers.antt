@@ -17,23 +17,23 @@ use Rattle.table.proofs.version.Version.stats.Goals as goal
 
 pub index-requires : goal.index-requires
 index-requires c =
-    let held = c.self.inside.held in
-    let count = length-stats (arc_value held.schema) (table_of (batches_of held)) (arc_value held.stats).items c.self.invariant.lawful.statistics in
-    let fields = ap (λ (s : Contents). length s.fields) c.self.view_is in
+    let held = c.held.result.now in
+    let count = length-stats (arc_value held.schema) (table_of (batches_of held)) (arc_value held.stats).items c.held.ensures.lawful.lawful.statistics in
+    let fields = ap (λ (s : Contents). length s.fields) c.held.ensures.shown in
     let same = ap (λ (v : Vec ColumnStats Global). vec_len v) c.deref.ensures in
     omega (arith, c.requires, count, fields, same, (arc_value held.stats).ok.0)
 
 pub returns : goal.returns
 returns c =
-    let held = c.self.inside.held in
-    let is = c.self.invariant in
+    let held = c.held.result.now in
+    let is = c.held.ensures.lawful in
     let stats = arc_value held.stats in
     let count = length-stats (arc_value held.schema) (table_of (batches_of held)) stats.items is.lawful.statistics in
-    let below : c.args.k < stats.len = omega (arith, c.requires, count, ap (λ (s : Contents). length s.fields) c.self.view_is, stats.ok.0) in
+    let below : c.args.k < stats.len = omega (arith, c.requires, count, ap (λ (s : Contents). length s.fields) c.held.ensures.shown, stats.ok.0) in
     let read = subst (λ (v : Vec ColumnStats Global). c.index.result.now ≡ Rattle.std.proofs.Common.get_or v.items c.args.k c.index.result.now) c.deref.ensures c.index.ensures in
     let there = slice_get_read stats.items stats.len c.args.k c.index.result.now stats.ok.0 below read in
     λ f at.
-    subst (λ (s : Contents). AreStats c.index.result.now (kind_of_field f) (column (rows s.history) c.args.k)) c.self.view_is
+    subst (λ (s : Contents). AreStats c.index.result.now (kind_of_field f) (column (rows s.history) c.args.k)) c.held.ensures.shown
     (subst (λ (t : Table). AreStats c.index.result.now (kind_of_field f) (column t c.args.k)) (sym (rows-shown held is))
     (stats-at (arc_value held.schema) (table_of (batches_of held)) stats.items c.args.k f c.index.result.now is.lawful.statistics
-    (ap (λ (s : Contents). slice_get s.fields c.args.k) c.self.view_is ∙ at) there))
+    (ap (λ (s : Contents). slice_get s.fields c.args.k) c.held.ensures.shown ∙ at) there))
