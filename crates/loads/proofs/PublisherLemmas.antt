@@ -102,7 +102,10 @@ module _ (N : RattleType) (n : naming.Ghosts N.Denot) (m : names.Ghosts N.Denot)
   known-send : IsSend (known.the_row N n m)
   known-send =
       let D = known.the_type N n m in
-      recorded_send (Struct (shape D)) D.D D.to D.to_one (struct_send (shape D) (search (reads-send (shown.the_row N n m) shown-send shown-sync, crosses, sendable) depth 20, (search (front.the_send, crosses, sendable) depth 20, tt)))
+      recorded_send (Struct (shape D)) D.D D.to D.to_one (struct_send (shape D) (
+        search (crosses, sendable) depth 20,
+        (search (reads-send (shown.the_row N n m) shown-send shown-sync, crosses, sendable) depth 20, (search (front.the_send, crosses, sendable) depth 20, (search (shown-send, crosses, sendable) depth 20, tt))),
+      ))
 
   pub reader-send : IsSend (reader.the_row N n m)
   reader-send = search (known-send, crosses, sendable) depth 20

@@ -107,7 +107,7 @@ fn new_readers<N: Naming, R: Wait + Drop>(
         let Ok(handle) = publisher.handle() else {
             return Err(OpenFault::NoPlace);
         };
-        readers.push(Reader::new(handle, front.again()))?;
+        readers.push(Reader::new(alloc, handle, front.again()))?;
     }
     Ok((Some(publisher), readers))
 }

@@ -11,6 +11,7 @@ use crate::shown::Shown;
 use colbits::NoMemory;
 use histories::Front;
 use left_right::ReadHandle;
+use std::alloc::Global;
 use std::marker::Model;
 use std::sync::Arc;
 use table::Version;
@@ -20,8 +21,11 @@ use table::Version;
 /// Clauses see the history that it knows: the longest of those that it has seen or was told of, which the others begin.
 #[derive(Drop)]
 pub struct Reader<N: Naming> {
+    alloc: Global,
     handle: ReadHandle<Shown<N>>,
     known: Front<Event, N>,
+    /// What it saw last.
+    own: Option<Shown<N>>,
 }
 
 impl<N: Naming> Model for Reader<N> {
@@ -37,13 +41,23 @@ impl<N: Naming> Model for Reader<N> {
 
 impl<N: Naming> Reader<N> {
     /// A reader that knows nothing yet.
-    pub(crate) fn new(handle: ReadHandle<Shown<N>>, known: Front<Event, N>) -> Reader<N>
+    pub(crate) fn new(
+        alloc: Global,
+        handle: ReadHandle<Shown<N>>,
+        known: Front<Event, N>,
+    ) -> Reader<N>
         ensures { result ≡ known }
     {
-        Reader { handle, known }
+        Reader {
+            alloc,
+            handle,
+            known,
+            own: None,
+        }
     }
 
-    /// A version of the table that shows all that the reader knows; then it knows the version's history.
+    /// A version of the table that shows all that the reader knows; then it knows the version's history. The reader keeps the
+    /// version, and gives it again until there is a newer one.
     ///
     /// # Errors
     /// `NoMemory` where the copy of the version was refused, and where the table has ended. What is known stays.
@@ -54,16 +68,17 @@ impl<N: Naming> Reader<N> {
         ensures legal { IfOk result (λ v. IsLegal N.fields (arc_value v).history) }
         ensures kept { OnErr result (self.new ≡ self.old) }
     {
-        let Some(shown) = self.shown()? else {
+        self.look()?;
+        let Some(own) = &self.own else {
             return Err(NoMemory);
         };
-        let Shown { version, front } = shown;
         // What is published never falls behind what a reader was told of, but only the rule of the pair knows that.
-        if !self.known.begins(&front) {
+        if !self.known.begins(&own.front) {
             return Err(NoMemory);
         }
+        let version = own.version.clone()?;
         let _rows = version.rows();
-        self.known = front;
+        self.known = own.front.again();
         Ok(version)
     }
 
@@ -80,13 +95,30 @@ impl<N: Naming> Reader<N> {
         }
     }
 
-    /// A copy of what is shown, none where the table has ended.
-    fn shown(&mut self) -> Result<Option<Shown<N>>, NoMemory>
+    /// Has what is shown as its own, where it's newer.
+    ///
+    /// # Errors
+    /// `NoMemory` where the copy of the version was refused, and where the table has ended.
+    fn look(&mut self) -> Result<(), NoMemory>
         ensures { self.new ≡ self.old }
     {
         let Some(guard) = self.handle.enter() else {
-            return Ok(None);
+            return Err(NoMemory);
         };
-        Ok(Some(Shown::new(&guard.version, &guard.front)?))
+        if begins(&guard.front, &self.own) {
+            return Ok(());
+        }
+        let shown = Shown::new(&guard.version, &guard.front)?;
+        drop(guard);
+        self.own = Some(shown.apart(self.alloc)?);
+        Ok(())
+    }
+}
+
+/// Whether a reader saw all of a history last.
+fn begins<N: Naming>(front: &Front<Event, N>, own: &Option<Shown<N>>) -> bool {
+    match own {
+        Some(own) => front.begins(&own.front),
+        None => false,
     }
 }

@@ -6,9 +6,10 @@ ghost use Rattle.std.specs.Arc.{arc_value};
 ghost use Rattle.table.specs.Contents.{Contents};
 
 use crate::naming::{Event, Naming};
+use colbits::NoMemory;
 use histories::Front;
 use left_right::{Absorb, WriteHandle};
-use std::alloc::AllocError;
+use std::alloc::{AllocError, Global};
 use std::marker::Model;
 use std::sync::{Arc, Wait};
 use table::Version;
@@ -51,6 +52,19 @@ impl<N: Naming> Shown<N> {
         Ok(Shown {
             version,
             front: front.again(),
+        })
+    }
+
+    /// The same by an `Arc` of its own, so that those who copy it don't wait for each other's counts; where there is no
+    /// memory for one, by the `Arc` that it has.
+    pub(crate) fn apart(self, alloc: Global) -> Result<Shown<N>, NoMemory>
+        ensures { IfOk result (λ s. s ≡ self) }
+    {
+        let Shown { version, front } = self;
+        let own = Arc::new(alloc, version.share()?);
+        Ok(Shown {
+            version: own.unwrap_or(version),
+            front,
         })
     }
 }
