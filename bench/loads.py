@@ -3,13 +3,18 @@
 
     bench/loads.py [RUNS]
 
-`crates/bench_loads` has to be built before (`rt run` there). Times are differences of whole runs, each the least of many in
-turn, less the run that only makes the files.
+`crates/bench_loads` and `crates/bench_readers` have to be built before (`rt run` there). Times are differences of whole runs,
+each the least of many in turn, less the run that only makes the files, and the start of threads is that of workers whose files
+have no batches. A hundred appends are timed by the lines that a program writes round them (`bench/readers.py`, without a
+reader), as the median of many.
 """
 import os
+import statistics
 import subprocess
 import sys
 import time
+
+import readers
 
 TOP = os.path.dirname(os.path.dirname(os.path.abspath(__file__)))
 OURS = os.path.join(TOP, "crates", "bench_loads", "out", "bench_loads")
@@ -34,12 +39,13 @@ def main():
     none, one, four = least(runs, [(workers, 4, 100, 10000) for workers in (0, 1, 4)])
     print(f"4 files of 100 batches of 10,000 rows: 1 worker {1000 * (one - none):.1f} ms, 4 workers {1000 * (four - none):.1f} ms, "
           f"{(four - none) / (one - none):.2f}")
-    none, one, all_ = least(5 * runs, [(workers, 64, 16, 1) for workers in (0, 1, 64)])
-    print(f"1,024 appends of 1 row: 1 worker {1000 * (one - none):.2f} ms, 64 workers {1000 * (all_ - none):.2f} ms, "
-          f"{(one - none) / (all_ - none):.2f} of the appends a second")
-    none, first, most, all_ = least(5 * runs, [(1, 1, batches, 1) for batches in (0, 100, 9900, 10000)])
-    print(f"10,000 appends of 1 row: the last hundred {1000 * (all_ - most):.2f} ms, the first {1000 * (first - none):.2f} ms, "
-          f"{(all_ - most) / (first - none):.2f}")
+    for batches in 16, 160:
+        none, start, files, one, all_ = least(5 * runs, [(0, 64, 0, 1), (64, 64, 0, 1), *((workers, 64, batches, 1) for workers in (0, 1, 64))])
+        start, one, all_ = start - none, one - files, all_ - files
+        print(f"{64 * batches:,} appends of 1 row: 1 worker {1000 * one:.2f} ms, 64 workers {1000 * all_:.2f} ms, {one / all_:.2f} of the appends a second, "
+              f"{one / (all_ - start):.2f} where the start of 64 threads, {1000 * start:.2f} ms, isn't counted")
+    first, last = (statistics.median(readers.phase(standing, 100, 0, 0, False)[0] for _ in range(5 * runs)) for standing in (0, 9_900))
+    print(f"10,000 appends of 1 row: the last hundred {1000 * last:.2f} ms, the first {1000 * first:.2f} ms, {last / first:.2f}")
 
 
 if __name__ == "__main__":

@@ -3,9 +3,9 @@
 use shared::{Naming, Reader, Worker};
 use std::sync::ledger::Ledger;
 
-/// A worker, or a reader.
+/// A worker, or a reader, which its thread takes while it looks: where readers lie side by side, each would slow its neighbours.
 #[derive(Drop)]
 pub(crate) enum Hand<C: Ledger, Q: Ledger, N: Naming> {
     Appends(Worker<C, Q, N>),
-    Reads(Reader<N>),
+    Reads(Option<Reader<N>>),
 }

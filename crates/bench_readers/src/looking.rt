@@ -40,7 +40,11 @@ impl<'a, C: Ledger, Q: Ledger, N: Naming, P: Publish<Item = Shown<N>>, W: Wait> 
                 self.appends,
                 worker,
             ),
-            Hand::Reads(reader) => look(self.looks, reader),
+            Hand::Reads(place) => {
+                if let Some(reader) = place.take() {
+                    *place = Some(look(self.looks, reader));
+                }
+            }
         }
     }
 }
@@ -61,8 +65,10 @@ pub(crate) fn append<C: Ledger, Q: Ledger, N: Naming, P: Publish<Item = Shown<N>
 }
 
 /// Takes the newest version so often.
-fn look<N: Naming>(times: u32, reader: &mut Reader<N>) {
+fn look<N: Naming>(times: u32, reader: Reader<N>) -> Reader<N> {
+    let mut reader = reader;
     for _ in 0..times {
         let _version = reader.latest();
     }
+    reader
 }

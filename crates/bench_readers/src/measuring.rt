@@ -94,13 +94,13 @@ fn work_on<
     readers: Vec<Reader<N>>,
 ) -> Option<()> {
     let mut hands = Vec::new(alloc);
+    for reader in readers {
+        hands.push(Hand::Reads(Some(reader))).ok()?;
+    }
     for worker in workers {
         let mut worker = worker;
         append(wait, table, batch, shape.standing, &mut worker);
         hands.push(Hand::Appends(worker)).ok()?;
-    }
-    for reader in readers {
-        hands.push(Hand::Reads(reader)).ok()?;
     }
     println!(rt; "{} batches stand", shape.standing).ok()?;
     let looking = Looking {
