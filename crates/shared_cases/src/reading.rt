@@ -19,7 +19,7 @@ fn a_reader_sees_what_it_learnt(rt: HostRuntime) -> Result<(), Fail> {
 }
 
 /// A reader sees both workers' batches once it has learnt of the later one, and no less after it has learnt of the earlier one
-/// and after a batch was refused. A version that it had before stays as it was.
+/// and after a batch was refused; one more batch it sees without having been told. A version that it had before stays as it was.
 struct Learning;
 
 impl Scene for Learning {
@@ -41,6 +41,7 @@ impl Scene for Learning {
             let opening = reader.latest()?;
             learn_both(rt, alloc, &table, &mut workers, reader)?;
             look_again(rt, alloc, &table, &mut workers, reader)?;
+            look_untold(rt, alloc, &table, &mut workers, reader)?;
             assert!(rt; opening.rows() == 0 && opening.book_len() == 0);
         }
         table.close(rt);
@@ -92,6 +93,22 @@ fn look_again<C: Ledger, Q: Ledger, N: Naming, P: Publish<Item = Shown<N>>, R: W
     assert!(rt; refused.err() == Some(Refusal::NullInNonNullable { column: 0, row: 1 }));
     assert!(rt; workers[0].rows() == 2 && workers[0].calls() == 1);
     expect_both(rt, &*reader.latest()?);
+    Ok(())
+}
+
+/// A batch is appended, and the reader sees it at its next look.
+fn look_untold<C: Ledger, Q: Ledger, N: Naming, P: Publish<Item = Shown<N>>, R: Wait + Abort>(
+    rt: &R,
+    alloc: Global,
+    table: &SharedTable<C, Q, N, P>,
+    workers: &mut [Worker<C, Q, N>],
+    reader: &mut Reader<N>,
+) -> Result<(), Fail> {
+    assert!(rt; workers.len() == 2);
+    let _receipt = table.append(rt, &mut workers[0], &column(alloc, "s", SEVEN_AND_NINE, 2)?)?;
+    let version = reader.latest()?;
+    assert!(rt; version.rows() == 7 && version.book_len() == 3);
+    expect_entry(rt, &*version, 2, Entry { worker: 0, rows: 2 });
     Ok(())
 }
 
