@@ -1,5 +1,5 @@
 //! `bench_readers STANDING APPENDS READERS LOOKS` has one worker append so many batches of a row, says so, then has it append so
-//! many more while so many readers take the newest version so often each, and says how many rows the table has.
+//! many more while so many readers take the newest version so often each, and says that all have ended.
 //!
 //! Without arguments two batches stand, and the worker appends three while two readers look four times.
 #![tactic(auto)]
