@@ -44,7 +44,7 @@ def main():
         start, one, all_ = start - none, one - files, all_ - files
         print(f"{64 * batches:,} appends of 1 row: 1 worker {1000 * one:.2f} ms, 64 workers {1000 * all_:.2f} ms, {one / all_:.2f} of the appends a second, "
               f"{one / (all_ - start):.2f} where the start of 64 threads, {1000 * start:.2f} ms, isn't counted")
-    first, last = (statistics.median(readers.phase(standing, 100, 0, 0, False).all for _ in range(5 * runs)) for standing in (0, 9_900))
+    first, last = (statistics.median(readers.phase(standing, 100, 0).all for _ in range(5 * runs)) for standing in (0, 9_900))
     print(f"10,000 appends of 1 row: the last hundred {1000 * last:.2f} ms, the first {1000 * first:.2f} ms, {last / first:.2f}")
 
 

@@ -5,7 +5,7 @@
 
 `crates/bench_readers` has to be built before (`rt run` there). The program says when its first batches stand and when it has
 ended; what is between is measured: the least of the runs. What threads use of the processors is as Linux counts it, looked up
-each millisecond. Looks come one right after the other, and last longer than the appends where they are measured beside these.
+each millisecond. Looks come one right after the other, or with a pause after each, and last longer than the appends that are measured beside them.
 With STANDING, an append is measured where so many batches stand; each of them was made a version of too, so that 100,000 take
 minutes.
 """
@@ -43,9 +43,9 @@ def watch(process):
     return known, last
 
 
-def phase(standing, appends, readers, looks, watched=True):
+def phase(standing, appends, readers, looks=0, pause=0, watched=False):
     """The seconds from where the first batches stand: to the end, and, where they are watched, until the worker has ended and those that it and the readers use."""
-    words = [OURS, str(standing), str(appends), str(readers), str(looks)]
+    words = [OURS, *map(str, (standing, appends, readers, looks, pause))]
     with subprocess.Popen(words, stdout=subprocess.PIPE) as process:
         process.stdout.readline()
         begin = time.monotonic()
@@ -58,18 +58,26 @@ def phase(standing, appends, readers, looks, watched=True):
         return Phase(end - begin, last - begin, worker / 1e9, sum(known.values()) / 1e9)
 
 
+def tell_appends(name, phases):
+    """Tells the least times of 10,000 appends beside one reader, and beside 16."""
+    one, many = (min(it.worker for it in phases[readers]) for readers in (1, 16))
+    used = [min(it.worker_used for it in phases[readers]) for readers in (1, 16)]
+    print(f"10,000 appends beside readers that look {name}: 1 reader {one:.2f} s ({used[0]:.2f} of a processor), 16 readers {many:.2f} s ({used[1]:.2f}), "
+          f"{one / many:.2f} of the appends a second", flush=True)
+
+
 def main():
     runs = int(sys.argv[1]) if len(sys.argv) > 1 else 3
     for appends, looks in (100, 4_000_000), (10_000, 120_000_000):
-        for readers in 1, 16:
-            phases = [phase(0, appends, readers, looks) for _ in range(runs)]
-            print(f"a look of {readers} readers beside {appends:,} appends: {1e9 * min(it.readers_used for it in phases) / (readers * looks):.0f} ns of the processors", flush=True)
-            if appends == 10_000:
-                print(f"these appends: {min(it.worker for it in phases):.2f} s, {min(it.worker_used for it in phases):.2f} s of a processor", flush=True)
-    for readers in 1, 16:
-        print(f"10,000 appends beside {readers} readers that don't look: {min(phase(0, 10_000, readers, 0, False).all for _ in range(runs)):.2f} s", flush=True)
+        phases = {readers: [phase(0, appends, readers, looks, watched=True) for _ in range(runs)] for readers in (1, 16)}
+        for readers, times in phases.items():
+            look = min(it.readers_used for it in times) / (readers * looks)
+            print(f"a look of {readers} readers beside {appends:,} appends: {1e9 * look:.0f} ns of the processors", flush=True)
+    tell_appends("without a break", phases)
+    for pause, looks in (1_000, 4_000), (100, 30_000):
+        tell_appends(f"each {pause} µs", {readers: [phase(0, 10_000, readers, looks, pause, watched=True) for _ in range(runs)] for readers in (1, 16)})
     for standing in map(int, sys.argv[2:] or ["100", "1000", "10000"]):
-        print(f"{standing:,} batches stand: an append takes {1000 * min(phase(standing, 1_000, 1, 0, False).all for _ in range(runs)):.2f} µs", flush=True)
+        print(f"{standing:,} batches stand: an append takes {1000 * min(phase(standing, 1_000, 1).all for _ in range(runs)):.2f} µs", flush=True)
 
 
 if __name__ == "__main__":

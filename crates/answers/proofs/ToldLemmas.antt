@@ -9,14 +9,11 @@ use Rattle.arrays.specs.Batch.{Table}
 use Rattle.arrays.specs.Item.{Item}
 use Rattle.query.specs.declared.expr.Agg.{Agg}
 use Rattle.answers.specs.Columns.{show_column, told_at}
-use Rattle.answers.specs.Grouping.{IsGrouped, told_from}
+use Rattle.answers.specs.Grouping.{IsGrouped, told_from, told_of}
 use Rattle.answers.specs.Groups.{GroupShape, grouped}
 use Rattle.answers.specs.declared.grouping.Grouping.{Grouping}
 use Rattle.answers.proofs.GroupLemmas.{told_more, told_whole}
 use Rattle.answers.proofs.MaskLemmas.{range-append}
-
-abbrev at : Grouping → ℕ → GroupShape
-at g n = record { keys = slice_index_or g.keys n []; cells = map (told_at n) (map show_column g.columns.items) }
 
 abbrev make : List Item → List Item → GroupShape
 make k cells = record { keys = k; cells = cells }
@@ -25,11 +22,11 @@ make k cells = record { keys = k; cells = cells }
 pub told_next : (g : Grouping) (from n : ℕ) (k cells : List Item) (front new : List GroupShape) → from ≤ n → slice_get g.keys n ≡ Some k
     → cells ≡ map (told_at n) (map show_column g.columns.items) → front ≡ told_from g from (n - from) → new ≡ front ++ make k cells ∷ [] → new ≡ told_from g from (n + 1 - from)
 told_next g from n k cells front new order is told so more =
-    let here : make k cells ≡ at g n = ap (λ (x : List Item). make x cells) (sym (get_or_from_slice_get g.keys n k [] is)) ∙ ap (make (slice_index_or g.keys n [])) told in
+    let here : make k cells ≡ told_of g n = ap (λ (x : List Item). make x cells) (sym (get_or_from_slice_get g.keys n k [] is)) ∙ ap (make (slice_index_or g.keys n [])) told in
     let next : (n - from) + 1 ≡ n + 1 - from = omega (arith, order) in
     more ∙ ap (λ (l : List GroupShape). l ++ make k cells ∷ []) so
     ∙ ap (λ x. told_from g from (n - from) ++ x ∷ []) here
-    ∙ sym (map-range_with_len_more (at g) from (n - from) n (omega (arith, order)))
+    ∙ sym (map-range_with_len_more (told_of g) from (n - from) n (omega (arith, order)))
     ∙ ap (told_from g from) next
 
 -- One part and the part behind it.
@@ -40,8 +37,8 @@ told_parts g from middle to front back whole low high so also is =
     let first : from + (middle - from) ≡ middle = omega (arith, low) in
     is ∙ ap (λ (l : List GroupShape). l ++ back) so
     ∙ ap (λ (l : List GroupShape). told_from g from (middle - from) ++ l) (also ∙ ap (λ n. told_from g n (to - middle)) (sym first))
-    ∙ sym (map-append (at g) (range_with_len from (middle - from)) (range_with_len (from + (middle - from)) (to - middle)))
-    ∙ ap (map (at g)) (sym (range-append from (middle - from) (to - middle)))
+    ∙ sym (map-append (told_of g) (range_with_len from (middle - from)) (range_with_len (from + (middle - from)) (to - middle)))
+    ∙ ap (map (told_of g)) (sym (range-append from (middle - from) (to - middle)))
     ∙ ap (told_from g from) all
 
 front_told : (by : List ℕ) (aggs : List (Agg ℕ)) (rows : Table) (g : Grouping) → IsGrouped by aggs rows g.keys (map show_column g.columns.items)
@@ -54,7 +51,7 @@ front_told by aggs rows g h (suc n) below =
     let one : suc n ≡ n + 1 = omega arith in
     ap (told_from g 0) one
     ∙ told_more by aggs rows g.keys columns n k (map (told_at n) columns) (told_from g 0 n) (told_from g 0 (n + 1)) h is refl (front_told by aggs rows g h n (omega (arith, below)))
-    (map-range_with_len_more (at g) 0 n n (omega arith))
+    (map-range_with_len_more (told_of g) 0 n n (omega arith))
     ∙ ap (λ m. take m (grouped by aggs rows)) (sym one)
 
 -- All groups are those that the query asks for.

@@ -48,6 +48,10 @@ pub record CountsRows (q : Query) : Type 0 where
 abbrev pub IsFull : Grouping → Type 0
 IsFull g = All (λ c. length (show_column c).tallies ≡ length g.keys) g.columns.items
 
--- What is answered of so many groups, from one on: of each its key, and what the columns tell.
+-- What is answered of a group: its key, and what the columns tell.
+abbrev pub told_of : Grouping → ℕ → GroupShape
+told_of g n = record { keys = slice_index_or g.keys n []; cells = map (told_at n) (map show_column g.columns.items) }
+
+-- What is answered of so many groups, from one on.
 abbrev pub told_from : Grouping → ℕ → ℕ → List GroupShape
-told_from g from count = map (λ n. record { keys = slice_index_or g.keys n []; cells = map (told_at n) (map show_column g.columns.items) }) (range_with_len from count)
+told_from g from count = map (told_of g) (range_with_len from count)

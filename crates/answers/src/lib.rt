@@ -28,6 +28,7 @@ mod part;
 mod part_set;
 mod piece;
 mod run;
+mod shares;
 mod source;
 mod telling;
 mod text_set;

@@ -13,6 +13,7 @@ ghost use Rattle.answers.specs.Pieces.{AreLooked, HasRun, IsAsked, IsPieceRefusa
 use crate::gate::Gate;
 use crate::grouping::Grouping;
 use crate::run::add_part;
+use crate::shares::front_of;
 use arrays::RecordBatch;
 use evaluate::stop::Stop;
 use query::{Query, QueryFault};
@@ -72,7 +73,7 @@ fn within(place: u64, before: u64, rows: u64) -> u64
 
 /// The groups of the rows of some neighbouring pieces, so many from one on, or the least of these rows where the filter is bad. Each
 /// piece is looked at in a thread of its own, which passes the gate before its first row, where the piece is empty too. What is known
-/// of one half of the pieces and of the other is put together once both are looked at.
+/// of the first of the pieces and of the others is put together once both are looked at.
 #[cycle(pieces)]
 pub(crate) fn look_at_pieces<T: Threads + Sync, G: Gate>(
     threads: &T,
@@ -96,7 +97,7 @@ pub(crate) fn look_at_pieces<T: Threads + Sync, G: Gate>(
         let last = cuts.at(from + 1);
         return look_at_piece(alloc, batches, query, first, last);
     }
-    let low = count / 2;
+    let low = front_of(count);
     let high = count - low;
     let middle = from + low;
     let front = move || -> Result<Grouping, QueryFault>

@@ -14,6 +14,7 @@ use evaluate::slice::Slice;
 use evaluate::stop::Stop;
 use query::{Agg, Query};
 use std::alloc::Global;
+use std::thread::yield_now;
 
 /// The most rows that are looked at together, so that what is known of them takes the same memory for batches of any size.
 const SLICE: usize = 16384;
@@ -57,8 +58,16 @@ pub(crate) fn add_part(
             Err(Stop::Bad(row)) => return Err(Stop::Bad(at + row)),
             Err(Stop::NoMemory) => return Err(Stop::NoMemory),
         }
+        take_turns(at < rows);
     }
     Ok(())
+}
+
+/// Lets other threads go first where there is more to do, so that of more threads than processors all end at about the same time.
+fn take_turns(more: bool) {
+    if more {
+        yield_now();
+    }
 }
 
 /// Adds the rows of a slice that the query's filter keeps; their places are kept in between, unless they are only counted.

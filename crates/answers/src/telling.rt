@@ -9,6 +9,7 @@ ghost use Rattle.answers.specs.Grouping.{IsFull, told_from};
 use crate::column::TallyColumn;
 use crate::grouping::Grouping;
 use crate::groups::Group;
+use crate::shares::{front_of, share_of};
 use colbits::NoMemory;
 use group::Scalar;
 use std::alloc::Global;
@@ -17,8 +18,7 @@ use std::thread::{Threads, join};
 /// How many groups are told before others are told beside them.
 const FEW: usize = 4096;
 
-/// The groups from one up to another: of each its key, and what is told of its rows. Many are told in two halves, side by side,
-/// down to so many parts.
+/// The groups from one up to another: of each its key, and what is told of its rows. Many are told in so many parts, side by side.
 #[cycle(telling)]
 pub(crate) fn tell_groups<T: Threads + Sync>(
     threads: &T,
@@ -37,9 +37,9 @@ pub(crate) fn tell_groups<T: Threads + Sync>(
     if count <= FEW || parts <= 1 {
         return tell_in_turn(alloc, grouping, from, to);
     }
-    let middle = from + count / 2;
-    let fewer = parts / 2;
+    let fewer = front_of(parts);
     let more = parts - fewer;
+    let middle = from + share_of(count, parts);
     let front = move || -> Result<Vec<Group>, NoMemory>
         requires { IsSync T.row × (from ≤ middle) × (middle ≤ length grouping.now.keys) × IsFull grouping.now }
         ensures { IfOk result (λ v. map shape_of v.items ≡ told_from grouping.entry.now from (middle - from)) }

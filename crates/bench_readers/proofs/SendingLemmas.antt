@@ -38,7 +38,7 @@ module _ (C Q N P : RattleType) (c : ledger.Ghosts C.Denot) (q : ledger.Ghosts Q
           shr_sync ℓ.mir ℓ.lft (table.the_row C Q N P c q n m p) (table-sync C Q N P c q n m p send-P),
           (
             search (batch-sync, crosses, sendable) depth 20,
-            (search sendable depth 20, (search sendable depth 20, (search sendable depth 20, tt))),
+            (search sendable depth 20, (search sendable depth 20, (search sendable depth 20, (search (crosses, sendable) depth 20, tt)))),
           ),
         ),
       ))

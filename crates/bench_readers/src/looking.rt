@@ -6,8 +6,10 @@ use crews::Task;
 use shared::{Naming, Publish, Reader, SharedTable, Shown, Worker};
 use std::sync::Wait;
 use std::sync::ledger::Ledger;
+use std::thread::sleep;
+use std::time::{Clock, Duration};
 
-/// Each worker appends a batch so often, and each reader looks so often.
+/// Each worker appends a batch so often, and each reader looks so often and pauses after each look.
 #[derive(Drop)]
 pub(crate) struct Looking<
     'a,
@@ -15,7 +17,7 @@ pub(crate) struct Looking<
     Q: Ledger,
     N: Naming,
     P: Publish<Item = Shown<N>>,
-    W: Wait,
+    W: Wait + Clock,
 > {
     pub(crate) wait: &'a W,
     pub(crate) table: &'a SharedTable<C, Q, N, P>,
@@ -23,10 +25,12 @@ pub(crate) struct Looking<
     pub(crate) count: usize,
     pub(crate) appends: u32,
     pub(crate) looks: u32,
+    pub(crate) pause: Duration,
 }
 
-impl<'a, C: Ledger, Q: Ledger, N: Naming, P: Publish<Item = Shown<N>>, W: Wait> Task<Hand<C, Q, N>>
-    for Looking<'a, C, Q, N, P, W> {
+impl<'a, C: Ledger, Q: Ledger, N: Naming, P: Publish<Item = Shown<N>>, W: Wait + Clock> Task<
+    Hand<C, Q, N>,
+> for Looking<'a, C, Q, N, P, W> {
     ghost count = { λ s. s.count };
 
     ghost does = { λ _ _ _ _. Unit };
@@ -42,7 +46,7 @@ impl<'a, C: Ledger, Q: Ledger, N: Naming, P: Publish<Item = Shown<N>>, W: Wait> 
             ),
             Hand::Reads(place) => {
                 if let Some(reader) = place.take() {
-                    *place = Some(look(self.looks, reader));
+                    *place = Some(look(self.wait, self.looks, self.pause, reader));
                 }
             }
         }
@@ -64,11 +68,19 @@ pub(crate) fn append<C: Ledger, Q: Ledger, N: Naming, P: Publish<Item = Shown<N>
     }
 }
 
-/// Takes the newest version so often.
-fn look<N: Naming>(times: u32, reader: Reader<N>) -> Reader<N> {
+/// Takes the newest version so often, with a pause after each look.
+fn look<N: Naming, K: Clock>(
+    clock: &K,
+    times: u32,
+    pause: Duration,
+    reader: Reader<N>,
+) -> Reader<N> {
     let mut reader = reader;
     for _ in 0..times {
         let _version = reader.latest();
+        if !pause.is_zero() {
+            sleep(clock, pause);
+        }
     }
     reader
 }

@@ -1,5 +1,6 @@
-//! `bench_readers STANDING APPENDS READERS LOOKS` has one worker append so many batches of a row, says so, then has it append so
-//! many more while so many readers take the newest version so often each, and says that all have ended.
+//! `bench_readers STANDING APPENDS READERS LOOKS PAUSE` has one worker append so many batches of a row, says so, then has it append so
+//! many more while so many readers take the newest version so often each, with a pause of so many microseconds after each time, and
+//! says that all have ended.
 //!
 //! Without arguments two batches stand, and the worker appends three while two readers look four times.
 #![tactic(auto)]
@@ -13,6 +14,7 @@ use std::env;
 use std::process::ExitCode;
 use std::sync::Wait;
 use std::thread::Threads;
+use std::time::Clock;
 
 fn main(rt: HostRuntime) -> ExitCode {
     let Ok(mut words) = env::args(&rt) else {
@@ -25,6 +27,7 @@ fn main(rt: HostRuntime) -> ExitCode {
             appends: 3,
             readers: 2,
             looks: 4,
+            pause: 0,
         };
         return tell(&rt, &rt, &rt, shape);
     };
@@ -33,8 +36,9 @@ fn main(rt: HostRuntime) -> ExitCode {
         number(words.next()),
         number(words.next()),
         number(words.next()),
+        number(words.next()),
     );
-    let (Some(standing), Some(appends), Some(readers), Some(looks)) = numbers else {
+    let (Some(standing), Some(appends), Some(readers), Some(looks), Some(pause)) = numbers else {
         return refused(&rt);
     };
     let shape = Shape {
@@ -42,17 +46,18 @@ fn main(rt: HostRuntime) -> ExitCode {
         appends,
         readers,
         looks,
+        pause,
     };
     tell(&rt, &rt, &rt, shape)
 }
 
-// A number of batches, of readers or of looks.
+// A number of batches, of readers, of looks or of microseconds.
 fn number(word: Option<String>) -> Option<u32> {
     word?.as_str().parse().ok()
 }
 
 // Says what is measured, and that it ended.
-fn tell<W: Wait + Sync, T: Threads + Sync>(
+fn tell<W: Wait + Clock + Sync, T: Threads + Sync>(
     wait: &W,
     threads: &T,
     rt: &HostRuntime,

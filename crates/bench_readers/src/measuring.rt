@@ -14,18 +14,21 @@ use std::marker::Brand;
 use std::sync::Wait;
 use std::sync::ledger::{Blank, Ledger};
 use std::thread::Threads;
+use std::time::{Clock, Duration};
 
-/// How many batches stand, how many are appended, how many readers there are and how often each looks.
+/// How many batches stand, how many are appended, how many readers there are, how often each looks and how many microseconds it
+/// pauses after each look.
 #[derive(Clone, Copy)]
 pub(crate) struct Shape {
     pub(crate) standing: u32,
     pub(crate) appends: u32,
     pub(crate) readers: u32,
     pub(crate) looks: u32,
+    pub(crate) pause: u32,
 }
 
 /// Makes the table, says when the batches stand, has all work together and says when they have ended.
-pub(crate) fn measure<W: Wait + Sync, T: Threads + Sync>(
+pub(crate) fn measure<W: Wait + Clock + Sync, T: Threads + Sync>(
     rt: &HostRuntime,
     wait: &W,
     threads: &T,
@@ -46,7 +49,7 @@ fn measure_under<
     C: Ledger + Send + Sync,
     Q: Ledger + Send + Sync,
     N: Naming + Send + Sync,
-    W: Wait + Sync,
+    W: Wait + Clock + Sync,
     T: Threads + Sync,
 >(
     rt: &HostRuntime,
@@ -80,7 +83,7 @@ fn work_on<
     Q: Ledger + Send + Sync,
     N: Naming + Send + Sync,
     P: Publish<Item = Shown<N>> + Send,
-    W: Wait + Sync,
+    W: Wait + Clock + Sync,
     T: Threads + Sync,
 >(
     rt: &HostRuntime,
@@ -110,6 +113,7 @@ fn work_on<
         count: hands.len(),
         appends: shape.appends,
         looks: shape.looks,
+        pause: Duration::from_micros(u64::from(shape.pause)),
     };
     run_all(threads, &mut hands, &looking);
     println!(rt; "{} were appended", shape.appends).ok()

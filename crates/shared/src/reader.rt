@@ -115,7 +115,7 @@ impl<N: Naming> Reader<N> {
     }
 }
 
-/// Whether a reader saw all of a history last.
+/// Whether the version that a reader has has all of a history already.
 fn begins<N: Naming>(front: &Front<Event, N>, own: &Option<Shown<N>>) -> bool {
     match own {
         Some(own) => front.begins(&own.front),
