@@ -33,13 +33,12 @@ def threads_nanoseconds(process, known):
 
 
 def watch(process):
-    """Notes what the threads of a process use until it says the next line, and when its first thread used anything last."""
-    known, last = {}, time.monotonic()
+    """Notes what the threads of a process use until it says the next line, and when its first thread had used another millisecond last."""
+    known, used, last = {}, 0, time.monotonic()
     while not select.select([process.stdout], [], [], 0.001)[0]:
-        before = known.get(process.pid)
         threads_nanoseconds(process, known)
-        if known.get(process.pid) != before:
-            last = time.monotonic()
+        if known.get(process.pid, 0) - used > 1_000_000:
+            used, last = known[process.pid], time.monotonic()
     return known, last
 
 
