@@ -1,22 +1,19 @@
 -- Parts of keys and the items that they stand for.
 use mathlib.Core.Logic.{⊎_elim}
-use Rattle.std.proofs.Common.{◌≡◌, ◌∙◌, ℕ, ◌+◌, ◌<◌, ◌≤◌, Bool, true, false, ◌&&◌, ◌||◌, cond, eqb, List, [], ◌∷◌, ◌++◌, ℤ, pos, ◌^◌, ◌≤ℤ◌, length, map, take, get_or, Some, refl, sym, ap, subst, arith, append_assoc, length-append}
+use Rattle.std.proofs.Common.{◌≡◌, ◌∙◌, ℕ, ◌+◌, ◌<◌, ◌≤◌, Bool, true, false, ◌&&◌, ◌||◌, cond, eqb, List, [], ◌∷◌, ◌++◌, ℤ, pos, length, map, take, get_or, Some, refl, sym, ap, subst, arith, append_assoc, length-append}
 use Rattle.std.specs.Prelude.{All, IfOk, OnErr, OnOk, Result, Ok, Err, slice_get, slice_index_or, option_map, ◌⊎◌}
 use Rattle.std.specs.List.{IsDistinct, list_any}
 use Rattle.std.specs.Str.{bytes_eq}
 use Rattle.std.proofs.lemmas.Bool.{eqb-true, eqb-false}
 use Rattle.std.proofs.lemmas.Cmp.{nat_list_eq_equiv}
 use Rattle.std.proofs.lemmas.List.{map-append, length-map, take_more, get_or-map, get_or_append_left}
-use Rattle.std.proofs.lemmas.List.Elements.{All-cons, All-head, All-nil, All-tail, All-push, All-weaker, All-get_or}
+use Rattle.std.proofs.lemmas.List.Elements.{All-head, All-tail, All-push, All-weaker, All-get_or}
 use Rattle.std.proofs.lemmas.Map.Keys.{apart_from_distinct}
 use Rattle.std.proofs.lemmas.Option.{slice_get-get_or, slice_get-map}
-use Rattle.std.specs.Ordering.{int_eq}
-use Rattle.std.proofs.lemmas.Bool.Decides.{Decides-int_eq}
-use Rattle.std.proofs.lemmas.Int.{ints}
 use Rattle.arrayvec.specs.ArrayVec.{ArrayVec}
 use mathlib.Core.List.{IsPrefix}
 use Rattle.indexmap.specs.IndexSet.{insert_key}
-use Rattle.arrays.specs.Item.{Item, int, null, text}
+use Rattle.arrays.specs.Item.{Item, null, text}
 use Rattle.arrays.specs.Batch.{Row}
 use Rattle.answers.specs.declared.part.Part.{Part}
 use Rattle.answers.specs.declared.part.Part.TheVariants as part
@@ -100,8 +97,11 @@ key_there ts ks keys n k are below is =
     let within : n < length ks = omega (arith, below, ap length are, length-map ks key) in
     ap key is ∙ sym (get_or-map key ks n k [] within) ∙ ap (λ l. slice_index_or l n []) are
 
-pub number_within : (n : ℕ) (ps : List Part) (z : ℤ) → ps ≡ part.Int z ∷ [] → All (IsWithin n) ps
-number_within n ps z is = subst (All (IsWithin n)) (sym is) (All-cons (IsWithin n) (part.Int z) [] tt (All-nil (IsWithin n)))
+-- The key of one column alone.
+pub key_alone : (by : List ℕ) (row : Row) (x : Item) → length by ≡ 1 → x ≡ slice_index_or row (get_or by 0 0) null → x ∷ [] ≡ key_of by row
+key_alone [] row x one is = absurd (omega (arith, one))
+key_alone (c ∷ []) row x one is = ap (λ y. y ∷ []) is
+key_alone (c ∷ d ∷ by) row x one is = absurd (omega (arith, one))
 
 module _ (ts : List (List ℕ)) (once : IsDistinct bytes_eq ts) where
   texts_same : (m n : ℕ) → m < length ts → n < length ts → eqb m n ≡ bytes_eq (get_or ts m []) (get_or ts n [])
@@ -171,29 +171,6 @@ pub numbered : {E : Type 0} (r : Result ℕ E) (ts : List (List ℕ)) (ks : List
 numbered (Ok n) ts ks k at = slice_get-map (key_of_parts ts) ks n ∙ ap (option_map (key_of_parts ts)) at
 numbered (Err e) ts ks k at = tt
 
--- A number and null name no text.
-pub lone_within : (n : ℕ) (z : ℤ) → All (IsWithin n) (parts_of_number z)
-lone_within n z = All-cons (IsWithin n) (part_of_number z) [] (go (int_eq z (pos 1267650600228229401496703205376))) (All-nil (IsWithin n)) where
-  go : (b : Bool) → IsWithin n (cond b part.Null (part.Int z))
-  go true = tt
-  go false = tt
-
-key_of_lone : (ts us : List (List ℕ)) (z : ℤ) (b : Bool) → item_of_part ts (cond b part.Null (part.Int z)) ≡ item_of_part us (cond b part.Null (part.Int z))
-key_of_lone ts us z true = refl
-key_of_lone ts us z false = refl
-
-pub lone_shown : (ts us : List (List ℕ)) (z : ℤ) → key_of_parts ts (parts_of_number z) ≡ key_of_parts us (parts_of_number z)
-lone_shown ts us z = ap (λ x. x ∷ []) (key_of_lone ts us z (int_eq z (pos 1267650600228229401496703205376)))
-
--- A number that some integer type has isn't the one that stands for null.
-pub number_shown : (ts : List (List ℕ)) (z : ℤ) → z ≤ℤ pos (2 ^ 64) → key_of_parts ts (parts_of_number z) ≡ int z ∷ []
-number_shown ts z high =
-    either (int_eq z (pos 1267650600228229401496703205376))
-    (λ yes. absurd (too_high z high ((Decides-int_eq z (pos 1267650600228229401496703205376)).0 yes)))
-    (λ no. ap (λ b. item_of_part ts (cond b part.Null (part.Int z)) ∷ []) no) where
-      too_high : (z : ℤ) → z ≤ℤ pos (2 ^ 64) → z ≡ pos 1267650600228229401496703205376 → ⊥
-      too_high z high is = omega (arith, ints)
-
 -- The key at a place, by the number that is there, and by the parts.
 pub number_there : (ts : List (List ℕ)) (lists : List (List Part)) (keys : List (List Item)) (xs : List ℤ) (n : ℕ) (z : ℤ) → lists ≡ map parts_of_number xs
     → keys_shown ts lists ≡ keys → n < length keys → z ≡ get_or xs n (pos 0) → key_of_parts ts (parts_of_number z) ≡ slice_index_or keys n []
@@ -218,6 +195,15 @@ list_held ts lists keys xs n v shown are below is held =
     let long : n < length xs = omega (arith, below, ap length are, ap length shown, length-map lists (key_of_parts ts), length-map xs items) in
     let inside : n < length lists = omega (arith, long, ap length shown, length-map xs items) in
     subst W (ap (λ l. get_or l n v.items) shown ∙ get_or-map items xs n v v.items long ∙ sym (ap items is)) (All-get_or W lists n v.items inside held)
+
+pub number_held : (ts : List (List ℕ)) (lists : List (List Part)) (keys : List (List Item)) (xs : List ℤ) (n : ℕ) (z : ℤ) → lists ≡ map parts_of_number xs
+    → keys_shown ts lists ≡ keys → n < length keys → z ≡ get_or xs n (pos 0) → AreWithin (length ts) lists → IsWithin (length ts) (part_of_number z)
+number_held ts lists keys xs n z shown are below is held =
+    let W = All (IsWithin (length ts)) in
+    let long : n < length xs = omega (arith, below, ap length are, ap length shown, length-map lists (key_of_parts ts), length-map xs parts_of_number) in
+    let inside : n < length lists = omega (arith, long, ap length shown, length-map xs parts_of_number) in
+    All-head (IsWithin (length ts)) (part_of_number z) []
+    (subst W (ap (λ l. get_or l n (parts_of_number z)) shown ∙ get_or-map parts_of_number xs n (pos 0) (parts_of_number z) long ∙ sym (ap parts_of_number is)) (All-get_or W lists n (parts_of_number z) inside held))
 
 pub items_told : {V E : Type 0} (r : Result V E) (f : V → List Item) (keys : List (List Item)) (n : ℕ) (k : List Item) → n < length keys → k ≡ slice_index_or keys n []
     → IfOk r (λ v. f v ≡ k) → IfOk r (λ v. slice_get keys n ≡ Some (f v))

@@ -1,13 +1,15 @@
 -- Keys in a set, and their parts.
 use lib.Pointwise.{pointwise, pointwise_decides}
-use Rattle.std.proofs.Common.{◌≡◌, ◌∙◌, ℕ, ℤ, pos, ◌+◌, ◌<◌, ◌≤◌, Bool, true, false, ◌&&◌, ◌||◌, cond, List, [], ◌∷◌, ◌++◌, length, map, take, get_or, Some, refl, rules, sym, ap, true≢false}
-use Rattle.std.specs.Prelude.{option_map, slice_get}
+use Rattle.std.proofs.Common.{◌≡◌, ◌∙◌, ℕ, ℤ, pos, negsuc, ◌+ℤ◌, ◌-ℤ◌, ◌≤ℤ◌, arith, ◌+◌, ◌<◌, ◌≤◌, Bool, true, false, ◌&&◌, ◌||◌, cond, ltb, List, [], ◌∷◌, ◌++◌, length, map, take, get_or, Some, refl, rules, sym, ap, true≢false}
+use Rattle.std.specs.Prelude.{option_map, slice_get, int_lt, if◌then◌else◌}
 use Rattle.std.specs.Bool.{Decides}
 use Rattle.std.specs.Cmp.{booleans_Decides, decided}
 use Rattle.std.specs.List.{IsDistinct, list_any}
 use Rattle.std.specs.Ordering.{int_eq}
-use Rattle.std.proofs.lemmas.Bool.{eqb-true}
+use Rattle.std.proofs.lemmas.Bool.{eqb-true, ltb-false}
 use Rattle.std.proofs.lemmas.Bool.Decides.{Decides-int_eq}
+use Rattle.std.proofs.lemmas.Int.{ints}
+use Rattle.types.specs.Number.{natural}
 use Rattle.std.proofs.lemmas.List.{map-append, take_all, take_more}
 use Rattle.std.proofs.lemmas.List.Sums.{fold_push}
 use Rattle.std.proofs.lemmas.Option.{slice_get-map}
@@ -17,7 +19,7 @@ use Rattle.answers.specs.declared.part.Part.{Part}
 use Rattle.answers.specs.declared.part.Part.TheVariants as part
 use Rattle.answers.specs.contracts.part.PartPartialEq as derived
 use Rattle.answers.specs.Parts.{same_part}
-use Rattle.answers.specs.PartSets.{parts_of_number, same_parts}
+use Rattle.answers.specs.PartSets.{part_of_number, parts_of_number, same_parts}
 use Rattle.answers.proofs.SameLemmas.{either}
 
 -- ---- the derived test
@@ -99,26 +101,55 @@ module _ {K : Type 0} (f : K → List Part) (eq : K → K → Bool) (alike : (x 
   place_shown ks n k l at is =
       slice_get-map f ks n ∙ ap (option_map f) at ∙ ap Some (sym ((same_parts-Decides (f k) (f l)).0 (sym (alike k l) ∙ is)))
 
--- ---- numbers and null
+-- ---- numbers that stand for parts
 
 abbrev none : ℤ
 none = pos 1267650600228229401496703205376
 
-differ : (x y : ℤ) → int_eq x none ≡ true → int_eq y none ≡ false → x ≡ y → ⊥
-differ x y p q e = true≢false (sym p ∙ ap (λ z. int_eq z none) e ∙ q)
+abbrev last : ℤ
+last = pos 1267650600246676145570412756992
 
-and_true : (b : Bool) → b ≡ (b && true)
-and_true true = refl
-and_true false = refl
+-- That of the first text.
+abbrev first : ℤ
+first = pos 1267650600228229401496703205377
 
-numbers_alike : (x y : ℤ) (a b : Bool) → int_eq x none ≡ a → int_eq y none ≡ b → int_eq x y ≡ (same_part (cond a part.Null (part.Int x)) (cond b part.Null (part.Int y)) && true)
-numbers_alike x y true true p q = (Decides-int_eq x y).1 ((Decides-int_eq x none).0 p ∙ sym ((Decides-int_eq y none).0 q))
-numbers_alike x y true false p q = either (int_eq x y) (λ yes. absurd (differ x y p q ((Decides-int_eq x y).0 yes))) (λ no. no)
-numbers_alike x y false true p q = either (int_eq x y) (λ yes. absurd (differ y x q p (sym ((Decides-int_eq x y).0 yes)))) (λ no. no)
-numbers_alike x y false false p q = and_true (int_eq x y)
+-- The number that stands for a part.
+number_back : Part → ℤ
+number_back part.Null = none
+number_back (part.Int z) = z
+number_back (part.Bool b) = none
+number_back (part.Text n) = pos n +ℤ first
+
+natural_is : (d : ℤ) → pos 0 ≤ℤ d → pos (natural d) ≡ d
+natural_is (pos n) h = refl
+natural_is (negsuc n) h = absurd (omega (arith, ints, h))
+
+behind : (z : ℤ) → first ≤ℤ z → pos (natural (z -ℤ first)) +ℤ first ≡ z
+behind z h = ap (λ d. d +ℤ first) (natural_is (z -ℤ first) (omega (arith, ints, h))) ∙ omega (arith, ints)
+
+back_again : (z : ℤ) → number_back (part_of_number z) ≡ z
+unfolding number_back
+back_again (negsuc n) = refl
+back_again (pos n) = go (int_lt (pos n) none) (int_lt last (pos n)) (int_eq (pos n) none) refl refl where
+  go : (a b c : Bool) → ltb n 1267650600228229401496703205376 ≡ a → int_eq (pos n) none ≡ c
+      → number_back (if a || b then part.Int (pos n) else (if c then part.Null else part.Text (natural (pos n -ℤ first)))) ≡ pos n
+  go true b c p q = refl
+  go false true c p q = refl
+  go false false true p q = sym ((Decides-int_eq (pos n) none).0 q)
+  go false false false p q =
+      let least = ltb-false n 1267650600228229401496703205376 p in
+      let other : n ≡ 1267650600228229401496703205376 → ⊥ = λ e. true≢false (sym ((Decides-int_eq (pos n) none).1 (ap pos e)) ∙ q) in
+      behind (pos n) (omega (arith, ints, least, other))
 
 pub number_alike : (x y : ℤ) → int_eq x y ≡ same_parts (parts_of_number x) (parts_of_number y)
-number_alike x y = numbers_alike x y (int_eq x none) (int_eq y none) refl refl
+number_alike x y =
+    let decides = same_parts-Decides (parts_of_number x) (parts_of_number y) in
+    either (int_eq x y)
+    (λ yes. yes ∙ sym (decides.1 (ap parts_of_number ((Decides-int_eq x y).0 yes))))
+    (λ no. no ∙ sym (either (same_parts (parts_of_number x) (parts_of_number y))
+    (λ same. absurd (true≢false (sym ((Decides-int_eq x y).1 (back (decides.0 same))) ∙ no))) (λ other. other))) where
+      back : parts_of_number x ≡ parts_of_number y → x ≡ y
+      back e = sym (back_again x) ∙ ap (λ ps. number_back (get_or ps 0 part.Null)) e ∙ back_again y
 
 -- ---- numbers become lists
 

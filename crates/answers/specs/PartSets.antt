@@ -1,7 +1,8 @@
 -- The parts of keys in a set.
 use lib.Pointwise.{pointwise}
-use Rattle.std.specs.Prelude.{ℤ, pos, Bool, List, [], ◌∷◌, map, if◌then◌else◌}
+use Rattle.std.specs.Prelude.{ℤ, pos, ◌-ℤ◌, Bool, ◌||◌, List, [], ◌∷◌, map, int_lt, if◌then◌else◌}
 use Rattle.std.specs.Ordering.{int_eq}
+use Rattle.arrays.specs.Number.{natural}
 use Rattle.arrayvec.specs.ArrayVec.{ArrayVec}
 use Rattle.answers.specs.Parts.{same_part}
 use Rattle.answers.specs.declared.part.Part.{Part}
@@ -9,11 +10,13 @@ use Rattle.answers.specs.declared.part.Part.TheVariants as part
 use Rattle.answers.specs.declared.part_set.PartSet.{PartSet}
 use Rattle.answers.specs.declared.part_set.PartSet.TheVariants as set
 
--- 2^100, which no integer type has, stands for null among numbers.
+-- 2^100, which no integer type has, stands for null among numbers, and the 2^64 behind it stand for texts by their places.
 abbrev pub part_of_number : ℤ → Part
-part_of_number z = if int_eq z (pos 1267650600228229401496703205376) then part.Null else part.Int z
+part_of_number z =
+    if int_lt z (pos 1267650600228229401496703205376) || int_lt (pos 1267650600246676145570412756992) z then part.Int z
+    else (if int_eq z (pos 1267650600228229401496703205376) then part.Null else part.Text (natural (z -ℤ pos 1267650600228229401496703205377)))
 
--- The parts of a key that is a number or null.
+-- The parts of a key for which a number stands.
 abbrev pub parts_of_number : ℤ → List Part
 parts_of_number z = part_of_number z ∷ []
 

@@ -8,6 +8,7 @@ ghost use Rattle.query.specs.Asked.{asked};
 ghost use Rattle.query.specs.Fault.{fits};
 ghost use Rattle.answers.specs.Answers.{IsAnswer, IsRefusal, all_rows, first_fields};
 
+use crate::common::common_texts;
 use crate::counting::count_all;
 use crate::gate::Gate;
 use crate::groups::Answer;
@@ -47,8 +48,11 @@ pub fn answer<T: Threads + Sync, G: Gate>(
     ensures err { IfErr result (IsRefusal (first_fields (map arc_value batches.now)) (asked query.now) (all_rows (map arc_value batches.now))) }
 {
     let rows = count_all(batches, query);
+    let common = common_texts(alloc, batches, query)?;
     let cuts = Cuts { rows, pieces };
-    let whole = look_at_pieces(threads, alloc, batches, query, cuts, 0, pieces, gate)?;
+    let whole = look_at_pieces(
+        threads, alloc, batches, query, &common, cuts, 0, pieces, gate,
+    )?;
     let groups = tell_groups(threads, alloc, &whole, 0, whole.keys.len(), pieces)?;
     Ok(Answer { groups })
 }

@@ -21,7 +21,7 @@ use colbits::NoMemory;
 
 /// Puts the number of each row's key there, whose one item is the row's in this column.
 pub(crate) fn number_codes(
-    keys: &mut KeySet,
+    keys: &mut KeySet<'_>,
     memo: &mut Memo,
     numbers: &mut Vec<usize>,
     batch: &RecordBatch,
@@ -54,7 +54,7 @@ pub(crate) fn number_codes(
 /// The number of a row's key, whose one item is the entry that the code names, or null.
 #[inline(always)]
 fn number_of_slot(
-    keys: &mut KeySet,
+    keys: &mut KeySet<'_>,
     memo: &mut Memo,
     batch: &RecordBatch,
     by: &[u32],
@@ -79,7 +79,7 @@ fn number_of_slot(
 /// The number of a row's key, whose one item is the entry that the code names.
 #[inline(always)]
 fn number_of_code(
-    keys: &mut KeySet,
+    keys: &mut KeySet<'_>,
     memo: &mut Memo,
     batch: &RecordBatch,
     by: &[u32],
@@ -100,7 +100,7 @@ fn number_of_code(
 
 /// The place that a code names.
 #[inline(always)]
-fn place_of(code: i128) -> usize
+pub(crate) fn place_of(code: i128) -> usize
     requires counted { is_negative code ≡ false }
     requires short { int_lt code (pos (2 ^ 64)) ≡ true }
     ensures { result ≡ natural code }

@@ -18,6 +18,7 @@ use crate::key_set::KeySet;
 use crate::memo::Memo;
 use crate::numbering::number_rows;
 use crate::other_keys::number_others;
+use crate::text_set::TextSet;
 use arrays::RecordBatch;
 use colbits::NoMemory;
 use query::{Agg, Query};
@@ -25,8 +26,8 @@ use std::alloc::Global;
 
 /// The groups of the rows so far.
 #[derive(Drop)]
-pub(crate) struct Grouping {
-    pub(crate) keys: KeySet,
+pub(crate) struct Grouping<'a> {
+    pub(crate) keys: KeySet<'a>,
     pub(crate) memo: Memo,
     /// What each aggregate knows of the rows of each key.
     pub(crate) columns: Vec<TallyColumn>,
@@ -34,12 +35,16 @@ pub(crate) struct Grouping {
     numbers: Vec<usize>,
 }
 
-impl Grouping {
+impl<'a> Grouping<'a> {
     /// Those of no rows: without columns for keys there is one group.
-    pub(crate) fn new(alloc: Global, query: &Query) -> Result<Grouping, NoMemory>
+    pub(crate) fn new(
+        alloc: Global,
+        query: &Query,
+        common: &'a TextSet,
+    ) -> Result<Grouping<'a>, NoMemory>
         ensures { IfOk result (HasGroups query.now []) }
     {
-        let mut keys = KeySet::new(alloc);
+        let mut keys = KeySet::new(alloc, common);
         if query.by.is_empty() {
             keys.add_empty()?;
         }
@@ -100,11 +105,11 @@ impl Grouping {
     }
 
     /// Adds the groups of rows that come behind.
-    pub(crate) fn merge(&mut self, alloc: Global, other: Grouping) -> Result<(), NoMemory>
+    pub(crate) fn merge(&mut self, alloc: Global, other: Grouping<'a>) -> Result<(), NoMemory>
         requires room { (q : Query) × (kinds : ℕ → Kind) × (rows : Table) × (more : Table) × (length rows + length more ≤ 2 ^ 40)
             × HasGroups q rows self.old × HasGroups q more other
             × All (AreComparable kinds q.aggs.items) rows × All (AreComparable kinds q.aggs.items) more }
-        ensures { (q : Query) (kinds : ℕ → Kind) (rows more : Table) → HasGroups q rows self.old → HasGroups q more other
+        ensures { (q : Query) (kinds : ℕ → Kind) (rows more : Table) → HasGroups q rows self.old → HasGroups q more other.entry
             → All (AreComparable kinds q.aggs.items) rows → All (AreComparable kinds q.aggs.items) more
             → OnOk result (HasGroups q (rows ++ more) self.new) }
     {

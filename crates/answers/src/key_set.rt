@@ -1,6 +1,6 @@
 //! The keys of groups, each once.
 
-ghost use Rattle.std.specs.Prelude.{◌≡◌, ◌∷◌, ◌<◌, ◌≤◌, ◌≤ℤ◌, ◌^◌, [], All, IfOk, None, OnOk, Some, length, map, pos, slice_get, slice_index_or};
+ghost use Rattle.std.specs.Prelude.{◌≡◌, ◌∷◌, ◌<◌, ◌≤◌, [], All, IfOk, None, OnOk, Some, length, map, slice_get, slice_index_or};
 ghost use mathlib.Core.List.{IsPrefix};
 ghost use Rattle.arrays.specs.Batch.{row_of};
 ghost use Rattle.arrays.specs.Item.{int};
@@ -10,10 +10,11 @@ ghost use Rattle.query.specs.Fault.{key_fault};
 ghost use Rattle.answers.specs.Answers.{item_in};
 ghost use Rattle.answers.specs.Groups.{key_of};
 ghost use Rattle.answers.specs.Parts.{AreWithin, IsWithin, item_of_part, key_of_parts, keys_shown};
-ghost use Rattle.answers.specs.PartSets.{parts_of_number, parts_shown};
+ghost use Rattle.answers.specs.PartSets.{parts_shown};
 ghost use Rattle.answers.specs.Same.{same_key};
 ghost use Rattle.answers.specs.Values.{item_of_value};
 
+use crate::key_texts::KeyTexts;
 use crate::part::Part;
 use crate::part_set::{PartSet, part_of_number};
 use crate::text_set::TextSet;
@@ -27,13 +28,13 @@ use std::marker::Model;
 
 /// Keys in order of coming, each once.
 #[derive(Drop)]
-pub(crate) struct KeySet {
+pub(crate) struct KeySet<'a> {
     /// The texts that parts of keys name.
-    texts: TextSet,
+    texts: KeyTexts<'a>,
     keys: PartSet,
 }
 
-impl Model for KeySet {
+impl<'a> Model for KeySet<'a> {
     ghost use Rattle.std.specs.Prelude.{List, length};
     ghost use Rattle.std.specs.Coded.{coded_list};
     ghost use Rattle.arrays.specs.Item.{Item};
@@ -50,13 +51,13 @@ impl Model for KeySet {
     ghost invariant = { λ s. AreWithin (length s.texts) (parts_shown s.keys) };
 }
 
-impl KeySet {
-    /// No keys, which take no memory until the first.
-    pub(crate) fn new(alloc: Global) -> KeySet
+impl<'a> KeySet<'a> {
+    /// No keys, which take no memory until the first. Texts that are likely to come stand among the common ones.
+    pub(crate) fn new(alloc: Global, common: &'a TextSet) -> KeySet<'a>
         ensures { result ≡ [] }
     {
         KeySet {
-            texts: TextSet::new(alloc),
+            texts: KeyTexts::new(alloc, common),
             keys: PartSet::new(alloc),
         }
     }
@@ -83,12 +84,16 @@ impl KeySet {
         ensures number { IfOk result (λ n. slice_get self.new n
             ≡ Some (key_of by.now (row_of batch.now.columns row))) }
     {
+        if by.len() == 1 {
+            let part = part_of(&mut self.texts, value_at(batch, by[0], row))?;
+            return number_of_part(&self.texts, &mut self.keys, part);
+        }
         let parts = parts_of(&mut self.texts, batch, by, row)?;
         number_of_parts(&self.texts, &mut self.keys, parts)
     }
 }
 
-impl KeySet {
+impl<'a> KeySet<'a> {
     /// Puts the key of no items at the end, unless it is there.
     pub(crate) fn add_empty(&mut self) -> Result<(), NoMemory>
         ensures { OnOk result (self.new ≡ insert_key same_key self.old []) }
@@ -119,20 +124,23 @@ impl KeySet {
     }
 }
 
-impl KeySet {
+impl<'a> KeySet<'a> {
     /// The place of the key of a number alone, which is put at the end where it is new.
     #[inline(always)]
     pub(crate) fn place_of_number(&mut self, number: i128) -> Result<usize, NoMemory>
-        requires high { number ≤ℤ pos (2 ^ 64) }
         ensures keys { OnOk result (self.new ≡ insert_key same_key self.old (int number ∷ [])) }
         ensures place { IfOk result (λ n. slice_get self.new n ≡ Some (int number ∷ [])) }
     {
-        number_of_number(&self.texts, &mut self.keys, number)
+        number_of_part(&self.texts, &mut self.keys, Part::Int(number))
     }
 
     /// The number of a key of another set, which is put at the end where it is new.
     #[inline(always)]
-    pub(crate) fn number_of_key(&mut self, other: &KeySet, place: usize) -> Result<usize, NoMemory>
+    pub(crate) fn number_of_key(
+        &mut self,
+        other: &KeySet<'_>,
+        place: usize,
+    ) -> Result<usize, NoMemory>
         requires { place < length other.now }
         ensures keys { OnOk result (self.new ≡ insert_key same_key self.old (slice_index_or other.now place [])) }
         ensures number { IfOk result (λ n. slice_get self.new n ≡ Some (slice_index_or other.now place [])) }
@@ -140,7 +148,9 @@ impl KeySet {
         match &other.keys {
             PartSet::Numbers(numbers) => {
                 let keys = numbers.as_slice();
-                number_of_number(&self.texts, &mut self.keys, keys[place])
+                let part = part_of_number(keys[place]);
+                let renamed = renamed_part(&mut self.texts, &other.texts, part)?;
+                number_of_part(&self.texts, &mut self.keys, renamed)
             }
             PartSet::Lists(lists) => {
                 let keys = lists.as_slice();
@@ -153,7 +163,7 @@ impl KeySet {
 
 /// The number of the key of these parts among keys, which is put at the end where it is new.
 fn number_of_parts(
-    texts: &TextSet,
+    texts: &KeyTexts<'_>,
     keys: &mut PartSet,
     parts: ArrayVec<Part, 4>,
 ) -> Result<usize, NoMemory>
@@ -164,25 +174,30 @@ fn number_of_parts(
     ensures number { IfOk result (λ n. slice_get (keys_shown texts.now (parts_shown keys.new)) n ≡ Some (key_of_parts texts.now parts.items)) }
     ensures within { AreWithin (length texts.now) (parts_shown keys.new) }
 {
-    let _len = texts.len();
+    texts.each_once();
     keys.place_of(parts)
 }
 
-/// The same of the key of this number alone, or of null.
+/// The same of the key of this part alone.
 #[inline(always)]
-fn number_of_number(texts: &TextSet, keys: &mut PartSet, number: i128) -> Result<usize, NoMemory>
+fn number_of_part(texts: &KeyTexts<'_>, keys: &mut PartSet, part: Part) -> Result<usize, NoMemory>
+    requires named { IsWithin (length texts.now) part }
     requires within { AreWithin (length texts.now) (parts_shown keys.old) }
     ensures keys { OnOk result (keys_shown texts.now (parts_shown keys.new)
-        ≡ insert_key same_key (keys_shown texts.now (parts_shown keys.old)) (key_of_parts texts.now (parts_of_number number))) }
-    ensures number { IfOk result (λ n. slice_get (keys_shown texts.now (parts_shown keys.new)) n ≡ Some (key_of_parts texts.now (parts_of_number number))) }
+        ≡ insert_key same_key (keys_shown texts.now (parts_shown keys.old)) (item_of_part texts.now part ∷ [])) }
+    ensures number { IfOk result (λ n. slice_get (keys_shown texts.now (parts_shown keys.new)) n ≡ Some (item_of_part texts.now part ∷ [])) }
     ensures within { AreWithin (length texts.now) (parts_shown keys.new) }
 {
-    let _len = texts.len();
-    keys.place_of_number(number)
+    texts.each_once();
+    keys.place_of_part(part)
 }
 
 /// The items that parts stand for; none is null.
-fn items_of(alloc: Global, texts: &TextSet, parts: &[Part]) -> Result<Vec<Option<Scalar>>, NoMemory>
+fn items_of(
+    alloc: Global,
+    texts: &KeyTexts<'_>,
+    parts: &[Part],
+) -> Result<Vec<Option<Scalar>>, NoMemory>
     requires { All (IsWithin (length texts.now)) parts.now }
     ensures { IfOk result (λ v. map item_in v.items ≡ key_of_parts texts.now parts.now) }
 {
@@ -194,7 +209,7 @@ fn items_of(alloc: Global, texts: &TextSet, parts: &[Part]) -> Result<Vec<Option
 }
 
 /// The item that a part stands for; none is null.
-fn item_of(alloc: Global, texts: &TextSet, part: Part) -> Result<Option<Scalar>, NoMemory>
+fn item_of(alloc: Global, texts: &KeyTexts<'_>, part: Part) -> Result<Option<Scalar>, NoMemory>
     requires { IsWithin (length texts.now) part }
     ensures { IfOk result (λ s. item_in s ≡ item_of_part texts.now part) }
 {
@@ -208,7 +223,7 @@ fn item_of(alloc: Global, texts: &TextSet, part: Part) -> Result<Option<Scalar>,
 
 /// The parts of a row's key. Its texts are among the texts then.
 fn parts_of(
-    texts: &mut TextSet,
+    texts: &mut KeyTexts<'_>,
     batch: &RecordBatch,
     by: &[u32],
     row: usize,
@@ -230,8 +245,8 @@ fn parts_of(
 
 /// The parts that stand for the same items as these, which name other texts. Their texts are among the texts then.
 fn renamed_parts(
-    texts: &mut TextSet,
-    others: &TextSet,
+    texts: &mut KeyTexts<'_>,
+    others: &KeyTexts<'_>,
     parts: &[Part],
 ) -> Result<ArrayVec<Part, 4>, NoMemory>
     requires few { length parts.now ≤ 4 }
@@ -242,14 +257,37 @@ fn renamed_parts(
 {
     let mut renamed = ArrayVec::new();
     for part in parts {
-        let value = value_of(others, *part);
-        renamed.push(part_of(texts, value)?);
+        renamed.push(renamed_part(texts, others, *part)?);
     }
     Ok(renamed)
 }
 
+/// The part that stands for the same item as this one, which names another text. Its text is among the texts then, and likely to
+/// have the same place.
+#[inline(always)]
+fn renamed_part(
+    texts: &mut KeyTexts<'_>,
+    others: &KeyTexts<'_>,
+    part: Part,
+) -> Result<Part, NoMemory>
+    requires { IsWithin (length others.now) part }
+    ensures item { IfOk result (λ p. item_of_part texts.new p ≡ item_of_part others.now part) }
+    ensures within { IfOk result (λ p. IsWithin (length texts.new) p) }
+    ensures begins { IsPrefix texts.old texts.new }
+{
+    match part {
+        Part::Null => Ok(Part::Null),
+        Part::Int(number) => Ok(Part::Int(number)),
+        Part::Bool(truth) => Ok(Part::Bool(truth)),
+        Part::Text(place) => match others.text_at(place) {
+            Some(text) => Ok(Part::Text(texts.add_likely(text, place)?)),
+            None => unreachable!(),
+        },
+    }
+}
+
 /// The item that a part stands for.
-fn value_of(texts: &TextSet, part: Part) -> Value<'_>
+fn value_of<'b>(texts: &'b KeyTexts<'_>, part: Part) -> Value<'b>
     requires { IsWithin (length texts.now) part }
     ensures { item_of_value result ≡ item_of_part texts.now part }
 {
@@ -265,7 +303,7 @@ fn value_of(texts: &TextSet, part: Part) -> Value<'_>
 }
 
 /// The part that stands for an item. Its text is among the texts then.
-fn part_of(texts: &mut TextSet, value: Value<'_>) -> Result<Part, NoMemory>
+fn part_of(texts: &mut KeyTexts<'_>, value: Value<'_>) -> Result<Part, NoMemory>
     ensures item { IfOk result (λ p. item_of_part texts.new p ≡ item_of_value value.entry) }
     ensures within { IfOk result (λ p. IsWithin (length texts.new) p) }
     ensures begins { IsPrefix texts.old texts.new }

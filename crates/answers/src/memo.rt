@@ -56,7 +56,7 @@ impl Memo {
 #[inline(always)]
 pub(crate) fn number_by(
     known: &mut Option<usize>,
-    keys: &mut KeySet,
+    keys: &mut KeySet<'_>,
     batch: &RecordBatch,
     by: &[u32],
     row: usize,

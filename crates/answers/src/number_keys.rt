@@ -1,7 +1,6 @@
 //! The numbers of keys of one column of numbers.
 
-ghost use Rattle.std.specs.Prelude.{◌≡◌, ◌∷◌, ◌<◌, ◌≤◌, ◌≤ℤ◌, ◌^◌, [], All, IfOk, None, OnOk, length, pos, true};
-ghost use Rattle.std.specs.Option.{ForSome};
+ghost use Rattle.std.specs.Prelude.{◌≡◌, ◌∷◌, ◌<◌, ◌≤◌, [], All, IfOk, None, OnOk, length, true};
 ghost use Rattle.arrays.specs.Batch.{row_of};
 ghost use Rattle.arrays.specs.Kind as kind;
 ghost use Rattle.arrays.specs.Slot.{is_int, item_of};
@@ -19,7 +18,7 @@ use colbits::NoMemory;
 
 /// Puts the number of each row's key there, whose one item is the row's in this column.
 pub(crate) fn number_numbers(
-    keys: &mut KeySet,
+    keys: &mut KeySet<'_>,
     memo: &mut Memo,
     numbers: &mut Vec<usize>,
     batch: &RecordBatch,
@@ -56,7 +55,7 @@ pub(crate) fn number_numbers(
 
 /// The same, for a column of type `T`.
 fn number_as<T: Integer>(
-    keys: &mut KeySet,
+    keys: &mut KeySet<'_>,
     memo: &mut Memo,
     numbers: &mut Vec<usize>,
     batch: &RecordBatch,
@@ -87,7 +86,7 @@ fn number_as<T: Integer>(
 /// The number of a row's key, whose one item is this number, or null.
 #[inline(always)]
 fn number_of_item(
-    keys: &mut KeySet,
+    keys: &mut KeySet<'_>,
     memo: &mut Memo,
     batch: &RecordBatch,
     by: &[u32],
@@ -97,7 +96,6 @@ fn number_of_item(
     requires few { length by.now ≤ 4 }
     requires plain { All (λ c. key_fault (sort_at batch.now.fields) c ≡ None) by.now }
     requires within { row < batch.now.rows }
-    requires high { ForSome number (λ z. z ≤ℤ pos (2 ^ 64)) }
     ensures number { let key = key_of by.now (row_of batch.now.columns row) in
         key ≡ item_of number ∷ [] → Remembers keys.old memo.old
         → IfOk result (λ n. IsNumbered keys.old keys.new key n × Remembers keys.new memo.new) }

@@ -18,7 +18,7 @@ use colbits::NoMemory;
 
 /// Puts the number of each row's key in place of what was there. A key that is new is put at the end.
 pub(crate) fn number_rows(
-    keys: &mut KeySet,
+    keys: &mut KeySet<'_>,
     memo: &mut Memo,
     numbers: &mut Vec<usize>,
     batch: &RecordBatch,
@@ -52,7 +52,7 @@ pub(crate) fn number_rows(
 
 /// The numbers of keys of no items, which are all one key.
 fn number_alike(
-    keys: &mut KeySet,
+    keys: &mut KeySet<'_>,
     numbers: &mut Vec<usize>,
     batch: &RecordBatch,
     by: &[u32],
@@ -74,7 +74,7 @@ fn number_alike(
 
 /// The numbers of keys of any items, each looked up.
 fn number_each(
-    keys: &mut KeySet,
+    keys: &mut KeySet<'_>,
     numbers: &mut Vec<usize>,
     batch: &RecordBatch,
     by: &[u32],

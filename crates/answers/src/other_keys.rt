@@ -8,9 +8,9 @@ use colbits::NoMemory;
 
 /// Puts the number of each key of the other set in place of what was there. A key that is new is put at the end.
 pub(crate) fn number_others(
-    keys: &mut KeySet,
+    keys: &mut KeySet<'_>,
     numbers: &mut Vec<usize>,
-    others: &KeySet,
+    others: &KeySet<'_>,
 ) -> Result<(), NoMemory>
     ensures keys { OnOk result (keys.new ≡ with_keys keys.old others.now) }
     ensures numbers { OnOk result (AreNumbers keys.new others.now numbers.new.items) }

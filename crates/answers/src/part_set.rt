@@ -1,10 +1,11 @@
 //! The parts of keys, each key once.
 
-ghost use Rattle.std.specs.Prelude.{◌≡◌, [], IfOk, OnErr, OnOk, Some, length, map, slice_get};
+ghost use Rattle.std.specs.Prelude.{◌≡◌, ◌∷◌, [], IfOk, OnErr, OnOk, Some, length, map, slice_get};
 ghost use Rattle.std.specs.Option.{ForSome};
 ghost use Rattle.indexmap.specs.IndexSet.{insert_key};
 ghost use Rattle.answers.specs.PartSets.{part_of_number, parts_listed, parts_of_number, parts_shown, same_parts};
 
+use crate::code_keys::place_of;
 use crate::part::Part;
 use arrayvec::ArrayVec;
 use colbits::NoMemory;
@@ -14,10 +15,13 @@ use std::alloc::Global;
 /// Stands for null among numbers: no integer type has it.
 const NULL: i128 = 1267650600228229401496703205376;
 
+/// The last of the numbers behind it, which stand for texts by their places.
+const LAST: i128 = 1267650600246676145570412756992;
+
 /// The parts of keys in order of coming, each key once.
 #[derive(Drop)]
 pub(crate) enum PartSet {
-    /// Keys that are a number or null each. They take a fifth of the memory, so that more of them stay in the processor's caches.
+    /// Keys that are a number, null or a text each. They take a fifth of the memory, so that more of them stay in the processor's caches.
     Numbers(IndexSet<i128>),
     /// Any keys.
     Lists(IndexSet<ArrayVec<Part, 4>>),
@@ -41,16 +45,29 @@ impl PartSet {
         }
     }
 
-    /// The place of the key of this number alone, or of null alone where it stands for null. The key is put at the end where it is new.
+    /// The place of the key of this part alone, which is put at the end where it is new.
     #[inline(always)]
-    pub(crate) fn place_of_number(&mut self, number: i128) -> Result<usize, NoMemory>
+    pub(crate) fn place_of_part(&mut self, part: Part) -> Result<usize, NoMemory>
+        ensures keys { OnOk result (parts_shown self.new ≡ insert_key same_parts (parts_shown self.old) (part ∷ [])) }
+        ensures place { IfOk result (λ n. slice_get (parts_shown self.new) n ≡ Some (part ∷ [])) }
+        ensures err { OnErr result (parts_shown self.new ≡ parts_shown self.old) }
+    {
+        match number_of_part(part) {
+            Some(number) => self.place_of_number(number),
+            None => self.place_of(alone(part)),
+        }
+    }
+
+    /// The place of the key of the part alone for which this number stands. The key is put at the end where it is new.
+    #[inline(always)]
+    fn place_of_number(&mut self, number: i128) -> Result<usize, NoMemory>
         ensures keys { OnOk result (parts_shown self.new ≡ insert_key same_parts (parts_shown self.old) (parts_of_number number)) }
         ensures place { IfOk result (λ n. slice_get (parts_shown self.new) n ≡ Some (parts_of_number number)) }
         ensures err { OnErr result (parts_shown self.new ≡ parts_shown self.old) }
     {
         match self {
             PartSet::Numbers(numbers) => place_in_numbers(numbers, number),
-            PartSet::Lists(lists) => place_in_lists(lists, alone(number)),
+            PartSet::Lists(lists) => place_in_lists(lists, alone(part_of_number(number))),
         }
     }
 
@@ -105,41 +122,53 @@ fn lists_of(numbers: &IndexSet<i128>) -> Result<IndexSet<ArrayVec<Part, 4>>, NoM
 {
     let mut lists = IndexSet::new(*numbers.allocator());
     for number in numbers.as_slice() {
-        place_in_lists(&mut lists, alone(*number))?;
+        place_in_lists(&mut lists, alone(part_of_number(*number)))?;
     }
     Ok(lists)
 }
 
 /// The part that a number among numbers stands for.
+#[inline(always)]
 pub(crate) fn part_of_number(number: i128) -> Part
     ensures { result ≡ part_of_number number }
 {
-    if number == NULL {
+    if number < NULL || LAST < number {
+        Part::Int(number)
+    } else if number == NULL {
         Part::Null
     } else {
-        Part::Int(number)
+        Part::Text(place_of(number - NULL - 1))
     }
 }
 
-/// The part that a number among numbers stands for, alone.
-fn alone(number: i128) -> ArrayVec<Part, 4>
-    ensures { result.items ≡ parts_of_number number }
+/// What the part is among numbers; none where no number stands for it.
+#[inline(always)]
+fn number_of_part(part: Part) -> Option<i128>
+    ensures { ForSome result (λ z. part ≡ part_of_number z) }
+{
+    match part {
+        Part::Null => Some(NULL),
+        Part::Int(number) if number < NULL => Some(number),
+        Part::Text(place) => Some(NULL + 1 + place as i128),
+        _ => None,
+    }
+}
+
+/// A part alone.
+fn alone(part: Part) -> ArrayVec<Part, 4>
+    ensures { result.items ≡ part ∷ [] }
 {
     let mut parts = ArrayVec::new();
-    parts.push(part_of_number(number));
+    parts.push(part);
     parts
 }
 
-/// What the one part is among numbers; none where there are more parts, or it is of another kind.
+/// What the one part is among numbers; none where there are more parts, or no number stands for it.
 fn number_alone(parts: &[Part]) -> Option<i128>
     ensures { ForSome result (λ z. parts.now ≡ parts_of_number z) }
 {
     if parts.len() != 1 {
         return None;
     }
-    match parts[0] {
-        Part::Null => Some(NULL),
-        Part::Int(number) if number != NULL => Some(number),
-        _ => None,
-    }
+    number_of_part(parts[0])
 }

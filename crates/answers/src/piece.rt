@@ -14,6 +14,7 @@ use crate::gate::Gate;
 use crate::grouping::Grouping;
 use crate::run::add_part;
 use crate::shares::front_of;
+use crate::text_set::TextSet;
 use arrays::RecordBatch;
 use evaluate::stop::Stop;
 use query::{Query, QueryFault};
@@ -23,13 +24,14 @@ use std::thread::{Threads, join};
 
 /// The groups of the rows from one place up to another, over all batches, one batch after the other: `Overflow` with the least of
 /// these rows where the filter is bad, or `NoMemory` where a growth was refused.
-pub(crate) fn look_at_piece(
+pub(crate) fn look_at_piece<'a>(
     alloc: Global,
     batches: &[Arc<RecordBatch>],
     query: &Query,
+    common: &'a TextSet,
     from: u64,
     to: u64,
-) -> Result<Grouping, QueryFault>
+) -> Result<Grouping<'a>, QueryFault>
     requires types { All (λ (b : Batch). map kind_of_field b.fields ≡ map kind_of_field (first_fields (map arc_value batches.now))) (map arc_value batches.now) }
     requires fits { All (λ (b : Batch). fits b.fields (asked query.now) ≡ true) (map arc_value batches.now) }
     requires few { length (all_rows (map arc_value batches.now)) ≤ 2 ^ 40 }
@@ -38,7 +40,8 @@ pub(crate) fn look_at_piece(
     ensures err { IfErr result (IsPieceRefusal (first_fields (map arc_value batches.now)) (asked query.now).filter from
         (between from to (all_rows (map arc_value batches.now)))) }
 {
-    let mut grouping = Grouping::new(alloc, query)?;
+    let mut grouping = Grouping::new(alloc, query, common)?;
+    let mut kept = Vec::new(alloc);
     let mut before: u64 = 0;
     for batch in batches {
         let rows = u64::from(batch.rows());
@@ -51,6 +54,7 @@ pub(crate) fn look_at_piece(
             batch,
             start as usize,
             (end - start) as usize,
+            &mut kept,
         ) {
             Ok(()) => before += rows,
             Err(Stop::Bad(row)) => {
@@ -75,16 +79,17 @@ fn within(place: u64, before: u64, rows: u64) -> u64
 /// piece is looked at in a thread of its own, which passes the gate before its first row, where the piece is empty too. What is known
 /// of the first of the pieces and of the others is put together once both are looked at.
 #[cycle(pieces)]
-pub(crate) fn look_at_pieces<T: Threads + Sync, G: Gate>(
+pub(crate) fn look_at_pieces<'a, T: Threads + Sync, G: Gate>(
     threads: &T,
     alloc: Global,
     batches: &[Arc<RecordBatch>],
     query: &Query,
+    common: &'a TextSet,
     cuts: Cuts,
     from: u32,
     count: u32,
     gate: &G,
-) -> Result<Grouping, QueryFault>
+) -> Result<Grouping<'a>, QueryFault>
     requires asked { IsAsked (map arc_value batches.now) query.now cuts.rows cuts.pieces }
     requires some { 0 < count }
     requires within { from + count ≤ cuts.pieces }
@@ -95,7 +100,7 @@ pub(crate) fn look_at_pieces<T: Threads + Sync, G: Gate>(
         gate.pass(from, 0);
         let first = cuts.at(from);
         let last = cuts.at(from + 1);
-        return look_at_piece(alloc, batches, query, first, last);
+        return look_at_piece(alloc, batches, query, common, first, last);
     }
     let low = front_of(count);
     let high = count - low;
@@ -104,12 +109,20 @@ pub(crate) fn look_at_pieces<T: Threads + Sync, G: Gate>(
         requires { IsSync T.row × IsSync G.row × IsAsked (map arc_value batches.now) query.now cuts.rows cuts.pieces × (0 < low) × (from + low ≤ cuts.pieces) }
         ensures { let bs = map arc_value batches.entry.now in
             AreLooked (first_fields bs) query.entry.now (all_rows bs) cuts.pieces from (from + low) result }
-    { look_at_pieces(threads, alloc, batches, query, cuts, from, low, gate) };
+    {
+        look_at_pieces(
+            threads, alloc, batches, query, common, cuts, from, low, gate,
+        )
+    };
     let back = move || -> Result<Grouping, QueryFault>
         requires { IsSync T.row × IsSync G.row × IsAsked (map arc_value batches.now) query.now cuts.rows cuts.pieces × (0 < high) × (middle + high ≤ cuts.pieces) }
         ensures { let bs = map arc_value batches.entry.now in
             AreLooked (first_fields bs) query.entry.now (all_rows bs) cuts.pieces middle (middle + high) result }
-    { look_at_pieces(threads, alloc, batches, query, cuts, middle, high, gate) };
+    {
+        look_at_pieces(
+            threads, alloc, batches, query, common, cuts, middle, high, gate,
+        )
+    };
     let (early, late) = join(threads, front, back);
     let mut whole = early?;
     whole.merge(alloc, late?)?;

@@ -16,18 +16,22 @@ use query::{Agg, Query};
 use std::alloc::Global;
 use std::thread::yield_now;
 
-/// The most rows that are looked at together, so that what is known of them takes the same memory for batches of any size.
-const SLICE: usize = 16384;
+/// After how many rows a thread lets others go first. No more are looked at together.
+const TURN: usize = 16384;
+
+/// How many rows are looked at together where there is no filter.
+const SLICE: usize = 2048;
 
 /// Adds those of so many rows of a batch from the start on that the query's filter keeps, or tells the least of them where the
 /// filter is bad, counted from the start.
 pub(crate) fn add_part(
     alloc: Global,
-    grouping: &mut Grouping,
+    grouping: &mut Grouping<'_>,
     query: &Query,
     batch: &RecordBatch,
     start: usize,
     rows: usize,
+    kept: &mut Vec<usize>,
 ) -> Result<(), Stop>
     requires fits { fits batch.now.fields (asked query.now) ≡ true }
     requires within { start + rows ≤ batch.now.rows }
@@ -44,23 +48,32 @@ pub(crate) fn add_part(
     // There are no more rows than a batch may have.
     let _rows = batch.rows();
     grouping.begin(query, batch)?;
-    let mut kept = Vec::new(alloc);
+    let most = most_rows(query);
     let mut at: usize = 0;
     while at < rows {
-        let len = SLICE.min(rows - at);
+        let len = most.min(rows - at);
         let slice = Slice {
             batch,
             start: start + at,
             len,
         };
-        match add_slice(alloc, grouping, query, slice, &mut kept) {
+        match add_slice(alloc, grouping, query, slice, kept) {
             Ok(()) => at += len,
             Err(Stop::Bad(row)) => return Err(Stop::Bad(at + row)),
             Err(Stop::NoMemory) => return Err(Stop::NoMemory),
         }
-        take_turns(at < rows);
+        take_turns(at < rows && at.is_multiple_of(TURN));
     }
     Ok(())
+}
+
+/// The most rows that are looked at together, so that what is known of them stays in the processor's caches, for batches of any size. A
+/// filter makes columns of them, which take longer to begin.
+fn most_rows(query: &Query) -> usize
+    ensures some { 0 < result }
+    ensures few { result ≤ 2 ^ 14 }
+{
+    if query.filter.is_some() { TURN } else { SLICE }
 }
 
 /// Lets other threads go first where there is more to do, so that of more threads than processors all end at about the same time.
@@ -73,7 +86,7 @@ fn take_turns(more: bool) {
 /// Adds the rows of a slice that the query's filter keeps; their places are kept in between, unless they are only counted.
 fn add_slice(
     alloc: Global,
-    grouping: &mut Grouping,
+    grouping: &mut Grouping<'_>,
     query: &Query,
     slice: Slice<'_>,
     kept: &mut Vec<usize>,

@@ -23,7 +23,7 @@ const FEW: usize = 4096;
 pub(crate) fn tell_groups<T: Threads + Sync>(
     threads: &T,
     alloc: Global,
-    grouping: &Grouping,
+    grouping: &Grouping<'_>,
     from: usize,
     to: usize,
     parts: u32,
@@ -57,7 +57,7 @@ pub(crate) fn tell_groups<T: Threads + Sync>(
 /// The same, one after the other.
 fn tell_in_turn(
     alloc: Global,
-    grouping: &Grouping,
+    grouping: &Grouping<'_>,
     from: usize,
     to: usize,
 ) -> Result<Vec<Group>, NoMemory>

@@ -1,10 +1,9 @@
-//! The texts of keys, each once.
+//! Texts, each once.
 
-ghost use Rattle.std.specs.Prelude.{◌≡◌, [], IfOk, Some, length, slice_get};
-ghost use Rattle.std.specs.Option.{option_copied};
-ghost use Rattle.std.specs.List.{IsDistinct};
+ghost use Rattle.std.specs.Prelude.{◌≡◌, ◌<◌, ◌^◌, ◌++◌, ◌∷◌, [], None, OnErr, OnOk, Some, false, length, slice_get};
+ghost use Rattle.std.specs.Option.{ForSome, option_copied};
+ghost use Rattle.std.specs.List.{IsDistinct, list_any};
 ghost use Rattle.std.specs.Str.{bytes_eq};
-ghost use mathlib.Core.List.{IsPrefix};
 
 use colbits::NoMemory;
 use indexmap::IndexSet;
@@ -44,9 +43,10 @@ impl TextSet {
     /// How many texts there are. No text comes twice.
     pub(crate) fn len(&self) -> usize
         ensures count { result ≡ length self.now }
+        ensures small { result < 2 ^ 63 }
         ensures once { IsDistinct bytes_eq self.now }
     {
-        self.texts.as_slice().len()
+        self.texts.len()
     }
 
     /// The text at a place, none past the end.
@@ -59,24 +59,22 @@ impl TextSet {
         }
     }
 
-    /// The place of a text, which is put at the end where it is new.
-    pub(crate) fn add(&mut self, text: &str) -> Result<usize, NoMemory>
-        ensures place { IfOk result (λ n. slice_get self.new n ≡ Some text.now) }
-        ensures begins { IsPrefix self.old self.new }
+    /// The place of a text, none where it isn't there.
+    pub(crate) fn place_of(&self, text: &str) -> Option<usize>
+        ensures there { ForSome result (λ n. slice_get self.now n ≡ Some text.now) }
+        ensures absent { result ≡ None → list_any (bytes_eq text.now) self.now ≡ false }
     {
-        match self.texts.get_index_of(text) {
-            Some(place) => Ok(place),
-            None => self.add_new(text),
-        }
+        self.texts.get_index_of(text)
     }
 
-    /// The place of a text that isn't in the set, which is put at the end.
-    fn add_new(&mut self, text: &str) -> Result<usize, NoMemory>
-        ensures place { IfOk result (λ n. slice_get self.new n ≡ Some text.now) }
-        ensures begins { IsPrefix self.old self.new }
+    /// Puts a text at the end that isn't there.
+    pub(crate) fn add_new(&mut self, text: &str) -> Result<(), NoMemory>
+        requires { list_any (bytes_eq text.now) self.old ≡ false }
+        ensures texts { OnOk result (self.new ≡ self.old ++ text.now ∷ []) }
+        ensures err { OnErr result (self.new ≡ self.old) }
     {
         let copy = String::from_str(self.alloc, text)?;
-        let (place, _is_new) = self.texts.insert_full(copy)?;
-        Ok(place)
+        self.texts.insert_full(copy)?;
+        Ok(())
     }
 }

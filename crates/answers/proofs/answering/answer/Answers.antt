@@ -24,7 +24,7 @@ look_at_pieces-requires-clause-asked g c κs lives = record {
 pub returns-in_err-whole-clause-err : goal.returns-in_err-whole-clause-err
 returns-in_err-whole-clause-err g c =
     let batches : List Batch = map arc_value c.args.batches.now in
-    let p = err_from_is_err_and c.from_residual.result c.from_residual.ensures.1 in
+    let p = err_from_is_err_and c.from_residual-in_err-whole.result c.from_residual-in_err-whole.ensures.1 in
     rw (p.1, p.2) (is_refusal (first_fields batches) c.args.query.now (all_rows batches) c.args.pieces c.in_err-whole.field-0.0 c.requires.one c.in_err-whole.ensures)
 
 pub tell_groups-requires-clause-full : goal.tell_groups-requires-clause-full

@@ -9,7 +9,7 @@ returns-clause-keys c =
     let ts = c.args.texts.now in
     let ks = parts_shown c.args.keys.now in
     on_ok c.place_of.result
-    (keys_inserted ts c.len-len.ensures.once ks (parts_shown c.place_of.new.self) c.args.parts.items c.requires.named c.requires.within)
+    (keys_inserted ts c.each_once.ensures ks (parts_shown c.place_of.new.self) c.args.parts.items c.requires.named c.requires.within)
     c.place_of.ensures.keys
 
 pub returns-clause-number : goal.returns-clause-number

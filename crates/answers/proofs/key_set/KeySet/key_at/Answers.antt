@@ -2,10 +2,11 @@ use Rattle.std.proofs.Common.{◌≡◌, ◌∷◌, [], ap, get_or, map, pos, ru
 use Rattle.std.proofs.lemmas.Int.{to_z-of_z}
 use Rattle.std.specs.Int.{w128}
 use Rattle.std.specs.Prelude.{All, FitsSigned, IfOk, length}
+use Rattle.std.proofs.lemmas.List.Elements.{All-cons, All-nil}
 use Rattle.answers.specs.Answers.{item_in}
 use Rattle.answers.specs.Parts.{IsWithin, key_of_parts}
 use Rattle.answers.specs.PartSets.{parts_of_number, parts_shown}
-use Rattle.answers.proofs.PartLemmas.{items_told, list_held, list_there, number_there}
+use Rattle.answers.proofs.PartLemmas.{items_told, list_held, list_there, number_held, number_there}
 use Rattle.answers.proofs.key_set.KeySet.key_at.Goals as goal
 
 pub items_of-requires-in-Lists : goal.items_of-requires-in-Lists
@@ -15,6 +16,16 @@ items_of-requires-in-Lists c =
     let here : x ≡ get_or c.in-Lists.lists.keys c.args.number x = rw c.as_slice-keys-in-Lists.ensures.keys at c.index-keys-number.is in
     subst (All (IsWithin (length ts))) (sym c.as_slice.ensures.value)
     (list_held ts (parts_shown c.self.inside.keys) c.args.self.now c.in-Lists.lists.keys c.args.number x (ap parts_shown c.in-Lists.is) c.self.view_is c.requires here c.self.invariant)
+
+pub items_of-requires : goal.items_of-requires
+items_of-requires c =
+    let ts = c.self.inside.texts in
+    let n = c.args.number in
+    let z = get_or c.as_slice-keys.result.now n (pos 0) in
+    let fits : FitsSigned w128 z = search rules in
+    let held = number_held ts (parts_shown c.self.inside.keys) c.args.self.now c.in-Numbers.numbers.keys n z (ap parts_shown c.in-Numbers.is) c.self.view_is c.requires
+    (ap (λ l. get_or l n (pos 0)) c.as_slice-keys.ensures.keys) c.self.invariant in
+    All-cons (IsWithin (length ts)) c.part_of_number.result [] (subst (IsWithin (length ts)) (sym (rw to_z-of_z at c.part_of_number.ensures)) held) (All-nil (IsWithin (length ts)))
 
 pub returns-in-Numbers : goal.returns-in-Numbers
 returns-in-Numbers c =

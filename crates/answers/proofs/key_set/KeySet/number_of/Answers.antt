@@ -1,10 +1,11 @@
-use Rattle.std.proofs.Common.{◌≡◌, ◌∙◌, Some, subst}
+use Rattle.std.proofs.Common.{◌≡◌, ◌∙◌, ◌∷◌, [], Some, subst}
 use Rattle.std.specs.Prelude.{IfOk, OnOk, slice_get}
 use Rattle.indexmap.specs.IndexSet.{insert_key}
-use Rattle.answers.specs.Parts.{key_of_parts, keys_shown}
+use Rattle.arrays.specs.Batch.{row_of}
+use Rattle.answers.specs.Parts.{item_of_part, key_of_parts, keys_shown}
 use Rattle.answers.specs.PartSets.{parts_shown}
 use Rattle.answers.specs.Same.{same_key}
-use Rattle.answers.proofs.PartLemmas.{are-grown, keys-grown}
+use Rattle.answers.proofs.PartLemmas.{are-grown, key_alone, keys-grown}
 use Rattle.answers.proofs.key_set.KeySet.number_of.Goals as goal
 
 pub number_of_parts-requires-clause-within : goal.number_of_parts-requires-clause-within
@@ -23,3 +24,21 @@ pub returns-clause-number : goal.returns-clause-number
 returns-clause-number c =
     subst (λ k. IfOk c.number_of_parts.result (λ n. slice_get (keys_shown c.parts_of.new.texts (parts_shown c.number_of_parts.new.keys)) n ≡ Some k))
     c.in_ok-parts.ensures.key c.number_of_parts.ensures.number
+
+pub returns-then-by-eq1-clause-keys : goal.returns-then-by-eq1-clause-keys
+returns-then-by-eq1-clause-keys c =
+    let r = c.number_of_part.result in
+    let us = c.part_of.new.texts in
+    let new = keys_shown us (parts_shown c.number_of_part.new.keys) in
+    let p = c.in_ok-part.part in
+    let key = key_alone c.args.by.now (row_of c.args.batch.now.columns c.args.row) (item_of_part us p) c.if-by-eq1.true (c.in_ok-part.ensures.item ∙ c.value_at.ensures) in
+    let grown = keys-grown c.self.inside.texts us c.part_of.ensures.begins (parts_shown c.self.inside.keys) c.self.invariant ∙ c.self.view_is in
+    subst (λ k. OnOk r (new ≡ insert_key same_key c.args.self.now k)) key
+    (subst (λ l. OnOk r (new ≡ insert_key same_key l (item_of_part us p ∷ []))) grown c.number_of_part.ensures.keys)
+
+pub returns-then-by-eq1-clause-number : goal.returns-then-by-eq1-clause-number
+returns-then-by-eq1-clause-number c =
+    let us = c.part_of.new.texts in
+    let p = c.in_ok-part.part in
+    let key = key_alone c.args.by.now (row_of c.args.batch.now.columns c.args.row) (item_of_part us p) c.if-by-eq1.true (c.in_ok-part.ensures.item ∙ c.value_at.ensures) in
+    subst (λ k. IfOk c.number_of_part.result (λ n. slice_get (keys_shown us (parts_shown c.number_of_part.new.keys)) n ≡ Some k)) key c.number_of_part.ensures.number

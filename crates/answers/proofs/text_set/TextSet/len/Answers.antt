@@ -7,4 +7,4 @@ use Rattle.answers.proofs.text_set.TextSet.len.Goals as goal
 
 pub returns-clause-once : goal.returns-clause-once
 returns-clause-once c =
-    subst (IsDistinct bytes_eq) c.self.view_is (distinct-map string_bytes string_eq bytes_eq (λ x y. refl) c.self.inside.texts.keys c.as_slice.ensures.unique)
+    subst (IsDistinct bytes_eq) c.self.view_is (distinct-map string_bytes string_eq bytes_eq (λ x y. refl) c.self.inside.texts.keys c.len.ensures.unique)
