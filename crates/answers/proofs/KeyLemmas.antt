@@ -14,6 +14,7 @@ use Rattle.std.proofs.lemmas.Option.{slice_get-get_or, slice_get-map, slice_get_
 use Rattle.std.proofs.lemmas.Slice.Eq.{bytes_eq-Decides}
 use mathlib.Core.List.{IsPrefix}
 use Rattle.indexmap.specs.IndexSet.{insert_key}
+use Rattle.answers.proofs.GroupLemmas.{slice_get-append}
 
 -- A text that was found has its place.
 pub text_found : {Z : Type 0} (keys : List (String Z)) (n : ℕ) (t : List ℕ) → position (λ k. bytes_eq t (string_bytes k)) keys ≡ Some n
@@ -48,11 +49,6 @@ text_pushed keys new copy t is copied absent =
 -- ---- texts behind others
 
 module _ {A : Type 0} where
-  get_before : (xs ys : List A) (n : ℕ) → n < length xs → slice_get (xs ++ ys) n ≡ slice_get xs n
-  get_before [] ys n below = absurd (omega (arith, below))
-  get_before (x ∷ xs) ys zero below = refl
-  get_before (x ∷ xs) ys (suc n) below = get_before xs ys n (omega (arith, below))
-
   pub get_behind : (xs ys : List A) (n : ℕ) → slice_get (xs ++ ys) (length xs + n) ≡ slice_get ys n
   get_behind [] ys n = let is : 0 + n ≡ n = omega arith in ap (slice_get ys) is
   get_behind (x ∷ xs) ys n =
@@ -72,7 +68,7 @@ module _ {A : Type 0} where
 
   -- What is found among the first has its place in all.
   pub found_before : (xs ys : List A) (n : ℕ) (x : A) → slice_get xs n ≡ Some x → slice_get (xs ++ ys) n ≡ Some x
-  found_before xs ys n x at = get_before xs ys n (slice_get_within xs n x at) ∙ at
+  found_before xs ys n x at = slice_get-append xs ys n (slice_get_within xs n x at) ∙ at
 
 -- A text that isn't in both lists isn't in the second.
 pub absent_behind : (t : List ℕ) (xs ys : List (List ℕ)) → list_any (bytes_eq t) (xs ++ ys) ≡ false → list_any (bytes_eq t) ys ≡ false

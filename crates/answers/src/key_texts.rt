@@ -36,7 +36,9 @@ impl<'a> Model for KeyTexts<'a> {
 
 impl<'a> KeyTexts<'a> {
     /// The common ones alone.
-    pub(crate) fn new(alloc: Global, common: &'a TextSet) -> KeyTexts<'a> {
+    pub(crate) fn new(alloc: Global, common: &'a TextSet) -> KeyTexts<'a>
+        ensures { result ≡ common.now }
+    {
         let _len = common.len();
         KeyTexts {
             common,
