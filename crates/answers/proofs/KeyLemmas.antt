@@ -1,5 +1,5 @@
 -- Texts and keys in a set.
-use Rattle.std.proofs.Common.{◌≡◌, ◌∙◌, ℕ, zero, suc, ◌+◌, ◌<◌, ◌||◌, Bool, true, false, List, [], ◌∷◌, ◌++◌, length, map, get_or, Some, refl, sym, subst, ap, arith, append_assoc, true≢false, String, if◌then◌else◌}
+use Rattle.std.proofs.Common.{◌≡◌, ◌∙◌, ℕ, suc, ◌+◌, ◌||◌, Bool, true, false, List, [], ◌∷◌, ◌++◌, length, map, get_or, Some, refl, sym, subst, ap, arith, append_assoc, true≢false, String, if◌then◌else◌}
 use Rattle.std.specs.Prelude.{Option, None, is_some, slice_get, option_map, position}
 use Rattle.std.specs.Option.{ForSome}
 use Rattle.std.specs.List.{IsDistinct, list_any}

@@ -53,6 +53,7 @@ pub fn answer<T: Threads + Sync, G: Gate>(
     let whole = look_at_pieces(
         threads, alloc, batches, query, &common, cuts, 0, pieces, gate,
     )?;
-    let groups = tell_groups(threads, alloc, &whole, 0, whole.keys.len(), pieces)?;
+    let count = whole.keys.len();
+    let groups = tell_groups(threads, alloc, &whole, 0, count, pieces, count)?;
     Ok(Answer { groups })
 }

@@ -13,7 +13,7 @@ ghost use Rattle.answers.specs.Pieces.{AreLooked, HasRun, IsAsked, IsPieceRefusa
 use crate::gate::Gate;
 use crate::grouping::Grouping;
 use crate::run::add_part;
-use crate::shares::front_of;
+use crate::shares::back_of;
 use crate::text_set::TextSet;
 use arrays::RecordBatch;
 use evaluate::stop::Stop;
@@ -102,8 +102,8 @@ pub(crate) fn look_at_pieces<'a, T: Threads + Sync, G: Gate>(
         let last = cuts.at(from + 1);
         return look_at_piece(alloc, batches, query, common, first, last);
     }
-    let low = front_of(count);
-    let high = count - low;
+    let high = back_of(count);
+    let low = count - high;
     let middle = from + low;
     let front = move || -> Result<Grouping, QueryFault>
         requires { IsSync T.row × IsSync G.row × IsAsked (map arc_value batches.now) query.now cuts.rows cuts.pieces × (0 < low) × (from + low ≤ cuts.pieces) }
@@ -123,7 +123,7 @@ pub(crate) fn look_at_pieces<'a, T: Threads + Sync, G: Gate>(
             threads, alloc, batches, query, common, cuts, middle, high, gate,
         )
     };
-    let (early, late) = join(threads, front, back);
+    let (late, early) = join(threads, back, front);
     let mut whole = early?;
     whole.merge(alloc, late?)?;
     Ok(whole)

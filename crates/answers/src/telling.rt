@@ -9,7 +9,7 @@ ghost use Rattle.answers.specs.Grouping.{IsFull, told_from};
 use crate::column::TallyColumn;
 use crate::grouping::Grouping;
 use crate::groups::Group;
-use crate::shares::{front_of, share_of};
+use crate::shares::{back_of, share_of};
 use colbits::NoMemory;
 use group::Scalar;
 use std::alloc::Global;
@@ -19,6 +19,7 @@ use std::thread::{Threads, join};
 const FEW: usize = 4096;
 
 /// The groups from one up to another: of each its key, and what is told of its rows. Many are told in so many parts, side by side.
+/// There is room for so many in the list.
 #[cycle(telling)]
 pub(crate) fn tell_groups<T: Threads + Sync>(
     threads: &T,
@@ -27,6 +28,7 @@ pub(crate) fn tell_groups<T: Threads + Sync>(
     from: usize,
     to: usize,
     parts: u32,
+    room: usize,
 ) -> Result<Vec<Group>, NoMemory>
     requires order { from ≤ to }
     requires within { to ≤ length grouping.now.keys }
@@ -35,20 +37,20 @@ pub(crate) fn tell_groups<T: Threads + Sync>(
 {
     let count = to - from;
     if count <= FEW || parts <= 1 {
-        return tell_in_turn(alloc, grouping, from, to);
+        return tell_in_turn(alloc, grouping, from, to, room);
     }
-    let fewer = front_of(parts);
+    let fewer = back_of(parts);
     let more = parts - fewer;
-    let middle = from + share_of(count, parts);
+    let middle = to - share_of(count, parts);
     let front = move || -> Result<Vec<Group>, NoMemory>
         requires { IsSync T.row × (from ≤ middle) × (middle ≤ length grouping.now.keys) × IsFull grouping.now }
         ensures { IfOk result (λ v. map shape_of v.items ≡ told_from grouping.entry.now from (middle - from)) }
-    { tell_groups(threads, alloc, grouping, from, middle, fewer) };
+    { tell_groups(threads, alloc, grouping, from, middle, more, room) };
     let back = move || -> Result<Vec<Group>, NoMemory>
         requires { IsSync T.row × (middle ≤ to) × (to ≤ length grouping.now.keys) × IsFull grouping.now }
         ensures { IfOk result (λ v. map shape_of v.items ≡ told_from grouping.entry.now middle (to - middle)) }
-    { tell_groups(threads, alloc, grouping, middle, to, more) };
-    let (early, late) = join(threads, front, back);
+    { tell_groups(threads, alloc, grouping, middle, to, fewer, to - middle) };
+    let (late, early) = join(threads, back, front);
     let mut groups = early?;
     groups.append(&mut late?)?;
     Ok(groups)
@@ -60,13 +62,14 @@ fn tell_in_turn(
     grouping: &Grouping<'_>,
     from: usize,
     to: usize,
+    room: usize,
 ) -> Result<Vec<Group>, NoMemory>
     requires order { from ≤ to }
     requires within { to ≤ length grouping.now.keys }
     requires full { IsFull grouping.now }
     ensures { IfOk result (λ v. map shape_of v.items ≡ told_from grouping.now from (to - from)) }
 {
-    let mut groups = Vec::with_capacity(alloc, to - from)?;
+    let mut groups = Vec::with_capacity(alloc, room)?;
     for number in from..to {
         let keys = grouping.keys.key_at(alloc, number)?;
         let cells = tell_all(alloc, &grouping.columns, number)?;

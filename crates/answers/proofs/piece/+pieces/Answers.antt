@@ -39,13 +39,13 @@ merge-requires g t c =
     let q = c.args.query.now in
     let pieces = c.args.cuts.pieces in
     let from = c.args.from in
-    let middle = c.args.from + c.front_of-low.result in
-    let to = middle + (c.args.count - c.front_of-low.result) in
-    let is : to ≡ from + c.args.count = omega (arith, c.front_of-low.ensures.half) in
+    let middle = c.args.from + (c.args.count - c.back_of-high.result) in
+    let to = middle + c.back_of-high.result in
+    let is : to ≡ from + c.args.count = omega (arith, c.back_of-high.ensures.half) in
     let asked = c.requires.asked in
-    let early = subst (AreLooked fields q rows pieces from middle) c.in_ok-whole.was c.join-early.ensures.first in
-    let late = subst (AreLooked fields q rows pieces middle to) c.in_ok-late.was c.join-early.ensures.second in
-    record { room = pieces_room fields q rows asked.few asked.comparable pieces from middle to asked.one (omega arith) (omega arith) (omega (arith, c.requires.within, c.front_of-low.ensures.half)) c.in_ok-whole.whole c.in_ok-late.field-0 early late }
+    let early = subst (AreLooked fields q rows pieces from middle) c.in_ok-whole.was c.join-late.ensures.second in
+    let late = subst (AreLooked fields q rows pieces middle to) c.in_ok-late.was c.join-late.ensures.first in
+    record { room = pieces_room fields q rows asked.few asked.comparable pieces from middle to asked.one (omega arith) (omega arith) (omega (arith, c.requires.within, c.back_of-high.ensures.half)) c.in_ok-whole.whole c.in_ok-late.field-0 early late }
 
 pub returns-in_err-whole : goal.returns-in_err-whole
 returns-in_err-whole g t c =
@@ -55,14 +55,14 @@ returns-in_err-whole g t c =
     let q = c.args.query.now in
     let pieces = c.args.cuts.pieces in
     let from = c.args.from in
-    let middle = c.args.from + c.front_of-low.result in
-    let to = middle + (c.args.count - c.front_of-low.result) in
-    let is : to ≡ from + c.args.count = omega (arith, c.front_of-low.ensures.half) in
+    let middle = c.args.from + (c.args.count - c.back_of-high.result) in
+    let to = middle + c.back_of-high.result in
+    let is : to ≡ from + c.args.count = omega (arith, c.back_of-high.ensures.half) in
     let e = err_from_is_err_and c.from_residual.result c.from_residual.ensures.1 in
     let asked = c.requires.asked in
-    let early = subst (AreLooked fields q rows pieces from middle) c.in_err-whole.was c.join-early.ensures.first in
+    let early = subst (AreLooked fields q rows pieces from middle) c.in_err-whole.was c.join-late.ensures.second in
     subst (λ n. AreLooked fields q rows pieces from n c.from_residual.result) is
-    (rw (e.1, e.2) (front_refused fields q rows asked.few asked.comparable pieces from middle to asked.one (omega arith) (omega arith) (omega (arith, c.requires.within, c.front_of-low.ensures.half)) c.in_err-whole.field-0.0 early))
+    (rw (e.1, e.2) (front_refused fields q rows asked.few asked.comparable pieces from middle to asked.one (omega arith) (omega arith) (omega (arith, c.requires.within, c.back_of-high.ensures.half)) c.in_err-whole.field-0.0 early))
 
 pub returns-in_err-late : goal.returns-in_err-late
 returns-in_err-late g t c =
@@ -72,15 +72,15 @@ returns-in_err-late g t c =
     let q = c.args.query.now in
     let pieces = c.args.cuts.pieces in
     let from = c.args.from in
-    let middle = c.args.from + c.front_of-low.result in
-    let to = middle + (c.args.count - c.front_of-low.result) in
-    let is : to ≡ from + c.args.count = omega (arith, c.front_of-low.ensures.half) in
+    let middle = c.args.from + (c.args.count - c.back_of-high.result) in
+    let to = middle + c.back_of-high.result in
+    let is : to ≡ from + c.args.count = omega (arith, c.back_of-high.ensures.half) in
     let e = err_from_is_err_and c.from_residual-in_err-late.result c.from_residual-in_err-late.ensures.1 in
     let asked = c.requires.asked in
-    let early = subst (AreLooked fields q rows pieces from middle) c.in_ok-whole.was c.join-early.ensures.first in
-    let late = subst (AreLooked fields q rows pieces middle to) c.in_err-late.was c.join-early.ensures.second in
+    let early = subst (AreLooked fields q rows pieces from middle) c.in_ok-whole.was c.join-late.ensures.second in
+    let late = subst (AreLooked fields q rows pieces middle to) c.in_err-late.was c.join-late.ensures.first in
     subst (λ n. AreLooked fields q rows pieces from n c.from_residual-in_err-late.result) is
-    (rw (e.1, e.2) (part_refused fields q rows asked.few asked.comparable pieces from middle to asked.one (omega arith) (omega arith) (omega (arith, c.requires.within, c.front_of-low.ensures.half)) c.in_ok-whole.whole c.in_err-late.field-0.0 early late))
+    (rw (e.1, e.2) (part_refused fields q rows asked.few asked.comparable pieces from middle to asked.one (omega arith) (omega arith) (omega (arith, c.requires.within, c.back_of-high.ensures.half)) c.in_ok-whole.whole c.in_err-late.field-0.0 early late))
 
 pub returns-in_err-merge : goal.returns-in_err-merge
 returns-in_err-merge g t c =
@@ -95,11 +95,11 @@ returns g t c =
     let q = c.args.query.now in
     let pieces = c.args.cuts.pieces in
     let from = c.args.from in
-    let middle = c.args.from + c.front_of-low.result in
-    let to = middle + (c.args.count - c.front_of-low.result) in
-    let is : to ≡ from + c.args.count = omega (arith, c.front_of-low.ensures.half) in
+    let middle = c.args.from + (c.args.count - c.back_of-high.result) in
+    let to = middle + c.back_of-high.result in
+    let is : to ≡ from + c.args.count = omega (arith, c.back_of-high.ensures.half) in
     let asked = c.requires.asked in
-    let early = subst (AreLooked fields q rows pieces from middle) c.in_ok-whole.was c.join-early.ensures.first in
-    let late = subst (AreLooked fields q rows pieces middle to) c.in_ok-late.was c.join-early.ensures.second in
+    let early = subst (AreLooked fields q rows pieces from middle) c.in_ok-whole.was c.join-late.ensures.second in
+    let late = subst (AreLooked fields q rows pieces middle to) c.in_ok-late.was c.join-late.ensures.first in
     subst (λ n. HasRun fields q (rows_between pieces from n rows) c.merge.new.self) is
-    (pieces_joined fields q rows asked.few asked.comparable pieces from middle to asked.one (omega arith) (omega arith) (omega (arith, c.requires.within, c.front_of-low.ensures.half)) c.in_ok-whole.whole c.in_ok-late.field-0 c.merge.new.self early late c.in_ok-merge.ensures)
+    (pieces_joined fields q rows asked.few asked.comparable pieces from middle to asked.one (omega arith) (omega arith) (omega (arith, c.requires.within, c.back_of-high.ensures.half)) c.in_ok-whole.whole c.in_ok-late.field-0 c.merge.new.self early late c.in_ok-merge.ensures)

@@ -1,4 +1,4 @@
-use Rattle.std.proofs.Common.{◌≡◌, ◌∙◌, ◌+◌, ◌-◌, ap, arith, map, subst}
+use Rattle.std.proofs.Common.{◌≡◌, ◌∙◌, ◌-◌, ap, arith, map, subst}
 use Rattle.std.specs.Prelude.{IfOk}
 use Rattle.std.proofs.lemmas.List.{map-append}
 use Rattle.answers.specs.Answers.{shape_of}
@@ -11,10 +11,10 @@ returns g t c =
     let whole = c.args.grouping.now in
     let from = c.args.from in
     let to = c.args.to in
-    let middle = from + c.share_of.result in
+    let middle = to - c.share_of.result in
     let front = c.in_ok-groups.groups.items in
     let back = c.in_ok-late.field-0.items in
     told_parts whole from middle to (map shape_of front) (map shape_of back) (map shape_of c.append.new.self.items) (omega arith) (omega (arith, c.requires.order, c.share_of.ensures))
-    (subst (λ r. IfOk r (λ v. map shape_of v.items ≡ told_from whole from (middle - from))) c.in_ok-groups.was c.join-early.ensures.first)
-    (subst (λ r. IfOk r (λ v. map shape_of v.items ≡ told_from whole middle (to - middle))) c.in_ok-late.was c.join-early.ensures.second)
+    (subst (λ r. IfOk r (λ v. map shape_of v.items ≡ told_from whole from (middle - from))) c.in_ok-groups.was c.join-late.ensures.second)
+    (subst (λ r. IfOk r (λ v. map shape_of v.items ≡ told_from whole middle (to - middle))) c.in_ok-late.was c.join-late.ensures.first)
     (ap (map shape_of) c.in_ok-append.ensures.items ∙ map-append shape_of front back)
