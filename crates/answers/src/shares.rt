@@ -6,8 +6,8 @@ ghost use Rattle.std.specs.Prelude.{◌≤◌, ◌*◌};
 /// these on one processor while another is idle.
 const FEW: u32 = 4;
 
-/// How many of so many parts, the last ones, go to a new thread, which shares them out again. The others stay with the one that starts
-/// it, which puts what comes behind to what it knows of the first: that is in its processor's caches.
+/// How many of so many parts, the last ones, go to a new thread, which shares them out again. The first ones stay with the one that
+/// starts it, which puts what comes behind to what it has.
 pub(crate) fn back_of(parts: u32) -> u32
     requires { 2 ≤ parts }
     ensures some { 1 ≤ result }
