@@ -1,4 +1,4 @@
-//! A gate that tells which pieces passed it, and one at which a piece waits for another.
+//! A gate that tells which pieces passed it, and one at which one of two pieces waits for the other.
 
 use answers::Gate;
 use std::hint::spin_loop;
@@ -41,27 +41,30 @@ impl Gate for Counting {
     }
 }
 
-/// A gate at which the first piece waits for the second.
+/// A gate at which one of two pieces waits for the other.
 #[derive(Drop)]
 pub(crate) struct Holding {
-    /// The second has passed.
+    /// The place of the one that waits.
+    held: u32,
+    /// The other has passed.
     is_open: AtomicBool,
-    /// The first has waited for long, and went on alone.
+    /// The one that waits has waited for long, and went on alone.
     is_late: AtomicBool,
 }
 
-/// How often the first piece looks whether the second has passed.
+/// How often the one that waits looks whether the other has passed.
 const TURNS: u32 = 100_000_000;
 
 impl Holding {
-    pub(crate) fn new() -> Holding {
+    pub(crate) fn new(held: u32) -> Holding {
         Holding {
+            held,
             is_open: AtomicBool::new(false),
             is_late: AtomicBool::new(false),
         }
     }
 
-    /// Whether the second piece has passed, and the first didn't go on without it.
+    /// Whether the other has passed, and the one that waits didn't go on without it.
     pub(crate) fn has_held(&self) -> bool {
         self.is_open.load(Ordering::SeqCst) && !self.is_late.load(Ordering::SeqCst)
     }
@@ -79,10 +82,10 @@ impl Holding {
 
 impl Gate for Holding {
     fn pass(&self, place: u32, _call: u32) {
-        match place {
-            0 => self.wait(),
-            1 => self.is_open.store(true, Ordering::SeqCst),
-            _ => {}
+        if place == self.held {
+            self.wait();
+        } else {
+            self.is_open.store(true, Ordering::SeqCst);
         }
     }
 }

@@ -16,12 +16,14 @@ fn each_piece_passes_the_gate_once(rt: HostRuntime) -> Result<(), Fail> {
     Ok(())
 }
 
-// The first piece gets no further than the gate before the second comes there: so two threads are at work.
+// One of two pieces gets no further than the gate before the other comes there, whichever it is: so two threads are at work.
 #[test]
 fn two_pieces_are_at_work_together(rt: HostRuntime) -> Result<(), Fail> {
-    let gate = Holding::new();
-    let told = answered(&rt, rt.alloc(), (PAIRS, SUMS), 2, &gate)?;
-    assert!(rt; told.as_str() == PAIRS_SUMS, "{told}");
-    assert!(rt; gate.has_held());
+    for held in [0, 1] {
+        let gate = Holding::new(held);
+        let told = answered(&rt, rt.alloc(), (PAIRS, SUMS), 2, &gate)?;
+        assert!(rt; told.as_str() == PAIRS_SUMS, "{told}, {held} waits");
+        assert!(rt; gate.has_held(), "{held} waits");
+    }
     Ok(())
 }
