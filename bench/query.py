@@ -6,8 +6,8 @@
 
 Builds bench/query.rs by cargo in a folder of its own; `crates/bench_query` has to be built before (`rt run` there). Where
 VENDORED names a folder of vendored crates, cargo takes indexmap from there. 8 million rows in 80 batches; the runs
-alternate. Printed are the medians of the milliseconds of one answer: what a process takes for many answers less what it
-takes for one, so that making the columns doesn't count. SQLite's time is that of one statement, once the rows are there.
+alternate. Both print each answer as soon as they have it. Printed are the medians of the milliseconds from one answer of a
+run to the next, so that making the columns doesn't count. SQLite's time is that of one statement, once the rows are there.
 """
 import os
 import shutil
@@ -31,21 +31,19 @@ QUERIES = {
                    "select 1, count(*) from t where v + 1 > 5 and k is not null"),
 }
 
-# how many answers a run gives, so that making the rows counts little beside them
-ANSWERS = {"sum-by-text": 60, "ends-by-number": 8, "rows-where": 300}
-
-
-def seconds(program, query, times, pieces):
-    begin = time.monotonic()
-    out = subprocess.run([program, query, str(BATCHES), str(ROWS), str(times), str(pieces)], stdout=subprocess.PIPE, check=True).stdout
-    return time.monotonic() - begin, out
+# how many answers a run gives after its first
+ANSWERS = {"sum-by-text": 60, "ends-by-number": 16, "rows-where": 150}
 
 
 def one_answer(program, query, times, pieces=1):
-    once, first = seconds(program, query, 1, pieces)
-    often, last = seconds(program, query, times + 1, pieces)
-    assert first == last
-    return 1000 * (often - once) / times, first
+    """The median of the milliseconds from one answer to the next, and what the answers say."""
+    words = [program, query, str(BATCHES), str(ROWS), str(times + 1), str(pieces)]
+    with subprocess.Popen(words, stdout=subprocess.PIPE) as run:
+        lines = [(line, time.monotonic()) for line in run.stdout]
+    assert run.returncode == 0 and len(lines) == times + 1, words
+    said = {line for line, _ in lines}
+    assert len(said) == 1, said
+    return statistics.median(1000 * (after - before) for (_, before), (_, after) in zip(lines, lines[1:])), said.pop()
 
 
 def built(folder):

@@ -192,16 +192,15 @@ fn main() {
     let [_, query, batches, rows, times, pieces] = &words[..] else { panic!("QUERY BATCHES ROWS TIMES PIECES") };
     let (count, rows): (u32, usize) = (batches.parse().expect("batches"), rows.parse().expect("rows"));
     let batches: Vec<Batch> = (0..count).map(|b| Batch::new(rows, b.wrapping_mul(rows as u32))).collect();
-    let mut last = (0, 0);
     let pieces: usize = pieces.parse().expect("pieces");
     for _ in 0..times.parse::<usize>().expect("times") {
         let batches = black_box(&batches[..]);
-        last = match query.as_str() {
+        let (groups, sum) = match query.as_str() {
             "sum-by-text" => sums_by_text(batches, pieces),
             "ends-by-number" => ends_by_number(batches, pieces),
             "rows-where" => rows_where(batches).expect("no overflow"),
             _ => panic!("no such query"),
         };
+        println!("{groups} {sum}");
     }
-    println!("{} {}", last.0, last.1);
 }

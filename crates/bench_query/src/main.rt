@@ -1,6 +1,6 @@
 //! `bench_query QUERY BATCHES ROWS TIMES PIECES` fills a table with so many batches of so many rows, each with texts `k` of which
 //! 1,000 differ, numbers `g` of which 100,000 differ, and numbers `v`. It answers the query, whose JSON text QUERY is, so many
-//! times in so many pieces, and prints how many groups the last answer has, and the numbers of their cells added up.
+//! times in so many pieces, and prints of each answer how many groups it has, and the numbers of their cells added up.
 //!
 //! Without arguments it answers a query over one batch of 1,000 rows.
 #![tactic(auto)]
@@ -77,11 +77,11 @@ fn tell_answered<T: Threads + Sync>(
     let Ok(query) = resolve(rt.alloc(), &text, version.schema()) else {
         return told(rt, "no query of this table");
     };
-    tell_last(rt, threads, &version, &query, times, pieces)
+    tell_each(rt, threads, &version, &query, times, pieces)
 }
 
-// Prints what the query answers, which it does so many times in so many pieces.
-fn tell_last<T: Threads + Sync>(
+// Prints what the query answers each time, as soon as it does.
+fn tell_each<T: Threads + Sync>(
     rt: &HostRuntime,
     threads: &T,
     version: &Version,
@@ -93,18 +93,16 @@ fn tell_last<T: Threads + Sync>(
     requires one { 1 ≤ pieces }
     requires most { pieces ≤ 64 }
 {
-    let mut last = None;
     for _ in 0..times {
         let Ok(answer) = version.answer(threads, rt.alloc(), query, pieces, &OpenGate) else {
             return told(rt, "no answer");
         };
-        last = Some((answer.groups.len(), sum_of(&answer)));
+        let (groups, sum) = (answer.groups.len(), sum_of(&answer));
+        if println!(rt; "{groups} {sum}").is_err() {
+            return ExitCode::FAILURE;
+        }
     }
-    let (groups, sum) = last.unwrap_or((0, 0));
-    match println!(rt; "{groups} {sum}") {
-        Ok(()) => ExitCode::SUCCESS,
-        Err(_) => ExitCode::FAILURE,
-    }
+    ExitCode::SUCCESS
 }
 
 // The numbers of all cells, added up.

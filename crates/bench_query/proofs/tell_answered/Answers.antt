@@ -4,7 +4,7 @@ use Rattle.query.specs.Fault.{fits}
 use Rattle.table.specs.Contents.{Contents}
 use Rattle.bench_query.proofs.tell_answered.Goals as goal
 
-pub tell_last-requires-clause-fits : goal.tell_last-requires-clause-fits
-tell_last-requires-clause-fits g c κs within =
+pub tell_each-requires-clause-fits : goal.tell_each-requires-clause-fits
+tell_each-requires-clause-fits g c κs within =
     subst (λ fs. fits fs (asked c.in-Ok-resolve.query) ≡ true) (c.schema.ensures ∙ ap (λ (v : Contents). v.fields) (c.deref.ensures ∙ sym c.deref-2.ensures))
     c.in-Ok-resolve.ensures.fits
