@@ -55,9 +55,8 @@ module _ {A : Type 0} where
       let is : length (x ∷ xs) + n ≡ suc (length xs + n) = omega arith in
       ap (slice_get (x ∷ (xs ++ ys))) is ∙ get_behind xs ys n
 
-  get_last : (xs : List A) (x : A) → slice_get (xs ++ x ∷ []) (length xs) ≡ Some x
-  get_last [] x = refl
-  get_last (y ∷ xs) x = get_last xs x
+  pub get_last : (xs : List A) (x : A) → slice_get (xs ++ x ∷ []) (length xs) ≡ Some x
+  get_last xs x = let is : length xs ≡ length xs + 0 = omega arith in ap (slice_get (xs ++ x ∷ [])) is ∙ get_behind xs (x ∷ []) 0
 
   -- One that came to the end has its place, and those before it begin the list.
   pub pushed_there : (xs ys new : List A) (x : A) → new ≡ ys ++ x ∷ [] → slice_get (xs ++ new) (length xs + length ys) ≡ Some x

@@ -6,6 +6,7 @@ pub mod RowLemmas
 pub mod TallyLemmas
 pub mod SpreadLemmas
 pub mod KeyLemmas
+pub mod SmallSetLemmas
 pub mod PartSetLemmas
 pub mod PartLemmas
 pub mod FitLemmas

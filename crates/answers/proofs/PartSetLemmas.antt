@@ -1,8 +1,9 @@
 -- Keys in a set, and their parts.
 use lib.Pointwise.{pointwise, pointwise_decides}
-use Rattle.std.proofs.Common.{◌≡◌, ◌∙◌, ℕ, ℤ, pos, negsuc, ◌+ℤ◌, ◌-ℤ◌, ◌≤ℤ◌, arith, ◌+◌, ◌<◌, ◌≤◌, Bool, true, false, ◌&&◌, ◌||◌, cond, ltb, List, [], ◌∷◌, ◌++◌, length, map, take, get_or, Some, refl, rules, sym, ap, true≢false}
-use Rattle.std.specs.Prelude.{option_map, slice_get, int_lt, if◌then◌else◌}
+use Rattle.std.proofs.Common.{◌≡◌, ◌∙◌, ℕ, zero, suc, ℤ, pos, negsuc, ◌+ℤ◌, ◌-ℤ◌, ◌≤ℤ◌, arith, ◌+◌, ◌<◌, ◌≤◌, Bool, true, false, ◌&&◌, ◌||◌, cond, ltb, List, [], ◌∷◌, ◌++◌, length, map, take, get_or, Some, refl, rules, sym, ap, true≢false}
+use Rattle.std.specs.Prelude.{IfOk, Option, Result, Ok, Err, option_map, slice_get, int_lt, if◌then◌else◌}
 use Rattle.std.specs.Bool.{Decides}
+use Rattle.std.specs.Option.{ForSome}
 use Rattle.std.specs.Cmp.{booleans_Decides, decided}
 use Rattle.std.specs.List.{IsDistinct, list_any}
 use Rattle.std.specs.Ordering.{int_eq}
@@ -150,6 +151,35 @@ number_alike x y =
     (λ same. absurd (true≢false (sym ((Decides-int_eq x y).1 (back (decides.0 same))) ∙ no))) (λ other. other))) where
       back : parts_of_number x ≡ parts_of_number y → x ≡ y
       back e = sym (back_again x) ∙ ap (λ ps. number_back (get_or ps 0 part.Null)) e ∙ back_again y
+
+-- A number that is there isn't put there again, and a new one comes to the end.
+or_true : (a b : Bool) → b ≡ true → (a || b) ≡ true
+or_true true b h = refl
+or_true false b h = h
+
+among : (xs : List ℤ) (n : ℕ) (x : ℤ) → slice_get xs n ≡ Some x → list_any (int_eq x) xs ≡ true
+among [] n x at = absurd cc
+among (y ∷ xs) zero x at =
+    let is : y ≡ x = cc in
+    ap (λ b. b || list_any (int_eq x) xs) ((Decides-int_eq x y).1 (sym is))
+among (y ∷ xs) (suc n) x at = or_true (int_eq x y) (list_any (int_eq x) xs) (among xs n x at)
+
+pub number_again : (xs : List ℤ) (n : ℕ) (x : ℤ) → slice_get xs n ≡ Some x → map parts_of_number xs ≡ insert_key same_parts (map parts_of_number xs) (parts_of_number x)
+number_again xs n x at =
+    sym (ap (λ b. map parts_of_number (if b then xs else xs ++ x ∷ [])) (among xs n x at)) ∙ inserted_shown parts_of_number int_eq number_alike xs x
+
+pub number_new : (xs new : List ℤ) (x : ℤ) → new ≡ xs ++ x ∷ [] → list_any (int_eq x) xs ≡ false
+    → map parts_of_number new ≡ insert_key same_parts (map parts_of_number xs) (parts_of_number x)
+number_new xs new x is absent =
+    ap (map parts_of_number) is ∙ sym (ap (λ b. map parts_of_number (if b then xs else xs ++ x ∷ [])) absent) ∙ inserted_shown parts_of_number int_eq number_alike xs x
+
+pub number_shown : (xs : List ℤ) (n : ℕ) (x : ℤ) → slice_get xs n ≡ Some x → slice_get (map parts_of_number xs) n ≡ Some (parts_of_number x)
+number_shown xs n x at = slice_get-map parts_of_number xs n ∙ ap (option_map parts_of_number) at
+
+-- What holds of a place that is told, where there is one.
+pub if_place : {E : Type 0} (r : Result (Option ℕ) E) (P Q : ℕ → Type 0) → ((n : ℕ) → P n → Q n) → IfOk r (λ o. ForSome o P) → IfOk r (λ o. ForSome o Q)
+if_place (Ok o) P Q f h = λ n is. f n (h n is)
+if_place (Err e) P Q f h = tt
 
 -- ---- numbers become lists
 

@@ -10,6 +10,7 @@ pub mod Tallies
 pub mod Ends
 pub mod Columns
 pub mod Parts
+pub mod SmallSets
 pub mod PartSets
 pub mod Keys
 pub mod Memo

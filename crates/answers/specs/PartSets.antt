@@ -9,6 +9,8 @@ use Rattle.answers.specs.declared.part.Part.{Part}
 use Rattle.answers.specs.declared.part.Part.TheVariants as part
 use Rattle.answers.specs.declared.part_set.PartSet.{PartSet}
 use Rattle.answers.specs.declared.part_set.PartSet.TheVariants as set
+use Rattle.answers.specs.declared.part_set.Stored.{Stored}
+use Rattle.answers.specs.declared.part_set.Stored.TheVariants as stored
 
 -- 2^100, which no integer type has, stands for null among numbers, and the 2^64 behind it stand for texts by their places.
 abbrev pub part_of_number : ℤ → Part
@@ -25,8 +27,14 @@ parts_listed lists = map (λ v. v.items) lists
 
 -- The parts of each key.
 abbrev pub parts_shown : PartSet → List (List Part)
+parts_shown (set.Small numbers) = map parts_of_number numbers
 parts_shown (set.Numbers numbers) = map parts_of_number numbers.keys
 parts_shown (set.Lists lists) = parts_listed lists.keys
+
+-- The same of keys that are lent.
+abbrev pub parts_stored : Stored → List (List Part)
+parts_stored (stored.Numbers numbers) = map parts_of_number numbers.now
+parts_stored (stored.Lists lists) = parts_listed lists.now
 
 -- Whether two keys have the same parts.
 abbrev pub same_parts : List Part → List Part → Bool

@@ -72,7 +72,7 @@ fn number_of_slot(
 {
     match code {
         Some(code) => number_of_code(keys, memo, batch, by, row, code),
-        None => number_by(&mut memo.null, keys, batch, by, row),
+        None => number_by(&mut memo.null, keys, batch, by, row, None),
     }
 }
 
@@ -95,7 +95,15 @@ fn number_of_code(
         → Remembers keys.old memo.old → KnowsItems keys.old items memo.old.entries.items
         → IfOk result (λ n. IsNumbered keys.old keys.new key n × Remembers keys.new memo.new × KnowsItems keys.new items memo.new.entries.items) }
 {
-    number_by(&mut memo.entries[place_of(code)], keys, batch, by, row)
+    let place = place_of(code);
+    number_by(
+        &mut memo.entries[place],
+        keys,
+        batch,
+        by,
+        row,
+        Some(place),
+    )
 }
 
 /// The place that a code names.

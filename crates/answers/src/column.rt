@@ -10,6 +10,7 @@ ghost use Rattle.answers.specs.Spread.{padded, spread};
 ghost use Rattle.answers.specs.Tallies.{tally_of};
 
 use crate::adding::add_each;
+use crate::ahead::make_room;
 use crate::best::copied;
 use crate::best_number::BestNumber;
 use crate::end::End;
@@ -57,10 +58,11 @@ impl TallyColumn {
             OnOk result (show_column self.new ≡ record { agg = column.agg; tallies = padded groups (tally_of column.agg []) column.tallies }) }
     {
         match self {
-            TallyColumn::Rows(counts) => counts.resize(groups, 0)?,
-            TallyColumn::Count(_place, counts) => counts.resize(groups, 0)?,
-            TallyColumn::Sum(_place, totals) => totals.resize(groups, no_total())?,
-            TallyColumn::Numbers(_end, _place, numbers) => numbers.resize(
+            TallyColumn::Rows(counts) => pad(counts, groups, 0)?,
+            TallyColumn::Count(_place, counts) => pad(counts, groups, 0)?,
+            TallyColumn::Sum(_place, totals) => pad(totals, groups, no_total())?,
+            TallyColumn::Numbers(_end, _place, numbers) => pad(
+                numbers,
                 groups,
                 BestNumber::none(),
             )?,
@@ -174,4 +176,14 @@ impl TallyColumn {
             TallyColumn::Items(_end, _place, items) => copied(alloc, &items[group]),
         }
     }
+}
+
+/// Adds cells of no rows until there are so many.
+fn pad<C: Copy>(cells: &mut Vec<C>, groups: usize, empty: C) -> Result<(), NoMemory>
+    requires { length cells.old.items ≤ groups }
+    ensures { OnOk result (cells.new.items ≡ padded groups empty cells.old.items) }
+{
+    make_room(cells, groups);
+    cells.resize(groups, empty)?;
+    Ok(())
 }

@@ -16,7 +16,7 @@ ghost use Rattle.answers.specs.Values.{item_of_value};
 
 use crate::key_texts::KeyTexts;
 use crate::part::Part;
-use crate::part_set::{PartSet, part_of_number};
+use crate::part_set::{PartSet, Stored, part_of_number};
 use crate::text_set::TextSet;
 use crate::value::{Value, value_at};
 use arrays::RecordBatch;
@@ -69,12 +69,14 @@ impl<'a> KeySet<'a> {
         self.keys.len()
     }
 
-    /// The number of a row's key, which is put at the end where it is new.
+    /// The number of a row's key, which is put at the end where it is new. If it is a text alone, the text is likely to have this place,
+    /// if one is told.
     pub(crate) fn number_of(
         &mut self,
         batch: &RecordBatch,
         by: &[u32],
         row: usize,
+        likely: Option<usize>,
     ) -> Result<usize, NoMemory>
         requires few { length by.now ≤ 4 }
         requires plain { All (λ c. key_fault (sort_at batch.now.fields) c ≡ None) by.now }
@@ -85,7 +87,7 @@ impl<'a> KeySet<'a> {
             ≡ Some (key_of by.now (row_of batch.now.columns row))) }
     {
         if by.len() == 1 {
-            let part = part_of(&mut self.texts, value_at(batch, by[0], row))?;
+            let part = part_of(&mut self.texts, value_at(batch, by[0], row), likely)?;
             return number_of_part(&self.texts, &mut self.keys, part);
         }
         let parts = parts_of(&mut self.texts, batch, by, row)?;
@@ -111,15 +113,11 @@ impl<'a> KeySet<'a> {
         requires { number < length self.now }
         ensures { IfOk result (λ v. slice_get self.now number ≡ Some (map item_in v.items)) }
     {
-        match &self.keys {
-            PartSet::Numbers(numbers) => {
-                let keys = numbers.as_slice();
-                items_of(alloc, &self.texts, &[part_of_number(keys[number])])
+        match self.keys.stored() {
+            Stored::Numbers(numbers) => {
+                items_of(alloc, &self.texts, &[part_of_number(numbers[number])])
             }
-            PartSet::Lists(lists) => {
-                let keys = lists.as_slice();
-                items_of(alloc, &self.texts, keys[number].as_slice())
-            }
+            Stored::Lists(lists) => items_of(alloc, &self.texts, lists[number].as_slice()),
         }
     }
 }
@@ -145,16 +143,14 @@ impl<'a> KeySet<'a> {
         ensures keys { OnOk result (self.new ≡ insert_key same_key self.old (slice_index_or other.now place [])) }
         ensures number { IfOk result (λ n. slice_get self.new n ≡ Some (slice_index_or other.now place [])) }
     {
-        match &other.keys {
-            PartSet::Numbers(numbers) => {
-                let keys = numbers.as_slice();
-                let part = part_of_number(keys[place]);
+        match other.keys.stored() {
+            Stored::Numbers(numbers) => {
+                let part = part_of_number(numbers[place]);
                 let renamed = renamed_part(&mut self.texts, &other.texts, part)?;
                 number_of_part(&self.texts, &mut self.keys, renamed)
             }
-            PartSet::Lists(lists) => {
-                let keys = lists.as_slice();
-                let parts = renamed_parts(&mut self.texts, &other.texts, keys[place].as_slice())?;
+            Stored::Lists(lists) => {
+                let parts = renamed_parts(&mut self.texts, &other.texts, lists[place].as_slice())?;
                 number_of_parts(&self.texts, &mut self.keys, parts)
             }
         }
@@ -238,7 +234,7 @@ fn parts_of(
     let mut parts = ArrayVec::new();
     for place in by {
         let value = value_at(batch, *place, row);
-        parts.push(part_of(texts, value)?);
+        parts.push(part_of(texts, value, None)?);
     }
     Ok(parts)
 }
@@ -302,8 +298,12 @@ fn value_of<'b>(texts: &'b KeyTexts<'_>, part: Part) -> Value<'b>
     }
 }
 
-/// The part that stands for an item. Its text is among the texts then.
-fn part_of(texts: &mut KeyTexts<'_>, value: Value<'_>) -> Result<Part, NoMemory>
+/// The part that stands for an item. Its text is among the texts then, and likely to have this place, if one is told.
+fn part_of(
+    texts: &mut KeyTexts<'_>,
+    value: Value<'_>,
+    likely: Option<usize>,
+) -> Result<Part, NoMemory>
     ensures item { IfOk result (λ p. item_of_part texts.new p ≡ item_of_value value.entry) }
     ensures within { IfOk result (λ p. IsWithin (length texts.new) p) }
     ensures begins { IsPrefix texts.old texts.new }
@@ -312,6 +312,9 @@ fn part_of(texts: &mut KeyTexts<'_>, value: Value<'_>) -> Result<Part, NoMemory>
         Value::Null => Ok(Part::Null),
         Value::Int(number) => Ok(Part::Int(number)),
         Value::Bool(truth) => Ok(Part::Bool(truth)),
-        Value::Text(text) => Ok(Part::Text(texts.add(text)?)),
+        Value::Text(text) => match likely {
+            Some(place) => Ok(Part::Text(texts.add_likely(text, place)?)),
+            None => Ok(Part::Text(texts.add(text)?)),
+        },
     }
 }

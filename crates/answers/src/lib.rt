@@ -2,6 +2,7 @@
 #![tactic(auto)]
 
 mod adding;
+mod ahead;
 mod answering;
 mod best;
 mod best_number;
@@ -31,6 +32,7 @@ mod part_set;
 mod piece;
 mod run;
 mod shares;
+mod small_set;
 mod source;
 mod telling;
 mod text_set;

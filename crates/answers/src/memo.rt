@@ -52,7 +52,8 @@ impl Memo {
     }
 }
 
-/// The number of a row's key: the one that is known, or else the one that it has or gets, which is known then.
+/// The number of a row's key: the one that is known, or else the one that it has or gets, which is known then. If it is a text alone,
+/// the text is likely to have this place among those of keys, if one is told.
 #[inline(always)]
 pub(crate) fn number_by(
     known: &mut Option<usize>,
@@ -60,6 +61,7 @@ pub(crate) fn number_by(
     batch: &RecordBatch,
     by: &[u32],
     row: usize,
+    likely: Option<usize>,
 ) -> Result<usize, NoMemory>
     requires few { length by.now ≤ 4 }
     requires plain { All (λ c. key_fault (sort_at batch.now.fields) c ≡ None) by.now }
@@ -71,7 +73,7 @@ pub(crate) fn number_by(
     if let Some(number) = *known {
         return Ok(number);
     }
-    let number = keys.number_of(batch, by, row)?;
+    let number = keys.number_of(batch, by, row, likely)?;
     *known = Some(number);
     Ok(number)
 }

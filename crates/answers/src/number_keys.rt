@@ -103,6 +103,6 @@ fn number_of_item(
 {
     match number {
         Some(number) => keys.place_of_number(number),
-        None => number_by(&mut memo.null, keys, batch, by, row),
+        None => number_by(&mut memo.null, keys, batch, by, row, None),
     }
 }

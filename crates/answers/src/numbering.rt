@@ -67,7 +67,7 @@ fn number_alike(
     if rows.is_empty() {
         return Ok(());
     }
-    let number = keys.number_of(batch, by, rows[0])?;
+    let number = keys.number_of(batch, by, rows[0], None)?;
     numbers.resize(rows.len(), number)?;
     Ok(())
 }
@@ -88,7 +88,7 @@ fn number_each(
     ensures numbers { OnOk result (AreNumbers keys.new (keys_at by.now batch.now.columns rows.now) numbers.new.items) }
 {
     for row in rows {
-        numbers.push(keys.number_of(batch, by, *row)?)?;
+        numbers.push(keys.number_of(batch, by, *row, None)?)?;
     }
     Ok(())
 }

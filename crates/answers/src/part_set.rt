@@ -1,19 +1,22 @@
 //! The parts of keys, each key once.
 
-ghost use Rattle.std.specs.Prelude.{◌≡◌, ◌∷◌, [], IfOk, OnErr, OnOk, Some, length, map, slice_get};
+ghost use Rattle.std.specs.Prelude.{◌≡◌, ◌∷◌, [], IfOk, None, OnErr, OnOk, Some, length, map, slice_get};
 ghost use Rattle.std.specs.Option.{ForSome};
+ghost use Rattle.std.specs.List.{IsDistinct};
+ghost use Rattle.std.specs.Ordering.{int_eq};
 ghost use Rattle.indexmap.specs.IndexSet.{insert_key};
-ghost use Rattle.answers.specs.PartSets.{part_of_number, parts_listed, parts_of_number, parts_shown, same_parts};
+ghost use Rattle.answers.specs.PartSets.{part_of_number, parts_listed, parts_of_number, parts_shown, parts_stored, same_parts};
 
 use crate::code_keys::place_of;
 use crate::part::Part;
+use crate::small_set::SmallSet;
 use arrayvec::ArrayVec;
 use colbits::NoMemory;
 use indexmap::IndexSet;
 use std::alloc::Global;
 
 /// Stands for null among numbers: no integer type has it.
-const NULL: i128 = 1267650600228229401496703205376;
+pub(crate) const NULL: i128 = 1267650600228229401496703205376;
 
 /// The last of the numbers behind it, which stand for texts by their places.
 const LAST: i128 = 1267650600246676145570412756992;
@@ -21,10 +24,19 @@ const LAST: i128 = 1267650600246676145570412756992;
 /// The parts of keys in order of coming, each key once.
 #[derive(Drop)]
 pub(crate) enum PartSet {
+    /// Keys that are a small number, null or a text each.
+    Small(SmallSet),
     /// Keys that are a number, null or a text each. They take a fifth of the memory, so that more of them stay in the processor's caches.
     Numbers(IndexSet<i128>),
     /// Any keys.
     Lists(IndexSet<ArrayVec<Part, 4>>),
+}
+
+/// The keys of a set as they stand there.
+pub(crate) enum Stored<'a> {
+    /// Numbers that stand for one part each.
+    Numbers(&'a [i128]),
+    Lists(&'a [ArrayVec<Part, 4>]),
 }
 
 impl PartSet {
@@ -32,16 +44,28 @@ impl PartSet {
     pub(crate) fn new(alloc: Global) -> PartSet
         ensures { parts_shown result ≡ [] }
     {
-        PartSet::Numbers(IndexSet::new(alloc))
+        PartSet::Small(SmallSet::new(alloc))
     }
 
     /// How many keys there are.
     pub(crate) fn len(&self) -> usize
         ensures { result ≡ length (parts_shown self.now) }
     {
+        match self.stored() {
+            Stored::Numbers(numbers) => numbers.len(),
+            Stored::Lists(lists) => lists.len(),
+        }
+    }
+
+    /// The keys.
+    #[inline(always)]
+    pub(crate) fn stored(&self) -> Stored<'_>
+        ensures { parts_stored result ≡ parts_shown self.now }
+    {
         match self {
-            PartSet::Numbers(numbers) => numbers.len(),
-            PartSet::Lists(lists) => lists.len(),
+            PartSet::Small(small) => Stored::Numbers(small.as_slice()),
+            PartSet::Numbers(numbers) => Stored::Numbers(numbers.as_slice()),
+            PartSet::Lists(lists) => Stored::Lists(lists.as_slice()),
         }
     }
 
@@ -66,6 +90,15 @@ impl PartSet {
         ensures err { OnErr result (parts_shown self.new ≡ parts_shown self.old) }
     {
         match self {
+            PartSet::Small(small) => match place_in_small(small, number)? {
+                Some(place) => Ok(place),
+                None => {
+                    let mut numbers = small.hashed()?;
+                    let place = place_in_numbers(&mut numbers, number)?;
+                    *self = PartSet::Numbers(numbers);
+                    Ok(place)
+                }
+            },
             PartSet::Numbers(numbers) => place_in_numbers(numbers, number),
             PartSet::Lists(lists) => place_in_lists(lists, alone(part_of_number(number))),
         }
@@ -81,8 +114,14 @@ impl PartSet {
             return self.place_of_number(number);
         }
         match self {
+            PartSet::Small(small) => {
+                let mut lists = lists_of(small.allocator(), small.as_slice())?;
+                let place = place_in_lists(&mut lists, parts)?;
+                *self = PartSet::Lists(lists);
+                Ok(place)
+            }
             PartSet::Numbers(numbers) => {
-                let mut lists = lists_of(numbers)?;
+                let mut lists = lists_of(*numbers.allocator(), numbers.as_slice())?;
                 let place = place_in_lists(&mut lists, parts)?;
                 *self = PartSet::Lists(lists);
                 Ok(place)
@@ -90,6 +129,20 @@ impl PartSet {
             PartSet::Lists(lists) => place_in_lists(lists, parts),
         }
     }
+}
+
+/// The place of a number in a set, where it is put at the end where it is new; none where the set takes no such number.
+#[inline(always)]
+fn place_in_small(small: &mut SmallSet, number: i128) -> Result<Option<usize>, NoMemory>
+    ensures keys { IfOk result (λ o. ForSome o (λ n. map parts_of_number small.new ≡ insert_key same_parts (map parts_of_number small.old) (parts_of_number number))) }
+    ensures place { IfOk result (λ o. ForSome o (λ n. slice_get (map parts_of_number small.new) n ≡ Some (parts_of_number number))) }
+    ensures large { IfOk result (λ o. o ≡ None → small.new ≡ small.old) }
+    ensures err { OnErr result (small.new ≡ small.old) }
+{
+    if let Some(place) = small.place_of(number) {
+        return Ok(Some(place));
+    }
+    small.add_new(number)
 }
 
 /// The place of a number in a set, where it is put at the end where it is new.
@@ -117,11 +170,15 @@ fn place_in_lists(
 }
 
 /// The keys of numbers, as lists of parts.
-fn lists_of(numbers: &IndexSet<i128>) -> Result<IndexSet<ArrayVec<Part, 4>>, NoMemory>
-    ensures { IfOk result (λ s. parts_listed s.keys ≡ map parts_of_number numbers.now.keys) }
+fn lists_of(
+    alloc: Global,
+    numbers: &[i128],
+) -> Result<IndexSet<ArrayVec<Part, 4>>, NoMemory>
+    requires { IsDistinct int_eq numbers.now }
+    ensures { IfOk result (λ s. parts_listed s.keys ≡ map parts_of_number numbers.now) }
 {
-    let mut lists = IndexSet::new(*numbers.allocator());
-    for number in numbers.as_slice() {
+    let mut lists = IndexSet::new(alloc);
+    for number in numbers {
         place_in_lists(&mut lists, alone(part_of_number(*number)))?;
     }
     Ok(lists)

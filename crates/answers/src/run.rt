@@ -19,6 +19,9 @@ use std::thread::yield_now;
 /// After how many rows a thread lets others go first. No more are looked at together.
 const TURN: usize = 16384;
 
+/// Of so many groups what is known stays in the processor's caches while others have their turn.
+const FEW: usize = 4096;
+
 /// How many rows are looked at together where there is no filter.
 const SLICE: usize = 2048;
 
@@ -62,7 +65,7 @@ pub(crate) fn add_part(
             Err(Stop::Bad(row)) => return Err(Stop::Bad(at + row)),
             Err(Stop::NoMemory) => return Err(Stop::NoMemory),
         }
-        take_turns(at < rows && at.is_multiple_of(TURN));
+        take_turns(at < rows && at.is_multiple_of(TURN) && grouping.keys.len() <= FEW);
     }
     Ok(())
 }

@@ -14,8 +14,8 @@ pub returns : goal.returns
 returns c = λ items at h knows.
     let key = key_of c.args.by.now (row_of c.args.batch.now.columns c.args.row) in
     let m = c.args.memo.now in
-    let place = c.place_of.result in
-    let place_is : place ≡ natural c.args.code = c.place_of.ensures ∙ ap natural (to_z-of_z w128 c.args.code c.ranges.code) in
+    let place = c.place_of-place.result in
+    let place_is : place ≡ natural c.args.code = c.place_of-place.ensures ∙ ap natural (to_z-of_z w128 c.args.code c.ranges.code) in
     let below : place < length m.entries.items = omega (arith, place_is, code_below (length m.entries.items) c.args.code c.requires.code) in
     let is : key ≡ slice_index_or items place null ∷ [] =
     at ∙ ap (λ n. slice_index_or items n null ∷ []) (sym place_is) in

@@ -6,4 +6,4 @@ use Rattle.answers.proofs.part_set.lists_of.Given as goal
 
 -- The keys so far.
 abbrev pub invariant-loop-number : goal.invariant-loop-number
-invariant-loop-number l = parts_listed l.lists.keys ≡ map parts_of_number (insert_all int_eq [] (take l.number-index l.numbers.keys))
+invariant-loop-number l = parts_listed l.lists.keys ≡ map parts_of_number (insert_all int_eq [] (take l.number-index l.numbers))

@@ -1,0 +1,183 @@
+//! Small numbers, each once.
+
+ghost use Rattle.std.specs.Prelude.{◌≡◌, ◌+◌, ◌<◌, ◌^◌, ◌++◌, ◌∷◌, [], IfOk, None, OnErr, OnOk, Some, false, if◌then◌else◌, nat_eq, slice_get, slice_index_or, true, ℕ, ℤ};
+ghost use Rattle.std.specs.Option.{ForSome};
+ghost use Rattle.std.specs.List.{IsDistinct, list_any};
+ghost use Rattle.std.specs.Ordering.{int_eq};
+ghost use Rattle.indexmap.specs.IndexSet.{insert_key};
+ghost use Rattle.answers.specs.SmallSets.{is_near, is_small, past_null, place_end};
+
+use crate::ahead::make_room;
+use crate::code_keys::place_of;
+use crate::part_set::NULL;
+use colbits::NoMemory;
+use indexmap::IndexSet;
+use std::alloc::Global;
+use std::marker::Model;
+
+/// So many numbers from 0 on are near, so that a table of places by them stays in a processor's cache.
+const FEW: i128 = 131072;
+
+/// Numbers in order of coming, each once: near ones, null, and texts with near places. A table tells where each stands, which takes one
+/// look, where a number that is hashed takes two, of which the second waits for the first.
+#[derive(Drop)]
+pub(crate) struct SmallSet {
+    numbers: Vec<i128>,
+    /// One more than the place of each number from 0 on, 0 where it has none.
+    counts: Vec<u32>,
+    /// The same of the numbers from null on.
+    names: Vec<u32>,
+}
+
+impl Model for SmallSet {
+    ghost use Rattle.std.specs.Prelude.{List, ℤ};
+    ghost use Rattle.std.specs.Coded.{coded_list, coded_ℤ};
+    ghost use Rattle.answers.specs.SmallSets.{ArePlaced, place_end};
+
+    ghost Value = { List ℤ };
+
+    ghost coded = { coded_list coded_ℤ };
+
+    ghost view = { λ s. s.numbers.items };
+
+    ghost invariant = { λ s. ArePlaced s.numbers.items (place_end s.counts.items s.names.items) };
+}
+
+impl SmallSet {
+    /// No numbers, which take no memory until the first.
+    pub(crate) fn new(alloc: Global) -> SmallSet
+        ensures { result ≡ [] }
+    {
+        SmallSet {
+            numbers: Vec::new(alloc),
+            counts: Vec::new(alloc),
+            names: Vec::new(alloc),
+        }
+    }
+
+    /// The numbers, of which none comes twice.
+    pub(crate) fn as_slice(&self) -> &[i128]
+        ensures numbers { result.now ≡ self.now }
+        ensures once { IsDistinct int_eq self.now }
+    {
+        self.numbers.as_slice()
+    }
+
+    /// The place of a number, none where it isn't there.
+    #[inline(always)]
+    pub(crate) fn place_of(&self, number: i128) -> Option<usize>
+        ensures there { ForSome result (λ n. slice_get self.now n ≡ Some number) }
+        ensures absent { result ≡ None → list_any (int_eq number) self.now ≡ false }
+    {
+        match place_end(self.counts.as_slice(), self.names.as_slice(), number) {
+            0 => None,
+            end => Some(end as usize - 1),
+        }
+    }
+
+    /// Puts a number at the end that isn't there, and tells its place; none where it isn't small, or there are too many.
+    pub(crate) fn add_new(&mut self, number: i128) -> Result<Option<usize>, NoMemory>
+        requires { list_any (int_eq number) self.old ≡ false }
+        ensures numbers { IfOk result (λ o. ForSome o (λ n. self.new ≡ self.old ++ number ∷ [])) }
+        ensures place { IfOk result (λ o. ForSome o (λ n. slice_get self.new n ≡ Some number)) }
+        ensures large { IfOk result (λ o. o ≡ None → self.new ≡ self.old) }
+        ensures err { OnErr result (self.new ≡ self.old) }
+    {
+        let place = self.numbers.len();
+        let Ok(end) = u32::try_from(place + 1) else {
+            return Ok(None);
+        };
+        if !is_small(number) {
+            return Ok(None);
+        }
+        make_room(&mut self.numbers, place + 1);
+        self.numbers.reserve(1)?;
+        put_end(&mut self.counts, &mut self.names, number, end)?;
+        self.numbers.push_reserved(number);
+        Ok(Some(place))
+    }
+
+    pub(crate) fn allocator(&self) -> Global {
+        *self.numbers.allocator()
+    }
+
+    /// The same numbers, hashed.
+    pub(crate) fn hashed(&self) -> Result<IndexSet<i128>, NoMemory>
+        ensures { IfOk result (λ s. s.keys ≡ self.now) }
+    {
+        let mut numbers = IndexSet::new(self.allocator());
+        for number in self.as_slice() {
+            numbers.insert_full(*number)?;
+        }
+        Ok(numbers)
+    }
+}
+
+#[inline(always)]
+fn is_near(number: i128) -> bool
+    ensures { result ≡ is_near number }
+{
+    0 <= number && number < FEW
+}
+
+fn is_small(number: i128) -> bool
+    ensures { result ≡ is_small number }
+{
+    if is_near(number) {
+        return true;
+    }
+    number >= NULL && is_near(number - NULL)
+}
+
+/// One more than the place of a number, by both tables.
+#[inline(always)]
+fn place_end(counts: &[u32], names: &[u32], number: i128) -> u32
+    ensures { result ≡ place_end counts.now names.now number }
+{
+    if is_near(number) {
+        return end_at(counts, place_of(number));
+    }
+    if number >= NULL && is_near(number - NULL) {
+        return end_at(names, place_of(number - NULL));
+    }
+    0
+}
+
+/// What a table tells of a number, 0 past its end.
+#[inline(always)]
+fn end_at(ends: &[u32], number: usize) -> u32
+    ensures { result ≡ slice_index_or ends.now number 0 }
+{
+    if number < ends.len() { ends[number] } else { 0 }
+}
+
+/// Has the tables tell of a small number that it stands before this place, and of others what they told.
+fn put_end(
+    counts: &mut Vec<u32>,
+    names: &mut Vec<u32>,
+    number: i128,
+    end: u32,
+) -> Result<(), NoMemory>
+    requires { is_small number ≡ true }
+    ensures put { (z : ℤ) → OnOk result (place_end counts.new.items names.new.items z
+        ≡ (if int_eq z number then end else place_end counts.old.items names.old.items z)) }
+    ensures err { (z : ℤ) → OnErr result (place_end counts.new.items names.new.items z ≡ place_end counts.old.items names.old.items z) }
+{
+    if is_near(number) {
+        return put_at(counts, place_of(number), end);
+    }
+    put_at(names, place_of(number - NULL), end)
+}
+
+/// Has a table tell this of a number, and of others what it told.
+fn put_at(ends: &mut Vec<u32>, number: usize, end: u32) -> Result<(), NoMemory>
+    requires { number < 2 ^ 17 }
+    ensures put { (k : ℕ) → OnOk result (slice_index_or ends.new.items k 0 ≡ (if nat_eq k number then end else slice_index_or ends.old.items k 0)) }
+    ensures err { OnErr result (ends.new.items ≡ ends.old.items) }
+{
+    if ends.len() <= number {
+        ends.resize(number + 1, 0)?;
+    }
+    ends[number] = end;
+    Ok(())
+}
