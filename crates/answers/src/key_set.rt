@@ -71,6 +71,7 @@ impl<'a> KeySet<'a> {
 
     /// The number of a row's key, which is put at the end where it is new. If it is a text alone, the text is likely to have this place,
     /// if one is told.
+    #[inline(never)]
     pub(crate) fn number_of(
         &mut self,
         batch: &RecordBatch,
