@@ -13,6 +13,7 @@ use Rattle.answers.specs.Groups.{is_bad}
 use Rattle.answers.specs.Kinds.{AreComparable, kind_at}
 use Rattle.answers.specs.Runs.{HasKept}
 use Rattle.answers.specs.declared.grouping.Grouping.{Grouping}
+use Rattle.answers.specs.declared.neighbours.Neighbours.{Neighbours}
 
 -- The rows from one place up to another.
 abbrev pub between : ℕ → ℕ → Table → Table
@@ -42,6 +43,17 @@ rows_between pieces from to rows = between (cut_at (length rows) pieces from) (c
 abbrev pub AreLooked : List FieldShape → Query → Table → ℕ → ℕ → ℕ → Result Grouping QueryFault → Type 0
 AreLooked fields q rows pieces from to (Ok g) = HasRun fields q (rows_between pieces from to rows) g
 AreLooked fields q rows pieces from to (Err e) = IsPieceRefusal fields (asked q).filter (cut_at (length rows) pieces from) (rows_between pieces from to rows) e
+
+-- What is known of pieces from one up to another, and of those right behind them.
+pub record AreNeighbours (fields : List FieldShape) (q : Query) (rows : Table) (pieces from middle to : ℕ) (both : Neighbours) : Type 0 where
+  pub few : length rows ≤ 2 ^ 40
+  pub comparable : All (AreComparable (kind_at fields) q.aggs.items) rows
+  pub one : 1 ≤ pieces
+  pub low : from ≤ middle
+  pub high : middle ≤ to
+  pub within : to ≤ pieces
+  pub front : AreLooked fields q rows pieces from middle both.early
+  pub behind : AreLooked fields q rows pieces middle to both.late
 
 -- The batches are of the same types, the query fits each of them, and their items can be compared. There are so many rows, no more than a table may have, and from 1 to 64 pieces.
 pub record IsAsked (bs : List Batch) (q : Query) (rows pieces : ℕ) : Type 0 where

@@ -10,8 +10,10 @@ ghost use Rattle.query.specs.Fault.{fits};
 ghost use Rattle.answers.specs.Answers.{all_rows, first_fields};
 ghost use Rattle.answers.specs.Pieces.{AreLooked, HasRun, IsAsked, IsPieceRefusal, between, cut_at};
 
+use crate::four::look_at_four;
 use crate::gate::Gate;
 use crate::grouping::Grouping;
+use crate::neighbours::Neighbours;
 use crate::run::add_part;
 use crate::shares::back_of;
 use crate::text_set::TextSet;
@@ -97,10 +99,10 @@ pub(crate) fn look_at_pieces<'a, T: Threads + Sync, G: Gate>(
         AreLooked (first_fields bs) query.now (all_rows bs) cuts.pieces from (from + count) result }
 {
     if count == 1 {
-        gate.pass(from, 0);
-        let first = cuts.at(from);
-        let last = cuts.at(from + 1);
-        return look_at_piece(alloc, batches, query, common, first, last);
+        return look_at_one(alloc, batches, query, common, cuts, from, gate);
+    }
+    if count == 4 {
+        return look_at_four(threads, alloc, batches, query, common, cuts, from, gate);
     }
     let high = back_of(count);
     let low = count - high;
@@ -124,9 +126,28 @@ pub(crate) fn look_at_pieces<'a, T: Threads + Sync, G: Gate>(
         )
     };
     let (late, early) = join(threads, back, front);
-    let mut whole = early?;
-    whole.merge(alloc, late?)?;
-    Ok(whole)
+    Neighbours { early, late }.put_together(alloc)
+}
+
+/// The groups of the rows of one piece, whose thread passes the gate before its first row.
+pub(crate) fn look_at_one<'a, G: Gate>(
+    alloc: Global,
+    batches: &[Arc<RecordBatch>],
+    query: &Query,
+    common: &'a TextSet,
+    cuts: Cuts,
+    place: u32,
+    gate: &G,
+) -> Result<Grouping<'a>, QueryFault>
+    requires asked { IsAsked (map arc_value batches.now) query.now cuts.rows cuts.pieces }
+    requires within { place + 1 ≤ cuts.pieces }
+    ensures { let bs = map arc_value batches.now in
+        AreLooked (first_fields bs) query.now (all_rows bs) cuts.pieces place (place + 1) result }
+{
+    gate.pass(place, 0);
+    let first = cuts.at(place);
+    let last = cuts.at(place + 1);
+    look_at_piece(alloc, batches, query, common, first, last)
 }
 
 /// Into how many neighbouring pieces so many rows are cut.
