@@ -29,17 +29,19 @@ zero_end z = go (is_near z) (is_near (past_null z)) where
 pub none_placed : (numbers : List ℤ) (counts names : List ℕ) → numbers ≡ [] → counts ≡ [] → names ≡ [] → ArePlaced numbers (place_end counts names)
 unfolding IsDistinct
 none_placed numbers counts names p q r = subst (λ l. ArePlaced l (place_end counts names)) (sym p) (record {
-    there = λ z n is. let never : 0 ≡ n + 1 = sym (zero_of z) ∙ is in absurd (omega (arith, never));
-    absent = λ z is. refl;
-    once = tt }) where
-      zero_of : (z : ℤ) → place_end counts names z ≡ 0
-      zero_of z = ap (λ l. place_end l names z) q ∙ ap (λ l. place_end bare l z) r ∙ zero_end z
+  there = λ z n is. let never : 0 ≡ n + 1 = sym (zero_of z) ∙ is in absurd (omega (arith, never));
+  absent = λ z is. refl;
+  once = tt;
+}) where
+  zero_of : (z : ℤ) → place_end counts names z ≡ 0
+  zero_of z = ap (λ l. place_end l names z) q ∙ ap (λ l. place_end bare l z) r ∙ zero_end z
 
 pub told_alike : (numbers : List ℤ) (ends new : ℤ → ℕ) → ArePlaced numbers ends → ((z : ℤ) → new z ≡ ends z) → ArePlaced numbers new
 told_alike numbers ends new placed alike = record {
-    there = λ z n is. placed.there z n (sym (alike z) ∙ is);
-    absent = λ z is. placed.absent z (sym (alike z) ∙ is);
-    once = placed.once }
+  there = λ z n is. placed.there z n (sym (alike z) ∙ is);
+  absent = λ z is. placed.absent z (sym (alike z) ∙ is);
+  once = placed.once;
+}
 
 pub told_more : (numbers : List ℤ) (x : ℤ) (end : ℕ) (ends new : ℤ → ℕ) → ArePlaced numbers ends → list_any (int_eq x) numbers ≡ false → end ≡ length numbers + 1
     → ((z : ℤ) → new z ≡ (if int_eq z x then end else ends z)) → ArePlaced (numbers ++ x ∷ []) new

@@ -96,14 +96,7 @@ fn number_of_code(
         → IfOk result (λ n. IsNumbered keys.old keys.new key n × Remembers keys.new memo.new × KnowsItems keys.new items memo.new.entries.items) }
 {
     let place = place_of(code);
-    number_by(
-        &mut memo.entries[place],
-        keys,
-        batch,
-        by,
-        row,
-        Some(place),
-    )
+    number_by(&mut memo.entries[place], keys, batch, by, row, Some(place))
 }
 
 /// The place that a code names.

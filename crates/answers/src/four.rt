@@ -43,16 +43,12 @@ pub(crate) fn look_at_four<'a, T: Threads + Sync, G: Gate>(
         requires { IsSync T.row × IsSync G.row × IsAsked (map arc_value batches.now) query.now cuts.rows cuts.pieces × (from + 4 ≤ cuts.pieces) }
         ensures { let bs = map arc_value batches.entry.now in
             AreLooked (first_fields bs) query.entry.now (all_rows bs) cuts.pieces (from + 2) (from + 3) result.0 × AreLooked (first_fields bs) query.entry.now (all_rows bs) cuts.pieces (from + 1) (from + 2) result.1.0 × AreLooked (first_fields bs) query.entry.now (all_rows bs) cuts.pieces from (from + 1) result.1.1 }
-    {
-        look_at_three(threads, alloc, batches, query, common, cuts, from, gate)
-    };
+    { look_at_three(threads, alloc, batches, query, common, cuts, from, gate) };
     let back = move || -> Looked
         requires { IsSync G.row × IsAsked (map arc_value batches.now) query.now cuts.rows cuts.pieces × (from + 4 ≤ cuts.pieces) }
         ensures { let bs = map arc_value batches.entry.now in
             AreLooked (first_fields bs) query.entry.now (all_rows bs) cuts.pieces (from + 3) (from + 4) result }
-    {
-        look_at_one(alloc, batches, query, common, cuts, from + 3, gate)
-    };
+    { look_at_one(alloc, batches, query, common, cuts, from + 3, gate) };
     let (fourth, (third, (second, first))) = join(threads, back, front);
     let front = Neighbours {
         early: first,
@@ -87,16 +83,12 @@ fn look_at_three<'a, T: Threads + Sync, G: Gate>(
         requires { IsSync T.row × IsSync G.row × IsAsked (map arc_value batches.now) query.now cuts.rows cuts.pieces × (from + 3 ≤ cuts.pieces) }
         ensures { let bs = map arc_value batches.entry.now in
             AreLooked (first_fields bs) query.entry.now (all_rows bs) cuts.pieces (from + 1) (from + 2) result.0 × AreLooked (first_fields bs) query.entry.now (all_rows bs) cuts.pieces from (from + 1) result.1 }
-    {
-        look_at_two(threads, alloc, batches, query, common, cuts, from, gate)
-    };
+    { look_at_two(threads, alloc, batches, query, common, cuts, from, gate) };
     let back = move || -> Looked
         requires { IsSync G.row × IsAsked (map arc_value batches.now) query.now cuts.rows cuts.pieces × (from + 3 ≤ cuts.pieces) }
         ensures { let bs = map arc_value batches.entry.now in
             AreLooked (first_fields bs) query.entry.now (all_rows bs) cuts.pieces (from + 2) (from + 3) result }
-    {
-        look_at_one(alloc, batches, query, common, cuts, from + 2, gate)
-    };
+    { look_at_one(alloc, batches, query, common, cuts, from + 2, gate) };
     join(threads, back, front)
 }
 
@@ -120,16 +112,12 @@ fn look_at_two<'a, T: Threads + Sync, G: Gate>(
         requires { IsSync G.row × IsAsked (map arc_value batches.now) query.now cuts.rows cuts.pieces × (from + 2 ≤ cuts.pieces) }
         ensures { let bs = map arc_value batches.entry.now in
             AreLooked (first_fields bs) query.entry.now (all_rows bs) cuts.pieces from (from + 1) result }
-    {
-        look_at_one(alloc, batches, query, common, cuts, from, gate)
-    };
+    { look_at_one(alloc, batches, query, common, cuts, from, gate) };
     let back = move || -> Looked
         requires { IsSync G.row × IsAsked (map arc_value batches.now) query.now cuts.rows cuts.pieces × (from + 2 ≤ cuts.pieces) }
         ensures { let bs = map arc_value batches.entry.now in
             AreLooked (first_fields bs) query.entry.now (all_rows bs) cuts.pieces (from + 1) (from + 2) result }
-    {
-        look_at_one(alloc, batches, query, common, cuts, from + 1, gate)
-    };
+    { look_at_one(alloc, batches, query, common, cuts, from + 1, gate) };
     join(threads, back, front)
 }
 

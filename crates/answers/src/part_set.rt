@@ -170,10 +170,7 @@ fn place_in_lists(
 }
 
 /// The keys of numbers, as lists of parts.
-fn lists_of(
-    alloc: Global,
-    numbers: &[i128],
-) -> Result<IndexSet<ArrayVec<Part, 4>>, NoMemory>
+fn lists_of(alloc: Global, numbers: &[i128]) -> Result<IndexSet<ArrayVec<Part, 4>>, NoMemory>
     requires { IsDistinct int_eq numbers.now }
     ensures { IfOk result (λ s. parts_listed s.keys ≡ map parts_of_number numbers.now) }
 {

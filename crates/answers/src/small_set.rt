@@ -19,7 +19,7 @@ use std::marker::Model;
 const FEW: i128 = 131072;
 
 /// Numbers in order of coming, each once: near ones, null, and texts with near places. A table tells where each stands, which takes one
-/// look, where a number that is hashed takes two, of which the second waits for the first.
+/// look; a hashed number takes two, of which the second waits for the first.
 #[derive(Drop)]
 pub(crate) struct SmallSet {
     numbers: Vec<i128>,
@@ -97,6 +97,7 @@ impl SmallSet {
         Ok(Some(place))
     }
 
+    /// Where its memory comes from.
     pub(crate) fn allocator(&self) -> Global {
         *self.numbers.allocator()
     }
@@ -113,6 +114,7 @@ impl SmallSet {
     }
 }
 
+/// Whether it is one of the few from 0 on.
 #[inline(always)]
 fn is_near(number: i128) -> bool
     ensures { result ≡ is_near number }
@@ -120,6 +122,7 @@ fn is_near(number: i128) -> bool
     0 <= number && number < FEW
 }
 
+/// Whether a table tells the place of such a number.
 fn is_small(number: i128) -> bool
     ensures { result ≡ is_small number }
 {

@@ -9,14 +9,37 @@ put_four-requires g c =
     let bs : List Batch = map arc_value c.args.batches.now in
     let a = c.requires.asked in
     let from = c.args.from in
-    let three = c.join-fourth.ensures.second in
-    (first_fields bs, c.args.query.now, all_rows bs, c.args.cuts.pieces, from, from + 1, from + 2, from + 3, from + 4,
+    let three = c.join-fourth.ensures.second in (
+      first_fields bs,
+      c.args.query.now,
+      all_rows bs,
+      c.args.cuts.pieces,
+      from,
+      from + 1,
+      from + 2,
+      from + 3,
+      from + 4,
       record {
-        few = a.few; comparable = a.comparable; one = a.one; low = omega arith; high = omega arith; within = omega (arith, c.requires.within);
-        front = three.2; behind = three.1; },
+        few = a.few;
+        comparable = a.comparable;
+        one = a.one;
+        low = omega arith;
+        high = omega arith;
+        within = omega (arith, c.requires.within);
+        front = three.2;
+        behind = three.1;
+      },
       record {
-        few = a.few; comparable = a.comparable; one = a.one; low = omega arith; high = omega arith; within = omega (arith, c.requires.within);
-        front = three.0; behind = c.join-fourth.ensures.first; })
+        few = a.few;
+        comparable = a.comparable;
+        one = a.one;
+        low = omega arith;
+        high = omega arith;
+        within = omega (arith, c.requires.within);
+        front = three.0;
+        behind = c.join-fourth.ensures.first;
+      },
+    )
 
 pub returns : goal.returns
 returns g c =
@@ -26,8 +49,22 @@ returns g c =
     let three = c.join-fourth.ensures.second in
     c.put_four.ensures (first_fields bs) c.args.query.now (all_rows bs) c.args.cuts.pieces from (from + 1) (from + 2) (from + 3) (from + 4)
     (record {
-        few = a.few; comparable = a.comparable; one = a.one; low = omega arith; high = omega arith; within = omega (arith, c.requires.within);
-        front = three.2; behind = three.1; })
+      few = a.few;
+      comparable = a.comparable;
+      one = a.one;
+      low = omega arith;
+      high = omega arith;
+      within = omega (arith, c.requires.within);
+      front = three.2;
+      behind = three.1;
+    })
     (record {
-        few = a.few; comparable = a.comparable; one = a.one; low = omega arith; high = omega arith; within = omega (arith, c.requires.within);
-        front = three.0; behind = c.join-fourth.ensures.first; })
+      few = a.few;
+      comparable = a.comparable;
+      one = a.one;
+      low = omega arith;
+      high = omega arith;
+      within = omega (arith, c.requires.within);
+      front = three.0;
+      behind = c.join-fourth.ensures.first;
+    })

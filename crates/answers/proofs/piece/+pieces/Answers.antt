@@ -9,11 +9,25 @@ pub put_together-requires : goal.put_together-requires
 put_together-requires g t c =
     let bs : List Batch = map arc_value c.args.batches.now in
     let a = c.requires.asked in
-    let middle = c.args.from + (c.args.count - c.back_of-high.result) in
-    (first_fields bs, c.args.query.now, all_rows bs, c.args.cuts.pieces, c.args.from, middle, middle + c.back_of-high.result, record {
-        few = a.few; comparable = a.comparable; one = a.one; low = omega arith; high = omega arith;
+    let middle = c.args.from + (c.args.count - c.back_of-high.result) in (
+      first_fields bs,
+      c.args.query.now,
+      all_rows bs,
+      c.args.cuts.pieces,
+      c.args.from,
+      middle,
+      middle + c.back_of-high.result,
+      record {
+        few = a.few;
+        comparable = a.comparable;
+        one = a.one;
+        low = omega arith;
+        high = omega arith;
         within = omega (arith, c.requires.within, c.back_of-high.ensures.half);
-        front = c.join-late.ensures.second; behind = c.join-late.ensures.first; })
+        front = c.join-late.ensures.second;
+        behind = c.join-late.ensures.first;
+      },
+    )
 
 pub returns : goal.returns
 returns g t c =
@@ -26,6 +40,12 @@ returns g t c =
     let is : to ≡ from + c.args.count = omega (arith, c.back_of-high.ensures.half) in
     subst (λ n. AreLooked (first_fields bs) c.args.query.now (all_rows bs) pieces from n c.put_together.result) is
     (c.put_together.ensures (first_fields bs) c.args.query.now (all_rows bs) pieces from middle to (record {
-        few = a.few; comparable = a.comparable; one = a.one; low = omega arith; high = omega arith;
-        within = omega (arith, c.requires.within, c.back_of-high.ensures.half);
-        front = c.join-late.ensures.second; behind = c.join-late.ensures.first; }))
+      few = a.few;
+      comparable = a.comparable;
+      one = a.one;
+      low = omega arith;
+      high = omega arith;
+      within = omega (arith, c.requires.within, c.back_of-high.ensures.half);
+      front = c.join-late.ensures.second;
+      behind = c.join-late.ensures.first;
+    }))

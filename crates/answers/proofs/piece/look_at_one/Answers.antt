@@ -27,4 +27,3 @@ returns g c =
     are_looked (first_fields bs) c.args.query.now rows pieces from (from + 1) c.at-first.result c.at-last.result c.look_at_piece.result
     (c.at-first.ensures ∙ ap (λ n. cut_at n pieces from) counted) (c.at-last.ensures ∙ ap (λ n. cut_at n pieces (from + 1)) counted)
     c.look_at_piece.ensures.ok c.look_at_piece.ensures.err
-
