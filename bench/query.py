@@ -29,10 +29,11 @@ QUERIES = {
     "rows-where": ('{"filter":{"op":"and","args":[{"op":"gt","args":[{"op":"add","args":[{"column":"v"},{"int":1}]},{"int":5}]},'
                    '{"op":"not","args":[{"op":"is_null","args":[{"column":"k"}]}]}]},"aggs":[{"agg":"rows"}]}',
                    "select 1, count(*) from t where v + 1 > 5 and k is not null"),
+    "sum": ('{"aggs":[{"agg":"sum","column":"v"}]}', "select 1, sum(v) from t"),
 }
 
 # how many answers a run gives after its first
-ANSWERS = {"sum-by-text": 60, "ends-by-number": 16, "rows-where": 150}
+ANSWERS = {"sum-by-text": 60, "ends-by-number": 16, "rows-where": 150, "sum": 100}
 
 
 def one_answer(program, query, times, pieces=1):

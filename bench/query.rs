@@ -167,6 +167,16 @@ fn ends_by_number(batches: &[Batch], pieces: usize) -> (usize, i128) {
     (all.len(), all.values().map(told).sum())
 }
 
+fn sum_of(slices: Vec<Slice<'_>>) -> i128 {
+    let slice = |(batch, rows): Slice<'_>| rows.filter(|&i| batch.v.validity.get(i)).map(|i| i128::from(batch.v.values[i])).sum::<i128>();
+    slices.into_iter().map(slice).sum()
+}
+
+/// `sum(v)` of all rows.
+fn sum(batches: &[Batch], pieces: usize) -> (usize, i128) {
+    (1, of_pieces(batches, pieces, sum_of).into_iter().sum())
+}
+
 /// `rows` where `v + 1 > 5 and not is_null(k)`, word by word of the validities, in one piece.
 fn rows_where(batches: &[Batch]) -> Option<(usize, i128)> {
     let mut rows: u64 = 0;
@@ -198,6 +208,7 @@ fn main() {
         let (groups, sum) = match query.as_str() {
             "sum-by-text" => sums_by_text(batches, pieces),
             "ends-by-number" => ends_by_number(batches, pieces),
+            "sum" => sum(batches, pieces),
             "rows-where" => rows_where(batches).expect("no overflow"),
             _ => panic!("no such query"),
         };

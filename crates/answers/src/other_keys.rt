@@ -16,6 +16,7 @@ pub(crate) fn number_others(
     ensures numbers { OnOk result (AreNumbers keys.new others.now numbers.new.items) }
 {
     numbers.clear();
+    numbers.reserve(others.len())?;
     for place in 0..others.len() {
         numbers.push(keys.number_of_key(others, place)?)?;
     }

@@ -78,8 +78,18 @@ impl PartSet {
     {
         match number_of_part(part) {
             Some(number) => self.place_of_number(number),
-            None => self.place_of(alone(part)),
+            None => self.place_alone(part),
         }
+    }
+
+    /// The same, once all keys are lists.
+    #[inline(never)]
+    fn place_alone(&mut self, part: Part) -> Result<usize, NoMemory>
+        ensures keys { OnOk result (parts_shown self.new ≡ insert_key same_parts (parts_shown self.old) (part ∷ [])) }
+        ensures place { IfOk result (λ n. slice_get (parts_shown self.new) n ≡ Some (part ∷ [])) }
+        ensures err { OnErr result (parts_shown self.new ≡ parts_shown self.old) }
+    {
+        self.place_listed(alone(part))
     }
 
     /// The place of the key of the part alone for which this number stands. The key is put at the end where it is new.
@@ -92,16 +102,27 @@ impl PartSet {
         match self {
             PartSet::Small(small) => match place_in_small(small, number)? {
                 Some(place) => Ok(place),
-                None => {
-                    let mut numbers = small.hashed()?;
-                    let place = place_in_numbers(&mut numbers, number)?;
-                    *self = PartSet::Numbers(numbers);
-                    Ok(place)
-                }
+                None => self.place_hashed(number),
             },
             PartSet::Numbers(numbers) => place_in_numbers(numbers, number),
-            PartSet::Lists(lists) => place_in_lists(lists, alone(part_of_number(number))),
+            PartSet::Lists(_lists) => self.place_alone(part_of_number(number)),
         }
+    }
+
+    /// The same, once small numbers are hashed too.
+    #[inline(never)]
+    fn place_hashed(&mut self, number: i128) -> Result<usize, NoMemory>
+        ensures keys { OnOk result (parts_shown self.new ≡ insert_key same_parts (parts_shown self.old) (parts_of_number number)) }
+        ensures place { IfOk result (λ n. slice_get (parts_shown self.new) n ≡ Some (parts_of_number number)) }
+        ensures err { OnErr result (parts_shown self.new ≡ parts_shown self.old) }
+    {
+        if let PartSet::Small(small) = self {
+            let mut numbers = small.hashed()?;
+            let place = place_in_numbers(&mut numbers, number)?;
+            *self = PartSet::Numbers(numbers);
+            return Ok(place);
+        }
+        self.place_alone(part_of_number(number))
     }
 
     /// The place of the key of these parts, which is put at the end where it is new.
@@ -110,9 +131,18 @@ impl PartSet {
         ensures place { IfOk result (λ n. slice_get (parts_shown self.new) n ≡ Some parts.items) }
         ensures err { OnErr result (parts_shown self.new ≡ parts_shown self.old) }
     {
-        if let Some(number) = number_alone(parts.as_slice()) {
-            return self.place_of_number(number);
+        match number_alone(parts.as_slice()) {
+            Some(number) => self.place_of_number(number),
+            None => self.place_listed(parts),
         }
+    }
+
+    /// The same, once all keys are lists.
+    fn place_listed(&mut self, parts: ArrayVec<Part, 4>) -> Result<usize, NoMemory>
+        ensures keys { OnOk result (parts_shown self.new ≡ insert_key same_parts (parts_shown self.old) parts.items) }
+        ensures place { IfOk result (λ n. slice_get (parts_shown self.new) n ≡ Some parts.items) }
+        ensures err { OnErr result (parts_shown self.new ≡ parts_shown self.old) }
+    {
         match self {
             PartSet::Small(small) => {
                 let mut lists = lists_of(small.allocator(), small.as_slice())?;
