@@ -4,6 +4,8 @@
 #[cfg(test)]
 mod gates;
 #[cfg(test)]
+mod many;
+#[cfg(test)]
 mod pieces;
 #[cfg(test)]
 mod testing;
