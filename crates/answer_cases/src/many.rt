@@ -8,7 +8,7 @@ use std::test::Fail;
 /// How many groups there are. Half of them, as many as each piece of four has, are more than are put together, or told, in one thread.
 const GROUPS: u32 = 10_000;
 
-/// How many rows each group has, and its number that often.
+/// How many rows each group has, what their numbers add up to, and the number.
 const QUERY: &str =
     r#"{"by":["v"],"aggs":[{"agg":"rows"},{"agg":"sum","column":"v"},{"agg":"least","column":"v"}]}"#;
 
