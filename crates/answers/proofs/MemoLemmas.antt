@@ -1,5 +1,5 @@
 -- What is remembered of keys stays true while keys come.
-use Rattle.std.proofs.Common.{◌≡◌, ◌∙◌, ℕ, zero, suc, ◌<◌, Bool, true, false, ◌||◌, List, [], ◌∷◌, ◌++◌, ◌+◌, ◌-◌, take, length, map, get_or, replicate, Option, Some, None, Result, Ok, Err, IfOk, ℤ, pos, negsuc, refl, sym, ap, subst, arith}
+use Rattle.std.proofs.Common.{◌≡◌, ◌∙◌, ℕ, zero, suc, ◌<◌, true, false, List, [], ◌∷◌, ◌++◌, ◌+◌, ◌-◌, take, length, map, get_or, replicate, Option, Some, None, Result, Ok, Err, IfOk, ℤ, pos, negsuc, refl, sym, ap, subst, arith}
 use Rattle.std.specs.Prelude.{All, OnOk, slice_get, slice_index_or, slice_set}
 use Rattle.std.proofs.lemmas.List.{get_or-map, length-map, map-append, take_more}
 use Rattle.std.proofs.lemmas.List.Elements.{All-get_or}
@@ -8,6 +8,7 @@ use Rattle.std.proofs.lemmas.List.Sums.{fold_push}
 use Rattle.std.proofs.Math.Dec.{eqb}
 use Rattle.std.proofs.lemmas.Bool.{eqb-true, eqb-false}
 use Rattle.std.proofs.lemmas.List.{get_or-set_same, get_or-set_other, length-set}
+use Rattle.std.proofs.lemmas.Map.Keys.{any_passes_from_place}
 use Rattle.std.proofs.lemmas.Option.{slice_get_within}
 use Rattle.indexmap.specs.IndexSet.{insert_key}
 use Rattle.arrays.specs.Batch.{Batch, row_of}
@@ -40,20 +41,9 @@ remembered-more : (keys more : Keys) (x : List Item) (o : Option ℕ) → IsReme
 remembered-more keys [] x o h = h
 remembered-more keys (k ∷ more) x o h = remembered-more (insert_key same_key keys k) more x o (remembered-kept keys k x o h)
 
-or_true : (b : Bool) → (b || true) ≡ true
-or_true true = refl
-or_true false = refl
-
-among : (keys : Keys) (n : ℕ) (k : List Item) → slice_get keys n ≡ Some k → is_among keys k ≡ true
-among [] n k at = absurd cc
-among (x ∷ keys) zero k at =
-    let is : x ≡ k = cc in
-    ap (λ b. b || is_among keys k) ((same_key-Decides k x).1 (sym is))
-among (x ∷ keys) (suc n) k at = ap (λ b. same_key k x || b) (among keys n k at) ∙ or_true (same_key k x)
-
 -- A key that is there isn't put there again.
 pub there_already : (keys : Keys) (n : ℕ) (k : List Item) → slice_get keys n ≡ Some k → insert_key same_key keys k ≡ keys
-there_already keys n k at = inserted keys k true (among keys n k at)
+there_already keys n k at = inserted keys k true (any_passes_from_place (same_key k) keys n k at ((same_key-Decides k k).1 refl))
 
 -- ---- all that is remembered
 

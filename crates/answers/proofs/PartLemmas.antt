@@ -1,16 +1,15 @@
 -- Parts of keys and the items that they stand for.
 use mathlib.Core.Logic.{⊎_elim}
-use Rattle.std.proofs.Common.{◌≡◌, ◌∙◌, ℕ, ◌+◌, ◌<◌, ◌≤◌, Bool, true, false, ◌&&◌, ◌||◌, cond, eqb, List, [], ◌∷◌, ◌++◌, ℤ, pos, length, map, take, get_or, Some, refl, sym, ap, subst, arith, append_assoc, length-append}
+use Rattle.std.proofs.Common.{◌≡◌, ◌∙◌, ℕ, ◌+◌, ◌<◌, ◌≤◌, Bool, true, false, ◌&&◌, ◌||◌, cond, eqb, List, [], ◌∷◌, ◌++◌, length, take, get_or, Some, refl, sym, ap, subst, arith, append_assoc, length-append}
 use Rattle.std.specs.Prelude.{All, IfOk, OnErr, OnOk, Result, Ok, Err, slice_get, slice_index_or, option_map, ◌⊎◌}
 use Rattle.std.specs.List.{IsDistinct, list_any}
 use Rattle.std.specs.Str.{bytes_eq}
 use Rattle.std.proofs.lemmas.Bool.{eqb-true, eqb-false}
 use Rattle.std.proofs.lemmas.Cmp.{nat_list_eq_equiv}
-use Rattle.std.proofs.lemmas.List.{map-append, length-map, take_more, get_or-map, get_or_append_left}
+use Rattle.std.proofs.lemmas.List.{map-append, take_more, get_or_append_left}
 use Rattle.std.proofs.lemmas.List.Elements.{All-head, All-tail, All-push, All-weaker, All-get_or}
 use Rattle.std.proofs.lemmas.Map.Keys.{apart_from_distinct}
-use Rattle.std.proofs.lemmas.Option.{slice_get-get_or, slice_get-map}
-use Rattle.arrayvec.specs.ArrayVec.{ArrayVec}
+use Rattle.std.proofs.lemmas.Option.{get_or_from_slice_get, slice_get-map, slice_get_within}
 use mathlib.Core.List.{IsPrefix}
 use Rattle.indexmap.specs.IndexSet.{insert_key}
 use Rattle.arrays.specs.Item.{Item, null, text}
@@ -18,7 +17,7 @@ use Rattle.arrays.specs.Batch.{Row}
 use Rattle.answers.specs.declared.part.Part.{Part}
 use Rattle.answers.specs.declared.part.Part.TheVariants as part
 use Rattle.answers.specs.Groups.{key_of}
-use Rattle.answers.specs.PartSets.{part_of_number, parts_listed, parts_of_number, same_parts}
+use Rattle.answers.specs.PartSets.{same_parts}
 use Rattle.answers.specs.Parts.{AreWithin, IsWithin, item_of_part, key_of_parts, keys_shown, same_part}
 use Rattle.answers.specs.Same.{same_item, same_key}
 use Rattle.answers.proofs.SameLemmas.{either}
@@ -90,12 +89,17 @@ module _ (ts us : List (List ℕ)) (begins : IsPrefix ts us) where
 
 -- ---- keys in a set
 
-pub key_there : (ts : List (List ℕ)) (ks : List (List Part)) (keys : List (List Item)) (n : ℕ) (k : List Part) → keys_shown ts ks ≡ keys
-    → n < length keys → k ≡ get_or ks n k → key_of_parts ts k ≡ slice_index_or keys n []
-key_there ts ks keys n k are below is =
-    let key : List Part → List Item = λ l. key_of_parts ts l in
-    let within : n < length ks = omega (arith, below, ap length are, length-map ks key) in
-    ap key is ∙ sym (get_or-map key ks n k [] within) ∙ ap (λ l. slice_index_or l n []) are
+-- The key at a place, as its parts.
+module _ (ts : List (List ℕ)) (ks : List (List Part)) (n : ℕ) (ps : List Part) (at : slice_get ks n ≡ Some ps) where
+  pub stored_there : (keys : List (List Item)) → keys_shown ts ks ≡ keys → slice_get keys n ≡ Some (key_of_parts ts ps)
+  stored_there keys are = ap (λ l. slice_get l n) (sym are) ∙ slice_get-map (key_of_parts ts) ks n ∙ ap (option_map (key_of_parts ts)) at
+
+  pub stored_key : (keys : List (List Item)) → keys_shown ts ks ≡ keys → key_of_parts ts ps ≡ slice_index_or keys n []
+  stored_key keys are = sym (get_or_from_slice_get keys n (key_of_parts ts ps) [] (stored_there keys are))
+
+  pub stored_held : AreWithin (length ts) ks → All (IsWithin (length ts)) ps
+  stored_held held =
+      subst (All (IsWithin (length ts))) (get_or_from_slice_get ks n ps ps at) (All-get_or (All (IsWithin (length ts))) ks n ps (slice_get_within ks n ps at) held)
 
 -- The key of one column alone.
 pub key_alone : (by : List ℕ) (row : Row) (x : Item) → length by ≡ 1 → x ≡ slice_index_or row (get_or by 0 0) null → x ∷ [] ≡ key_of by row
@@ -171,44 +175,10 @@ pub numbered : {E : Type 0} (r : Result ℕ E) (ts : List (List ℕ)) (ks : List
 numbered (Ok n) ts ks k at = slice_get-map (key_of_parts ts) ks n ∙ ap (option_map (key_of_parts ts)) at
 numbered (Err e) ts ks k at = tt
 
--- The key at a place, by the number that is there, and by the parts.
-pub number_there : (ts : List (List ℕ)) (lists : List (List Part)) (keys : List (List Item)) (xs : List ℤ) (n : ℕ) (z : ℤ) → lists ≡ map parts_of_number xs
-    → keys_shown ts lists ≡ keys → n < length keys → z ≡ get_or xs n (pos 0) → key_of_parts ts (parts_of_number z) ≡ slice_index_or keys n []
-number_there ts lists keys xs n z shown are below is =
-    let long : n < length xs = omega (arith, below, ap length are, ap length shown, length-map lists (key_of_parts ts), length-map xs parts_of_number) in
-    key_there ts lists keys n (parts_of_number z) are below
-    (ap parts_of_number is ∙ sym (get_or-map parts_of_number xs n (pos 0) (parts_of_number z) long) ∙ ap (λ l. get_or l n (parts_of_number z)) (sym shown))
-
-pub list_there : (ts : List (List ℕ)) (lists : List (List Part)) (keys : List (List Item)) (xs : List (ArrayVec Part)) (n : ℕ) (v : ArrayVec Part) → lists ≡ parts_listed xs
-    → keys_shown ts lists ≡ keys → n < length keys → v ≡ get_or xs n v → key_of_parts ts v.items ≡ slice_index_or keys n []
-list_there ts lists keys xs n v shown are below is =
-    let items : ArrayVec Part → List Part = λ w. w.items in
-    let long : n < length xs = omega (arith, below, ap length are, ap length shown, length-map lists (key_of_parts ts), length-map xs items) in
-    key_there ts lists keys n v.items are below
-    (ap items is ∙ sym (get_or-map items xs n v v.items long) ∙ ap (λ l. get_or l n v.items) (sym shown))
-
-pub list_held : (ts : List (List ℕ)) (lists : List (List Part)) (keys : List (List Item)) (xs : List (ArrayVec Part)) (n : ℕ) (v : ArrayVec Part) → lists ≡ parts_listed xs
-    → keys_shown ts lists ≡ keys → n < length keys → v ≡ get_or xs n v → AreWithin (length ts) lists → All (IsWithin (length ts)) v.items
-list_held ts lists keys xs n v shown are below is held =
-    let W = All (IsWithin (length ts)) in
-    let items : ArrayVec Part → List Part = λ w. w.items in
-    let long : n < length xs = omega (arith, below, ap length are, ap length shown, length-map lists (key_of_parts ts), length-map xs items) in
-    let inside : n < length lists = omega (arith, long, ap length shown, length-map xs items) in
-    subst W (ap (λ l. get_or l n v.items) shown ∙ get_or-map items xs n v v.items long ∙ sym (ap items is)) (All-get_or W lists n v.items inside held)
-
-pub number_held : (ts : List (List ℕ)) (lists : List (List Part)) (keys : List (List Item)) (xs : List ℤ) (n : ℕ) (z : ℤ) → lists ≡ map parts_of_number xs
-    → keys_shown ts lists ≡ keys → n < length keys → z ≡ get_or xs n (pos 0) → AreWithin (length ts) lists → IsWithin (length ts) (part_of_number z)
-number_held ts lists keys xs n z shown are below is held =
-    let W = All (IsWithin (length ts)) in
-    let long : n < length xs = omega (arith, below, ap length are, ap length shown, length-map lists (key_of_parts ts), length-map xs parts_of_number) in
-    let inside : n < length lists = omega (arith, long, ap length shown, length-map xs parts_of_number) in
-    All-head (IsWithin (length ts)) (part_of_number z) []
-    (subst W (ap (λ l. get_or l n (parts_of_number z)) shown ∙ get_or-map parts_of_number xs n (pos 0) (parts_of_number z) long ∙ sym (ap parts_of_number is)) (All-get_or W lists n (parts_of_number z) inside held))
-
-pub items_told : {V E : Type 0} (r : Result V E) (f : V → List Item) (keys : List (List Item)) (n : ℕ) (k : List Item) → n < length keys → k ≡ slice_index_or keys n []
+pub items_told : {V E : Type 0} (r : Result V E) (f : V → List Item) (keys : List (List Item)) (n : ℕ) (k : List Item) → slice_get keys n ≡ Some k
     → IfOk r (λ v. f v ≡ k) → IfOk r (λ v. slice_get keys n ≡ Some (f v))
-items_told (Ok v) f keys n k below is h = slice_get-get_or keys n [] below ∙ ap Some (sym (h ∙ is))
-items_told (Err e) f keys n k below is h = tt
+items_told (Ok v) f keys n k at h = at ∙ ap Some (sym h)
+items_told (Err e) f keys n k at h = tt
 
 -- The keys are within, whether one was put in or not.
 pub within_placed : {E : Type 0} (r : Result ℕ E) (n : ℕ) (ks new : List (List Part)) (k : List Part) → All (IsWithin n) k → AreWithin n ks

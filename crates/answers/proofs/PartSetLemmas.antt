@@ -1,6 +1,6 @@
 -- Keys in a set, and their parts.
 use lib.Pointwise.{pointwise, pointwise_decides}
-use Rattle.std.proofs.Common.{◌≡◌, ◌∙◌, ℕ, zero, suc, ℤ, pos, negsuc, ◌+ℤ◌, ◌-ℤ◌, ◌≤ℤ◌, arith, ◌+◌, ◌<◌, ◌≤◌, Bool, true, false, ◌&&◌, ◌||◌, cond, ltb, List, [], ◌∷◌, ◌++◌, length, map, take, get_or, Some, refl, rules, sym, ap, true≢false}
+use Rattle.std.proofs.Common.{◌≡◌, ◌∙◌, ℕ, ℤ, pos, negsuc, ◌+ℤ◌, ◌-ℤ◌, ◌≤ℤ◌, arith, ◌+◌, ◌<◌, ◌≤◌, Bool, true, false, ◌&&◌, ◌||◌, cond, ltb, List, [], ◌∷◌, ◌++◌, length, map, take, get_or, Some, refl, rules, sym, ap, true≢false}
 use Rattle.std.specs.Prelude.{IfOk, Option, Result, Ok, Err, option_map, slice_get, int_lt, if◌then◌else◌}
 use Rattle.std.specs.Bool.{Decides}
 use Rattle.std.specs.Option.{ForSome}
@@ -13,6 +13,7 @@ use Rattle.std.proofs.lemmas.Int.{ints}
 use Rattle.types.specs.Number.{natural}
 use Rattle.std.proofs.lemmas.List.{map-append, take_all, take_more}
 use Rattle.std.proofs.lemmas.List.Sums.{fold_push}
+use Rattle.std.proofs.lemmas.Map.Keys.{any_passes_from_place}
 use Rattle.std.proofs.lemmas.Option.{slice_get-map}
 use Rattle.indexmap.specs.IndexSet.{insert_all, insert_key}
 use Rattle.indexmap.proofs.SetLemmas.{set_all_distinct}
@@ -153,20 +154,9 @@ number_alike x y =
       back e = sym (back_again x) ∙ ap (λ ps. number_back (get_or ps 0 part.Null)) e ∙ back_again y
 
 -- A number that is there isn't put there again, and a new one comes to the end.
-or_true : (a b : Bool) → b ≡ true → (a || b) ≡ true
-or_true true b h = refl
-or_true false b h = h
-
-among : (xs : List ℤ) (n : ℕ) (x : ℤ) → slice_get xs n ≡ Some x → list_any (int_eq x) xs ≡ true
-among [] n x at = absurd cc
-among (y ∷ xs) zero x at =
-    let is : y ≡ x = cc in
-    ap (λ b. b || list_any (int_eq x) xs) ((Decides-int_eq x y).1 (sym is))
-among (y ∷ xs) (suc n) x at = or_true (int_eq x y) (list_any (int_eq x) xs) (among xs n x at)
-
 pub number_again : (xs : List ℤ) (n : ℕ) (x : ℤ) → slice_get xs n ≡ Some x → map parts_of_number xs ≡ insert_key same_parts (map parts_of_number xs) (parts_of_number x)
 number_again xs n x at =
-    sym (ap (λ b. map parts_of_number (if b then xs else xs ++ x ∷ [])) (among xs n x at)) ∙ inserted_shown parts_of_number int_eq number_alike xs x
+    sym (ap (λ b. map parts_of_number (if b then xs else xs ++ x ∷ [])) (any_passes_from_place (int_eq x) xs n x at ((Decides-int_eq x x).1 refl))) ∙ inserted_shown parts_of_number int_eq number_alike xs x
 
 pub number_new : (xs new : List ℤ) (x : ℤ) → new ≡ xs ++ x ∷ [] → list_any (int_eq x) xs ≡ false
     → map parts_of_number new ≡ insert_key same_parts (map parts_of_number xs) (parts_of_number x)

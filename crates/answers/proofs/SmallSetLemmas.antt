@@ -1,15 +1,19 @@
 -- Where small numbers stand.
-use Rattle.std.proofs.Common.{◌≡◌, ◌∙◌, ℕ, ℤ, pos, negsuc, ◌+◌, ◌<◌, Bool, true, false, not, ◌||◌, List, [], ◌∷◌, ◌++◌, length, Some, Result, Ok, Err, refl, sym, ap, subst, arith, eqb-true, ltb, ltb-true, true≢false}
-use Rattle.std.specs.Prelude.{OnOk, if◌then◌else◌, nat_eq, slice_get, slice_index_or}
+use Rattle.std.proofs.Common.{◌≡◌, ◌∙◌, ℕ, ℤ, pos, negsuc, ◌+◌, ◌<◌, Bool, true, false, not, ◌||◌, List, [], ◌∷◌, ◌++◌, length, map, take, get_or, Some, Result, Ok, Err, refl, sym, ap, subst, arith, eqb-true, ltb, ltb-true, true≢false}
+use Rattle.std.specs.Prelude.{OnOk, if◌then◌else◌, nat_eq, slice_get, slice_index_or, unwrap_or}
 use Rattle.std.specs.List.{IsDistinct, list_any}
 use Rattle.std.specs.Ordering.{int_eq}
 use Rattle.std.proofs.lemmas.Bool.Decides.{Decides-int_eq}
 use Rattle.std.proofs.lemmas.Cmp.{int_eq_equiv, nat_eq_equiv}
 use Rattle.std.proofs.lemmas.Int.{ints}
+use Rattle.std.proofs.lemmas.List.{map-append, take_more}
 use Rattle.std.proofs.lemmas.List.Folds.{list_any-append}
+use Rattle.std.proofs.lemmas.List.Sums.{fold_push}
 use Rattle.std.proofs.lemmas.Map.Keys.{IsDistinct-push}
+use Rattle.std.proofs.lemmas.Option.{slice_get-get_or}
+use Rattle.indexmap.specs.IndexSet.{insert_all, insert_key}
 use Rattle.arrays.specs.Number.{natural}
-use Rattle.answers.specs.SmallSets.{ArePlaced, is_near, is_small, past_null, place_end}
+use Rattle.answers.specs.SmallSets.{ArePlaced, is_near, is_small, number_of_code, past_null, place_end}
 use Rattle.answers.proofs.KeyLemmas.{found_before, get_last}
 use Rattle.answers.proofs.SameLemmas.{both_true, either}
 
@@ -66,6 +70,24 @@ told_more numbers x end ends new placed free last is = record { there = there; a
       (λ h. list_any-append (int_eq z) numbers (x ∷ [])
       ∙ ap (λ b. b || (int_eq z x || false)) (placed.absent z (sym (apart z h) ∙ at)) ∙ ap (λ b. b || false) h)
 
+-- ---- codes
+
+-- The code of a number that comes to the end.
+pub code_pushed : (codes begun new : List ℕ) (code : ℕ) (z : ℤ) → begun ≡ codes → new ≡ begun ++ code ∷ [] → number_of_code code ≡ z
+    → map number_of_code new ≡ map number_of_code codes ++ z ∷ []
+code_pushed codes begun new code z same is stands =
+    ap (map number_of_code) (is ∙ ap (λ l. l ++ code ∷ []) same) ∙ map-append number_of_code codes (code ∷ [])
+    ∙ ap (λ x. map number_of_code codes ++ x ∷ []) stands
+
+-- ---- numbers that are hashed
+
+pub hashed_more : (xs keys new : List ℤ) (i : ℕ) (z : ℤ) → i < length xs → keys ≡ insert_all int_eq [] (take i xs) → slice_get xs i ≡ Some z → new ≡ insert_key int_eq keys z
+    → new ≡ insert_all int_eq [] (take (i + 1) xs)
+hashed_more xs keys new i z below are at is =
+    let here : z ≡ get_or xs i (pos 0) = ap (λ o. unwrap_or o (pos 0)) (sym at ∙ slice_get-get_or xs i (pos 0) below) in
+    is ∙ ap (λ l. insert_key int_eq l z) are ∙ ap (insert_key int_eq (insert_all int_eq [] (take i xs))) here
+    ∙ sym (ap (insert_all int_eq []) (take_more xs i (pos 0) below) ∙ fold_push (insert_key int_eq) [] (take i xs) (get_or xs i (pos 0)))
+
 -- ---- the two tables
 
 pub near_is : (z : ℤ) → is_near z ≡ true → (pos (natural z) ≡ z) × (natural z < 131072)
@@ -74,7 +96,7 @@ near_is (negsuc n) near = absurd (true≢false (sym near))
 
 -- A small number that isn't near itself is near past null.
 pub small_far : (z : ℤ) → is_small z ≡ true → is_near z ≡ false → is_near (past_null z) ≡ true
-small_far z small away = sym (ap (λ b. if b then true else is_near (past_null z)) away) ∙ small
+small_far z small away = sym (ap (λ b. b || is_near (past_null z)) away) ∙ small
 
 natural_same : (x z : ℤ) → is_near x ≡ true → is_near z ≡ true → natural z ≡ natural x → z ≡ x
 natural_same x z near here same = sym (near_is z here).0 ∙ ap pos same ∙ (near_is x near).0

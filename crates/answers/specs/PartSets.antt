@@ -31,10 +31,10 @@ parts_shown (set.Small numbers) = map parts_of_number numbers
 parts_shown (set.Numbers numbers) = map parts_of_number numbers.keys
 parts_shown (set.Lists lists) = parts_listed lists.keys
 
--- The same of keys that are lent.
-abbrev pub parts_stored : Stored → List (List Part)
-parts_stored (stored.Numbers numbers) = map parts_of_number numbers.now
-parts_stored (stored.Lists lists) = parts_listed lists.now
+-- The parts of one key.
+abbrev pub parts_stored : Stored → List Part
+parts_stored (stored.Alone p) = p ∷ []
+parts_stored (stored.Parts ps) = ps.now
 
 -- Whether two keys have the same parts.
 abbrev pub same_parts : List Part → List Part → Bool

@@ -31,7 +31,9 @@ impl BestNumber {
         requires high { number ≤ℤ pos (2 ^ 64) }
         ensures { number_if_any result.number ≡ with_item end (number_if_any self.number) (int number) }
     {
-        if self.number == NONE || is_further(end, self.number, number) {
+        // Without a jump for each test, since which of them holds is not to be foreseen.
+        let replaced = (self.number == NONE) | is_further(end, self.number, number);
+        if replaced {
             BestNumber { number }
         } else {
             self
@@ -43,14 +45,9 @@ impl BestNumber {
     pub(crate) fn or_better(self, end: End, other: BestNumber) -> BestNumber
         ensures { number_if_any result.number ≡ better (further end) (number_if_any self.number) (number_if_any other.number) }
     {
-        if self.number == NONE {
-            return other;
-        }
-        if other.number != NONE && is_further(end, self.number, other.number) {
-            other
-        } else {
-            self
-        }
+        let further = (other.number != NONE) & is_further(end, self.number, other.number);
+        let replaced = (self.number == NONE) | further;
+        if replaced { other } else { self }
     }
 
     /// The number, if there is one.

@@ -42,7 +42,9 @@ pub(crate) fn look_at_four<'a, T: Threads + Sync, G: Gate>(
     let front = move || -> (Looked, (Looked, Looked))
         requires { IsSync T.row × IsSync G.row × IsAsked (map arc_value batches.now) query.now cuts.rows cuts.pieces × (from + 4 ≤ cuts.pieces) }
         ensures { let bs = map arc_value batches.entry.now in
-            AreLooked (first_fields bs) query.entry.now (all_rows bs) cuts.pieces (from + 2) (from + 3) result.0 × AreLooked (first_fields bs) query.entry.now (all_rows bs) cuts.pieces (from + 1) (from + 2) result.1.0 × AreLooked (first_fields bs) query.entry.now (all_rows bs) cuts.pieces from (from + 1) result.1.1 }
+            AreLooked (first_fields bs) query.entry.now (all_rows bs) cuts.pieces (from + 2) (from + 3) result.0
+            × AreLooked (first_fields bs) query.entry.now (all_rows bs) cuts.pieces (from + 1) (from + 2) result.1.0
+            × AreLooked (first_fields bs) query.entry.now (all_rows bs) cuts.pieces from (from + 1) result.1.1 }
     { look_at_three(threads, alloc, batches, query, common, cuts, from, gate) };
     let back = move || -> Looked
         requires { IsSync G.row × IsAsked (map arc_value batches.now) query.now cuts.rows cuts.pieces × (from + 4 ≤ cuts.pieces) }
@@ -58,7 +60,7 @@ pub(crate) fn look_at_four<'a, T: Threads + Sync, G: Gate>(
         early: third,
         late: fourth,
     };
-    put_four(threads, alloc, front, back)
+    put_four(threads, alloc, cuts.pieces > 4, front, back)
 }
 
 /// What is known of three pieces, each alone, the last one first.
@@ -82,7 +84,8 @@ fn look_at_three<'a, T: Threads + Sync, G: Gate>(
     let front = move || -> (Looked, Looked)
         requires { IsSync T.row × IsSync G.row × IsAsked (map arc_value batches.now) query.now cuts.rows cuts.pieces × (from + 3 ≤ cuts.pieces) }
         ensures { let bs = map arc_value batches.entry.now in
-            AreLooked (first_fields bs) query.entry.now (all_rows bs) cuts.pieces (from + 1) (from + 2) result.0 × AreLooked (first_fields bs) query.entry.now (all_rows bs) cuts.pieces from (from + 1) result.1 }
+            AreLooked (first_fields bs) query.entry.now (all_rows bs) cuts.pieces (from + 1) (from + 2) result.0
+            × AreLooked (first_fields bs) query.entry.now (all_rows bs) cuts.pieces from (from + 1) result.1 }
     { look_at_two(threads, alloc, batches, query, common, cuts, from, gate) };
     let back = move || -> Looked
         requires { IsSync G.row × IsAsked (map arc_value batches.now) query.now cuts.rows cuts.pieces × (from + 3 ≤ cuts.pieces) }
@@ -106,7 +109,8 @@ fn look_at_two<'a, T: Threads + Sync, G: Gate>(
     requires asked { IsAsked (map arc_value batches.now) query.now cuts.rows cuts.pieces }
     requires within { from + 2 ≤ cuts.pieces }
     ensures { let bs = map arc_value batches.now in
-        AreLooked (first_fields bs) query.now (all_rows bs) cuts.pieces (from + 1) (from + 2) result.0 × AreLooked (first_fields bs) query.now (all_rows bs) cuts.pieces from (from + 1) result.1 }
+        AreLooked (first_fields bs) query.now (all_rows bs) cuts.pieces (from + 1) (from + 2) result.0
+        × AreLooked (first_fields bs) query.now (all_rows bs) cuts.pieces from (from + 1) result.1 }
 {
     let front = move || -> Looked
         requires { IsSync G.row × IsAsked (map arc_value batches.now) query.now cuts.rows cuts.pieces × (from + 2 ≤ cuts.pieces) }
@@ -121,10 +125,11 @@ fn look_at_two<'a, T: Threads + Sync, G: Gate>(
     join(threads, back, front)
 }
 
-/// What is known of all of these pieces.
+/// What is known of all of these pieces. There may be others.
 fn put_four<'a, T: Threads>(
     threads: &T,
     alloc: Global,
+    others: bool,
     front: Neighbours<'a>,
     back: Neighbours<'a>,
 ) -> Looked<'a>
@@ -134,14 +139,16 @@ fn put_four<'a, T: Threads>(
         → AreNeighbours fields q rows pieces from second third front.entry → AreNeighbours fields q rows pieces third fourth to back.entry
         → AreLooked fields q rows pieces from to result }
 {
-    let (late, early) = put_each(threads, alloc, front, back);
+    let (late, early) = put_each(threads, alloc, others, front, back);
     Neighbours { early, late }.put_together(alloc)
 }
 
-/// What is known of those behind, and of those in front. Where they have many groups, those behind are put together in a thread of their own.
+/// What is known of those behind, and of those in front. Where they have many groups, those behind are put together in a thread of their own,
+/// unless there are others, which have the processors busy.
 fn put_each<'a, T: Threads>(
     threads: &T,
     alloc: Global,
+    others: bool,
     front: Neighbours<'a>,
     back: Neighbours<'a>,
 ) -> (Looked<'a>, Looked<'a>)
@@ -154,7 +161,7 @@ fn put_each<'a, T: Threads>(
     ensures early { (fields : List FieldShape) (q : Query) (rows : Table) (pieces from middle to : ℕ)
         → AreNeighbours fields q rows pieces from middle to front.entry → AreLooked fields q rows pieces from to result.1 }
 {
-    if !are_many(&front.early) {
+    if others || !are_many(&front.early) {
         return (back.put_together(alloc), front.put_together(alloc));
     }
     do_both(threads, alloc, back, front)

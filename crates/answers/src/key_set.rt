@@ -16,7 +16,7 @@ ghost use Rattle.answers.specs.Values.{item_of_value};
 
 use crate::key_texts::KeyTexts;
 use crate::part::Part;
-use crate::part_set::{PartSet, Stored, part_of_number};
+use crate::part_set::{PartSet, Stored};
 use crate::text_set::TextSet;
 use crate::value::{Value, value_at};
 use arrays::RecordBatch;
@@ -114,11 +114,9 @@ impl<'a> KeySet<'a> {
         requires { number < length self.now }
         ensures { IfOk result (λ v. slice_get self.now number ≡ Some (map item_in v.items)) }
     {
-        match self.keys.stored() {
-            Stored::Numbers(numbers) => {
-                items_of(alloc, &self.texts, &[part_of_number(numbers[number])])
-            }
-            Stored::Lists(lists) => items_of(alloc, &self.texts, lists[number].as_slice()),
+        match self.keys.key_at(number) {
+            Stored::Alone(part) => items_of(alloc, &self.texts, &[part]),
+            Stored::Parts(parts) => items_of(alloc, &self.texts, parts),
         }
     }
 }
@@ -144,15 +142,14 @@ impl<'a> KeySet<'a> {
         ensures keys { OnOk result (self.new ≡ insert_key same_key self.old (slice_index_or other.now place [])) }
         ensures number { IfOk result (λ n. slice_get self.new n ≡ Some (slice_index_or other.now place [])) }
     {
-        match other.keys.stored() {
-            Stored::Numbers(numbers) => {
-                let part = part_of_number(numbers[place]);
+        match other.keys.key_at(place) {
+            Stored::Alone(part) => {
                 let renamed = renamed_part(&mut self.texts, &other.texts, part)?;
                 number_of_part(&self.texts, &mut self.keys, renamed)
             }
-            Stored::Lists(lists) => {
-                let parts = renamed_parts(&mut self.texts, &other.texts, lists[place].as_slice())?;
-                number_of_parts(&self.texts, &mut self.keys, parts)
+            Stored::Parts(parts) => {
+                let renamed = renamed_parts(&mut self.texts, &other.texts, parts)?;
+                number_of_parts(&self.texts, &mut self.keys, renamed)
             }
         }
     }

@@ -1,6 +1,6 @@
 //! The parts of keys, each key once.
 
-ghost use Rattle.std.specs.Prelude.{◌≡◌, ◌∷◌, [], IfOk, None, OnErr, OnOk, Some, length, map, slice_get};
+ghost use Rattle.std.specs.Prelude.{◌≡◌, ◌∷◌, ◌<◌, ◌≤◌, [], IfOk, None, OnErr, OnOk, Some, length, map, slice_get};
 ghost use Rattle.std.specs.Option.{ForSome};
 ghost use Rattle.std.specs.List.{IsDistinct};
 ghost use Rattle.std.specs.Ordering.{int_eq};
@@ -32,11 +32,10 @@ pub(crate) enum PartSet {
     Lists(IndexSet<ArrayVec<Part, 4>>),
 }
 
-/// The keys of a set as they stand there.
+/// A key of a set.
 pub(crate) enum Stored<'a> {
-    /// Numbers that stand for one part each.
-    Numbers(&'a [i128]),
-    Lists(&'a [ArrayVec<Part, 4>]),
+    Alone(Part),
+    Parts(&'a [Part]),
 }
 
 impl PartSet {
@@ -51,21 +50,24 @@ impl PartSet {
     pub(crate) fn len(&self) -> usize
         ensures { result ≡ length (parts_shown self.now) }
     {
-        match self.stored() {
-            Stored::Numbers(numbers) => numbers.len(),
-            Stored::Lists(lists) => lists.len(),
+        match self {
+            PartSet::Small(small) => small.len(),
+            PartSet::Numbers(numbers) => numbers.len(),
+            PartSet::Lists(lists) => lists.len(),
         }
     }
 
-    /// The keys.
+    /// The key at a place.
     #[inline(always)]
-    pub(crate) fn stored(&self) -> Stored<'_>
-        ensures { parts_stored result ≡ parts_shown self.now }
+    pub(crate) fn key_at(&self, place: usize) -> Stored<'_>
+        requires { place < length (parts_shown self.now) }
+        ensures there { slice_get (parts_shown self.now) place ≡ Some (parts_stored result) }
+        ensures few { length (parts_stored result) ≤ 4 }
     {
         match self {
-            PartSet::Small(small) => Stored::Numbers(small.as_slice()),
-            PartSet::Numbers(numbers) => Stored::Numbers(numbers.as_slice()),
-            PartSet::Lists(lists) => Stored::Lists(lists.as_slice()),
+            PartSet::Small(small) => Stored::Alone(part_of_number(small.number_at(place))),
+            PartSet::Numbers(numbers) => Stored::Alone(part_of_number(numbers.as_slice()[place])),
+            PartSet::Lists(lists) => Stored::Parts(lists.as_slice()[place].as_slice()),
         }
     }
 
@@ -145,7 +147,8 @@ impl PartSet {
     {
         match self {
             PartSet::Small(small) => {
-                let mut lists = lists_of(small.allocator(), small.as_slice())?;
+                let numbers = small.hashed()?;
+                let mut lists = lists_of(*numbers.allocator(), numbers.as_slice())?;
                 let place = place_in_lists(&mut lists, parts)?;
                 *self = PartSet::Lists(lists);
                 Ok(place)
@@ -213,7 +216,7 @@ fn lists_of(alloc: Global, numbers: &[i128]) -> Result<IndexSet<ArrayVec<Part, 4
 
 /// The part that a number among numbers stands for.
 #[inline(always)]
-pub(crate) fn part_of_number(number: i128) -> Part
+fn part_of_number(number: i128) -> Part
     ensures { result ≡ part_of_number number }
 {
     if number < NULL || LAST < number {

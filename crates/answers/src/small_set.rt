@@ -1,11 +1,10 @@
 //! Small numbers, each once.
 
-ghost use Rattle.std.specs.Prelude.{◌≡◌, ◌+◌, ◌<◌, ◌^◌, ◌++◌, ◌∷◌, [], IfOk, None, OnErr, OnOk, Some, false, if◌then◌else◌, nat_eq, slice_get, slice_index_or, true, ℕ, ℤ};
+ghost use Rattle.std.specs.Prelude.{◌≡◌, ◌+◌, ◌<◌, ◌^◌, ◌++◌, ◌∷◌, [], IfOk, None, OnErr, OnOk, Some, false, if◌then◌else◌, length, nat_eq, slice_get, slice_index_or, true, ℕ, ℤ};
 ghost use Rattle.std.specs.Option.{ForSome};
 ghost use Rattle.std.specs.List.{IsDistinct, list_any};
 ghost use Rattle.std.specs.Ordering.{int_eq};
-ghost use Rattle.indexmap.specs.IndexSet.{insert_key};
-ghost use Rattle.answers.specs.SmallSets.{is_near, is_small, past_null, place_end};
+ghost use Rattle.answers.specs.SmallSets.{is_near, is_small, number_of_code, past_null, place_end};
 
 use crate::ahead::make_room;
 use crate::code_keys::place_of;
@@ -22,7 +21,8 @@ const FEW: i128 = 131072;
 /// look; a hashed number takes two, of which the second waits for the first.
 #[derive(Drop)]
 pub(crate) struct SmallSet {
-    numbers: Vec<i128>,
+    /// What the numbers are in 32 bits.
+    codes: Vec<u32>,
     /// One more than the place of each number from 0 on, 0 where it has none.
     counts: Vec<u32>,
     /// The same of the numbers from null on.
@@ -30,17 +30,17 @@ pub(crate) struct SmallSet {
 }
 
 impl Model for SmallSet {
-    ghost use Rattle.std.specs.Prelude.{List, ℤ};
+    ghost use Rattle.std.specs.Prelude.{List, map, ℤ};
     ghost use Rattle.std.specs.Coded.{coded_list, coded_ℤ};
-    ghost use Rattle.answers.specs.SmallSets.{ArePlaced, place_end};
+    ghost use Rattle.answers.specs.SmallSets.{ArePlaced, number_of_code, place_end};
 
     ghost Value = { List ℤ };
 
     ghost coded = { coded_list coded_ℤ };
 
-    ghost view = { λ s. s.numbers.items };
+    ghost view = { λ s. map number_of_code s.codes.items };
 
-    ghost invariant = { λ s. ArePlaced s.numbers.items (place_end s.counts.items s.names.items) };
+    ghost invariant = { λ s. ArePlaced (map number_of_code s.codes.items) (place_end s.counts.items s.names.items) };
 }
 
 impl SmallSet {
@@ -49,18 +49,26 @@ impl SmallSet {
         ensures { result ≡ [] }
     {
         SmallSet {
-            numbers: Vec::new(alloc),
+            codes: Vec::new(alloc),
             counts: Vec::new(alloc),
             names: Vec::new(alloc),
         }
     }
 
-    /// The numbers, of which none comes twice.
-    pub(crate) fn as_slice(&self) -> &[i128]
-        ensures numbers { result.now ≡ self.now }
-        ensures once { IsDistinct int_eq self.now }
+    /// How many numbers there are.
+    pub(crate) fn len(&self) -> usize
+        ensures { result ≡ length self.now }
     {
-        self.numbers.as_slice()
+        self.codes.len()
+    }
+
+    /// The number at a place.
+    #[inline(always)]
+    pub(crate) fn number_at(&self, place: usize) -> i128
+        requires { place < length self.now }
+        ensures { slice_get self.now place ≡ Some result }
+    {
+        number_of_code(self.codes[place])
     }
 
     /// The place of a number, none where it isn't there.
@@ -83,32 +91,27 @@ impl SmallSet {
         ensures large { IfOk result (λ o. o ≡ None → self.new ≡ self.old) }
         ensures err { OnErr result (self.new ≡ self.old) }
     {
-        let place = self.numbers.len();
+        let place = self.codes.len();
         let Ok(end) = u32::try_from(place + 1) else {
             return Ok(None);
         };
         if !is_small(number) {
             return Ok(None);
         }
-        make_room(&mut self.numbers, place + 1);
-        self.numbers.reserve(1)?;
+        make_room(&mut self.codes, place + 1);
+        self.codes.reserve(1)?;
         put_end(&mut self.counts, &mut self.names, number, end)?;
-        self.numbers.push_reserved(number);
+        self.codes.push_reserved(code_of(number));
         Ok(Some(place))
-    }
-
-    /// Where its memory comes from.
-    pub(crate) fn allocator(&self) -> Global {
-        *self.numbers.allocator()
     }
 
     /// The same numbers, hashed.
     pub(crate) fn hashed(&self) -> Result<IndexSet<i128>, NoMemory>
         ensures { IfOk result (λ s. s.keys ≡ self.now) }
     {
-        let mut numbers = IndexSet::new(self.allocator());
-        for number in self.as_slice() {
-            numbers.insert_full(*number)?;
+        let mut numbers = IndexSet::new(*self.codes.allocator());
+        for place in 0..self.len() {
+            numbers.insert_full(self.number_at(place))?;
         }
         Ok(numbers)
     }
@@ -126,10 +129,31 @@ fn is_near(number: i128) -> bool
 fn is_small(number: i128) -> bool
     ensures { result ≡ is_small number }
 {
+    is_near(number) || (number >= NULL && is_near(number - NULL))
+}
+
+/// What a small number is in 32 bits.
+fn code_of(number: i128) -> u32
+    requires { is_small number ≡ true }
+    ensures { number_of_code result ≡ number }
+{
     if is_near(number) {
-        return true;
+        return number as u32;
     }
-    number >= NULL && is_near(number - NULL)
+    (number - NULL + FEW) as u32
+}
+
+/// The number of which this is the code.
+#[inline(always)]
+fn number_of_code(code: u32) -> i128
+    ensures { result ≡ number_of_code code }
+{
+    let number = i128::from(code);
+    if number < FEW {
+        number
+    } else {
+        number - FEW + NULL
+    }
 }
 
 /// One more than the place of a number, by both tables.

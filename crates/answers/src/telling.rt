@@ -19,7 +19,7 @@ use std::thread::{Threads, join};
 const FEW: usize = 4096;
 
 /// The groups from one up to another: of each its key, and what is told of its rows. Many are told in so many parts, side by side.
-/// The list has `room` for more.
+/// There is room for `room` groups in the list.
 #[cycle(telling)]
 pub(crate) fn tell_groups<T: Threads + Sync>(
     threads: &T,

@@ -4,5 +4,5 @@ use Rattle.indexmap.specs.IndexSet.{insert_all}
 use Rattle.answers.proofs.small_set.SmallSet.hashed.Given as goal
 
 -- The numbers so far.
-abbrev pub invariant-loop-number : goal.invariant-loop-number
-invariant-loop-number l = l.numbers.keys ≡ insert_all int_eq [] (take l.number-index l.self)
+abbrev pub invariant-loop-place : goal.invariant-loop-place
+invariant-loop-place l = l.numbers.keys ≡ insert_all int_eq [] (take l.place l.self)

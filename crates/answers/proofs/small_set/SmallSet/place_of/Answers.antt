@@ -9,7 +9,6 @@ pub returns-in_default-clause-there : goal.returns-in_default-clause-there
 returns-in_default-clause-there c n is =
     let x = c.args.number in
     let same = to_z-of_z w128 x c.ranges.number in
-    let numbers = c.self.inside.numbers.items in
     let told = rw same at c.place_end.ensures ∙ ap (λ l. place_end l c.as_slice-2.result.now x) c.as_slice.ensures.value
     ∙ ap (λ l. place_end c.self.inside.counts.items l x) c.as_slice-2.ensures.value in
     let some : n + 1 ≡ c.place_end.result = omega (arith, ap (λ o. unwrap_or o 0) is, c.in_default) in
