@@ -1,7 +1,7 @@
 -- What is remembered of keys stays true while keys come.
 use Rattle.std.proofs.Common.{◌≡◌, ◌∙◌, ℕ, zero, suc, ◌<◌, true, false, List, [], ◌∷◌, ◌++◌, ◌+◌, ◌-◌, take, length, map, get_or, replicate, Option, Some, None, Result, Ok, Err, IfOk, ℤ, pos, negsuc, refl, sym, ap, subst, arith}
-use Rattle.std.specs.Prelude.{All, OnOk, slice_get, slice_index_or, slice_set}
-use Rattle.std.proofs.lemmas.List.{get_or-map, length-map, map-append, take_more}
+use Rattle.std.specs.Prelude.{All, OnOk, slice_get, slice_index_or, slice_set, unwrap_or}
+use Rattle.std.proofs.lemmas.List.{get_or-map, length-map, length-replicate, map-append, take_more}
 use Rattle.std.proofs.lemmas.List.Elements.{All-get_or}
 use Rattle.std.proofs.lemmas.Bool.Decides.{nat_tests}
 use Rattle.std.proofs.lemmas.List.Sums.{fold_push}
@@ -13,13 +13,14 @@ use Rattle.std.proofs.lemmas.Option.{slice_get_within}
 use Rattle.indexmap.specs.IndexSet.{insert_key}
 use Rattle.arrays.specs.Batch.{Batch, row_of}
 use Rattle.arrays.specs.Dictionary.{codes_of, dictionary_of, encoded, is_code, looked_up}
-use Rattle.arrays.specs.Item.{Item, null, int}
+use Rattle.arrays.specs.Item.{Item, null, int, text}
+use Rattle.arrays.specs.Kind as kind
 use Rattle.arrays.specs.Number.{natural}
 use Rattle.arrays.specs.Seen.{Seen}
 use Rattle.arrays.specs.Slot.{item_of}
 use Rattle.answers.specs.Groups.{key_of}
 use Rattle.answers.specs.Keys.{AreNumbers, keys_at, with_keys}
-use Rattle.answers.specs.Memo.{AreKeys, IsNumbered, IsRemembered, KnowsEntries, KnowsItems, Remembers}
+use Rattle.answers.specs.Memo.{AreCommon, AreKeys, IsNumbered, IsRemembered, Knows, KnowsEntries, KnowsItems, Remembers}
 use Rattle.answers.specs.Same.{same_key}
 use Rattle.answers.specs.declared.memo.Memo.{Memo}
 use Rattle.answers.proofs.GroupLemmas.{Keys, inserted, is_among, numbers-push, slice_get-append}
@@ -47,12 +48,6 @@ there_already keys n k at = inserted keys k true (any_passes_from_place (same_ke
 
 -- ---- all that is remembered
 
-pub remembers-kept : (keys : Keys) (k : List Item) (m : Memo) → Remembers keys m → Remembers (insert_key same_key keys k) m
-remembers-kept keys k m h = record { null = remembered-kept keys k (null ∷ []) m.null h.null }
-
-pub remembers-more : (keys more : Keys) (m : Memo) → Remembers keys m → Remembers (with_keys keys more) m
-remembers-more keys more m h = record { null = remembered-more keys more (null ∷ []) m.null h.null }
-
 pub items-kept : (keys : Keys) (k : List Item) (items : List Item) (known : List (Option ℕ)) → KnowsItems keys items known → KnowsItems (insert_key same_key keys k) items known
 items-kept keys k items known h = record {
   room = h.room;
@@ -65,10 +60,72 @@ items-more keys more items known h = record {
   each = λ c. remembered-more keys more (slice_index_or items c null ∷ []) (slice_index_or known c None) (h.each c);
 }
 
+pub remembers-kept : (keys : Keys) (k : List Item) (m : Memo) → Remembers keys m → Remembers (insert_key same_key keys k) m
+remembers-kept keys k m h = record {
+  null = remembered-kept keys k (null ∷ []) m.null h.null;
+  common = λ are. items-kept keys k (map text m.common.now) m.entries.items (h.common are);
+}
+
+pub remembers-more : (keys more : Keys) (m : Memo) → Remembers keys m → Remembers (with_keys keys more) m
+remembers-more keys more m h = record {
+  null = remembered-more keys more (null ∷ []) m.null h.null;
+  common = λ are. items-more keys more (map text m.common.now) m.entries.items (h.common are);
+}
+
 pub entries-more : (keys more : Keys) (b : Batch) (by : List ℕ) (m : Memo) → KnowsEntries keys b by m → KnowsEntries (with_keys keys more) b by m
 entries-more keys more b by m h = record {
-  each = λ place c is at dict. items-more keys more c.entries.items m.entries.items (h.each place c is at dict);
+  each = λ place c is at dict.
+      let knows = h.each place c is at dict in
+      (items-more keys more c.entries.items m.entries.items knows.0, knows.1);
 }
+
+-- ---- another dictionary
+
+abbrev nothing : Option ℕ
+nothing = None
+
+blank : (n c : ℕ) → slice_index_or (replicate n nothing) c nothing ≡ nothing
+blank zero c = refl
+blank (suc n) zero = refl
+blank (suc n) (suc c) = blank n c
+
+none_known : (keys : Keys) (items : List Item) → KnowsItems keys items (replicate (length items) None)
+none_known keys items = record {
+  room = sym (length-replicate (length items) None);
+  each = λ c. subst (IsRemembered keys (slice_index_or items c null ∷ [])) (sym (blank (length items) c)) tt;
+}
+
+-- The memo n remembers what m does of null, and nothing of these entries.
+pub record IsBegun (m n : Memo) (items : List Item) : Type 0 where
+  pub null : n.null ≡ m.null
+  pub entries : n.entries.items ≡ replicate (length items) None
+  pub are : AreCommon items n
+
+pub begun : (keys : Keys) (m n : Memo) (items : List Item) → IsBegun m n items → Remembers keys m → Remembers keys n × Knows keys items n
+begun keys m n items is h =
+    let knows = subst (KnowsItems keys items) (sym is.entries) (none_known keys items) in (
+      record {
+        null = subst (IsRemembered keys (null ∷ [])) (sym is.null) h.null;
+        common = λ are. subst (λ l. KnowsItems keys l n.entries.items) (is.are are) knows;
+      },
+      (knows, is.are),
+    )
+
+-- The entries of the one column for keys are these.
+pub entries_of : (keys : Keys) (b : Batch) (by : List ℕ) (view : Seen) (m : Memo) → length by ≡ 1 → slice_get b.columns (get_or by 0 0) ≡ Some view
+    → Knows keys view.entries.items m → KnowsEntries keys b by m
+entries_of keys b by view m one at knows = record {
+  each = λ place c is there dict.
+      let same : Some view ≡ Some c = sym at ∙ ap (λ (l : List ℕ). slice_get b.columns (get_or l 0 0)) is ∙ there in
+      subst (λ (s : Seen). Knows keys s.entries.items m) (ap (λ o. unwrap_or o view) same) knows;
+}
+
+-- What is known of the entries of a batch is known of those of its one column for keys.
+pub entries_there : (keys : Keys) (b : Batch) (by : List ℕ) (view : Seen) (m : Memo) → KnowsEntries keys b by m → length by ≡ 1
+    → slice_get b.columns (get_or by 0 0) ≡ Some view → view.kind ≡ kind.dict → Knows keys view.entries.items m
+entries_there keys b [] view m h one at dict = absurd (omega (arith, one))
+entries_there keys b (p ∷ []) view m h one at dict = h.each p view refl at dict
+entries_there keys b (p ∷ q ∷ by) view m h one at dict = absurd (omega (arith, one))
 
 -- ---- something more is remembered
 
@@ -103,41 +160,70 @@ pub recalled : (keys : Keys) (key : List Item) (o : Option ℕ) (n : ℕ) → o 
 recalled keys key o n is h =
     let at = subst (IsRemembered keys key) is h in (record { keys_are = sym (there_already keys n key at); there = at }, h)
 
-same_null : (keys new : Keys) (m n : Memo) (key : List Item) → new ≡ insert_key same_key keys key → Remembers keys m → n.null ≡ m.null → Remembers new n
-same_null keys new m n key is h same = record {
-  null = subst (IsRemembered new (null ∷ [])) (sym same) (subst (λ (l : Keys). IsRemembered l (null ∷ []) m.null) (sym is) (remembered-kept keys key (null ∷ []) m.null h.null));
-}
+-- The memo with another number for null.
+abbrev pub with_null : Memo → Option ℕ → Memo
+with_null m now = record m { null = now }
 
-pub step_null : {E : Type 0} (r : Result ℕ E) (keys new : Keys) (m n : Memo) (key : List Item) → key ≡ null ∷ [] → Remembers keys m
-    → (IsRemembered keys key m.null → IfOk r (λ x. IsNumbered keys new key x × IsRemembered new key n.null)) → IfOk r (λ x. IsNumbered keys new key x × Remembers new n)
-step_null r keys new m n key is h f = go r (f (subst (λ k. IsRemembered keys k m.null) (sym is) h.null)) where
-  go : {E : Type 0} (r : Result ℕ E) → IfOk r (λ x. IsNumbered keys new key x × IsRemembered new key n.null) → IfOk r (λ x. IsNumbered keys new key x × Remembers new n)
-  go (Ok x) k = (k.0, record { null = subst (λ k. IsRemembered new k n.null) is k.1 })
+pub step_null : {E : Type 0} (r : Result ℕ E) (keys new : Keys) (m : Memo) (now : Option ℕ) (key : List Item) → key ≡ null ∷ [] → Remembers keys m
+    → (IsRemembered keys key m.null → IfOk r (λ x. IsNumbered keys new key x × IsRemembered new key now)) → IfOk r (λ x. IsNumbered keys new key x × Remembers new (with_null m now))
+step_null r keys new m now key is h f = go r (f (subst (λ k. IsRemembered keys k m.null) (sym is) h.null)) where
+  go : {E : Type 0} (r : Result ℕ E) → IfOk r (λ x. IsNumbered keys new key x × IsRemembered new key now) → IfOk r (λ x. IsNumbered keys new key x × Remembers new (with_null m now))
+  go (Ok x) k = (
+    k.0,
+    record {
+      null = subst (λ k. IsRemembered new k now) is k.1;
+      common = λ are. (subst (λ (l : Keys). Remembers l m) (sym k.0.keys_are) (remembers-kept keys key m h)).common are;
+    },
+  )
   go (Err e) k = tt
 
 -- The same, where something is remembered of a dictionary's entries too.
-pub step_no_entry : {E : Type 0} (r : Result ℕ E) (keys new : Keys) (m n : Memo) (key items : List Item) (known : List (Option ℕ)) → key ≡ null ∷ [] → Remembers keys m
-    → KnowsItems keys items known → (IsRemembered keys key m.null → IfOk r (λ x. IsNumbered keys new key x × IsRemembered new key n.null))
-    → IfOk r (λ x. IsNumbered keys new key x × Remembers new n × KnowsItems new items known)
-step_no_entry r keys new m n key items known is h knows f = go r (step_null r keys new m n key is h f) where
-  go : {E : Type 0} (r : Result ℕ E) → IfOk r (λ x. IsNumbered keys new key x × Remembers new n) → IfOk r (λ x. IsNumbered keys new key x × Remembers new n × KnowsItems new items known)
-  go (Ok x) k = (k.0, k.1, subst (λ (l : Keys). KnowsItems l items known) (sym k.0.keys_are) (items-kept keys key items known knows))
+pub step_no_entry : {E : Type 0} (r : Result ℕ E) (keys new : Keys) (m : Memo) (now : Option ℕ) (key items : List Item) → key ≡ null ∷ [] → Remembers keys m
+    → Knows keys items m → (IsRemembered keys key m.null → IfOk r (λ x. IsNumbered keys new key x × IsRemembered new key now))
+    → IfOk r (λ x. IsNumbered keys new key x × Remembers new (with_null m now) × Knows new items (with_null m now))
+step_no_entry r keys new m now key items is h knows f = go r (step_null r keys new m now key is h f) where
+  go : {E : Type 0} (r : Result ℕ E) → IfOk r (λ x. IsNumbered keys new key x × Remembers new (with_null m now))
+      → IfOk r (λ x. IsNumbered keys new key x × Remembers new (with_null m now) × Knows new items (with_null m now))
+  go (Ok x) k = (
+    k.0,
+    k.1,
+    (subst (λ (l : Keys). KnowsItems l items m.entries.items) (sym k.0.keys_are) (items-kept keys key items m.entries.items knows.0), knows.1),
+  )
   go (Err e) k = tt
 
+-- A memo that differs from another in the number of one entry alone.
+pub record IsSet (m n : Memo) (place : ℕ) (now : Option ℕ) : Type 0 where
+  pub null : n.null ≡ m.null
+  pub are : n.are_common ≡ m.are_common
+  pub common : n.common.now ≡ m.common.now
+  pub entries : n.entries.items ≡ slice_set m.entries.items place now
+
+set_known : (keys new : Keys) (m n : Memo) (key items : List Item) (place : ℕ) (now : Option ℕ) → IsSet m n place now → key ≡ slice_index_or items place null ∷ []
+    → Knows keys items m → place < length m.entries.items → new ≡ insert_key same_key keys key → IsRemembered new key now → Knows new items n
+set_known keys new m n key items place now set is knows within more known =
+    let kept = subst (λ (l : Keys). KnowsItems l items m.entries.items) (sym more) (items-kept keys key items m.entries.items knows.0) in (
+      subst (KnowsItems new items) (sym set.entries) (items-set new items m.entries.items place now kept within (subst (λ k. IsRemembered new k now) is known)),
+      λ are. knows.1 (sym set.are ∙ are) ∙ ap (map text) (sym set.common),
+    )
+
 pub step_entry : {E : Type 0} (r : Result ℕ E) (keys new : Keys) (m n : Memo) (key items : List Item) (place : ℕ) (old now : Option ℕ) → key ≡ slice_index_or items place null ∷ []
-    → Remembers keys m → KnowsItems keys items m.entries.items → place < length m.entries.items → old ≡ slice_index_or m.entries.items place None
-    → n.null ≡ m.null → (IsRemembered keys key old → IfOk r (λ x. IsNumbered keys new key x × IsRemembered new key now))
-    → IfOk r (λ x. IsNumbered keys new key x × Remembers new n × KnowsItems new items (slice_set m.entries.items place now))
-step_entry r keys new m n key items place old now is h knows within at same f =
-    go r (f (subst (λ k. IsRemembered keys k old) (sym is) (subst (IsRemembered keys (slice_index_or items place null ∷ [])) (sym at) (knows.each place)))) where
+    → Remembers keys m → Knows keys items m → place < length m.entries.items → old ≡ slice_index_or m.entries.items place None
+    → IsSet m n place now → (IsRemembered keys key old → IfOk r (λ x. IsNumbered keys new key x × IsRemembered new key now))
+    → IfOk r (λ x. IsNumbered keys new key x × Remembers new n × Knows new items n)
+step_entry r keys new m n key items place old now is h knows within at set f =
+    go r (f (subst (λ k. IsRemembered keys k old) (sym is) (subst (IsRemembered keys (slice_index_or items place null ∷ [])) (sym at) (knows.0.each place)))) where
       go : {E : Type 0} (r : Result ℕ E) → IfOk r (λ x. IsNumbered keys new key x × IsRemembered new key now)
-          → IfOk r (λ x. IsNumbered keys new key x × Remembers new n × KnowsItems new items (slice_set m.entries.items place now))
-      go (Ok x) k = (
-        k.0,
-        same_null keys new m n key k.0.keys_are h same,
-        items-set new items m.entries.items place now (subst (λ (l : Keys). KnowsItems l items m.entries.items) (sym k.0.keys_are) (items-kept keys key items m.entries.items knows)) within
-            (subst (λ k. IsRemembered new k now) is k.1),
-      )
+          → IfOk r (λ x. IsNumbered keys new key x × Remembers new n × Knows new items n)
+      go (Ok x) k =
+          let known = set_known keys new m n key items place now set is knows within k.0.keys_are k.1 in
+          let kept = subst (λ (l : Keys). Remembers l m) (sym k.0.keys_are) (remembers-kept keys key m h) in (
+            k.0,
+            record {
+              null = subst (IsRemembered new (null ∷ [])) (sym set.null) kept.null;
+              common = λ are. subst (λ l. KnowsItems new l n.entries.items) (known.1 are) known.0;
+            },
+            known,
+          )
       go (Err e) k = tt
 
 -- The number of a key of which nothing is remembered.
@@ -219,12 +305,12 @@ one_key keys new [] columns (r ∷ rows) n row none some is at = (
   subst (λ (l : Keys). AreNumbers new l (replicate (suc (length rows)) n)) (sym (no_keys columns (r ∷ rows))) (numbers-alike new [] n at (suc (length rows))),
 )
 
-pub resized : (xs : List ℕ) (m k n : ℕ) → xs ≡ [] → k ≡ 0 → take m xs ++ replicate (m - k) n ≡ replicate m n
+pub resized : {A : Type 0} (xs : List A) (m k : ℕ) (n : A) → xs ≡ [] → k ≡ 0 → take m xs ++ replicate (m - k) n ≡ replicate m n
 resized (x ∷ xs) m k n none zeros = absurd cc
-resized [] m k n none zeros =
+resized {A} [] m k n none zeros =
     let e : m - k ≡ m = omega (arith, zeros) in
-    ap (λ (l : List ℕ). l ++ replicate (m - k) n) (nothing m) ∙ ap (λ j. replicate j n) e where
-      nothing : (m : ℕ) → take {A = ℕ} m [] ≡ []
+    ap (λ (l : List A). l ++ replicate (m - k) n) (nothing m) ∙ ap (λ j. replicate j n) e where
+      nothing : (m : ℕ) → take {A = A} m [] ≡ []
       nothing zero = refl
       nothing (suc m) = refl
 

@@ -27,12 +27,12 @@ pub(crate) fn common_texts(
     Ok(texts)
 }
 
-/// The batch of the most rows.
+/// The last batch of the most rows: where batches share a dictionary that grows, it has the most entries there.
 fn longest(batches: &[Arc<RecordBatch>]) -> Option<&RecordBatch> {
     let mut longest: Option<&RecordBatch> = None;
     for batch in batches {
         match longest {
-            Some(other) if batch.rows() <= other.rows() => {}
+            Some(other) if batch.rows() < other.rows() => {}
             _ => longest = Some(batch),
         }
     }

@@ -28,7 +28,7 @@ use std::alloc::Global;
 #[derive(Drop)]
 pub(crate) struct Grouping<'a> {
     pub(crate) keys: KeySet<'a>,
-    pub(crate) memo: Memo,
+    pub(crate) memo: Memo<'a>,
     /// What each aggregate knows of the rows of each key.
     pub(crate) columns: Vec<TallyColumn>,
     /// The numbers of the groups of the rows that are added, kept for the next ones.
@@ -51,7 +51,7 @@ impl<'a> Grouping<'a> {
         let columns = new_columns(alloc, query.aggs.as_slice(), keys.len())?;
         Ok(Grouping {
             keys,
-            memo: Memo::new(alloc),
+            memo: Memo::new(alloc, common),
             columns,
             numbers: Vec::new(alloc),
         })
@@ -61,7 +61,7 @@ impl<'a> Grouping<'a> {
     pub(crate) fn begin(&mut self, query: &Query, batch: &RecordBatch) -> Result<(), NoMemory>
         requires { fits batch.now.fields (asked query.now) ≡ true }
         ensures kept { (rows : Table) → HasGroups query.now rows self.old → OnOk result (HasGroups query.now rows self.new) }
-        ensures ready { OnOk result (IsReadyFor batch.now query.now self.new) }
+        ensures ready { (rows : Table) → HasGroups query.now rows self.old → OnOk result (IsReadyFor batch.now query.now self.new) }
     {
         self.memo.begin(batch, query.by.as_slice())
     }

@@ -1,9 +1,12 @@
 //! The keys of groups, each once.
 
 ghost use Rattle.std.specs.Prelude.{◌≡◌, ◌∷◌, ◌<◌, ◌≤◌, [], All, IfOk, None, OnOk, Some, length, map, slice_get, slice_index_or};
+ghost use Rattle.std.specs.Option.{option_copied};
 ghost use mathlib.Core.List.{IsPrefix};
 ghost use Rattle.arrays.specs.Batch.{row_of};
-ghost use Rattle.arrays.specs.Item.{int};
+ghost use Rattle.arrays.specs.Item.{int, null};
+ghost use Rattle.arrays.specs.Kind as kind;
+ghost use Rattle.arrays.specs.Slot.{item_of_text};
 ghost use Rattle.indexmap.specs.IndexSet.{insert_key};
 ghost use Rattle.query.specs.Columns.{sort_at};
 ghost use Rattle.query.specs.Fault.{key_fault};
@@ -19,7 +22,7 @@ use crate::part::Part;
 use crate::part_set::{PartSet, Stored};
 use crate::text_set::TextSet;
 use crate::value::{Value, value_at};
-use arrays::RecordBatch;
+use arrays::{RecordBatch, View};
 use arrayvec::ArrayVec;
 use colbits::NoMemory;
 use group::Scalar;
@@ -69,15 +72,13 @@ impl<'a> KeySet<'a> {
         self.keys.len()
     }
 
-    /// The number of a row's key, which is put at the end where it is new. If it is a text alone, the text is likely to have this place,
-    /// if one is told.
+    /// The number of a row's key, which is put at the end where it is new.
     #[inline(never)]
     pub(crate) fn number_of(
         &mut self,
         batch: &RecordBatch,
         by: &[u32],
         row: usize,
-        likely: Option<usize>,
     ) -> Result<usize, NoMemory>
         requires few { length by.now ≤ 4 }
         requires plain { All (λ c. key_fault (sort_at batch.now.fields) c ≡ None) by.now }
@@ -88,7 +89,7 @@ impl<'a> KeySet<'a> {
             ≡ Some (key_of by.now (row_of batch.now.columns row))) }
     {
         if by.len() == 1 {
-            let part = part_of(&mut self.texts, value_at(batch, by[0], row), likely)?;
+            let part = part_of(&mut self.texts, value_at(batch, by[0], row))?;
             return number_of_part(&self.texts, &mut self.keys, part);
         }
         let parts = parts_of(&mut self.texts, batch, by, row)?;
@@ -97,6 +98,23 @@ impl<'a> KeySet<'a> {
 }
 
 impl<'a> KeySet<'a> {
+    /// The number of the key of a dictionary's entry alone, which is put at the end where it is new. It is likely to have this place among
+    /// the texts too.
+    #[inline(never)]
+    pub(crate) fn number_of_entry(
+        &mut self,
+        entries: &View<'_>,
+        place: usize,
+    ) -> Result<usize, NoMemory>
+        requires utf8 { entries.now.kind ≡ kind.utf8 }
+        requires within { place < length entries.now.items }
+        ensures keys { OnOk result (self.new ≡ insert_key same_key self.old (slice_index_or entries.now.items place null ∷ [])) }
+        ensures number { IfOk result (λ n. slice_get self.new n ≡ Some (slice_index_or entries.now.items place null ∷ [])) }
+    {
+        let part = likely_part(&mut self.texts, entries.utf8_at(place), place)?;
+        number_of_part(&self.texts, &mut self.keys, part)
+    }
+
     /// Puts the key of no items at the end, unless it is there.
     pub(crate) fn add_empty(&mut self) -> Result<(), NoMemory>
         ensures { OnOk result (self.new ≡ insert_key same_key self.old []) }
@@ -232,7 +250,7 @@ fn parts_of(
     let mut parts = ArrayVec::new();
     for place in by {
         let value = value_at(batch, *place, row);
-        parts.push(part_of(texts, value, None)?);
+        parts.push(part_of(texts, value)?);
     }
     Ok(parts)
 }
@@ -296,12 +314,8 @@ fn value_of<'b>(texts: &'b KeyTexts<'_>, part: Part) -> Value<'b>
     }
 }
 
-/// The part that stands for an item. Its text is among the texts then, and likely to have this place, if one is told.
-fn part_of(
-    texts: &mut KeyTexts<'_>,
-    value: Value<'_>,
-    likely: Option<usize>,
-) -> Result<Part, NoMemory>
+/// The part that stands for an item. Its text is among the texts then.
+fn part_of(texts: &mut KeyTexts<'_>, value: Value<'_>) -> Result<Part, NoMemory>
     ensures item { IfOk result (λ p. item_of_part texts.new p ≡ item_of_value value.entry) }
     ensures within { IfOk result (λ p. IsWithin (length texts.new) p) }
     ensures begins { IsPrefix texts.old texts.new }
@@ -310,9 +324,23 @@ fn part_of(
         Value::Null => Ok(Part::Null),
         Value::Int(number) => Ok(Part::Int(number)),
         Value::Bool(truth) => Ok(Part::Bool(truth)),
-        Value::Text(text) => match likely {
-            Some(place) => Ok(Part::Text(texts.add_likely(text, place)?)),
-            None => Ok(Part::Text(texts.add(text)?)),
-        },
+        Value::Text(text) => Ok(Part::Text(texts.add(text)?)),
+    }
+}
+
+/// The part that stands for a text, or for null. The text is among the texts then, and likely to have this place.
+#[inline(always)]
+fn likely_part(
+    texts: &mut KeyTexts<'_>,
+    text: Option<&str>,
+    likely: usize,
+) -> Result<Part, NoMemory>
+    ensures item { IfOk result (λ p. item_of_part texts.new p ≡ item_of_text (option_copied text.entry)) }
+    ensures within { IfOk result (λ p. IsWithin (length texts.new) p) }
+    ensures begins { IsPrefix texts.old texts.new }
+{
+    match text {
+        Some(text) => Ok(Part::Text(texts.add_likely(text, likely)?)),
+        None => Ok(Part::Null),
     }
 }

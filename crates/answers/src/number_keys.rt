@@ -19,7 +19,7 @@ use colbits::NoMemory;
 /// Puts the number of each row's key there, whose one item is the row's in this column.
 pub(crate) fn number_numbers(
     keys: &mut KeySet<'_>,
-    memo: &mut Memo,
+    memo: &mut Memo<'_>,
     numbers: &mut Vec<usize>,
     batch: &RecordBatch,
     by: &[u32],
@@ -56,7 +56,7 @@ pub(crate) fn number_numbers(
 /// The same, for a column of type `T`.
 fn number_as<T: Integer>(
     keys: &mut KeySet<'_>,
-    memo: &mut Memo,
+    memo: &mut Memo<'_>,
     numbers: &mut Vec<usize>,
     batch: &RecordBatch,
     by: &[u32],
@@ -87,7 +87,7 @@ fn number_as<T: Integer>(
 #[inline(always)]
 fn number_of_item(
     keys: &mut KeySet<'_>,
-    memo: &mut Memo,
+    memo: &mut Memo<'_>,
     batch: &RecordBatch,
     by: &[u32],
     row: usize,
@@ -103,6 +103,6 @@ fn number_of_item(
 {
     match number {
         Some(number) => keys.place_of_number(number),
-        None => number_by(&mut memo.null, keys, batch, by, row, None),
+        None => number_by(&mut memo.null, keys, batch, by, row),
     }
 }

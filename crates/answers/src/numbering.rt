@@ -19,7 +19,7 @@ use colbits::NoMemory;
 /// Puts the number of each row's key in place of what was there. A key that is new is put at the end.
 pub(crate) fn number_rows(
     keys: &mut KeySet<'_>,
-    memo: &mut Memo,
+    memo: &mut Memo<'_>,
     numbers: &mut Vec<usize>,
     batch: &RecordBatch,
     by: &[u32],
@@ -67,7 +67,7 @@ fn number_alike(
     if rows.is_empty() {
         return Ok(());
     }
-    let number = keys.number_of(batch, by, rows[0], None)?;
+    let number = keys.number_of(batch, by, rows[0])?;
     numbers.resize(rows.len(), number)?;
     Ok(())
 }
@@ -88,7 +88,7 @@ fn number_each(
     ensures numbers { OnOk result (AreNumbers keys.new (keys_at by.now batch.now.columns rows.now) numbers.new.items) }
 {
     for row in rows {
-        numbers.push(keys.number_of(batch, by, *row, None)?)?;
+        numbers.push(keys.number_of(batch, by, *row)?)?;
     }
     Ok(())
 }

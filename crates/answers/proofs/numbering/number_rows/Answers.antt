@@ -3,8 +3,13 @@ use Rattle.answers.specs.Keys.{keys_at}
 use Rattle.answers.specs.Memo.{Remembers}
 use Rattle.answers.proofs.ColumnLemmas.{on_ok}
 use Rattle.answers.proofs.GroupLemmas.{Keys}
-use Rattle.answers.proofs.MemoLemmas.{remembers-more}
+use Rattle.answers.proofs.MemoLemmas.{entries_there, remembers-more}
 use Rattle.answers.proofs.numbering.number_rows.Goals as goal
+
+pub number_codes-requires-clause-knows : goal.number_codes-requires-clause-knows
+number_codes-requires-clause-knows c =
+    let view = c.column_at-view.result in
+    entries_there c.args.keys.now c.args.batch.now c.args.by.now view c.args.memo.now c.requires.knows c.if-by-eq1.true c.column_at-view.ensures.column (sym c.in-Dict.ensures)
 
 pub returns-then-is_empty-clause-remembers : goal.returns-then-is_empty-clause-remembers
 returns-then-is_empty-clause-remembers c =

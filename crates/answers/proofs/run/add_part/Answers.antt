@@ -17,7 +17,7 @@ loop-at-init c =
       omega arith,
       λ before has. subst (λ (l : Table). HasKept b.fields q l c.begin.new.self) (sym (append-nil before)) (c.in_ok-begin.ensures.kept (filter (is_kept b.fields (asked q).filter) before) has),
       λ i below. absurd (omega (arith, below)),
-      c.in_ok-begin.ensures.ready,
+      c.in_ok-begin.ensures.ready (filter (is_kept b.fields (asked q).filter) c.requires.room.0) c.requires.room.2,
     )
 
 pub add_slice-requires-clause-room : goal.add_slice-requires-clause-room

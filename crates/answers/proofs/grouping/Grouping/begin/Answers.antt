@@ -1,8 +1,9 @@
 use Rattle.std.proofs.Common.{◌≡◌, None, subst, sym}
-use Rattle.std.specs.Prelude.{All}
+use Rattle.std.specs.Prelude.{All, OnOk}
 use Rattle.query.specs.Asked.{asked}
 use Rattle.query.specs.Columns.{sort_at}
 use Rattle.query.specs.Fault.{key_fault}
+use Rattle.answers.specs.Memo.{KnowsEntries}
 use Rattle.answers.proofs.ColumnLemmas.{on_ok}
 use Rattle.answers.proofs.FitLemmas.{what_fits}
 use Rattle.answers.proofs.grouping.Grouping.begin.Goals as goal
@@ -15,3 +16,8 @@ begin-requires c = record {
 
 pub returns-clause-kept : goal.returns-clause-kept
 returns-clause-kept c = λ rows h. on_ok c.begin.result (λ r. (h.0, r)) (c.begin.ensures.kept c.args.self.now.keys h.1)
+
+pub returns-clause-ready : goal.returns-clause-ready
+returns-clause-ready c = λ rows h.
+    subst (λ by. OnOk c.begin.result (KnowsEntries c.args.self.now.keys c.args.batch.now by c.begin.new.self)) c.as_slice.ensures.value
+    (c.begin.ensures.entries c.args.self.now.keys h.1)
