@@ -72,13 +72,6 @@ remembers-more keys more m h = record {
   common = λ are. items-more keys more (map text m.common.now) m.entries.items (h.common are);
 }
 
-pub entries-more : (keys more : Keys) (b : Batch) (by : List ℕ) (m : Memo) → KnowsEntries keys b by m → KnowsEntries (with_keys keys more) b by m
-entries-more keys more b by m h = record {
-  each = λ place c is at dict.
-      let knows = h.each place c is at dict in
-      (items-more keys more c.entries.items m.entries.items knows.0, knows.1);
-}
-
 -- ---- another dictionary
 
 abbrev nothing : Option ℕ

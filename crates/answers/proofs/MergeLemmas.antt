@@ -1,7 +1,8 @@
 -- The groups of rows and of rows behind them are those of both, put together.
-use Rattle.std.proofs.Common.{◌≡◌, ◌∙◌, ℕ, ℤ, ◌+◌, ◌+ℤ◌, Bool, true, false, not, ◌||◌, cond, List, [], ◌∷◌, ◌++◌, length, map, Some, None, Option, refl, sym, ap, subst, arith, length-append}
+use Rattle.std.proofs.Common.{◌≡◌, ◌∙◌, ℕ, ℤ, ◌+◌, ◌+ℤ◌, true, false, not, ◌||◌, cond, List, [], ◌∷◌, ◌++◌, length, map, Some, None, Option, refl, sym, ap, subst, arith, length-append}
 use Rattle.std.specs.Prelude.{All, slice_get, slice_index_or}
 use Rattle.std.specs.List.{AllByRecursion, IsDistinct, fold, reduce}
+use Rattle.std.proofs.Math.Bool.{or-true}
 use Rattle.std.proofs.lemmas.Int.{ints}
 use Rattle.std.proofs.lemmas.List.{append-nil, get_or-map}
 use Rattle.std.proofs.lemmas.List.Elements.{All-head, All-tail, filter-append, filter_map-append}
@@ -36,10 +37,6 @@ use Rattle.answers.proofs.SameLemmas.{either, same_key-Decides, same_key_equiv}
 
 -- ---- keys
 
-or_true : (b : Bool) → (b || true) ≡ true
-or_true true = refl
-or_true false = refl
-
 among-kept : (keys more : Keys) (x : List Item) → is_among keys x ≡ true → is_among (with_keys keys more) x ≡ true
 among-kept keys more x here =
     let g = grown keys more in
@@ -50,7 +47,7 @@ among-inserted keys x =
     either (is_among keys x)
     (λ there. ap (λ (l : Keys). is_among l x) (inserted keys x true there) ∙ there)
     (λ absent. ap (λ (l : Keys). is_among l x) (inserted keys x false absent) ∙ list_any-append (same_key x) keys (x ∷ [])
-    ∙ ap (λ b. is_among keys x || (b || false)) (same_key_equiv.refl x) ∙ or_true (is_among keys x))
+    ∙ ap (λ b. is_among keys x || (b || false)) (same_key_equiv.refl x) ∙ or-true (is_among keys x))
 
 among-more : (keys more : Keys) (x : List Item) → is_among more x ≡ true → is_among (with_keys keys more) x ≡ true
 among-more keys [] x here = absurd cc

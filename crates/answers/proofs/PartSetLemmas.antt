@@ -11,8 +11,7 @@ use Rattle.std.proofs.lemmas.Bool.{eqb-true, ltb-false}
 use Rattle.std.proofs.lemmas.Bool.Decides.{Decides-int_eq}
 use Rattle.std.proofs.lemmas.Int.{ints}
 use Rattle.types.specs.Number.{natural}
-use Rattle.std.proofs.lemmas.List.{map-append, take_all, take_more}
-use Rattle.std.proofs.lemmas.List.Sums.{fold_push}
+use Rattle.std.proofs.lemmas.List.{map-append, take_all}
 use Rattle.std.proofs.lemmas.Map.Keys.{any_passes_from_place}
 use Rattle.std.proofs.lemmas.Option.{slice_get-map}
 use Rattle.indexmap.specs.IndexSet.{insert_all, insert_key}
@@ -23,6 +22,7 @@ use Rattle.answers.specs.contracts.part.PartPartialEq as derived
 use Rattle.answers.specs.Parts.{same_part}
 use Rattle.answers.specs.PartSets.{part_of_number, parts_of_number, same_parts}
 use Rattle.answers.proofs.SameLemmas.{either}
+use Rattle.answers.proofs.SmallSetLemmas.{one_more}
 
 -- ---- the derived test
 
@@ -181,7 +181,7 @@ listed_more xs i lists new ps below are here is =
     let front = insert_all int_eq [] (take i xs) in
     is ∙ ap (insert_key same_parts lists) here ∙ ap (λ l. insert_key same_parts l (parts_of_number x)) are
     ∙ sym (inserted_shown parts_of_number int_eq number_alike front x)
-    ∙ ap (map parts_of_number) (sym (ap (insert_all int_eq []) (take_more xs i (pos 0) below) ∙ fold_push (insert_key int_eq) [] (take i xs) x))
+    ∙ ap (map parts_of_number) (sym (one_more xs i below))
 
 pub listed_all : (xs : List ℤ) (n : ℕ) (lists : List (List Part)) → length xs ≤ n → IsDistinct int_eq xs
     → lists ≡ map parts_of_number (insert_all int_eq [] (take n xs)) → lists ≡ map parts_of_number xs

@@ -81,12 +81,15 @@ code_pushed codes begun new code z same is stands =
 
 -- ---- numbers that are hashed
 
+-- One more of a list, put into the set of those before it.
+pub one_more : (xs : List ℤ) (i : ℕ) → i < length xs → insert_all int_eq [] (take (i + 1) xs) ≡ insert_key int_eq (insert_all int_eq [] (take i xs)) (get_or xs i (pos 0))
+one_more xs i below = ap (insert_all int_eq []) (take_more xs i (pos 0) below) ∙ fold_push (insert_key int_eq) [] (take i xs) (get_or xs i (pos 0))
+
 pub hashed_more : (xs keys new : List ℤ) (i : ℕ) (z : ℤ) → i < length xs → keys ≡ insert_all int_eq [] (take i xs) → slice_get xs i ≡ Some z → new ≡ insert_key int_eq keys z
     → new ≡ insert_all int_eq [] (take (i + 1) xs)
 hashed_more xs keys new i z below are at is =
     let here : z ≡ get_or xs i (pos 0) = ap (λ o. unwrap_or o (pos 0)) (sym at ∙ slice_get-get_or xs i (pos 0) below) in
-    is ∙ ap (λ l. insert_key int_eq l z) are ∙ ap (insert_key int_eq (insert_all int_eq [] (take i xs))) here
-    ∙ sym (ap (insert_all int_eq []) (take_more xs i (pos 0) below) ∙ fold_push (insert_key int_eq) [] (take i xs) (get_or xs i (pos 0)))
+    is ∙ ap (λ l. insert_key int_eq l z) are ∙ ap (insert_key int_eq (insert_all int_eq [] (take i xs))) here ∙ sym (one_more xs i below)
 
 -- ---- the two tables
 

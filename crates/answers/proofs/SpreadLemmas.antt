@@ -1,7 +1,8 @@
 -- Things that are put into groups.
-use Rattle.std.proofs.Common.{◌≡◌, ◌∙◌, ℕ, zero, suc, ◌+◌, ◌<◌, ◌≤◌, List, [], ◌∷◌, ◌++◌, length, map, take, get_or, refl, sym, ap, arith, length-append}
-use Rattle.std.specs.Prelude.{slice_index_or, slice_set}
-use Rattle.std.proofs.lemmas.List.{get_or-map, length-map, map-append, take_more}
+use Rattle.std.proofs.Common.{◌≡◌, ◌∙◌, ℕ, zero, suc, ◌+◌, ◌<◌, ◌≤◌, List, [], ◌∷◌, ◌++◌, length, map, take, get_or, refl, subst, sym, ap, append_assoc, arith, length-append}
+use Rattle.std.specs.Prelude.{All, slice_index_or, slice_set}
+use Rattle.std.proofs.lemmas.List.{append-nil, get_or-map, length-map, map-append, take_more}
+use Rattle.std.proofs.lemmas.List.Elements.{All-head, All-tail}
 use Rattle.arrays.specs.Item.{Item}
 use Rattle.query.specs.declared.expr.Agg.{Agg}
 use Rattle.answers.specs.Spread.{put, spread}
@@ -63,10 +64,24 @@ taken_alike (suc i) [] (x ∷ xs) e = absurd (omega (arith, e))
 taken_alike (suc i) (n ∷ ns) [] e = absurd (omega (arith, e))
 taken_alike (suc i) (n ∷ ns) (x ∷ xs) e = ap suc (taken_alike i ns xs (omega (arith, e)))
 
+pub length_taken : {A : Type 0} (i : ℕ) (xs : List A) → length (take i xs) ≤ i
+length_taken zero xs = omega arith
+length_taken (suc i) [] = omega arith
+length_taken (suc i) (x ∷ xs) = omega (arith, length_taken i xs)
+
 pub set_shown : {V W : Type 0} (f : V → W) (vs : List V) (n : ℕ) (v : V) → map f (slice_set vs n v) ≡ slice_set (map f vs) n (f v)
 set_shown f [] n v = refl
 set_shown f (x ∷ vs) zero v = refl
 set_shown f (x ∷ vs) (suc n) v = ap (λ l. f x ∷ l) (set_shown f vs n v)
+
+-- All things come to the only group there is.
+pub spread-alone : {A : Type 0} (ns : List ℕ) (items xs : List A) → length ns ≡ length items → All (λ n. n < 1) ns → spread ns items (xs ∷ []) ≡ (xs ++ items) ∷ []
+spread-alone [] [] xs same all = ap (λ l. l ∷ []) (sym (append-nil xs))
+spread-alone [] (x ∷ items) xs same all = absurd (omega (arith, same))
+spread-alone (n ∷ ns) [] xs same all = absurd (omega (arith, same))
+spread-alone (zero ∷ ns) (x ∷ items) xs same all =
+    spread-alone ns items (xs ++ x ∷ []) (omega (arith, same)) (All-tail (λ n. n < 1) zero ns all) ∙ ap (λ l. l ∷ []) (append_assoc xs (x ∷ []) items)
+spread-alone (suc n ∷ ns) (x ∷ items) xs same all = absurd (omega (arith, All-head (λ n. n < 1) (suc n) ns all))
 
 module _ {C : Type 0} (show : C → TallyShape) (a : Agg ℕ) where
   -- The cell at a place is the tally of the group there.
@@ -113,8 +128,42 @@ module _ {C : Type 0} (show : C → TallyShape) (a : Agg ℕ) where
         length_taken i numbers,
         bound,
         within,
-      ) where
-        length_taken : (i : ℕ) (ns : List ℕ) → length (take i ns) ≤ i
-        length_taken zero ns = omega arith
-        length_taken (suc i) [] = omega arith
-        length_taken (suc i) (n ∷ ns) = omega (arith, length_taken i ns)
+      )
+
+  -- The only group, of which the only cell is the tally.
+  pub record IsAlone (cells : List C) (groups : List (List Item)) (cell : C) : Type 0 where
+    pub xs : List Item
+    pub cells_are : cells ≡ cell ∷ []
+    pub groups_are : groups ≡ xs ∷ []
+    pub tally : show cell ≡ tally_of a xs
+
+  pub alone : (cells : List C) (groups : List (List Item)) (cell : C) → length cells ≡ 1 → AreTallies show a cells groups → cell ≡ get_or cells 0 cell → IsAlone cells groups cell
+  alone [] groups cell one h is = absurd (omega (arith, one))
+  alone (x ∷ y ∷ cells) groups cell one h is = absurd (omega (arith, one))
+  alone (x ∷ []) [] cell one h is = absurd cc
+  alone (x ∷ []) (xs ∷ ys ∷ groups) cell one h is = absurd cc
+  alone (x ∷ []) (xs ∷ []) cell one h is = record {
+    xs = xs;
+    cells_are = ap (λ c. c ∷ []) (sym is);
+    groups_are = refl;
+    tally = ap show is ∙ ap (λ l. get_or l 0 (show x)) h;
+  }
+
+  -- All items of the new rows come to the only group.
+  pub alone_more : (cells : List C) (groups : List (List Item)) (numbers : List ℕ) (items : List Item) (cell new : C) → length cells ≡ 1 → length numbers ≡ length items
+      → All (λ n. n < length cells) numbers → AreTallies show a cells groups → cell ≡ get_or cells 0 cell
+      → ((xs : List Item) → show cell ≡ tally_of a xs → show new ≡ tally_of a (xs ++ items)) → AreTallies show a (slice_set cells 0 new) (spread numbers items groups)
+  alone_more cells groups numbers items cell new one same inside h is step =
+      let only = alone cells groups cell one h is in
+      let below : All (λ n. n < 1) numbers = subst (λ m. All (λ n. n < m) numbers) one inside in
+      ap (λ l. map show (slice_set l 0 new)) only.cells_are ∙ ap (λ t. t ∷ []) (step only.xs only.tally)
+      ∙ sym (ap (map (tally_of a)) (ap (spread numbers items) only.groups_are ∙ spread-alone numbers items only.xs same below))
+
+  pub alone_few : (cells : List C) (groups : List (List Item)) (cell : C) (n total : ℕ) → length cells ≡ 1 → AreTallies show a cells groups → cell ≡ get_or cells 0 cell
+      → All (λ xs. length xs + n ≤ total) groups → (xs : List Item) × (show cell ≡ tally_of a xs) × (length xs + n ≤ total)
+  alone_few cells groups cell n total one h is few =
+      let only = alone cells groups cell one h is in (
+        only.xs,
+        only.tally,
+        All-head (λ (xs : List Item). length xs + n ≤ total) only.xs [] (subst (All (λ (xs : List Item). length xs + n ≤ total)) only.groups_are few),
+      )

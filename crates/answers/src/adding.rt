@@ -1,10 +1,10 @@
 //! The cells of groups, to which rows are added.
 
-ghost use Rattle.std.specs.Prelude.{◌≡◌, ◌<◌, All, List, length};
+ghost use Rattle.std.specs.Prelude.{◌≡◌, ◌<◌, ◌≤◌, ◌+◌, ◌^◌, ◌++◌, All, List, length};
 ghost use Rattle.arrays.specs.Item.{Item};
 ghost use Rattle.answers.specs.Picked.{items_at};
 ghost use Rattle.answers.specs.Spread.{spread};
-ghost use Rattle.answers.specs.Tallies.{AreTallies, HasRoomFor};
+ghost use Rattle.answers.specs.Tallies.{AreTallies, HasRoomFor, tally_of};
 
 use crate::source::Source;
 
@@ -22,8 +22,26 @@ pub(crate) fn add_each<C: Copy, S: Source<C>>(
     ensures { (groups : List (List Item)) → AreTallies S.show (S.agg source.now) cells.old groups
         → AreTallies S.show (S.agg source.now) cells.new (spread numbers.now (items_at (S.items source.now) rows.now) groups) }
 {
+    if cells.len() == 1 {
+        cells[0] = with_rows(cells[0], source, rows);
+        return;
+    }
     for i in 0..rows.len() {
         let number = numbers[i];
         cells[number] = source.with_row(cells[number], rows[i]);
     }
+}
+
+/// The cell of the only group with rows of a batch more. It isn't written to memory for each.
+fn with_rows<C: Copy, S: Source<C>>(cell: C, source: &S, rows: &[usize]) -> C
+    requires within { All (λ r. r < length (S.items source.now)) rows.now }
+    requires few { (xs : List Item) × (S.show cell ≡ tally_of (S.agg source.now) xs) × (length xs + length rows.now ≤ 2 ^ 40) }
+    ensures { (xs : List Item) → S.show cell ≡ tally_of (S.agg source.now) xs
+        → S.show result ≡ tally_of (S.agg source.now) (xs ++ items_at (S.items source.now) rows.now) }
+{
+    let mut whole = cell;
+    for row in rows {
+        whole = source.with_row(whole, *row);
+    }
+    whole
 }

@@ -5,7 +5,7 @@ use Rattle.std.proofs.lemmas.List.Elements.{All-get_or}
 use Rattle.arrays.specs.Item.{Item, null}
 use Rattle.answers.specs.Picked.{items_at}
 use Rattle.answers.specs.Tallies.{tally_of}
-use Rattle.answers.proofs.SpreadLemmas.{cell_few, cells_more}
+use Rattle.answers.proofs.SpreadLemmas.{alone_few, alone_more, cell_few, cells_more}
 use Rattle.answers.proofs.adding.add_each.Goals as goal
 
 pub with_row-requires-clause-few : goal.with_row-requires-clause-few
@@ -41,3 +41,16 @@ loop-i-preserved g c = λ groups h.
     within (length-map rows (λ r. slice_index_or seen r null) ∙ sym c.requires.lengths) refl
     (sym (get_or-map (λ r. slice_index_or seen r null) rows i 0 x c.loop-i-test.true))
     (c.loop-i.invariant groups h) inside c.index-cells-number.is c.with_row.ensures refl
+
+pub with_rows-requires-clause-few : goal.with_rows-requires-clause-few
+with_rows-requires-clause-few g c =
+    let source = g.S.Source in
+    let r = c.requires.few in
+    alone_few source.show (source.agg c.args.source.now) c.args.cells.now r.0 c.index-cells-0.result (length c.args.rows.now) (2 ^ 40) c.if-cells-eq1.true r.1 c.index-cells-0.is r.2
+
+pub returns-then-cells-eq1 : goal.returns-then-cells-eq1
+returns-then-cells-eq1 g c = λ groups h.
+    let source = g.S.Source in
+    let items = items_at (source.items c.args.source.now) c.args.rows.now in
+    alone_more source.show (source.agg c.args.source.now) c.args.cells.now groups c.args.numbers.now items c.index-cells-0.result c.with_rows.result c.if-cells-eq1.true
+    (c.requires.lengths ∙ sym (length-map c.args.rows.now (λ r. slice_index_or (source.items c.args.source.now) r null))) c.requires.inside h c.index-cells-0.is c.with_rows.ensures
