@@ -1,5 +1,5 @@
 -- The rows of a slice that are kept.
-use Rattle.std.proofs.Common.{◌≡◌, ◌∙◌, ℕ, zero, suc, ◌+◌, ◌<◌, ◌≤◌, Bool, true, false, cond, List, [], ◌∷◌, ◌++◌, length, filter, map, take, is_some, Option, Some, None, Result, Ok, Err, IfOk, IfErr, refl, sym, ap, subst, arith, append_assoc, below_more, zero-add}
+use Rattle.std.proofs.Common.{◌≡◌, ◌∙◌, ℕ, zero, suc, ◌+◌, ◌<◌, ◌≤◌, Bool, true, false, cond, List, [], ◌∷◌, ◌++◌, length, get_or, filter, map, take, is_some, Option, Some, None, Result, Ok, Err, IfOk, IfErr, refl, sym, ap, subst, arith, append_assoc, below_more, zero-add}
 use Rattle.std.specs.Prelude.{All, is_none, unwrap_or}
 use Rattle.std.specs.List.{range_with_len}
 use Rattle.std.proofs.lemmas.List.{append-nil, length-map, map-append, take_more}
@@ -132,6 +132,11 @@ pub length-kept : (o : Option Values) (start n : ℕ) → o ≡ None → n ≡ l
 length-kept (Some v) start n none = absurd cc
 length-kept None start n none =
     sym (length-map (filter (keeps None) (range_with_len 0 n)) (λ i. start + i) ∙ ap (λ (l : List ℕ). length l) (each_kept (range_with_len 0 n)) ∙ length-range_with_len 0 n)
+
+-- Where there is no filter, the places count up.
+pub counted_up : (start n k d : ℕ) → k < n → get_or (kept_in None start n) k d ≡ start + k
+counted_up start n k d below =
+    ap (λ l. get_or (map (λ i. start + i) l) k d) (each_kept (range_with_len 0 n)) ∙ get_or-map-range_with_len (λ i. start + i) 0 n k k d below (zero-add k)
 
 module _ (b : Batch) (start : ℕ) (f : Option (Tree ℕ)) (o : Option Values) where
   abbrev Told : ℕ → Type 0

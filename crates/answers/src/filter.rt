@@ -40,22 +40,27 @@ pub(crate) fn keep_rows(
     requires short { start + len < 2 ^ 40 }
     ensures { OnOk result (kept.new.items ≡ kept_in values.now start len) }
 {
-    kept.clear();
     match values {
-        Some(values) => mask_of(values, len).push_places(kept, start),
-        None => push_all(kept, start, len),
+        Some(values) => {
+            kept.clear();
+            mask_of(values, len).push_places(kept, start)
+        }
+        None => {
+            kept.resize(len, 0)?;
+            count_up(kept.as_mut_slice(), start);
+            Ok(())
+        }
     }
 }
 
-/// Puts the places of so many rows from the start on behind what is there.
-fn push_all(kept: &mut Vec<usize>, start: usize, len: usize) -> Result<(), NoMemory>
-    requires { start + len < 2 ^ 40 }
-    ensures { OnOk result (kept.new.items ≡ kept.old.items ++ kept_in None start len) }
+/// Has places count up from the start on.
+fn count_up(places: &mut [usize], start: usize)
+    requires { start + length places.old < 2 ^ 40 }
+    ensures { places.new ≡ kept_in None start (length places.old) }
 {
-    for i in 0..len {
-        kept.push(start + i)?;
+    for i in 0..places.len() {
+        places[i] = start + i;
     }
-    Ok(())
 }
 
 /// How many of so many rows are kept.
