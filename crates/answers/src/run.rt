@@ -44,6 +44,9 @@ pub(crate) fn add_part(
     ensures sound { IfOk result (λ done. AreSound batch.now start rows (asked query.now).filter) }
     ensures err { IfErr result (StopsAt batch.now start rows (asked query.now).filter) }
 {
+    if rows == 0 {
+        return Ok(());
+    }
     if counts_all(query) {
         grouping.add_count(query, rows as u64);
         return Ok(());

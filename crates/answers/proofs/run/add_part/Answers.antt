@@ -87,3 +87,9 @@ returns-then-counts_all-clause-ok c = λ before has.
     let e : filter p before ++ more ≡ filter p (before ++ more) =
     ap (λ (l : Table). filter p before ++ l) (sym (all_kept b.fields f more alone.1)) ∙ sym (filter-append p before more) in
     subst (λ (l : Table). HasGroups q l c.add_count.new.self) e (c.add_count.ensures.groups (filter p before) more (length-rows_in b c.args.start c.args.rows) has)
+
+pub returns-then-rows-eq0-clause-ok : goal.returns-then-rows-eq0-clause-ok
+returns-then-rows-eq0-clause-ok c = λ before has.
+    let b = c.args.batch.now in
+    subst (λ (l : Table). HasKept b.fields c.args.query.now l c.args.grouping.now)
+    (sym (append-nil before) ∙ ap (λ n. before ++ rows_in b c.args.start n) (sym c.if-rows-eq0.true)) has
