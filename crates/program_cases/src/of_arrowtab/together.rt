@@ -1,7 +1,11 @@
 //! Runs of several workers: what they print doesn't depend on who was first.
 
 use super::expect;
+use std::alloc::Global;
+use std::process::Abort;
+use std::sync::Wait;
 use std::test::Fail;
+use std::thread::Threads;
 
 /// A file of the three numbers 9223372036854775807, null and -1.
 const NUMBERS: &str =
@@ -20,7 +24,7 @@ const TWICE: &str =
     "\"n\" int64 rows=6 nulls=2 sum=18446744073709551612 least=-1 greatest=9223372036854775807\n";
 
 /// Words, one file or two, what is printed of them, and the line of the fault.
-const RUNS: [(&[&str], &str, Option<&str>, (&str, &str), &str); 8] = [
+const RUNS: [(&[&str], &str, Option<&str>, (&str, &str), &str); 6] = [
     (
         &["arrowtab", "stats", "--workers", "2", "A", "B"],
         NUMBERS,
@@ -80,36 +84,6 @@ const RUNS: [(&[&str], &str, Option<&str>, (&str, &str), &str); 8] = [
         ("9223372036854775807 2\nnull 2\n-1 2\n", ""),
         "",
     ),
-    (
-        &[
-            "arrowtab",
-            "query",
-            "--workers",
-            "4",
-            "--query",
-            r#"{"by":["k"],"aggs":[{"agg":"sum","column":"v"}]}"#,
-            "A",
-        ],
-        PAIRS,
-        None,
-        ("null 4\n\"b\" 2\n\"a\" null\n", ""),
-        "",
-    ),
-    (
-        &[
-            "arrowtab",
-            "query",
-            "--workers",
-            "2",
-            "--query",
-            r#"{"filter":{"op":"gt","args":[{"op":"add","args":[{"column":"v"},{"int":2147483645}]},{"int":0}]},"aggs":[{"agg":"rows"}]}"#,
-            "A",
-        ],
-        PAIRS,
-        None,
-        ("", ""),
-        "arrowtab: query: Q4 Overflow row=2\n",
-    ),
 ];
 
 #[test]
@@ -126,4 +100,50 @@ fn several_workers_print_what_one_would(rt: HostRuntime) -> Result<(), Fail> {
         )?;
     }
     Ok(())
+}
+
+/// How many workers there are, and pieces of the rows, which are four.
+const WORKERS: [&str; 4] = ["1", "2", "4", "64"];
+
+/// A query over the pairs, the output, and the line of the fault.
+const ANSWERS: [(&str, &str, &str); 2] = [
+    (
+        r#"{"by":["k"],"aggs":[{"agg":"sum","column":"v"}]}"#,
+        "null 4\n\"b\" 2\n\"a\" null\n",
+        "",
+    ),
+    (
+        r#"{"filter":{"op":"gt","args":[{"op":"add","args":[{"column":"v"},{"int":2147483645}]},{"int":0}]},"aggs":[{"agg":"rows"}]}"#,
+        "",
+        "arrowtab: query: Q4 Overflow row=2\n",
+    ),
+];
+
+#[test]
+fn an_answer_does_not_tell_the_workers(rt: HostRuntime) -> Result<(), Fail> {
+    for workers in WORKERS {
+        for (query, output, line) in ANSWERS {
+            expect_pairs(&rt, rt.alloc(), (workers, query), (output, line))?;
+        }
+    }
+    Ok(())
+}
+
+/// Asserts what so many workers write of a query over the pairs, and the line of its fault.
+fn expect_pairs(
+    rt: &(impl Abort + Wait + Threads + Sync),
+    alloc: Global,
+    asked: (&str, &str),
+    written: (&str, &str),
+) -> Result<(), Fail> {
+    let words = [
+        "arrowtab",
+        "query",
+        "--workers",
+        asked.0,
+        "--query",
+        asked.1,
+        "A",
+    ];
+    expect(rt, alloc, &words, (PAIRS, None), written)
 }
