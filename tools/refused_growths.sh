@@ -1,11 +1,11 @@
 #!/bin/sh
-# Refuses each growth of memory in the calls that crates/growths makes, one in each run, and tells how many there were.
+# Refuses each growth of memory in the calls that crates/test_growths makes, one in each run, and tells how many there were.
 #
 #     tools/refused_growths.sh [NUMBER]
 #
 # In each run growth NUMBER (200) is refused. A run makes as many growths before the calls as its input says, from none
 # to NUMBER: so each growth of the calls is refused in one run, where the calls make fewer than NUMBER together.
-cd "$(dirname "$0")/../crates/growths" || exit 2
+cd "$(dirname "$0")/../crates/test_growths" || exit 2
 number=${1:-200}
 folder=$(mktemp -d) || exit 2
 trap 'rm -rf "$folder"' EXIT

@@ -1,7 +1,0 @@
-//! Tests of the table of one thread.
-#![tactic(auto)]
-
-#[cfg(test)]
-mod of_table;
-#[cfg(test)]
-mod testing;

@@ -1,0 +1,317 @@
+//! Tests of columns in the making, and of validities.
+
+ghost use Rattle.std.specs.Prelude.{◌≡◌, ◌<◌, ◌+◌, [], ◌∷◌, None, Some, length, IfOk, OnOk};
+ghost use Rattle.arrays.specs.Kind as kind;
+
+use crate::testing::{AllBut, has_bits};
+use arrays::BuildFault::OffsetsFull;
+use arrays::validity::{buffer_of, validity_of};
+use arrays::{
+    Array, BoolBuilder, BuildFault, DataType, IntBuilder, Integer, ListBuilder, TextBuilder,
+    ValidityBuilder, ViewType,
+};
+use colbits::{BitmapBuf, Buffer, NoMemory};
+use std::alloc::Global;
+use std::test::Fail;
+use test_samples::{
+    INT16, INT32, Shown, field, has_item, has_offsets, is_result, is_result_of_bools,
+    is_result_of_numbers, shows,
+};
+
+/// Pushes of so many slots that are valid or not, how many slots there are then, and the validity that is kept.
+type Pushes = (&'static [(bool, usize)], usize, Option<&'static [bool]>);
+
+const PUSHES: &[Pushes] = &[
+    (
+        &[
+            (true, 1),
+            (true, 2),
+            (false, 1),
+            (true, 1),
+            (true, 3),
+            (false, 1),
+        ],
+        9,
+        Some(&[true, true, true, false, true, true, true, true, false]),
+    ),
+    (&[(false, 1)], 1, Some(&[false])),
+    // None is kept without a null.
+    (&[], 0, None),
+    (&[(true, 1), (true, 4)], 5, None),
+];
+
+/// Whether a validity is kept with these bits, or none is.
+fn is_kept(validity: &Option<BitmapBuf>, bits: Option<&[bool]>) -> bool {
+    match (validity, bits) {
+        (Some(bitmap), Some(bits)) => has_bits(&bitmap.bits(), bits),
+        (None, None) => true,
+        _ => false,
+    }
+}
+
+#[test]
+fn builds_validities(rt: HostRuntime) -> Result<(), Fail> {
+    for (pushes, len, kept) in PUSHES {
+        let mut valid = ValidityBuilder::new(rt.alloc());
+        for (is_valid, count) in *pushes {
+            assert!(rt; valid.len() < 100 && *count < 100);
+            if *count == 1 {
+                valid.push(*is_valid)?;
+            } else {
+                valid.push_valid(*count)?;
+            }
+        }
+        assert!(rt; valid.len() == *len);
+        assert!(rt; is_kept(&valid.finish()?, *kept), "of {len} slots");
+    }
+    Ok(())
+}
+
+#[test]
+fn a_validity_is_kept_where_a_slot_is_null(rt: HostRuntime) -> Result<(), Fail> {
+    for (place, kept) in [(2, Some(0x03)), (3, None)] {
+        let validity = validity_of(rt.alloc(), &AllBut { place, len: 3 })?;
+        let is_kept = match (buffer_of(validity), kept) {
+            (Some(buffer), Some(byte)) => buffer.bytes() == [byte].as_slice(),
+            (None, None) => true,
+            _ => false,
+        };
+        assert!(rt; is_kept, "where place {place} is null");
+    }
+    Ok(())
+}
+
+#[test]
+fn adds_the_bytes_of_numbers(rt: HostRuntime) -> Result<(), Fail> {
+    let mut bytes = Vec::new(rt.alloc());
+    <i8 as Integer>::push(&mut bytes, -1)?;
+    <u8 as Integer>::push(&mut bytes, 254)?;
+    <i16 as Integer>::push(&mut bytes, -2)?;
+    <u16 as Integer>::push(&mut bytes, 0x0102)?;
+    <i32 as Integer>::push(&mut bytes, -3)?;
+    <u32 as Integer>::push(&mut bytes, 0x0102_0304)?;
+    <i64 as Integer>::push(&mut bytes, -4)?;
+    <u64 as Integer>::push(&mut bytes, 0x0102_0304_0506_0708)?;
+    let expected: &[u8] =
+        b"\xff\xfe\xfe\xff\x02\x01\xfd\xff\xff\xff\x04\x03\x02\x01\xfc\xff\xff\xff\xff\xff\xff\xff\x08\x07\x06\x05\x04\x03\x02\x01";
+    assert!(rt; *bytes == *expected);
+    Ok(())
+}
+
+/// Puts the numbers 70000, null and -1 at the end.
+fn push_numbers(builder: &mut IntBuilder) -> Result<(), NoMemory>
+    requires ty { builder.old.ty ≡ INT32 }
+    requires room { length builder.old.items < 2147483640 }
+{
+    builder.push(Some(70_000))?;
+    builder.push(None)?;
+    builder.push(Some(-1))
+}
+
+#[test]
+fn builds_numbers(rt: HostRuntime) -> Result<(), Fail> {
+    let mut builder = IntBuilder::with_capacity(rt.alloc(), INT32, 3)?;
+    push_numbers(&mut builder)?;
+    let array = builder.finish()?;
+    assert!(rt; is_result_of_numbers(&array, &[Some(70_000), None, Some(-1)]));
+    Ok(())
+}
+
+#[test]
+fn builds_numbers_without_a_null(rt: HostRuntime) -> Result<(), Fail> {
+    let mut builder = IntBuilder::with_capacity(rt.alloc(), INT32, 1)?;
+    builder.push(Some(70_000))?;
+    let array = builder.finish()?;
+    assert!(rt; is_result_of_numbers(&array, &[Some(70_000)]));
+    Ok(())
+}
+
+/// The numbers 5, null and -6.
+fn pushed(alloc: Global) -> Result<IntBuilder, Fail>
+    ensures ty { IfOk result (λ b. b.ty ≡ INT16) }
+    ensures len { IfOk result (λ b. length b.items ≡ 3) }
+{
+    let mut builder = IntBuilder::with_capacity(alloc, INT16, 3)?;
+    builder.push_as::<i16>(Some(5))?;
+    builder.push_as::<i16>(None)?;
+    builder.push_as::<i16>(Some(-6))?;
+    Ok(builder)
+}
+
+/// The numbers 1, -2, 3 and 4, of which the second is null if there is a validity.
+fn numbers(alloc: Global, has_validity: bool) -> Result<Array, Fail>
+    ensures kind { IfOk result (λ a. a.kind ≡ kind.int INT16) }
+    ensures len { IfOk result (λ a. length a.items ≡ 4) }
+{
+    let validity = if has_validity {
+        Some(Buffer::from_bytes(alloc, &[0x0d])?)
+    } else {
+        None
+    };
+    let values = Buffer::from_bytes(alloc, &[1, 0, 0xfe, 0xff, 3, 0, 4, 0])?;
+    Ok(Array::from_numbers(alloc, INT16, 4, validity, values)?)
+}
+
+#[test]
+fn pushes_numbers_of_a_known_type(rt: HostRuntime) -> Result<(), Fail> {
+    let array = pushed(rt.alloc())?.finish()?;
+    assert!(rt; is_result_of_numbers(&array, &[Some(5), None, Some(-6)]));
+    Ok(())
+}
+
+#[test]
+fn extends_numbers_without_a_null(rt: HostRuntime) -> Result<(), Fail> {
+    let more = numbers(rt.alloc(), false)?;
+    let whole = more.view();
+    let builder = IntBuilder::with_capacity(rt.alloc(), INT16, 7)?;
+    let array = builder
+        .extended::<i16>(&whole)?
+        .extended::<i16>(&whole.slice(1, 2))?
+        .finish()?;
+    let expected = [Some(1), Some(-2), Some(3), Some(4), Some(-2), Some(3)];
+    assert!(rt; is_result_of_numbers(&array, &expected));
+    Ok(())
+}
+
+/// The pushed numbers and four more, of which one is null if there is a validity.
+fn extended(alloc: Global, has_validity: bool) -> Result<Array, Fail> {
+    let more = numbers(alloc, has_validity)?;
+    Ok(pushed(alloc)?.extended::<i16>(&more.view())?.finish()?)
+}
+
+#[test]
+fn extends_numbers_after_a_null(rt: HostRuntime) -> Result<(), Fail> {
+    for (has_validity, second) in [(true, None), (false, Some(-2))] {
+        let array = extended(rt.alloc(), has_validity)?;
+        let expected = [Some(5), None, Some(-6), Some(1), second, Some(3), Some(4)];
+        assert!(rt; is_result_of_numbers(&array, &expected), "{second:?}");
+    }
+    Ok(())
+}
+
+/// Puts true, false and true at the end.
+fn push_bools(builder: &mut BoolBuilder) -> Result<(), NoMemory>
+    requires { length builder.old < 2147483640 }
+    ensures { OnOk result (length builder.new ≡ length builder.old + 3) }
+{
+    builder.push(Some(true))?;
+    builder.push(Some(false))?;
+    builder.push(Some(true))
+}
+
+#[test]
+fn builds_truth_values(rt: HostRuntime) -> Result<(), Fail> {
+    let mut builder = BoolBuilder::with_capacity(rt.alloc(), 4)?;
+    push_bools(&mut builder)?;
+    builder.push(None)?;
+    let array = builder.finish()?;
+    assert!(rt; is_result_of_bools(&array, &[Some(true), Some(false), Some(true), None]));
+    Ok(())
+}
+
+#[test]
+fn builds_truth_values_without_a_null(rt: HostRuntime) -> Result<(), Fail> {
+    let mut builder = BoolBuilder::with_capacity(rt.alloc(), 3)?;
+    push_bools(&mut builder)?;
+    let array = builder.finish()?;
+    assert!(rt; is_result_of_bools(&array, &[Some(true), Some(false), Some(true)]));
+    Ok(())
+}
+
+/// Puts the texts a, null, bé and an empty one at the end.
+fn push_texts(builder: &mut TextBuilder) -> Result<(), BuildFault>
+    requires { length builder.old < 2147483640 }
+{
+    builder.push(Some("a"))?;
+    builder.push(None)?;
+    builder.push(Some("b\u{e9}"))?;
+    builder.push(Some(""))
+}
+
+#[test]
+fn builds_texts(rt: HostRuntime) -> Result<(), Fail> {
+    let mut builder = TextBuilder::with_capacity(rt.alloc(), 1, 1)?;
+    push_texts(&mut builder)?;
+    let array = builder.finish()?;
+    let view = array.view();
+    assert!(rt;
+        shows(
+            &view,
+            Shown::Texts(&[Some("a"), None, Some("b\u{e9}"), Some("")])
+        )
+    );
+    assert!(rt; has_offsets(&view, b"\0\0\0\0\x01\0\0\0\x01\0\0\0\x04\0\0\0\x04\0\0\0"));
+    let ViewType::Utf8 = view.ty() else {
+        panic!(rt; "these are no texts");
+    };
+    assert!(rt; view.texts().bytes == "ab\u{e9}".as_bytes());
+    Ok(())
+}
+
+#[test]
+fn builds_texts_without_a_null(rt: HostRuntime) -> Result<(), Fail> {
+    let mut builder = TextBuilder::with_capacity(rt.alloc(), 1, 2)?;
+    builder.push(Some("ab"))?;
+    let array = builder.finish()?;
+    assert!(rt; is_result(&array, Shown::Texts(&[Some("ab")])));
+    Ok(())
+}
+
+#[test]
+fn builds_no_texts(rt: HostRuntime) -> Result<(), Fail> {
+    let array = TextBuilder::with_capacity(rt.alloc(), 0, 0)?.finish()?;
+    assert!(rt; shows(&array.view(), Shown::Texts(&[])) && has_offsets(&array.view(), &[0; 4]));
+    Ok(())
+}
+
+/// Puts the lengths 1, null, 0 and 2 at the end.
+fn push_lengths(builder: &mut ListBuilder) -> Result<(), BuildFault>
+    requires { builder.old ≡ [] }
+    ensures { OnOk result (builder.new ≡ Some 1 ∷ None ∷ Some 0 ∷ Some 2 ∷ []) }
+{
+    builder.push(Some(1))?;
+    builder.push(None)?;
+    builder.push(Some(0))?;
+    builder.push(Some(2))
+}
+
+/// The lists of 1, null, of nothing, and of 2 and 3, with this field of their items.
+fn lists(alloc: Global, name: &str, nullable: bool) -> Result<Array, Fail> {
+    let numbers = Buffer::from_bytes(alloc, &[1, 0, 2, 0, 3, 0])?;
+    let child = Array::from_numbers(alloc, INT16, 3, None, numbers)?;
+    let item = field(alloc, name, nullable, DataType::Int(INT16))?;
+    let mut builder = ListBuilder::with_capacity(alloc, 1)?;
+    push_lengths(&mut builder)?;
+    Ok(builder.finish(item, child)?)
+}
+
+const BUILT: Shown = Shown::Lists(&[Some(&[Some(1)]), None, Some(&[]), Some(&[Some(2), Some(3)])]);
+
+const BUILT_OFFSETS: &[u8] = &[0, 0, 0, 0, 1, 0, 0, 0, 1, 0, 0, 0, 1, 0, 0, 0, 3, 0, 0, 0];
+
+#[test]
+fn builds_lists_with_their_items_field(rt: HostRuntime) -> Result<(), Fail> {
+    for (name, nullable) in [("item", true), ("entry", false)] {
+        let array = lists(rt.alloc(), name, nullable)?;
+        let view = array.view();
+        assert!(rt;
+            shows(&view, BUILT) && has_item(&view, name, nullable),
+            "{name}"
+        );
+        assert!(rt; has_offsets(&view, BUILT_OFFSETS));
+    }
+    Ok(())
+}
+
+#[test]
+fn tells_full_offsets(rt: HostRuntime) -> Result<(), Fail> {
+    let mut builder = ListBuilder::with_capacity(rt.alloc(), 4)?;
+    assert!(rt; builder.push(Some(usize::MAX)) == Err(OffsetsFull));
+    builder.push(Some(2147483646))?;
+    assert!(rt; builder.push(Some(2)) == Err(OffsetsFull));
+    builder.push(Some(1))?;
+    builder.push(None)?;
+    builder.push(Some(0))?;
+    assert!(rt; builder.push(Some(1)) == Err(OffsetsFull));
+    Ok(())
+}

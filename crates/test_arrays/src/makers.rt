@@ -1,0 +1,233 @@
+//! Tests of arrays that are made of lawful parts, and of copies.
+
+ghost use Rattle.std.specs.Prelude.{◌≡◌, pos, [], ◌∷◌, IfOk};
+ghost use Rattle.arrays.specs.Item.{int, null};
+ghost use Rattle.arrays.specs.Kind as kind;
+ghost use Rattle.arrays.specs.Kind.{int32};
+
+use arrays::{Array, DataType, IntBuilder, LayoutFault, ViewType, Words};
+use colbits::Buffer;
+use std::alloc::Global;
+use std::process::Abort;
+use std::sync::Arc;
+use std::test::Fail;
+use test_samples::Sample::{self, Coded, Lists, ListsOfLists, Of};
+use test_samples::{
+    Flat, INT16, INT32, Parts, Positions, Shown, checked, field, has_item, sampled, shows,
+    shows_bools, shows_lists, shows_numbers,
+};
+
+#[test]
+fn makes_numbers(rt: HostRuntime) -> Result<(), Fail> {
+    let validity = Buffer::from_bytes(rt.alloc(), &[0x05])?;
+    let values = Buffer::from_bytes(rt.alloc(), &[1, 0, 0xfe, 0xff, 3, 0])?;
+    let array = Array::from_numbers(rt.alloc(), INT16, 3, Some(validity), values)?;
+    assert!(rt; shows_numbers(&array.view(), &[Some(1), None, Some(3)]));
+    Ok(())
+}
+
+#[test]
+fn makes_truth_values(rt: HostRuntime) -> Result<(), Fail> {
+    let validity = Buffer::from_bytes(rt.alloc(), &[0x07])?;
+    let bits = Buffer::from_bytes(rt.alloc(), &[0x0d])?;
+    let array = Array::from_bits(rt.alloc(), 4, Some(validity), bits)?;
+    let expected = [Some(true), Some(false), Some(true), None];
+    assert!(rt; shows_bools(&array.view(), &expected));
+    Ok(())
+}
+
+/// The offsets 0, 1, 3 and 3.
+const OFFSETS: &[u8] = &[0, 0, 0, 0, 1, 0, 0, 0, 3, 0, 0, 0, 3, 0, 0, 0];
+
+/// The texts `a`, `bc` and nothing, of which the second is null.
+fn texts(alloc: Global) -> Result<Array, Fail> {
+    let validity = Buffer::from_bytes(alloc, &[0x05])?;
+    let offsets = Buffer::from_bytes(alloc, OFFSETS)?;
+    let bytes = Buffer::from_bytes(alloc, b"a\xff\xff")?;
+    Ok(Array::from_texts(alloc, 3, Some(validity), offsets, bytes)?)
+}
+
+#[test]
+fn makes_texts(rt: HostRuntime) -> Result<(), Fail> {
+    let array = texts(rt.alloc())?;
+    assert!(rt; shows(&array.view(), Shown::Texts(&[Some("a"), None, Some("")])));
+    Ok(())
+}
+
+/// The lists of 1, of 2 and 3, and of nothing, of which the second is null, with this field of their items.
+fn lists(alloc: Global, name: &str, nullable: bool) -> Result<Array, Fail> {
+    let values = Buffer::from_bytes(alloc, &[1, 0, 2, 0, 3, 0])?;
+    let child = Array::from_numbers(alloc, INT16, 3, None, values)?;
+    let item = field(alloc, name, nullable, DataType::Int(INT16))?;
+    let validity = Buffer::from_bytes(alloc, &[0x05])?;
+    let offsets = Buffer::from_bytes(alloc, OFFSETS)?;
+    Ok(Array::from_list(alloc, item, 3, Some(validity), offsets, child)?)
+}
+
+const MADE: Shown = Shown::Lists(&[Some(&[Some(1)]), None, Some(&[])]);
+
+#[test]
+fn makes_and_copies_lists_with_their_items_field(rt: HostRuntime) -> Result<(), Fail> {
+    for (name, nullable) in [("item", true), ("entry", false)] {
+        let array = lists(rt.alloc(), name, nullable)?;
+        let copy = array.copy(rt.alloc())?;
+        assert!(rt; is_copied(&array, &copy, MADE));
+        assert!(rt; has_item(&array.view(), name, nullable));
+        assert!(rt; has_item(&copy.view(), name, nullable));
+    }
+    Ok(())
+}
+
+/// Lists over the numbers 1, 2 and 3, of which the second is null, with these offsets from outside.
+fn tried(alloc: Global, offsets: &[u8]) -> Result<Result<Array, LayoutFault>, Fail> {
+    let values = Buffer::from_bytes(alloc, &[1, 0, 2, 0, 3, 0])?;
+    let child = Array::from_numbers(alloc, INT16, 3, None, values)?;
+    let item = field(alloc, "item", true, DataType::Int(INT16))?;
+    let validity = Buffer::from_bytes(alloc, &[0x05])?;
+    let offsets = Buffer::from_bytes(alloc, offsets)?;
+    Ok(Array::try_list(alloc, item, 3, Some(validity), offsets, child))
+}
+
+/// The offsets 1, 2, 3 and 3.
+const LATE: &[u8] = &[1, 0, 0, 0, 2, 0, 0, 0, 3, 0, 0, 0, 3, 0, 0, 0];
+
+#[test]
+fn makes_lists_of_offsets_from_outside(rt: HostRuntime) -> Result<(), Fail> {
+    let array = tried(rt.alloc(), LATE)??;
+    let view = array.view();
+    assert!(rt; shows_lists(&view, &[Some(&[Some(2)]), None, Some(&[])]));
+    assert!(rt; has_item(&view, "item", true));
+    Ok(())
+}
+
+/// Offsets of which the third is below 0, the third is below the second, the last is past the numbers, and one is
+/// missing.
+const NEGATIVE: &[u8] = &[0, 0, 0, 0, 1, 0, 0, 0, 0xff, 0xff, 0xff, 0xff, 3, 0, 0, 0];
+
+const DECREASING: &[u8] = &[0, 0, 0, 0, 2, 0, 0, 0, 1, 0, 0, 0, 3, 0, 0, 0];
+
+const PAST: &[u8] = &[0, 0, 0, 0, 1, 0, 0, 0, 3, 0, 0, 0, 4, 0, 0, 0];
+
+const SHORT: &[u8] = &[0, 0, 0, 0, 1, 0, 0, 0, 3, 0, 0, 0];
+
+#[test]
+fn tells_what_is_wrong_with_offsets(rt: HostRuntime) -> Result<(), Fail> {
+    let cases = [
+        (NEGATIVE, LayoutFault::OffsetNegative),
+        (DECREASING, LayoutFault::OffsetDecreases { row: 1 }),
+        (PAST, LayoutFault::OffsetPastEnd),
+        (SHORT, LayoutFault::BufferTooShort),
+    ];
+    for (offsets, fault) in cases {
+        assert!(rt;
+            tried(rt.alloc(), offsets)?.err() == Some(fault),
+            "{fault:?}"
+        );
+    }
+    Ok(())
+}
+
+/// The numbers 1, 0, 2, 4 and 8, of which the second is null.
+const NUMBERS: Parts = (
+    Flat::Int(INT32),
+    5,
+    &[
+        Some(&[0xfd]),
+        Some(&[1, 0, 0, 0, 0, 0, 0, 0, 2, 0, 0, 0, 4, 0, 0, 0, 8, 0, 0, 0]),
+    ],
+);
+
+/// Arrays, and what they and their copies hold.
+const COPIED: [(Sample, Shown); 4] = [
+    (
+        Of(NUMBERS),
+        Shown::Numbers(&[Some(1), None, Some(2), Some(4), Some(8)]),
+    ),
+    (
+        Lists,
+        Shown::Lists(&[
+            Some(&[Some(12), Some(-7), Some(25)]),
+            None,
+            Some(&[Some(0), Some(-127), Some(127), Some(50)]),
+            Some(&[]),
+        ]),
+    ),
+    (
+        ListsOfLists,
+        Shown::ListsOfLists(&[
+            Some(&[Some(&[Some(12), Some(-7), Some(25)]), None]),
+            None,
+            Some(&[Some(&[Some(0), Some(-127), Some(127), Some(50)]), Some(&[])]),
+        ]),
+    ),
+    (
+        Coded,
+        Shown::Encoded(
+            &[Some(2), Some(0), Some(3), None, Some(1)],
+            &[Some("a"), Some("b"), Some("a"), None],
+            &[Some("a"), Some("a"), None, None, Some("b")],
+        ),
+    ),
+];
+
+/// Whether an array and its copy hold this, and are of one type.
+fn is_copied(array: &Array, copy: &Array, shown: Shown) -> bool {
+    let (old, new) = (array.view(), copy.view());
+    shows(&old, shown) && shows(&new, shown) && new.ty().is_same(old.ty())
+}
+
+#[test]
+fn copies_arrays(rt: HostRuntime) -> Result<(), Fail> {
+    for (i, (sample, shown)) in COPIED.iter().enumerate() {
+        let array = sampled(rt.alloc(), *sample)?;
+        let copy = array.copy(rt.alloc())?;
+        assert!(rt; is_copied(&array, &copy, *shown), "array {i}");
+    }
+    Ok(())
+}
+
+/// The texts `a`, `b` and `a`, and a null.
+const TEXTS: Positions = &[
+    Some(&[0x07]),
+    Some(&[0, 0, 0, 0, 1, 0, 0, 0, 2, 0, 0, 0, 3, 0, 0, 0, 3, 0, 0, 0]),
+    Some(b"aba"),
+];
+
+/// The codes 2, 0, 3, null and 1.
+fn codes(alloc: Global) -> Result<Array, Fail>
+    ensures kind { IfOk result (λ a. a.kind ≡ kind.int int32) }
+    ensures items { IfOk result (λ a. a.items ≡ int (pos 2) ∷ int (pos 0) ∷ int (pos 3) ∷ null ∷ int (pos 1) ∷ []) }
+{
+    let mut builder = IntBuilder::with_capacity(alloc, INT32, 5)?;
+    builder.push(Some(2))?;
+    builder.push(Some(0))?;
+    builder.push(Some(3))?;
+    builder.push(None)?;
+    builder.push(Some(1))?;
+    Ok(builder.finish()?)
+}
+
+/// The codes with the texts as their dictionary.
+fn encoded(rt: &impl Abort, alloc: Global) -> Result<Array, Fail> {
+    let texts = checked(alloc, DataType::Utf8, 4, TEXTS)?;
+    let ViewType::Utf8 = texts.view().ty() else {
+        panic!(rt; "these are no texts");
+    };
+    assert!(rt; texts.len() == 4);
+    let words = Arc::new(alloc, Words::of(texts))?;
+    Ok(Array::dict(codes(alloc)?, words))
+}
+
+const ENCODED: Shown = Shown::Encoded(
+    &[Some(2), Some(0), Some(3), None, Some(1)],
+    &[Some("a"), Some("b"), Some("a"), None],
+    &[Some("a"), Some("a"), None, None, Some("b")],
+);
+
+#[test]
+fn makes_and_copies_a_dictionary(rt: HostRuntime) -> Result<(), Fail> {
+    let array = encoded(&rt, rt.alloc())?;
+    let copy = array.copy(rt.alloc())?;
+    assert!(rt; is_copied(&array, &copy, ENCODED));
+    Ok(())
+}

@@ -1,0 +1,80 @@
+//! Tests of schemas and record batches.
+
+use arrays::BatchFault::{self, ColumnCount, LengthsDiffer, TypeDiffers};
+use arrays::SchemaFault::{DictInList, TooDeep};
+use arrays::{DataType, IntType, RecordBatch, Schema};
+use std::alloc::Global;
+use std::test::Fail;
+use test_samples::{INT16, INT32, Positions, checked, field, lists_of};
+
+#[test]
+fn tells_faults_of_schemas(rt: HostRuntime) -> Result<(), Fail> {
+    let alloc = rt.alloc();
+    for (lists, ty, fault) in [
+        (8, DataType::Bool, None),
+        (9, DataType::Bool, Some(TooDeep { column: 0 })),
+        (1_000_000, DataType::Dict, Some(TooDeep { column: 0 })),
+        (1, DataType::Dict, Some(DictInList { column: 0 })),
+    ] {
+        let ty = lists_of(alloc, lists, ty)?;
+        let fields = vec![in alloc; field(alloc, "name", true, ty)?]?;
+        assert!(rt; Schema::new(fields).err() == fault, "{lists} lists");
+    }
+    Ok(())
+}
+
+/// A schema of a field of lists of lists of numbers.
+const NESTED: &str =
+    r#"Schema { fields: [Field { name: "name", nullable: true, ty: List(Field { name: "item", nullable: true, ty: List(Field { name: "item", nullable: true, ty: Int(IntType { bits: W16, signed: true }) }) }) }] }"#;
+
+#[test]
+fn copies_schemas(rt: HostRuntime) -> Result<(), Fail> {
+    let alloc = rt.alloc();
+    let ty = lists_of(alloc, 2, DataType::Int(INT16))?;
+    let schema = Schema::new(vec![in alloc; field(alloc, "name", true, ty)?]?)?;
+    let written = format!(in alloc; "{:?}", schema.copy(alloc)?)?;
+    assert_eq!(rt; written.as_str(), NESTED);
+    Ok(())
+}
+
+/// The types of the fields, the rows, and the type and length of each column.
+type Columns = (&'static [IntType], u32, &'static [(IntType, u64)]);
+
+const BATCHES: &[(Columns, Option<BatchFault>)] = &[
+    ((&[INT32, INT16], 2, &[(INT16, 1)]), Some(ColumnCount)),
+    (
+        (&[INT32, INT16], 2, &[(INT32, 1), (INT32, 1)]),
+        Some(TypeDiffers { column: 1 }),
+    ),
+    (
+        (&[INT32, INT16], 2, &[(INT32, 2), (INT16, 1)]),
+        Some(LengthsDiffer { column: 1 }),
+    ),
+    ((&[INT32, INT16], 2, &[(INT32, 2), (INT16, 2)]), None),
+    // A batch without columns may have rows, but not too many.
+    ((&[], 3, &[]), None),
+    ((&[], 2147483648, &[]), Some(LengthsDiffer { column: 0 })),
+];
+
+const ZEROS: Positions = &[None, Some(&[0, 0, 0, 0, 0, 0, 0, 0])];
+
+fn batch_fault(alloc: Global, parts: Columns) -> Result<Option<BatchFault>, Fail> {
+    let (types, rows, columns) = parts;
+    let mut fields = Vec::new(alloc);
+    for ty in types {
+        fields.push(field(alloc, "name", true, DataType::Int(*ty))?)?;
+    }
+    let mut arrays = Vec::new(alloc);
+    for (ty, length) in columns {
+        arrays.push(checked(alloc, DataType::Int(*ty), *length, ZEROS)?)?;
+    }
+    Ok(RecordBatch::new(Schema::new(fields)?, rows, arrays).err())
+}
+
+#[test]
+fn tells_faults_of_batches(rt: HostRuntime) -> Result<(), Fail> {
+    for (parts, fault) in BATCHES {
+        assert!(rt; batch_fault(rt.alloc(), *parts)? == *fault, "{parts:?}");
+    }
+    Ok(())
+}

@@ -1,0 +1,9 @@
+//! Tests of files of JSON: what is read of them and what is told, what is printed, and that it reads back as it was.
+#![tactic(auto)]
+
+#[cfg(test)]
+mod printing;
+#[cfg(test)]
+mod reading;
+#[cfg(test)]
+mod shipped;

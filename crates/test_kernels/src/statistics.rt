@@ -1,0 +1,82 @@
+use group::{ColumnStats, joined, stats_of};
+use std::alloc::Global;
+use std::process::Abort;
+use std::test::Fail;
+use test_samples::Sample::{self, Coded, Lists, Of};
+use test_samples::{Flat, INT8, INT16, UINT64, built, sampled};
+
+/// Asserts how statistics are printed.
+fn expect(rt: &impl Abort, alloc: Global, stats: &ColumnStats, wanted: &str) -> Result<(), Fail> {
+    let told = format!(in alloc; "{stats:?}")?;
+    assert!(rt; told.as_str() == wanted, "{told} for {wanted}");
+    Ok(())
+}
+
+/// The statistics of no slots: of a column of numbers, and of another.
+const OF_NO_NUMBERS: &str =
+    r#"ColumnStats { rows: 0, nulls: 0, sum: Some(0), least: None, greatest: None }"#;
+
+const OF_NOTHING: &str =
+    r#"ColumnStats { rows: 0, nulls: 0, sum: None, least: None, greatest: None }"#;
+
+/// Columns, their statistics, and those of no slots of their type.
+static TOLD: [(Sample, &str, &str); 6] = [
+    // The sum is wider than the numbers.
+    (
+        Of((Flat::Int(UINT64), 2, &[None, Some(&[255; 16])])),
+        r#"ColumnStats { rows: 2, nulls: 0, sum: Some(36893488147419103230), least: Some(Int(18446744073709551615)), greatest: Some(Int(18446744073709551615)) }"#,
+        OF_NO_NUMBERS,
+    ),
+    (
+        Of((Flat::Int(INT16), 0, &[None, Some(&[])])),
+        r#"ColumnStats { rows: 0, nulls: 0, sum: Some(0), least: None, greatest: None }"#,
+        OF_NO_NUMBERS,
+    ),
+    (
+        Of((Flat::Int(INT8), 3, &[Some(&[0b110]), Some(&[127, 5, 251])])),
+        r#"ColumnStats { rows: 3, nulls: 1, sum: Some(0), least: Some(Int(-5)), greatest: Some(Int(5)) }"#,
+        OF_NO_NUMBERS,
+    ),
+    // True, null and false.
+    (
+        Of((Flat::Bool, 3, &[Some(&[0b101]), Some(&[0b011])])),
+        r#"ColumnStats { rows: 3, nulls: 1, sum: None, least: Some(Bool(false)), greatest: Some(Bool(true)) }"#,
+        OF_NOTHING,
+    ),
+    // An entry that is null counts as a null.
+    (
+        Coded,
+        r#"ColumnStats { rows: 5, nulls: 2, sum: None, least: Some(Text("a")), greatest: Some(Text("b")) }"#,
+        OF_NOTHING,
+    ),
+    (
+        Lists,
+        r#"ColumnStats { rows: 4, nulls: 1, sum: None, least: None, greatest: None }"#,
+        OF_NOTHING,
+    ),
+];
+
+#[test]
+fn columns_have_statistics(rt: HostRuntime) -> Result<(), Fail> {
+    for (sample, wanted, empty) in TOLD {
+        let column = sampled(rt.alloc(), sample)?;
+        let stats = stats_of(rt.alloc(), &column.view())?;
+        expect(&rt, rt.alloc(), &stats, wanted)?;
+        let stats = ColumnStats::empty(column.view().ty());
+        expect(&rt, rt.alloc(), &stats, empty)?;
+    }
+    Ok(())
+}
+
+#[test]
+fn none_is_no_number(rt: HostRuntime) -> Result<(), Fail> {
+    let null = built(rt.alloc(), (Flat::Int(INT8), 1, &[Some(&[0]), Some(&[7])]))?;
+    let minus_5 = built(rt.alloc(), (Flat::Int(INT8), 1, &[None, Some(&[251])]))?;
+    let a = stats_of(rt.alloc(), &null.view())?;
+    let b = stats_of(rt.alloc(), &minus_5.view())?;
+    assert!(rt; a.rows <= 10 && b.rows <= 10);
+    let both = joined(rt.alloc(), &a, &b)?;
+    let wanted =
+        r#"ColumnStats { rows: 2, nulls: 1, sum: Some(-5), least: Some(Int(-5)), greatest: Some(Int(-5)) }"#;
+    expect(&rt, rt.alloc(), &both, wanted)
+}

@@ -1,0 +1,67 @@
+-- What the threads of workers and readers see of their table, field by field, since the search doesn't find it whole.
+use denote.Enum.Declared.{shape as variants}
+use denote.Enum.Enum.{Enum}
+use denote.Param.Send.{IsSend, IsSync, enum_send, param_send, recorded_send, recorded_sync, sendable, shr_sync, struct_send, struct_sync}
+use denote.Struct.Declared.{shape}
+use denote.Struct.Struct.{Struct}
+use denote.Ref.{NamedLft}
+use denote.RattleType.{RattleType}
+use Rattle.std.proofs.Crossing.{crosses}
+use Rattle.std.proofs.sync.Mutex.TheSendSync as mutex
+use Rattle.std.proofs.sync.atomic.AtomicU64.TheSendSync as word
+use Rattle.std.specs.declared.sync.ledger.Ledger as ledger
+use Rattle.answers.proofs.SendingLemmas.{batch-sync}
+use Rattle.test_loads.specs.contracts.hands.Hand as hand
+use Rattle.test_loads.specs.contracts.looking_on.Soaking as soaking
+use Rattle.histories.proofs.front.Front.TheSendSync as front
+use Rattle.histories.specs.declared.naming.Naming as names
+use Rattle.loads.proofs.PublisherLemmas.{reader-send}
+use Rattle.loads.proofs.SendingLemmas.{table-sync}
+use Rattle.shared.proofs.worker.Worker.TheSendSync as worker
+use Rattle.shared.specs.contracts.outcome.Receipt as receipt
+use Rattle.shared.specs.contracts.shared_table.SharedTable as table
+use Rattle.shared.specs.declared.naming.Naming as naming
+use Rattle.shared.specs.declared.shown.Publish as publish
+use Rattle.table.specs.Contents.{Contents}
+use mir.Syntax.{erased}
+use Rattle.test_loads.specs.contracts.looking_on.work_together.{P-row}
+use Rattle.test_loads.proofs.looking_on.work_together.Goals as goal
+
+module _ (C Q N : RattleType) (c : ledger.Ghosts C.Denot) (q : ledger.Ghosts Q.Denot) (n : naming.Ghosts N.Denot) (m : names.Ghosts N.Denot) where
+  hand-send : IsSend (hand.the_row C Q N c q n m)
+  hand-send =
+      let T = hand.the_type C Q N c q n m in
+      recorded_send (Enum (variants T)) T.D T.to T.to_one
+      (enum_send (variants T) ((search (worker.the_send, crosses, sendable) depth 20, tt), ((search (reader-send N n m, crosses, sendable) depth 20, tt), tt)))
+
+module _ (C Q N P : RattleType) (c : ledger.Ghosts C.Denot) (q : ledger.Ghosts Q.Denot) (n : naming.Ghosts N.Denot) (m : names.Ghosts N.Denot) (p : publish.Ghosts P.Denot Contents) (send-P : IsSend P) where
+  receipt-send : IsSend (receipt.the_row N n m)
+  receipt-send = search (front.the_send, crosses, sendable) depth 20
+
+  soaking-sync : (ℓ : NamedLft) (W : RattleType) → IsSync W → IsSync (soaking.the_row ℓ C Q N P W c q n m p)
+  soaking-sync ℓ W w =
+      let T = soaking.the_type ℓ C Q N P W c q n m p in
+      recorded_sync (Struct (shape T)) T.D T.to T.to_one
+      (struct_sync (shape T) (
+        search (w, sendable) depth 20,
+        (
+          shr_sync ℓ.mir ℓ.lft (table.the_row C Q N P c q n m p) (table-sync C Q N P c q n m p send-P),
+          (
+            search (batch-sync, crosses, sendable) depth 20,
+            (search sendable depth 20, (search sendable depth 20, (search (receipt-send, mutex.the_sync, crosses, sendable) depth 20, (search (word.the_sync, crosses, sendable) depth 20, tt)))),
+          ),
+        ),
+      ))
+
+pub run_all-requires-sync-J : goal.run_all-requires-sync-J
+run_all-requires-sync-J g c κs within =
+    let P = P-row g.row.C g.row.Q g.row.N g.row.P g.row.W g.row.T in
+    record {
+      shared = (soaking-sync g.row.C g.row.Q g.row.N P g.C.Ledger g.Q.Ledger g.N.Naming-1 g.N.Naming-2 g.P.Publish c.type_bounds.send-P
+          (record { mir = erased; lft = _ }) g.row.W (record { shared = c.type_bounds.sync-W.shared })).shared;
+    }
+
+pub run_all-requires-send-H : goal.run_all-requires-send-H
+run_all-requires-send-H g c κs within =
+    let all = hand-send g.row.C g.row.Q g.row.N g.C.Ledger g.Q.Ledger g.N.Naming-1 g.N.Naming-2 in
+    record { owned = all.owned; leaving = (param_send 0 _ all).leaving }

@@ -1,0 +1,28 @@
+//! What tests make batches and tables of.
+
+use arrays::{RecordBatch, Schema};
+use std::alloc::Global;
+use std::test::Fail;
+use table::TableState;
+use test_samples::{Sample, field, sampled};
+
+/// So many rows, and of each column the name, whether it may hold nulls, and what it holds.
+pub(crate) type Batch = (u32, &'static [(&'static str, bool, Sample)]);
+
+/// The batch of these columns.
+pub(crate) fn batch_of(alloc: Global, batch: Batch) -> Result<RecordBatch, Fail> {
+    let (rows, columns) = batch;
+    let (mut fields, mut arrays) = (Vec::new(alloc), Vec::new(alloc));
+    for (name, nullable, sample) in columns {
+        let array = sampled(alloc, *sample)?;
+        fields.push(field(alloc, *name, *nullable, array.ty().copy(alloc)?)?)?;
+        arrays.push(array)?;
+    }
+    Ok(RecordBatch::new(Schema::new(fields)?, rows, arrays)?)
+}
+
+/// A table for batches of the fields of this one.
+pub(crate) fn table_for(alloc: Global, batch: Batch) -> Result<TableState, Fail> {
+    let schema = batch_of(alloc, batch)?.schema().copy(alloc)?;
+    Ok(TableState::new(alloc, schema)?)
+}

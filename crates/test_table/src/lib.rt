@@ -1,0 +1,21 @@
+//! Tests of tables: of one thread, and of those that several workers append to and readers read.
+#![tactic(auto)]
+
+#[cfg(test)]
+mod admitting;
+#[cfg(test)]
+mod appended;
+#[cfg(test)]
+mod appending;
+#[cfg(test)]
+mod batches;
+#[cfg(test)]
+mod limits;
+#[cfg(test)]
+mod opening;
+#[cfg(test)]
+mod reading;
+#[cfg(test)]
+mod scenes;
+#[cfg(test)]
+mod showing;
