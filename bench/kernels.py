@@ -3,21 +3,19 @@
 
     bench/kernels.py [RUNS [KERNEL..]]
 
-Builds bench/kernels.rs by cargo in a folder of its own; `crates/bench_kernels` has to be built before (`rt run`
-there). Where VENDORED names a folder of vendored crates, cargo takes indexmap from there. The runs alternate. Printed
-are, for each kernel, the medians of the milliseconds of one call and their ratio: what a process takes for many calls
-less what it takes for one, so that making the columns doesn't count.
+Builds `crates/bench`, and bench/kernels.rs by cargo in a folder of its own; where VENDORED names a folder of vendored
+crates, cargo takes indexmap from there. The runs alternate. Printed are, for each kernel, the medians of the
+milliseconds of one call and their ratio: what a process takes for many calls less what it takes for one, so that
+making the columns doesn't count.
 """
-import os
-import shutil
 import statistics
 import subprocess
 import sys
 import tempfile
 import time
 
-TOP = os.path.dirname(os.path.dirname(os.path.abspath(__file__)))
-OURS = os.path.join(TOP, "crates", "bench_kernels", "out", "bench_kernels")
+import programs
+
 KERNELS = [("add", 8_000_000, 10), ("less", 8_000_000, 40), ("add-number", 8_000_000, 10), ("greater-number", 8_000_000, 40), ("equal", 1_000_000, 40), ("and", 64_000_000, 60), ("filter", 8_000_000, 20), ("take", 8_000_000, 5),
            ("take-texts", 1_000_000, 8), ("concat", 16_000_000, 10), ("recode-few", 1_000_000, 20), ("recode-many", 1_000_000, 5), ("stats-of", 8_000_000, 30),
            ("null-count", 64_000_000, 800), ("bits-and", 64_000_000, 200), ("bits-or", 64_000_000, 200), ("bits-not", 64_000_000, 200),
@@ -26,7 +24,7 @@ KERNELS = [("add", 8_000_000, 10), ("less", 8_000_000, 40), ("add-number", 8_000
 
 def seconds(program, kernel, rows, times):
     begin = time.monotonic()
-    out = subprocess.run([program, kernel, str(rows), str(times)], stdout=subprocess.PIPE, check=True).stdout
+    out = subprocess.run([*program, kernel, str(rows), str(times)], stdout=subprocess.PIPE, check=True).stdout
     return time.monotonic() - begin, out
 
 
@@ -37,32 +35,17 @@ def one_call(program, kernel, rows, times):
     return 1000 * (often - once) / times, first
 
 
-def built(folder):
-    """The path of the plain Rust program, built in the folder."""
-    for name in ["Cargo.toml", "kernels.rs", "export.rs", "query.rs"]:
-        shutil.copy(os.path.join(TOP, "bench", name), folder)
-    words = ["cargo", "build", "--release", "--quiet"]
-    vendored = os.environ.get("VENDORED")
-    if vendored:
-        words += ["--offline", "--config", 'source.crates-io.replace-with="vendored"',
-                  "--config", f'source.vendored.directory="{vendored}"']
-    # ours are built for this level
-    environment = {**os.environ, "RUSTFLAGS": "-C target-cpu=x86-64-v2"}
-    subprocess.run(words, cwd=folder, check=True, env=environment)
-    return os.path.join(folder, "target", "release", "kernels")
-
-
 def main():
     runs = int(sys.argv[1]) if len(sys.argv) > 1 else 5
     with tempfile.TemporaryDirectory() as folder:
-        peer = built(folder)
+        ours_words, peer_words = programs.ours("kernels"), [programs.plain("kernels", folder)]
         for kernel, rows, times in KERNELS:
             if sys.argv[2:] and kernel not in sys.argv[2:]:
                 continue
             pairs = []
             for _ in range(runs):
-                ours, said = one_call(OURS, kernel, rows, times)
-                theirs, told = one_call(peer, kernel, rows, times)
+                ours, said = one_call(ours_words, kernel, rows, times)
+                theirs, told = one_call(peer_words, kernel, rows, times)
                 assert said == told, (kernel, said, told)
                 pairs.append((ours, theirs))
             ours = statistics.median(pair[0] for pair in pairs)

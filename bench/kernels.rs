@@ -1,4 +1,4 @@
-//! The kernels of `bench_kernels` in plain Rust with the same checks, as Arrow's libraries write them: validities by words
+//! The kernels of `bench kernels` in plain Rust with the same checks, as Arrow's libraries write them: validities by words
 //! of 64 bits, values without a branch a slot. `kernels KERNEL ROWS TIMES`.
 
 use indexmap::IndexSet;

@@ -3,26 +3,23 @@
 
     bench/loads.py [RUNS]
 
-`crates/bench_loads` and `crates/bench_readers` have to be built before (`rt run` there). Times are differences of whole runs,
-each the least of many in turn, less the run that only makes the files, and the start of threads is that of workers whose files
-have no batches. A hundred appends are timed by the lines that a program writes round them (`bench/readers.py`, without a
+Builds `crates/bench`. Times are differences of whole runs, each the least of many in turn, less the run that only makes the
+files, and the start of threads is that of workers whose files have no batches. A hundred appends are timed by the lines that a program writes round them (`bench/readers.py`, without a
 reader), as the median of many.
 """
-import os
 import statistics
 import subprocess
 import sys
 import time
 
+import programs
 import readers
-
-TOP = os.path.dirname(os.path.dirname(os.path.abspath(__file__)))
-OURS = os.path.join(TOP, "crates", "bench_loads", "out", "bench_loads")
 
 
 def seconds(*numbers):
+    words = [*programs.ours("loads"), *map(str, numbers)]
     begin = time.monotonic()
-    subprocess.run([OURS, *map(str, numbers)], stdout=subprocess.DEVNULL, check=True)
+    subprocess.run(words, stdout=subprocess.DEVNULL, check=True)
     return time.monotonic() - begin
 
 

@@ -4,13 +4,11 @@
     bench/query.py [RUNS [QUERY..]]          in one piece
     bench/query.py pieces [RUNS [QUERY..]]   in 1, 2, 4 and 64 pieces on threads
 
-Builds bench/query.rs by cargo in a folder of its own; `crates/bench_query` has to be built before (`rt run` there). Where
-VENDORED names a folder of vendored crates, cargo takes indexmap from there. 8 million rows in 80 batches; the runs
+Builds `crates/bench`, and bench/query.rs by cargo in a folder of its own; where VENDORED names a folder of vendored crates,
+cargo takes indexmap from there. 8 million rows in 80 batches; the runs
 alternate. Both print each answer as soon as they have it. Printed are the medians of the milliseconds from one answer of a
 run to the next, so that making the columns doesn't count. SQLite's time is that of one statement, once the rows are there.
 """
-import os
-import shutil
 import sqlite3
 import statistics
 import subprocess
@@ -18,8 +16,8 @@ import sys
 import tempfile
 import time
 
-TOP = os.path.dirname(os.path.dirname(os.path.abspath(__file__)))
-OURS = os.path.join(TOP, "crates", "bench_query", "out", "bench_query")
+import programs
+
 BATCHES, ROWS = 80, 100_000
 QUERIES = {
     "sum-by-text": ('{"by":["k"],"aggs":[{"agg":"sum","column":"v"}]}',
@@ -38,28 +36,13 @@ ANSWERS = {"sum-by-text": 60, "ends-by-number": 16, "rows-where": 150, "sum": 10
 
 def one_answer(program, query, times, pieces=1):
     """The median of the milliseconds from one answer to the next, and what the answers say."""
-    words = [program, query, str(BATCHES), str(ROWS), str(times + 1), str(pieces)]
+    words = [*program, query, str(BATCHES), str(ROWS), str(times + 1), str(pieces)]
     with subprocess.Popen(words, stdout=subprocess.PIPE) as run:
         lines = [(line, time.monotonic()) for line in run.stdout]
     assert run.returncode == 0 and len(lines) == times + 1, words
     said = {line for line, _ in lines}
     assert len(said) == 1, said
     return statistics.median(1000 * (after - before) for (_, before), (_, after) in zip(lines, lines[1:])), said.pop()
-
-
-def built(folder):
-    """The path of the plain Rust program, built in the folder."""
-    for name in ["Cargo.toml", "kernels.rs", "export.rs", "query.rs"]:
-        shutil.copy(os.path.join(TOP, "bench", name), folder)
-    words = ["cargo", "build", "--release", "--quiet", "--bin", "query"]
-    vendored = os.environ.get("VENDORED")
-    if vendored:
-        words += ["--offline", "--config", 'source.crates-io.replace-with="vendored"',
-                  "--config", f'source.vendored.directory="{vendored}"']
-    # ours are built for this level
-    environment = {**os.environ, "RUSTFLAGS": "-C target-cpu=x86-64-v2"}
-    subprocess.run(words, cwd=folder, check=True, env=environment)
-    return os.path.join(folder, "target", "release", "query")
 
 
 def spread(row, salt, distinct):
@@ -76,13 +59,13 @@ def table():
     return base
 
 
-def beside_sqlite(peer, runs, names):
+def beside_sqlite(own, peer, runs, names):
     base = table()
     for name in names:
         text, statement = QUERIES[name]
         pairs = []
         for _ in range(runs):
-            ours, said = one_answer(OURS, text, ANSWERS[name])
+            ours, said = one_answer(own, text, ANSWERS[name])
             theirs, told = one_answer(peer, name, ANSWERS[name])
             assert said == told, (name, said, told)
             pairs.append((ours, theirs))
@@ -95,14 +78,14 @@ def beside_sqlite(peer, runs, names):
         print(f"{name}: {ours:.1f} ms beside {theirs:.1f} ms, {ours / theirs:.2f}; SQLite {sqlite:.0f} ms", flush=True)
 
 
-def in_pieces(peer, runs, names):
+def in_pieces(own, peer, runs, names):
     for name in names:
         text = QUERIES[name][0]
         took = {pieces: ([], []) for pieces in (1, 2, 4, 64)}
         for _ in range(runs):
             answers = set()
             for pieces, (ours, theirs) in took.items():
-                time_taken, said = one_answer(OURS, text, ANSWERS[name], pieces)
+                time_taken, said = one_answer(own, text, ANSWERS[name], pieces)
                 ours.append(time_taken)
                 time_taken, told = one_answer(peer, name, ANSWERS[name], pieces)
                 theirs.append(time_taken)
@@ -121,7 +104,7 @@ def main():
     runs = int(words[0]) if words else 5
     names = words[1:] or list(QUERIES)[:2 if pieces else None]
     with tempfile.TemporaryDirectory() as folder:
-        (in_pieces if pieces else beside_sqlite)(built(folder), runs, names)
+        (in_pieces if pieces else beside_sqlite)(programs.ours("query"), [programs.plain("query", folder)], runs, names)
 
 
 main()

@@ -1,4 +1,4 @@
-//! The queries of `bench_query` in plain Rust, each written by hand over the same columns, in pieces on scoped threads.
+//! The queries of `bench query` in plain Rust, each written by hand over the same columns, in pieces on scoped threads.
 //! `query QUERY BATCHES ROWS TIMES PIECES`.
 
 use indexmap::IndexMap;

@@ -3,8 +3,8 @@
 
     bench/readers.py [RUNS [STANDING..]]
 
-`crates/bench_readers` has to be built before (`rt run` there). The program says when its first batches stand and when it has
-ended; what is between is measured: the least of the runs. What threads use of the processors is as Linux counts it, looked up
+Builds `crates/bench`. The program says when its first batches stand and when it has ended; what is between is measured: the
+least of the runs. What threads use of the processors is as Linux counts it, looked up
 each millisecond. Looks come one right after the other, or with a pause after each, and last longer than the appends that are measured beside them.
 With STANDING, an append is measured where so many batches stand; each of them was made a version of too, so that 100,000 take
 minutes.
@@ -16,8 +16,8 @@ import sys
 import time
 from collections import namedtuple
 
-TOP = os.path.dirname(os.path.dirname(os.path.abspath(__file__)))
-OURS = os.path.join(TOP, "crates", "bench_readers", "out", "bench_readers")
+import programs
+
 Phase = namedtuple("Phase", "all worker worker_used readers_used")
 
 
@@ -44,7 +44,7 @@ def watch(process):
 
 def phase(standing, appends, readers, looks=0, pause=0, watched=False):
     """The seconds from where the first batches stand: to the end, and, where they are watched, until the worker has ended and those that it and the readers use."""
-    words = [OURS, *map(str, (standing, appends, readers, looks, pause))]
+    words = [*programs.ours("readers"), *map(str, (standing, appends, readers, looks, pause))]
     with subprocess.Popen(words, stdout=subprocess.PIPE) as process:
         process.stdout.readline()
         begin = time.monotonic()

@@ -3,23 +3,22 @@
 
     bench/table.py [RUNS]
 
-`crates/bench_table` has to be built before (`rt run` there). For batches that bring no new text after the first one, and
+Builds `crates/bench`. For batches that bring no new text after the first one, and
 for batches with 10 new texts each, it prints how many rows are admitted in a second, and the time of the last hundred of
 1,000 batches beside that of the first hundred: differences of whole runs, each the least of many, since a processor that
 does other work slows some of them by half.
 """
-import os
 import subprocess
 import sys
 import time
 
-TOP = os.path.dirname(os.path.dirname(os.path.abspath(__file__)))
-OURS = os.path.join(TOP, "crates", "bench_table", "out", "bench_table")
+import programs
 
 
 def seconds(batches, fresh):
+    words = [*programs.ours("table"), str(batches), str(fresh)]
     begin = time.monotonic()
-    subprocess.run([OURS, str(batches), str(fresh)], stdout=subprocess.DEVNULL, check=True)
+    subprocess.run(words, stdout=subprocess.DEVNULL, check=True)
     return time.monotonic() - begin
 
 
