@@ -1,4 +1,6 @@
-//! The program over memory.
+//! The program over memory. To prove a function costs for each value that it would let go where something fails, and most
+//! for an assertion that has a message: so cases are told by functions that answer a `bool`, one function asserts for all of
+//! them, and a test goes over a table.
 ghost use Rattle.std.specs.Prelude.{◌≡◌, ◌^◌, ◌-◌, ◌<◌, All, IfOk};
 
 mod bytes;
@@ -15,7 +17,6 @@ use arrowtab::{job, run};
 use std::alloc::{AllocError, Global};
 use std::process::Abort;
 use std::sync::Wait;
-use std::test::Fail;
 use std::thread::Threads;
 
 /// What a run came to.
@@ -26,6 +27,15 @@ pub(crate) struct Outcome {
     pub(crate) err: MemorySink,
 }
 
+impl Outcome {
+    /// Whether it is of this status, and wrote this.
+    pub(crate) fn is(&self, status: u8, out: &str, err: &str) -> bool {
+        self.status == status
+            && self.out.taken() == out.as_bytes()
+            && self.err.taken() == err.as_bytes()
+    }
+}
+
 /// A source of a text.
 pub(crate) fn source(alloc: Global, text: &str) -> Result<MemorySource, AllocError>
     ensures { IfOk result (λ s. s.failures ≡ 0) }
@@ -33,24 +43,52 @@ pub(crate) fn source(alloc: Global, text: &str) -> Result<MemorySource, AllocErr
     Ok(MemorySource::new(Vec::from_slice(alloc, text.as_bytes())?))
 }
 
-/// Runs what the words ask for, from these sources to this output.
+/// Runs what the words ask for, from these sources to this output. None where they ask for no job over so many files.
 pub(crate) fn ran(
-    rt: &(impl Abort + Wait + Threads + Sync),
+    rt: &(impl Wait + Threads + Sync),
     alloc: Global,
     words: &[&str],
     sources: &mut [MemorySource],
     out: MemorySink,
-) -> Result<Outcome, Fail>
+) -> Option<Outcome>
     requires sources { All (λ s. s.failures < 2 ^ 64 - 1) sources.old }
     requires out { out.failures < 2 ^ 64 - 1 }
 {
-    let job = job(alloc, words)?;
-    assert!(rt; !sources.is_empty());
-    assert!(rt; job.names.len() == sources.len());
+    let Ok(job) = job(alloc, words) else {
+        return None;
+    };
+    if sources.is_empty() || job.names.len() != sources.len() {
+        return None;
+    }
     let mut out = out;
     let mut err = MemorySink::new(alloc);
     let status = run(rt, rt, alloc, &job, sources, &mut out, &mut err);
-    Ok(Outcome { status, out, err })
+    Some(Outcome { status, out, err })
+}
+
+/// The same over one file or two of these texts.
+fn ran_over(
+    rt: &(impl Wait + Threads + Sync),
+    alloc: Global,
+    words: &[&str],
+    files: (&str, Option<&str>),
+) -> Option<Outcome> {
+    let Ok(first) = source(alloc, files.0) else {
+        return None;
+    };
+    let Some(text) = files.1 else {
+        return ran(rt, alloc, words, &mut [first], MemorySink::new(alloc));
+    };
+    let Ok(second) = source(alloc, text) else {
+        return None;
+    };
+    ran(
+        rt,
+        alloc,
+        words,
+        &mut [first, second],
+        MemorySink::new(alloc),
+    )
 }
 
 /// Asserts what a run over one file or two of these texts writes, and the line of its fault.
@@ -60,16 +98,16 @@ pub(crate) fn expect(
     words: &[&str],
     files: (&str, Option<&str>),
     written: (&str, &str),
-) -> Result<(), Fail> {
-    let first = source(alloc, files.0)?;
-    let out = MemorySink::new(alloc);
-    let came = match files.1 {
-        None => ran(rt, alloc, words, &mut [first], out)?,
-        Some(text) => ran(rt, alloc, words, &mut [first, source(alloc, text)?], out)?,
-    };
+) {
     let (output, line) = written;
-    assert_eq!(rt; came.err.taken(), line.as_bytes(), "for {files:?}");
-    assert_eq!(rt; came.out.taken(), output.as_bytes(), "for {files:?}");
-    assert!(rt; came.status == u8::from(!line.is_empty()), "for {files:?}");
-    Ok(())
+    let is_right = match ran_over(rt, alloc, words, files) {
+        Some(came) => came.is(u8::from(!line.is_empty()), output, line),
+        None => false,
+    };
+    assert_case(rt, is_right, words, files.0);
+}
+
+/// Asserts that a case is as it should be, and names it by its words and a text where it isn't.
+pub(crate) fn assert_case(rt: &impl Abort, is_right: bool, words: &[&str], text: &str) {
+    assert!(rt; is_right, "for {words:?} and {text}");
 }

@@ -1,10 +1,10 @@
 //! Where bytes come from and go to, in pieces and with failures.
-ghost use Rattle.std.specs.Prelude.{◌^◌, ◌-◌, ◌<◌, All, length};
+ghost use Rattle.std.specs.Prelude.{◌≡◌, ◌^◌, ◌-◌, ◌<◌, All, IfOk, length};
 
+use super::{assert_case, source};
 use arrowtab::memory::{MemorySink, MemorySource, Plan};
-use arrowtab::{Source, SourceFault, read_whole, write_whole};
+use arrowtab::{Source, SourceFault, WriteFailed, read_whole, write_whole};
 use std::alloc::{AllocError, Global};
-use std::test::Fail;
 
 /// Bytes that tell their places apart.
 fn pattern(alloc: Global, length: usize) -> Result<Vec<u8>, AllocError> {
@@ -15,52 +15,95 @@ fn pattern(alloc: Global, length: usize) -> Result<Vec<u8>, AllocError> {
     Ok(bytes)
 }
 
-#[test]
-fn reads_to_the_end(rt: HostRuntime) -> Result<(), Fail> {
-    for (length, most) in [
-        (150_000, 1),
-        (150_000, 3),
-        (150_000, 70_000),
-        (150_000, usize::MAX),
-        (0, usize::MAX),
-    ] {
-        let whole = pattern(rt.alloc(), length)?;
-        assert!(rt; most > 0);
-        let mut source = MemorySource::new(whole.clone()?).in_pieces(most);
-        let bytes = read_whole(rt.alloc(), &mut source)?;
-        assert!(rt; bytes.as_slice() == whole.as_slice(), "in pieces of {most}");
-        assert!(rt; source.remaining().is_empty() && source.failures() == 0);
+/// How many bytes, how many of them a read gives at most, and the name of the case.
+const LENGTHS: [(usize, usize, &str); 5] = [
+    (150_000, 1, "1"),
+    (150_000, 3, "3"),
+    (150_000, 70_000, "70000"),
+    (150_000, usize::MAX, "all"),
+    (0, usize::MAX, "none"),
+];
 
-        // At the end there is nothing, however often it is asked for.
-        assert!(rt; read_whole(rt.alloc(), &mut source)?.is_empty());
+#[test]
+fn reads_to_the_end(rt: HostRuntime) {
+    for (length, most, name) in LENGTHS {
+        let is_right = match pattern(rt.alloc(), length) {
+            Ok(whole) => is_read(rt.alloc(), whole.as_slice(), most),
+            Err(_) => false,
+        };
+        assert_case(&rt, is_right, &["a read gives"], name);
     }
-    Ok(())
+}
+
+/// Whether a source of these bytes, which gives them in pieces, is read to its end.
+fn is_read(alloc: Global, whole: &[u8], most: usize) -> bool {
+    let Ok(bytes) = Vec::from_slice(alloc, whole) else {
+        return false;
+    };
+    let mut source = MemorySource::new(bytes);
+    if most > 0 {
+        source = source.in_pieces(most);
+    }
+
+    // At the end there is nothing, however often it is asked for.
+    gives(alloc, &mut source, whole)
+        && source.remaining().is_empty()
+        && source.failures() == 0
+        && gives(alloc, &mut source, b"")
+}
+
+/// Whether a source gives these bytes, and then its end.
+fn gives(alloc: Global, source: &mut MemorySource, wanted: &[u8]) -> bool
+    requires { source.old.failures < 2 ^ 64 - 1 }
+{
+    match read_whole(alloc, source) {
+        Ok(bytes) => bytes.as_slice() == wanted,
+        Err(_) => false,
+    }
+}
+
+/// Ten bytes, which come three at a time, and the read of this number fails.
+fn digits(alloc: Global, call: u64) -> Result<MemorySource, AllocError>
+    ensures { IfOk result (λ s. s.failures ≡ 0) }
+{
+    let source = source(alloc, "0123456789")?;
+    Ok(source.in_pieces(3).failing(Plan::At(call)))
 }
 
 // Ten bytes in pieces of three come in four reads, and a fifth finds the end.
 #[test]
-fn tells_each_failed_read(rt: HostRuntime) -> Result<(), Fail> {
-    let whole = b"0123456789";
-    for (call, left) in [(0, 10), (1, 7), (2, 4), (3, 1), (4, 0)] {
-        let bytes = Vec::from_slice(rt.alloc(), whole)?;
-        let mut source = MemorySource::new(bytes)
-            .in_pieces(3)
-            .failing(Plan::At(call));
-        let fault = read_whole(rt.alloc(), &mut source).err();
-        let remaining = source.remaining().len();
-        assert!(rt;
-            fault == Some(SourceFault::ReadFailed) && remaining == left,
-            "at read {call}"
-        );
-        assert!(rt; source.failures() == 1);
-        let rest = read_whole(rt.alloc(), &mut source)?;
-        assert!(rt; rest.len() == left);
+fn tells_each_failed_read(rt: HostRuntime) {
+    for (call, left) in [
+        (0, "0123456789"),
+        (1, "3456789"),
+        (2, "6789"),
+        (3, "9"),
+        (4, ""),
+    ] {
+        let is_right = fails_before(rt.alloc(), call, left.as_bytes());
+        assert_case(&rt, is_right, &["a read fails"], left);
     }
-    let mut source = MemorySource::new(Vec::from_slice(rt.alloc(), whole)?)
-        .in_pieces(3)
-        .failing(Plan::At(5));
-    assert!(rt; read_whole(rt.alloc(), &mut source)?.as_slice() == whole.as_slice());
-    Ok(())
+    assert!(rt; gives_all_digits(rt.alloc()));
+}
+
+/// Whether the failure of this read is told, with these bytes left, which are then given.
+fn fails_before(alloc: Global, call: u64, left: &[u8]) -> bool {
+    let Ok(mut source) = digits(alloc, call) else {
+        return false;
+    };
+    let fault = read_whole(alloc, &mut source).err();
+    fault == Some(SourceFault::ReadFailed)
+        && source.remaining() == left
+        && source.failures() == 1
+        && gives(alloc, &mut source, left)
+}
+
+/// Whether a failure that was to come after the last read doesn't come.
+fn gives_all_digits(alloc: Global) -> bool {
+    match digits(alloc, 5) {
+        Ok(mut source) => gives(alloc, &mut source, b"0123456789"),
+        Err(_) => false,
+    }
 }
 
 /// Reads one source of several, as a program over a list of files does.
@@ -76,39 +119,54 @@ fn read_at<S: Source>(
 }
 
 #[test]
-fn reads_one_of_many(rt: HostRuntime) -> Result<(), Fail> {
-    let first = MemorySource::new(Vec::from_slice(rt.alloc(), b"first")?);
-    let second = MemorySource::new(Vec::from_slice(rt.alloc(), b"second")?);
+fn reads_one_of_many(rt: HostRuntime) {
+    assert!(rt; reads_the_second(rt.alloc()));
+}
+
+/// Whether reading the second of two sources leaves the first as it was.
+fn reads_the_second(alloc: Global) -> bool {
+    let Ok(first) = source(alloc, "first") else {
+        return false;
+    };
+    let Ok(second) = source(alloc, "second") else {
+        return false;
+    };
     let mut sources = [first, second];
-    assert!(rt; read_at(rt.alloc(), &mut sources, 1)?.as_slice() == b"second".as_slice());
-    assert!(rt; sources[0].remaining() == b"first".as_slice());
-    assert!(rt; sources[1].remaining().is_empty());
-    Ok(())
+    let Ok(bytes) = read_at(alloc, &mut sources, 1) else {
+        return false;
+    };
+    bytes.as_slice() == b"second".as_slice()
+        && sources[0].remaining() == b"first".as_slice()
+        && sources[1].remaining().is_empty()
 }
 
 #[test]
-fn writes_a_byte_at_a_time(rt: HostRuntime) -> Result<(), Fail> {
+fn writes_a_byte_at_a_time(rt: HostRuntime) {
     let mut sink = MemorySink::new(rt.alloc()).in_pieces(1);
-    write_whole(&mut sink, b"one")?;
-    write_whole(&mut sink, b"")?;
-    write_whole(&mut sink, b", two")?;
+    assert!(rt; writes_pieces(&mut sink).is_ok());
     assert!(rt; sink.taken() == b"one, two".as_slice() && sink.failures() == 0);
-    Ok(())
+}
+
+fn writes_pieces(sink: &mut MemorySink) -> Result<(), WriteFailed>
+    requires { sink.old.failures < 2 ^ 64 - 1 }
+{
+    write_whole(sink, b"one")?;
+    write_whole(sink, b"")?;
+    write_whole(sink, b", two")
 }
 
 // Five bytes, two a write, are three writes.
 #[test]
-fn tells_each_failed_write(rt: HostRuntime) -> Result<(), Fail> {
+fn tells_each_failed_write(rt: HostRuntime) {
     for (call, taken) in [(0, ""), (1, "01"), (2, "0123"), (3, "01234")] {
-        let mut sink = MemorySink::new(rt.alloc())
-            .in_pieces(2)
-            .failing(Plan::At(call));
-        let failed = write_whole(&mut sink, b"01234").is_err();
-        assert!(rt;
-            failed == (call < 3) && sink.failures() == u64::from(failed),
-            "at write {call}"
-        );
-        assert!(rt; sink.taken() == taken.as_bytes(), "at write {call}");
+        let is_right = fails_behind(rt.alloc(), call, taken.as_bytes());
+        assert_case(&rt, is_right, &["a write fails"], taken);
     }
-    Ok(())
+}
+
+/// Whether the failure of this write is told, behind these bytes.
+fn fails_behind(alloc: Global, call: u64, taken: &[u8]) -> bool {
+    let mut sink = MemorySink::new(alloc).in_pieces(2).failing(Plan::At(call));
+    let failed = write_whole(&mut sink, b"01234").is_err();
+    failed == (call < 3) && sink.failures() == u64::from(failed) && sink.taken() == taken
 }

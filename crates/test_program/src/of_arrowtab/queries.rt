@@ -1,11 +1,10 @@
 //! Queries over memory: the status, what went to the output, and the line of the fault.
 
-use super::{expect, ran};
-use arrowtab::memory::{MemorySink, MemorySource, Plan};
+use super::{assert_case, expect, ran, source};
+use arrowtab::memory::{MemorySink, Plan};
 use std::alloc::{AllocError, Global};
 use std::process::Abort;
 use std::sync::Wait;
-use std::test::Fail;
 use std::thread::Threads;
 
 /// A file of the three numbers 9223372036854775807, null and -1.
@@ -27,9 +26,9 @@ fn expect_answer(
     file: &str,
     query: &str,
     written: (&str, &str),
-) -> Result<(), Fail> {
+) {
     let words = ["arrowtab", "query", "--query", query, "A"];
-    expect(rt, alloc, &words, (file, None), written)
+    expect(rt, alloc, &words, (file, None), written);
 }
 
 /// A file, a query, the output and the line of the fault.
@@ -129,49 +128,67 @@ const ANSWERS: [(&str, &str, &str, &str); 16] = [
     (PAIRS, "{", "", "arrowtab: query: J1 NotJson\n"),
 ];
 
-/// The query that counts the rows where `k` is null, so often negated.
+/// A query that counts the rows where `k` is null, so often negated.
+const NEGATED: &str =
+    r#"{"filter":NOT{"op":"is_null","args":[{"column":"k"}]}END,"aggs":[{"agg":"rows"}]}"#;
+
 fn negated(alloc: Global, times: usize) -> Result<String, AllocError> {
-    let mut text = String::from_str(alloc, r#"{"filter":"#)?;
-    for _time in 0..times {
-        text.push_str(r#"{"op":"not","args":["#)?;
-    }
-    text.push_str(r#"{"op":"is_null","args":[{"column":"k"}]}"#)?;
-    for _time in 0..times {
-        text.push_str("]}")?;
-    }
-    text.push_str(r#","aggs":[{"agg":"rows"}]}"#)?;
-    Ok(text)
+    let nots = r#"{"op":"not","args":["#.repeat(alloc, times)?;
+    let text = NEGATED.replace(alloc, "NOT", nots.as_str())?;
+    let ends = "]}".repeat(alloc, times)?;
+    text.as_str().replace(alloc, "END", ends.as_str())
 }
 
 #[test]
-fn answers_queries(rt: HostRuntime) -> Result<(), Fail> {
+fn answers_queries(rt: HostRuntime) {
     for (file, query, output, line) in ANSWERS {
-        expect_answer(&rt, rt.alloc(), file, query, (output, line))?;
+        expect_answer(&rt, rt.alloc(), file, query, (output, line));
     }
-    for (times, output, line) in [(30, "2\n", ""), (31, "", "arrowtab: query: Q5 TooDeep\n")] {
-        let query = negated(rt.alloc(), times)?;
-        expect_answer(&rt, rt.alloc(), PAIRS, query.as_str(), (output, line))?;
+    expect_negated(&rt, rt.alloc(), 30, ("2\n", ""));
+    let too_deep = "arrowtab: query: Q5 TooDeep\n";
+    expect_negated(&rt, rt.alloc(), 31, ("", too_deep));
+}
+
+/// Asserts what the query that is so often negated writes, and the line of its fault.
+fn expect_negated(
+    rt: &(impl Abort + Wait + Threads + Sync),
+    alloc: Global,
+    times: usize,
+    written: (&str, &str),
+) {
+    match negated(alloc, times) {
+        Ok(query) => expect_answer(rt, alloc, PAIRS, query.as_str(), written),
+        Err(_) => assert_case(rt, false, &["no memory"], NEGATED),
     }
-    Ok(())
 }
 
 // A query that isn't read is told before a source is touched, one that doesn't resolve once all files are loaded.
 #[test]
-fn reads_the_query_first(rt: HostRuntime) -> Result<(), Fail> {
+fn reads_the_query_first(rt: HostRuntime) {
     for (query, failures, line) in [
-        ("[]", 0, b"arrowtab: query: J3 WrongMember\n".as_slice()),
-        (r#"{"by":["w"]}"#, 1, b"arrowtab: A: cannot be read\n"),
+        ("[]", 0, "arrowtab: query: J3 WrongMember\n"),
+        (r#"{"by":["w"]}"#, 1, "arrowtab: A: cannot be read\n"),
     ] {
-        let bytes = Vec::from_slice(rt.alloc(), PAIRS.as_bytes())?;
-        let mut sources = [MemorySource::new(bytes).failing(Plan::At(0))];
-        let words = ["arrowtab", "query", "--query", query, "A"];
-        let out = MemorySink::new(rt.alloc());
-        let came = ran(&rt, rt.alloc(), &words, &mut sources, out)?;
-        assert!(rt; came.err.taken() == line, "for {query}");
-        assert!(rt;
-            sources[0].failures() == failures && came.status == 1,
-            "for {query}"
-        );
+        let is_right = fails_after(&rt, rt.alloc(), query, failures, line);
+        assert_case(&rt, is_right, &[query], line);
     }
-    Ok(())
+}
+
+/// Whether a query over a source that can't be read comes to this line, after so many failures of the source.
+fn fails_after(
+    rt: &(impl Wait + Threads + Sync),
+    alloc: Global,
+    query: &str,
+    failures: u64,
+    line: &str,
+) -> bool {
+    let Ok(source) = source(alloc, PAIRS) else {
+        return false;
+    };
+    let mut sources = [source.failing(Plan::At(0))];
+    let words = ["arrowtab", "query", "--query", query, "A"];
+    match ran(rt, alloc, &words, &mut sources, MemorySink::new(alloc)) {
+        Some(came) => came.is(1, "", line) && sources[0].failures() == failures,
+        None => false,
+    }
 }

@@ -1,7 +1,8 @@
 //! How refusals are told.
 
+use super::assert_case;
 use arrowtab::refusal::refusal_text;
-use std::test::Fail;
+use std::alloc::Global;
 use table::Refusal;
 
 /// Each refusal, and how it is told.
@@ -21,14 +22,20 @@ const TOLD: [(Refusal, &str); 6] = [
 ];
 
 #[test]
-fn refusals_are_told(rt: HostRuntime) -> Result<(), Fail> {
+fn refusals_are_told(rt: HostRuntime) {
     for (refusal, wanted) in TOLD {
-        let shown = format!(in rt.alloc(); "{refusal}")?;
-        let told = refusal_text(rt.alloc(), refusal)?;
-        assert!(rt;
-            shown.as_str() == wanted && told.as_str() == wanted,
-            "{told}"
-        );
+        let is_right = is_told(rt.alloc(), refusal, wanted);
+        assert_case(&rt, is_right, &["refusal"], wanted);
     }
-    Ok(())
+}
+
+/// Whether a refusal is told and shown as this.
+fn is_told(alloc: Global, refusal: Refusal, wanted: &str) -> bool {
+    let Ok(told) = refusal_text(alloc, refusal) else {
+        return false;
+    };
+    let Ok(shown) = format!(in alloc; "{refusal}") else {
+        return false;
+    };
+    told.as_str() == wanted && shown.as_str() == wanted
 }

@@ -1,8 +1,11 @@
 //! Runs over memory: the status, what went to the output, and the line of the fault.
 
-use super::{expect, ran, source};
-use arrowtab::memory::{MemorySink, MemorySource, Plan};
-use std::test::Fail;
+use super::{assert_case, expect, ran, source};
+use arrowtab::memory::{MemorySink, Plan};
+use std::alloc::{AllocError, Global};
+use std::process::Abort;
+use std::sync::Wait;
+use std::thread::Threads;
 
 const STATS: &[&str] = &["arrowtab", "stats", "A"];
 
@@ -74,14 +77,31 @@ const PRINTED: [(&str, &str, &str); 9] = [
 ];
 
 #[test]
-fn prints_the_statistics(rt: HostRuntime) -> Result<(), Fail> {
-    expect(&rt, rt.alloc(), STATS, (FILE, None), (OUTPUT, ""))?;
+fn prints_the_statistics(rt: HostRuntime) {
+    expect(&rt, rt.alloc(), STATS, (FILE, None), (OUTPUT, ""));
     for (field, batches, output) in PRINTED {
-        let text = TEMPLATE.replace(rt.alloc(), "FIELD", field)?;
-        let text = text.as_str().replace(rt.alloc(), "BATCHES", batches)?;
-        expect(&rt, rt.alloc(), STATS, (text.as_str(), None), (output, ""))?;
+        let text = file_of(rt.alloc(), field, batches);
+        expect_made(&rt, rt.alloc(), text, (output, ""));
     }
-    Ok(())
+}
+
+/// The file of a field, and of batches.
+fn file_of(alloc: Global, field: &str, batches: &str) -> Result<String, AllocError> {
+    let text = TEMPLATE.replace(alloc, "FIELD", field)?;
+    text.as_str().replace(alloc, "BATCHES", batches)
+}
+
+/// Asserts what a run over a text that was made for it writes, and the line of its fault.
+fn expect_made(
+    rt: &(impl Abort + Wait + Threads + Sync),
+    alloc: Global,
+    text: Result<String, AllocError>,
+    written: (&str, &str),
+) {
+    match text {
+        Ok(text) => expect(rt, alloc, STATS, (text.as_str(), None), written),
+        Err(_) => assert_case(rt, false, STATS, "no memory"),
+    }
 }
 
 /// What stands in the file, what is put for it, and the line of the fault.
@@ -114,31 +134,25 @@ const CHANGED: [(&str, &str, &str); 5] = [
 ];
 
 #[test]
-fn tells_the_fault(rt: HostRuntime) -> Result<(), Fail> {
+fn tells_the_fault(rt: HostRuntime) {
     for (found, put, line) in CHANGED {
-        let text = FILE.replace(rt.alloc(), found, put)?;
-        expect(&rt, rt.alloc(), STATS, (text.as_str(), None), ("", line))?;
+        let text = FILE.replace(rt.alloc(), found, put);
+        expect_made(&rt, rt.alloc(), text, ("", line));
     }
-    Ok(())
 }
 
 #[test]
-fn tells_each_cut(rt: HostRuntime) -> Result<(), Fail> {
+fn tells_each_cut(rt: HostRuntime) {
     for size in 0..FILE.len() {
-        let text = Vec::from_slice(rt.alloc(), &FILE.as_bytes()[..size])?;
-        let out = MemorySink::new(rt.alloc());
-        let came = ran(&rt, rt.alloc(), STATS, &mut [MemorySource::new(text)], out)?;
-        let is_told = came.err.taken() == b"arrowtab: A: J1 NotJson\n".as_slice();
-        assert!(rt;
-            is_told && came.out.taken().is_empty() && came.status == 1,
-            "at {size}"
-        );
+        // The whole file, which isn't refused, where that were no text.
+        let cut = str::from_utf8(&FILE.as_bytes()[..size]).unwrap_or(FILE);
+        let line = "arrowtab: A: J1 NotJson\n";
+        expect(&rt, rt.alloc(), STATS, (cut, None), ("", line));
     }
-    Ok(())
 }
 
 /// Which read and which write fail, and the line of the fault.
-const FAILING: [(Plan, Plan, &[u8]); 7] = [
+const FAILING: [(Plan, Plan, &str); 7] = [
     (Plan::At(0), Plan::Never, UNREAD),
     (Plan::At(1), Plan::Never, UNREAD),
     (Plan::At(2), Plan::Never, UNREAD),
@@ -148,48 +162,69 @@ const FAILING: [(Plan, Plan, &[u8]); 7] = [
     (Plan::Never, Plan::At(2), UNWRITTEN),
 ];
 
-const UNREAD: &[u8] = b"arrowtab: A: cannot be read\n";
+const UNREAD: &str = "arrowtab: A: cannot be read\n";
 
-const UNWRITTEN: &[u8] = b"arrowtab: output failed\n";
+const UNWRITTEN: &str = "arrowtab: output failed\n";
 
 #[test]
-fn tells_each_failed_end(rt: HostRuntime) -> Result<(), Fail> {
+fn tells_each_failed_end(rt: HostRuntime) {
     for (read, write, line) in FAILING {
-        let source = source(rt.alloc(), FILE)?.in_pieces(100).failing(read);
-        let out = MemorySink::new(rt.alloc()).in_pieces(50).failing(write);
-        let came = ran(&rt, rt.alloc(), STATS, &mut [source], out)?;
-        let written = came.out.taken();
-        let is_front = OUTPUT.as_bytes().starts_with(written);
-        assert!(rt;
-            is_front && (write != Plan::Never || written.is_empty()),
-            "at {write:?}"
-        );
-        assert!(rt;
-            came.err.taken() == line && came.status == 1,
-            "at {read:?} and {write:?}"
-        );
+        let is_told = tells_failed_end(&rt, rt.alloc(), read, write, line);
+        assert!(rt; is_told, "at {read:?} and {write:?}");
     }
-    Ok(())
+}
+
+/// Whether a run whose ends fail so tells this line, and has written nothing, or a front where its output fails.
+fn tells_failed_end(
+    rt: &(impl Wait + Threads + Sync),
+    alloc: Global,
+    read: Plan,
+    write: Plan,
+    line: &str,
+) -> bool {
+    let Ok(source) = source(alloc, FILE) else {
+        return false;
+    };
+    let mut sources = [source.in_pieces(100).failing(read)];
+    let out = MemorySink::new(alloc).in_pieces(50).failing(write);
+    let Some(came) = ran(rt, alloc, STATS, &mut sources, out) else {
+        return false;
+    };
+    let written = came.out.taken();
+    came.status == 1
+        && came.err.taken() == line.as_bytes()
+        && OUTPUT.as_bytes().starts_with(written)
+        && (write != Plan::Never || written.is_empty())
 }
 
 #[test]
-fn reads_127_levels(rt: HostRuntime) -> Result<(), Fail> {
+fn reads_127_levels(rt: HostRuntime) {
     for (depth, line) in [
         (127, "arrowtab: A: J3 WrongMember\n"),
         (128, "arrowtab: A: J1 NotJson\n"),
     ] {
-        let mut text = "[".repeat(rt.alloc(), depth)?;
-        text.push_str("]".repeat(rt.alloc(), depth)?.as_str())?;
-        expect(&rt, rt.alloc(), STATS, (text.as_str(), None), ("", line))?;
+        let text = levels(rt.alloc(), depth);
+        expect_made(&rt, rt.alloc(), text, ("", line));
     }
-    Ok(())
+}
+
+/// Arrays within one another.
+fn levels(alloc: Global, depth: usize) -> Result<String, AllocError> {
+    let mut text = "[".repeat(alloc, depth)?;
+    text.push_str("]".repeat(alloc, depth)?.as_str())?;
+    Ok(text)
 }
 
 #[test]
-fn refuses_the_513th_large_batch(rt: HostRuntime) -> Result<(), Fail> {
-    let batches = r#"{"count":2147483647,"columns":[]},"#.repeat(rt.alloc(), 512)?;
-    let file = r#"{"schema":{"fields":[]},"batches":[BATCHES{"count":2147483647,"columns":[]}]}"#;
-    let text = file.replace(rt.alloc(), "BATCHES", batches.as_str())?;
+fn refuses_the_513th_large_batch(rt: HostRuntime) {
+    let text = large_batches(rt.alloc());
     let line = "arrowtab: A: batch 512: A3 TableFull\n";
-    expect(&rt, rt.alloc(), STATS, (text.as_str(), None), ("", line))
+    expect_made(&rt, rt.alloc(), text, ("", line));
+}
+
+/// A file of 513 batches that are as large as they may be.
+fn large_batches(alloc: Global) -> Result<String, AllocError> {
+    let batches = r#"{"count":2147483647,"columns":[]},"#.repeat(alloc, 512)?;
+    let file = r#"{"schema":{"fields":[]},"batches":[BATCHES{"count":2147483647,"columns":[]}]}"#;
+    file.replace(alloc, "BATCHES", batches.as_str())
 }

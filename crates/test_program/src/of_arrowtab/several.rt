@@ -2,7 +2,9 @@
 
 use super::{expect, ran, source};
 use arrowtab::memory::{MemorySink, Plan};
-use std::test::Fail;
+use std::alloc::Global;
+use std::sync::Wait;
+use std::thread::Threads;
 
 const STATS: &[&str] = &["arrowtab", "stats", "A", "B"];
 
@@ -67,26 +69,29 @@ const RUNS: [(&str, &str, &str, &str); 5] = [
 ];
 
 #[test]
-fn files_are_added_in_order(rt: HostRuntime) -> Result<(), Fail> {
+fn files_are_added_in_order(rt: HostRuntime) {
     for (first, second, output, line) in RUNS {
-        expect(
-            &rt,
-            rt.alloc(),
-            STATS,
-            (first, Some(second)),
-            (output, line),
-        )?;
+        let files = (first, Some(second));
+        expect(&rt, rt.alloc(), STATS, files, (output, line));
     }
-    Ok(())
 }
 
 #[test]
-fn tells_which_source_failed(rt: HostRuntime) -> Result<(), Fail> {
-    let first = source(rt.alloc(), FIVE_AND_SEVEN)?;
-    let second = source(rt.alloc(), MINUS_THREE)?.failing(Plan::At(0));
-    let out = MemorySink::new(rt.alloc());
-    let came = ran(&rt, rt.alloc(), STATS, &mut [first, second], out)?;
-    assert!(rt; came.err.taken() == b"arrowtab: B: cannot be read\n".as_slice());
-    assert!(rt; came.out.taken().is_empty() && came.status == 1);
-    Ok(())
+fn tells_which_source_failed(rt: HostRuntime) {
+    assert!(rt; tells_that_the_second_failed(&rt, rt.alloc()));
+}
+
+/// Whether a run whose second source fails tells its name, and writes nothing.
+fn tells_that_the_second_failed(rt: &(impl Wait + Threads + Sync), alloc: Global) -> bool {
+    let Ok(first) = source(alloc, FIVE_AND_SEVEN) else {
+        return false;
+    };
+    let Ok(second) = source(alloc, MINUS_THREE) else {
+        return false;
+    };
+    let mut sources = [first, second.failing(Plan::At(0))];
+    match ran(rt, alloc, STATS, &mut sources, MemorySink::new(alloc)) {
+        Some(came) => came.is(1, "", "arrowtab: B: cannot be read\n"),
+        None => false,
+    }
 }

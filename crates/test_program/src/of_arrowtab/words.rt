@@ -1,12 +1,10 @@
 //! The words of the command line: the job that they ask for, or what is printed in its stead, and the status.
 ghost use Rattle.std.specs.Prelude.{◌^◌, ◌-◌, ◌<◌};
 
-use super::Outcome;
+use super::{Outcome, assert_case};
 use arrowtab::memory::{MemorySink, Plan};
 use arrowtab::{Command, JobFault, job, print_fault};
 use std::alloc::Global;
-use std::process::Abort;
-use std::test::Fail;
 
 /// Words, the command that they ask for, or the text of its query, and the files that it is about.
 const JOBS: [(&[&str], &str, &[&str]); 11] = [
@@ -53,17 +51,24 @@ fn name_of(command: &Command) -> &str {
 }
 
 #[test]
-fn a_command_takes_files(rt: HostRuntime) -> Result<(), Fail> {
+fn a_command_takes_files(rt: HostRuntime) {
     for (words, command, names) in JOBS {
-        let job = job(rt.alloc(), words)?;
-        let found = job.names.iter().map(String::as_str);
-        assert!(rt; found.eq(names.iter().copied()), "for {words:?}");
-        assert!(rt;
-            name_of(&job.command) == command && job.workers == 1,
-            "for {words:?}"
-        );
+        let is_right = asks(rt.alloc(), words, command, names);
+        assert_case(&rt, is_right, words, command);
     }
-    Ok(())
+}
+
+/// Whether words ask for this command over these files, by one worker.
+fn asks(alloc: Global, words: &[&str], command: &str, names: &[&str]) -> bool {
+    let Ok(job) = job(alloc, words) else {
+        return false;
+    };
+    name_of(&job.command) == command && are(&job.names, names) && job.workers == 1
+}
+
+fn are(names: &[String], wanted: &[&str]) -> bool {
+    let found = names.iter().map(String::as_str);
+    found.eq(wanted.iter().copied())
 }
 
 /// Words, and how many workers they ask for.
@@ -87,12 +92,19 @@ const CREWS: [(&[&str], u32); 4] = [
 ];
 
 #[test]
-fn a_command_takes_a_number_of_workers(rt: HostRuntime) -> Result<(), Fail> {
+fn a_command_takes_a_number_of_workers(rt: HostRuntime) {
     for (words, workers) in CREWS {
-        let job = job(rt.alloc(), words)?;
-        assert!(rt; job.workers == workers, "for {words:?}");
+        let is_right = workers_of(rt.alloc(), words) == workers;
+        assert_case(&rt, is_right, words, "workers");
     }
-    Ok(())
+}
+
+/// How many workers the words ask for, or 0 where they are no job.
+fn workers_of(alloc: Global, words: &[&str]) -> u32 {
+    match job(alloc, words) {
+        Ok(job) => job.workers,
+        Err(_) => 0,
+    }
 }
 
 const HELP: &str = "Tells what files in Apache Arrow's JSON integration format hold, as one table
@@ -159,39 +171,23 @@ fn told(alloc: Global, fault: &JobFault, out: MemorySink) -> Outcome
     Outcome { status, out, err }
 }
 
-/// The fault of these words.
-fn fault_of(alloc: Global, words: &[&str]) -> Result<JobFault, Fail> {
-    match job(alloc, words) {
-        Ok(_) => Err("a job where a fault was wanted".into()),
-        Err(fault) => Ok(fault),
-    }
-}
-
-/// Asserts what a fault prints, and its status.
-fn expect_printed(
-    rt: &impl Abort,
-    alloc: Global,
-    fault: &JobFault,
-    out: &str,
-    err: &str,
-    status: u8,
-) {
-    let came = told(alloc, fault, MemorySink::new(alloc));
-    assert_eq!(rt; came.out.taken(), out.as_bytes());
-    assert_eq!(rt; came.err.taken(), err.as_bytes());
-    assert!(rt; came.status == status, "for {fault:?}");
+/// Whether a fault comes to this status, and prints this.
+fn prints(alloc: Global, fault: &JobFault, status: u8, out: &str, err: &str) -> bool {
+    told(alloc, fault, MemorySink::new(alloc)).is(status, out, err)
 }
 
 #[test]
-fn help_may_fail(rt: HostRuntime) -> Result<(), Fail> {
-    let alloc = rt.alloc();
-    let help = fault_of(alloc, &["arrowtab", "--help"])?;
+fn help_may_fail(rt: HostRuntime) {
+    assert!(rt; tells_that_help_failed(rt.alloc()));
+}
+
+/// Whether help that is cut off in its second write is told, and with status 1.
+fn tells_that_help_failed(alloc: Global) -> bool {
+    let Err(help) = job(alloc, &["arrowtab", "--help"]) else {
+        return false;
+    };
     let out = MemorySink::new(alloc).in_pieces(7).failing(Plan::At(1));
-    let came = told(alloc, &help, out);
-    assert!(rt; came.out.taken() == b"Tells w".as_slice());
-    assert!(rt; came.err.taken() == b"arrowtab: output failed\n".as_slice());
-    assert!(rt; came.status == 1);
-    Ok(())
+    told(alloc, &help, out).is(1, "Tells w", "arrowtab: output failed\n")
 }
 
 /// Words that are no job, what `clap` says of them, and whether that is the help that was asked for.
@@ -278,21 +274,29 @@ For more information, try '--help'.
 ];
 
 #[test]
-fn what_is_no_job_is_told(rt: HostRuntime) -> Result<(), Fail> {
+fn what_is_no_job_is_told(rt: HostRuntime) {
     for (words, text, is_help) in NO_JOBS {
-        let fault = fault_of(rt.alloc(), words)?;
-        if is_help {
-            expect_printed(&rt, rt.alloc(), &fault, text, "", 0);
-        } else {
-            expect_printed(&rt, rt.alloc(), &fault, "", text, 2);
-        }
+        let is_right = tells(rt.alloc(), words, text, is_help);
+        assert_case(&rt, is_right, words, text);
     }
-    Ok(())
+}
+
+/// Whether words are no job, and are told by this text: help on the output, and anything else on the error sink.
+fn tells(alloc: Global, words: &[&str], text: &str, is_help: bool) -> bool {
+    let Err(fault) = job(alloc, words) else {
+        return false;
+    };
+    let (status, out, err) = if is_help {
+        (0, text, "")
+    } else {
+        (2, "", text)
+    };
+    prints(alloc, &fault, status, out, err)
 }
 
 #[test]
 fn other_faults_have_lines(rt: HostRuntime) {
     let (unread, no_memory) = ("arrowtab: bad arguments\n", "arrowtab: no memory\n");
-    expect_printed(&rt, rt.alloc(), &JobFault::Unread, "", unread, 2);
-    expect_printed(&rt, rt.alloc(), &JobFault::NoMemory, "", no_memory, 1);
+    assert!(rt; prints(rt.alloc(), &JobFault::Unread, 2, "", unread));
+    assert!(rt; prints(rt.alloc(), &JobFault::NoMemory, 1, "", no_memory));
 }
