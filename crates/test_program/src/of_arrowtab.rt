@@ -1,6 +1,6 @@
 //! The program over memory. To prove a function costs for each value that it would let go where something fails, and most
-//! for an assertion that has a message: so cases are told by functions that answer a `bool`, one function asserts for all of
-//! them, and a test goes over a table.
+//! for an assertion that has a message, and for each reference of a table: so cases are told by functions that answer a
+//! `bool`, one function asserts for all of them, and a row of a table has few texts.
 ghost use Rattle.std.specs.Prelude.{◌≡◌, ◌^◌, ◌-◌, ◌<◌, All, IfOk};
 
 mod bytes;
@@ -28,6 +28,15 @@ pub(crate) struct Outcome {
 }
 
 impl Outcome {
+    /// Whether it told this alone: its output, or the line of its fault, which begins with the program's name.
+    pub(crate) fn tells(&self, wanted: &str) -> bool {
+        if wanted.starts_with("arrowtab: ") {
+            self.is(1, "", wanted)
+        } else {
+            self.is(0, wanted, "")
+        }
+    }
+
     /// Whether it is of this status, and wrote this.
     pub(crate) fn is(&self, status: u8, out: &str, err: &str) -> bool {
         self.status == status
@@ -91,17 +100,16 @@ fn ran_over(
     )
 }
 
-/// Asserts what a run over one file or two of these texts writes, and the line of its fault.
+/// Asserts what a run over one file or two of these texts tells: its output, or the line of its fault.
 pub(crate) fn expect(
     rt: &(impl Abort + Wait + Threads + Sync),
     alloc: Global,
     words: &[&str],
     files: (&str, Option<&str>),
-    written: (&str, &str),
+    wanted: &str,
 ) {
-    let (output, line) = written;
     let is_right = match ran_over(rt, alloc, words, files) {
-        Some(came) => came.is(u8::from(!line.is_empty()), output, line),
+        Some(came) => came.tells(wanted),
         None => false,
     };
     assert_case(rt, is_right, words, files.0);

@@ -76,9 +76,9 @@ const EXPORTED: [(&str, Option<&str>, &str); 7] = [
 fn exports_files_as_one(rt: HostRuntime) {
     for (first, second, wanted) in EXPORTED {
         let words = if second.is_some() { TWO } else { ONE };
-        expect(&rt, rt.alloc(), words, (first, second), (wanted, ""));
+        expect(&rt, rt.alloc(), words, (first, second), wanted);
 
         // What is exported is exported as it is.
-        expect(&rt, rt.alloc(), ONE, (wanted, None), (wanted, ""));
+        expect(&rt, rt.alloc(), ONE, (wanted, None), wanted);
     }
 }

@@ -19,113 +19,89 @@ const PAIRS: &str =
 const NO_ROWS: &str =
     r#"{"schema":{"fields":[{"name":"k","nullable":true,"type":{"name":"utf8"},"children":[]},{"name":"v","nullable":true,"type":{"name":"int","bitWidth":32,"isSigned":true},"children":[]}]},"batches":[]}"#;
 
-/// Asserts what a query over a file writes, and the line of its fault.
+/// Asserts what a query over a file tells.
 fn expect_answer(
     rt: &(impl Abort + Wait + Threads + Sync),
     alloc: Global,
     file: &str,
     query: &str,
-    written: (&str, &str),
+    wanted: &str,
 ) {
     let words = ["arrowtab", "query", "--query", query, "A"];
-    expect(rt, alloc, &words, (file, None), written);
+    expect(rt, alloc, &words, (file, None), wanted);
 }
 
-/// A file, a query, the output and the line of the fault.
-const ANSWERS: [(&str, &str, &str, &str); 16] = [
+/// A query over the pairs, and what it tells.
+const OF_PAIRS: [(&str, &str); 13] = [
     (
-        PAIRS,
         r#"{"by":["k"],"aggs":[{"agg":"sum","column":"v"}]}"#,
         "null 4\n\"b\" 2\n\"a\" null\n",
-        "",
     ),
     // Keys of two columns, and no cells.
     (
-        PAIRS,
         r#"{"by":["v","k"]}"#,
         "1 null\n2 \"b\"\n3 null\nnull \"a\"\n",
-        "",
     ),
+    ("{}", "\n"),
+    (
+        r#"{"filter":{"op":"eq","args":[{"column":"k"},{"text":"b"}]},"aggs":[{"agg":"rows"}]}"#,
+        "1\n",
+    ),
+    // Literals beside one another are of 64 bits, signed.
+    (
+        r#"{"filter":{"op":"eq","args":[{"int":1},{"int":1}]},"aggs":[{"agg":"rows"}]}"#,
+        "4\n",
+    ),
+    (
+        r#"{"filter":{"op":"eq","args":[{"int":"18446744073709551615"},{"int":1}]},"aggs":[{"agg":"rows"}]}"#,
+        "arrowtab: query: Q3 WrongKind\n",
+    ),
+    // Rows whose filter is null are dropped.
+    (
+        r#"{"filter":{"op":"ne","args":[{"column":"k"},{"text":"c"}]},"by":["k"],"aggs":[{"agg":"rows"},{"agg":"count","column":"v"}]}"#,
+        "\"b\" 1 1\n\"a\" 1 0\n",
+    ),
+    // What is null there hides no overflow.
+    (
+        r#"{"filter":{"op":"or","args":[{"op":"is_null","args":[{"column":"v"}]},{"op":"gt","args":[{"op":"add","args":[{"column":"v"},{"int":2147483645}]},{"int":0}]}]},"aggs":[{"agg":"rows"}]}"#,
+        "arrowtab: query: Q4 Overflow row=2\n",
+    ),
+    // The sum of the third row is past 32 bits.
+    (
+        r#"{"filter":{"op":"gt","args":[{"op":"add","args":[{"column":"v"},{"int":2147483645}]},{"int":0}]},"aggs":[{"agg":"rows"}]}"#,
+        "arrowtab: query: Q4 Overflow row=2\n",
+    ),
+    (r#"{"by":["w"]}"#, "arrowtab: query: Q1 NoColumn\n"),
+    // A number that no column of 32 bits is compared with.
+    (
+        r#"{"filter":{"op":"gt","args":[{"column":"v"},{"int":2147483648}]}}"#,
+        "arrowtab: query: Q3 WrongKind\n",
+    ),
+    (
+        r#"{"by":["k","v","k","v","k"]}"#,
+        "arrowtab: query: J3 WrongMember at /by\n",
+    ),
+    ("{", "arrowtab: query: J1 NotJson\n"),
+];
+
+/// Another file, a query, and what it tells.
+const OF_OTHERS: [(&str, &str, &str); 3] = [
     (
         NUMBERS,
         r#"{"aggs":[{"agg":"count","column":"n"},{"agg":"least","column":"n"},{"agg":"greatest","column":"n"}]}"#,
         "2 -1 9223372036854775807\n",
-        "",
     ),
-    (PAIRS, "{}", "\n", ""),
     // So many rows that nobody goes over them one by one.
     (
         r#"{"schema":{"fields":[]},"batches":[{"count":2147483647,"columns":[]},{"count":2147483647,"columns":[]}]}"#,
         r#"{"aggs":[{"agg":"rows"}]}"#,
         "4294967294\n",
-        "",
     ),
     (
         NO_ROWS,
         r#"{"aggs":[{"agg":"rows"},{"agg":"sum","column":"v"}]}"#,
         "0 null\n",
-        "",
     ),
-    (
-        PAIRS,
-        r#"{"filter":{"op":"eq","args":[{"column":"k"},{"text":"b"}]},"aggs":[{"agg":"rows"}]}"#,
-        "1\n",
-        "",
-    ),
-    // Literals beside one another are of 64 bits, signed.
-    (
-        PAIRS,
-        r#"{"filter":{"op":"eq","args":[{"int":1},{"int":1}]},"aggs":[{"agg":"rows"}]}"#,
-        "4\n",
-        "",
-    ),
-    (
-        PAIRS,
-        r#"{"filter":{"op":"eq","args":[{"int":"18446744073709551615"},{"int":1}]},"aggs":[{"agg":"rows"}]}"#,
-        "",
-        "arrowtab: query: Q3 WrongKind\n",
-    ),
-    // Rows whose filter is null are dropped.
-    (
-        PAIRS,
-        r#"{"filter":{"op":"ne","args":[{"column":"k"},{"text":"c"}]},"by":["k"],"aggs":[{"agg":"rows"},{"agg":"count","column":"v"}]}"#,
-        "\"b\" 1 1\n\"a\" 1 0\n",
-        "",
-    ),
-    // What is null there hides no overflow.
-    (
-        PAIRS,
-        r#"{"filter":{"op":"or","args":[{"op":"is_null","args":[{"column":"v"}]},{"op":"gt","args":[{"op":"add","args":[{"column":"v"},{"int":2147483645}]},{"int":0}]}]},"aggs":[{"agg":"rows"}]}"#,
-        "",
-        "arrowtab: query: Q4 Overflow row=2\n",
-    ),
-    // The sum of the third row is past 32 bits.
-    (
-        PAIRS,
-        r#"{"filter":{"op":"gt","args":[{"op":"add","args":[{"column":"v"},{"int":2147483645}]},{"int":0}]},"aggs":[{"agg":"rows"}]}"#,
-        "",
-        "arrowtab: query: Q4 Overflow row=2\n",
-    ),
-    (
-        PAIRS,
-        r#"{"by":["w"]}"#,
-        "",
-        "arrowtab: query: Q1 NoColumn\n",
-    ),
-    // A number that no column of 32 bits is compared with.
-    (
-        PAIRS,
-        r#"{"filter":{"op":"gt","args":[{"column":"v"},{"int":2147483648}]}}"#,
-        "",
-        "arrowtab: query: Q3 WrongKind\n",
-    ),
-    (
-        PAIRS,
-        r#"{"by":["k","v","k","v","k"]}"#,
-        "",
-        "arrowtab: query: J3 WrongMember at /by\n",
-    ),
-    (PAIRS, "{", "", "arrowtab: query: J1 NotJson\n"),
 ];
 
 /// A query that counts the rows where `k` is null, so often negated.
@@ -141,23 +117,30 @@ fn negated(alloc: Global, times: usize) -> Result<String, AllocError> {
 
 #[test]
 fn answers_queries(rt: HostRuntime) {
-    for (file, query, output, line) in ANSWERS {
-        expect_answer(&rt, rt.alloc(), file, query, (output, line));
+    for (query, wanted) in OF_PAIRS {
+        expect_answer(&rt, rt.alloc(), PAIRS, query, wanted);
     }
-    expect_negated(&rt, rt.alloc(), 30, ("2\n", ""));
-    let too_deep = "arrowtab: query: Q5 TooDeep\n";
-    expect_negated(&rt, rt.alloc(), 31, ("", too_deep));
+    expect_others(&rt, rt.alloc());
+    expect_negated(&rt, rt.alloc(), 30, "2\n");
+    expect_negated(&rt, rt.alloc(), 31, "arrowtab: query: Q5 TooDeep\n");
 }
 
-/// Asserts what the query that is so often negated writes, and the line of its fault.
+/// Asserts what queries over other files tell.
+fn expect_others(rt: &(impl Abort + Wait + Threads + Sync), alloc: Global) {
+    for (file, query, wanted) in OF_OTHERS {
+        expect_answer(rt, alloc, file, query, wanted);
+    }
+}
+
+/// Asserts what the query that is so often negated tells.
 fn expect_negated(
     rt: &(impl Abort + Wait + Threads + Sync),
     alloc: Global,
     times: usize,
-    written: (&str, &str),
+    wanted: &str,
 ) {
     match negated(alloc, times) {
-        Ok(query) => expect_answer(rt, alloc, PAIRS, query.as_str(), written),
+        Ok(query) => expect_answer(rt, alloc, PAIRS, query.as_str(), wanted),
         Err(_) => assert_case(rt, false, &["no memory"], NEGATED),
     }
 }

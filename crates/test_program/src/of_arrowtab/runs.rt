@@ -78,10 +78,10 @@ const PRINTED: [(&str, &str, &str); 9] = [
 
 #[test]
 fn prints_the_statistics(rt: HostRuntime) {
-    expect(&rt, rt.alloc(), STATS, (FILE, None), (OUTPUT, ""));
+    expect(&rt, rt.alloc(), STATS, (FILE, None), OUTPUT);
     for (field, batches, output) in PRINTED {
         let text = file_of(rt.alloc(), field, batches);
-        expect_made(&rt, rt.alloc(), text, (output, ""));
+        expect_made(&rt, rt.alloc(), text, output);
     }
 }
 
@@ -91,15 +91,15 @@ fn file_of(alloc: Global, field: &str, batches: &str) -> Result<String, AllocErr
     text.as_str().replace(alloc, "BATCHES", batches)
 }
 
-/// Asserts what a run over a text that was made for it writes, and the line of its fault.
+/// Asserts what a run over a text that was made for it tells.
 fn expect_made(
     rt: &(impl Abort + Wait + Threads + Sync),
     alloc: Global,
     text: Result<String, AllocError>,
-    written: (&str, &str),
+    wanted: &str,
 ) {
     match text {
-        Ok(text) => expect(rt, alloc, STATS, (text.as_str(), None), written),
+        Ok(text) => expect(rt, alloc, STATS, (text.as_str(), None), wanted),
         Err(_) => assert_case(rt, false, STATS, "no memory"),
     }
 }
@@ -137,7 +137,7 @@ const CHANGED: [(&str, &str, &str); 5] = [
 fn tells_the_fault(rt: HostRuntime) {
     for (found, put, line) in CHANGED {
         let text = FILE.replace(rt.alloc(), found, put);
-        expect_made(&rt, rt.alloc(), text, ("", line));
+        expect_made(&rt, rt.alloc(), text, line);
     }
 }
 
@@ -147,7 +147,7 @@ fn tells_each_cut(rt: HostRuntime) {
         // The whole file, which isn't refused, where that were no text.
         let cut = str::from_utf8(&FILE.as_bytes()[..size]).unwrap_or(FILE);
         let line = "arrowtab: A: J1 NotJson\n";
-        expect(&rt, rt.alloc(), STATS, (cut, None), ("", line));
+        expect(&rt, rt.alloc(), STATS, (cut, None), line);
     }
 }
 
@@ -204,7 +204,7 @@ fn reads_127_levels(rt: HostRuntime) {
         (128, "arrowtab: A: J1 NotJson\n"),
     ] {
         let text = levels(rt.alloc(), depth);
-        expect_made(&rt, rt.alloc(), text, ("", line));
+        expect_made(&rt, rt.alloc(), text, line);
     }
 }
 
@@ -219,7 +219,7 @@ fn levels(alloc: Global, depth: usize) -> Result<String, AllocError> {
 fn refuses_the_513th_large_batch(rt: HostRuntime) {
     let text = large_batches(rt.alloc());
     let line = "arrowtab: A: batch 512: A3 TableFull\n";
-    expect_made(&rt, rt.alloc(), text, ("", line));
+    expect_made(&rt, rt.alloc(), text, line);
 }
 
 /// A file of 513 batches that are as large as they may be.

@@ -36,25 +36,22 @@ const NO_OTHER: &str =
 const CUT: &str =
     r#"{"schema":{"fields":[{"name":"n","nullable":false,"type":{"name":"int","bitWidth":8,"isSigned":true}"#;
 
-/// Two files, what is printed of them, and the line of the fault.
-const RUNS: [(&str, &str, &str, &str); 5] = [
+/// Two files, and what is told of them.
+const RUNS: [(&str, &str, &str); 5] = [
     (
         FIVE_AND_SEVEN,
         MINUS_THREE,
         "rows 3\nworker 0 calls 2 rows 3\n\"n\" int8 rows=3 nulls=0 sum=9 least=-3 greatest=7\n",
-        "",
     ),
     // Batches are counted within their file.
     (
         FIVE_AND_SEVEN,
         MINUS_THREE_AND_NULL,
-        "",
         "arrowtab: B: batch 1: A2 NullInNonNullable column=0 row=0\n",
     ),
     (
         FIVE_AND_SEVEN,
         OTHER,
-        "",
         "arrowtab: B: batch 0: A1 SchemaDiffers column=0\n",
     ),
     // Another schema without batches is none that differs.
@@ -62,17 +59,15 @@ const RUNS: [(&str, &str, &str, &str); 5] = [
         FIVE_AND_SEVEN,
         NO_OTHER,
         "rows 2\nworker 0 calls 1 rows 2\n\"n\" int8 rows=2 nulls=0 sum=12 least=5 greatest=7\n",
-        "",
     ),
     // All files are read before a batch is added.
-    (NULL, CUT, "", "arrowtab: B: J1 NotJson\n"),
+    (NULL, CUT, "arrowtab: B: J1 NotJson\n"),
 ];
 
 #[test]
 fn files_are_added_in_order(rt: HostRuntime) {
-    for (first, second, output, line) in RUNS {
-        let files = (first, Some(second));
-        expect(&rt, rt.alloc(), STATS, files, (output, line));
+    for (first, second, wanted) in RUNS {
+        expect(&rt, rt.alloc(), STATS, (first, Some(second)), wanted);
     }
 }
 

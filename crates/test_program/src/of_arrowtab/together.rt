@@ -18,100 +18,77 @@ const OTHER: &str =
 const PAIRS: &str =
     r#"{"schema":{"fields":[{"name":"k","nullable":true,"type":{"name":"utf8"},"children":[]},{"name":"v","nullable":true,"type":{"name":"int","bitWidth":32,"isSigned":true},"children":[]}]},"batches":[{"count":4,"columns":[{"name":"k","count":4,"VALIDITY":[0,1,0,1],"OFFSET":[0,0,1,1,2],"DATA":["","b","","a"]},{"name":"v","count":4,"VALIDITY":[1,1,1,0],"DATA":[1,2,3,0]}]}]}"#;
 
-/// Words, one file or two, what is printed of them, and the line of the fault.
-const RUNS: [(&[&str], &str, Option<&str>, &str, &str); 6] = [
+/// How many workers load the numbers and a second file, which that is, and what is told of both.
+const RUNS: [(&str, &str, &str); 5] = [
     (
-        &["arrowtab", "stats", "--workers", "2", "A", "B"],
+        "2",
         NUMBERS,
-        Some(NUMBERS),
         "rows 6\nworker 0 calls 1 rows 3\nworker 1 calls 1 rows 3\n\"n\" int64 rows=6 nulls=2 sum=18446744073709551612 least=-1 greatest=9223372036854775807\n",
-        "",
     ),
     // A worker without a file has its line.
     (
-        &["arrowtab", "stats", "--workers", "3", "A", "B"],
+        "3",
         NUMBERS,
-        Some(NUMBERS),
         "rows 6\nworker 0 calls 1 rows 3\nworker 1 calls 1 rows 3\nworker 2 calls 0 rows 0\n\"n\" int64 rows=6 nulls=2 sum=18446744073709551612 least=-1 greatest=9223372036854775807\n",
-        "",
     ),
-    (
-        &["arrowtab", "stats", "--workers", "2", "A", "B"],
-        NUMBERS,
-        Some(PAIRS),
-        "",
-        "arrowtab: B: batch 0: A1 SchemaDiffers column=0\n",
-    ),
-    (
-        &["arrowtab", "stats", "--workers", "2", "A", "B"],
-        NUMBERS,
-        Some(OTHER),
-        "",
-        "arrowtab: B: batch 0: A1 SchemaDiffers column=0\n",
-    ),
+    ("2", PAIRS, DIFFERS),
+    ("2", OTHER, DIFFERS),
     // The file of a refusal is told before any worker begins.
-    (
-        &["arrowtab", "stats", "--workers", "64", "A", "B"],
-        NUMBERS,
-        Some("{"),
-        "",
-        "arrowtab: B: J1 NotJson\n",
-    ),
-    (
-        &[
-            "arrowtab",
-            "query",
-            "--workers",
-            "2",
-            "--query",
-            r#"{"by":["n"],"aggs":[{"agg":"rows"}]}"#,
-            "A",
-            "B",
-        ],
-        NUMBERS,
-        Some(NUMBERS),
-        "9223372036854775807 2\nnull 2\n-1 2\n",
-        "",
-    ),
+    ("64", "{", "arrowtab: B: J1 NotJson\n"),
+];
+
+const DIFFERS: &str = "arrowtab: B: batch 0: A1 SchemaDiffers column=0\n";
+
+/// Counts the rows of each number of two files.
+const COUNTS: &[&str] = &[
+    "arrowtab",
+    "query",
+    "--workers",
+    "2",
+    "--query",
+    r#"{"by":["n"],"aggs":[{"agg":"rows"}]}"#,
+    "A",
+    "B",
 ];
 
 #[test]
 fn several_workers_print_what_one_would(rt: HostRuntime) {
-    for (words, first, second, output, line) in RUNS {
-        expect(&rt, rt.alloc(), words, (first, second), (output, line));
+    for (workers, second, wanted) in RUNS {
+        let words = ["arrowtab", "stats", "--workers", workers, "A", "B"];
+        expect(&rt, rt.alloc(), &words, (NUMBERS, Some(second)), wanted);
     }
+    let counts = "9223372036854775807 2\nnull 2\n-1 2\n";
+    expect(&rt, rt.alloc(), COUNTS, (NUMBERS, Some(NUMBERS)), counts);
 }
 
 /// How many workers there are, and pieces of the rows, which are four.
 const WORKERS: [&str; 4] = ["1", "2", "4", "64"];
 
-/// A query over the pairs, the output, and the line of the fault.
-const ANSWERS: [(&str, &str, &str); 2] = [
+/// A query over the pairs, and what is told.
+const ANSWERS: [(&str, &str); 2] = [
     (
         r#"{"by":["k"],"aggs":[{"agg":"sum","column":"v"}]}"#,
         "null 4\n\"b\" 2\n\"a\" null\n",
-        "",
     ),
     (
         r#"{"filter":{"op":"gt","args":[{"op":"add","args":[{"column":"v"},{"int":2147483645}]},{"int":0}]},"aggs":[{"agg":"rows"}]}"#,
-        "",
         "arrowtab: query: Q4 Overflow row=2\n",
     ),
 ];
 
 #[test]
 fn an_answer_does_not_tell_the_workers(rt: HostRuntime) {
-    for (query, output, line) in ANSWERS {
-        expect_pairs(&rt, rt.alloc(), query, (output, line));
+    for (query, wanted) in ANSWERS {
+        expect_pairs(&rt, rt.alloc(), query, wanted);
     }
 }
 
-/// Asserts what any number of workers writes of a query over the pairs, and the line of its fault.
+/// Asserts what any number of workers tells of a query over the pairs.
 fn expect_pairs(
     rt: &(impl Abort + Wait + Threads + Sync),
     alloc: Global,
     query: &str,
-    written: (&str, &str),
+    wanted: &str,
 ) {
     for workers in WORKERS {
         let words = [
@@ -123,6 +100,6 @@ fn expect_pairs(
             query,
             "A",
         ];
-        expect(rt, alloc, &words, (PAIRS, None), written);
+        expect(rt, alloc, &words, (PAIRS, None), wanted);
     }
 }

@@ -3,43 +3,37 @@ ghost use Rattle.std.specs.Prelude.{◌^◌, ◌-◌, ◌<◌};
 
 use super::{Outcome, assert_case};
 use arrowtab::memory::{MemorySink, Plan};
-use arrowtab::{Command, JobFault, job, print_fault};
+use arrowtab::{Command, Job, JobFault, job, print_fault};
 use std::alloc::Global;
 
-/// Words, the command that they ask for, or the text of its query, and the files that it is about.
-const JOBS: [(&[&str], &str, &[&str]); 11] = [
-    (&["arrowtab", "stats", "A"], "stats", &["A"]),
-    (&["a/b", "stats", "B", "A", "B"], "stats", &["B", "A", "B"]),
-    (&["arrowtab", "stats", ""], "stats", &[""]),
+/// Words, each behind one space, the command that they ask for, or the text of its query, and the files that it is about.
+const JOBS: [(&str, &str, &str); 11] = [
+    ("arrowtab stats A", "stats", "A"),
+    ("a/b stats B A B", "stats", "B A B"),
+    // An empty name.
+    ("arrowtab stats ", "stats", ""),
+    ("arrowtab stats stats help", "stats", "stats help"),
+    ("arrowtab stats -- -h --", "stats", "-h --"),
+    ("arrowtab export A", "export", "A"),
+    ("arrowtab export B A B", "export", "B A B"),
+    ("arrowtab query --query {} A", "{}", "A"),
+    ("arrowtab query B --query={} A", "{}", "B A"),
+    // An empty query.
+    ("arrowtab query --query  A", "", "A"),
     (
-        &["arrowtab", "stats", "stats", "help"],
-        "stats",
-        &["stats", "help"],
-    ),
-    (
-        &["arrowtab", "stats", "--", "-h", "--"],
-        "stats",
-        &["-h", "--"],
-    ),
-    (&["arrowtab", "export", "A"], "export", &["A"]),
-    (
-        &["arrowtab", "export", "B", "A", "B"],
-        "export",
-        &["B", "A", "B"],
-    ),
-    (&["arrowtab", "query", "--query", "{}", "A"], "{}", &["A"]),
-    (
-        &["arrowtab", "query", "B", "--query={}", "A"],
-        "{}",
-        &["B", "A"],
-    ),
-    (&["arrowtab", "query", "--query", "", "A"], "", &["A"]),
-    (
-        &["arrowtab", "query", "--query", "query", "--", "--query"],
+        "arrowtab query --query query -- --query",
         "query",
-        &["--query"],
+        "--query",
     ),
 ];
+
+/// The job that the words of a line ask for.
+fn job_of(alloc: Global, line: &str) -> Result<Job, JobFault> {
+    match line.split(' ').collect::<Vec<&str>>(alloc) {
+        Ok(words) => job(alloc, words.as_slice()),
+        Err(_) => Err(JobFault::NoMemory),
+    }
+}
 
 /// What the command is called in the table.
 fn name_of(command: &Command) -> &str {
@@ -52,56 +46,44 @@ fn name_of(command: &Command) -> &str {
 
 #[test]
 fn a_command_takes_files(rt: HostRuntime) {
-    for (words, command, names) in JOBS {
-        let is_right = asks(rt.alloc(), words, command, names);
-        assert_case(&rt, is_right, words, command);
+    for (line, command, names) in JOBS {
+        let is_right = asks(rt.alloc(), line, command, names);
+        assert_case(&rt, is_right, &[line], command);
     }
 }
 
-/// Whether words ask for this command over these files, by one worker.
-fn asks(alloc: Global, words: &[&str], command: &str, names: &[&str]) -> bool {
-    let Ok(job) = job(alloc, words) else {
+/// Whether a line asks for this command over these files, by one worker.
+fn asks(alloc: Global, line: &str, command: &str, names: &str) -> bool {
+    let Ok(job) = job_of(alloc, line) else {
         return false;
     };
     name_of(&job.command) == command && are(&job.names, names) && job.workers == 1
 }
 
-fn are(names: &[String], wanted: &[&str]) -> bool {
+fn are(names: &[String], wanted: &str) -> bool {
     let found = names.iter().map(String::as_str);
-    found.eq(wanted.iter().copied())
+    found.eq(wanted.split(' '))
 }
 
 /// Words, and how many workers they ask for.
-const CREWS: [(&[&str], u32); 4] = [
-    (&["arrowtab", "stats", "--workers", "1", "A"], 1),
-    (&["arrowtab", "export", "A", "--workers=64"], 64),
-    (&["arrowtab", "stats", "--workers", "+7", "A"], 7),
-    (
-        &[
-            "arrowtab",
-            "query",
-            "--workers",
-            "2",
-            "--query",
-            "{}",
-            "A",
-            "B",
-        ],
-        2,
-    ),
+const CREWS: [(&str, u32); 4] = [
+    ("arrowtab stats --workers 1 A", 1),
+    ("arrowtab export A --workers=64", 64),
+    ("arrowtab stats --workers +7 A", 7),
+    ("arrowtab query --workers 2 --query {} A B", 2),
 ];
 
 #[test]
 fn a_command_takes_a_number_of_workers(rt: HostRuntime) {
-    for (words, workers) in CREWS {
-        let is_right = workers_of(rt.alloc(), words) == workers;
-        assert_case(&rt, is_right, words, "workers");
+    for (line, workers) in CREWS {
+        let is_right = workers_of(rt.alloc(), line) == workers;
+        assert_case(&rt, is_right, &[line], "workers");
     }
 }
 
-/// How many workers the words ask for, or 0 where they are no job.
-fn workers_of(alloc: Global, words: &[&str]) -> u32 {
-    match job(alloc, words) {
+/// How many workers a line asks for, or 0 where it asks for no job.
+fn workers_of(alloc: Global, line: &str) -> u32 {
+    match job_of(alloc, line) {
         Ok(job) => job.workers,
         Err(_) => 0,
     }
@@ -183,7 +165,7 @@ fn help_may_fail(rt: HostRuntime) {
 
 /// Whether help that is cut off in its second write is told, and with status 1.
 fn tells_that_help_failed(alloc: Global) -> bool {
-    let Err(help) = job(alloc, &["arrowtab", "--help"]) else {
+    let Err(help) = job_of(alloc, "arrowtab --help") else {
         return false;
     };
     let out = MemorySink::new(alloc).in_pieces(7).failing(Plan::At(1));
@@ -191,18 +173,17 @@ fn tells_that_help_failed(alloc: Global) -> bool {
 }
 
 /// Words that are no job, what `clap` says of them, and whether that is the help that was asked for.
-const NO_JOBS: [(&[&str], &str, bool); 16] = [
-    (&["arrowtab", "--help"], HELP, true),
-    (&["bin/arrowtab", "-h"], HELP, true),
-    (&["arrowtab", "help"], HELP, true),
-    (&["arrowtab", "stats", "A", "--help"], STATS_HELP, true),
-    (&["arrowtab", "help", "stats"], STATS_HELP, true),
-    (&["arrowtab", "help", "export"], EXPORT_HELP, true),
-    (&["arrowtab", "query", "--help"], QUERY_HELP, true),
-    (&["arrowtab"], HELP, false),
-    (&[], HELP, false),
+const NO_JOBS: [(&str, &str, bool); 15] = [
+    ("arrowtab --help", HELP, true),
+    ("bin/arrowtab -h", HELP, true),
+    ("arrowtab help", HELP, true),
+    ("arrowtab stats A --help", STATS_HELP, true),
+    ("arrowtab help stats", STATS_HELP, true),
+    ("arrowtab help export", EXPORT_HELP, true),
+    ("arrowtab query --help", QUERY_HELP, true),
+    ("arrowtab", HELP, false),
     (
-        &["arrowtab", "stats"],
+        "arrowtab stats",
         "error: the following required arguments were not provided:
   <FILE>...
 
@@ -213,7 +194,7 @@ For more information, try '--help'.
         false,
     ),
     (
-        &["arrowtab", "stat", "A"],
+        "arrowtab stat A",
         "error: unrecognized subcommand 'stat'
 
   tip: a similar subcommand exists: 'stats'
@@ -225,7 +206,7 @@ For more information, try '--help'.
         false,
     ),
     (
-        &["arrowtab", "query", "A"],
+        "arrowtab query A",
         "error: the following required arguments were not provided:
   --query <QUERY>
 
@@ -236,7 +217,7 @@ For more information, try '--help'.
         false,
     ),
     (
-        &["arrowtab", "query", "--query", "{}", "--query={}", "A"],
+        "arrowtab query --query {} --query={} A",
         "error: the argument '--query <QUERY>' cannot be used multiple times
 
 Usage: arrowtab query [OPTIONS] --query <QUERY> <FILE>...
@@ -246,7 +227,7 @@ For more information, try '--help'.
         false,
     ),
     (
-        &["arrowtab", "stats", "--workers", "0", "A"],
+        "arrowtab stats --workers 0 A",
         "error: invalid value '0' for '--workers <N>': 0 is not in 1..=64
 
 For more information, try '--help'.
@@ -254,7 +235,7 @@ For more information, try '--help'.
         false,
     ),
     (
-        &["arrowtab", "export", "--workers", "65", "A"],
+        "arrowtab export --workers 65 A",
         "error: invalid value '65' for '--workers <N>': 65 is not in 1..=64
 
 For more information, try '--help'.
@@ -262,7 +243,7 @@ For more information, try '--help'.
         false,
     ),
     (
-        &["arrowtab", "stats", "--workers", "2", "--workers", "3", "A"],
+        "arrowtab stats --workers 2 --workers 3 A",
         "error: the argument '--workers <N>' cannot be used multiple times
 
 Usage: arrowtab stats [OPTIONS] <FILE>...
@@ -275,15 +256,16 @@ For more information, try '--help'.
 
 #[test]
 fn what_is_no_job_is_told(rt: HostRuntime) {
-    for (words, text, is_help) in NO_JOBS {
-        let is_right = tells(rt.alloc(), words, text, is_help);
-        assert_case(&rt, is_right, words, text);
+    for (line, text, is_help) in NO_JOBS {
+        let is_right = tells(rt.alloc(), job_of(rt.alloc(), line), text, is_help);
+        assert_case(&rt, is_right, &[line], text);
     }
+    assert!(rt; tells(rt.alloc(), job(rt.alloc(), &[]), HELP, false));
 }
 
-/// Whether words are no job, and are told by this text: help on the output, and anything else on the error sink.
-fn tells(alloc: Global, words: &[&str], text: &str, is_help: bool) -> bool {
-    let Err(fault) = job(alloc, words) else {
+/// Whether there is no job, and that is told by this text: help on the output, and anything else on the error sink.
+fn tells(alloc: Global, job: Result<Job, JobFault>, text: &str, is_help: bool) -> bool {
+    let Err(fault) = job else {
         return false;
     };
     let (status, out, err) = if is_help {
