@@ -1,12 +1,11 @@
 //! Tests of what three-valued logic does by words and by lanes: each answer is compared with the truth values, one by one.
 
-use arrays::{Array, DataType, RawArray, View, ViewType, validate};
-use colbits::Buffer;
+use arrays::{Array, DataType, View, ViewType, validate};
 use kernels::{kleene_and, kleene_not, kleene_or};
 use std::alloc::Global;
 use std::process::Abort;
 use std::test::Fail;
-use test_samples::slots_of;
+use test_samples::{raw, slots_of};
 
 /// Lengths at which words and lanes end, and their neighbours.
 const LENGTHS: [usize; 11] = [0, 1, 7, 63, 64, 65, 127, 128, 511, 512, 513];
@@ -23,17 +22,9 @@ fn noise(salt: u32) -> [u8; 65] {
 
 /// 520 truth values and nulls in no order.
 fn truths(alloc: Global, salt: u32) -> Result<Array, Fail> {
-    let validity = Buffer::from_bytes(alloc, &noise(salt))?;
-    let values = Buffer::from_bytes(alloc, &noise(salt.wrapping_add(100)))?;
-    let raw = RawArray {
-        ty: DataType::Bool,
-        length: 520,
-        null_count: None,
-        buffers: vec![in alloc; Some(validity), Some(values)]?,
-        children: Vec::new(alloc),
-        dictionary: None,
-    };
-    Ok(validate(alloc, raw)?)
+    let (validity, values) = (noise(salt), noise(salt.wrapping_add(100)));
+    let positions = [Some(validity.as_slice()), Some(values.as_slice())];
+    Ok(validate(alloc, raw(alloc, DataType::Bool, 520, &positions)?)?)
 }
 
 /// What is made of truth values.

@@ -1,14 +1,13 @@
 //! Tests of what kernels make of a column and a number: each answer is compared with the numbers, one by one.
 
-use arrays::{Array, DataType, RawArray, View, ViewType, validate};
-use colbits::Buffer;
+use arrays::{Array, DataType, View, ViewType, validate};
 use kernels::{
     CmpOp, KernelFault, add_number, compare_number, mul_number, sub_from_number, sub_number,
 };
 use std::alloc::Global;
 use std::process::Abort;
 use std::test::Fail;
-use test_samples::{Flat, INT8, Parts, Shown, UINT8, built, is_result, slots_of};
+use test_samples::{Flat, INT8, Parts, Shown, UINT8, built, is_result, raw, slots_of};
 
 /// Lengths at which words end, and their neighbours.
 const LENGTHS: [usize; 7] = [0, 1, 63, 64, 65, 127, 130];
@@ -28,17 +27,9 @@ fn noise(salt: u32) -> [u8; 140] {
 
 /// 140 numbers of 8 bits, some of them null.
 fn numbers(alloc: Global) -> Result<Array, Fail> {
-    let validity = Buffer::from_bytes(alloc, &noise(3))?;
-    let values = Buffer::from_bytes(alloc, &noise(103))?;
-    let raw = RawArray {
-        ty: DataType::Int(INT8),
-        length: 140,
-        null_count: None,
-        buffers: vec![in alloc; Some(validity), Some(values)]?,
-        children: Vec::new(alloc),
-        dictionary: None,
-    };
-    Ok(validate(alloc, raw)?)
+    let (validity, values) = (noise(3), noise(103));
+    let positions = [Some(validity.as_slice()), Some(values.as_slice())];
+    Ok(validate(alloc, raw(alloc, DataType::Int(INT8), 140, &positions)?)?)
 }
 
 /// What is made of a column and a number.
