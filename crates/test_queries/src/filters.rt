@@ -1,13 +1,13 @@
 //! Filters, as they are at the rows of a slice.
 
-use arrays::{RecordBatch, ViewType};
+use arrays::{RecordBatch, View, ViewType};
 use arrow_json::read_file;
 use evaluate::filter::evaluate_filter;
 use evaluate::slice::Slice;
 use evaluate::values::Values;
 use query::{Query, resolve};
 use query_json::read_query;
-use std::alloc::Global;
+use std::alloc::{AllocError, Global};
 use std::process::Abort;
 use std::test::Fail;
 
@@ -123,23 +123,33 @@ fn query_where(alloc: Global, batch: &RecordBatch, filter: &str) -> Result<Query
     Ok(resolve(alloc, &query, batch.schema())?)
 }
 
-/// A letter for each value of a filter.
-fn letters(rt: &impl Abort, alloc: Global, values: &Values<'_>) -> Result<String, Fail> {
-    let Values::Column(column) = values else {
-        panic!(rt; "there are no truth values");
-    };
-    let view = column.view();
+/// A letter for a truth value, or for none.
+fn letter(value: Option<bool>) -> &'static str {
+    match value {
+        Some(true) => "t",
+        Some(false) => "f",
+        None => "-",
+    }
+}
+
+/// Adds a letter for each slot of a view of truth values.
+fn push_letters(rt: &impl Abort, letters: &mut String, view: &View<'_>) -> Result<(), AllocError> {
     let ViewType::Bool = view.ty() else {
         panic!(rt; "these are no truth values");
     };
-    let mut letters = String::new(alloc);
     for i in 0..view.len() {
-        letters.push_str(match view.bool_at(i) {
-            Some(true) => "t",
-            Some(false) => "f",
-            None => "-",
-        })?;
+        letters.push_str(letter(view.bool_at(i)))?;
     }
+    Ok(())
+}
+
+/// A letter for each value of a filter.
+fn letters(rt: &impl Abort, alloc: Global, values: &Values<'_>) -> Result<String, AllocError> {
+    let Values::Column(column) = values else {
+        panic!(rt; "there are no truth values");
+    };
+    let mut letters = String::new(alloc);
+    push_letters(rt, &mut letters, &column.view())?;
     Ok(letters)
 }
 
@@ -159,7 +169,7 @@ fn filter_at(
     assert!(rt; query.fits(batch.schema()));
     match evaluate_filter(alloc, query, Slice { batch, start, len }) {
         Ok(None) => Ok(String::from_str(alloc, "each row")?),
-        Ok(Some(values)) => letters(rt, alloc, &values),
+        Ok(Some(values)) => Ok(letters(rt, alloc, &values)?),
         Err(stop) => Ok(format!(in alloc; "{stop:?}")?),
     }
 }

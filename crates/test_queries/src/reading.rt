@@ -1,16 +1,27 @@
 //! Queries of JSON: what is read of them, and what is told of those that can't be read.
 
+use query::QueryText;
 use query_json::{fault_text, read_query};
 use std::alloc::Global;
 use std::process::Abort;
 use std::test::Fail;
 
+/// What is read of a query, as text.
+fn written(alloc: Global, query: &QueryText) -> Result<String, Fail> {
+    Ok(format!(in alloc; "{:?} {:?} {:?}", query.filter, query.by, query.aggs)?)
+}
+
+/// What is read of a query, or what is told of it.
+fn told_of(alloc: Global, bytes: &[u8]) -> Result<String, Fail> {
+    match read_query(alloc, bytes) {
+        Ok(query) => written(alloc, &query),
+        Err(fault) => Ok(fault_text(alloc, &fault)?),
+    }
+}
+
 /// Asserts what is read of a query, or what is told of it.
 fn expect_bytes(rt: &impl Abort, alloc: Global, bytes: &[u8], wanted: &str) -> Result<(), Fail> {
-    let told = match read_query(alloc, bytes) {
-        Ok(query) => format!(in alloc; "{:?} {:?} {:?}", query.filter, query.by, query.aggs)?,
-        Err(fault) => fault_text(alloc, &fault)?,
-    };
+    let told = told_of(alloc, bytes)?;
     assert_eq!(rt; told.as_str(), wanted);
     Ok(())
 }
@@ -360,11 +371,17 @@ const DEEP: [(Nested, Nested); 6] = [
     ),
 ];
 
+/// Asserts what is read of a query, or what is told of it, where both are of texts in one another.
+fn expect_nested(rt: &impl Abort, alloc: Global, text: Nested, wanted: Nested) -> Result<(), Fail> {
+    let text = nested(alloc, text)?;
+    let wanted = nested(alloc, wanted)?;
+    expect_bytes(rt, alloc, text.as_bytes(), wanted.as_str())
+}
+
 #[test]
 fn queries_are_read_as_deep_as_a_text_is_nested(rt: HostRuntime) -> Result<(), Fail> {
     for (text, wanted) in DEEP {
-        let (text, wanted) = (nested(rt.alloc(), text)?, nested(rt.alloc(), wanted)?);
-        expect_bytes(&rt, rt.alloc(), text.as_bytes(), wanted.as_str())?;
+        expect_nested(&rt, rt.alloc(), text, wanted)?;
     }
     Ok(())
 }
