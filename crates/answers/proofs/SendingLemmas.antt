@@ -1,68 +1,95 @@
--- What may go to other threads, and be seen by several: lowest first, since the search doesn't find it of the whole.
-use denote.Param.Send.{IsSend, IsSync, sendable}
+-- What a closure that looks at pieces has may go to another thread, field by field, since the search fits no lemma to what a reference in it
+-- leads to.
+use Prim.Native.Nat.{ℕ}
+use mathlib.Core.List.{List, [], ◌∷◌}
+use denote.Param.{param}
+use denote.Param.Send.{IsSend, IsSync, param_sync, recorded_send, sendable, shr_send, shr_slice_send, struct_send}
+use denote.RattleType.{RattleType}
+use denote.Ref.{NamedLft}
+use denote.Struct.Declared.{shape}
+use denote.Struct.Field.{shr_ref_field, shr_slice_field, u32-field}
+use denote.Struct.Struct.{Struct}
+use denote.Struct.Tuple.{TupleAt, type_at}
 use Rattle.std.proofs.Crossing.{crosses}
-use Rattle.types.proofs.data_type.DataType.TheLaws.TheKnot as fields
-use Rattle.layout.proofs.raw.RawArray.TheLaws.TheKnot as raws
+use Rattle.std.specs.contracts.sync.Arc as arc
+use Rattle.std.specs.contracts.alloc.Global as global
+use Rattle.std.specs.contracts.impls.GlobalAllocator.TheImpl.{ghosts}
 use Rattle.query.proofs.expr.Expr.TheLaws.TheKnot as exprs
-use Rattle.types.specs.contracts.schema.Schema as schema
-use Rattle.colbits.specs.contracts.buffer.Buffer as buffer
-use Rattle.arrays.specs.contracts.words.Words as words
-use Rattle.arrays.specs.contracts.array.Array as array
-use Rattle.arrays.specs.contracts.batch.RecordBatch as batch
 use Rattle.query.proofs.expr.Agg.TheSendSync as agg
 use Rattle.query.specs.contracts.queries.Query as query
-use Rattle.group.proofs.stats.Scalar.TheSendSync as scalar
-use Rattle.answers.specs.contracts.groups.Group as group
-use Rattle.answers.specs.contracts.groups.Answer as answer
+use Rattle.arrays.specs.contracts.batch.RecordBatch as batch
+use Rattle.arrays.proofs.SendingLemmas.{batch-send, batch-sync}
+use Rattle.answers.specs.contracts.piece.Cuts as cuts
+use Rattle.answers.specs.contracts.text_set.TextSet as texts
 
--- ---- batches
-
-pub schema-send : IsSend (schema.the_field).row
-schema-send = search (fields.crosses, crosses, sendable) depth 20
-
-pub schema-sync : IsSync (schema.the_field).row
-schema-sync = search (fields.crosses, crosses, sendable) depth 20
-
-pub buffer-send : IsSend (buffer.the_field).row
-buffer-send = search (crosses, sendable) depth 20
-
-pub buffer-sync : IsSync (buffer.the_field).row
-buffer-sync = search (crosses, sendable) depth 20
-
-pub words-send : IsSend (words.the_field).row
-words-send = search (crosses, sendable) depth 20
-
-pub words-sync : IsSync (words.the_field).row
-words-sync = search (crosses, sendable) depth 20
-
-pub array-send : IsSend (array.the_field).row
-array-send = search (raws.crosses, fields.crosses, buffer-send, words-send, words-sync, crosses, sendable) depth 40
-
-pub array-sync : IsSync (array.the_field).row
-array-sync = search (raws.crosses, fields.crosses, buffer-sync, words-send, words-sync, crosses, sendable) depth 40
-
-pub batch-send : IsSend batch.the_row
-batch-send = search (schema-send, array-send, crosses, sendable) depth 20
-
-pub batch-sync : IsSync batch.the_row
-batch-sync = search (schema-sync, array-sync, crosses, sendable) depth 20
-
--- ---- queries and answers
-
-pub query-send : IsSend query.the_row
-query-send = search (exprs.crosses, agg.the_send, crosses, sendable) depth 40
-
-pub query-sync : IsSync query.the_row
+query-sync : IsSync query.the_row
 query-sync = search (exprs.crosses, agg.the_sync, crosses, sendable) depth 40
 
-pub group-send : IsSend group.the_row
-group-send = search (scalar.the_send, crosses, sendable) depth 20
+texts-sync : IsSync texts.the_row
+texts-sync = search (crosses, sendable) depth 40
 
-pub group-sync : IsSync group.the_row
-group-sync = search (scalar.the_sync, crosses, sendable) depth 20
+abbrev shared-batch : RattleType
+shared-batch = arc.the_row batch.the_row global.the_row ghosts
 
-pub answer-send : IsSend answer.the_row
-answer-send = search (group-send, crosses, sendable) depth 20
+shared-sync : IsSync shared-batch
+shared-sync = search (batch-send, batch-sync, crosses, sendable) depth 20
 
-pub answer-sync : IsSync answer.the_row
-answer-sync = search (group-sync, crosses, sendable) depth 20
+module _ (ℓ ℓ₁ ℓ₂ ℓ₃ : NamedLft) (G : RattleType) (ν : List ℕ) (gate : IsSync G) where
+  abbrev pub one-has : List RattleType
+  one-has = global.the_row ∷ (shr_slice_field ℓ shared-batch tt).row ∷ (shr_ref_field ℓ₁ query.the_row tt).row ∷ (shr_ref_field ℓ₂ texts.the_row tt).row
+      ∷ cuts.the_row ∷ u32-field.row ∷ (shr_ref_field ℓ₃ (param 1 G) tt).row ∷ []
+
+  -- A closure that looks at one piece.
+  pub one-send : IsSend (TupleAt ν one-has)
+  one-send =
+      let T = type_at ν one-has in
+      recorded_send (Struct (shape T)) T.D T.to T.to_one
+      (struct_send (shape T) (
+        search (crosses, sendable) depth 20,
+        (
+          shr_slice_send ℓ.mir ℓ.lft shared-batch shared-sync,
+          (
+            shr_send ℓ₁.mir ℓ₁.lft query.the_row query-sync,
+            (
+              shr_send ℓ₂.mir ℓ₂.lft texts.the_row texts-sync,
+              (
+                search (crosses, sendable) depth 20,
+                (search (crosses, sendable) depth 20, (shr_send ℓ₃.mir ℓ₃.lft (param 1 G) (param_sync 1 G gate), tt)),
+              ),
+            ),
+          ),
+        ),
+      ))
+
+module _ (ℓ ℓ₁ ℓ₂ ℓ₃ ℓ₄ : NamedLft) (T G : RattleType) (ν : List ℕ) (threads : IsSync T) (gate : IsSync G) where
+  abbrev pub several-has : List RattleType
+  several-has = (shr_ref_field ℓ (param 0 T) tt).row ∷ global.the_row ∷ (shr_slice_field ℓ₁ shared-batch tt).row ∷ (shr_ref_field ℓ₂ query.the_row tt).row
+      ∷ (shr_ref_field ℓ₃ texts.the_row tt).row ∷ cuts.the_row ∷ u32-field.row ∷ u32-field.row ∷ (shr_ref_field ℓ₄ (param 1 G) tt).row ∷ []
+
+  -- A closure that has several pieces looked at.
+  pub several-send : IsSend (TupleAt ν several-has)
+  several-send =
+      let C = type_at ν several-has in
+      recorded_send (Struct (shape C)) C.D C.to C.to_one
+      (struct_send (shape C) (
+        shr_send ℓ.mir ℓ.lft (param 0 T) (param_sync 0 T threads),
+        (
+          search (crosses, sendable) depth 20,
+          (
+            shr_slice_send ℓ₁.mir ℓ₁.lft shared-batch shared-sync,
+            (
+              shr_send ℓ₂.mir ℓ₂.lft query.the_row query-sync,
+              (
+                shr_send ℓ₃.mir ℓ₃.lft texts.the_row texts-sync,
+                (
+                  search (crosses, sendable) depth 20,
+                  (
+                    search (crosses, sendable) depth 20,
+                    (search (crosses, sendable) depth 20, (shr_send ℓ₄.mir ℓ₄.lft (param 1 G) (param_sync 1 G gate), tt)),
+                  ),
+                ),
+              ),
+            ),
+          ),
+        ),
+      ))

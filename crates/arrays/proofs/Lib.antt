@@ -1,3 +1,4 @@
+pub mod PartsLemmas
 pub mod ListLemmas
 pub mod BuilderLemmas
 pub mod FromPartsLemmas
@@ -17,3 +18,4 @@ pub mod FinishedLemmas
 pub mod GrowingLemmas
 pub mod TypedLemmas
 pub mod BatchLemmas
+pub mod SendingLemmas

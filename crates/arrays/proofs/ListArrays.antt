@@ -7,7 +7,8 @@ use Rattle.types.specs.Kind as kind
 use Rattle.types.specs.Kind.{Kind, bytes_of, depth, kind_of, same_int, same_kind}
 use Rattle.layout.specs.Seen.{Seen}
 use Rattle.layout.specs.Checked.{checked, checked_texts}
-use Rattle.arrays.specs.Array.{read_array, show_array}
+use Rattle.arrays.specs.Array.{kind_with, read_array, show_array, words_with}
+use Rattle.arrays.specs.Parts.{read_alone}
 use Rattle.layout.specs.Reading.{Reading, read_parts, reading, inner_of}
 use Rattle.types.specs.First.{first}
 use Rattle.layout.specs.Fault.{Inner, do_parts_differ, is_validity_short, own_fault}
@@ -18,6 +19,7 @@ use Rattle.arrays.specs.declared.array.Array.TheInside.{Inside}
 use Rattle.layout.specs.Layout.{Buffers, column}
 use Rattle.layout.proofs.FirstFaultLemmas.{own_fault-whole, held-reading}
 use Rattle.arrays.proofs.FromPartsLemmas.{offsets_pass}
+use Rattle.arrays.proofs.PartsLemmas.{kind-array, kind-plain}
 use Rattle.layout.proofs.SeenLemmas.{seen-kind}
 use Rattle.layout.proofs.LawfulLemmas.{either_false, no_dictionary, parts_agree, reading-again}
 
@@ -33,15 +35,17 @@ none_held kind.dict children dictionary other h = cc
 
 -- the parts of an array are read without its words
 pub read-wordless : (a : Inside) → (read_array a).fault ≡ None → same_kind (show_array a).kind kind.dict ≡ false
-    → read_parts (kind_of a.ty) a.length None a.buffers.items (map reading a.children.items) None ≡ checked (show_array a)
+    → read_alone (kind_of (arc_value a.parts).ty) (arc_value a.parts) None ≡ checked (show_array a)
 read-wordless a lawful other =
-    let k = kind_of a.ty in
-    let children = map reading a.children.items in
-    let words = option_map checked_texts (option_map arc_value a.words) in
-    let not_dict : same_kind k kind.dict ≡ false = ap (λ k. same_kind k kind.dict) (sym (seen-kind k a.length None a.buffers.items children words)) ∙ other in
-    let wordless = none_held k (map inner_of children) words not_dict (parts_agree k a.length None a.buffers.items children words lawful) in
-    ap (read_parts k a.length None a.buffers.items children) (sym wordless)
-    ∙ sym (reading-again k a.length None a.buffers.items children words lawful)
+    let p = arc_value a.parts in
+    let k = kind_with (kind_of p.ty) a.encoding in
+    let children = map reading p.children.items in
+    let words = option_map checked_texts (words_with a.encoding) in
+    let not_dict : same_kind k kind.dict ≡ false = ap (λ k. same_kind k kind.dict) (sym (kind-array a)) ∙ other in
+    let wordless = none_held k (map inner_of children) words not_dict (parts_agree k p.length None p.buffers.items children words lawful) in
+    ap (λ k. read_parts k p.length None p.buffers.items children None) (sym (kind-plain (kind_of p.ty) a.encoding not_dict))
+    ∙ ap (read_parts k p.length None p.buffers.items children) (sym wordless)
+    ∙ sym (reading-again k p.length None p.buffers.items children words lawful)
 
 -- ---- lists
 

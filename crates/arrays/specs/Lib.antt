@@ -15,8 +15,10 @@ pub use Rattle.layout.specs.Reading
 pub use Rattle.layout.specs.Seen
 pub mod Values
 pub mod Slot
+pub mod BatchSchema
 pub mod Batch
 pub mod File
+pub mod Parts
 pub mod Words
 pub mod Array
 pub mod Column

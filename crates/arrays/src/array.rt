@@ -1,33 +1,38 @@
-ghost use Rattle.std.specs.Prelude.{◌≡◌, [], length, true, Some, IfOk, IfErr, None, option_map, ◌==◌, ◌⊎◌};
+ghost use Rattle.std.specs.Prelude.{◌≡◌, length, true, Some, IfOk, IfErr, None, is_some, ◌==◌, ◌⊎◌};
 ghost use Rattle.std.specs.List.{All};
 ghost use Rattle.std.specs.Arc.{arc_value};
 ghost use Rattle.arrays.specs.Dictionary.{encoded, is_code};
 ghost use Rattle.types.specs.Kind as kind;
 ghost use Rattle.types.specs.Kind.{int32, kind_of};
-ghost use Rattle.layout.specs.Reading.{fault, read_parts, reading};
+ghost use Rattle.layout.specs.Reading.{fault, reading};
+ghost use Rattle.arrays.specs.Array.{words_with};
+ghost use Rattle.arrays.specs.Parts.{read_alone};
+ghost use Rattle.arrays.specs.Words.{read_texts};
 
+mod encoding;
 mod from_parts;
 mod list_parts;
+pub(crate) mod parts;
 
+use crate::array::encoding::Encoding;
+use crate::array::parts::Parts;
 use crate::view::{View, ViewType};
 use crate::words::Words;
-use colbits::{Buffer, NoMemory};
-use layout::{LayoutFault, RawArray, copies, first_fault, release};
+use colbits::NoMemory;
+use layout::{LayoutFault, RawArray, first_fault, release};
 use std::alloc::Global;
 use std::marker::Model;
 use std::sync::Arc;
 use types::DataType;
 
-/// A lawful Arrow array: its parts were checked, and cannot change.
+/// A lawful Arrow array: its parts were checked, and cannot change. Copies share them.
 ///
 /// Clauses see what it shows: its kind, the validity of its slots, and an item for each slot.
 #[derive(Drop)]
 pub struct Array {
-    ty: DataType,
-    length: u64,
-    buffers: Vec<Option<Buffer>>,
-    children: Vec<RawArray>,
-    words: Option<Arc<Words>>,
+    parts: Arc<Parts>,
+    /// Of a dictionary-encoded array, whose parts are its codes.
+    encoding: Option<Encoding>,
 }
 
 impl Model for Array {
@@ -77,13 +82,37 @@ impl Array {
             children,
             dictionary,
         } = raw;
-        let words = Words::shared(alloc, dictionary)?;
-        Ok(Array {
+        let parts = Parts {
             ty,
             length,
             buffers,
             children,
-            words,
+        };
+        match Words::shared(alloc, dictionary)? {
+            Some(words) => Array::encoded(alloc, parts, words),
+            None => Array::plain(alloc, parts),
+        }
+    }
+
+    /// The array of lawful parts without a dictionary.
+    fn plain(alloc: Global, parts: Parts) -> Result<Array, NoMemory>
+        requires { (read_alone (kind_of parts.ty) parts None).fault ≡ None }
+        ensures { IfOk result (λ a. a ≡ (read_alone (kind_of parts.ty) parts None).seen) }
+    {
+        Ok(Array {
+            parts: Arc::new(alloc, parts)?,
+            encoding: None,
+        })
+    }
+
+    /// The array of lawful parts with a dictionary.
+    fn encoded(alloc: Global, parts: Parts, words: Arc<Words>) -> Result<Array, NoMemory>
+        requires { (read_alone kind.dict parts (Some (arc_value words))).fault ≡ None }
+        ensures { IfOk result (λ a. a ≡ (read_alone kind.dict parts (Some (arc_value words))).seen) }
+    {
+        Ok(Array {
+            parts: Arc::new(alloc, parts)?,
+            encoding: Some(Encoding::of(words)),
         })
     }
 
@@ -91,7 +120,7 @@ impl Array {
     pub fn len(&self) -> usize
         ensures { result ≡ length self.now.items }
     {
-        self.length as usize
+        self.parts.length as usize
     }
 
     /// Whether there is no slot.
@@ -105,20 +134,33 @@ impl Array {
     pub fn ty(&self) -> &DataType
         ensures { kind_of result.now ≡ self.now.kind }
     {
-        &self.ty
+        match &self.encoding {
+            Some(encoding) => &encoding.ty,
+            None => &self.parts.ty,
+        }
     }
 
     /// All slots of the array.
     pub fn view(&self) -> View<'_>
         ensures { result ≡ self.now }
     {
-        View::whole(
-            ViewType::of(&self.ty),
-            &self.buffers,
-            &self.children,
-            self.words.as_ref(),
-            self.length,
-        )
+        let parts = &*self.parts;
+        match &self.encoding {
+            Some(encoding) => View::whole(
+                ViewType::Dict,
+                &parts.buffers,
+                &parts.children,
+                Some(&encoding.words),
+                parts.length,
+            ),
+            None => View::whole(
+                ViewType::of(&parts.ty),
+                &parts.buffers,
+                &parts.children,
+                None,
+                parts.length,
+            ),
+        }
     }
 
     /// An array of codes and their dictionary, which may be shared: 32-bit numbers, each of them null or
@@ -128,58 +170,41 @@ impl Array {
         requires codes { All (λ c. is_code (length (arc_value dictionary).items) c ≡ true) codes.items }
         ensures { result ≡ encoded codes (arc_value dictionary) }
     {
-        let Array {
-            ty: _,
-            length,
-            buffers,
-            children,
-            words: _,
-        } = codes;
+        let Array { parts, encoding: _ } = codes;
         Array {
-            ty: DataType::Dict,
-            length,
-            buffers,
-            children,
-            words: Some(dictionary),
+            parts,
+            encoding: Some(Encoding::of(dictionary)),
         }
     }
 
-    /// The length and the buffers of an array of texts: these are all of its parts.
-    pub(crate) fn into_texts(self) -> (u64, Vec<Option<Buffer>>)
+    /// The parts of an array of texts.
+    pub(crate) fn into_texts(self) -> Arc<Parts>
         requires { self.kind ≡ kind.utf8 }
-        ensures lawful { (read_parts kind.utf8 result.0 None result.1.items [] None).fault ≡ None }
-        ensures shows { (read_parts kind.utf8 result.0 None result.1.items [] None).seen ≡ self }
+        ensures lawful { (read_texts (arc_value result)).fault ≡ None }
+        ensures shows { (read_texts (arc_value result)).seen ≡ self }
     {
-        let Array {
-            ty: _,
-            length,
-            buffers,
-            children: _,
-            words: _,
-        } = self;
-        (length, buffers)
+        let Array { parts, encoding: _ } = self;
+        parts
     }
 
-    /// The same array in memory of its own, save that the dictionary is shared.
-    pub fn copy(&self, alloc: Global) -> Result<Array, NoMemory>
+    /// The same array: its parts are shared. `NoMemory` only where that is refused.
+    pub fn copy(&self, _alloc: Global) -> Result<Array, NoMemory>
         ensures { IfOk result (λ a. a ≡ self.now) }
     {
         Ok(Array {
-            ty: self.ty.copy(alloc)?,
-            length: self.length,
-            buffers: copies::buffers(alloc, &self.buffers)?,
-            children: copies::children(alloc, &self.children)?,
-            words: shared(&self.words)?,
+            parts: self.parts.clone()?,
+            encoding: shared(&self.encoding)?,
         })
     }
 }
 
 /// The same dictionary once more: its texts are shared.
-fn shared(words: &Option<Arc<Words>>) -> Result<Option<Arc<Words>>, NoMemory>
-    ensures { IfOk result (λ w. option_map arc_value w ≡ option_map arc_value words.now) }
+fn shared(encoding: &Option<Encoding>) -> Result<Option<Encoding>, NoMemory>
+    ensures kind { IfOk result (λ e. is_some e ≡ is_some encoding.now) }
+    ensures words { IfOk result (λ e. words_with e ≡ words_with encoding.now) }
 {
-    match words {
-        Some(words) => Ok(Some(words.clone()?)),
+    match encoding {
+        Some(encoding) => Ok(Some(Encoding::of(encoding.words.clone()?))),
         None => Ok(None),
     }
 }

@@ -1,11 +1,18 @@
 ghost use Rattle.std.specs.Prelude.{◌≡◌, Some, None, IfOk, IfErr, not, position};
+ghost use Rattle.std.specs.Arc.{arc_value};
 ghost use Rattle.std.specs.List.{zip};
 ghost use Rattle.types.specs.Kind.{kind_of, same_kind};
 ghost use Rattle.types.specs.declared.data_type.Field.{out-Field};
 ghost use Rattle.arrays.specs.Batch.{bad_length, batch_fault, differing_length, differing_type};
 
+mod schema;
+
 use crate::array::Array;
+use crate::batch::schema::BatchSchema;
+use colbits::NoMemory;
+use std::alloc::Global;
 use std::marker::Model;
+use std::sync::Arc;
 use thiserror::Error;
 use types::{Field, Schema, is_same};
 
@@ -26,7 +33,7 @@ pub enum BatchFault {
 /// Columns of one length, each of its field's type. A batch without columns may have rows.
 #[derive(Drop)]
 pub struct RecordBatch {
-    schema: Schema,
+    schema: BatchSchema,
     rows: u32,
     columns: Vec<Array>,
 }
@@ -56,18 +63,42 @@ impl RecordBatch {
         match first_fault(&schema, rows, &columns) {
             Some(fault) => Err(fault),
             None => Ok(RecordBatch {
-                schema,
+                schema: BatchSchema::own(schema),
                 rows,
                 columns,
             }),
         }
     }
 
+    /// The batch of columns that fit a schema, which other batches may share. Nothing is looked at.
+    pub fn under(schema: Arc<Schema>, rows: u32, columns: Vec<Array>) -> RecordBatch
+        requires { batch_fault (arc_value schema) rows columns.items ≡ None }
+        ensures { result ≡ record { fields = arc_value schema; rows = rows; columns = columns.items } }
+    {
+        let schema = BatchSchema::shared(schema);
+        RecordBatch {
+            schema,
+            rows,
+            columns,
+        }
+    }
+
+    /// The same batch: its columns are shared, and its schema too where other batches have it.
+    pub fn copy(&self, alloc: Global) -> Result<RecordBatch, NoMemory>
+        ensures { IfOk result (λ b. b ≡ self.now) }
+    {
+        Ok(RecordBatch {
+            schema: self.schema.copy(alloc)?,
+            rows: self.rows,
+            columns: copies(alloc, &self.columns)?,
+        })
+    }
+
     /// The fields of the columns.
     pub fn schema(&self) -> &Schema
         ensures { result.now ≡ self.now.fields }
     {
-        &self.schema
+        self.schema.get()
     }
 
     /// How many rows there are.
@@ -84,6 +115,17 @@ impl RecordBatch {
     {
         &self.columns
     }
+}
+
+/// The same columns: their parts are shared.
+fn copies(alloc: Global, columns: &[Array]) -> Result<Vec<Array>, NoMemory>
+    ensures { IfOk result (λ v. v.items ≡ columns.now) }
+{
+    let mut copied = Vec::with_capacity(alloc, columns.len())?;
+    for column in columns {
+        copied.push(column.copy(alloc)?)?;
+    }
+    Ok(copied)
 }
 
 /// The most rows that a batch may have.

@@ -10,7 +10,7 @@ use types::Schema;
 /// A schema and batches of its types, as a file holds them.
 #[derive(Drop)]
 pub struct File {
-    schema: Schema,
+    schema: Arc<Schema>,
     batches: Vec<Arc<RecordBatch>>,
 }
 
@@ -24,16 +24,16 @@ impl Model for File {
 
     ghost coded = { file_code };
 
-    ghost view = { λ f. record { fields = f.schema; batches = map arc_value f.batches.items } };
+    ghost view = { λ f. record { fields = arc_value f.schema; batches = map arc_value f.batches.items } };
 
-    ghost invariant = { λ f. AreBatchesOf f.schema (map arc_value f.batches.items) };
+    ghost invariant = { λ f. AreBatchesOf (arc_value f.schema) (map arc_value f.batches.items) };
 }
 
 impl File {
     /// A file of the batches, each of the schema's types.
-    pub fn new(schema: Schema, batches: Vec<Arc<RecordBatch>>) -> File
-        requires { AreBatchesOf schema (map arc_value batches.items) }
-        ensures { result ≡ record { fields = schema; batches = map arc_value batches.items } }
+    pub fn new(schema: Arc<Schema>, batches: Vec<Arc<RecordBatch>>) -> File
+        requires { AreBatchesOf (arc_value schema) (map arc_value batches.items) }
+        ensures { result ≡ record { fields = arc_value schema; batches = map arc_value batches.items } }
     {
         File { schema, batches }
     }
@@ -54,8 +54,8 @@ impl File {
     }
 
     /// The schema and the batches themselves.
-    pub fn into_parts(self) -> (Schema, Vec<Arc<RecordBatch>>)
-        ensures schema { result.0 ≡ self.fields }
+    pub fn into_parts(self) -> (Arc<Schema>, Vec<Arc<RecordBatch>>)
+        ensures schema { arc_value result.0 ≡ self.fields }
         ensures batches { map arc_value result.1.items ≡ self.batches }
         ensures types { AreBatchesOf self.fields self.batches }
     {

@@ -6,8 +6,9 @@ ghost use Rattle.arrays.specs.Dictionary.{entries_shown, texts_alone};
 ghost use Rattle.layout.specs.Reading.{fault, reading};
 
 use crate::array::Array;
+use crate::array::parts::Parts;
 use crate::view::{View, ViewType};
-use colbits::{Buffer, NoMemory};
+use colbits::NoMemory;
 use layout::RawArray;
 use std::alloc::Global;
 use std::marker::Model;
@@ -17,8 +18,7 @@ use std::sync::Arc;
 /// stand among them.
 #[derive(Drop)]
 pub struct Words {
-    length: u64,
-    buffers: Vec<Option<Buffer>>,
+    parts: Arc<Parts>,
 }
 
 impl Model for Words {
@@ -43,7 +43,8 @@ impl Words {
         ensures value { result ≡ self.now }
         ensures texts { result ≡ texts_alone (entries_shown result) }
     {
-        View::whole(ViewType::Utf8, &self.buffers, &[], None, self.length)
+        let parts = &*self.parts;
+        View::whole(ViewType::Utf8, &parts.buffers, &[], None, parts.length)
     }
 
     /// An array of texts as a dictionary: its parts move, so that no memory is taken and nothing is copied.
@@ -51,25 +52,34 @@ impl Words {
         requires { array.kind ≡ kind.utf8 }
         ensures { result ≡ array }
     {
-        let (length, buffers) = array.into_texts();
-        Words { length, buffers }
+        Words {
+            parts: array.into_texts(),
+        }
     }
 
     /// The texts of a lawful raw array of texts. No part is copied.
-    pub(crate) fn from_raw(raw: RawArray) -> Words
+    pub(crate) fn from_raw(alloc: Global, raw: RawArray) -> Result<Words, NoMemory>
         requires lawful { fault raw ≡ None }
         requires texts { (reading raw).kind ≡ kind.utf8 }
-        ensures { result ≡ (reading raw).seen }
+        ensures { IfOk result (λ w. w ≡ (reading raw).seen) }
     {
         let RawArray {
-            ty: _,
+            ty,
             length,
             null_count: _,
             buffers,
-            children: _,
+            children,
             dictionary: _,
         } = raw;
-        Words { length, buffers }
+        let parts = Parts {
+            ty,
+            length,
+            buffers,
+            children,
+        };
+        Ok(Words {
+            parts: Arc::new(alloc, parts)?,
+        })
     }
 
     /// The texts of a lawful raw dictionary, to be shared by arrays and their copies.
@@ -83,7 +93,7 @@ impl Words {
     {
         match dictionary {
             Some(raw) => {
-                let words = Words::from_raw(Box::into_inner(raw));
+                let words = Words::from_raw(alloc, Box::into_inner(raw))?;
                 Ok(Some(Arc::new(alloc, words)?))
             }
             None => Ok(None),

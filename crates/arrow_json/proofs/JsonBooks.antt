@@ -1,9 +1,16 @@
 -- What the dictionaries are that fields name, and why their faults stand.
-use Rattle.std.proofs.Common.{◌≡◌, ◌≢◌, ◌∙◌, ℕ, ◌+◌, ◌<◌, ◌≤◌, ℤ, true, false, is_some, List, [], ◌∷◌, ◌++◌, length, get_or, map, Option, Some, None, option_and_then, option_map, refl, sym, ap, subst, arith, below_more, length-append}
+use Rattle.std.proofs.Common.{◌≡◌, ◌∙◌, ℕ, zero, suc, ◌+◌, ◌<◌, ◌≤◌, ℤ, pos, true, false, is_some, List, [], ◌∷◌, ◌++◌, length, get_or, slice_set, map, Option, Some, None, option_and_then, option_map, unwrap_or, refl, sym, ap, subst, arith, below_more, length-append}
 use Rattle.std.specs.List.{slice_get}
-use Rattle.std.proofs.lemmas.List.{length-map}
+use Rattle.std.proofs.lemmas.List.{length-map, length-set}
+use Rattle.std.specs.BTreeMap.{BTreeMap, is_at}
+use Rattle.std.specs.Map.{lookup}
+use Rattle.std.specs.Ordering.{int_cmp}
+use Rattle.std.specs.declared.alloc.Global.{Global}
+use Rattle.std.specs.declared.sync.Arc.{Arc}
+use Rattle.arrays.specs.Seen.{Seen}
 use Rattle.std.proofs.lemmas.Option.{slice_get_within, slice_get-get_or, slice_get-map}
-use Rattle.serde_json.specs.Data.{Data, Items}
+use Rattle.serde_json.specs.Data.{Data, Items, no_items, item}
+use Rattle.serde_json.specs.Events.{items_len}
 use Rattle.serde_json.specs.Find.{get_item, as_array, as_object}
 use Rattle.serde_json.specs.View.{items_view}
 use Rattle.serde_json.specs.declared.value.Value.{Value}
@@ -13,22 +20,23 @@ use Rattle.json_places.specs.declared.path.Step.{Step}
 use Rattle.json_places.specs.declared.path.Step.TheVariants as step
 use Rattle.arrow_json.specs.EncodingParts.{parts_of}
 use Rattle.arrow_json.specs.declared.encoding.Encoding as reader
-use Rattle.arrow_json.specs.declared.book.Place.TheVariants.{Nowhere, Again}
+use Rattle.arrow_json.specs.declared.place.Place.{Place}
+use Rattle.arrow_json.specs.declared.place.Place.TheVariants.{Nowhere, Again}
 use Rattle.json_places.specs.declared.fault.JsonFault.{JsonFault}
 use Rattle.json_places.specs.declared.fault.JsonFaultKind.{JsonFaultKind}
 use Rattle.json_places.specs.declared.fault.JsonFaultKind.TheVariants.{NoDictionary, DictionaryTwice}
-use Rattle.arrow_json.specs.BookParts.{IsPlace, IsFirst, IsNoDictionary, HasSome, IsCoding, IsCodingAt, AreCodings}
+use Rattle.arrow_json.specs.BookParts.{HasEncodings, HasSome, IsNoDictionary, IsCoding, IsCodingAt, AreCodings, ArePlaced, IsKept, ids_of}
+use Rattle.arrow_json.specs.PlaceParts.{IsPlace, IsBefore, ArePlaces, place_at}
 use Rattle.json_places.specs.JsonFault.{IsFault, IsUnder, Tells}
-use Rattle.json_places.specs.JsonMember.{member_of, IsObject, Unlike, MemberFault, EachFault, ReadsEach}
+use Rattle.json_places.specs.JsonMember.{member_of, IsObject, Unlike, MemberFault, EachFault, ReadsEach, ReadsFirst}
 use Rattle.arrow_json.specs.JsonEncoding.{Encoding, HasEncoding, id_of}
-use Rattle.arrow_json.specs.JsonEncodingFault.{EncodedFault}
 use Rattle.arrow_json.specs.JsonDictionaryFault.{EntryFault}
 use Rattle.arrow_json.specs.JsonBook as book
 use Rattle.arrow_json.specs.JsonBook.{listed_fields, HasId, HasEntries, IsOnly, HasDictionary, IsCoded, HasCoding, HasBook}
-use Rattle.arrow_json.specs.JsonBookFault.{NoId, no_entry_object, bad_entry_id, EntriesFault, no_entries, bad_numbers, NamedFault, nowhere, again, bad_entry, CodingsFault, bad_coding, Names, BookFault, bad_encodings, bad_entries, bad_named}
+use Rattle.arrow_json.specs.JsonBookFault.{NoId, no_entry_object, bad_entry_id, EntriesFault, no_entries, bad_numbers, NamedFault, nowhere, again, bad_entry, CodingsFault, bad_coding, Names, BookFault, bad_entries, bad_named}
 use Rattle.json_places.proofs.JsonTells.{tells_at, tells_as, tells_under, tells_wants}
 use Rattle.json_places.proofs.MemberLaws.{has_object}
-use Rattle.json_places.proofs.JsonItems.{slice_get-front, slice_get-last, get_item_some}
+use Rattle.json_places.proofs.JsonItems.{slice_get-front, slice_get-last, get_item_some, first_pushed}
 
 -- ---- numbers of entries
 
@@ -40,21 +48,6 @@ id_bad d f t = tells_as (MemberFault member.Id (Unlike id_of) d) (NoId d) f (λ 
 
 pub ruleset id_told = (id_object, id_bad, tells_wants)
 
-pub no_place_yet : (ids : List ℤ) (id : ℤ) → IsFirst ids id 0 None
-no_place_yet ids id = λ j below at. omega (arith, below)
-
--- another number stands there
-pub first_kept : (ids : List ℤ) (id x : ℤ) (n : ℕ) (o : Option ℕ) → IsFirst ids id n o → slice_get ids n ≡ Some x → x ≢ id → IsFirst ids id (n + 1) o
-first_kept ids id x n None h at other = below_more (λ j. slice_get ids j ≡ Some id → ⊥) n h (λ found. other cc)
-first_kept ids id x n (Some i) h at other =
-    (omega (arith, h.0), record { here = h.1.here; only = below_more (λ j. slice_get ids j ≡ Some id → j ≡ i) n h.1.only (λ found. absurd (other cc)) })
-
-pub first_found : (ids : List ℤ) (id : ℤ) (n : ℕ) → IsFirst ids id n None → slice_get ids n ≡ Some id → IsFirst ids id (n + 1) (Some n)
-first_found ids id n h at = (omega arith, record { here = at; only = below_more (λ j. slice_get ids j ≡ Some id → j ≡ n) n (λ j below found. absurd (h j below found)) (λ found. refl) })
-
-pub second_found : (ids : List ℤ) (id : ℤ) (n m i : ℕ) → IsFirst ids id n (Some i) → slice_get ids n ≡ Some id → IsPlace ids id m (Again n)
-second_found ids id n m i h at = (i, h.0, h.1, at)
-
 -- ---- the entry of a number
 
 -- the entry at the place of a number
@@ -63,6 +56,74 @@ entry_within vs ids id i h at = omega (arith, slice_get_within ids i id at, h.le
 
 pub entry_object : (entries : Items) (ids : List ℤ) (id : ℤ) (i : ℕ) (d : Data) → ReadsEach HasId entries ids → slice_get ids i ≡ Some id → get_item i entries ≡ Some d → IsObject d
 entry_object entries ids id i d h at found = has_object id_of member.Id d id (h.each i d id found at)
+
+-- the numbers that were read are those of the entries
+ids_read : (entries : Items) (ids : List ℤ) → ReadsEach HasId entries ids → ids ≡ ids_of entries
+ids_read no_items [] h = refl
+ids_read no_items (x ∷ xs) h = absurd (omega (arith, h.len))
+ids_read (item d ds) [] h = absurd (omega (arith, h.len))
+ids_read (item d ds) (x ∷ xs) h =
+    let first : HasId d x = h.each 0 d x refl refl in
+    let rest : ReadsEach HasId ds xs = record { len = omega (arith, h.len); each = λ i. h.each (suc i) } in
+    ap (λ y. y ∷ xs) (sym (ap (λ o. unwrap_or o (pos 0)) first)) ∙ ap (λ ys. unwrap_or (option_and_then id_of (member_of member.Id d)) (pos 0) ∷ ys) (ids_read ds xs rest)
+
+pub entries_placed : (entries : Items) (ids : List ℤ) (places : BTreeMap ℤ Place) → ReadsEach HasId entries ids → ArePlaces ids (length ids) places → ArePlaced entries places
+entries_placed entries ids places h placed = record {
+  numbered = subst (ReadsEach HasId entries) (ids_read entries ids h) h;
+  placed = subst (λ xs. ArePlaces xs (length xs) places) (ids_read entries ids h) placed;
+}
+
+-- the place that is found
+pub placed_at : (entries : Items) (places : BTreeMap ℤ Place) (id : ℤ) (p : Place) → ArePlaced entries places → p ≡ place_at places id → IsPlace (ids_of entries) id (length (ids_of entries)) p
+placed_at entries places id p h is = subst (IsPlace (ids_of entries) id (length (ids_of entries))) (sym is) (h.placed id).0
+
+pub entries_read : (d : Data) (entries : Items) (ids : List ℤ) → option_and_then as_array (member_of member.Dictionaries d) ≡ Some entries → ReadsEach HasId entries ids
+    → HasEntries d entries (ids_of entries)
+entries_read d entries ids listed h = record { listed = listed; numbered = subst (ReadsEach HasId entries) (ids_read entries ids h) h }
+
+pub none_placed : (places : BTreeMap ℤ Place) → places.entries ≡ [] → ArePlaced no_items places
+none_placed places none = record {
+  numbered = record { len = refl; each = λ i d x found at. cc };
+  placed = λ id.
+      subst (λ p. IsPlace [] id 0 p × IsBefore 0 p) (sym (ap (λ es. unwrap_or (lookup (is_at (int_cmp id)) es) Nowhere) none)) (λ j below at. omega (arith, below), tt);
+}
+
+-- ---- the texts that are kept
+
+set_each : {X : Type 0} (P : ℕ → X → Type 0) (xs : List X) (i : ℕ) (y : X) → ((j : ℕ) (x : X) → slice_get xs j ≡ Some x → P j x) → P i y → (j : ℕ) (x : X)
+    → slice_get (slice_set xs i y) j ≡ Some x → P j x
+set_each P [] i y h p j x at = h j x at
+set_each P (z ∷ xs) zero y h p zero x at =
+    let same : y ≡ x = cc at in
+    subst (P 0) same p
+set_each P (z ∷ xs) zero y h p (suc j) x at = h (suc j) x at
+set_each P (z ∷ xs) (suc i) y h p zero x at = h 0 x at
+set_each P (z ∷ xs) (suc i) y h p (suc j) x at = set_each (λ k. P (suc k)) xs i y (λ k. h (suc k)) p j x at
+
+-- more is kept of the entry i
+pub kept_set : (entries : Items) (kept : List (Option (Arc Seen Global))) (i : ℕ) (o : Option (Arc Seen Global)) (d : Data) → ReadsEach IsKept entries kept → get_item i entries ≡ Some d
+    → IsKept d o → ReadsEach IsKept entries (slice_set kept i o)
+kept_set entries kept i o d h at is = record {
+  len = length-set kept i o ∙ h.len;
+  each = λ j e x found got.
+      set_each (λ j x. (e : Data) → get_item j entries ≡ Some e → IsKept e x) kept i o (λ j x got e found. h.each j e x found got)
+      (λ e found.
+      let same : d ≡ e = cc (at, found) in
+      subst (λ y. IsKept y o) same is)
+      j x got e found;
+}
+
+-- what is kept of it
+pub kept_at : (entries : Items) (kept : List (Option (Arc Seen Global))) (i : ℕ) (o : Option (Arc Seen Global)) (d : Data) → ReadsEach IsKept entries kept → get_item i entries ≡ Some d
+    → i < length kept → IsKept d (get_or kept i o)
+kept_at entries kept i o d h at within = h.each i d (get_or kept i o) at (slice_get-get_or kept i o within)
+
+-- nothing of one more
+pub kept_none : (entries : Items) (n : ℕ) (kept : List (Option (Arc Seen Global))) → ReadsFirst IsKept entries n kept → n < items_len entries
+    → ReadsFirst IsKept entries (n + 1) (kept ++ None ∷ [])
+kept_none entries n kept h within =
+    let d = get_item_some entries n within in
+    first_pushed IsKept entries n kept d.0 None h d.1 tt
 
 pub tells_nowhere : (entries : Items) (ids : List ℤ) (i : ℕ) (id : ℤ) (f : JsonFault) → IsPlace ids id (length ids) Nowhere → IsNoDictionary i f → Tells (NamedFault entries ids i id) f
 tells_nowhere entries ids i id f h is =
@@ -94,8 +155,6 @@ pub entries_bad : (d : Data) (entries : Items) (f g : JsonFault) → Tells (Each
 entries_bad d entries f g t at up = tells_under (EachFault NoId entries) (EntriesFault d) (step.Member member.Dictionaries) f g (λ k p h. bad_numbers entries k p at h) t up
 
 pub ruleset entries_told = (entries_absent, entries_bad)
-
-pub ruleset encodings_told = (tells_wants)
 
 -- ---- columns that are encoded
 
@@ -151,14 +210,6 @@ pub ruleset codings_told = (tells_wants)
 
 -- ---- the book
 
-pub book_encodings : (d : Data) (fields : Items) (f g h : JsonFault) → Tells (EachFault EncodedFault fields) f → listed_fields d ≡ Some fields → IsUnder (step.Member member.Fields) f g
-    → IsUnder (step.Member member.Schema) g h → Tells (BookFault d) h
-book_encodings d fields f g h t listed up up_again =
-    let Inside : JsonFaultKind → List Step → Type 0 = λ k p. BookFault d k (step.Member member.Schema ∷ p) in
-    tells_under Inside (BookFault d) (step.Member member.Schema) g h (λ k p w. w)
-    (tells_under (EachFault EncodedFault fields) Inside (step.Member member.Fields) f g (λ k p w. bad_encodings fields k p listed w) t up)
-    up_again
-
 -- a column that is encoded is that of a field
 named_at : (d : Data) (fields : Items) (encodings : List (Option Encoding)) (i : ℕ) (e : Encoding) → listed_fields d ≡ Some fields → ReadsEach HasEncoding fields encodings
     → slice_get encodings i ≡ Some (Some e) → Names d i e
@@ -166,20 +217,19 @@ named_at d fields encodings i e listed h at =
     let field = get_item_some fields i (omega (arith, slice_get_within encodings i (Some e) at, h.len)) in
     record { fields = fields; listed = listed; field = field.0; found = field.1; encoding = h.each i field.0 (Some e) field.1 at }
 
-pub book_entries : (d : Data) (fields : Items) (encodings : List (Option Encoding)) (f : JsonFault) → Tells (EntriesFault d) f → HasSome encodings → listed_fields d ≡ Some fields
-    → ReadsEach HasEncoding fields encodings → Tells (BookFault d) f
-book_entries d fields encodings f t some listed h =
-    tells_as (EntriesFault d) (BookFault d) f (λ k p w. bad_entries some.i some.encoding k p (named_at d fields encodings some.i some.encoding listed h some.at) w) t
+pub book_entries : (d : Data) (encodings : List (Option Encoding)) (f : JsonFault) → Tells (EntriesFault d) f → HasSome encodings → HasEncodings d encodings → Tells (BookFault d) f
+book_entries d encodings f t some h =
+    tells_as (EntriesFault d) (BookFault d) f (λ k p w. bad_entries some.i some.encoding k p (named_at d h.fields encodings some.i some.encoding h.listed h.each some.at) w) t
 
 book_coding : (d : Data) (fields : Items) (encodings : List (Option Encoding)) (entries : Items) (ids : List ℤ) (k : JsonFaultKind) (p : List Step) → (HasSome encodings → HasEntries d entries ids)
     → listed_fields d ≡ Some fields → ReadsEach HasEncoding fields encodings → CodingsFault entries ids encodings k p → BookFault d k p
 book_coding d fields encodings entries ids k p given listed h (bad_coding i e k' p' at w) =
     bad_named i e entries ids k' p' (named_at d fields encodings i e listed h at) (given record { i = i; encoding = e; at = at }) w
 
-pub book_codings : (d : Data) (fields : Items) (encodings : List (Option Encoding)) (entries : Items) (ids : List ℤ) (f : JsonFault) → Tells (CodingsFault entries ids encodings) f
-    → (HasSome encodings → HasEntries d entries ids) → listed_fields d ≡ Some fields → ReadsEach HasEncoding fields encodings → Tells (BookFault d) f
-book_codings d fields encodings entries ids f t given listed h =
-    tells_as (CodingsFault entries ids encodings) (BookFault d) f (λ k p w. book_coding d fields encodings entries ids k p given listed h w) t
+pub book_codings : (d : Data) (encodings : List (Option Encoding)) (entries : Items) (ids : List ℤ) (f : JsonFault) → Tells (CodingsFault entries ids encodings) f
+    → (HasSome encodings → HasEntries d entries ids) → HasEncodings d encodings → Tells (BookFault d) f
+book_codings d encodings entries ids f t given h =
+    tells_as (CodingsFault entries ids encodings) (BookFault d) f (λ k p w. book_coding d h.fields encodings entries ids k p given h.listed h.each w) t
 
 coding_read : (d field : Data) (entries : Items) (ids : List ℤ) (e : Option Encoding) (c : Option book.Coding) → HasEncoding field e → ((x : Encoding) → e ≡ Some x → HasEntries d entries ids)
     → IsCoding entries ids e c → HasCoding d field c
@@ -195,17 +245,17 @@ coding_read d field entries ids (Some e) (Some c) h given is = record {
 coding_read d field entries ids None (Some c) h given is = absurd is
 coding_read d field entries ids (Some e) None h given is = absurd is
 
-pub book_read : (d : Data) (fields : Items) (encodings : List (Option Encoding)) (entries : Items) (ids : List ℤ) (n : ℕ) (cs : List (Option book.Coding)) → listed_fields d ≡ Some fields
-    → ReadsEach HasEncoding fields encodings → (HasSome encodings → HasEntries d entries ids) → n ≡ length encodings → AreCodings entries ids encodings n cs → HasBook d cs
-book_read d fields encodings entries ids n cs listed h given len are = record {
-  fields = fields;
-  listed = listed;
+pub book_read : (d : Data) (encodings : List (Option Encoding)) (entries : Items) (ids : List ℤ) (n : ℕ) (cs : List (Option book.Coding)) → HasEncodings d encodings
+    → (HasSome encodings → HasEntries d entries ids) → n ≡ length encodings → AreCodings entries ids encodings n cs → HasBook d cs
+book_read d encodings entries ids n cs h given len are = record {
+  fields = h.fields;
+  listed = h.listed;
   each = record {
-    len = are.len ∙ (len ∙ h.len);
+    len = are.len ∙ (len ∙ h.each.len);
     each = λ i field c found at.
         let e = are.each i c at in
-        coding_read d field entries ids e.0 c (h.each i field e.0 found e.1) (λ x is. given record { i = i; encoding = x; at = e.1 ∙ ap Some is }) e.2;
+        coding_read d field entries ids e.0 c (h.each.each i field e.0 found e.1) (λ x is. given record { i = i; encoding = x; at = e.1 ∙ ap Some is }) e.2;
   };
 }
 
-pub ruleset book_told = (book_encodings, book_entries, book_codings)
+pub ruleset book_told = (book_entries, book_codings, tells_wants)

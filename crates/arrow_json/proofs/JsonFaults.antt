@@ -1,5 +1,8 @@
 -- Why a fault that is told stands: one lemma for each way in which it came about.
-use Rattle.std.proofs.Common.{◌≡◌, ◌≢◌, ◌∙◌, ℕ, zero, suc, length, get_or, List, [], ◌∷◌, Option, Some, None, option_and_then, false, codes, refl, sym, ap, subst, arith}
+use Rattle.std.proofs.Common.{◌≡◌, ◌≢◌, ◌∙◌, ℕ, zero, suc, length, get_or, List, [], ◌∷◌, Option, Some, None, is_some, option_and_then, true, false, codes, refl, sym, ap, subst, arith}
+use Rattle.types.specs.declared.data_type.DataType.{DataType}
+use Rattle.arrays.specs.Shape as shape
+use Rattle.arrays.specs.Shape.{Shape, shape_of}
 use Rattle.serde_json.specs.Data.{Data, Num}
 use Rattle.serde_json.specs.Find.{as_array, as_bool, as_null, as_number, as_object, as_str}
 use Rattle.serde_json.specs.View.{view, items_view}
@@ -14,8 +17,9 @@ use Rattle.json_places.specs.JsonFault.{IsFault, IsUnder, Tells}
 use Rattle.json_places.specs.JsonMember.{member_of, IsObject, Unlike, unlike, Missing, MemberFault, absent, wrong}
 use Rattle.json_places.specs.JsonNumber.{width_of}
 use Rattle.json_places.proofs.JsonTells.{tells_at, tells_as, tells_under, tells_wants}
-use Rattle.arrow_json.specs.JsonSchema.{type_name, named_type, is_childless, only_item, only_child}
-use Rattle.arrow_json.specs.JsonSchemaFault.{TypeFault, no_type_object, bad_type_name, other_type, bad_width, other_width, bad_sign, FieldFault, no_field_object, bad_field_name, bad_nullable, bad_type, no_dictionary_object, encoded_item, has_children, no_child, ninth_list, bad_child, IndexFault, bad_index_type, other_index}
+use Rattle.arrow_json.specs.BareField.{IsTypeRead}
+use Rattle.arrow_json.specs.JsonSchema.{ReadsShape, type_name, named_type, is_childless, only_item, only_child}
+use Rattle.arrow_json.specs.JsonSchemaFault.{NamesChildless, int_name, bool_name, utf8_name, TypeFault, no_type_object, bad_type_name, other_type, bad_width, other_width, bad_sign, FieldFault, no_field_object, bad_field_name, bad_nullable, bad_type, no_dictionary_object, encoded_item, has_children, no_child, ninth_list, bad_child, IndexFault, bad_index_type, other_index}
 
 -- a fault of the first item of an array
 data UnderItem (W : JsonFaultKind → List Step → Type 0) : JsonFaultKind → List Step → Type 0 where
@@ -89,9 +93,29 @@ named_by d e o at named = ap (option_and_then type_name) at ∙ named
 pub not_named : (d e : Data) → member_of member.DataType d ≡ Some e → type_name e ≢ Some (codes "list") → named_type d ≢ Some (codes "list")
 not_named d e at other is = other (sym (named_by d e (type_name e) at refl) ∙ is)
 
-pub field_children : (n : ℕ) (d : Data) (f : JsonFault) → named_type d ≢ Some (codes "list") → is_childless (member_of member.Children d) ≡ false → IsFault WrongMember (step.Member member.Children ∷ []) f
-    → Tells (FieldFault n d) f
-field_children n d f flat h is = tells_at (FieldFault n d) WrongMember (step.Member member.Children ∷ []) f (has_children n d flat h) is
+pub field_children_named : (n : ℕ) (d : Data) (bytes : List ℕ) (f : JsonFault) → named_type d ≡ Some bytes → NamesChildless bytes → is_childless (member_of member.Children d) ≡ false
+    → IsFault WrongMember (step.Member member.Children ∷ []) f → Tells (FieldFault n d) f
+field_children_named n d bytes f named flat h is = tells_at (FieldFault n d) WrongMember (step.Member member.Children ∷ []) f (has_children n d bytes named flat h) is
+
+-- a type that is read and isn't a list's is called as one without children
+childless_shape : (e : Data) (s : Shape) → ReadsShape e s → type_name e ≢ Some (codes "list") → (bytes : List ℕ) × (type_name e ≡ Some bytes) × NamesChildless bytes
+childless_shape e (shape.int t) h other = (codes "int", h.name, int_name)
+childless_shape e shape.boolean h other = (codes "bool", h, bool_name)
+childless_shape e shape.utf8 h other = (codes "utf8", h, utf8_name)
+childless_shape e (shape.list f) h other = absurd (other h)
+childless_shape e shape.dict h other = absurd h
+
+pub field_children : (n : ℕ) (d e : Data) (s : Shape) (f : JsonFault) → member_of member.DataType d ≡ Some e → ReadsShape e s → type_name e ≢ Some (codes "list")
+    → is_childless (member_of member.Children d) ≡ false → IsFault WrongMember (step.Member member.Children ∷ []) f → Tells (FieldFault n d) f
+field_children n d e s f at reads other h is =
+    let flat = childless_shape e s reads other in
+    field_children_named n d flat.0 f (named_by d e (Some flat.0) at flat.1) flat.2 h is
+
+-- the same of the type as its reader has it
+pub field_children_read : (n : ℕ) (d e : Data) (o : Option DataType) (f : JsonFault) → member_of member.DataType d ≡ Some e → IsTypeRead e o → true ≡ is_some o
+    → is_childless (member_of member.Children d) ≡ false → IsFault WrongMember (step.Member member.Children ∷ []) f → Tells (FieldFault n d) f
+field_children_read n d e None f at read some h is = absurd cc
+field_children_read n d e (Some t) f at read some h is = field_children n d e (shape_of t) f at read.0 read.1 h is
 
 pub field_no_child : (n : ℕ) (d : Data) (f : JsonFault) → Tells (Missing member.Children d) f → named_type d ≡ Some (codes "list") → Tells (FieldFault n d) f
 field_no_child n d f t list = tells_as (Missing member.Children d) (FieldFault n d) f (λ k p h. no_child n d k p list (absent k p h)) t
@@ -129,4 +153,4 @@ pub ruleset type_told = (type_object, type_name_told, type_other_name, type_widt
 
 pub ruleset index_told = (type_object, type_name_told, index_type, index_other)
 
-pub ruleset field_told = (field_object, field_name_told, field_nullable_told, field_no_type, field_type_told, field_encoded_item, field_no_dictionary, named_by, not_named, field_children, field_no_child, field_other_child, field_ninth, field_child, tells_wants)
+pub ruleset field_told = (field_object, field_name_told, field_nullable_told, field_no_type, field_type_told, field_encoded_item, field_no_dictionary, named_by, not_named, field_children, field_children_read, field_no_child, field_other_child, field_ninth, field_child, tells_wants)

@@ -1,6 +1,5 @@
 -- Why a fault of a schema's fields stands.
-use Rattle.std.proofs.Common.{◌≡◌, ◌≢◌, ◌∙◌, ℕ, ◌+◌, ◌≤◌, nat_lt, List, [], ◌∷◌, ◌++◌, false, Some, Result, Ok, Err, option_and_then, codes, string_bytes, sym, ap, subst, arith}
-use Rattle.std.specs.Result.{IfOk}
+use Rattle.std.proofs.Common.{◌≡◌, ◌≢◌, ◌∙◌, ℕ, ◌+◌, ◌≤◌, nat_lt, List, [], ◌∷◌, ◌++◌, false, Some, option_and_then, codes, string_bytes, sym, ap, subst, arith}
 use Rattle.std.proofs.lemmas.Bool.Decides.{nat_tests}
 use Rattle.types.specs.declared.data_type.DataType.{DataType, fold_out-DataType, map-DataType}
 use Rattle.types.specs.declared.data_type.DataType.TheVariants.{Dict, outs-Dict}
@@ -23,11 +22,10 @@ use Rattle.arrow_json.specs.JsonEncodingFault.{EncodedFault}
 use Rattle.arrow_json.specs.JsonFieldsFault.{TopFault, bad_top, bad_encoded, other_values, SchemaFault, no_schema_object, bad_fields, bad_field}
 use Rattle.arrow_json.specs.JsonSchema.{HasType, IsFieldOf, type_name, named_type, is_childless}
 use Rattle.arrow_json.specs.JsonFields.{IsEncodedField, ReadsField, plain_field, encoded_field}
-use Rattle.arrow_json.specs.JsonSchemaFault.{TypeFault, FieldFault}
+use Rattle.arrow_json.specs.JsonSchemaFault.{TypeFault, FieldFault, utf8_name}
 use Rattle.json_places.proofs.JsonTells.{tells_at, tells_as, tells_under, tells_wants, tells_item_at}
-use Rattle.arrow_json.proofs.JsonFaults.{field_object, field_name_told, field_nullable_told, field_no_type, field_type_told, field_children}
+use Rattle.arrow_json.proofs.JsonFaults.{field_object, field_name_told, field_nullable_told, field_no_type, field_type_told, field_children_named}
 use Rattle.json_places.proofs.MemberLaws.{has_object}
-use Rattle.arrow_json.proofs.JsonNames.{not_list}
 
 pub top_plain : (d : Data) (f : JsonFault) → Tells (FieldFault 0 d) f → Tells (TopFault d) f
 top_plain d f t = tells_as (FieldFault 0 d) (TopFault d) f (λ k p h. bad_top k p h) t
@@ -65,7 +63,7 @@ top_other d e bytes f some at named other is =
 pub top_children : (d : Data) (f : JsonFault) → HasType d shape.utf8 → is_childless (member_of member.Children d) ≡ false → IsFault WrongMember (step.Member member.Children ∷ []) f
     → Tells (TopFault d) f
 top_children d f ty some is =
-    top_plain d f (field_children 0 d f (λ list. not_list d shape.utf8 (codes "utf8") ty ty.reads (λ e. omega (arith, e)) list) some is)
+    top_plain d f (field_children_named 0 d (codes "utf8") f (ap (option_and_then type_name) ty.at_type ∙ ty.reads) utf8_name some is)
 
 -- ---- a field that is read
 
@@ -85,10 +83,8 @@ top_read d f is h = subst (ReadsField d) (sym (field_of-Dict f is)) (encoded_fie
 few_lists : (n : ℕ) → 0 + n ≤ 8 → nat_lt 8 n ≡ false
 few_lists n h = grind (arith, nat_tests)
 
-pub within_read : (d : Data) (r : Result Field JsonFault) → IfOk r (λ f. IsFieldOf d (field_of f)) → IfOk r (λ f. 0 + depth (kind_of_field (field_of f)) ≤ 8)
-    → IfOk r (λ f. ReadsField d (field_of f))
-within_read d (Ok f) object shallow = plain_field (field_of f) object (few_lists (depth (kind_of_field (field_of f))) shallow)
-within_read d (Err e) object shallow = tt
+pub within_read : (d : Data) (f : Field) → IsFieldOf d (field_of f) → 0 + depth (kind_of_field (field_of f)) ≤ 8 → ReadsField d (field_of f)
+within_read d f object shallow = plain_field (field_of f) object (few_lists (depth (kind_of_field (field_of f))) shallow)
 
 pub ruleset top_told = (top_plain, top_encoding, top_object, top_name, top_nullable, top_no_type, top_type, top_other, top_children, tells_wants)
 

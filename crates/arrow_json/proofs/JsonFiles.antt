@@ -1,11 +1,12 @@
 -- What a file's batches are, and why its faults stand.
-use Rattle.std.proofs.Common.{◌≡◌, ℕ, ◌+◌, ◌<◌, List, [], ◌∷◌, ◌++◌, length, get_or, map, Option, Some, option_and_then, IsUtf8, refl, sym, ap, subst, arith, ◌∙◌}
-use Rattle.std.specs.List.{AllByRecursion}
+use Rattle.std.proofs.Common.{◌≡◌, ℕ, zero, suc, ◌+◌, ◌<◌, List, [], ◌∷◌, ◌++◌, length, get_or, map, Option, Some, option_and_then, IsUtf8, refl, sym, ap, subst, arith, ◌∙◌}
+use Rattle.std.specs.List.{AllByRecursion, slice_get}
 use Rattle.std.proofs.lemmas.List.{map-append}
 use Rattle.std.proofs.lemmas.Option.{slice_get_within}
 use Rattle.arrays.specs.Kind as kind
 use Rattle.arrays.specs.Shape.{FieldShape, kind_of_field}
 use Rattle.arrays.specs.Batch.{Batch}
+use Rattle.arrays.specs.File.{kinds_of}
 use Rattle.serde_json.specs.Data.{Data, Items}
 use Rattle.serde_json.specs.Find.{as_array, as_object}
 use Rattle.serde_json.specs.Read.{read}
@@ -18,6 +19,9 @@ use Rattle.json_places.specs.declared.fault.JsonFault.{JsonFault}
 use Rattle.json_places.specs.declared.fault.JsonFaultKind.{JsonFaultKind}
 use Rattle.json_places.specs.JsonFault.{Tells, IsUnder}
 use Rattle.json_places.specs.JsonMember.{NoDocument, no_document, member_of, Unlike, Missing, MemberFault, absent, wrong, EachFault, ReadsFirst, ReadsEach}
+use Rattle.arrow_json.specs.BookParts.{HasEncodings}
+use Rattle.arrow_json.specs.EncodingParts.{AreEncoded}
+use Rattle.arrow_json.specs.JsonEncoding.{Encoding}
 use Rattle.arrow_json.specs.JsonFieldsFault.{SchemaFault}
 use Rattle.arrow_json.specs.JsonBatch.{IsBookOf, ReadsBatch}
 use Rattle.json_places.specs.JsonTable.{table_of}
@@ -56,8 +60,12 @@ pub file_book : (d : Data) (f : JsonFault) → Tells (BookFault d) f → Tells (
 file_book d f t = tells_as (BookFault d) (FileFault d) f (λ k p h. bad_book k p h) t
 
 -- the objects of the fields
-pub fields_listed : (d schema : Data) (ds : Items) → member_of member.Schema d ≡ Some schema → option_and_then as_array (member_of member.Fields schema) ≡ Some ds → listed_fields d ≡ Some ds
+fields_listed : (d schema : Data) (ds : Items) → member_of member.Schema d ≡ Some schema → option_and_then as_array (member_of member.Fields schema) ≡ Some ds → listed_fields d ≡ Some ds
 fields_listed d schema ds at found = ap (λ o. option_and_then as_array (option_and_then (member_of member.Fields) o)) at ∙ found
+
+-- how their columns are encoded
+pub encodings_listed : (d schema : Data) (encodings : List (Option Encoding)) → member_of member.Schema d ≡ Some schema → AreEncoded schema encodings → HasEncodings d encodings
+encodings_listed d schema encodings at h = record { fields = h.fields; listed = fields_listed d schema h.fields at h.listed; each = h.each }
 
 -- the book of a file's fields
 coding_kind : (d e : Data) (f : FieldShape) (c : Coding) → ReadsField e f → HasCoding d e (Some c) → kind_of_field f ≡ kind.dict
@@ -84,7 +92,7 @@ pub file_batch : (d : Data) (fields : List FieldShape) (book : List (Option Codi
 file_batch d fields book ds f g t schema coded at up =
     tells_under (EachFault (BatchFault fields book) ds) (FileFault d) (step.Member member.Batches) f g (λ k p h. bad_batch fields book ds k p schema coded at h) t up
 
-pub ruleset file_told = (file_object, file_no_schema, file_schema, fields_listed, file_book, book_of, file_batches, file_batch)
+pub ruleset file_told = (file_object, file_no_schema, file_schema, encodings_listed, file_book, book_of, file_batches, file_batch)
 
 no_file : (bytes : List ℕ) (k : JsonFaultKind) (p : List Step) → NoDocument bytes k p → BytesFault bytes k p
 no_file bytes k p (no_document h) = no_json h
@@ -105,3 +113,13 @@ each_under fields (x ∷ bs) b h is = (h.0, each_under fields bs b h.1 is)
 
 pub AreUnder-push : (fields : List FieldShape) (bs new : List Batch) (b : Batch) → AreUnder fields bs → b.fields ≡ fields → new ≡ bs ++ b ∷ [] → AreUnder fields new
 AreUnder-push fields bs new b under is grown = subst (AreUnder fields) (sym grown) (each_under fields bs b under is)
+
+under_at : (fields : List FieldShape) (bs : List Batch) (i : ℕ) (b : Batch) → AreUnder fields bs → slice_get bs i ≡ Some b → b.fields ≡ fields
+under_at fields [] i b h at = absurd (omega (arith, slice_get_within [] i b at))
+under_at fields (x ∷ bs) zero b h at =
+    let same : x ≡ b = cc at in
+    subst (λ y. y.fields ≡ fields) same h.0
+under_at fields (x ∷ bs) (suc i) b h at = under_at fields bs i b h.1 at
+
+pub kinds_under : (fields : List FieldShape) (bs : List Batch) → AreUnder fields bs → (i : ℕ) (b : Batch) → slice_get bs i ≡ Some b → kinds_of b.fields ≡ kinds_of fields
+kinds_under fields bs h i b at = ap kinds_of (under_at fields bs i b h at)

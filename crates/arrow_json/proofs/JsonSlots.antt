@@ -70,10 +70,16 @@ no_text old d none = spells_nothing (ap (option_map column.text) none)
 pub no_room : (old : List Item) (d : Data) (t : List ℕ) → as_str d ≡ Some t → is_past (text_bytes (old ++ column.text t ∷ [])) ≡ true → IsUnfit texts old d unfit.TooLong
 no_room old d t is past = has_no_room (column.text t) (ap (option_map column.text) is) past
 
-pub no_growth : (s : Spelling) (old : List Item) (d : Data) → IsUnfit s old d unfit.NoMemory
-no_growth s old d = refused
+pub number_refused : (t : IntType) (old : List Item) (d : Data) (z : ℤ) → Some z ≡ integer_of t d → IsUnfit (numbers t) old d unfit.NoMemory
+number_refused t old d z is = refused (column.int z) (ap (option_map column.int) (sym is))
 
-pub ruleset taken = (number_taken, truth_taken, text_taken, no_number, no_truth, no_text, no_room, no_growth)
+pub truth_refused : (old : List Item) (d : Data) (b : Bool) → Some b ≡ flag_of d → IsUnfit truths old d unfit.NoMemory
+truth_refused old d b is = refused (column.boolean b) (ap (option_map column.boolean) (sym is))
+
+pub text_refused : (old : List Item) (d : Data) (t : List ℕ) → as_str d ≡ Some t → IsUnfit texts old d unfit.NoMemory
+text_refused old d t is = refused (column.text t) (ap (option_map column.text) is)
+
+pub ruleset taken = (number_taken, truth_taken, text_taken, no_number, no_truth, no_text, no_room, number_refused, truth_refused, text_refused)
 
 -- ---- a slot is added
 
@@ -120,7 +126,7 @@ tells_unfit s flags values i items d u f h valid found (spells_nothing none) tol
 tells_unfit s flags values i items d u f h valid found (has_no_room x is full) told =
     tells_at (SlotsFault s flags values) (Layout layout.TooLong) [] f
     (too_long (i + 1) (items ++ x ∷ []) (slots_pushed s flags values i items x h (valid_slot s flags values i d x valid found is)) full) told
-tells_unfit s flags values i items d u f h valid found refused told = tells_wants (SlotsFault s flags values) f told
+tells_unfit s flags values i items d u f h valid found (refused x is) told = tells_wants (SlotsFault s flags values) f told
 
 -- ---- none yet
 

@@ -9,6 +9,7 @@ pub mod JsonSlots
 pub mod JsonLists
 pub mod JsonCodes
 pub mod JsonDictionaries
+pub mod Places
 pub mod JsonBooks
 pub mod JsonBatches
 pub mod JsonRecordBatches

@@ -18,7 +18,7 @@ use Rattle.arrow_json.specs.JsonFields.{IsEncodedField, ReadsField, plain_field,
 use Rattle.arrow_json.specs.JsonFieldsFault.{TopFault, bad_top, bad_encoded, other_values, SchemaFault, no_schema_object, bad_fields, bad_field}
 use Rattle.json_places.proofs.MemberLaws.{has_object, no_null, head, inner, no_object, not_unlike, no_member, under_law, each_law, same_each}
 use Rattle.arrow_json.proofs.JsonNames.{not_list}
-use Rattle.arrow_json.specs.JsonSchemaFault.{TypeFault, no_type_object, bad_type_name, other_type, bad_width, other_width, bad_sign, FieldFault, no_field_object, bad_field_name, bad_nullable, bad_type, no_dictionary_object, encoded_item, has_children, no_child, ninth_list, bad_child, IndexFault, bad_index_type, other_index}
+use Rattle.arrow_json.specs.JsonSchemaFault.{NamesChildless, int_name, bool_name, utf8_name, TypeFault, no_type_object, bad_type_name, other_type, bad_width, other_width, bad_sign, FieldFault, no_field_object, bad_field_name, bad_nullable, bad_type, no_dictionary_object, encoded_item, has_children, no_child, ninth_list, bad_child, IndexFault, bad_index_type, other_index}
 use Rattle.arrow_json.specs.JsonFile.{HasSchema}
 
 -- ---- schemas
@@ -54,6 +54,17 @@ shape_law d utf8 k p h f = named_law d (codes "utf8") k p h (λ e. let n : 117 �
 shape_law d (list g) k p h f = named_law d (codes "list") k p h (λ e. let n : 108 ≡ 105 = ap head e in omega (arith, n)) (λ no_bool no_utf8 no_list. no_list refl) f
 shape_law d dict k p h f = absurd h
 
+-- a list is called otherwise than a type without children
+no_list_name : (bytes : List ℕ) → NamesChildless bytes → bytes ≡ codes "list" → ⊥
+no_list_name bytes int_name e = let n : 105 ≡ 108 = ap head e in omega (arith, n)
+no_list_name bytes bool_name e = let n : 98 ≡ 108 = ap head e in omega (arith, n)
+no_list_name bytes utf8_name e = let n : 117 ≡ 108 = ap head e in omega (arith, n)
+
+called_list : (d : Data) (bytes : List ℕ) → named_type d ≡ Some bytes → NamesChildless bytes → named_type d ≡ Some (codes "list") → ⊥
+called_list d bytes named flat is_list =
+    let same : bytes ≡ codes "list" = cc (named, is_list) in
+    no_list_name bytes flat same
+
 -- of a field that a dictionary makes no fault of, and whose child has no fault within these lists
 has_law : (n : ℕ) (d : Data) (bytes : List ℕ) (b : Bool) (s : Shape) (k : JsonFaultKind) (p : List Step) → option_and_then as_str (member_of member.Name d) ≡ Some bytes
     → option_and_then as_bool (member_of member.Nullable d) ≡ Some b → HasType d s
@@ -71,7 +82,7 @@ has_law n d bytes b s k p name nullable ty encoded nested some one ninth inside 
     under_law member.DataType TypeFault d ty.object _ _ ty.at_type (λ k p w. shape_law ty.object s k p ty.reads w) f
 has_law n d bytes b s k p name nullable ty encoded nested some one ninth inside (no_dictionary_object n' d' e k' p' at none u) = encoded e at none (not_unlike as_object e _ _ u)
 has_law n d bytes b s k p name nullable ty encoded nested some one ninth inside (encoded_item n' d' e at object) = nested n' e refl at object
-has_law n d bytes b s k p name nullable ty encoded nested some one ninth inside (has_children n' d' flat e) = some flat e
+has_law n d bytes b s k p name nullable ty encoded nested some one ninth inside (has_children n' d' called named flat e) = some (called_list d' called named flat) e
 has_law n d bytes b s k p name nullable ty encoded nested some one ninth inside (no_child n' d' k' p' is_list f) = one _ _ is_list f
 has_law n d bytes b s k p name nullable ty encoded nested some one ninth inside (ninth_list d' is_list) = ninth is_list refl
 has_law n d bytes b s k p name nullable ty encoded nested some one ninth inside (bad_child n' d' child k' p' is_list at f) = inside child _ _ is_list at f

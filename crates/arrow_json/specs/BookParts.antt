@@ -1,14 +1,20 @@
 -- What a reader of dictionaries has found.
-use Rattle.std.specs.Prelude.{◌≡◌, ◌≢◌, ℕ, ◌<◌, ℤ, List, [], ◌∷◌, length, slice_get, Option, Some, None}
+use Rattle.std.specs.Prelude.{◌≡◌, ℕ, ℤ, pos, List, [], ◌∷◌, length, slice_get, Option, Some, None, option_and_then, unwrap_or}
 use Rattle.std.specs.Arc.{arc_value}
-use Rattle.serde_json.specs.Data.{Items}
-use Rattle.arrow_json.specs.JsonEncoding.{Encoding}
+use Rattle.std.specs.BTreeMap.{BTreeMap}
+use Rattle.std.specs.declared.alloc.Global.{Global}
+use Rattle.std.specs.declared.sync.Arc.{Arc}
+use Rattle.arrays.specs.Seen.{Seen}
+use Rattle.serde_json.specs.Data.{Data, Items, no_items, item}
+use Rattle.arrow_json.specs.JsonDictionary.{ReadsEntry}
+use Rattle.arrow_json.specs.JsonEncoding.{Encoding, HasEncoding, id_of}
 use Rattle.arrow_json.specs.JsonBook as book
-use Rattle.arrow_json.specs.JsonBook.{HasDictionary, IsOnly}
+use Rattle.arrow_json.specs.JsonBook.{HasDictionary, HasId, listed_fields}
 use Rattle.json_places.specs.JsonFault.{IsFault}
+use Rattle.json_places.specs.JsonMember.{member_of, ReadsEach}
 use Rattle.arrow_json.specs.declared.book.Coding.{Coding}
-use Rattle.arrow_json.specs.declared.book.Place.{Place}
-use Rattle.arrow_json.specs.declared.book.Place.TheVariants.{Nowhere, At, Again}
+use Rattle.arrow_json.specs.declared.place.Place.{Place}
+use Rattle.arrow_json.specs.PlaceParts.{ArePlaces}
 use Rattle.json_places.specs.declared.path.Member.TheVariants as member
 use Rattle.json_places.specs.declared.path.Step.TheVariants as step
 use Rattle.json_places.specs.declared.fault.JsonFault.{JsonFault}
@@ -17,20 +23,30 @@ use Rattle.json_places.specs.declared.fault.JsonFaultKind.TheVariants.{NoDiction
 abbrev pub coding_of : Coding → book.Coding
 coding_of c = record { index = c.index; texts = (arc_value c.words).items }
 
--- Where a number stands among the first n.
-abbrev pub IsPlace : List ℤ → ℤ → ℕ → Place → Type 0
-IsPlace ids id n Nowhere = (j : ℕ) → j < n → slice_get ids j ≢ Some id
-IsPlace ids id n (At i) = IsOnly ids id n i
-IsPlace ids id n (Again k) = (j : ℕ) × (j < k) × IsOnly ids id k j × (slice_get ids k ≡ Some id)
+-- The number of each entry.
+abbrev pub ids_of : Items → List ℤ
+ids_of no_items = []
+ids_of (item d ds) = unwrap_or (option_and_then id_of (member_of member.Id d)) (pos 0) ∷ ids_of ds
 
--- The same of its first place, before a second is found.
-abbrev pub IsFirst : List ℤ → ℤ → ℕ → Option ℕ → Type 0
-IsFirst ids id n None = (j : ℕ) → j < n → slice_get ids j ≢ Some id
-IsFirst ids id n (Some i) = (i < n) × IsOnly ids id n i
+-- The entries all have a number, and these are the places of the numbers.
+pub record ArePlaced (entries : Items) (places : BTreeMap ℤ Place) : Type 0 where
+  pub numbered : ReadsEach HasId entries (ids_of entries)
+  pub placed : ArePlaces (ids_of entries) (length (ids_of entries)) places
+
+-- The texts that are kept of an entry, where it was read, are its own.
+abbrev pub IsKept : Data → Option (Arc Seen Global) → Type 0
+IsKept d None = Unit {0}
+IsKept d (Some words) = ReadsEntry d (arc_value words).items
 
 -- The fault of field i that no entry has its number.
 abbrev pub IsNoDictionary : ℕ → JsonFault → Type 0
 IsNoDictionary i fault = IsFault NoDictionary (step.Member member.Schema ∷ step.Member member.Fields ∷ step.Item i ∷ step.Member member.Dictionary ∷ step.Member member.Id ∷ []) fault
+
+-- The columns of a document's fields are encoded so.
+pub record HasEncodings (d : Data) (encodings : List (Option Encoding)) : Type 0 where
+  pub fields : Items
+  pub listed : listed_fields d ≡ Some fields
+  pub each : ReadsEach HasEncoding fields encodings
 
 -- Some column is encoded.
 pub record HasSome (encodings : List (Option Encoding)) : Type 0 where

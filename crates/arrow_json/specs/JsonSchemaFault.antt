@@ -27,6 +27,12 @@ pub data IndexFault (d : Data) : JsonFaultKind → List Step → Type 0 where
   -- indices are integers
   other_index : (bytes : List ℕ) → type_name d ≡ Some bytes → bytes ≢ codes "int" → IndexFault d UnsupportedType []
 
+-- The names of the types without children.
+pub data NamesChildless : List ℕ → Type 0 where
+  int_name : NamesChildless (codes "int")
+  bool_name : NamesChildless (codes "bool")
+  utf8_name : NamesChildless (codes "utf8")
+
 -- Of a field within so many lists, whose column isn't encoded.
 pub data FieldFault : ℕ → Data → JsonFaultKind → List Step → Type 0 where
   no_field_object : (within : ℕ) (d : Data) (kind : JsonFaultKind) (path : List Step) → Unlike as_object d kind path → FieldFault within d kind path
@@ -38,7 +44,7 @@ pub data FieldFault : ℕ → Data → JsonFaultKind → List Step → Type 0 wh
   -- a dictionary inside a list
   encoded_item : (within : ℕ) (d e : Data) → member_of member.Dictionary d ≡ Some e → IsObject e → FieldFault (suc within) d UnsupportedType []
   -- only lists have children
-  has_children : (within : ℕ) (d : Data) → named_type d ≢ Some (codes "list") → is_childless (member_of member.Children d) ≡ false
+  has_children : (within : ℕ) (d : Data) (bytes : List ℕ) → named_type d ≡ Some bytes → NamesChildless bytes → is_childless (member_of member.Children d) ≡ false
       → FieldFault within d WrongMember (step.Member member.Children ∷ [])
   no_child : (within : ℕ) (d : Data) (kind : JsonFaultKind) (path : List Step) → named_type d ≡ Some (codes "list") → MemberFault member.Children (Unlike only_item) d kind path
       → FieldFault within d kind path

@@ -16,6 +16,7 @@ pub mod JsonDictionary
 pub mod JsonDictionaryFault
 pub mod JsonBook
 pub mod JsonBookFault
+pub mod PlaceParts
 pub mod BookParts
 pub mod JsonList
 pub mod JsonListFault

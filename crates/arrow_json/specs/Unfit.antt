@@ -22,7 +22,8 @@ pub record IsWith (s : Spelling) (old : List Item) (d : Data) (new : List Item) 
 pub data IsUnfit (s : Spelling) (old : List Item) (d : Data) : Unfit → Type 0 where
   spells_nothing : s.spelled d ≡ None → IsUnfit s old d (Unspelled s.bad)
   has_no_room : (item : Item) → s.spelled d ≡ Some item → is_full s (old ++ item ∷ []) ≡ true → IsUnfit s old d TooLong
-  refused : IsUnfit s old d NoMemory
+  -- only of a value that would be taken
+  refused : (item : Item) → s.spelled d ≡ Some item → IsUnfit s old d NoMemory
 
 -- How it is told of slot i.
 abbrev pub IsTold : ℕ → Unfit → JsonFault → Type 0

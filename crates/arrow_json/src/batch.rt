@@ -1,4 +1,5 @@
 ghost use Rattle.std.specs.Prelude.{◌≡◌, ◌<◌, ◌^◌, length, map, option_map, IfOk, IfErr, IfSome};
+ghost use Rattle.std.specs.Arc.{arc_value};
 ghost use Rattle.arrays.specs.Kind as kind;
 ghost use Rattle.arrays.specs.Kind.{kind_of};
 ghost use Rattle.arrays.specs.Shape.{fields_of};
@@ -19,6 +20,7 @@ use json_places::member::{check_object, count_member, push};
 use json_places::{JsonFault, JsonFaultKind, Member, Step};
 use serde_json::Value;
 use std::alloc::Global;
+use std::sync::Arc;
 
 /// The column of a field.
 #[cycle(columns)]
@@ -90,26 +92,24 @@ fn read_columns(
     Ok(columns)
 }
 
-/// The batch that a batch object holds.
+/// The batch that a batch object holds, which shares the schema.
 #[tactic(auto, using(crate::proofs::JsonBatches::batch_told))]
 pub(crate) fn read_batch(
     alloc: Global,
-    schema: Schema,
+    schema: &Arc<Schema>,
     book: &[Option<Coding>],
     batch: &Value,
 ) -> Result<RecordBatch, JsonFault>
-    requires { IsBookOf schema (map (option_map coding_of) book.now) }
-    ensures fields { IfOk result (λ b. b.fields ≡ schema) }
-    ensures ok { IfOk result (λ b. ReadsBatch schema (map (option_map coding_of) book.now) (view batch.now) (table_of b)) }
-    ensures err { IfErr result (Tells (BatchFault schema (map (option_map coding_of) book.now) (view batch.now))) }
+    requires { IsBookOf (arc_value schema.now) (map (option_map coding_of) book.now) }
+    ensures fields { IfOk result (λ b. b.fields ≡ arc_value schema.now) }
+    ensures ok { IfOk result (λ b. ReadsBatch (arc_value schema.now) (map (option_map coding_of) book.now) (view batch.now) (table_of b)) }
+    ensures err { IfErr result (Tells (BatchFault (arc_value schema.now) (map (option_map coding_of) book.now) (view batch.now))) }
 {
     check_object(alloc, batch)?;
     let rows = count_member(alloc, batch, Member::Count)?;
     let values = list_member(alloc, batch, Member::Columns, schema.len())?;
     let read = read_columns(alloc, schema.fields(), book, rows, values);
     let columns = read.map_err(|fault| fault.under(alloc, Step::Member(Member::Columns)))?;
-    match RecordBatch::new(schema, rows, columns) {
-        Ok(batch) => Ok(batch),
-        Err(_) => unreachable!(),
-    }
+    let schema = schema.clone().map_err(|_| JsonFault::no_memory(alloc))?;
+    Ok(RecordBatch::under(schema, rows, columns))
 }

@@ -4,24 +4,24 @@ ghost use Rattle.std.specs.Prelude.{◌≡◌, ◌<◌, length, Some, IfOk, IfEr
 ghost use Rattle.std.specs.Bool.{OnFalse, OnTrue};
 ghost use Rattle.std.specs.Arc.{arc_value};
 ghost use Rattle.serde_json.specs.View.{view, items_view};
-ghost use Rattle.arrow_json.specs.BookParts.{AreCodings, HasSome, IsCodingAt, IsNoDictionary, IsPlace, coding_of};
+ghost use Rattle.arrow_json.specs.BookParts.{AreCodings, ArePlaced, HasEncodings, HasSome, IsCodingAt, IsKept, IsNoDictionary, coding_of, ids_of};
 ghost use Rattle.arrow_json.specs.EncodingParts.{parts_of};
-ghost use Rattle.arrow_json.specs.JsonBook.{HasBook, HasDictionary, HasEntries, HasId, listed_fields};
+ghost use Rattle.arrow_json.specs.JsonBook.{HasBook, HasDictionary, HasEntries, HasId};
 ghost use Rattle.arrow_json.specs.JsonBookFault.{BookFault, CodingsFault, EntriesFault, NamedFault, NoId};
 ghost use Rattle.arrow_json.specs.JsonDictionary.{ReadsEntry};
 ghost use Rattle.arrow_json.specs.JsonDictionaryFault.{EntryFault};
-ghost use Rattle.arrow_json.specs.JsonEncoding.{HasEncoding};
-ghost use Rattle.arrow_json.specs.JsonEncodingFault.{EncodedFault};
-ghost use Rattle.json_places.specs.JsonFault.{Tells};
+ghost use Rattle.json_places.specs.JsonFault.{Tells, no_memory};
 ghost use Rattle.json_places.specs.JsonMember.{EachFault, IsObject, ReadsEach};
 
 use crate::dictionary::read_entry;
-use crate::encoding::{Encoding, id_member, read_encoded};
+use crate::encoding::{Encoding, id_member};
+use crate::place::{Place, place_of, places_of};
 use arrays::{IntType, Words};
 use json_places::member::{array_member, check_object, push};
 use json_places::{JsonFault, JsonFaultKind, Member, Step};
 use serde_json::Value;
 use std::alloc::Global;
+use std::collections::BTreeMap;
 use std::sync::Arc;
 
 /// That a column is indices of this type into these texts.
@@ -56,33 +56,6 @@ fn entry_ids(alloc: Global, entries: &[Value]) -> Result<Vec<i128>, JsonFault>
     Ok(ids)
 }
 
-/// Where a number stands among numbers.
-enum Place {
-    Nowhere,
-    At(usize),
-    /// It stands at two places, of which this is the second.
-    Again(usize),
-}
-
-/// Where the number stands.
-fn place_of(ids: &[i128], id: i128) -> Place
-    ensures { IsPlace ids.now id (length ids.now) result }
-{
-    let mut first = None;
-    for (index, other) in ids.iter().enumerate() {
-        if *other == id {
-            if first.is_some() {
-                return Place::Again(index);
-            }
-            first = Some(index);
-        }
-    }
-    match first {
-        Some(index) => Place::At(index),
-        None => Place::Nowhere,
-    }
-}
-
 /// The texts of an entry, to be shared.
 #[tactic(auto, using(crate::proofs::JsonBooks::named_told))]
 fn read_words(alloc: Global, entry: &Value) -> Result<Arc<Words>, JsonFault>
@@ -94,11 +67,45 @@ fn read_words(alloc: Global, entry: &Value) -> Result<Arc<Words>, JsonFault>
     Arc::new(alloc, words).map_err(|_| JsonFault::no_memory(alloc))
 }
 
-/// The entries of a file, and the number of each.
+/// The texts of an entry. They are read where no field named it before, and kept for those that follow.
+#[tactic(auto, using(crate::proofs::JsonBooks::named_told))]
+fn share_words(
+    alloc: Global,
+    entry: &Value,
+    kept: &mut Option<Arc<Words>>,
+) -> Result<Arc<Words>, JsonFault>
+    requires object { IsObject (view entry.now) }
+    requires kept { IsKept (view entry.now) kept.old }
+    ensures kept { IsKept (view entry.now) kept.new }
+    ensures ok { IfOk result (λ w. ReadsEntry (view entry.now) (arc_value w).items) }
+    ensures err { IfErr result (Tells (EntryFault (view entry.now))) }
+{
+    if let Some(words) = kept {
+        return words.clone().map_err(|_| JsonFault::no_memory(alloc));
+    }
+    let words = read_words(alloc, entry)?;
+    let shared = words.clone().map_err(|_| JsonFault::no_memory(alloc))?;
+    *kept = Some(words);
+    Ok(shared)
+}
+
+/// Nothing is kept of any entry yet.
+fn kept_of_none(alloc: Global, entries: &[Value]) -> Result<Vec<Option<Arc<Words>>>, JsonFault>
+    ensures ok { IfOk result (λ kept. ReadsEach IsKept (items_view entries.now) kept.items) }
+    ensures err { IfErr result (λ fault. fault ≡ no_memory) }
+{
+    let mut kept = Vec::new(alloc);
+    for _ in entries {
+        push(alloc, &mut kept, None)?;
+    }
+    Ok(kept)
+}
+
+/// The entries of a file, and where each number stands among theirs.
 #[derive(Drop)]
 struct Entries<'v> {
     values: &'v [Value],
-    ids: Vec<i128>,
+    places: BTreeMap<i128, Place>,
 }
 
 /// The fault of a field of this index that names a dictionary that isn't there.
@@ -124,17 +131,20 @@ fn no_dictionary(alloc: Global, field: usize) -> JsonFault
 fn read_dictionary(
     alloc: Global,
     entries: &Entries,
+    kept: &mut [Option<Arc<Words>>],
     id: i128,
     field: usize,
 ) -> Result<Arc<Words>, JsonFault>
-    requires { ReadsEach HasId (items_view entries.now.values.now) entries.now.ids.items }
-    ensures ok { IfOk result (λ w.
-        HasDictionary (items_view entries.now.values.now) entries.now.ids.items id (arc_value w).items) }
-    ensures err { IfErr result
-        (Tells (NamedFault (items_view entries.now.values.now) entries.now.ids.items field id)) }
+    requires placed { ArePlaced (items_view entries.now.values.now) entries.now.places }
+    requires kept { ReadsEach IsKept (items_view entries.now.values.now) kept.old }
+    ensures kept { ReadsEach IsKept (items_view entries.now.values.now) kept.new }
+    ensures ok { let items = items_view entries.now.values.now in
+        IfOk result (λ w. HasDictionary items (ids_of items) id (arc_value w).items) }
+    ensures err { let items = items_view entries.now.values.now in
+        IfErr result (Tells (NamedFault items (ids_of items) field id)) }
 {
-    match place_of(&entries.ids, id) {
-        Place::At(index) => match read_words(alloc, &entries.values[index]) {
+    match place_of(&entries.places, id) {
+        Place::At(index) => match share_words(alloc, &entries.values[index], &mut kept[index]) {
             Ok(words) => Ok(words),
             Err(fault) => {
                 let entry = fault.under(alloc, Step::Item(index));
@@ -153,31 +163,20 @@ fn read_dictionary(
     }
 }
 
-/// How the columns of all fields are encoded.
-#[tactic(auto, using(crate::proofs::JsonBooks::encodings_told))]
-fn read_encodings(alloc: Global, fields: &[Value]) -> Result<Vec<Option<Encoding>>, JsonFault>
-    ensures ok { IfOk result (λ es. ReadsEach HasEncoding (items_view fields.now) (map (option_map parts_of) es.items)) }
-    ensures err { IfErr result (Tells (EachFault EncodedFault (items_view fields.now))) }
-{
-    let mut encodings = Vec::new(alloc);
-    for (index, field) in fields.iter().enumerate() {
-        let read = read_encoded(alloc, field);
-        let encoding = read.map_err(|fault| fault.under(alloc, Step::Item(index)))?;
-        push(alloc, &mut encodings, encoding)?;
-    }
-    Ok(encodings)
-}
-
 /// The entries of a document.
 #[tactic(auto, using(crate::proofs::JsonBooks::entries_told))]
 fn read_entries(alloc: Global, document: &Value) -> Result<Entries<'_>, JsonFault>
     requires { IsObject (view document.now) }
-    ensures ok { IfOk result (λ e. HasEntries (view document.now) (items_view e.values.now) e.ids.items) }
+    ensures ok { IfOk result (λ e. let items = items_view e.values.now in HasEntries (view document.now) items (ids_of items)) }
+    ensures placed { IfOk result (λ e. ArePlaced (items_view e.values.now) e.places) }
     ensures err { IfErr result (Tells (EntriesFault (view document.now))) }
 {
     let values = array_member(alloc, document, Member::Dictionaries)?;
     match entry_ids(alloc, values) {
-        Ok(ids) => Ok(Entries { values, ids }),
+        Ok(ids) => {
+            let places = places_of(alloc, &ids)?;
+            Ok(Entries { values, places })
+        }
         Err(fault) => Err(fault.under(alloc, Step::Member(Member::Dictionaries))),
     }
 }
@@ -203,7 +202,8 @@ fn entries_for<'v>(
 ) -> Result<Entries<'v>, JsonFault>
     requires { IsObject (view document.now) }
     ensures ok { IfOk result (λ e. HasSome (map (option_map parts_of) encodings.now) →
-        HasEntries (view document.now) (items_view e.values.now) e.ids.items) }
+        HasEntries (view document.now) (items_view e.values.now) (ids_of (items_view e.values.now))) }
+    ensures placed { IfOk result (λ e. ArePlaced (items_view e.values.now) e.places) }
     ensures needed { OnErr result (HasSome (map (option_map parts_of) encodings.now)) }
     ensures err { IfErr result (Tells (EntriesFault (view document.now))) }
 {
@@ -212,7 +212,7 @@ fn entries_for<'v>(
     }
     Ok(Entries {
         values: &[],
-        ids: Vec::new(alloc),
+        places: BTreeMap::new(alloc),
     })
 }
 
@@ -221,21 +221,23 @@ fn entries_for<'v>(
 fn read_coding(
     alloc: Global,
     entries: &Entries,
+    kept: &mut [Option<Arc<Words>>],
     encodings: &[Option<Encoding>],
     index: usize,
 ) -> Result<Option<Coding>, JsonFault>
     requires within { index < length encodings.now }
-    requires numbered { HasSome (map (option_map parts_of) encodings.now) →
-        ReadsEach HasId (items_view entries.now.values.now) entries.now.ids.items }
-    ensures ok { IfOk result (λ c. IsCodingAt (items_view entries.now.values.now) entries.now.ids.items
-        (map (option_map parts_of) encodings.now) index (option_map coding_of c)) }
-    ensures err { IfErr result (Tells (CodingsFault (items_view entries.now.values.now) entries.now.ids.items
-        (map (option_map parts_of) encodings.now))) }
+    requires placed { ArePlaced (items_view entries.now.values.now) entries.now.places }
+    requires kept { ReadsEach IsKept (items_view entries.now.values.now) kept.old }
+    ensures kept { ReadsEach IsKept (items_view entries.now.values.now) kept.new }
+    ensures ok { let items = items_view entries.now.values.now in
+        IfOk result (λ c. IsCodingAt items (ids_of items) (map (option_map parts_of) encodings.now) index (option_map coding_of c)) }
+    ensures err { let items = items_view entries.now.values.now in
+        IfErr result (Tells (CodingsFault items (ids_of items) (map (option_map parts_of) encodings.now))) }
 {
     match encodings[index] {
         None => Ok(None),
         Some(encoding) => {
-            let words = read_dictionary(alloc, entries, encoding.id, index)?;
+            let words = read_dictionary(alloc, entries, kept, encoding.id, index)?;
             Ok(Some(Coding {
                 index: encoding.index,
                 words,
@@ -244,23 +246,24 @@ fn read_coding(
     }
 }
 
-/// How the columns of all fields are read.
+/// How the columns of all fields are read. Those that name one entry share its texts.
 #[tactic(auto, using(crate::proofs::JsonBooks::codings_told))]
 fn read_codings(
     alloc: Global,
     entries: &Entries,
+    kept: &mut [Option<Arc<Words>>],
     encodings: &[Option<Encoding>],
 ) -> Result<Vec<Option<Coding>>, JsonFault>
-    requires { HasSome (map (option_map parts_of) encodings.now) →
-        ReadsEach HasId (items_view entries.now.values.now) entries.now.ids.items }
-    ensures ok { IfOk result (λ cs. AreCodings (items_view entries.now.values.now) entries.now.ids.items
+    requires placed { ArePlaced (items_view entries.now.values.now) entries.now.places }
+    requires kept { ReadsEach IsKept (items_view entries.now.values.now) kept.old }
+    ensures ok { let items = items_view entries.now.values.now in IfOk result (λ cs. AreCodings items (ids_of items)
         (map (option_map parts_of) encodings.now) (length encodings.now) (map (option_map coding_of) cs.items)) }
-    ensures err { IfErr result (Tells (CodingsFault (items_view entries.now.values.now) entries.now.ids.items
-        (map (option_map parts_of) encodings.now))) }
+    ensures err { let items = items_view entries.now.values.now in
+        IfErr result (Tells (CodingsFault items (ids_of items) (map (option_map parts_of) encodings.now))) }
 {
     let mut codings = Vec::new(alloc);
     for index in 0..encodings.len() {
-        let coding = read_coding(alloc, entries, encodings, index)?;
+        let coding = read_coding(alloc, entries, kept, encodings, index)?;
         push(alloc, &mut codings, coding)?;
     }
     Ok(codings)
@@ -271,20 +274,14 @@ fn read_codings(
 pub(crate) fn read_book(
     alloc: Global,
     document: &Value,
-    fields: &[Value],
+    encodings: &[Option<Encoding>],
 ) -> Result<Vec<Option<Coding>>, JsonFault>
     requires object { IsObject (view document.now) }
-    requires fields { listed_fields (view document.now) ≡ Some (items_view fields.now) }
+    requires encodings { HasEncodings (view document.now) (map (option_map parts_of) encodings.now) }
     ensures ok { IfOk result (λ cs. HasBook (view document.now) (map (option_map coding_of) cs.items)) }
     ensures err { IfErr result (Tells (BookFault (view document.now))) }
 {
-    let encodings = match read_encodings(alloc, fields) {
-        Ok(encodings) => encodings,
-        Err(fault) => {
-            let field = fault.under(alloc, Step::Member(Member::Fields));
-            return Err(field.under(alloc, Step::Member(Member::Schema)));
-        }
-    };
-    let entries = entries_for(alloc, document, &encodings)?;
-    read_codings(alloc, &entries, &encodings)
+    let entries = entries_for(alloc, document, encodings)?;
+    let mut kept = kept_of_none(alloc, entries.values)?;
+    read_codings(alloc, &entries, &mut kept, encodings)
 }

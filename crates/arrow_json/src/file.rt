@@ -2,8 +2,9 @@ ghost use Rattle.std.specs.Prelude.{◌≡◌, Some, IfOk, IfErr, OnOk, IsUtf8, 
 ghost use Rattle.std.specs.Arc.{arc_value};
 ghost use Rattle.serde_json.specs.Read.{read};
 ghost use Rattle.serde_json.specs.View.{view, items_view};
-ghost use Rattle.arrow_json.specs.BookParts.{coding_of};
-ghost use Rattle.arrow_json.specs.JsonBook.{listed_fields};
+ghost use Rattle.arrow_json.specs.BookParts.{HasEncodings, coding_of};
+ghost use Rattle.arrow_json.specs.EncodingParts.{parts_of};
+ghost use Rattle.arrow_json.specs.JsonBook.{HasBook};
 ghost use Rattle.arrow_json.specs.JsonBatch.{IsBookOf, ReadsBatch};
 ghost use Rattle.json_places.specs.JsonTable.{table_of};
 ghost use Rattle.arrow_json.specs.JsonBatchFault.{BatchFault};
@@ -14,7 +15,7 @@ ghost use Rattle.arrow_json.specs.JsonFile.{AreUnder, BytesFault, FileFault, Has
 
 use crate::batch::read_batch;
 use crate::book::{Coding, read_book};
-use crate::schema::{field_values, read_schema};
+use crate::schema::{EncodedSchema, read_schema};
 use arrays::{File, RecordBatch, Schema};
 use json_places::document::parse;
 use json_places::member::{array_member, check_object, push, required};
@@ -23,37 +24,20 @@ use serde_json::Value;
 use std::alloc::Global;
 use std::sync::Arc;
 
-/// The batch that a batch object holds, under a copy of the schema.
-#[tactic(auto, using(crate::proofs::JsonFiles::batches_told))]
-fn read_under(
-    alloc: Global,
-    schema: &Schema,
-    book: &[Option<Coding>],
-    batch: &Value,
-) -> Result<RecordBatch, JsonFault>
-    requires { IsBookOf schema.now (map (option_map coding_of) book.now) }
-    ensures fields { IfOk result (λ b. b.fields ≡ schema.now) }
-    ensures ok { IfOk result (λ b. ReadsBatch schema.now (map (option_map coding_of) book.now) (view batch.now) (table_of b)) }
-    ensures err { IfErr result (Tells (BatchFault schema.now (map (option_map coding_of) book.now) (view batch.now))) }
-{
-    let copy = schema.copy(alloc).map_err(|_| JsonFault::no_memory(alloc))?;
-    read_batch(alloc, copy, book, batch)
-}
-
-/// The same, to be shared.
+/// The batch that a batch object holds, to be shared.
 #[tactic(auto, using(crate::proofs::JsonFiles::batches_told))]
 fn read_shared(
     alloc: Global,
-    schema: &Schema,
+    schema: &Arc<Schema>,
     book: &[Option<Coding>],
     batch: &Value,
 ) -> Result<Arc<RecordBatch>, JsonFault>
-    requires { IsBookOf schema.now (map (option_map coding_of) book.now) }
-    ensures fields { IfOk result (λ b. (arc_value b).fields ≡ schema.now) }
-    ensures ok { IfOk result (λ b. ReadsBatch schema.now (map (option_map coding_of) book.now) (view batch.now) (table_of (arc_value b))) }
-    ensures err { IfErr result (Tells (BatchFault schema.now (map (option_map coding_of) book.now) (view batch.now))) }
+    requires { IsBookOf (arc_value schema.now) (map (option_map coding_of) book.now) }
+    ensures fields { IfOk result (λ b. (arc_value b).fields ≡ (arc_value schema.now)) }
+    ensures ok { IfOk result (λ b. ReadsBatch (arc_value schema.now) (map (option_map coding_of) book.now) (view batch.now) (table_of (arc_value b))) }
+    ensures err { IfErr result (Tells (BatchFault (arc_value schema.now) (map (option_map coding_of) book.now) (view batch.now))) }
 {
-    let batch = read_under(alloc, schema, book, batch)?;
+    let batch = read_batch(alloc, schema, book, batch)?;
     Arc::new(alloc, batch).map_err(|_| JsonFault::no_memory(alloc))
 }
 
@@ -61,15 +45,15 @@ fn read_shared(
 #[tactic(auto, using(crate::proofs::JsonFiles::batches_told))]
 fn read_batches(
     alloc: Global,
-    schema: &Schema,
+    schema: &Arc<Schema>,
     book: &[Option<Coding>],
     values: &[Value],
 ) -> Result<Vec<Arc<RecordBatch>>, JsonFault>
-    requires { IsBookOf schema.now (map (option_map coding_of) book.now) }
-    ensures under { IfOk result (λ batches. AreUnder schema.now (map arc_value batches.items)) }
-    ensures ok { IfOk result (λ batches. ReadsEach (ReadsBatch schema.now (map (option_map coding_of) book.now))
+    requires { IsBookOf (arc_value schema.now) (map (option_map coding_of) book.now) }
+    ensures under { IfOk result (λ batches. AreUnder (arc_value schema.now) (map arc_value batches.items)) }
+    ensures ok { IfOk result (λ batches. ReadsEach (ReadsBatch (arc_value schema.now) (map (option_map coding_of) book.now))
         (items_view values.now) (map table_of (map arc_value batches.items))) }
-    ensures err { IfErr result (Tells (EachFault (BatchFault schema.now (map (option_map coding_of) book.now))
+    ensures err { IfErr result (Tells (EachFault (BatchFault (arc_value schema.now) (map (option_map coding_of) book.now))
         (items_view values.now))) }
 {
     let mut batches = Vec::new(alloc);
@@ -81,29 +65,40 @@ fn read_batches(
     Ok(batches)
 }
 
-/// The schema of a document.
+/// The schema of a document, and how the column of each field is encoded.
 #[tactic(auto, using(crate::proofs::JsonFiles::file_told))]
-fn file_schema(alloc: Global, document: &Value) -> Result<Schema, JsonFault>
+fn file_schema(alloc: Global, document: &Value) -> Result<EncodedSchema, JsonFault>
     requires { IsObject (view document.now) }
-    ensures ok { IfOk result (HasSchema (view document.now)) }
+    ensures ok { IfOk result (λ s. HasSchema (view document.now) (arc_value s.schema)) }
+    ensures encodings { IfOk result (λ s. HasEncodings (view document.now) (map (option_map parts_of) s.encodings.items)) }
     ensures err { IfErr result (Tells (FileFault (view document.now))) }
 {
     let schema = required(alloc, document, Member::Schema)?;
-    read_schema(alloc, schema).map_err(|fault| fault.under(alloc, Step::Member(Member::Schema)))
-}
-
-/// The objects of the fields of a document.
-#[tactic(auto, using(crate::proofs::JsonFiles::file_told))]
-fn listed_fields(alloc: Global, document: &Value) -> Result<&[Value], JsonFault>
-    requires { IsObject (view document.now) }
-    ensures ok { IfOk result (λ fields. listed_fields (view document.now) ≡ Some (items_view fields.now)) }
-    ensures err { IfErr result (Tells (FileFault (view document.now))) }
-{
-    let schema = required(alloc, document, Member::Schema)?;
-    match field_values(alloc, schema) {
-        Ok(fields) => Ok(fields),
+    match read_schema(alloc, schema) {
+        Ok(read) => Ok(read),
         Err(fault) => Err(fault.under(alloc, Step::Member(Member::Schema))),
     }
+}
+
+/// The file of a document that has the schema and the dictionaries.
+#[tactic(auto, using(crate::proofs::JsonFiles::file_told))]
+fn read_under(
+    alloc: Global,
+    document: &Value,
+    schema: Arc<Schema>,
+    book: &[Option<Coding>],
+) -> Result<File, JsonFault>
+    requires object { IsObject (view document.now) }
+    requires schema { HasSchema (view document.now) (arc_value schema) }
+    requires book { HasBook (view document.now) (map (option_map coding_of) book.now) }
+    ensures under { IfOk result (λ f. AreUnder f.fields f.batches) }
+    ensures ok { IfOk result (λ f. ReadsFile (view document.now) (file_of f)) }
+    ensures err { IfErr result (Tells (FileFault (view document.now))) }
+{
+    let values = array_member(alloc, document, Member::Batches)?;
+    let read = read_batches(alloc, &schema, book, values);
+    let batches = read.map_err(|fault| fault.under(alloc, Step::Member(Member::Batches)))?;
+    Ok(File::new(schema, batches))
 }
 
 /// The file of a document.
@@ -114,13 +109,9 @@ fn read_document(alloc: Global, document: &Value) -> Result<File, JsonFault>
     ensures err { IfErr result (Tells (FileFault (view document.now))) }
 {
     check_object(alloc, document)?;
-    let schema = file_schema(alloc, document)?;
-    let fields = listed_fields(alloc, document)?;
-    let book = read_book(alloc, document, fields)?;
-    let values = array_member(alloc, document, Member::Batches)?;
-    let read = read_batches(alloc, &schema, &book, values);
-    let batches = read.map_err(|fault| fault.under(alloc, Step::Member(Member::Batches)))?;
-    Ok(File::new(schema, batches))
+    let read = file_schema(alloc, document)?;
+    let book = read_book(alloc, document, &read.encodings)?;
+    read_under(alloc, document, read.schema, &book)
 }
 
 /// The document that the bytes spell, which are let go of here.

@@ -10,6 +10,7 @@ mod encoding;
 pub mod file;
 pub mod laws;
 mod list;
+mod place;
 mod schema;
 mod type_object;
 

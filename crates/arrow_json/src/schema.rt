@@ -1,7 +1,9 @@
-ghost use Rattle.std.specs.Prelude.{◌≡◌, ◌+◌, ◌<◌, ◌≤◌, true, false, IfOk, IfErr, OnOk, Some, codes, option_map, option_and_then};
+ghost use Rattle.std.specs.Prelude.{◌≡◌, ◌+◌, ◌<◌, ◌≤◌, true, false, IfOk, IfErr, OnOk, None, Some, codes, map, option_map, option_and_then};
+ghost use Rattle.std.specs.Arc.{arc_value};
 ghost use Rattle.serde_json.specs.Find.{as_array};
 ghost use Rattle.serde_json.specs.View.{view, items_view};
 ghost use Rattle.arrays.specs.Kind.{depth};
+ghost use Rattle.arrays.specs.Schema.{schema_fault};
 ghost use Rattle.arrays.specs.Shape as shape;
 ghost use Rattle.arrays.specs.Shape.{field_of, fields_of, kind_of_field, shape_of};
 ghost use Rattle.json_places.specs.JsonFault.{Tells, no_memory};
@@ -9,12 +11,13 @@ ghost use Rattle.arrow_json.specs.BareField.{IsFieldType, IsBare};
 ghost use Rattle.json_places.specs.JsonMember.{member_of, is_without, EachFault, IsObject, ReadsEach};
 ghost use Rattle.arrow_json.specs.JsonSchema.{HasType, named_type, only_item, only_child, IsFieldOf, is_childless};
 ghost use Rattle.arrow_json.specs.JsonSchemaFault.{FieldFault};
-ghost use Rattle.arrow_json.specs.EncodingParts.{HasSomeEncoding};
+ghost use Rattle.arrow_json.specs.EncodingParts.{AreEncoded, HasSomeEncoding, parts_of};
+ghost use Rattle.arrow_json.specs.JsonEncoding.{HasEncoding};
 ghost use Rattle.arrow_json.specs.JsonFields.{ReadsField, ReadsSchema};
 ghost use Rattle.arrow_json.specs.JsonFieldsFault.{SchemaFault, TopFault};
 ghost use Rattle.json_places.specs.declared.path.Member.TheVariants as member;
 
-use crate::encoding::read_encoded;
+use crate::encoding::{Encoding, read_encoded};
 use crate::type_object::{read_type, type_name};
 use arrays::{DataType, Field, Schema};
 use json_places::member::{
@@ -23,6 +26,7 @@ use json_places::member::{
 use json_places::{JsonFault, JsonFaultKind, Member, Step};
 use serde_json::Value;
 use std::alloc::Global;
+use std::sync::Arc;
 
 /// How many lists may stand in one another.
 const MOST_LISTS: u32 = 8;
@@ -218,37 +222,68 @@ fn read_encoded_field(alloc: Global, field: &Value) -> Result<Field, JsonFault>
     }
 }
 
+/// A field of a schema, and how its column is encoded.
+#[derive(Drop)]
+struct TopField {
+    field: Field,
+    encoding: Option<Encoding>,
+}
+
 /// The field of a schema.
 #[tactic(auto, using(crate::proofs::JsonFields::top_told))]
-fn read_field(alloc: Global, field: &Value) -> Result<Field, JsonFault>
-    ensures ok { IfOk result (λ f. ReadsField (view field.now) (field_of f)) }
+fn read_field(alloc: Global, field: &Value) -> Result<TopField, JsonFault>
+    ensures ok { IfOk result (λ t. ReadsField (view field.now) (field_of t.field)) }
+    ensures encoding { IfOk result (λ t. HasEncoding (view field.now) (option_map parts_of t.encoding)) }
     ensures err { IfErr result (Tells (TopFault (view field.now))) }
 {
     match read_encoded(alloc, field)? {
-        None => read_within(alloc, 0, field),
-        Some(_) => read_encoded_field(alloc, field),
+        None => {
+            let plain = read_within(alloc, 0, field)?;
+            Ok(TopField {
+                field: plain,
+                encoding: None,
+            })
+        }
+        Some(encoding) => {
+            let encoded = read_encoded_field(alloc, field)?;
+            Ok(TopField {
+                field: encoded,
+                encoding: Some(encoding),
+            })
+        }
     }
+}
+
+/// The fields of a schema, and how the column of each is encoded.
+#[derive(Drop)]
+struct TopFields {
+    fields: Vec<Field>,
+    encodings: Vec<Option<Encoding>>,
 }
 
 /// The fields of a schema.
 #[tactic(auto, using(crate::proofs::JsonFields::schema_told))]
-fn read_fields(alloc: Global, values: &[Value]) -> Result<Vec<Field>, JsonFault>
-    ensures ok { IfOk result (λ fields.
-        ReadsEach ReadsField (items_view values.now) (fields_of fields.items)) }
+fn read_fields(alloc: Global, values: &[Value]) -> Result<TopFields, JsonFault>
+    ensures ok { IfOk result (λ t.
+        ReadsEach ReadsField (items_view values.now) (fields_of t.fields.items)) }
+    ensures encodings { IfOk result (λ t.
+        ReadsEach HasEncoding (items_view values.now) (map (option_map parts_of) t.encodings.items)) }
     ensures err { IfErr result (Tells (EachFault TopFault (items_view values.now))) }
 {
     let mut fields = Vec::new(alloc);
+    let mut encodings = Vec::new(alloc);
     for (index, value) in values.iter().enumerate() {
         let read = read_field(alloc, value);
-        let field = read.map_err(|fault| fault.under(alloc, Step::Item(index)))?;
-        push(alloc, &mut fields, field)?;
+        let top = read.map_err(|fault| fault.under(alloc, Step::Item(index)))?;
+        push(alloc, &mut fields, top.field)?;
+        push(alloc, &mut encodings, top.encoding)?;
     }
-    Ok(fields)
+    Ok(TopFields { fields, encodings })
 }
 
 /// The objects of a schema's fields.
 #[tactic(auto, using(crate::proofs::JsonFields::schema_told))]
-pub(crate) fn field_values(alloc: Global, schema: &Value) -> Result<&[Value], JsonFault>
+fn field_values(alloc: Global, schema: &Value) -> Result<&[Value], JsonFault>
     ensures ok { IfOk result (λ values.
         option_and_then as_array (member_of member.Fields (view schema.now)) ≡ Some (items_view values.now)) }
     ensures err { IfErr result (Tells (SchemaFault (view schema.now))) }
@@ -257,17 +292,38 @@ pub(crate) fn field_values(alloc: Global, schema: &Value) -> Result<&[Value], Js
     array_member(alloc, schema, Member::Fields)
 }
 
+/// The lawful schema of the fields, to be shared.
+fn share_schema(alloc: Global, fields: Vec<Field>) -> Result<Arc<Schema>, JsonFault>
+    requires { schema_fault (fields_of fields.items) ≡ None }
+    ensures ok { IfOk result (λ s. arc_value s ≡ fields_of fields.items) }
+    ensures err { IfErr result (λ fault. fault ≡ no_memory) }
+{
+    match Schema::new(fields) {
+        Ok(schema) => Arc::new(alloc, schema).map_err(|_| JsonFault::no_memory(alloc)),
+        Err(_) => unreachable!(),
+    }
+}
+
+/// The schema of a file, to be shared by its batches, and how the column of each field is encoded.
+#[derive(Drop)]
+pub(crate) struct EncodedSchema {
+    pub schema: Arc<Schema>,
+    pub encodings: Vec<Option<Encoding>>,
+}
+
 /// The schema of a file.
 #[tactic(auto, using(crate::proofs::JsonFields::schema_told))]
-pub(crate) fn read_schema(alloc: Global, schema: &Value) -> Result<Schema, JsonFault>
-    ensures ok { IfOk result (ReadsSchema (view schema.now)) }
+pub(crate) fn read_schema(alloc: Global, schema: &Value) -> Result<EncodedSchema, JsonFault>
+    ensures ok { IfOk result (λ s. ReadsSchema (view schema.now) (arc_value s.schema)) }
+    ensures encodings { IfOk result (λ s. AreEncoded (view schema.now) (map (option_map parts_of) s.encodings.items)) }
     ensures err { IfErr result (Tells (SchemaFault (view schema.now))) }
 {
     let values = field_values(alloc, schema)?;
     let read = read_fields(alloc, values);
-    let fields = read.map_err(|fault| fault.under(alloc, Step::Member(Member::Fields)))?;
-    match Schema::new(fields) {
-        Ok(schema) => Ok(schema),
-        Err(_) => unreachable!(),
-    }
+    let top = read.map_err(|fault| fault.under(alloc, Step::Member(Member::Fields)))?;
+    let shared = share_schema(alloc, top.fields)?;
+    Ok(EncodedSchema {
+        schema: shared,
+        encodings: top.encodings,
+    })
 }

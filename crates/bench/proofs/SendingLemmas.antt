@@ -8,12 +8,12 @@ use denote.Ref.{NamedLft}
 use denote.RattleType.{RattleType}
 use Rattle.std.proofs.Crossing.{crosses}
 use Rattle.std.specs.declared.sync.ledger.Ledger as ledger
-use Rattle.answers.proofs.SendingLemmas.{batch-sync}
+use Rattle.arrays.proofs.SendingLemmas.{batch-sync}
 use Rattle.bench.specs.contracts.reader_runs.hands.Hand as hand
 use Rattle.bench.specs.contracts.reader_runs.looking.Looking as looking
 use Rattle.histories.specs.declared.naming.Naming as names
-use Rattle.loads.proofs.PublisherLemmas.{reader-send}
-use Rattle.loads.proofs.SendingLemmas.{table-sync}
+use Rattle.shared.proofs.PublisherLemmas.{reader-send}
+use Rattle.shared.proofs.SendingLemmas.{table-sync}
 use Rattle.shared.proofs.worker.Worker.TheSendSync as worker
 use Rattle.shared.specs.contracts.shared_table.SharedTable as table
 use Rattle.shared.specs.declared.naming.Naming as naming

@@ -5,7 +5,7 @@ use Rattle.arrays.specs.Kind.{int32}
 use Rattle.arrays.specs.Seen.{Seen}
 use Rattle.arrays.specs.Shown.{shown}
 use Rattle.bench.specs.declared.kernel_runs.kernel.Kernel.{Kernel}
-use Rattle.bench.specs.declared.kernel_runs.kernel.Kernel.TheVariants.{Add, Less, Equal, And, Filter, Take, TakeTexts, RecodeFew, RecodeMany, AddNumber, GreaterNumber}
+use Rattle.bench.specs.declared.kernel_runs.kernel.Kernel.TheVariants.{Add, Less, Equal, And, Filter, Take, TakeTexts, RecodeFew, RecodeMany, RecodeCodes, AddNumber, GreaterNumber}
 use Rattle.kernels.specs.Arithmetic.{results}
 use Rattle.kernels.specs.Beside.{number_beside}
 use Rattle.kernels.specs.Kleene.{conjunction}
@@ -31,5 +31,6 @@ outcome Take a b = chosen a.kind (λ items. taken items b.items) a
 outcome TakeTexts a b = chosen a.kind (λ items. taken items b.items) a
 outcome RecodeFew a b = codes_of a
 outcome RecodeMany a b = codes_of a
+outcome RecodeCodes a b = codes_of a
 outcome AddNumber a b = shown a.kind (results ◌+ℤ◌ a.items (number_beside a (pos 1)).items)
 outcome GreaterNumber a b = shown kind.boolean (compared Gt a.items (number_beside a (pos 5)).items)

@@ -1,14 +1,17 @@
 //! `bench kernels KERNEL ROWS TIMES` makes two columns of so many rows, runs a kernel on them so many times, and
 //! prints how many slots of the last result are null. KERNEL is `add`, `less`, `equal` (of texts), `and`, `filter`, `take`,
-//! `take-texts`, `recode-few`, `recode-many`, `add-number` or `greater-number`. `bench kernels concat ROWS TIMES` puts
+//! `take-texts`, `recode-few`, `recode-many`, `recode-codes`, `add-number` or `greater-number`. `bench kernels concat ROWS TIMES` puts
 //! sixteen columns of so many rows together behind one another, `bench kernels stats-of ROWS TIMES` prints the
 //! statistics of one column, and `bench kernels null-count ROWS TIMES` how many of its slots are null.
 //! `bench kernels BITS ROWS TIMES`, with `bits-and`, `bits-or`, `bits-not` or `bits-and-within` (a byte) for BITS, makes a bitmap
 //! of two of so many bits, and prints how many bits of the last are 1. `bench kernels PARTS ROWS TIMES`, with `validate-numbers` or
-//! `validate-texts` for PARTS, checks the parts of a column, and prints how many nulls they state.
+//! `validate-texts` for PARTS, checks the parts of a column, and prints how many nulls they state. `bench kernels admit ROWS TIMES` makes
+//! a table of a batch of two columns of 64-bit numbers, and prints how many rows it has; `bench kernels gather ROWS TIMES` gathers the
+//! statistics of such columns, and prints how many rows they have together.
 //!
 //! Without words it runs each once, on few rows.
 
+mod appending;
 mod bitmaps;
 mod columns;
 mod kernel;
@@ -18,6 +21,7 @@ mod validation;
 
 use crate::fault::Fault;
 use crate::words::number;
+use appending::{rows_admitted, rows_gathered};
 use bitmaps::{Bitwise, nulls_counted};
 use group::Scalar;
 use kernel::Kernel;
@@ -28,7 +32,7 @@ use validation::Parts;
 const FEW: u32 = 1000;
 
 /// All that can be run.
-const EACH: [&str; 20] = [
+const EACH: [&str; 23] = [
     "add",
     "less",
     "equal",
@@ -38,6 +42,7 @@ const EACH: [&str; 20] = [
     "take-texts",
     "recode-few",
     "recode-many",
+    "recode-codes",
     "add-number",
     "greater-number",
     "bits-and",
@@ -49,6 +54,8 @@ const EACH: [&str; 20] = [
     "validate-texts",
     "concat",
     "stats-of",
+    "admit",
+    "gather",
 ];
 
 /// Runs what the words ask for.
@@ -73,6 +80,8 @@ fn run_one(rt: &HostRuntime, name: &str, rows: u32, times: u32) -> Result<(), Fa
         "stats-of" => tell_stats(rt, rows, times),
         "concat" => tell(rt, pieces::nulls_after(rt.alloc(), rows, times)),
         "null-count" => tell(rt, nulls_counted(rt.alloc(), rows, times)),
+        "admit" => tell(rt, rows_admitted(rt.alloc(), rows, times)),
+        "gather" => tell(rt, rows_gathered(rt.alloc(), rows, times)),
         name => match Kernel::of_name(name) {
             Some(kernel) => tell(rt, kernel.nulls_after(rt.alloc(), rows, times)),
             None => tell_bits(rt, name, rows, times),
@@ -96,7 +105,7 @@ fn tell_parts(rt: &HostRuntime, name: &str, rows: u32, times: u32) -> Result<(),
     }
 }
 
-// Prints how many nulls the result has, or how many ones, if there is one.
+// Prints how many nulls the result has, or how many ones, or rows, if there is one.
 fn tell(rt: &HostRuntime, count: Option<usize>) -> Result<(), Fault> {
     let Some(count) = count else {
         return Err(Fault::Memory);

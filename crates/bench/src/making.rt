@@ -2,7 +2,7 @@
 
 ghost use Rattle.std.specs.Prelude.{◌≡◌, ◌*◌, ◌%◌, ◌^◌};
 
-use arrays::{Array, DataType, Field, IntType, RawArray, Width, validate};
+use arrays::{Array, DataType, Field, IntType, RawArray, RecordBatch, Schema, Width, validate};
 use colbits::{BitmapBuf, Buffer, Places};
 use std::alloc::Global;
 
@@ -190,4 +190,20 @@ fn parts(
         children: Vec::new(alloc),
         dictionary: None,
     }
+}
+
+/// A batch of so many rows of two columns of 64-bit numbers.
+pub(crate) fn long_batch(alloc: Global, rows: u32) -> Option<RecordBatch> {
+    let (first, second) = (field(alloc, "a", long())?, field(alloc, "b", long())?);
+    let fields = vec![in alloc; first, second].ok()?;
+    let (rising, spread) = (
+        long_column(alloc, rows, Nulls::Never, |row| row)?,
+        long_column(alloc, rows, Nulls::Never, spread)?,
+    );
+    RecordBatch::new(
+        Schema::new(fields).ok()?,
+        rows,
+        vec![in alloc; rising, spread].ok()?,
+    )
+    .ok()
 }

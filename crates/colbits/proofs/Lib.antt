@@ -2,3 +2,4 @@ pub mod BitLemmas
 pub mod BuildingLemmas
 pub mod LaneLemmas
 pub mod WordLemmas
+pub mod SendingLemmas

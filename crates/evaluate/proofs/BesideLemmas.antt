@@ -23,6 +23,7 @@ use Rattle.kernels.specs.Order.{compared, meets}
 use Rattle.kernels.specs.declared.comparison.CmpOp.{CmpOp}
 use Rattle.kernels.specs.declared.comparison.CmpOp.TheVariants as cmp
 use Rattle.kernels.specs.declared.fault.KernelFault.{KernelFault}
+use Rattle.kernels.specs.declared.fault.KernelFault.TheVariants as faults
 use Rattle.kernels.proofs.BesideLemmas.{beside_item, beside_size}
 use Rattle.query.specs.Sorts as sorts
 use Rattle.query.specs.Sorts.{int64, is_alike, is_int, is_truth, sort_of_kind}
@@ -33,8 +34,8 @@ use Rattle.query.specs.declared.sort.Sort.TheVariants as sort
 use Rattle.query.specs.declared.sort.Sort.TheVariants.{Int, Literal, Text, Truth}
 use Rattle.evaluate.proofs.PlaceLemmas.{IsPlaced, binary_placed, one_length}
 use Rattle.evaluate.proofs.SortLemmas.{one_int}
-use Rattle.evaluate.proofs.OperatorLemmas.{comparison_value, left_fits, number_fits, no_type_fault, results_made, results_stop, truth_made}
-use Rattle.evaluate.specs.Making.{AreMade, StopsMaking, comparison_of, held_by, in_order, stop_of, turned}
+use Rattle.evaluate.proofs.OperatorLemmas.{comparison_value, left_fits, number_fits, no_type_fault, results_fit, results_made, results_stop, truth_made}
+use Rattle.evaluate.specs.Making.{AreMade, StopsMaking, comparison_of, held_by, in_order, is_of_operands, stop_of, turned}
 use Rattle.evaluate.specs.Value.{comparison, of_two}
 use Rattle.evaluate.specs.declared.stop.Stop as stop
 use Rattle.evaluate.specs.declared.stop.Stop.TheVariants as stops
@@ -166,16 +167,20 @@ module _ (f : ℤ → ℤ → ℤ) (a : Seen) (z w : ℤ) (same : w ≡ z) (has 
       (sym (exact_sort a.kind z has)) (λ i below. ap (lifted (exact f) (item_at a.items i)) (sym (beside_item a z i below)))
       (results_made f a b r one_sort (sym (beside_size a z)) (sym behind_fault ∙ subst (λ v. fault_with f a v ≡ None) same none) (subst (λ v. r ≡ shown a.kind (results f a.items (number_beside a v).items)) same is))
 
+  behind_columns : (e : KernelFault) → IsKernelFault (number_fault a z) (fault_with f a z) e → IsKernelFault (operands_fault a (number_beside a z)) (arithmetic_fault f a (number_beside a z)) e
+  behind_columns e (inl is) = inl (sym behind_fault ∙ is)
+  behind_columns e (inr wanting) = inr (wanting.0, one_length a (number_beside a z) (sym (beside_size a z)) (one_int a.kind a.kind one_sort))
+
+  pub behind_fits : (e : KernelFault) → IsKernelFault (number_fault a w) (fault_with f a w) e → is_of_operands e ≡ false
+  behind_fits e fault = results_fit f a (number_beside a z) e one_sort (sym (beside_size a z)) (behind_columns e (subst (λ v. IsKernelFault (number_fault a v) (fault_with f a v) e) same fault))
+
   pub behind_stops : (e : KernelFault) → IsKernelFault (number_fault a w) (fault_with f a w) e
       → StopsMaking (Some (sort_of_kind a.kind)) (λ i. lifted (exact f) (item_at a.items i) (int z)) (length a.items) (stop_of e)
   behind_stops e fault =
       let b = number_beside a z in
       stops_as (sorts.arithmetic (sort_of_kind a.kind) (sort_of_kind a.kind)) (Some (sort_of_kind a.kind)) (λ i. lifted (exact f) (item_at a.items i) (item_at b.items i)) (λ i. lifted (exact f) (item_at a.items i) (int z)) (length a.items) (stop_of e)
       (sym (exact_sort a.kind z has)) (λ i below. ap (lifted (exact f) (item_at a.items i)) (sym (beside_item a z i below)))
-      (results_stop f a b e one_sort (sym (beside_size a z)) (of_columns (subst (λ v. IsKernelFault (number_fault a v) (fault_with f a v) e) same fault))) where
-        of_columns : IsKernelFault (number_fault a z) (fault_with f a z) e → IsKernelFault (operands_fault a (number_beside a z)) (arithmetic_fault f a (number_beside a z)) e
-        of_columns (inl is) = inl (sym behind_fault ∙ is)
-        of_columns (inr wanting) = inr (wanting.0, one_length a (number_beside a z) (sym (beside_size a z)) (one_int a.kind a.kind one_sort))
+      (results_stop f a b e one_sort (sym (beside_size a z)) (behind_columns e (subst (λ v. IsKernelFault (number_fault a v) (fault_with f a v) e) same fault)))
 
   -- the number before it
   pub before_made : (r : Seen) → fault_from f w a ≡ None → r ≡ shown a.kind (results f (number_beside a w).items a.items)
@@ -187,17 +192,21 @@ module _ (f : ℤ → ℤ → ℤ) (a : Seen) (z w : ℤ) (same : w ≡ z) (has 
       (sym (exact_sort a.kind z has)) (λ i below. ap (λ x. lifted (exact f) x (item_at a.items i)) (sym (beside_item a z i below)))
       (subst (λ n. AreMade (sorts.arithmetic (sort_of_kind a.kind) (sort_of_kind a.kind)) (λ i. lifted (exact f) (item_at b.items i) (item_at a.items i)) n (Column (Made r))) (beside_size a z) made)
 
+  before_columns : (e : KernelFault) → IsKernelFault (number_fault a z) (fault_from f z a) e → IsKernelFault (operands_fault (number_beside a z) a) (arithmetic_fault f (number_beside a z) a) e
+  before_columns e (inl is) = inl (sym before_fault ∙ is)
+  before_columns e (inr wanting) = inr (wanting.0, one_length (number_beside a z) a (beside_size a z) (one_int a.kind a.kind one_sort))
+
+  pub before_fits : (e : KernelFault) → IsKernelFault (number_fault a w) (fault_from f w a) e → is_of_operands e ≡ false
+  before_fits e fault = results_fit f (number_beside a z) a e one_sort (beside_size a z) (before_columns e (subst (λ v. IsKernelFault (number_fault a v) (fault_from f v a) e) same fault))
+
   pub before_stops : (e : KernelFault) → IsKernelFault (number_fault a w) (fault_from f w a) e
       → StopsMaking (Some (sort_of_kind a.kind)) (λ i. lifted (exact f) (int z) (item_at a.items i)) (length a.items) (stop_of e)
   before_stops e fault =
       let b = number_beside a z in
-      let at = results_stop f b a e one_sort (beside_size a z) (of_columns (subst (λ v. IsKernelFault (number_fault a v) (fault_from f v a) e) same fault)) in
+      let at = results_stop f b a e one_sort (beside_size a z) (before_columns e (subst (λ v. IsKernelFault (number_fault a v) (fault_from f v a) e) same fault)) in
       stops_as (sorts.arithmetic (sort_of_kind a.kind) (sort_of_kind a.kind)) (Some (sort_of_kind a.kind)) (λ i. lifted (exact f) (item_at b.items i) (item_at a.items i)) (λ i. lifted (exact f) (int z) (item_at a.items i)) (length a.items) (stop_of e)
       (sym (exact_sort a.kind z has)) (λ i below. ap (λ x. lifted (exact f) x (item_at a.items i)) (sym (beside_item a z i below)))
-      (subst (λ n. StopsMaking (sorts.arithmetic (sort_of_kind a.kind) (sort_of_kind a.kind)) (λ i. lifted (exact f) (item_at b.items i) (item_at a.items i)) n (stop_of e)) (beside_size a z) at) where
-        of_columns : IsKernelFault (number_fault a z) (fault_from f z a) e → IsKernelFault (operands_fault (number_beside a z) a) (arithmetic_fault f (number_beside a z) a) e
-        of_columns (inl is) = inl (sym before_fault ∙ is)
-        of_columns (inr wanting) = inr (wanting.0, one_length (number_beside a z) a (beside_size a z) (one_int a.kind a.kind one_sort))
+      (subst (λ n. StopsMaking (sorts.arithmetic (sort_of_kind a.kind) (sort_of_kind a.kind)) (λ i. lifted (exact f) (item_at b.items i) (item_at a.items i)) n (stop_of e)) (beside_size a z) at)
 
 -- ---- sums and products, in either order
 
@@ -323,7 +332,7 @@ pub compared_sort : (first : Bool) (o : Op) (k : Kind) (z : ℤ) → is_some (co
     → in_order first (sorts.sort_of_two o) (Literal z) (sort_of_kind k) ≡ Some Truth
 compared_sort first o k z named h = let is = beside first o k z h in is.sort ∙ told_truth o (sort_of_kind k) named is.some
 
-pub number_stops : (a : Seen) (z : ℤ) (e : KernelFault) → has_number a.kind z ≡ true → IsKernelFault (number_fault a z) (number_fault a z) e → stop_of e ≡ stops.NoMemory
+pub number_stops : (a : Seen) (z : ℤ) (e : KernelFault) → has_number a.kind z ≡ true → IsKernelFault (number_fault a z) (number_fault a z) e → e ≡ faults.NoMemory
 number_stops a z e has fault = no_type_fault (has_number a.kind z) e has fault
 
 -- ---- two numbers

@@ -1,5 +1,5 @@
 -- What operators make of columns.
-use Rattle.std.proofs.Common.{◌≡◌, ◌∙◌, ℕ, ◌&&◌, ℤ, List, length, Bool, true, false, not, cond, eqb, is_some, replicate, zero-add, Option, Some, None, Result, Ok, Err, IfErr, IsErrAnd, ap, sym, refl, subst, true≢false, eq-eqb, inl, inr}
+use Rattle.std.proofs.Common.{◌≡◌, ◌∙◌, ℕ, ◌&&◌, ℤ, List, length, Bool, true, false, not, cond, eqb, is_some, replicate, zero-add, Option, Some, None, Result, Ok, Err, IfErr, IfOk, ap, sym, refl, subst, true≢false, eq-eqb, inl, inr}
 use Rattle.arrays.specs.Item.{Item, null, int, boolean, text, list, is_null}
 use Rattle.arrays.specs.Slot.{holds_at}
 use Rattle.types.specs.Number.{is_of_type}
@@ -21,6 +21,7 @@ use Rattle.kernels.specs.Order.{are_comparable, compared, comparison_fault, meet
 use Rattle.kernels.specs.declared.comparison.CmpOp.{CmpOp}
 use Rattle.kernels.specs.declared.comparison.CmpOp.TheVariants as cmp
 use Rattle.kernels.specs.declared.fault.KernelFault.{KernelFault}
+use Rattle.kernels.specs.declared.fault.KernelFault.TheVariants as faults
 use Rattle.kernels.specs.declared.fault.KernelFault.TheVariants.{LengthsDiffer, TypesDiffer}
 use Rattle.query.specs.Sorts as sorts
 use Rattle.query.specs.Sorts.{is_alike, is_int, is_truth, sort_of_kind}
@@ -28,9 +29,9 @@ use Rattle.query.specs.declared.expr.Op.{Op}
 use Rattle.query.specs.declared.expr.Op.TheVariants as op
 use Rattle.query.specs.declared.sort.Sort.{Sort}
 use Rattle.query.specs.declared.sort.Sort.TheVariants.{Int, Literal, Text, Truth}
-use Rattle.evaluate.proofs.PlaceLemmas.{IsPlaced, IsPlacedIn, StopsOutside, binary_placed, exact_placed, sole_fault, unary_placed}
+use Rattle.evaluate.proofs.PlaceLemmas.{IsPlaced, IsPlacedIn, StopsOutside, binary_placed, exact_placed, sole_fault, sole_row, unary_placed}
 use Rattle.evaluate.proofs.SortLemmas.{comparable, one_int, truths}
-use Rattle.evaluate.specs.Making.{AreMade, StopsMaking, comparison_of, held_by, in_order, stop_of}
+use Rattle.evaluate.specs.Making.{AreMade, StopsMaking, comparison_of, held_by, in_order, is_of_operands, stop_of, values_of}
 use Rattle.evaluate.specs.Value.{comparison, of_one, of_two}
 use Rattle.evaluate.specs.declared.stop.Stop as stop
 use Rattle.evaluate.specs.declared.stop.Stop.TheVariants as stops
@@ -52,17 +53,31 @@ truth_made s made n a is placed = record {
 }
 
 no_fault : (suit : Bool) (n m : ℕ) (e : KernelFault) → suit ≡ true → n ≡ m
-    → IsKernelFault (cond (not suit) (Some TypesDiffer) (cond (not (eqb n m)) (Some LengthsDiffer) None)) (cond (not suit) (Some TypesDiffer) (cond (not (eqb n m)) (Some LengthsDiffer) None)) e → stop_of e ≡ stops.NoMemory
-no_fault suit n m e fine same (inr wanting) = ap stop_of wanting.0
+    → IsKernelFault (cond (not suit) (Some TypesDiffer) (cond (not (eqb n m)) (Some LengthsDiffer) None)) (cond (not suit) (Some TypesDiffer) (cond (not (eqb n m)) (Some LengthsDiffer) None)) e → e ≡ faults.NoMemory
+no_fault suit n m e fine same (inr wanting) = wanting.0
 no_fault suit n m e fine same (inl is) =
     let none : cond (not suit) (Some TypesDiffer) (cond (not (eqb n m)) (Some LengthsDiffer) None) ≡ None =
     ap (λ b. cond (not b) (Some TypesDiffer) (cond (not (eqb n m)) (Some LengthsDiffer) None)) fine ∙ ap (λ b. cond (not b) (Some LengthsDiffer) None) (eq-eqb n m same) in
     let never : ◌≡◌ {A = Option KernelFault} None (Some e) = sym none ∙ is in absurd (cc never)
 
-pub no_type_fault : (suit : Bool) (e : KernelFault) → suit ≡ true → IsKernelFault (cond suit None (Some TypesDiffer)) (cond suit None (Some TypesDiffer)) e → stop_of e ≡ stops.NoMemory
-no_type_fault suit e fine (inr wanting) = ap stop_of wanting.0
+pub no_type_fault : (suit : Bool) (e : KernelFault) → suit ≡ true → IsKernelFault (cond suit None (Some TypesDiffer)) (cond suit None (Some TypesDiffer)) e → e ≡ faults.NoMemory
+no_type_fault suit e fine (inr wanting) = wanting.0
 no_type_fault suit e fine (inl is) =
     let never : ◌≡◌ {A = Option KernelFault} None (Some e) = sym (ap (λ b. cond b None (Some TypesDiffer)) fine) ∙ is in absurd (cc never)
+
+-- ---- what a kernel gives
+
+pub given_values : (P : Seen → Type 0) (Q : Values → Type 0) (k : Result Seen KernelFault) (r : Result Values stop.Stop) → r ≡ values_of k → IfOk k P → ((a : Seen) → P a → Q (Column (Made a))) → IfOk r Q
+given_values P Q (Ok a) r is h f = subst (λ r. IfOk r Q) (sym is) (f a h)
+given_values P Q (Err e) r is h f = subst (λ r. IfOk r Q) (sym is) tt
+
+pub given_stop : (P : KernelFault → Type 0) (Q : stop.Stop → Type 0) (k : Result Seen KernelFault) (r : Result Values stop.Stop) → r ≡ values_of k → IfErr k P → ((e : KernelFault) → P e → Q (stop_of e)) → IfErr r Q
+given_stop P Q (Ok a) r is h f = subst (λ r. IfErr r Q) (sym is) tt
+given_stop P Q (Err e) r is h f = subst (λ r. IfErr r Q) (sym is) (f e h)
+
+pub given_rows : (P : KernelFault → Type 0) (k : Result Seen KernelFault) → IfErr k P → ((e : KernelFault) → P e → is_of_operands e ≡ false) → IfErr k (λ e. is_of_operands e ≡ false)
+given_rows P (Ok a) h f = tt
+given_rows P (Err e) h f = f e h
 
 -- ---- one column
 
@@ -78,7 +93,7 @@ module _ (k : Kind) (xs : List Item) (r : Seen) where
       truth_made (Some Truth) (λ i. of_one op.IsNull (item_at xs i)) (length xs) r refl
       (subst (IsPlaced kind.boolean (λ i. of_one op.IsNull (item_at xs i)) (length xs)) (sym is) (unary_placed kind.boolean (of_one op.IsNull) xs))
 
-pub not_stops : (a : Seen) (e : KernelFault) → is_some (sorts.of_one op.Not (sort_of_kind a.kind)) ≡ true → IsKernelFault (truth_fault a) (truth_fault a) e → stop_of e ≡ stops.NoMemory
+pub not_stops : (a : Seen) (e : KernelFault) → is_some (sorts.of_one op.Not (sort_of_kind a.kind)) ≡ true → IsKernelFault (truth_fault a) (truth_fault a) e → e ≡ faults.NoMemory
 not_stops a e h told = no_type_fault (same_kind a.kind kind.boolean) e (one_truth a.kind h) told where
   one_truth : (k : Kind) → is_some (sorts.of_one op.Not (sort_of_kind k)) ≡ true → same_kind k kind.boolean ≡ true
   one_truth (kind.int t) h = h
@@ -108,10 +123,10 @@ module _ (a b r : Seen) where
       truth_made (sorts.of_two op.Or (sort_of_kind a.kind) (sort_of_kind b.kind)) (λ i. of_two op.Or (left i) (right i)) (length a.items) r (sole (is_truth (sort_of_kind a.kind) && is_truth (sort_of_kind b.kind)) Truth h)
       (subst (IsPlaced kind.boolean (λ i. of_two op.Or (left i) (right i)) (length a.items)) (sym is) (binary_placed kind.boolean (of_two op.Or) a.items b.items))
 
-  pub truths_stop : (e : KernelFault) → is_some (sorts.junction (sort_of_kind a.kind) (sort_of_kind b.kind)) ≡ true → length a.items ≡ length b.items → IsKernelFault (truths_fault a b) (truths_fault a b) e → stop_of e ≡ stops.NoMemory
-  truths_stop e h lengths told =
-      let both = truths a.kind b.kind h in
-      no_fault (same_kind a.kind kind.boolean && same_kind b.kind kind.boolean) (length a.items) (length b.items) e (ap (λ k. k && same_kind b.kind kind.boolean) both.0 ∙ both.1) lengths told
+pub truths_stop : (a b : Seen) (e : KernelFault) → is_some (sorts.junction (sort_of_kind a.kind) (sort_of_kind b.kind)) ≡ true → length a.items ≡ length b.items → IsKernelFault (truths_fault a b) (truths_fault a b) e → e ≡ faults.NoMemory
+truths_stop a b e h lengths told =
+    let both = truths a.kind b.kind h in
+    no_fault (same_kind a.kind kind.boolean && same_kind b.kind kind.boolean) (length a.items) (length b.items) e (ap (λ k. k && same_kind b.kind kind.boolean) both.0 ∙ both.1) lengths told
 
 -- ---- comparisons
 
@@ -158,7 +173,7 @@ comparison_made a b r o c named h is =
     (record { kind = placed.kind; len = placed.len; each = λ i below. placed.each i below ∙ comparison_value o c (item_at a.items i) (item_at b.items i) named })
 
 pub comparison_stops : (a b : Seen) (o : Op) (c : CmpOp) (e : KernelFault) → comparison_of o ≡ Some c → is_some (sorts.of_two o (sort_of_kind a.kind) (sort_of_kind b.kind)) ≡ true → length a.items ≡ length b.items
-    → IsKernelFault (comparison_fault a b) (comparison_fault a b) e → stop_of e ≡ stops.NoMemory
+    → IsKernelFault (comparison_fault a b) (comparison_fault a b) e → e ≡ faults.NoMemory
 comparison_stops a b o c e named h lengths told =
     no_fault (are_comparable a.kind b.kind) (length a.items) (length b.items) e (comparable a.kind b.kind (ap is_some (sym (comparison_sort o c (sort_of_kind a.kind) (sort_of_kind b.kind) named)) ∙ h)) lengths told
 
@@ -180,6 +195,10 @@ results_made f a b r h lengths none is =
       each = λ i below. ap (λ o. held_by o (made i)) sort ∙ placed.each i below;
     }
 
+pub results_fit : (f : ℤ → ℤ → ℤ) (a b : Seen) (e : KernelFault) → is_some (sorts.arithmetic (sort_of_kind a.kind) (sort_of_kind b.kind)) ≡ true → length a.items ≡ length b.items
+    → IsKernelFault (operands_fault a b) (arithmetic_fault f a b) e → is_of_operands e ≡ false
+results_fit f a b e h lengths told = sole_row f a b lengths (one_int a.kind b.kind h) e told
+
 pub results_stop : (f : ℤ → ℤ → ℤ) (a b : Seen) (e : KernelFault) → is_some (sorts.arithmetic (sort_of_kind a.kind) (sort_of_kind b.kind)) ≡ true → length a.items ≡ length b.items
     → IsKernelFault (operands_fault a b) (arithmetic_fault f a b) e
     → StopsMaking (sorts.arithmetic (sort_of_kind a.kind) (sort_of_kind b.kind)) (λ i. lifted (exact f) (item_at a.items i) (item_at b.items i)) (length a.items) (stop_of e)
@@ -189,11 +208,6 @@ results_stop f a b e h lengths told =
       held_as : (s : Option Sort) (k : Kind) (made : ℕ → Item) (n : ℕ) (e : stop.Stop) → s ≡ Some (sort_of_kind k) → StopsOutside k made n e → StopsMaking s made n e
       held_as s k made n (stops.Bad row) is at = (at.0, ap (λ o. held_by o (made row)) is ∙ at.1)
       held_as s k made n stops.NoMemory is at = tt
-
--- What a kernel's fault becomes.
-pub stopped : (r : Result Values stop.Stop) (e : KernelFault) (P : stop.Stop → Type 0) → IsErrAnd r (λ f. f ≡ stop_of e) → P (stop_of e) → IfErr r P
-stopped (Ok v) e P h p = absurd h
-stopped (Err f) e P h p = subst P (sym h) p
 
 -- ---- literals
 

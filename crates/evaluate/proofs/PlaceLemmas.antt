@@ -20,7 +20,7 @@ use Rattle.kernels.specs.Lift.{at_each_place, item_at, lifted}
 use Rattle.kernels.specs.declared.fault.KernelFault.{KernelFault}
 use Rattle.kernels.specs.declared.fault.KernelFault.TheVariants.{LengthsDiffer, NoMemory, Overflow, TypesDiffer}
 use Rattle.query.specs.Sorts.{sort_of_kind}
-use Rattle.evaluate.specs.Making.{stop_of}
+use Rattle.evaluate.specs.Making.{is_of_operands, stop_of}
 use Rattle.evaluate.specs.Value.{held}
 use Rattle.evaluate.specs.declared.stop.Stop.{Stop}
 use Rattle.evaluate.specs.declared.stop.Stop.TheVariants as stop
@@ -135,3 +135,13 @@ sole_fault f a b lengths kinds (Overflow row) told = outside_at f a b row length
 sole_fault f a b lengths kinds TypesDiffer told = tt
 sole_fault f a b lengths kinds LengthsDiffer told = tt
 sole_fault f a b lengths kinds NoMemory told = tt
+
+pub sole_row : (f : ℤ → ℤ → ℤ) (a b : Seen) → length a.items ≡ length b.items → are_one_int a.kind b.kind ≡ true → (e : KernelFault)
+    → IsKernelFault (operands_fault a b) (arithmetic_fault f a b) e → is_of_operands e ≡ false
+sole_row f a b lengths kinds e (inr wanting) = ap is_of_operands wanting.0
+sole_row f a b lengths kinds e (inl is) = of_row (first_bad f a.kind a.items b.items) (sym (only_rows f a b lengths kinds) ∙ is) where
+  of_row : (o : Option ℕ) → option_map (λ row. Overflow row) o ≡ Some e → is_of_operands e ≡ false
+  of_row None h = absurd cc
+  of_row (Some row) h =
+      let same : Overflow row ≡ e = cc in
+      ap is_of_operands (sym same)

@@ -1,7 +1,8 @@
 -- Values in the making: what operators make of their operands, and what they stop with.
-use Rattle.std.specs.Prelude.{◌≡◌, ℕ, ◌<◌, Bool, true, false, length, Option, Some, None, Ok, slice_index_or, ⊤}
+use Rattle.std.specs.Prelude.{◌≡◌, ℕ, ◌<◌, Bool, true, false, length, Option, Some, None, Result, Ok, Err, slice_index_or, ⊤}
 use Rattle.arrays.specs.Batch.{Batch}
 use Rattle.arrays.specs.Item.{Item, null}
+use Rattle.arrays.specs.Seen.{Seen}
 use Rattle.kernels.specs.Lift.{item_at}
 use Rattle.kernels.specs.declared.comparison.CmpOp.{CmpOp}
 use Rattle.kernels.specs.declared.comparison.CmpOp.TheVariants as cmp
@@ -17,6 +18,7 @@ use Rattle.query.specs.declared.sort.Sort.{Sort}
 use Rattle.evaluate.specs.Slices.{AreEnough, column_of, item_in, row_in, sort_in}
 use Rattle.evaluate.specs.Value.{held, value}
 use Rattle.evaluate.specs.declared.values.Operand.{Operand}
+use Rattle.evaluate.specs.declared.values.Operand.TheVariants.{Made}
 use Rattle.evaluate.specs.declared.values.Values.{Values}
 use Rattle.evaluate.specs.declared.values.Values.TheVariants.{Number, Text, Column}
 use Rattle.evaluate.specs.declared.stop.Stop.{Stop}
@@ -52,6 +54,18 @@ stop_of (Overflow row) = Bad row
 stop_of TypesDiffer = NoMemory
 stop_of LengthsDiffer = NoMemory
 stop_of fault.NoMemory = NoMemory
+
+-- A fault of the operands' types or lengths, and of no row.
+abbrev pub is_of_operands : KernelFault → Bool
+is_of_operands (Overflow row) = false
+is_of_operands TypesDiffer = true
+is_of_operands LengthsDiffer = true
+is_of_operands fault.NoMemory = false
+
+-- What a kernel gives, as values or as why there are none.
+abbrev pub values_of : Result Seen KernelFault → Result Values Stop
+values_of (Ok a) = Ok (Column (Made a))
+values_of (Err e) = Err (stop_of e)
 
 -- ---- literals
 

@@ -8,8 +8,9 @@ ghost use Rattle.query.specs.declared.expr.Op.TheVariants as op;
 ghost use Rattle.evaluate.specs.Value.{of_one, of_two};
 ghost use Rattle.evaluate.specs.Making.{AreMade, StopsMaking, comparison_of};
 
+use crate::made::values_of;
 use crate::stop::Stop;
-use crate::values::{Operand, Values};
+use crate::values::Values;
 use arrays::View;
 use kernels::CmpOp;
 use query::Op;
@@ -46,8 +47,7 @@ pub(crate) fn not<'a>(alloc: Global, column: &View<'_>) -> Result<Values<'a>, St
         (λ i. of_one op.Not (item_at column.now.items i)) (length column.now.items)) }
     ensures err { IfErr result (λ e. e ≡ Stop.NoMemory) }
 {
-    let array = kernels::kleene_not(alloc, column)?;
-    Ok(Values::Column(Operand::Made(array)))
+    values_of(kernels::kleene_not(alloc, column))
 }
 
 /// Where there is no item.
@@ -56,8 +56,7 @@ pub(crate) fn is_null<'a>(alloc: Global, column: &View<'_>) -> Result<Values<'a>
         (λ i. of_one op.IsNull (item_at column.now.items i)) (length column.now.items)) }
     ensures err { IfErr result (λ e. e ≡ Stop.NoMemory) }
 {
-    let array = kernels::is_null(alloc, column)?;
-    Ok(Values::Column(Operand::Made(array)))
+    values_of(kernels::is_null(alloc, column))
 }
 
 /// Whether both are true.
@@ -68,8 +67,7 @@ fn both<'a>(alloc: Global, a: &View<'_>, b: &View<'_>) -> Result<Values<'a>, Sto
         (λ i. of_two op.And (item_at a.now.items i) (item_at b.now.items i)) (length a.now.items)) }
     ensures err { IfErr result (λ e. e ≡ Stop.NoMemory) }
 {
-    let array = kernels::kleene_and(alloc, a, b)?;
-    Ok(Values::Column(Operand::Made(array)))
+    values_of(kernels::kleene_and(alloc, a, b))
 }
 
 /// Whether either is true.
@@ -80,8 +78,7 @@ fn either<'a>(alloc: Global, a: &View<'_>, b: &View<'_>) -> Result<Values<'a>, S
         (λ i. of_two op.Or (item_at a.now.items i) (item_at b.now.items i)) (length a.now.items)) }
     ensures err { IfErr result (λ e. e ≡ Stop.NoMemory) }
 {
-    let array = kernels::kleene_or(alloc, a, b)?;
-    Ok(Values::Column(Operand::Made(array)))
+    values_of(kernels::kleene_or(alloc, a, b))
 }
 
 /// The sums.
@@ -93,8 +90,7 @@ fn sum<'a>(alloc: Global, a: &View<'_>, b: &View<'_>) -> Result<Values<'a>, Stop
     ensures err { IfErr result (StopsMaking (sorts.of_two op.Add (sort_of_kind a.now.kind) (sort_of_kind b.now.kind))
         (λ i. of_two op.Add (item_at a.now.items i) (item_at b.now.items i)) (length a.now.items)) }
 {
-    let array = kernels::add(alloc, a, b)?;
-    Ok(Values::Column(Operand::Made(array)))
+    values_of(kernels::add(alloc, a, b))
 }
 
 /// The differences.
@@ -106,8 +102,7 @@ fn difference<'a>(alloc: Global, a: &View<'_>, b: &View<'_>) -> Result<Values<'a
     ensures err { IfErr result (StopsMaking (sorts.of_two op.Sub (sort_of_kind a.now.kind) (sort_of_kind b.now.kind))
         (λ i. of_two op.Sub (item_at a.now.items i) (item_at b.now.items i)) (length a.now.items)) }
 {
-    let array = kernels::sub(alloc, a, b)?;
-    Ok(Values::Column(Operand::Made(array)))
+    values_of(kernels::sub(alloc, a, b))
 }
 
 /// The products.
@@ -119,8 +114,7 @@ fn product<'a>(alloc: Global, a: &View<'_>, b: &View<'_>) -> Result<Values<'a>, 
     ensures err { IfErr result (StopsMaking (sorts.of_two op.Mul (sort_of_kind a.now.kind) (sort_of_kind b.now.kind))
         (λ i. of_two op.Mul (item_at a.now.items i) (item_at b.now.items i)) (length a.now.items)) }
 {
-    let array = kernels::mul(alloc, a, b)?;
-    Ok(Values::Column(Operand::Made(array)))
+    values_of(kernels::mul(alloc, a, b))
 }
 
 /// Whether the items stand so to each other.
@@ -135,8 +129,7 @@ fn compare<'a>(alloc: Global, op: Op, a: &View<'_>, b: &View<'_>) -> Result<Valu
     let Some(comparison) = comparison_of(op) else {
         unreachable!()
     };
-    let array = kernels::compare(alloc, comparison, a, b)?;
-    Ok(Values::Column(Operand::Made(array)))
+    values_of(kernels::compare(alloc, comparison, a, b))
 }
 
 /// The comparison that an operator is.

@@ -58,14 +58,17 @@ fn least_bad(alloc: Global, expr: &Expr<u32>, slice: Slice<'_>, bad: usize) -> S
     requires bad { value slice.batch.now.fields (row_in slice.batch.now slice.start bad) (tree_of expr.now) ≡ None }
     ensures { IsLeastStop slice.entry.batch.now slice.entry.start slice.entry.len (tree_of expr.now) result }
 {
-    let before = Slice {
-        batch: slice.batch,
-        start: slice.start,
-        len: bad,
-    };
-    match evaluate(alloc, expr, before) {
-        Ok(_) => Stop::Bad(bad),
-        Err(Stop::Bad(earlier)) => least_bad(alloc, expr, slice, earlier),
-        Err(Stop::NoMemory) => Stop::NoMemory,
+    let mut least = bad;
+    loop {
+        let before = Slice {
+            batch: slice.batch,
+            start: slice.start,
+            len: least,
+        };
+        match evaluate(alloc, expr, before) {
+            Ok(_) => return Stop::Bad(least),
+            Err(Stop::Bad(earlier)) => least = earlier,
+            Err(Stop::NoMemory) => return Stop::NoMemory,
+        }
     }
 }

@@ -5,6 +5,7 @@ mod columns;
 mod constant;
 mod evaluation;
 pub mod filter;
+mod made;
 mod number;
 mod operators;
 pub mod slice;

@@ -11,8 +11,9 @@ ghost use Rattle.evaluate.specs.Value.{of_two};
 ghost use Rattle.evaluate.specs.Making.{AreMade, StopsMaking, comparison_of, in_order, turned};
 
 use crate::columns::comparison_of;
+use crate::made::values_of;
 use crate::stop::Stop;
-use crate::values::{Operand, Values};
+use crate::values::Values;
 use arrays::View;
 use kernels::CmpOp;
 use query::Op;
@@ -49,8 +50,7 @@ fn sum<'a>(alloc: Global, column: &View<'_>, number: i128) -> Result<Values<'a>,
     ensures err { IfErr result (StopsMaking (Some (sort_of_kind column.now.kind))
         (λ i. of_two op.Add (item_at column.now.items i) (item.int number)) (length column.now.items)) }
 {
-    let array = kernels::add_number(alloc, column, number)?;
-    Ok(Values::Column(Operand::Made(array)))
+    values_of(kernels::add_number(alloc, column, number))
 }
 
 /// The products.
@@ -61,8 +61,7 @@ fn product<'a>(alloc: Global, column: &View<'_>, number: i128) -> Result<Values<
     ensures err { IfErr result (StopsMaking (Some (sort_of_kind column.now.kind))
         (λ i. of_two op.Mul (item_at column.now.items i) (item.int number)) (length column.now.items)) }
 {
-    let array = kernels::mul_number(alloc, column, number)?;
-    Ok(Values::Column(Operand::Made(array)))
+    values_of(kernels::mul_number(alloc, column, number))
 }
 
 /// The column less the number.
@@ -73,8 +72,7 @@ fn difference<'a>(alloc: Global, column: &View<'_>, number: i128) -> Result<Valu
     ensures err { IfErr result (StopsMaking (Some (sort_of_kind column.now.kind))
         (λ i. of_two op.Sub (item_at column.now.items i) (item.int number)) (length column.now.items)) }
 {
-    let array = kernels::sub_number(alloc, column, number)?;
-    Ok(Values::Column(Operand::Made(array)))
+    values_of(kernels::sub_number(alloc, column, number))
 }
 
 /// The number less the column.
@@ -85,8 +83,7 @@ fn difference_from<'a>(alloc: Global, number: i128, column: &View<'_>) -> Result
     ensures err { IfErr result (StopsMaking (Some (sort_of_kind column.now.kind))
         (λ i. of_two op.Sub (item.int number) (item_at column.now.items i)) (length column.now.items)) }
 {
-    let array = kernels::sub_from_number(alloc, column, number)?;
-    Ok(Values::Column(Operand::Made(array)))
+    values_of(kernels::sub_from_number(alloc, column, number))
 }
 
 /// Whether the items stand so to the number, or the number to the items.
@@ -106,8 +103,7 @@ fn compare<'a>(
     let Some(comparison) = comparison_of(op) else {
         unreachable!()
     };
-    let array = kernels::compare_number(alloc, placed(comparison, is_first), column, number)?;
-    Ok(Values::Column(Operand::Made(array)))
+    values_of(kernels::compare_number(alloc, placed(comparison, is_first), column, number))
 }
 
 /// The comparison of a column with a number: it is turned where the number stands first.

@@ -29,7 +29,7 @@ ordered-skip k items x e =
 ordered-push : (k : Kind) (items : List Item) (x : Item) → is_ordered k x ≡ true → ordered k (items ++ x ∷ []) ≡ ordered k items ++ x ∷ []
 ordered-push k items x e = filter-append (is_ordered k) items (x ∷ []) ∙ ap (λ b. ordered k items ++ cond b (x ∷ []) []) e
 
-null_is_not : (k : Kind) → is_ordered k null ≡ false
+pub null_is_not : (k : Kind) → is_ordered k null ≡ false
 null_is_not (kind.int t) = refl
 null_is_not kind.boolean = refl
 null_is_not kind.utf8 = refl

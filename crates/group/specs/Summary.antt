@@ -20,3 +20,11 @@ pub record AreStats (s : ColumnStats) (k : Kind) (items : List Item) : Type 0 wh
   pub sum : s.sum ≡ sum_of k items
   pub least : option_map scalar_item s.least ≡ least_of k items
   pub greatest : option_map scalar_item s.greatest ≡ greatest_of k items
+
+-- The two say the same of a column: a text has the same bytes in both.
+pub record AreSame (s t : ColumnStats) : Type 0 where
+  pub rows : s.rows ≡ t.rows
+  pub nulls : s.nulls ≡ t.nulls
+  pub sum : s.sum ≡ t.sum
+  pub least : option_map scalar_item s.least ≡ option_map scalar_item t.least
+  pub greatest : option_map scalar_item s.greatest ≡ option_map scalar_item t.greatest

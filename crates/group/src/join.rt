@@ -10,6 +10,7 @@ ghost use Rattle.group.specs.Joined.{better, both_sums};
 ghost use Rattle.group.specs.Stats.{greater, lesser};
 ghost use Rattle.group.specs.Summary.{AreStats, scalar_item};
 
+use crate::copy::copied;
 use crate::stats::{ColumnStats, Scalar};
 use colbits::NoMemory;
 use std::alloc::Global;
@@ -66,18 +67,6 @@ fn greater(
         (Some(x), Some(y)) => copied(alloc, if y.exceeds(x) { b } else { a }),
         (None, _) => copied(alloc, b),
         _ => copied(alloc, a),
-    }
-}
-
-/// A copy of a value, if there is one.
-fn copied(alloc: Global, value: &Option<Scalar>) -> Result<Option<Scalar>, NoMemory>
-    ensures { IfOk result (λ s. option_map scalar_item s ≡ option_map scalar_item value.now) }
-{
-    match value {
-        Some(Scalar::Int(number)) => Ok(Some(Scalar::Int(*number))),
-        Some(Scalar::Bool(truth)) => Ok(Some(Scalar::Bool(*truth))),
-        Some(Scalar::Text(text)) => Ok(Some(Scalar::Text(String::from_str(alloc, text)?))),
-        None => Ok(None),
     }
 }
 

@@ -1,6 +1,7 @@
 //! Statistics of columns.
 #![tactic(auto)]
 
+mod copy;
 mod join;
 pub mod laws;
 mod number;

@@ -31,7 +31,8 @@ pub struct ColumnStats {
 }
 
 impl ColumnStats {
-    ghost use Rattle.std.specs.Prelude.{[]};
+    ghost use Rattle.std.specs.Prelude.{[], replicate};
+    ghost use Rattle.arrays.specs.Item.{null};
     ghost use Rattle.arrays.specs.ViewType.{view_kind};
     ghost use Rattle.group.specs.Summary.{AreStats};
 
@@ -39,13 +40,21 @@ impl ColumnStats {
     pub fn empty(ty: ViewType<'_>) -> ColumnStats
         ensures { AreStats result (view_kind ty.entry) [] }
     {
+        ColumnStats::all_null(ty, 0)
+    }
+
+    /// The statistics of a column of a type whose rows are all null.
+    pub fn all_null(ty: ViewType<'_>, rows: u64) -> ColumnStats
+        requires { rows ≤ 2 ^ 40 }
+        ensures { AreStats result (view_kind ty.entry) (replicate rows null) }
+    {
         let sum = match ty {
             ViewType::Int(_) => Some(0),
             _ => None,
         };
         ColumnStats {
-            rows: 0,
-            nulls: 0,
+            rows,
+            nulls: rows,
             sum,
             least: None,
             greatest: None,

@@ -31,7 +31,7 @@ read_checked-copy t u n buffers parts children below words again shapes bytes in
     read_parts-copy t u n None buffers parts (map reading children) (map reading below) (option_map checked_texts words) (option_map checked_texts again) shapes bytes inner (ap (option_map checked_texts) same)
 
 -- the reading of a raw array that is made of parts
-reading-made : (r : RawArray-F RawArray)
+pub reading-made : (r : RawArray-F RawArray)
     → reading (roll-RawArray r) ≡ read_parts (kind_of r.ty) r.length r.null_count r.buffers.items (map reading r.children.items) (option_map (λ b. reading b.value) r.dictionary)
 reading-made r =
     fold-roll-RawArray Reading reading_step r

@@ -3,4 +3,3 @@ pub mod LoadLemmas
 pub mod ToldLemmas
 pub mod RunLemmas
 pub mod SendingLemmas
-pub mod PublisherLemmas

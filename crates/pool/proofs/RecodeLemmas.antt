@@ -1,24 +1,22 @@
 -- A column recoded slot by slot.
-use Rattle.std.proofs.Common.{◌≡◌, ◌∙◌, ℕ, ◌+◌, ◌<◌, ◌≤◌, pos, true, false, List, [], ◌∷◌, ◌++◌, take, drop, map, Some, option_map, refl, sym, ap, arith, append_assoc}
+use Rattle.std.proofs.Common.{◌≡◌, ◌∙◌, ℕ, ◌+◌, pos, true, false, List, [], ◌∷◌, ◌++◌, take, drop, map, Option, Some, option_map, sym, ap, append_assoc}
 use Rattle.std.specs.Prelude.{slice_get, Result, Ok, Err, IfErr, IsErrAnd, ◌⊎◌}
-use Rattle.std.proofs.Common.{inl, inr, to_z, ◌^◌, lit≤}
-use Rattle.std.proofs.lemmas.Int.{to_z_pos}
+use Rattle.std.proofs.Common.{inl, inr}
 use mathlib.Core.List.{IsPrefix}
-use Rattle.std.specs.Int.{w128}
 use Rattle.pool.specs.declared.fault.PoolFault.{PoolFault}
 use Rattle.pool.specs.declared.fault.PoolFault.TheVariants.{TextsFull, NoMemory}
 use Rattle.std.proofs.lemmas.List.{append-nil, map-append, take-append-drop, take_more}
 use Rattle.std.proofs.lemmas.List.Elements.{filter_map-append}
 use Rattle.std.proofs.lemmas.Option.{slice_get_within, get_or_from_slice_get}
-use Rattle.arrays.specs.Item.{Item, null, text}
+use Rattle.arrays.specs.Item.{Item, text}
 use Rattle.arrays.specs.Column.{Column}
 use Rattle.arrays.specs.Slot.{item_of}
 use Rattle.arrays.specs.Kind.{int32}
-use Rattle.std.specs.Str.{bytes_eq}
-use Rattle.pool.specs.Texts.{text_of, texts_of, firsts, is_once, with_text, is_too_full, place_of}
+use Rattle.pool.specs.Texts.{text_of, texts_of, firsts, is_once, with_text, is_too_full}
 use Rattle.pool.specs.Codes.{code_item}
+use Rattle.pool.specs.Places.{IsPlaced, with_item}
 use Rattle.pool.proofs.TextLemmas.{beyond, firsts-append, firsts-push, firsts-once, is_too_full-append}
-use Rattle.pool.proofs.PlaceLemmas.{position-append}
+use Rattle.pool.proofs.PlacingLemmas.{code-append}
 
 -- What the texts of the first slots leave in the pool, and their codes among the texts of all.
 pub record Recoded (old : List (List ℕ)) (items : List Item) (i : ℕ) (pool : List (List ℕ)) (column : Column) : Type 0 where
@@ -47,14 +45,11 @@ module _ (old : List (List ℕ)) (items : List Item) where
       ap (λ l. old ++ texts_of l) (take-item i x at) ∙ ap (λ l. old ++ l) (filter_map-append text_of (take i items) (x ∷ []))
       ∙ sym (append_assoc old (texts_of (take i items)) (texts_of (x ∷ [])))
 
-  pub pool-text : (i : ℕ) (t : List ℕ) (pool : List (List ℕ)) → slice_get items i ≡ Some (text t) → pool ≡ firsts (old ++ texts_of (take i items))
-      → with_text pool t ≡ firsts (old ++ texts_of (take (i + 1) items))
-  pool-text i t pool at is =
+  pub pool-item : (i : ℕ) (x : Item) (pool : List (List ℕ)) → slice_get items i ≡ Some x → pool ≡ firsts (old ++ texts_of (take i items))
+      → with_item pool x ≡ firsts (old ++ texts_of (take (i + 1) items))
+  pool-item i (text t) pool at is =
       ap (λ l. with_text l t) is ∙ sym (firsts-push (old ++ texts_of (take i items)) t) ∙ ap firsts (sym (texts-item i (text t) at))
-
-  pub pool-null : (i : ℕ) (pool : List (List ℕ)) → slice_get items i ≡ Some null → pool ≡ firsts (old ++ texts_of (take i items))
-      → pool ≡ firsts (old ++ texts_of (take (i + 1) items))
-  pool-null i pool at is = is ∙ ap firsts (sym (append-nil (old ++ texts_of (take i items))) ∙ sym (texts-item i null at))
+  pool-item i x pool at is = is ∙ ap firsts (sym (append-nil (old ++ texts_of (take i items))) ∙ sym (texts-item i x at))
 
   codes-item : (i : ℕ) (x code : Item) (codes more : List Item) → slice_get items i ≡ Some x → code_item (firsts (old ++ texts_of items)) x ≡ code
       → codes ≡ map (code_item (firsts (old ++ texts_of items))) (take i items) → more ≡ codes ++ code ∷ []
@@ -72,35 +67,27 @@ module _ (old : List (List ℕ)) (items : List Item) where
     of_type = ty;
   }
 
-  pub Recoded-text : (i : ℕ) (t : List ℕ) (code : ℕ) (pool wider : List (List ℕ)) (before after : Column) → Recoded old items i pool before
-      → slice_get items i ≡ Some (text t) → wider ≡ with_text pool t → is_too_full wider ≡ false → place_of wider t ≡ Some code
-      → after.ty ≡ before.ty → after.items ≡ before.items ++ item_of (Some (pos code)) ∷ [] → Recoded old items (i + 1) wider after
-  Recoded-text i t code pool wider before after is at added fits place ty pushed =
-      let now : wider ≡ firsts (old ++ texts_of (take (i + 1) items)) = added ∙ pool-text i t pool at is.pool_is in
+  pub Recoded-item : (i : ℕ) (x : Item) (place : Option ℕ) (pool wider : List (List ℕ)) (before after : Column) → Recoded old items i pool before
+      → slice_get items i ≡ Some x → IsPlaced pool wider x place → is_too_full wider ≡ false
+      → after.ty ≡ before.ty → after.items ≡ before.items ++ item_of (option_map pos place) ∷ [] → Recoded old items (i + 1) wider after
+  Recoded-item i x place pool wider before after is at placed fits ty pushed =
+      let now : wider ≡ firsts (old ++ texts_of (take (i + 1) items)) = placed.texts ∙ pool-item i x pool at is.pool_is in
       let end : firsts (old ++ texts_of items) ≡ wider ++ rest_from (i + 1) = grown (i + 1) ∙ ap (λ l. l ++ rest_from (i + 1)) (sym now) in
-      let there : place_of (firsts (old ++ texts_of items)) t ≡ Some code = ap (λ l. place_of l t) end ∙ position-append (bytes_eq t) wider (rest_from (i + 1)) code place in
+      let code : code_item (firsts (old ++ texts_of items)) x ≡ item_of (option_map pos place) =
+      ap (λ l. code_item l x) end ∙ code-append pool wider (rest_from (i + 1)) x placed.texts ∙ sym placed.code in
       record {
         pool_is = now;
         fits = fits;
-        codes_are = codes-item i (text t) (item_of (Some (pos code))) before.items after.items at (ap (λ o. item_of (option_map pos o)) there) is.codes_are pushed;
+        codes_are = codes-item i x (item_of (option_map pos place)) before.items after.items at code is.codes_are pushed;
         of_type = ty ∙ is.of_type;
       }
 
-  pub Recoded-null : (i : ℕ) (pool : List (List ℕ)) (before after : Column) → Recoded old items i pool before
-      → slice_get items i ≡ Some null → after.ty ≡ before.ty → after.items ≡ before.items ++ null ∷ [] → Recoded old items (i + 1) pool after
-  Recoded-null i pool before after is at ty pushed = record {
-    pool_is = pool-null i pool at is.pool_is;
-    fits = is.fits;
-    codes_are = codes-item i null null before.items after.items at refl is.codes_are pushed;
-    of_type = ty ∙ is.of_type;
-  }
-
   -- A text that is one too many is so among all.
-  pub full_in_all : (i : ℕ) (t : List ℕ) (pool : List (List ℕ)) → slice_get items i ≡ Some (text t) → pool ≡ firsts (old ++ texts_of (take i items))
-      → is_too_full (with_text pool t) ≡ true → is_too_full (firsts (old ++ texts_of items)) ≡ true
-  full_in_all i t pool at is full =
+  pub full_in_all : (i : ℕ) (x : Item) (pool : List (List ℕ)) → slice_get items i ≡ Some x → pool ≡ firsts (old ++ texts_of (take i items))
+      → is_too_full (with_item pool x) ≡ true → is_too_full (firsts (old ++ texts_of items)) ≡ true
+  full_in_all i x pool at is full =
       ap is_too_full (grown (i + 1)) ∙ is_too_full-append (firsts (old ++ texts_of (take (i + 1) items))) (rest_from (i + 1))
-      (ap is_too_full (sym (pool-text i t pool at is)) ∙ full)
+      (ap is_too_full (sym (pool-item i x pool at is)) ∙ full)
 
 -- The pool as it was comes first.
 pub begins_as_before : (old seen pool : List (List ℕ)) → is_once old ≡ true → pool ≡ firsts (old ++ seen) → IsPrefix old pool
@@ -113,9 +100,3 @@ pub told_of_all : {T : Type 0} (r : Result T PoolFault) (e : PoolFault) (one all
     → IfErr r (λ e. ((e ≡ TextsFull) × (is_too_full all ≡ true)) ⊎ (e ≡ NoMemory))
 told_of_all (Ok v) e one all same told grows = tt
 told_of_all (Err x) e one all same told grows = elim told [ inl h ↦ inl (same ∙ h.0, grows h.1) | inr h ↦ inr (same ∙ h) ]
-
--- A code is the same as a signed number.
-pub to_z_small : (n : ℕ) → n < 2147483647 → to_z w128 n ≡ pos n
-to_z_small n small =
-    let top : 2147483647 ≤ 2 ^ 127 = lit≤ tt in
-    to_z_pos w128 n (omega (arith, small, top))

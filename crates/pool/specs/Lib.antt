@@ -1,4 +1,6 @@
 pub mod Texts
 pub mod Pool
 pub mod Codes
+pub mod Places
+pub mod CodedViews
 pub mod Unified

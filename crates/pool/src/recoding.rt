@@ -9,13 +9,16 @@ ghost use Rattle.arrays.specs.Slot.{is_text};
 ghost use Rattle.pool.specs.Codes.{code_item};
 ghost use Rattle.pool.specs.Texts.{firsts, texts_of, is_once, is_too_full};
 
+use crate::coded_view::CodedView;
 use crate::fault::PoolFault;
+use crate::placing::{add_row, no_places};
 use crate::text_pool::TextPool;
 use arrays::{Array, IntBuilder, IntType, View, Width};
 use std::alloc::Global;
 
 /// The places of a column's texts in a pool, to which its new texts are added: null for null. It fails where the
-/// pool would be too full, and for want of memory; then the pool is as it was.
+/// pool would be too full, and for want of memory; then the pool is as it was. Of a dictionary with no more entries
+/// than there are rows, an entry's text is looked up where a row names it first.
 #[tactic(auto, using(crate::proofs::PrefixLemmas::prefix_length, crate::proofs::PrefixLemmas::prefix_take))]
 pub fn recode(alloc: Global, view: &View<'_>, pool: &mut TextPool) -> Result<Array, PoolFault>
     requires { is_text view.now.kind ≡ true }
@@ -56,12 +59,11 @@ fn add_all(alloc: Global, view: &View<'_>, pool: &mut TextPool) -> Result<Array,
     };
     let slots = view.slots() as usize;
     let mut codes = IntBuilder::with_capacity(alloc, ty, slots)?;
+    let coded = CodedView::of(view);
+    let mut known = no_places(alloc, view)?;
     for i in 0..slots {
-        let code = match view.text_at(i) {
-            Some(text) => Some(pool.add(text)? as i128),
-            None => None,
-        };
-        codes.push_as::<i32>(code)?;
+        let place = add_row(view, &coded, i, &mut known, pool)?;
+        codes.push_as::<i32>(place.map(i128::from))?;
     }
     Ok(codes.finish()?)
 }

@@ -20,7 +20,8 @@ use types::{Field, Schema};
 
 /// The query over the fields of a schema that the text asks for. A filter that is too deep is told first; then the walk
 /// goes through the filter, the keys and the aggregates, operands before their operator and from left to right, and tells the
-/// first fault that it meets. Want of memory is told only where there is no fault. It goes down 33 levels at most.
+/// first fault that it meets. Want of memory is told only where there is no fault: where a growth was refused, and where 2^32
+/// fields or more come before a column, since a query's positions have 32 bits. It goes down 33 levels at most.
 pub fn resolve(alloc: Global, text: &QueryText, schema: &Schema) -> Result<Query, QueryFault>
     ensures ok { IfOk result (λ q. resolved schema.now (named text.now) ≡ Ok (asked q)) }
     ensures fits { IfOk result (λ q. fits schema.now (asked q) ≡ true) }

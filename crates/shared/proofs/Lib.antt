@@ -3,3 +3,5 @@ pub mod HandLemmas
 pub mod BalanceLemmas
 pub mod PartLemmas
 pub mod SeenLemmas
+pub mod SendingLemmas
+pub mod PublisherLemmas

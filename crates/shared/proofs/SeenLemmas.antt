@@ -1,15 +1,16 @@
 -- What stands of each answer that is there, and what readers are shown next.
-use Rattle.std.proofs.Common.{◌≡◌, ◌∙◌, ◌+◌, ◌≤◌, ◌^◌, List, ◌∷◌, [], refl, Bool, true, false, Option, Some, None, IfSome, IfOk, OnOk, Result, Ok, Err, ap, length, length-append, sym, subst, arith}
+use Rattle.std.proofs.Common.{◌≡◌, ◌∙◌, ◌⊎◌, inl, inr, ℕ, ◌+◌, ◌≤◌, ◌^◌, List, ◌∷◌, ◌++◌, [], refl, Bool, true, false, Option, Some, None, IfSome, IfErr, IfOk, OnOk, Result, Ok, Err, ap, length, length-append, sym, subst, arith}
 use Rattle.std.specs.Prelude.{is_some, option_map}
 use Rattle.std.specs.Bool.{then_some}
+use mathlib.Core.List.{IsPrefix}
 use Rattle.std.proofs.lemmas.Bool.Decides.{nat_tests}
 use Rattle.arrays.specs.Batch.{Batch, rows_of}
 use Rattle.arrays.specs.First.{first}
 use Rattle.arrays.specs.Shape.{FieldShape}
-use Rattle.shared.specs.Hand.{Hand, HasAdded, IsRaised}
+use Rattle.shared.specs.Hand.{Hand, HasAdded, IsRaised, having_added, having_seen}
 use Rattle.shared.proofs.BalanceLemmas.{rows_pushed}
-use Rattle.table.specs.Cause.{batch_cause, difference, is_book_full, is_table_full, null_cause, texts_cause}
-use Rattle.table.specs.Contents.{Contents}
+use Rattle.table.specs.Cause.{IsLegal, batch_cause, difference, is_book_full, is_table_full, null_cause, texts_cause}
+use Rattle.table.specs.Contents.{Contents, admitted}
 use Rattle.table.specs.History.{History, rows}
 use Rattle.table.specs.declared.refusal.Refusal.{Refusal}
 use Rattle.table.specs.declared.refusal.Refusal.TheVariants.{BookFull, SchemaDiffers, TableFull}
@@ -18,6 +19,10 @@ use Rattle.table.proofs.BatchLemmas.{length-rows_of}
 pub ok_each : {A E : Type 0} {P Q : A → Type 0} (r : Result A E) → ((x : A) → P x → Q x) → IfOk r P → IfOk r Q
 ok_each (Ok x) f is = f x is
 ok_each (Err e) f is = tt
+
+pub err_each : {A E : Type 0} {P Q : E → Type 0} (r : Result A E) → ((e : E) → P e → Q e) → IfErr r P → IfErr r Q
+err_each (Ok x) f is = tt
+err_each (Err e) f is = f e is
 
 pub some_each : {A : Type 0} {P Q : A → Type 0} (o : Option A) → ((x : A) → P x → Q x) → IfSome o P → IfSome o Q
 some_each None f is = tt
@@ -57,3 +62,26 @@ added_raised fields b old new is = record {
   rows = rows_pushed old.mine new.mine old.number b is.mine;
   left = is.left;
 }
+
+-- a worker has added the batch that the table admitted behind all that the worker then saw
+pub added : (fields : List FieldShape) (s next : Contents) (b ready : Batch) (number : ℕ) (old new : Hand) → ready ≡ b → number ≡ old.number → s.fields ≡ fields → IsPrefix old.seen s.history
+    → batch_cause s.fields s.history ready ≡ None → next ≡ admitted s number ready → IsLegal next.fields next.history → new ≡ having_added (rows_of b) (having_seen s.history old) → HasAdded fields b old new
+added fields s next b ready number old new same numbered typed begun allowed next_is legal is =
+    let pushed : IsLegal s.fields (s.history ++ (number, rows_of ready) ∷ []) = subst (λ (t : Contents). IsLegal t.fields t.history) next_is legal in
+    let named : IsLegal fields (s.history ++ (old.number, rows_of ready) ∷ []) =
+    subst (λ n. IsLegal fields (s.history ++ (n, rows_of ready) ∷ [])) numbered (subst (λ (fs : List FieldShape). IsLegal fs (s.history ++ (number, rows_of ready) ∷ [])) typed pushed) in
+    record {
+      number = ap (λ (w : Hand). w.number) is;
+      before = s.history;
+      begun = begun;
+      allowed = subst (λ (x : Batch). batch_cause fields s.history x ≡ None) same (subst (λ (fs : List FieldShape). batch_cause fs s.history ready ≡ None) typed allowed);
+      seen = ap (λ (w : Hand). w.seen) is;
+      legal = subst (λ (w : Hand). IsLegal fields w.seen) (sym is) (subst (λ (x : Batch). IsLegal fields (s.history ++ (old.number, rows_of x) ∷ [])) same named);
+      mine = ap (λ (w : Hand). w.mine) is;
+      left = ap (λ (w : Hand). w.left) is;
+    }
+
+-- of one fact the first half alone
+pub fewer : {A B C : Type 0} → (A × B) ⊎ C → A ⊎ C
+fewer (inl x) = inl x.0
+fewer (inr y) = inr y

@@ -16,6 +16,7 @@ use crate::naming::{Accepted, Event, Naming};
 use crate::outcome::Receipt;
 use crate::shown::{Publish, Shown};
 use crate::worker::Worker;
+use arrays::RecordBatch;
 use colbits::NoMemory;
 use histories::{Front, Head};
 use std::marker::Model;
@@ -78,19 +79,20 @@ impl<C: Ledger, Q: Ledger, N: Naming, P: Publish<Item = Shown<N>>> Locked<C, Q, 
         &mut self,
         wait: &W,
         worker: &mut Worker<C, Q, N>,
-        ready: Ready<'_>,
+        batch: &RecordBatch,
+        ready: Ready,
     ) -> Result<Receipt<N>, Refusal>
-        ensures added { OnOk result (self.new ≡ admitted self.old worker.old.number ready.entry) }
+        requires { ready ≡ batch.now }
+        ensures added { OnOk result (self.new ≡ admitted self.old worker.old.number batch.now) }
         ensures kept { OnErr result (self.new ≡ self.old) }
-        ensures appended { OnOk result (HasAdded N.fields ready.entry worker.old worker.new) }
+        ensures appended { OnOk result (HasAdded N.fields batch.now worker.old worker.new) }
         ensures receipt { IfOk result (λ r. r ≡ worker.new.seen) }
         ensures seen { OnErr result (HasSeen N.fields worker.old worker.new) }
-        ensures cause { IfErr result (λ e. ((e ≡ Refusal.NoMemory) × (early_cause N.fields worker.new.seen ready.entry ≡ None))
-            ⊎ (batch_cause N.fields worker.new.seen ready.entry ≡ Some e)) }
+        ensures cause { IfErr result (λ e. ((e ≡ Refusal.NoMemory) × (early_cause N.fields worker.new.seen batch.now ≡ None))
+            ⊎ (batch_cause N.fields worker.new.seen batch.now ≡ Some e)) }
     {
         begin(wait, &worker.seen, &self.front);
         worker.see(&self.front);
-        let batch = ready.batch();
         let next = admit(
             &mut self.state,
             self.publisher.is_some(),
@@ -232,15 +234,15 @@ fn admit(
     state: &mut TableState,
     is_shown: bool,
     worker: u32,
-    ready: Ready<'_>,
+    ready: Ready,
 ) -> Result<Option<Arc<Version>>, Refusal>
     ensures shown { IfOk result (λ v. is_some v ≡ is_shown) }
     ensures version { IfOk result (λ o. IfSome o (λ v. arc_value v ≡ state.new)) }
     ensures room { OnOk result (length state.old.history < 2 ^ 32) }
-    ensures allowed { OnOk result (batch_cause state.old.fields state.old.history ready.entry ≡ None) }
-    ensures added { OnOk result (state.new ≡ admitted state.old worker ready.entry) }
-    ensures err { IfErr result (λ e. ((e ≡ Refusal.NoMemory) × (early_cause state.old.fields state.old.history ready.entry ≡ None))
-        ⊎ (batch_cause state.old.fields state.old.history ready.entry ≡ Some e)) }
+    ensures allowed { OnOk result (batch_cause state.old.fields state.old.history ready ≡ None) }
+    ensures added { OnOk result (state.new ≡ admitted state.old worker ready) }
+    ensures err { IfErr result (λ e. ((e ≡ Refusal.NoMemory) × (early_cause state.old.fields state.old.history ready ≡ None))
+        ⊎ (batch_cause state.old.fields state.old.history ready ≡ Some e)) }
     ensures kept { OnErr result (state.new ≡ state.old) }
     ensures legal { IsLegal state.new.fields state.new.history }
 {

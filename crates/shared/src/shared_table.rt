@@ -126,7 +126,7 @@ impl<C: Ledger, Q: Ledger, N: Naming, P: Publish<Item = Shown<N>>> SharedTable<C
     {
         worker.tell();
         let ready = Ready::new(self.alloc, batch)?;
-        self.lock.lock(wait).append(wait, worker, ready)
+        self.lock.lock(wait).append(wait, worker, batch, ready)
     }
 
     /// The table as it is when the lock is got, whose history the worker then has seen, where memory is refused too. Where

@@ -190,6 +190,12 @@ part-lawful b start n within lawful =
     smaller : (rows : ℕ) → nat_lt 2147483647 rows ≡ false → n ≤ rows → nat_lt 2147483647 n ≡ false
     smaller rows small le = grind (arith, nat_tests)
 
+-- A part of a batch fits the fields that the batch has.
+pub part-fits : (b : Batch) (fields : List FieldShape) (columns : List Seen) (start n : ℕ) → start + n ≤ b.rows → batch_fault b.fields b.rows b.columns ≡ None
+    → fields ≡ b.fields → columns ≡ map (copied start n) b.columns → batch_fault fields n columns ≡ None
+part-fits b fields columns start n within lawful same are =
+    ap (λ (f : List FieldShape). batch_fault f n columns) same ∙ ap (batch_fault b.fields n) are ∙ part-lawful b start n within lawful
+
 pub slots-within : (b : Batch) (start n : ℕ) → start + n ≤ b.rows → batch_fault b.fields b.rows b.columns ≡ None → All (λ (c : Seen). start + n ≤ length c.items) b.columns
 slots-within b start n within lawful =
     λ k d below. omega (arith, within, sizes b.rows b.columns (whole b.fields b.rows b.columns lawful).long k d below)

@@ -21,7 +21,6 @@ use Rattle.pool.proofs.PlaceLemmas.{position_found}
 use Rattle.pool.proofs.PrefixLemmas.{prefix_take}
 use Rattle.std.specs.Bool.{then_some}
 use Rattle.arrays.specs.First.{first}
-use Rattle.table.specs.Made.{copied}
 use Rattle.table.specs.Recoded.{coded, dictionary_for, full_at, full_cause, grown, is_full, stored_seen}
 use Rattle.table.specs.declared.refusal.Refusal.{Refusal}
 use Rattle.table.specs.declared.refusal.Refusal.TheVariants.{TextsFull}
@@ -101,28 +100,6 @@ module _ {A Z : Type 0} (f : Z → A) (olds : List A) (inputs : List Z) (same : 
   Written-all k now past is =
       is ∙ ap (λ l. map f l ++ drop k olds) (take_all k inputs past)
       ∙ ap (λ l. map f inputs ++ l) (drop_all k olds (omega (arith, same, past))) ∙ append-nil (map f inputs)
-
--- ---- copies that are taken one after the other
-
-abbrev pub taken : Option Seen → Option Seen
-taken c = None
-
-module _ (olds : List (Option Seen)) (columns : List Seen) (are : olds ≡ map copied columns) (k : ℕ) (below : k < length columns)
-    (now : List (Option Seen)) (left : now ≡ map taken (take k olds) ++ drop k olds) where
-  there : k < length olds
-  there = omega (arith, below, ap (λ (l : List (Option Seen)). length l) are, length-map columns copied)
-
-  pub copies-within : k < length now
-  copies-within = omega (arith, there, Written-length taken olds olds refl k now (omega (arith, there)) left)
-
-  -- The next one is that of its column.
-  pub copy-at : (c : Seen) (o : Option Seen) → c ≡ get_or columns k c → o ≡ get_or now k o → o ≡ copied c
-  copy-at c o column_at o_at =
-      o_at ∙ Written-read taken olds olds refl k now o there left
-      ∙ ap (λ (l : List (Option Seen)). get_or l k o) are ∙ get_or-map copied columns k c o below ∙ ap copied (sym column_at)
-
-  pub copies-more : (o : Option Seen) → o ≡ None → set now k o ≡ map taken (take (k + 1) olds) ++ drop (k + 1) olds
-  copies-more o none = Written-more taken olds olds refl k now None o there left none
 
 -- ---- pools of columns side by side
 

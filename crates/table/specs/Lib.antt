@@ -5,7 +5,6 @@ pub mod Cause
 pub mod Columns
 pub mod Recoded
 pub mod Counted
-pub mod Made
 pub mod Lawful
 pub mod Held
 pub mod Ready

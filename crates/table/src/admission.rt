@@ -8,33 +8,33 @@ ghost use Rattle.arrays.specs.Batch.{rows_of};
 ghost use Rattle.arrays.specs.Typed.{IsItemOf};
 ghost use Rattle.table.specs.Cause.{batch_cause, early_cause};
 ghost use Rattle.table.specs.Contents.{admitted};
+ghost use Rattle.table.specs.Counted.{AreTheirs};
 ghost use Rattle.table.specs.Held.{IsHeld, batches_of, show};
 ghost use Rattle.table.specs.Lawful.{table_of};
-ghost use Rattle.table.specs.Made.{IsMade};
 ghost use Rattle.table.specs.Ready.{AreTexts, BeginWithTexts, IsReady};
 
 use crate::columns::{Columns, cut_back, stored_columns};
 use crate::held::{Held, Prepared};
-use crate::made::Made;
 use crate::refusal::Refusal;
 use crate::stats::joined_all;
 use crate::version::Version;
 use arrays::{Array, RecordBatch};
+use group::ColumnStats;
 use pool::TextPool;
 use std::alloc::Global;
 use std::sync::Arc;
 
-/// Makes a batch ready to be put in, of what was made of it before. Nothing that the table shows changes: its pools have the new texts, and have them no more where
+/// Makes a batch ready to be put in, whose statistics were made before. Nothing that the table shows changes: its pools have the new texts, and have them no more where
 /// the batch is refused. Nothing but its texts and the memory can stand against it here.
 pub(crate) fn prepare(
     alloc: Global,
     held: &Held,
     pools: &mut Vec<TextPool>,
     batch: &RecordBatch,
-    made: Made,
+    batch_stats: Arc<Vec<ColumnStats>>,
 ) -> Result<Prepared, Refusal>
     requires held { IsHeld held.now }
-    requires made { IsMade batch.now made }
+    requires stats { AreTheirs batch.now.columns (arc_value batch_stats).items }
     requires pools { AreTexts held.now (table_of (batches_of held.now)) pools.old.items }
     requires allowed { early_cause (arc_value held.now.schema) (show held.now).history batch.now ≡ None }
     ensures ok { IfOk result (λ p. IsReady held.now batch.now p) }
@@ -43,7 +43,7 @@ pub(crate) fn prepare(
         ⊎ (batch_cause (arc_value held.now.schema) (show held.now).history batch.now ≡ Some e)) }
     ensures kept { OnErr result (pools.new.items ≡ pools.old.items) }
 {
-    match recoded(alloc, held, pools, batch, made) {
+    match recoded(alloc, held, pools, batch, batch_stats) {
         Ok(prepared) => Ok(prepared),
         Err(refusal) => {
             take_back(held, pools);
@@ -59,10 +59,10 @@ pub(crate) fn prepare_shown(
     pools: &mut Vec<TextPool>,
     worker: u32,
     batch: &RecordBatch,
-    made: Made,
+    batch_stats: Arc<Vec<ColumnStats>>,
 ) -> Result<(Prepared, Arc<Version>), Refusal>
     requires held { IsHeld held.now }
-    requires made { IsMade batch.now made }
+    requires stats { AreTheirs batch.now.columns (arc_value batch_stats).items }
     requires pools { AreTexts held.now (table_of (batches_of held.now)) pools.old.items }
     requires allowed { early_cause (arc_value held.now.schema) (show held.now).history batch.now ≡ None }
     ensures ok { IfOk result (λ r. IsReady held.now batch.now r.0) }
@@ -72,7 +72,7 @@ pub(crate) fn prepare_shown(
         ⊎ (batch_cause (arc_value held.now.schema) (show held.now).history batch.now ≡ Some e)) }
     ensures kept { OnErr result (pools.new.items ≡ pools.old.items) }
 {
-    match recoded_shown(alloc, held, pools, worker, batch, made) {
+    match recoded_shown(alloc, held, pools, worker, batch, batch_stats) {
         Ok(prepared) => Ok(prepared),
         Err(refusal) => {
             take_back(held, pools);
@@ -97,10 +97,10 @@ fn recoded_shown(
     pools: &mut Vec<TextPool>,
     worker: u32,
     batch: &RecordBatch,
-    made: Made,
+    batch_stats: Arc<Vec<ColumnStats>>,
 ) -> Result<(Prepared, Arc<Version>), Refusal>
     requires held { IsHeld held.now }
-    requires made { IsMade batch.now made }
+    requires stats { AreTheirs batch.now.columns (arc_value batch_stats).items }
     requires pools { AreTexts held.now (table_of (batches_of held.now)) pools.old.items }
     requires allowed { early_cause (arc_value held.now.schema) (show held.now).history batch.now ≡ None }
     ensures ok { IfOk result (λ r. IsReady held.now batch.now r.0) }
@@ -110,7 +110,7 @@ fn recoded_shown(
         ⊎ (batch_cause (arc_value held.now.schema) (show held.now).history batch.now ≡ Some e)) }
     ensures begun { AllZip IsPrefix pools.old.items pools.new.items }
 {
-    let prepared = recoded(alloc, held, pools, batch, made)?;
+    let prepared = recoded(alloc, held, pools, batch, batch_stats)?;
     let version = Version::of(alloc, held.with_batch(alloc, worker, &prepared)?)?;
     Ok((prepared, version))
 }
@@ -121,10 +121,10 @@ fn recoded(
     held: &Held,
     pools: &mut Vec<TextPool>,
     batch: &RecordBatch,
-    made: Made,
+    batch_stats: Arc<Vec<ColumnStats>>,
 ) -> Result<Prepared, Refusal>
     requires held { IsHeld held.now }
-    requires made { IsMade batch.now made }
+    requires stats { AreTheirs batch.now.columns (arc_value batch_stats).items }
     requires pools { AreTexts held.now (table_of (batches_of held.now)) pools.old.items }
     requires allowed { early_cause (arc_value held.now.schema) (show held.now).history batch.now ≡ None }
     ensures ok { IfOk result (λ p. IsReady held.now batch.now p) }
@@ -134,20 +134,13 @@ fn recoded(
     ensures begun { AllZip IsPrefix pools.old.items pools.new.items }
 {
     tell_all(batch.columns());
-    let Made {
-        copies,
-        batch_stats,
-    } = made;
     let Columns {
         columns,
         dictionaries,
-    } = stored_columns(alloc, &held.dictionaries, pools, batch.columns(), copies)?;
+    } = stored_columns(alloc, &held.dictionaries, pools, batch.columns())?;
     let stats = joined_all(alloc, &held.stats, &batch_stats)?;
-    let schema = held.schema.copy(alloc)?;
-    let Ok(batch) = RecordBatch::new(schema, batch.rows(), columns) else {
-        // The columns are as long as those of the batch, and of the stored types.
-        unreachable!();
-    };
+    // The columns are as long as those of the batch, and of the stored types.
+    let batch = RecordBatch::under(held.schema.clone()?, batch.rows(), columns);
     Ok(Prepared {
         batch: Arc::new(alloc, batch)?,
         batch_stats,

@@ -9,7 +9,6 @@ ghost use Rattle.arrays.specs.Item.{text};
 ghost use Rattle.arrays.specs.Shown.{shown};
 ghost use Rattle.arrays.specs.Slot.{is_text};
 ghost use Rattle.pool.specs.Texts.{is_too_full};
-ghost use Rattle.table.specs.Made.{copied};
 ghost use Rattle.table.specs.Recoded.{coded, dictionary_for, entry_count, full_cause, grown, is_full, shortened, stored_seen};
 
 use crate::refusal::Refusal;
@@ -26,17 +25,15 @@ pub(crate) struct Columns {
     pub(crate) dictionaries: Vec<Option<Arc<Words>>>,
 }
 
-/// The columns as they are stored after those whose texts the pools and the dictionaries have, with the copies of those
-/// that aren't of texts. Where it fails, the pools keep what was added.
+/// The columns as they are stored after those whose texts the pools and the dictionaries have. Where it fails, the pools keep
+/// what was added.
 pub(crate) fn stored_columns(
     alloc: Global,
     dictionaries: &[Option<Arc<Words>>],
     pools: &mut Vec<TextPool>,
     columns: &[Array],
-    mut copies: Vec<Option<Array>>,
 ) -> Result<Columns, Refusal>
     requires count { length pools.old.items ≡ length columns.now }
-    requires copies { copies.items ≡ map copied columns.now }
     requires dictionaries { map (option_map arc_value) dictionaries.now ≡ map dictionary_for (zip pools.old.items columns.now) }
     ensures columns { IfOk result (λ r. r.columns.items ≡ map stored_seen (zip pools.old.items columns.now)) }
     ensures dictionaries { IfOk result (λ r. map (option_map arc_value) r.dictionaries.items
@@ -56,7 +53,6 @@ pub(crate) fn stored_columns(
             &columns[k],
             &mut pools[k],
             &dictionaries[k],
-            copies[k].take(),
         ) {
             Ok(stored) => stored,
             Err(PoolFault::TextsFull) => return Err(Refusal::TextsFull { column: k }),
@@ -69,17 +65,15 @@ pub(crate) fn stored_columns(
 }
 
 /// A column as it is stored, and its dictionary: the same one where the column brings no new text. One that isn't of texts
-/// is stored as its copy.
+/// is shared.
 #[tactic(auto, using(crate::proofs::FrontLemmas::prefix_same))]
 fn stored_column(
     alloc: Global,
     column: &Array,
     pool: &mut TextPool,
     dictionary: &Option<Arc<Words>>,
-    copy: Option<Array>,
 ) -> Result<(Array, Option<Arc<Words>>), PoolFault>
-    requires dictionary { option_map arc_value dictionary.now ≡ dictionary_for (pool.old, column.now) }
-    requires copy { copy ≡ copied column.now }
+    requires { option_map arc_value dictionary.now ≡ dictionary_for (pool.old, column.now) }
     ensures column { IfOk result (λ r. r.0 ≡ stored_seen (pool.old, column.now)) }
     ensures dictionary { IfOk result (λ r. option_map arc_value r.1 ≡ dictionary_for (grown (pool.old, column.now), column.now)) }
     ensures pool { OnOk result (pool.new ≡ grown (pool.old, column.now)) }
@@ -92,13 +86,7 @@ fn stored_column(
             let (column, words) = stored_texts(alloc, column, pool, words)?;
             Ok((column, Some(words)))
         }
-        None => {
-            let Some(copy) = copy else {
-                // A column without a dictionary isn't one of texts.
-                unreachable!();
-            };
-            Ok((copy, None))
-        }
+        None => Ok((column.copy(alloc)?, None)),
     }
 }
 

@@ -10,7 +10,7 @@ ghost use Rattle.table.specs.Held.{IsHeld, show};
 ghost use Rattle.table.specs.Lawful.{table_of};
 
 use crate::held::Held;
-use arrays::{Array, File, RecordBatch};
+use arrays::{Array, File, RecordBatch, Schema};
 use colbits::NoMemory;
 use select::copy;
 use std::alloc::Global;
@@ -32,7 +32,7 @@ pub(crate) fn file_of(alloc: Global, held: &Held) -> Result<File, NoMemory>
     ensures lawful { IfOk result (λ f. AllByRecursion IsLawful f.batches) }
 {
     let batches = entry_batches(alloc, held)?;
-    Ok(File::new(held.schema.copy(alloc)?, batches))
+    Ok(File::new(held.schema.clone()?, batches))
 }
 
 /// A batch for each entry of the book, with the entry's rows.
@@ -45,7 +45,7 @@ fn entry_batches(alloc: Global, held: &Held) -> Result<Vec<Arc<RecordBatch>>, No
     let mut place = Place { batch: 0, used: 0 };
     for entry in &held.book {
         let Place { batch, used } = place.in_batch(&held.batches);
-        batches.push(part_of(alloc, &held.batches[batch], used, entry.rows)?)?;
+        batches.push(part_of(alloc, &held.schema, &held.batches[batch], used, entry.rows)?)?;
         place = Place {
             batch,
             used: used + entry.rows,
@@ -76,14 +76,16 @@ impl Place {
     }
 }
 
-/// So many rows of a batch from row `start` on: the batch itself, shared, where these are all, else copies.
+/// So many rows of a batch under a schema from row `start` on: the batch itself, shared, where these are all, else copies.
 fn part_of(
     alloc: Global,
+    schema: &Arc<Schema>,
     batch: &Arc<RecordBatch>,
     start: u32,
     rows: u32,
 ) -> Result<Arc<RecordBatch>, NoMemory>
-    requires { start + rows ≤ (arc_value batch.now).rows }
+    requires fields { (arc_value batch.now).fields ≡ arc_value schema.now }
+    requires within { start + rows ≤ (arc_value batch.now).rows }
     ensures fields { IfOk result (λ b. (arc_value b).fields ≡ (arc_value batch.now).fields) }
     ensures rows { IfOk result (λ b. rows_of (arc_value b) ≡ slice (rows_of (arc_value batch.now)) start rows) }
     ensures lawful { IfOk result (λ b. IsLawful (arc_value b)) }
@@ -93,10 +95,8 @@ fn part_of(
         return Ok(batch.clone()?);
     }
     let columns = columns_of(alloc, whole, start, rows)?;
-    let Ok(part) = RecordBatch::new(batch.schema().copy(alloc)?, rows, columns) else {
-        // The columns are of the same types, and as long as is said.
-        unreachable!();
-    };
+    // The columns are of the same types, and as long as is said.
+    let part = RecordBatch::under(schema.clone()?, rows, columns);
     Ok(Arc::new(alloc, part)?)
 }
 

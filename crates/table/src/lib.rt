@@ -8,7 +8,6 @@ pub mod entry;
 mod export;
 mod held;
 pub mod laws;
-mod made;
 mod nulls;
 pub mod ready;
 pub mod refusal;

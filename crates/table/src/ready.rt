@@ -1,52 +1,58 @@
 //! A batch that is made ready for a table before the table is looked at.
 
 ghost use Rattle.std.specs.Prelude.{◌≡◌, IfOk};
-ghost use Rattle.table.specs.Made.{IsMade};
+ghost use Rattle.std.specs.Arc.{arc_value};
+ghost use Rattle.table.specs.Counted.{AreTheirs};
 
-use crate::made::Made;
+use crate::stats::shared_stats;
 use arrays::RecordBatch;
 use colbits::NoMemory;
+use group::ColumnStats;
 use std::alloc::Global;
 use std::marker::Model;
+use std::sync::Arc;
 
-/// A batch with the parts of it that are stored as they are, copied, and its statistics: all that needs no table. A table
-/// that lies under a lock is handed one, so that the lock is held no longer than it must.
+/// A batch, whose columns are shared, with its statistics: all that needs no table. A table that lies under a lock is handed
+/// one, so that the lock is held no longer than it must.
 ///
 /// Clauses see the batch.
 #[derive(Drop)]
-pub struct Ready<'a> {
-    batch: &'a RecordBatch,
-    made: Made,
+pub struct Ready {
+    batch: RecordBatch,
+    /// The statistics of each column.
+    batch_stats: Arc<Vec<ColumnStats>>,
 }
 
-impl<'a> Model for Ready<'a> {
+impl Model for Ready {
     ghost use Rattle.arrays.specs.Batch.{Batch, batch_code};
 
     ghost Value = { Batch };
 
     ghost coded = { batch_code };
 
-    ghost use Rattle.table.specs.Made.{IsMade};
+    ghost use Rattle.std.specs.Arc.{arc_value};
+    ghost use Rattle.table.specs.Counted.{AreTheirs};
 
-    ghost view = { λ r. r.batch.now };
+    ghost view = { λ r. r.batch };
 
-    ghost invariant = { λ r. IsMade r.batch.now r.made };
+    ghost invariant = { λ r. AreTheirs r.batch.columns (arc_value r.batch_stats).items };
 }
 
-impl<'a> Ready<'a> {
+impl Ready {
     /// The batch, made ready.
-    pub fn new(alloc: Global, batch: &'a RecordBatch) -> Result<Ready<'a>, NoMemory>
+    pub fn new(alloc: Global, batch: &RecordBatch) -> Result<Ready, NoMemory>
         ensures { IfOk result (λ r. r ≡ batch.now) }
     {
-        let made = Made::of(alloc, batch)?;
-        Ok(Ready { batch, made })
+        let batch = batch.copy(alloc)?;
+        let batch_stats = shared_stats(alloc, &batch)?;
+        Ok(Ready { batch, batch_stats })
     }
 
     /// The batch.
-    pub fn batch(&self) -> &'a RecordBatch
+    pub fn batch(&self) -> &RecordBatch
         ensures { result.now ≡ self.now }
     {
-        self.batch
+        &self.batch
     }
 
     /// How many rows the batch has.
@@ -56,12 +62,12 @@ impl<'a> Ready<'a> {
         self.batch.rows()
     }
 
-    /// The batch, and what is made of it.
-    pub(crate) fn parts(self) -> (&'a RecordBatch, Made)
-        ensures batch { result.0.now ≡ self.entry }
-        ensures made { IsMade self.entry result.1 }
+    /// The batch, and the statistics of its columns.
+    pub(crate) fn parts(self) -> (RecordBatch, Arc<Vec<ColumnStats>>)
+        ensures batch { result.0 ≡ self }
+        ensures stats { AreTheirs self.columns (arc_value result.1).items }
     {
-        let Ready { batch, made } = self;
-        (batch, made)
+        let Ready { batch, batch_stats } = self;
+        (batch, batch_stats)
     }
 }

@@ -4,18 +4,19 @@ ghost use Rattle.std.specs.Prelude.{◌≡◌, ◌⊎◌, [], IfErr, IfOk, None,
 ghost use Rattle.std.specs.Arc.{arc_value};
 ghost use Rattle.table.specs.Cause.{IsLegal, batch_cause, early_cause};
 ghost use Rattle.table.specs.Contents.{Contents, admitted};
-ghost use Rattle.table.specs.Made.{IsMade};
+ghost use Rattle.table.specs.Counted.{AreTheirs};
 ghost use Rattle.table.specs.Stored.{stored_fields};
 
 use crate::admission::{prepare, prepare_shown};
 use crate::cause::early_refusal;
 use crate::held::Held;
-use crate::made::Made;
 use crate::ready::Ready;
 use crate::refusal::Refusal;
+use crate::stats::shared_stats;
 use crate::version::Version;
 use arrays::{RecordBatch, Schema};
 use colbits::NoMemory;
+use group::ColumnStats;
 use pool::TextPool;
 use std::alloc::Global;
 use std::marker::Model;
@@ -74,54 +75,55 @@ impl TableState {
         if let Some(refusal) = early_refusal(&self.held, batch) {
             return Err(refusal);
         }
-        let made = Made::of(self.alloc, batch)?;
-        self.put_made(worker, batch, made)
+        let batch_stats = shared_stats(self.alloc, batch)?;
+        self.put(worker, batch, batch_stats)
     }
 
     /// Does what `admit` does with a batch that was made ready before, so that a lock over the table is held no longer than it
     /// must.
-    pub fn admit_ready(&mut self, worker: u32, ready: Ready<'_>) -> Result<u32, Refusal>
+    pub fn admit_ready(&mut self, worker: u32, ready: Ready) -> Result<u32, Refusal>
         ensures number { IfOk result (λ n. n ≡ length self.old.history) }
-        ensures allowed { OnOk result (batch_cause self.old.fields self.old.history ready.entry ≡ None) }
-        ensures added { OnOk result (self.new ≡ admitted self.old worker ready.entry) }
-        ensures err { IfErr result (λ e. ((e ≡ Refusal.NoMemory) × (early_cause self.old.fields self.old.history ready.entry ≡ None))
-            ⊎ (batch_cause self.old.fields self.old.history ready.entry ≡ Some e)) }
+        ensures allowed { OnOk result (batch_cause self.old.fields self.old.history ready ≡ None) }
+        ensures added { OnOk result (self.new ≡ admitted self.old worker ready) }
+        ensures err { IfErr result (λ e. ((e ≡ Refusal.NoMemory) × (early_cause self.old.fields self.old.history ready ≡ None))
+            ⊎ (batch_cause self.old.fields self.old.history ready ≡ Some e)) }
         ensures kept { OnErr result (self.new ≡ self.old) }
         ensures legal { IsLegal self.new.fields self.new.history }
     {
-        let (batch, made) = ready.parts();
-        match early_refusal(&self.held, batch) {
+        let (batch, batch_stats) = ready.parts();
+        match early_refusal(&self.held, &batch) {
             Some(refusal) => Err(refusal),
-            None => self.put_made(worker, batch, made),
+            None => self.put(worker, &batch, batch_stats),
         }
     }
 
     /// Does what `admit_ready` does, and gives the version of the table with the batch. It is made before the batch is put in,
     /// so that who shows it to others has no step behind the admission that could still fail.
-    pub fn admit_shown(
-        &mut self,
-        worker: u32,
-        ready: Ready<'_>,
-    ) -> Result<(u32, Arc<Version>), Refusal>
+    pub fn admit_shown(&mut self, worker: u32, ready: Ready) -> Result<(u32, Arc<Version>), Refusal>
         ensures number { IfOk result (λ r. r.0 ≡ length self.old.history) }
         ensures shown { IfOk result (λ r. arc_value r.1 ≡ self.new) }
-        ensures allowed { OnOk result (batch_cause self.old.fields self.old.history ready.entry ≡ None) }
-        ensures added { OnOk result (self.new ≡ admitted self.old worker ready.entry) }
-        ensures err { IfErr result (λ e. ((e ≡ Refusal.NoMemory) × (early_cause self.old.fields self.old.history ready.entry ≡ None))
-            ⊎ (batch_cause self.old.fields self.old.history ready.entry ≡ Some e)) }
+        ensures allowed { OnOk result (batch_cause self.old.fields self.old.history ready ≡ None) }
+        ensures added { OnOk result (self.new ≡ admitted self.old worker ready) }
+        ensures err { IfErr result (λ e. ((e ≡ Refusal.NoMemory) × (early_cause self.old.fields self.old.history ready ≡ None))
+            ⊎ (batch_cause self.old.fields self.old.history ready ≡ Some e)) }
         ensures kept { OnErr result (self.new ≡ self.old) }
         ensures legal { IsLegal self.new.fields self.new.history }
     {
-        let (batch, made) = ready.parts();
-        match early_refusal(&self.held, batch) {
+        let (batch, batch_stats) = ready.parts();
+        match early_refusal(&self.held, &batch) {
             Some(refusal) => Err(refusal),
-            None => self.put_shown(worker, batch, made),
+            None => self.put_shown(worker, &batch, batch_stats),
         }
     }
 
-    /// Puts a batch in, of what was made of it before. Nothing but its texts and the memory can stand against it.
-    fn put_made(&mut self, worker: u32, batch: &RecordBatch, made: Made) -> Result<u32, Refusal>
-        requires made { IsMade batch.now made }
+    /// Puts a batch in, whose statistics were made before. Nothing but its texts and the memory can stand against it.
+    fn put(
+        &mut self,
+        worker: u32,
+        batch: &RecordBatch,
+        batch_stats: Arc<Vec<ColumnStats>>,
+    ) -> Result<u32, Refusal>
+        requires stats { AreTheirs batch.now.columns (arc_value batch_stats).items }
         requires allowed { early_cause self.old.fields self.old.history batch.now ≡ None }
         ensures number { IfOk result (λ n. n ≡ length self.old.history) }
         ensures allowed { OnOk result (batch_cause self.old.fields self.old.history batch.now ≡ None) }
@@ -133,7 +135,7 @@ impl TableState {
     {
         let number = self.held.book.len() as u32;
         self.held.reserve()?;
-        let new = prepare(self.alloc, &self.held, &mut self.pools, batch, made)?;
+        let new = prepare(self.alloc, &self.held, &mut self.pools, batch, batch_stats)?;
         self.held.put_in(worker, new);
         Ok(number)
     }
@@ -143,9 +145,9 @@ impl TableState {
         &mut self,
         worker: u32,
         batch: &RecordBatch,
-        made: Made,
+        batch_stats: Arc<Vec<ColumnStats>>,
     ) -> Result<(u32, Arc<Version>), Refusal>
-        requires made { IsMade batch.now made }
+        requires stats { AreTheirs batch.now.columns (arc_value batch_stats).items }
         requires allowed { early_cause self.old.fields self.old.history batch.now ≡ None }
         ensures number { IfOk result (λ r. r.0 ≡ length self.old.history) }
         ensures shown { IfOk result (λ r. arc_value r.1 ≡ self.new) }
@@ -164,7 +166,7 @@ impl TableState {
             &mut self.pools,
             worker,
             batch,
-            made,
+            batch_stats,
         )?;
         self.held.put_in(worker, prepared);
         Ok((number, version))

@@ -1,16 +1,29 @@
 //! The statistics of columns side by side.
 
 ghost use Rattle.std.specs.Prelude.{◌≡◌, ◌+◌, ◌^◌, ◌≤◌, IfOk, length};
+ghost use Rattle.std.specs.Arc.{arc_value};
 ghost use Rattle.std.specs.List.{AllZip};
 ghost use Rattle.table.specs.Counted.{AreJoined, AreTheirs};
 
-use arrays::Array;
+use arrays::{Array, RecordBatch};
 use colbits::NoMemory;
 use group::{ColumnStats, joined, stats_of};
 use std::alloc::Global;
+use std::sync::Arc;
+
+/// The statistics of each column of a batch, to be shared.
+pub(crate) fn shared_stats(
+    alloc: Global,
+    batch: &RecordBatch,
+) -> Result<Arc<Vec<ColumnStats>>, NoMemory>
+    ensures { IfOk result (λ s. AreTheirs batch.now.columns (arc_value s).items) }
+{
+    let stats = stats_of_all(alloc, batch.columns())?;
+    Ok(Arc::new(alloc, stats)?)
+}
 
 /// The statistics of each column.
-pub(crate) fn stats_of_all(alloc: Global, columns: &[Array]) -> Result<Vec<ColumnStats>, NoMemory>
+fn stats_of_all(alloc: Global, columns: &[Array]) -> Result<Vec<ColumnStats>, NoMemory>
     ensures { IfOk result (λ v. AreTheirs columns.now v.items) }
 {
     let mut stats = Vec::with_capacity(alloc, columns.len())?;

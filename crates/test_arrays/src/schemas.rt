@@ -4,8 +4,9 @@ use arrays::BatchFault::{self, ColumnCount, LengthsDiffer, TypeDiffers};
 use arrays::SchemaFault::{DictInList, TooDeep};
 use arrays::{DataType, IntType, RecordBatch, Schema};
 use std::alloc::Global;
+use std::sync::Arc;
 use std::test::Fail;
-use test_samples::{INT16, INT32, Positions, checked, field, lists_of};
+use test_samples::{INT16, INT32, Positions, Shown, checked, field, lists_of, shows};
 
 #[test]
 fn tells_faults_of_schemas(rt: HostRuntime) -> Result<(), Fail> {
@@ -76,5 +77,45 @@ fn tells_faults_of_batches(rt: HostRuntime) -> Result<(), Fail> {
     for (parts, fault) in BATCHES {
         assert!(rt; batch_fault(rt.alloc(), *parts)? == *fault, "{parts:?}");
     }
+    Ok(())
+}
+
+/// A batch of a column of two numbers.
+fn numbers(alloc: Global) -> Result<RecordBatch, Fail> {
+    let fields = vec![in alloc; field(alloc, "n", true, DataType::Int(INT32))?]?;
+    let column = checked(
+        alloc,
+        DataType::Int(INT32),
+        2,
+        &[None, Some(&[7, 0, 0, 0, 8, 0, 0, 0])],
+    )?;
+    Ok(RecordBatch::new(Schema::new(fields)?, 2, vec![in alloc; column]?)?)
+}
+
+fn is_numbers(batch: &RecordBatch) -> bool {
+    let column = match (batch.schema().fields(), batch.columns()) {
+        ([field], [column]) if field.name.as_str() == "n" => column,
+        _ => return false,
+    };
+    batch.rows() == 2 && shows(&column.view(), Shown::Numbers(&[Some(7), Some(8)]))
+}
+
+#[test]
+fn copies_batches(rt: HostRuntime) -> Result<(), Fail> {
+    let alloc = rt.alloc();
+    let batch = numbers(alloc)?;
+    let copy = batch.copy(alloc)?;
+    assert!(rt; is_numbers(&batch) && is_numbers(&copy));
+    Ok(())
+}
+
+#[test]
+fn copies_batches_that_share_a_schema(rt: HostRuntime) -> Result<(), Fail> {
+    let alloc = rt.alloc();
+    let schema = Arc::new(alloc, Schema::new(Vec::new(alloc))?)?;
+    let batch = RecordBatch::under(schema.clone()?, 3, Vec::new(alloc));
+    let copy = batch.copy(alloc)?;
+    assert!(rt; batch.rows() == 3 && copy.rows() == 3 && copy.columns().is_empty());
+    assert!(rt; copy.schema().is_empty() && schema.is_empty());
     Ok(())
 }

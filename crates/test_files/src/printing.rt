@@ -106,7 +106,7 @@ fn dictionaries_are_made_anew(rt: HostRuntime) -> Result<(), Fail> {
     let schema = Schema::new(fields)?;
     let first = batch_of(alloc, &schema, 5, coded(alloc)?)?;
     let second = batch_of(alloc, &schema, 2, two_codes(alloc)?)?;
-    let file = File::new(schema, vec![in alloc; first, second]?);
+    let file = File::new(Arc::new(alloc, schema)?, vec![in alloc; first, second]?);
     assert_eq!(rt; print_file(alloc, &file)?.as_str(), CODED);
     Ok(())
 }

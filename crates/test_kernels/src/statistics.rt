@@ -62,10 +62,25 @@ fn columns_have_statistics(rt: HostRuntime) -> Result<(), Fail> {
         let column = sampled(rt.alloc(), sample)?;
         let stats = stats_of(rt.alloc(), &column.view())?;
         expect(&rt, rt.alloc(), &stats, wanted)?;
+        let copy = stats.copy(rt.alloc())?;
+        expect(&rt, rt.alloc(), &copy, wanted)?;
         let stats = ColumnStats::empty(column.view().ty());
         expect(&rt, rt.alloc(), &stats, empty)?;
     }
     Ok(())
+}
+
+#[test]
+fn nulls_alone_have_statistics(rt: HostRuntime) -> Result<(), Fail> {
+    let nulls = built(
+        rt.alloc(),
+        (Flat::Int(INT8), 3, &[Some(&[0]), Some(&[7, 7, 7])]),
+    )?;
+    let wanted = r#"ColumnStats { rows: 3, nulls: 3, sum: Some(0), least: None, greatest: None }"#;
+    let stats = stats_of(rt.alloc(), &nulls.view())?;
+    expect(&rt, rt.alloc(), &stats, wanted)?;
+    let stats = ColumnStats::all_null(nulls.view().ty(), 3);
+    expect(&rt, rt.alloc(), &stats, wanted)
 }
 
 #[test]

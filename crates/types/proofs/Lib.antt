@@ -5,3 +5,4 @@ pub mod ByteLemmas
 pub mod IntegerLemmas
 pub mod RangeLemmas
 pub mod FirstLemmas
+pub mod SendingLemmas

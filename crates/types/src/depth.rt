@@ -42,7 +42,7 @@ fn ends_in_dict(ty: &DataType) -> bool
 }
 
 /// Whether a dictionary stands inside a list.
-pub(crate) fn has_dict_in_list(ty: &DataType) -> bool
+pub fn has_dict_in_list(ty: &DataType) -> bool
     requires { depth (kind_of ty.now) ≤ 8 }
     ensures { result ≡ has_dict_in_list (kind_of ty.now) }
 {

@@ -10,7 +10,7 @@ pub mod numbers;
 pub mod schema;
 
 pub use data_type::{DataType, Field, is_same};
-pub use depth::is_too_deep;
+pub use depth::{has_dict_in_list, is_too_deep};
 pub use int_type::{IntType, Width};
 pub use integer::Integer;
 pub use numbers::{int32_at, natural_at, number_at, push_number};

@@ -7,6 +7,7 @@ ghost use Rattle.layout.specs.Reading.{reading};
 ghost use Rattle.layout.specs.Checked.{checked};
 
 use super::Array;
+use super::parts::{Parts, into_raw};
 use colbits::{Buffer, NoMemory};
 use layout::RawArray;
 use std::alloc::Global;
@@ -28,13 +29,13 @@ impl Array {
         requires bits { is_validity_short len validity ≡ false }
         ensures { IfOk result (λ a. a ≡ show_numbers ty len validity values) }
     {
-        Ok(Array {
+        let parts = Parts {
             ty: DataType::Int(ty),
             length: u64::from(len),
             buffers: vec![in alloc; validity, Some(values)]?,
             children: Vec::new(alloc),
-            words: None,
-        })
+        };
+        Array::plain(alloc, parts)
     }
 
     /// An array of truth values: `len` bits, valid where their bit of the validity is 1, all of them where
@@ -50,13 +51,13 @@ impl Array {
         requires validity { is_validity_short len validity ≡ false }
         ensures { IfOk result (λ a. a ≡ show_bits len validity bits) }
     {
-        Ok(Array {
+        let parts = Parts {
             ty: DataType::Bool,
             length: u64::from(len),
             buffers: vec![in alloc; validity, Some(bits)]?,
             children: Vec::new(alloc),
-            words: None,
-        })
+        };
+        Array::plain(alloc, parts)
     }
 
     /// An array of texts: slot `j` is the bytes from offset `j` up to offset `j + 1`, valid where its bit
@@ -75,13 +76,13 @@ impl Array {
         requires texts { AreTexts len validity offsets bytes }
         ensures { IfOk result (λ a. a ≡ show_texts len validity offsets bytes) }
     {
-        Ok(Array {
+        let parts = Parts {
             ty: DataType::Utf8,
             length: u64::from(len),
             buffers: vec![in alloc; validity, Some(offsets), Some(bytes)]?,
             children: Vec::new(alloc),
-            words: None,
-        })
+        };
+        Array::plain(alloc, parts)
     }
 
     /// An array of lists of the field's type: slot `j` holds the items of the child from offset `j` up to
@@ -103,34 +104,21 @@ impl Array {
         requires depth { depth child.kind < 8 }
         ensures { IfOk result (λ a. a ≡ show_lists len validity offsets child) }
     {
-        Ok(Array {
+        let parts = Parts {
             ty: DataType::List(Box::new(alloc, item)?),
             length: u64::from(len),
             buffers: vec![in alloc; validity, Some(offsets)]?,
-            children: vec![in alloc; child.into_raw()]?,
-            words: None,
-        })
+            children: vec![in alloc; child.into_raw(alloc)?]?,
+        };
+        Array::plain(alloc, parts)
     }
 
     /// The parts of an array that has no dictionary.
-    pub(super) fn into_raw(self) -> RawArray
+    pub(super) fn into_raw(self, alloc: Global) -> Result<RawArray, NoMemory>
         requires { same_kind self.kind dict ≡ false }
-        ensures { reading result ≡ checked self }
+        ensures { IfOk result (λ raw. reading raw ≡ checked self) }
     {
-        let Array {
-            ty,
-            length,
-            buffers,
-            children,
-            words: _,
-        } = self;
-        RawArray {
-            ty,
-            length,
-            null_count: None,
-            buffers,
-            children,
-            dictionary: None,
-        }
+        let Array { parts, encoding: _ } = self;
+        into_raw(alloc, parts)
     }
 }

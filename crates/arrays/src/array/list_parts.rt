@@ -57,7 +57,7 @@ impl Array {
             length: u64::from(len),
             null_count: None,
             buffers: vec![in alloc; validity, Some(offsets)]?,
-            children: vec![in alloc; child.into_raw()]?,
+            children: vec![in alloc; child.into_raw(alloc)?]?,
             dictionary: None,
         })
     }

@@ -70,3 +70,14 @@ pub(crate) fn repeated_texts(alloc: Global, rows: u32, salt: u32, distinct: u32)
         spread(row.wrapping_add(salt)) % distinct
     })
 }
+
+/// Codes, in no order, into a dictionary of so many texts.
+pub(crate) fn coded_texts(alloc: Global, rows: u32, salt: u32, entries: u32) -> Option<Array>
+    requires { 0 < entries }
+{
+    let codes = short_bytes(alloc, rows, |row| spread(row.wrapping_add(salt)) % entries)?;
+    let mut parts = value_parts(alloc, DataType::Dict, rows, Nulls::Sparse(salt), codes)?;
+    let texts = digit_parts(alloc, entries, Nulls::Never, |entry| entry)?;
+    parts.dictionary = Some(Box::new(alloc, texts).ok()?);
+    validate(alloc, parts).ok()
+}

@@ -3,7 +3,7 @@
 ghost use Rattle.std.specs.Prelude.{◌≡◌, Some, IfSome, codes};
 ghost use Rattle.bench.specs.Outcome.{codes_of};
 
-use super::columns::{numbers, repeated_texts, rows, short_numbers, texts, truths};
+use super::columns::{coded_texts, numbers, repeated_texts, rows, short_numbers, texts, truths};
 use arrays::{Array, View, ViewType};
 use kernels::{CmpOp, add, add_number, compare, compare_number, kleene_and};
 use pool::{TextPool, recode};
@@ -31,6 +31,8 @@ pub(crate) enum Kernel {
     RecodeFew,
     /// `recode` of texts of which 200,000 differ.
     RecodeMany,
+    /// `recode` of codes into a dictionary of a thousand texts.
+    RecodeCodes,
     /// `add_number` of numbers of 64 bits and 1. The second column is of no use.
     AddNumber,
     /// `compare_number` of the same, by `Gt` and 5.
@@ -51,6 +53,7 @@ impl Kernel {
         ensures take_texts { name.now ≡ codes "take-texts" → result ≡ Some Kernel.TakeTexts }
         ensures recode_few { name.now ≡ codes "recode-few" → result ≡ Some Kernel.RecodeFew }
         ensures recode_many { name.now ≡ codes "recode-many" → result ≡ Some Kernel.RecodeMany }
+        ensures recode_codes { name.now ≡ codes "recode-codes" → result ≡ Some Kernel.RecodeCodes }
         ensures add_number { name.now ≡ codes "add-number" → result ≡ Some Kernel.AddNumber }
         ensures greater_number { name.now ≡ codes "greater-number" → result ≡ Some Kernel.GreaterNumber }
     {
@@ -64,6 +67,7 @@ impl Kernel {
             "take-texts" => Some(Kernel::TakeTexts),
             "recode-few" => Some(Kernel::RecodeFew),
             "recode-many" => Some(Kernel::RecodeMany),
+            "recode-codes" => Some(Kernel::RecodeCodes),
             "add-number" => Some(Kernel::AddNumber),
             "greater-number" => Some(Kernel::GreaterNumber),
             _ => None,
@@ -95,6 +99,7 @@ impl Kernel {
             Kernel::TakeTexts => texts(alloc, count, 3),
             Kernel::RecodeFew => repeated_texts(alloc, count, 3, 1_000),
             Kernel::RecodeMany => repeated_texts(alloc, count, 3, 200_000),
+            Kernel::RecodeCodes => coded_texts(alloc, count, 3, 1_000),
             Kernel::AddNumber => numbers(alloc, count, 3),
             Kernel::GreaterNumber => numbers(alloc, count, 3),
         }
@@ -111,6 +116,7 @@ impl Kernel {
             Kernel::TakeTexts => rows(alloc, count),
             Kernel::RecodeFew => truths(alloc, 0, 8),
             Kernel::RecodeMany => truths(alloc, 0, 8),
+            Kernel::RecodeCodes => truths(alloc, 0, 8),
             Kernel::AddNumber => truths(alloc, 0, 8),
             Kernel::GreaterNumber => truths(alloc, 0, 8),
         }
@@ -130,6 +136,7 @@ impl Kernel {
             Kernel::TakeTexts => take(alloc, a, b).ok(),
             Kernel::RecodeFew => recoded(alloc, a),
             Kernel::RecodeMany => recoded(alloc, a),
+            Kernel::RecodeCodes => recoded(alloc, a),
             Kernel::AddNumber => add_number(alloc, a, 1).ok(),
             Kernel::GreaterNumber => compare_number(alloc, CmpOp::Gt, a, 5).ok(),
         }
@@ -140,7 +147,7 @@ impl Kernel {
 fn recoded(alloc: Global, view: &View<'_>) -> Option<Array>
     ensures { IfSome result (λ r. r ≡ codes_of view.now) }
 {
-    let ViewType::Utf8 = view.ty() else {
+    let (ViewType::Utf8 | ViewType::Dict) = view.ty() else {
         return None;
     };
     let mut pool = TextPool::new(alloc);

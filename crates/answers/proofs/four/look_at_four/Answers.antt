@@ -1,8 +1,16 @@
+use denote.Exit.{no}
+use denote.Param.Send.{IsSync, arg_send, param_send}
 use Rattle.std.proofs.Common.{◌+◌, List, arith, map}
 use Rattle.std.specs.Arc.{arc_value}
 use Rattle.arrays.specs.Batch.{Batch}
 use Rattle.answers.specs.Answers.{all_rows, first_fields}
+use Rattle.answers.proofs.SendingLemmas.{one-send}
 use Rattle.answers.proofs.four.look_at_four.Goals as goal
+
+pub join-fourth-requires-send-F : goal.join-fourth-requires-send-F
+join-fourth-requires-send-F g c κs within =
+    let gate : IsSync g.row.G = record { shared = c.type_bounds.sync-G.shared } in
+    param_send 1 _ (arg_send _ no _ (one-send _ _ _ _ _ _ gate))
 
 pub put_four-requires : goal.put_four-requires
 put_four-requires g c =

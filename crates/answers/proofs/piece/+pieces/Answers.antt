@@ -1,9 +1,18 @@
+use denote.Exit.{no}
+use denote.Param.Send.{IsSync, arg_send, param_send, sendable}
 use Rattle.std.proofs.Common.{◌≡◌, ◌+◌, ◌-◌, List, arith, map, subst}
 use Rattle.std.specs.Arc.{arc_value}
 use Rattle.arrays.specs.Batch.{Batch}
 use Rattle.answers.specs.Answers.{all_rows, first_fields}
 use Rattle.answers.specs.Pieces.{AreLooked}
+use Rattle.answers.proofs.SendingLemmas.{several-send}
 use Rattle.answers.proofs.piece.+pieces.Goals as goal
+
+pub join-late-requires-send-F : goal.join-late-requires-send-F
+join-late-requires-send-F g t c κs within =
+    let threads : IsSync g.row.T = search sendable in
+    let gate : IsSync g.row.G = search sendable in
+    param_send 1 _ (arg_send _ no _ (several-send _ _ _ _ _ _ _ _ threads gate))
 
 pub put_together-requires : goal.put_together-requires
 put_together-requires g t c =

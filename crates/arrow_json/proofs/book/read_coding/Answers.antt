@@ -7,10 +7,6 @@ use Rattle.arrow_json.proofs.JsonBooks.{encoded_at, tells_coding}
 use Rattle.json_places.proofs.JsonResults.{error_kept}
 use Rattle.arrow_json.proofs.book.read_coding.Goals as goal
 
-pub read_dictionary-requires : goal.read_dictionary-requires
-read_dictionary-requires c =
-    c.requires.numbered record { i = c.args.index; encoding = parts_of c.in-Some.encoding; at = encoded_at _ _ (Some c.in-Some.encoding) c.requires.within c.in-Some.is }
-
 pub returns-in_err-words-in-Some-clause-err : goal.returns-in_err-words-in-Some-clause-err
 returns-in_err-words-in-Some-clause-err c =
     let fits : FitsSigned w128 c.in-Some.encoding.id = search rules in

@@ -11,4 +11,5 @@ use Rattle.arrow_json.proofs.file.read_batches.Given as goal
 -- the batches so far are read
 abbrev pub invariant-loop-index : goal.invariant-loop-index
 invariant-loop-index l =
-    ReadsFirst (ReadsBatch l.schema (map (option_map coding_of) l.book)) (items_view l.values) l.index-counter (map table_of (map arc_value l.batches.items)) × AreUnder l.schema (map arc_value l.batches.items)
+    ReadsFirst (ReadsBatch (arc_value l.schema) (map (option_map coding_of) l.book)) (items_view l.values) l.index-counter (map table_of (map arc_value l.batches.items))
+    × AreUnder (arc_value l.schema) (map arc_value l.batches.items)

@@ -1,7 +1,10 @@
-use Rattle.std.proofs.Common.{◌≡◌, Ok, arith, rules}
+use Rattle.std.proofs.Common.{◌≡◌, ◌∷◌, [], Ok, arith, option_map, rules}
+use Rattle.std.proofs.lemmas.List.{map-append}
 use Rattle.std.specs.Result.{MatchResult, IsErrAnd}
 use Rattle.json_places.specs.JsonFault.{IsUnder}
 use Rattle.json_places.specs.declared.path.Step.TheVariants as step
+use Rattle.arrow_json.specs.EncodingParts.{parts_of}
+use Rattle.arrow_json.specs.JsonEncoding.{HasEncoding}
 use Rattle.arrow_json.specs.JsonFields.{ReadsField}
 use Rattle.arrow_json.specs.JsonFieldsFault.{TopFault}
 use Rattle.json_places.proofs.JsonTells.{tells_item_at}
@@ -10,16 +13,23 @@ use Rattle.arrow_json.proofs.JsonFields.{fields_of-push}
 use Rattle.json_places.proofs.JsonResults.{value_kept, error_made}
 use Rattle.arrow_json.proofs.schema.read_fields.Goals as goal
 
-pub returns-in_err-field-clause-err : goal.returns-in_err-field-clause-err
-returns-in_err-field-clause-err c =
+pub returns-in_err-top-clause-err : goal.returns-in_err-top-clause-err
+returns-in_err-top-clause-err c =
     let cases : MatchResult c.read_field-read.result (λ y. c.map_err.result ≡ Ok y) (λ e. IsErrAnd c.map_err.result (IsUnder (step.Item c.loop-index.index-counter) e)) = search rules in
-    error_made _ _ _ _ _ _ _ cases c.in_err-field.was c.read_field-read.ensures.err c.from_residual.ensures.1
+    error_made _ _ _ _ _ _ _ cases c.in_err-top.was c.read_field-read.ensures.err c.from_residual.ensures.1
     (λ _ told under. tells_item_at TopFault _ _ _ _ _ told (omega arith) c.index-values-index.is under)
 
 pub loop-index-preserved : goal.loop-index-preserved
 loop-index-preserved c =
-    let field = value_kept _ _ c.read_field-read.result c.map_err.result c.in_ok-field.field c.map_err.ensures.cases c.in_ok-field.was c.read_field-read.ensures.ok in
-    rw (c.in_ok-push.ensures.ok, fields_of-push) (each_pushed ReadsField _ _ _ _ _ c.loop-index.invariant (omega arith) c.index-values-index.is field)
+    let field = value_kept _ _ c.read_field-read.result c.map_err.result c.in_ok-top.top c.map_err.ensures.cases c.in_ok-top.was c.read_field-read.ensures.ok in
+    let encoding = value_kept _ _ c.read_field-read.result c.map_err.result c.in_ok-top.top c.map_err.ensures.cases c.in_ok-top.was c.read_field-read.ensures.encoding in (
+      rw (c.in_ok-push.ensures.ok, fields_of-push) (each_pushed ReadsField _ _ _ _ _ c.loop-index.invariant.0 (omega arith) c.index-values-index.is field),
+      rw (c.in_ok-push-2.ensures.ok, map-append (option_map parts_of) c.loop-index.encodings.items (c.in_ok-top.top.encoding ∷ []))
+          (each_pushed HasEncoding _ _ _ _ _ c.loop-index.invariant.1 (omega arith) c.index-values-index.is encoding),
+    )
 
 pub returns-clause-ok : goal.returns-clause-ok
-returns-clause-ok c = each_done _ _ _ _ c.loop-index.invariant (omega arith)
+returns-clause-ok c = each_done _ _ _ _ c.loop-index.invariant.0 (omega arith)
+
+pub returns-clause-encodings : goal.returns-clause-encodings
+returns-clause-encodings c = each_done _ _ _ _ c.loop-index.invariant.1 (omega arith)

@@ -1,8 +1,22 @@
+use Rattle.std.proofs.Common.{subst, sym}
+use Rattle.serde_json.specs.View.{items_view, view}
+use Rattle.arrow_json.specs.JsonFields.{ReadsSchema}
 use Rattle.arrow_json.proofs.JsonSchemas.{schema_fault-read}
 use Rattle.json_places.proofs.JsonResults.{value_kept}
 use Rattle.arrow_json.proofs.schema.read_schema.Goals as goal
 
-pub unreachable-requires : goal.unreachable-requires
-unreachable-requires c =
-    let lawful = schema_fault-read _ _ (value_kept _ _ c.read_fields-read.result c.map_err.result c.in_ok-fields.fields c.map_err.ensures.cases c.in_ok-fields.was c.read_fields-read.ensures.ok) in
-    cc (lawful, c.in-Err.ensures.err)
+pub share_schema-requires : goal.share_schema-requires
+share_schema-requires c =
+    schema_fault-read _ _ (value_kept _ _ c.read_fields-read.result c.map_err.result c.in_ok-top.top c.map_err.ensures.cases c.in_ok-top.was c.read_fields-read.ensures.ok)
+
+pub returns-clause-ok : goal.returns-clause-ok
+returns-clause-ok c =
+    let each = value_kept _ _ c.read_fields-read.result c.map_err.result c.in_ok-top.top c.map_err.ensures.cases c.in_ok-top.was c.read_fields-read.ensures.ok in
+    subst (ReadsSchema (view c.args.schema.now)) (sym c.in_ok-shared.ensures.ok) record { fields = (items_view c.in_ok-values.values.now, c.in_ok-values.ensures.ok, each) }
+
+pub returns-clause-encodings : goal.returns-clause-encodings
+returns-clause-encodings c = record {
+  fields = items_view c.in_ok-values.values.now;
+  listed = c.in_ok-values.ensures.ok;
+  each = value_kept _ _ c.read_fields-read.result c.map_err.result c.in_ok-top.top c.map_err.ensures.cases c.in_ok-top.was c.read_fields-read.ensures.encodings;
+}

@@ -1,19 +1,15 @@
 use mir.Syntax.{named}
 use denote.Param.Send.{IsSync, param_send, shr_send}
 use denote.Ref.{ShrRef}
-use Rattle.shared.specs.contracts.shown.Shown as shown
 use Rattle.shared.specs.contracts.shown.ShownAbsorb.TheImpl as absorbs
 use Rattle.table.specs.contracts.version.Version as version
-use Rattle.loads.proofs.PublisherLemmas.{handle-send, shown-send, shown-sync}
+use Rattle.shared.proofs.PublisherLemmas.{publisher-send}
 use Rattle.arrowtab.proofs.together.load_under.Goals as goal
 
 pub load_by-requires-send-P : goal.load_by-requires-send-P
 load_by-requires-send-P g c κs within =
     let wait : IsSync g.row.W = record { shared = c.type_bounds.sync-W.shared } in
     let reference = shr_send (named 9) κs.1.1.1.1.1.1.1.1.1.0 g.row.W wait in
-    let item = shown.the_row g.row.N g.N.Naming-1 g.N.Naming-2 in
-    let send = shown-send g.row.N g.N.Naming-1 g.N.Naming-2 in
-    let sync = shown-sync g.row.N g.N.Naming-1 g.N.Naming-2 in
     let all =
-    handle-send item item (ShrRef (named 9) κs.1.1.1.1.1.1.1.1.1.0 g.row.W) version.the_row (absorbs.ghosts g.row.N g.N.Naming-1 g.N.Naming-1-dict g.N.Naming-2 g.N.Naming-2-dict) send sync send reference in
+    publisher-send g.row.N g.N.Naming-1 g.N.Naming-2 (ShrRef (named 9) κs.1.1.1.1.1.1.1.1.1.0 g.row.W) version.the_row (absorbs.ghosts g.row.N g.N.Naming-1 g.N.Naming-1-dict g.N.Naming-2 g.N.Naming-2-dict) reference in
     record { owned = all.owned; leaving = (param_send 3 _ all).leaving }

@@ -1,11 +1,17 @@
 use Rattle.std.proofs.Common.{◌*ℤ◌}
-use Rattle.evaluate.proofs.OperatorLemmas.{results_made, results_stop, stopped}
+use Rattle.evaluate.proofs.OperatorLemmas.{given_rows, given_stop, given_values, results_fit, results_made, results_stop}
 use Rattle.evaluate.proofs.columns.product.Goals as goal
 
-pub returns-in_err-array-clause-err : goal.returns-in_err-array-clause-err
-returns-in_err-array-clause-err c =
-    stopped c.from_residual.result c.in_err-array.field-0.0 _ c.from_residual.ensures.1 (results_stop ◌*ℤ◌ c.args.a.now c.args.b.now c.in_err-array.field-0.0 c.requires.sorts c.requires.lengths c.in_err-array.ensures.err)
+pub values_of-requires : goal.values_of-requires
+values_of-requires c =
+    given_rows _ c.mul.result c.mul.ensures.err (λ e told. results_fit ◌*ℤ◌ c.args.a.now c.args.b.now e c.requires.sorts c.requires.lengths told)
 
 pub returns-clause-ok : goal.returns-clause-ok
 returns-clause-ok c =
-    results_made ◌*ℤ◌ c.args.a.now c.args.b.now c.in_ok-array.array c.requires.sorts c.requires.lengths c.in_ok-array.ensures.ok.0 c.in_ok-array.ensures.ok.1
+    given_values _ _ c.mul.result c.values_of.result c.values_of.ensures c.mul.ensures.ok
+    (λ r told. results_made ◌*ℤ◌ c.args.a.now c.args.b.now r c.requires.sorts c.requires.lengths told.0 told.1)
+
+pub returns-clause-err : goal.returns-clause-err
+returns-clause-err c =
+    given_stop _ _ c.mul.result c.values_of.result c.values_of.ensures c.mul.ensures.err
+    (λ e told. results_stop ◌*ℤ◌ c.args.a.now c.args.b.now e c.requires.sorts c.requires.lengths told)

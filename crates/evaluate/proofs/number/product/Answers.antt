@@ -1,15 +1,21 @@
 use Rattle.std.proofs.Common.{◌*ℤ◌}
 use Rattle.std.specs.Int.{w128}
 use Rattle.std.proofs.lemmas.Int.{to_z-of_z}
-use Rattle.evaluate.proofs.BesideLemmas.{behind_made, behind_stops}
-use Rattle.evaluate.proofs.OperatorLemmas.{stopped}
+use Rattle.evaluate.proofs.BesideLemmas.{behind_fits, behind_made, behind_stops}
+use Rattle.evaluate.proofs.OperatorLemmas.{given_rows, given_stop, given_values}
 use Rattle.evaluate.proofs.number.product.Goals as goal
 
-pub returns-in_err-array-clause-err : goal.returns-in_err-array-clause-err
-returns-in_err-array-clause-err c =
-    stopped c.from_residual.result c.in_err-array.field-0.0 _ c.from_residual.ensures.1
-    (behind_stops ◌*ℤ◌ c.args.column.now c.args.number _ (to_z-of_z w128 c.args.number c.ranges.number) c.requires.has c.in_err-array.field-0.0 c.in_err-array.ensures.err)
+pub values_of-requires : goal.values_of-requires
+values_of-requires c =
+    given_rows _ c.mul_number.result c.mul_number.ensures.err
+    (λ e told. behind_fits ◌*ℤ◌ c.args.column.now c.args.number _ (to_z-of_z w128 c.args.number c.ranges.number) c.requires.has e told)
 
 pub returns-clause-ok : goal.returns-clause-ok
 returns-clause-ok c =
-    behind_made ◌*ℤ◌ c.args.column.now c.args.number _ (to_z-of_z w128 c.args.number c.ranges.number) c.requires.has c.in_ok-array.array c.in_ok-array.ensures.ok.0 c.in_ok-array.ensures.ok.1
+    given_values _ _ c.mul_number.result c.values_of.result c.values_of.ensures c.mul_number.ensures.ok
+    (λ r told. behind_made ◌*ℤ◌ c.args.column.now c.args.number _ (to_z-of_z w128 c.args.number c.ranges.number) c.requires.has r told.0 told.1)
+
+pub returns-clause-err : goal.returns-clause-err
+returns-clause-err c =
+    given_stop _ _ c.mul_number.result c.values_of.result c.values_of.ensures c.mul_number.ensures.err
+    (λ e told. behind_stops ◌*ℤ◌ c.args.column.now c.args.number _ (to_z-of_z w128 c.args.number c.ranges.number) c.requires.has e told)

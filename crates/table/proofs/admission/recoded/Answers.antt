@@ -1,6 +1,6 @@
 use Rattle.std.proofs.Common.{◌∙◌, List, All, length, ap, subst, sym, map, option_map}
 use Rattle.std.specs.Arc.{arc_value}
-use Rattle.std.specs.List.{AllZip, zip}
+use Rattle.std.specs.List.{AllZip}
 use Rattle.std.specs.declared.alloc.Global.{Global}
 use Rattle.std.specs.declared.vec.Vec.{Vec}
 use Rattle.arrays.specs.Batch.{Batch, batch_fault}
@@ -11,10 +11,9 @@ use Rattle.group.specs.declared.stats.ColumnStats.{ColumnStats}
 use Rattle.table.specs.Cause.{batch_cause}
 use Rattle.table.specs.Counted.{AreJoined}
 use Rattle.table.specs.Held.{show}
-use Rattle.table.specs.Made.{copied}
-use Rattle.table.specs.Recoded.{full_cause, stored_seen}
+use Rattle.table.specs.Recoded.{full_cause}
 use Rattle.table.proofs.KeptLemmas.{IsFew}
-use Rattle.table.proofs.ReadyLemmas.{some-none, told, full-batch, pools-count, pools-dictionaries, pools-grown, ready, stats-count, stats-few, stored-lawful}
+use Rattle.table.proofs.ReadyLemmas.{told, full-batch, pools-count, pools-dictionaries, pools-grown, ready, stats-count, stats-few, stored-lawful}
 use Rattle.table.proofs.admission.recoded.Goals as goal
 
 pub stored_columns-requires-clause-count : goal.stored_columns-requires-clause-count
@@ -30,9 +29,6 @@ stored_columns-requires-clause-dictionaries c =
     (subst (All (λ (d : Seen). All (IsItemOf d.kind) d.items)) c.columns.ensures.value c.tell_all.ensures)
     c.args.pools.now.items c.requires.pools c.columns-2.result.now c.columns-2.ensures.value
 
-pub stored_columns-requires-clause-copies : goal.stored_columns-requires-clause-copies
-stored_columns-requires-clause-copies c = c.requires.made.copies ∙ ap (λ (l : List Seen). map copied l) (sym c.columns-2.ensures.value)
-
 pub returns-in_err-columns-clause-err : goal.returns-in_err-columns-clause-err
 returns-in_err-columns-clause-err c =
     told c.from_residual.result c.in_err-columns.field-0.0 (full_cause c.args.pools.now.items c.columns-2.result.now)
@@ -47,7 +43,7 @@ joined_all-requires-clause-count c =
     ∙ stats-count c.args.held.now c.args.batch.now c.requires.held c.requires.allowed c.columns.ensures.lawful
     (subst (All (λ (d : Seen). All (IsItemOf d.kind) d.items)) c.columns.ensures.value c.tell_all.ensures)
     c.args.pools.now.items c.requires.pools c.columns-2.result.now c.columns-2.ensures.value
-    (arc_value c.args.made.batch_stats).items c.requires.made.statistics
+    (arc_value c.args.batch_stats).items c.requires.stats
     ∙ ap (λ (v : Vec ColumnStats Global). length v.items) (sym c.deref-2.ensures)
     ∙ ap (λ (l : List ColumnStats). length l) (sym c.deref-3.ensures.value)
 
@@ -58,37 +54,32 @@ joined_all-requires-clause-few c =
     (stats-few c.args.held.now c.args.batch.now c.requires.held c.requires.allowed c.columns.ensures.lawful
     (subst (All (λ (d : Seen). All (IsItemOf d.kind) d.items)) c.columns.ensures.value c.tell_all.ensures)
     c.args.pools.now.items c.requires.pools c.columns-2.result.now c.columns-2.ensures.value
-    (arc_value c.args.made.batch_stats).items c.requires.made.statistics))
+    (arc_value c.args.batch_stats).items c.requires.stats))
 
-pub unreachable-requires : goal.unreachable-requires
-unreachable-requires c =
-    absurd
-    (some-none
-    (batch_fault (arc_value c.args.held.now.schema) c.args.batch.now.rows (map stored_seen (zip c.args.pools.now.items c.columns-2.result.now)))
-    c.in_default.field-0
-    (ap (λ (l : List Seen). batch_fault (arc_value c.args.held.now.schema) c.args.batch.now.rows l) (sym c.in_ok-columns.ensures.columns)
-    ∙ ap (λ n. batch_fault (arc_value c.args.held.now.schema) n c.in_ok-columns.field-0.columns.items) (sym c.rows.ensures)
-    ∙ ap (λ (f : List FieldShape). batch_fault f c.rows.result c.in_ok-columns.field-0.columns.items) (sym (c.in_ok-schema.ensures ∙ c.deref-6.ensures))
-    ∙ c.in_default.ensures.err)
-    (stored-lawful c.args.held.now c.args.batch.now c.requires.held c.requires.allowed c.columns.ensures.lawful
+pub under-batch-requires : goal.under-batch-requires
+under-batch-requires c =
+    let columns = c.in_ok-columns.field-0.columns.items in
+    ap (λ (f : List FieldShape). batch_fault f c.rows.result columns) c.in_ok-clone.ensures.cases
+    ∙ ap (λ n. batch_fault (arc_value c.args.held.now.schema) n columns) c.rows.ensures
+    ∙ ap (λ (l : List Seen). batch_fault (arc_value c.args.held.now.schema) c.args.batch.now.rows l) c.in_ok-columns.ensures.columns
+    ∙ stored-lawful c.args.held.now c.args.batch.now c.requires.held c.requires.allowed c.columns.ensures.lawful
     (subst (All (λ (d : Seen). All (IsItemOf d.kind) d.items)) c.columns.ensures.value c.tell_all.ensures)
-    c.args.pools.now.items c.requires.pools c.columns-2.result.now c.columns-2.ensures.value))
+    c.args.pools.now.items c.requires.pools c.columns-2.result.now c.columns-2.ensures.value
 
 pub returns-clause-ok : goal.returns-clause-ok
 returns-clause-ok c =
-    let made = c.in-Ok.ensures.ok in
-    let batch = c.in_ok-new.ensures.ok in
+    let batch = c.in_ok-new.ensures.ok ∙ c.under-batch.ensures in
     ready c.args.held.now c.args.batch.now c.requires.held c.requires.allowed c.columns.ensures.lawful
     (subst (All (λ (d : Seen). All (IsItemOf d.kind) d.items)) c.columns.ensures.value c.tell_all.ensures)
     c.args.pools.now.items c.requires.pools c.columns-2.result.now c.columns-2.ensures.value
-    (record { batch = c.in_ok-new.field-0; batch_stats = c.args.made.batch_stats; stats = c.in_ok-new-2.field-0; dictionaries = c.in_ok-columns.field-0.dictionaries })
+    (record { batch = c.in_ok-new.field-0; batch_stats = c.args.batch_stats; stats = c.in_ok-new-2.field-0; dictionaries = c.in_ok-columns.field-0.dictionaries })
     c.in_ok-columns.ensures.fits
-    (ap (λ (b : Batch). b.fields) batch ∙ made.0 ∙ c.in_ok-schema.ensures ∙ c.deref-6.ensures)
-    (ap (λ (b : Batch). b.rows) batch ∙ made.1 ∙ c.rows.ensures)
-    (ap (λ (b : Batch). b.columns) batch ∙ made.2 ∙ c.in_ok-columns.ensures.columns)
+    (ap (λ (b : Batch). b.fields) batch ∙ c.in_ok-clone.ensures.cases)
+    (ap (λ (b : Batch). b.rows) batch ∙ c.rows.ensures)
+    (ap (λ (b : Batch). b.columns) batch ∙ c.in_ok-columns.ensures.columns)
     c.in_ok-columns.ensures.dictionaries
-    c.requires.made.statistics
-    (subst (λ (v : Vec ColumnStats Global). AreJoined (arc_value c.args.held.now.stats).items (arc_value c.args.made.batch_stats).items v.items) (sym c.in_ok-new-2.ensures.ok)
+    c.requires.stats
+    (subst (λ (v : Vec ColumnStats Global). AreJoined (arc_value c.args.held.now.stats).items (arc_value c.args.batch_stats).items v.items) (sym c.in_ok-new-2.ensures.ok)
     (subst (λ (l : List ColumnStats). AreJoined (arc_value c.args.held.now.stats).items l c.in_ok-stats.stats.items) (c.deref-5.ensures.value ∙ ap (λ (v : Vec ColumnStats Global). v.items) c.deref-4.ensures)
     (subst (λ (l : List ColumnStats). AreJoined l c.deref-5.result.now c.in_ok-stats.stats.items)
     (c.deref-3.ensures.value ∙ ap (λ (v : Vec ColumnStats Global). v.items) c.deref-2.ensures) c.in_ok-stats.ensures)))

@@ -19,7 +19,7 @@ part_of-requires c =
     let here =
     lies h c.requires k c.deref.result.now entries (record { worker = 0; rows = 0 }) c.loop-entry.place p c.index.result.now c.deref.ensures.value c.deref-entry-items.ensures.value
     c.loop-entry-test.true c.loop-entry.invariant.2 found.same found.place found.within found.left c.index.ensures in
-    here.fits
+    record { fields = here.under.0; within = here.fits }
 
 pub overflow_add-place : goal.overflow_add-place
 overflow_add-place c =

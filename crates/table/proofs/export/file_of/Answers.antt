@@ -13,8 +13,8 @@ use Rattle.table.proofs.export.file_of.Goals as goal
 pub new-requires : goal.new-requires
 new-requires c =
     let batches = c.in_ok-batches.batches.items in
-    are-batches c.in_ok-copy.field-0 batches
-    (subst (λ (f : List FieldShape). All (λ (b : Shared). IsUnder f (arc_value b)) batches) (sym (c.in_ok-copy.ensures ∙ c.deref.ensures)) c.in_ok-batches.ensures.under)
+    are-batches (arc_value c.in_ok-clone.field-0) batches
+    (subst (λ (f : List FieldShape). All (λ (b : Shared). IsUnder f (arc_value b)) batches) (sym c.in_ok-clone.ensures.cases) c.in_ok-batches.ensures.under)
 
 pub returns-clause-tables : goal.returns-clause-tables
 returns-clause-tables c =
@@ -26,8 +26,8 @@ pub returns-clause-under : goal.returns-clause-under
 returns-clause-under c =
     let batches = c.in_ok-batches.batches.items in
     subst (λ (f : File). AllByRecursion (λ (b : Batch). b.fields ≡ f.fields) f.batches) (sym c.new.ensures)
-    (are-under c.in_ok-copy.field-0 batches
-    (subst (λ (f : List FieldShape). All (λ (b : Shared). IsUnder f (arc_value b)) batches) (sym (c.in_ok-copy.ensures ∙ c.deref.ensures)) c.in_ok-batches.ensures.under))
+    (are-under (arc_value c.in_ok-clone.field-0) batches
+    (subst (λ (f : List FieldShape). All (λ (b : Shared). IsUnder f (arc_value b)) batches) (sym c.in_ok-clone.ensures.cases) c.in_ok-batches.ensures.under))
 
 pub returns-clause-lawful : goal.returns-clause-lawful
 returns-clause-lawful c =

@@ -10,13 +10,13 @@ use Rattle.std.proofs.Crossing.{crosses}
 use Rattle.std.proofs.sync.Mutex.TheSendSync as mutex
 use Rattle.std.proofs.sync.atomic.AtomicU64.TheSendSync as word
 use Rattle.std.specs.declared.sync.ledger.Ledger as ledger
-use Rattle.answers.proofs.SendingLemmas.{batch-sync}
+use Rattle.arrays.proofs.SendingLemmas.{batch-sync}
 use Rattle.test_loads.specs.contracts.hands.Hand as hand
 use Rattle.test_loads.specs.contracts.looking_on.Soaking as soaking
 use Rattle.histories.proofs.front.Front.TheSendSync as front
 use Rattle.histories.specs.declared.naming.Naming as names
-use Rattle.loads.proofs.PublisherLemmas.{reader-send}
-use Rattle.loads.proofs.SendingLemmas.{table-sync}
+use Rattle.shared.proofs.PublisherLemmas.{reader-send}
+use Rattle.shared.proofs.SendingLemmas.{table-sync}
 use Rattle.shared.proofs.worker.Worker.TheSendSync as worker
 use Rattle.shared.specs.contracts.outcome.Receipt as receipt
 use Rattle.shared.specs.contracts.shared_table.SharedTable as table

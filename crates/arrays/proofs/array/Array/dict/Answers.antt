@@ -1,23 +1,22 @@
-use Rattle.std.proofs.Common.{◌∙◌, map, None, Some, option_map, ap}
+use Rattle.std.proofs.Common.{◌≡◌, ◌∙◌, map, option_map, ap, subst, sym, Some}
 use Rattle.std.specs.Arc.{arc_value}
-use Rattle.types.specs.Kind.{kind_of}
-use Rattle.layout.specs.Reading.{reading, read_parts}
+use Rattle.std.specs.Prelude.{None}
+use Rattle.types.specs.Kind.{dict, kind_of}
+use Rattle.layout.specs.Reading.{reading}
 use Rattle.layout.specs.Checked.{checked_texts}
-use Rattle.arrays.proofs.DictionaryLemmas.{kind_of-Dict, MakesDict-array}
+use Rattle.arrays.specs.Array.{kind_with, words_with}
+use Rattle.arrays.specs.Parts.{read_alone}
+use Rattle.arrays.proofs.DictionaryLemmas.{MakesDict-array}
 use Rattle.arrays.proofs.array.Array.dict.Goals as goal
 
 pub invariant_of-result : goal.invariant_of-result
 invariant_of-result c =
     let a = c.codes.inside in
-    let words = arc_value c.args.dictionary in
-    let children = map reading a.children.items in
-    ap (λ k. (read_parts k a.length None a.buffers.items children (Some (checked_texts words))).fault) kind_of-Dict
-    ∙ (MakesDict-array (kind_of a.ty) a.length a.buffers.items children (option_map checked_texts (option_map arc_value a.words)) c.args.codes words c.codes.invariant c.codes.view_is c.requires.numbers c.requires.codes).lawful
+    let p = arc_value a.parts in
+    subst (λ w. (read_alone dict p (Some w)).fault ≡ None) (sym c.of.ensures) (MakesDict-array (kind_with (kind_of p.ty) a.encoding) p.length p.buffers.items (map reading p.children.items) (option_map checked_texts (words_with a.encoding)) c.args.codes (arc_value c.args.dictionary) c.codes.invariant c.codes.view_is c.requires.numbers c.requires.codes).lawful
 
 pub returns : goal.returns
 returns c =
     let a = c.codes.inside in
-    let words = arc_value c.args.dictionary in
-    let children = map reading a.children.items in
-    ap (λ k. (read_parts k a.length None a.buffers.items children (Some (checked_texts words))).seen) kind_of-Dict
-    ∙ (MakesDict-array (kind_of a.ty) a.length a.buffers.items children (option_map checked_texts (option_map arc_value a.words)) c.args.codes words c.codes.invariant c.codes.view_is c.requires.numbers c.requires.codes).shows
+    let p = arc_value a.parts in
+    ap (λ w. (read_alone dict p (Some w)).seen) c.of.ensures ∙ (MakesDict-array (kind_with (kind_of p.ty) a.encoding) p.length p.buffers.items (map reading p.children.items) (option_map checked_texts (words_with a.encoding)) c.args.codes (arc_value c.args.dictionary) c.codes.invariant c.codes.view_is c.requires.numbers c.requires.codes).shows

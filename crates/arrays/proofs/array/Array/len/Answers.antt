@@ -1,13 +1,8 @@
-use Rattle.std.proofs.Common.{◌∙◌, map, length, None, option_map, ap, sym}
-use Rattle.std.specs.Arc.{arc_value}
-use Rattle.types.specs.Kind.{kind_of}
+use Rattle.std.proofs.Common.{◌∙◌, length, ap, sym}
 use Rattle.layout.specs.Seen.{Seen}
-use Rattle.layout.specs.Reading.{reading}
-use Rattle.layout.specs.Checked.{checked_texts}
-use Rattle.layout.proofs.SeenLemmas.{length-items}
+use Rattle.arrays.specs.declared.array.parts.Parts.{Parts}
+use Rattle.arrays.proofs.PartsLemmas.{length-array}
 use Rattle.arrays.proofs.array.Array.len.Goals as goal
 
 pub returns : goal.returns
-returns c =
-    let a = c.self.inside in
-    sym (length-items (kind_of a.ty) a.length None a.buffers.items (map reading a.children.items) (option_map checked_texts (option_map arc_value a.words))) ∙ ap (λ (s : Seen). length s.items) c.self.view_is
+returns c = ap (λ (p : Parts). p.length) c.deref.ensures ∙ sym (length-array c.self.inside) ∙ ap (λ (s : Seen). length s.items) c.self.view_is

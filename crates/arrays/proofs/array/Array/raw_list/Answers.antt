@@ -11,5 +11,5 @@ pub returns-clause-own : goal.returns-clause-own
 returns-clause-own c =
     let is_list = kind_of-List c.in_ok-new.field-0 ∙ ap (λ (f : Field). kind.list (kind_of f.ty)) c.in_ok-new.ensures.ok in
     own_over record { ty = types.List c.in_ok-new.field-0; length = c.from.result; null_count = None; buffers = c.in_ok-vec.field-0; children = c.in_ok-vec-2.field-0; dictionary = None }
-    c.into_raw.result (kind_of c.args.item.ty) c.args.len c.args.validity c.args.offsets c.args.child is_list c.from.ensures refl c.in_ok-vec.ensures.items c.in_ok-vec-2.ensures.items
-    refl c.into_raw.ensures
+    c.in_ok-into_raw.field-0 (kind_of c.args.item.ty) c.args.len c.args.validity c.args.offsets c.args.child is_list c.from.ensures refl c.in_ok-vec.ensures.items c.in_ok-vec-2.ensures.items
+    refl c.in_ok-into_raw.ensures

@@ -8,6 +8,6 @@ use Rattle.arrays.proofs.words.Words.view.Goals as goal
 
 pub returns-clause-texts : goal.returns-clause-texts
 returns-clause-texts c =
-    let w = c.self.inside in
-    let is = c.whole.ensures ∙ ap (λ b. (read_parts utf8 w.length None b [] None).seen) c.deref.ensures.value in
-    is ∙ texts_seen w.length w.buffers.items ∙ ap (λ (s : Seen). texts_alone (entries_shown s)) (sym is)
+    let p = c.deref-parts.result.now in
+    let is = c.whole.ensures ∙ ap (λ b. (read_parts utf8 p.length None b [] None).seen) c.deref.ensures.value in
+    is ∙ texts_seen p.length p.buffers.items ∙ ap (λ (s : Seen). texts_alone (entries_shown s)) (sym is)

@@ -1,0 +1,13 @@
+-- A dictionary-encoded view by its codes.
+use Rattle.std.specs.Prelude.{◌≡◌, ℕ, Bool, List, Option, All, length, true}
+use Rattle.arrays.specs.Dictionary.{codes_of, dictionary_of, encoded, is_code}
+use Rattle.arrays.specs.Kind.{int32}
+use Rattle.arrays.specs.Seen.{Seen}
+use Rattle.arrays.specs.Values.{HasNumbers}
+
+-- The bytes have the view's codes, this is its validity, and each code names the entry that the slot shows.
+pub record HasCodes (bytes : List ℕ) (validity : Option (List Bool)) (s : Seen) : Type 0 where
+  pub numbers : HasNumbers int32 bytes (codes_of s)
+  pub validity_is : validity ≡ s.validity
+  pub items : s ≡ encoded (codes_of s) (dictionary_of s)
+  pub within : All (λ c. is_code (length s.entries.items) c ≡ true) s.codes
