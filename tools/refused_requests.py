@@ -1,0 +1,115 @@
+#!/usr/bin/env python3
+"""Refuses each request for memory that `arrowtab` makes, one in each run, and then all from one on.
+
+    tools/refused_requests.py PROGRAM
+
+Each run gives exactly the answer of a run that nothing was refused in, or `arrowtab: no memory` with status 1 and nothing on standard
+output. With several workers the runs are of one file, or print statistics, which don't depend on who was first. The last line is
+'N passed, M failed', of cases."""
+import concurrent.futures
+import os
+import shutil
+import subprocess
+import sys
+import tempfile
+
+TOP = os.path.dirname(os.path.dirname(os.path.abspath(__file__)))
+WANTED = (1, b"", b"arrowtab: no memory\n")
+# A run that takes longer waits for something that never comes.
+SECONDS = 20
+
+
+def example(name):
+    return os.path.join(TOP, "examples", name)
+
+
+def cases():
+    """The words of each case."""
+    query = '{"filter":{"op":"lt","args":[{"column":"people"},{"int":200000}]},"by":["city"],"aggs":[{"agg":"rows"},{"agg":"sum","column":"people"}]}'
+    yield ["--help"]
+    for name in ("primitive.json", "mixed.json", "lists.json", "dictionaries.json"):
+        yield ["stats", example(name)]
+        yield ["export", example(name)]
+    for workers in ("1", "2", "4"):
+        yield ["stats", "--workers", workers, example("mixed.json"), example("mixed.json")]
+        yield ["export", "--workers", workers, example("dictionaries.json")]
+        yield ["query", "--workers", workers, "--query", query, example("mixed.json")]
+
+
+def compiler():
+    """A compiler of C that is there: the system's, or the kit's, which has no headers."""
+    for name in ("cc", "clang", "gcc"):
+        if shutil.which(name):
+            return [name]
+    page = subprocess.run(["rt", "doc"], stdout=subprocess.PIPE, check=True, text=True).stdout.strip()
+    tools = os.path.join(os.path.dirname(page), "toolchain", "bin")
+    return [os.path.join(tools, "clang"), "-nostdinc", "-fuse-ld=lld", "-B", tools]
+
+
+def built(room):
+    library = os.path.join(room, "refusals.so")
+    source = os.path.join(TOP, "tools", "refusals.c")
+    subprocess.run([*compiler(), "-O2", "-shared", "-fPIC", "-nostdlib", "-fno-builtin", "-o", library, source], check=True)
+    return library
+
+
+class Sweep:
+    def __init__(self, program, library):
+        self.program, self.library = program, library
+
+    def run(self, words, number, on):
+        """What a run gives in which this request is refused, and whether it was."""
+        read, write = os.pipe()
+        os.set_blocking(read, False)
+        names = {"LD_PRELOAD": self.library, "REFUSED": str(number), "REFUSED_TOLD": str(write)}
+        if on:
+            names["REFUSED_ON"] = "1"
+        try:
+            done = subprocess.run([self.program, *words], env={**os.environ, **names}, pass_fds=[write], stdin=subprocess.DEVNULL,
+                                  stdout=subprocess.PIPE, stderr=subprocess.PIPE, timeout=SECONDS)
+            given = (done.returncode, done.stdout, done.stderr)
+        except subprocess.TimeoutExpired:
+            given = (None, b"", b"it didn't end")
+        finally:
+            os.close(write)
+            try:
+                met = os.read(read, 1) == b"!"
+            except BlockingIOError:
+                met = False
+            os.close(read)
+        return given, met
+
+    def fault(self, words, on):
+        """Why a case isn't as it should be, and how many requests were refused in it."""
+        answer, _ = self.run(words, 0, False)
+        number = 1
+        while True:
+            given, met = self.run(words, number, on)
+            if given not in (answer, WANTED):
+                return f"request {number}: {given[0]} {given[2][:200]!r} {given[1][:60]!r}", number
+            if not met:
+                return (f"request {number} was not met, and the answer is another" if given != answer else None), number - 1
+            number += 1
+
+
+def main():
+    program = os.path.abspath(sys.argv[1])
+    failed, refused, count = 0, 0, 0
+    with tempfile.TemporaryDirectory() as room, concurrent.futures.ThreadPoolExecutor(os.cpu_count()) as pool:
+        sweep = Sweep(program, built(room))
+        tasks = [(words, on, pool.submit(sweep.fault, words, on)) for words in cases() for on in (False, True)]
+        for words, on, task in tasks:
+            told, number = task.result()
+            count += 1
+            refused += number
+            if number == 0:
+                told = told or "nothing was refused: the library wasn't loaded"
+            if told:
+                failed += 1
+                print(f"{' '.join(words)}{', all from there on' if on else ''}: {told}", flush=True)
+    print(f"{refused} requests for memory were refused, one in each run or all from one on")
+    print(f"{count - failed} passed, {failed} failed")
+    return 1 if failed else 0
+
+
+sys.exit(main())
