@@ -16,7 +16,7 @@ const INT32: IntType = IntType {
     signed: true,
 };
 
-/// A dictionary-encoded view, whose codes are found once: `View::code_at` finds them at each row.
+/// A dictionary-encoded view, whose codes are found once and not at each row.
 #[derive(Drop)]
 pub(crate) struct CodedView<'a, 'b> {
     view: &'a View<'b>,

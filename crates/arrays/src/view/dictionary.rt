@@ -55,7 +55,7 @@ impl<'a> View<'a> {
     }
 
     /// The entry that slot `i` names, none where the slot isn't valid.
-    pub fn code_at(&self, i: usize) -> Option<usize>
+    pub(crate) fn code_at(&self, i: usize) -> Option<usize>
         requires dict { self.now.kind ≡ kind.dict }
         requires within { i < length self.now.items }
         ensures item { slice_get self.now.items i
