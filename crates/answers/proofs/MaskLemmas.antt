@@ -12,13 +12,10 @@ use Rattle.std.proofs.lemmas.Nat.Bits.{bit_at-trailing_zeros, bit_at-zero, bit_a
 use Rattle.colbits.specs.Bit.{bit_in}
 use Rattle.colbits.specs.Bitmap.{bit_of}
 use Rattle.colbits.proofs.WordLemmas.{ones-rest}
-use Rattle.arrays.specs.Item.{Item, null, int, boolean, text, list}
-use Rattle.arrays.specs.Seen.{Seen, valid_in}
+use Rattle.arrays.specs.Item.{Item, null, boolean}
+use Rattle.arrays.specs.Seen.{Seen, valid_at, valid_in}
 use Rattle.arrays.specs.Values.{HasBits}
-use Rattle.kernels.specs.Kleene.{truth_of}
-use Rattle.kernels.specs.Known.{knows_true}
-use Rattle.kernels.specs.Lift.{item_at}
-use Rattle.kernels.proofs.KleeneLemmas.{stored-true, stored-truth}
+use Rattle.arrays.specs.Slot.{item_at}
 use Rattle.answers.specs.Masks.{is_set, ones_of, set_rows}
 use Rattle.answers.specs.Runs.{is_true}
 
@@ -179,16 +176,20 @@ all-ones xs len w ones word is end before last = omega (arith, before, last, one
 
 -- ---- a view of truth values
 
-true_known : (x : Item) → knows_true (truth_of x) ≡ is_true x
-true_known null = refl
-true_known (int z) = refl
-true_known (boolean b) = refl
-true_known (text t) = refl
-true_known (list l) = refl
+set_item : (s : Seen) (bits : List Bool) (i : ℕ) → HasBits bits s → i < length s.items → is_set s.validity bits i ≡ is_true (item_at s.items i)
+set_item s bits i has below =
+    let slot : ℕ → Item = λ j. cond (valid_at s j) (boolean (bit_of bits j)) null in
+    sym (ap (λ items. is_true (item_at items i)) has.values
+    ∙ ap is_true (get_or-map-range_with_len slot 0 (length s.items) i i null below (zero-add i))
+    ∙ by (valid_at s i) (bit_of bits i))
+  where
+    by : (v b : Bool) → is_true (cond v (boolean b) null) ≡ (v && b)
+    by true b = refl
+    by false b = refl
 
 pub set_items : (s : Seen) (bits : List Bool) → HasBits bits s
     → set_rows s.validity bits ≡ filter (λ i. is_true (item_at s.items i)) (range_with_len 0 (length s.items))
 set_items s bits has =
     ap (λ n. filter (is_set s.validity bits) (range_with_len 0 n)) has.size
     ∙ filter-same (is_set s.validity bits) (λ i. is_true (item_at s.items i)) 0 (length s.items)
-    (λ i low high. stored-true s.validity bits i ∙ ap knows_true (sym (stored-truth s s.validity bits i has refl (omega (arith, high)))) ∙ true_known (item_at s.items i))
+    (λ i low high. set_item s bits i has (omega (arith, high)))

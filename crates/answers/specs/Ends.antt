@@ -2,7 +2,7 @@
 use Rattle.std.specs.Prelude.{ℕ, ℤ, pos, Bool, not, Option, Some, None, if◌then◌else◌}
 use Rattle.std.specs.Ordering.{int_eq, is_gt}
 use Rattle.arrays.specs.Item.{Item, int, is_null}
-use Rattle.kernels.specs.Order.{order}
+use Rattle.arrays.specs.Order.{order}
 use Rattle.query.specs.declared.expr.Agg.{Agg}
 use Rattle.query.specs.declared.expr.Agg.TheVariants as agg
 use Rattle.answers.specs.declared.end.End.{End}

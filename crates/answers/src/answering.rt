@@ -10,11 +10,11 @@ ghost use Rattle.answers.specs.Answers.{IsAnswer, IsRefusal, all_rows, first_fie
 
 use crate::common::common_texts;
 use crate::counting::count_all;
-use crate::gate::Gate;
 use crate::groups::Answer;
 use crate::piece::{Cuts, look_at_pieces};
 use crate::telling::tell_groups;
 use arrays::RecordBatch;
+use crews::Gate;
 use query::{Query, QueryFault};
 use std::alloc::Global;
 use std::sync::Arc;

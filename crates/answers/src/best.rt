@@ -2,7 +2,7 @@
 
 ghost use Rattle.std.specs.Prelude.{◌≡◌, IfOk, OnOk, not, option_map};
 ghost use Rattle.std.specs.Ordering.{is_gt};
-ghost use Rattle.kernels.specs.Order.{order};
+ghost use Rattle.arrays.specs.Order.{order};
 ghost use Rattle.group.specs.Summary.{scalar_item};
 ghost use Rattle.arrays.specs.Item.{is_null};
 ghost use Rattle.answers.specs.Answers.{item_in};

@@ -8,13 +8,13 @@ ghost use Rattle.types.specs.Shape.{FieldShape};
 ghost use Rattle.answers.specs.Answers.{all_rows, first_fields};
 ghost use Rattle.answers.specs.Pieces.{AreLooked, AreNeighbours, IsAsked};
 
-use crate::gate::Gate;
 use crate::grouping::Grouping;
 use crate::neighbours::{Looked, Neighbours};
 use crate::piece::{Cuts, look_at_one};
 use crate::side_by_side::do_both;
 use crate::text_set::TextSet;
 use arrays::RecordBatch;
+use crews::Gate;
 use query::{Query, QueryFault};
 use std::alloc::Global;
 use std::sync::Arc;

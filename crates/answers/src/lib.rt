@@ -14,7 +14,6 @@ mod counting;
 mod end;
 mod filter;
 mod four;
-pub mod gate;
 mod grouping;
 pub mod groups;
 mod items;
@@ -43,5 +42,5 @@ mod total;
 mod value;
 
 pub use answering::answer;
-pub use gate::{Gate, OpenGate};
+pub use crews::{Gate, OpenGate};
 pub use groups::{Answer, Group};

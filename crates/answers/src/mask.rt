@@ -4,7 +4,7 @@ ghost use Rattle.std.specs.Prelude.{◌≡◌, ◌+◌, ◌<◌, ◌^◌, ◌++�
 ghost use Rattle.std.specs.List.{range_with_len};
 ghost use Rattle.colbits.specs.Bit.{bit_in};
 ghost use Rattle.arrays.specs.Kind as kind;
-ghost use Rattle.kernels.specs.Lift.{item_at};
+ghost use Rattle.arrays.specs.Slot.{item_at};
 ghost use Rattle.answers.specs.Masks.{is_set, ones_of, set_rows};
 ghost use Rattle.answers.specs.Runs.{is_true};
 

@@ -11,13 +11,13 @@ ghost use Rattle.answers.specs.Answers.{all_rows, first_fields};
 ghost use Rattle.answers.specs.Pieces.{AreLooked, HasRun, IsAsked, IsPieceRefusal, between, cut_at};
 
 use crate::four::look_at_four;
-use crate::gate::Gate;
 use crate::grouping::Grouping;
 use crate::neighbours::Neighbours;
 use crate::run::add_part;
 use crate::shares::back_of;
 use crate::text_set::TextSet;
 use arrays::RecordBatch;
+use crews::Gate;
 use evaluate::stop::Stop;
 use query::{Query, QueryFault};
 use std::alloc::Global;

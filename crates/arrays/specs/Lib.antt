@@ -15,6 +15,7 @@ pub use Rattle.layout.specs.Reading
 pub use Rattle.layout.specs.Seen
 pub mod Values
 pub mod Slot
+pub mod Order
 pub mod BatchSchema
 pub mod Batch
 pub mod File

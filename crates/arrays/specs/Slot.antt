@@ -5,6 +5,10 @@ use Rattle.layout.specs.Item as item
 use Rattle.layout.specs.Item.{Item, null, is_null, list_of}
 use Rattle.layout.specs.Seen.{Seen}
 
+-- The item at a place of a column.
+abbrev pub item_at : List Item → ℕ → Item
+item_at column i = slice_index_or column i null
+
 -- A number.
 abbrev pub item_of : Option ℤ → Item
 item_of None = null
@@ -26,7 +30,7 @@ item_of_list (Some s) = item.list (list_of s.items)
 
 -- Whether slot i holds an item: of a dictionary-encoded column, its code may be valid and name an entry that is null.
 abbrev pub holds_at : Seen → ℕ → Bool
-holds_at s i = not (is_null (slice_index_or s.items i null))
+holds_at s i = not (is_null (item_at s.items i))
 
 -- Whether the items are numbers.
 abbrev pub is_int : Kind → Bool

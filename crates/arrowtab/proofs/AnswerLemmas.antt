@@ -19,13 +19,12 @@ use Rattle.query.specs.Resolved.{named}
 use Rattle.query.specs.declared.fault.QueryFault.{QueryFault}
 use Rattle.table.specs.History.{History}
 use Rattle.table.specs.declared.refusal.Refusal.{Refusal}
-use Rattle.arrowtab.specs.Alone.{fields_for}
 use Rattle.arrowtab.specs.Explained.{Explains, ExplainsFiles}
 use Rattle.arrowtab.specs.Loaded.{FileBatch, IsLoaded, IsStopped, batches_of}
 use Rattle.arrowtab.specs.Output.{Prints, PrintsNothing}
 use Rattle.arrowtab.specs.Run.{Answers, AreRead, Inputs, Refuses, RefusesQuery, table_fields}
 use Rattle.arrowtab.specs.Wanted.{IsUnread, IsWanted, PrintsWanted, RefusesWanted}
-use Rattle.arrowtab.specs.Worked.{IsRefusedOver, Shows, StopsWanted, batch_of, listed}
+use Rattle.arrowtab.specs.Worked.{IsRefusedOver, Shows, StopsWanted, batch_of, fields_for, listed}
 use Rattle.arrowtab.specs.declared.run_fault.FileFault.TheVariants.{CannotRead, Json, Refused}
 use Rattle.arrowtab.specs.declared.run_fault.RunFault.{RunFault}
 use Rattle.arrowtab.specs.declared.run_fault.RunFault.TheVariants.{NoMemory, OfFile, QueryUnread, QueryRefused}

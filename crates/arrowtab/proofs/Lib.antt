@@ -1,10 +1,8 @@
 -- What the proofs of this crate share.
 mod ReportLemmas
-mod LoadLemmas
 mod ReadLemmas
 mod PlanLemmas
 mod WorkedLemmas
-mod AloneLemmas
 mod AnswerLemmas
 mod RunLemmas
 mod ExportLemmas
@@ -12,3 +10,4 @@ mod GroupLineLemmas
 mod QueryLemmas
 mod TogetherLemmas
 mod SettledLemmas
+mod OneLemmas

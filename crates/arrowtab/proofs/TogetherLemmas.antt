@@ -1,4 +1,4 @@
--- What several workers made of files, from what each of them shows.
+-- What workers made of files, from what each of them shows.
 use Rattle.std.proofs.Common.{◌≡◌, ◌≢◌, ◌∙◌, inl, inr, ℕ, zero, suc, ◌+◌, ◌%◌, ◌<◌, ◌≤◌, List, [], ◌∷◌, ◌++◌, Option, None, Some, IfSome, length, take, drop, get_or, slice_get, Result, Ok, Err, IfOk, Bool, true, false, ap, sym, refl, subst, arith, zero-add, add-zero}
 use Rattle.std.proofs.lemmas.List.{take_at}
 use Rattle.std.proofs.lemmas.List.Elements.{filter-append}
@@ -23,9 +23,8 @@ use Rattle.table.specs.Contents.{Contents}
 use Rattle.table.specs.History.{History, of}
 use Rattle.table.specs.declared.refusal.Refusal.{Refusal}
 use Rattle.table.specs.declared.refusal.Refusal.TheVariants as refusal
-use Rattle.arrowtab.specs.Alone.{fields_for}
 use Rattle.arrowtab.specs.Loaded.{IsLoaded, IsStopped}
-use Rattle.arrowtab.specs.Worked.{Holds, listed}
+use Rattle.arrowtab.specs.Worked.{Holds, fields_for, listed}
 use Rattle.arrowtab.specs.declared.run_fault.RunFault.{RunFault}
 use Rattle.arrowtab.proofs.PlanLemmas.{all_begun, by_recursion, each_planned, map_begun, order_begun, planned_front, same_test}
 use Rattle.arrowtab.proofs.WorkedLemmas.{loaded_of, stopped_of}

@@ -11,5 +11,4 @@ pub mod Told
 pub mod Run
 pub mod Explained
 pub mod Wanted
-pub mod Alone
 pub mod Worked

@@ -1,68 +1,74 @@
-//! The output of a job that one worker does, or why there is none.
+//! The output of a job, or why there is none.
 ghost use Rattle.std.specs.Prelude.{◌^◌, ◌-◌, ◌<◌, ◌≤◌, All, IfErr, IfOk, length, map, string_bytes};
 ghost use Rattle.arrowtab.specs.Explained.{Explains};
 ghost use Rattle.arrowtab.specs.Run.{Answers};
 ghost use Rattle.arrowtab.specs.Wanted.{IsUnprinted, PrintsWanted};
 ghost use Rattle.arrowtab.specs.Worked.{Shows, StopsWanted};
-ghost use Rattle.table.specs.Cause.{IsLegal};
 
 use crate::export::export_text;
 use crate::groups::groups_text;
-use crate::load::load;
 use crate::reading::read_files;
 use crate::report::stats_text;
 use crate::run_fault::RunFault;
+use crate::together::load_together;
 use crate::wanted::{Wanted, wanted_of};
 use arrays::File;
 use ends::Source;
-use job::Command;
+use job::Job;
 use std::alloc::Global;
+use std::sync::Wait;
 use std::thread::Threads;
 use table::Version;
 
-/// Reads the command's query, then all sources, one after the other, and makes the command's output for their files.
-pub(crate) fn answer<T: Threads + Sync, S: Source>(
+/// Reads the job's query, then all sources, one after the other, has the job's workers load their files, and makes the
+/// command's output.
+pub(crate) fn answer<W: Wait + Sync, T: Threads + Sync, S: Source>(
+    wait: &W,
     threads: &T,
     alloc: Global,
-    command: &Command,
+    job: &Job,
     sources: &mut [S],
 ) -> Result<String, RunFault>
     requires some { 0 < length sources.old }
+    requires worker { 1 ≤ job.now.workers }
+    requires few { job.now.workers ≤ 64 }
     requires room { All (λ s. S.failures s < 2 ^ 64 - 1) sources.old }
-    ensures ok { IfOk result (λ text. Answers command.now 1 (map S.remaining sources.old) (string_bytes text)) }
-    ensures err { IfErr result (Explains command.now 1 (map S.remaining sources.old) (map S.failures sources.old) (map S.failures sources.new)) }
+    ensures ok { IfOk result (λ text. Answers job.now.command job.now.workers (map S.remaining sources.old) (string_bytes text)) }
+    ensures err { IfErr result (Explains job.now.command job.now.workers (map S.remaining sources.old)
+        (map S.failures sources.old) (map S.failures sources.new)) }
 {
-    match wanted_of(alloc, command) {
+    match wanted_of(alloc, &job.command) {
         Ok(wanted) => match read_files(alloc, sources) {
-            Ok(files) => answer_files(threads, alloc, &wanted, files),
+            Ok(files) => answer_files(wait, threads, alloc, job.workers, &wanted, files),
             Err(fault) => Err(fault),
         },
         Err(fault) => Err(fault),
     }
 }
 
-/// What is wanted, for files.
-fn answer_files<T: Threads + Sync>(
+/// What is wanted, for files that so many workers load.
+fn answer_files<W: Wait + Sync, T: Threads + Sync>(
+    wait: &W,
     threads: &T,
     alloc: Global,
+    workers: u32,
     wanted: &Wanted,
     files: Vec<File>,
 ) -> Result<String, RunFault>
     requires some { 0 < length files.items }
-    ensures ok { IfOk result (λ text. Shows wanted.now 1 files.items (string_bytes text)) }
-    ensures err { IfErr result (StopsWanted wanted.now 1 files.items) }
+    requires worker { 1 ≤ workers }
+    requires few { workers ≤ 64 }
+    ensures ok { IfOk result (λ text. Shows wanted.now workers files.items (string_bytes text)) }
+    ensures err { IfErr result (StopsWanted wanted.now workers files.items) }
 {
-    match load(alloc, files) {
-        Ok(table) => {
-            let version = table.version()?;
-            output_of(threads, alloc, wanted, 1, &version)
-        }
+    match load_together(wait, threads, alloc, workers, files) {
+        Ok(version) => output_of(threads, alloc, wanted, workers, &version),
         Err(fault) => Err(fault),
     }
 }
 
 /// What is wanted, for a version of the table that so many workers have loaded. A query is answered in as many pieces.
-pub(crate) fn output_of<T: Threads + Sync>(
+fn output_of<T: Threads + Sync>(
     threads: &T,
     alloc: Global,
     wanted: &Wanted,
@@ -71,12 +77,9 @@ pub(crate) fn output_of<T: Threads + Sync>(
 ) -> Result<String, RunFault>
     requires some { 1 ≤ workers }
     requires few { workers ≤ 64 }
-    ensures legal { IsLegal version.now.fields version.now.history }
     ensures output { IfOk result (λ text. PrintsWanted wanted.now workers version.now.fields version.now.history (string_bytes text)) }
     ensures err { IfErr result (IsUnprinted wanted.now version.now.fields version.now.history) }
 {
-    // What a version holds is legal, as it says with the number of its rows.
-    let _rows = version.rows();
     match wanted {
         Wanted::Stats => Ok(stats_text(alloc, workers, version)?),
         Wanted::Export => Ok(export_text(alloc, version)?),

@@ -1,13 +1,10 @@
 //! The program over any sources and any two sinks.
-ghost use Rattle.std.specs.Prelude.{◌≡◌, ◌^◌, ◌-◌, ◌<◌, ◌≤◌, All, IfErr, IfOk, length, map, string_bytes};
-ghost use Rattle.arrowtab.specs.Explained.{Explains};
-ghost use Rattle.arrowtab.specs.Run.{Answers, Excuse, Wrote, WroteFront};
+ghost use Rattle.std.specs.Prelude.{◌≡◌, ◌^◌, ◌-◌, ◌<◌, ◌≤◌, All, length, map};
+ghost use Rattle.arrowtab.specs.Run.{Excuse, Wrote, WroteFront};
 ghost use Rattle.job.specs.Asked.{names_of};
 
 use crate::answer::answer;
-use crate::run_fault::RunFault;
 use crate::tell::tell;
-use crate::together::answer_together;
 use ends::{Sink, Source, tell_output, write_whole};
 use job::Job;
 use std::alloc::Global;
@@ -53,7 +50,7 @@ pub fn run<W: Wait + Sync, T: Threads + Sync, S: Source, O: Sink, E: Sink>(
         (O.failures out.old) (O.failures out.new) (E.failures err.old) (E.failures err.new)
         (E.taken err.old) (E.taken err.new) }
 {
-    match answer_job(wait, threads, alloc, job, sources) {
+    match answer(wait, threads, alloc, job, sources) {
         Ok(text) => match write_whole(out, text.as_bytes()) {
             Ok(()) => 0,
             Err(_) => {
@@ -65,28 +62,5 @@ pub fn run<W: Wait + Sync, T: Threads + Sync, S: Source, O: Sink, E: Sink>(
             tell(alloc, &job.names, &fault, err);
             1
         }
-    }
-}
-
-/// The output of the job, or why there is none. One worker takes no thread to load the files.
-fn answer_job<W: Wait + Sync, T: Threads + Sync, S: Source>(
-    wait: &W,
-    threads: &T,
-    alloc: Global,
-    job: &Job,
-    sources: &mut [S],
-) -> Result<String, RunFault>
-    requires some { 0 < length sources.old }
-    requires worker { 1 ≤ job.now.workers }
-    requires few { job.now.workers ≤ 64 }
-    requires room { All (λ s. S.failures s < 2 ^ 64 - 1) sources.old }
-    ensures ok { IfOk result (λ text. Answers job.now.command job.now.workers (map S.remaining sources.old) (string_bytes text)) }
-    ensures err { IfErr result (Explains job.now.command job.now.workers (map S.remaining sources.old)
-        (map S.failures sources.old) (map S.failures sources.new)) }
-{
-    if job.workers == 1 {
-        answer(threads, alloc, &job.command, sources)
-    } else {
-        answer_together(wait, threads, alloc, job.workers, &job.command, sources)
     }
 }

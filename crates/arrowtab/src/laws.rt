@@ -1,5 +1,6 @@
-//! What holds of all output.
-ghost use Rattle.std.specs.Prelude.{◌≡◌, ℕ, List};
+//! What holds of all histories to which files are loaded, and of what is printed of them.
+ghost use Rattle.std.specs.Prelude.{◌≡◌, ℕ, List, map};
+ghost use Rattle.std.specs.List.{flat_map};
 ghost use Rattle.arrays.specs.Shape.{FieldShape};
 ghost use Rattle.table.specs.History.{History};
 ghost use Rattle.arrowtab.specs.Loaded.{FileBatch, IsLoaded};
@@ -11,4 +12,12 @@ pub fn stats_are_of_the_files_alone()
     ensures { (workers : ℕ) (files : List (List FileBatch)) (fields : List FieldShape) (h k : History) →
         IsLoaded workers files fields h → IsLoaded workers files fields k
         → shown workers fields h ≡ shown workers fields k }
+{}
+
+/// There is one history to which one worker loads the files: all their batches, in order.
+pub fn one_worker_has_one_history()
+    ensures batches { (files : List (List FileBatch)) (fields : List FieldShape) (h : History) →
+        IsLoaded 1 files fields h → h ≡ map (λ b. (0, b.rows)) (flat_map (λ batches. batches) files) }
+    ensures one { (files : List (List FileBatch)) (fields : List FieldShape) (h k : History) →
+        IsLoaded 1 files fields h → IsLoaded 1 files fields k → h ≡ k }
 {}

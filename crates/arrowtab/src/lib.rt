@@ -8,7 +8,6 @@ mod group_lines;
 mod groups;
 mod invocation;
 pub mod laws;
-mod load;
 mod reading;
 pub mod refusal;
 mod report;

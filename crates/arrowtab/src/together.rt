@@ -1,23 +1,15 @@
-//! The output of a job that several workers do, or why there is none.
-ghost use Rattle.std.specs.Prelude.{◌≡◌, ◌^◌, ◌-◌, ◌<◌, ◌≤◌, All, IfErr, IfOk, length, map, string_bytes};
+//! The table of files that workers load together.
+ghost use Rattle.std.specs.Prelude.{◌≡◌, ◌<◌, ◌≤◌, All, IfErr, IfOk, length};
 ghost use Rattle.std.specs.Arc.{arc_value};
-ghost use Rattle.arrowtab.specs.Alone.{fields_for};
-ghost use Rattle.arrowtab.specs.Explained.{Explains};
-ghost use Rattle.arrowtab.specs.Run.{Answers};
-ghost use Rattle.arrowtab.specs.Worked.{Holds, Shows, StopsLoading, StopsWanted};
+ghost use Rattle.arrowtab.specs.Worked.{Holds, StopsLoading, fields_for};
 ghost use Rattle.shared.specs.Balance.{IsOfWorkers};
 ghost use Rattle.shared.specs.Hand.{AreNew, IsWhole};
 ghost use Rattle.shared.specs.Missing.{AllThere};
 ghost use Rattle.table.specs.Cause.{IsLegal};
 
-use crate::answer::output_of;
-use crate::reading::read_files;
 use crate::run_fault::{FileFault, RunFault};
-use crate::wanted::{Wanted, wanted_of};
 use answers::OpenGate;
 use arrays::File;
-use ends::Source;
-use job::Command;
 use loads::{LoadFault, load_all};
 use shared::{GatherCause, Naming, Pair, Publish, SharedTable, Shown, Worker, open};
 use std::alloc::Global;
@@ -27,56 +19,8 @@ use std::sync::{Arc, Wait};
 use std::thread::Threads;
 use table::Version;
 
-/// Reads the command's query, then all sources, one after the other, has so many workers load their files, and makes the
-/// command's output.
-pub(crate) fn answer_together<W: Wait + Sync, T: Threads + Sync, S: Source>(
-    wait: &W,
-    threads: &T,
-    alloc: Global,
-    workers: u32,
-    command: &Command,
-    sources: &mut [S],
-) -> Result<String, RunFault>
-    requires some { 0 < length sources.old }
-    requires room { All (λ s. S.failures s < 2 ^ 64 - 1) sources.old }
-    requires worker { 1 ≤ workers }
-    requires few { workers ≤ 64 }
-    ensures ok { IfOk result (λ text. Answers command.now workers (map S.remaining sources.old) (string_bytes text)) }
-    ensures err { IfErr result (Explains command.now workers (map S.remaining sources.old)
-        (map S.failures sources.old) (map S.failures sources.new)) }
-{
-    match wanted_of(alloc, command) {
-        Ok(wanted) => match read_files(alloc, sources) {
-            Ok(files) => answer_loaded(wait, threads, alloc, workers, &wanted, files),
-            Err(fault) => Err(fault),
-        },
-        Err(fault) => Err(fault),
-    }
-}
-
-/// What is wanted, for files that so many workers load.
-fn answer_loaded<W: Wait + Sync, T: Threads + Sync>(
-    wait: &W,
-    threads: &T,
-    alloc: Global,
-    workers: u32,
-    wanted: &Wanted,
-    files: Vec<File>,
-) -> Result<String, RunFault>
-    requires some { 0 < length files.items }
-    requires worker { 1 ≤ workers }
-    requires few { workers ≤ 64 }
-    ensures ok { IfOk result (λ text. Shows wanted.now workers files.items (string_bytes text)) }
-    ensures err { IfErr result (StopsWanted wanted.now workers files.items) }
-{
-    match load_together(wait, threads, alloc, workers, files) {
-        Ok(version) => output_of(threads, alloc, wanted, workers, &version),
-        Err(fault) => Err(fault),
-    }
-}
-
 /// The table of the files, which so many workers load at once: it has the first file's schema.
-fn load_together<W: Wait + Sync, T: Threads + Sync>(
+pub(crate) fn load_together<W: Wait + Sync, T: Threads + Sync>(
     wait: &W,
     threads: &T,
     alloc: Global,

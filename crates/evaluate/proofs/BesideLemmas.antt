@@ -18,7 +18,8 @@ use Rattle.arrays.specs.Shown.{shown}
 use Rattle.kernels.specs.Arithmetic.{arithmetic_fault, exact, operands_fault, results}
 use Rattle.kernels.specs.Beside.{fault_from, fault_with, has_number, number_beside, number_fault}
 use Rattle.kernels.specs.Fault.{IsKernelFault, type_fault}
-use Rattle.kernels.specs.Lift.{item_at, lifted}
+use Rattle.arrays.specs.Slot.{item_at}
+use Rattle.kernels.specs.Lift.{lifted}
 use Rattle.kernels.specs.Order.{compared, meets}
 use Rattle.kernels.specs.declared.comparison.CmpOp.{CmpOp}
 use Rattle.kernels.specs.declared.comparison.CmpOp.TheVariants as cmp

@@ -1,7 +1,7 @@
 -- What operators make of columns.
 use Rattle.std.proofs.Common.{◌≡◌, ◌∙◌, ℕ, ◌&&◌, ℤ, List, length, Bool, true, false, not, cond, eqb, is_some, replicate, zero-add, Option, Some, None, Result, Ok, Err, IfErr, IfOk, ap, sym, refl, subst, true≢false, eq-eqb, inl, inr}
 use Rattle.arrays.specs.Item.{Item, null, int, boolean, text, list, is_null}
-use Rattle.arrays.specs.Slot.{holds_at}
+use Rattle.arrays.specs.Slot.{holds_at, item_at}
 use Rattle.types.specs.Number.{is_of_type}
 use Rattle.types.specs.declared.int_type.IntType.{IntType}
 use Rattle.truths.specs.Truth.{truth_at, truths_of}
@@ -15,9 +15,10 @@ use Rattle.types.specs.Kind.{Kind, same_kind}
 use Rattle.kernels.specs.Arithmetic.{arithmetic_fault, exact, operands_fault, results}
 use Rattle.kernels.specs.Fault.{IsKernelFault}
 use Rattle.kernels.specs.Kleene.{conjunction, disjunction, negation, truth_fault, truths_fault}
-use Rattle.kernels.specs.Lift.{item_at, lifted}
+use Rattle.kernels.specs.Lift.{lifted}
 use Rattle.kernels.specs.Nulls.{nulls}
-use Rattle.kernels.specs.Order.{are_comparable, compared, comparison_fault, meets, order}
+use Rattle.arrays.specs.Order.{order}
+use Rattle.kernels.specs.Order.{are_comparable, compared, comparison_fault, meets}
 use Rattle.kernels.specs.declared.comparison.CmpOp.{CmpOp}
 use Rattle.kernels.specs.declared.comparison.CmpOp.TheVariants as cmp
 use Rattle.kernels.specs.declared.fault.KernelFault.{KernelFault}

@@ -16,7 +16,8 @@ use Rattle.arrays.specs.Seen.{Seen}
 use Rattle.arrays.specs.Shown.{shown}
 use Rattle.kernels.specs.Arithmetic.{are_one_int, arithmetic_fault, exact, first_bad, is_outside, operands_fault, results}
 use Rattle.kernels.specs.Fault.{IsKernelFault}
-use Rattle.kernels.specs.Lift.{at_each_place, item_at, lifted}
+use Rattle.arrays.specs.Slot.{item_at}
+use Rattle.kernels.specs.Lift.{at_each_place, lifted}
 use Rattle.kernels.specs.declared.fault.KernelFault.{KernelFault}
 use Rattle.kernels.specs.declared.fault.KernelFault.TheVariants.{LengthsDiffer, NoMemory, Overflow, TypesDiffer}
 use Rattle.query.specs.Sorts.{sort_of_kind}

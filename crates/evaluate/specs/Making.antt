@@ -3,7 +3,7 @@ use Rattle.std.specs.Prelude.{◌≡◌, ℕ, ◌<◌, Bool, true, false, length
 use Rattle.arrays.specs.Batch.{Batch}
 use Rattle.arrays.specs.Item.{Item, null}
 use Rattle.arrays.specs.Seen.{Seen}
-use Rattle.kernels.specs.Lift.{item_at}
+use Rattle.arrays.specs.Slot.{item_at}
 use Rattle.kernels.specs.declared.comparison.CmpOp.{CmpOp}
 use Rattle.kernels.specs.declared.comparison.CmpOp.TheVariants as cmp
 use Rattle.kernels.specs.declared.fault.KernelFault.{KernelFault}

@@ -4,7 +4,7 @@ use Rattle.arrays.specs.Batch.{Batch, Row, row_of}
 use Rattle.arrays.specs.Item as item
 use Rattle.arrays.specs.Item.{Item}
 use Rattle.arrays.specs.Seen.{Seen, part}
-use Rattle.kernels.specs.Lift.{item_at}
+use Rattle.arrays.specs.Slot.{item_at}
 use Rattle.query.specs.Checked.{checked}
 use Rattle.query.specs.Columns.{sort_at}
 use Rattle.query.specs.Sorts.{sort_of_kind}

@@ -8,7 +8,8 @@ use Rattle.types.specs.Shape.{FieldShape}
 use Rattle.kernels.specs.Arithmetic.{exact, is_outside}
 use Rattle.kernels.specs.Kleene.{and_known, or_known, truth_of}
 use Rattle.kernels.specs.Lift.{lifted}
-use Rattle.kernels.specs.Order.{meets, order}
+use Rattle.arrays.specs.Order.{order}
+use Rattle.kernels.specs.Order.{meets}
 use Rattle.kernels.specs.declared.comparison.CmpOp.{CmpOp}
 use Rattle.kernels.specs.declared.comparison.CmpOp.TheVariants as cmp
 use Rattle.query.specs.declared.expr.Op.{Op}

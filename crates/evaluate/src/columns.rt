@@ -1,7 +1,7 @@
 //! Operators over columns, place by place.
 
 ghost use Rattle.std.specs.Prelude.{◌≡◌, true, length, is_some, IfOk, IfErr};
-ghost use Rattle.kernels.specs.Lift.{item_at};
+ghost use Rattle.arrays.specs.Slot.{item_at};
 ghost use Rattle.query.specs.Sorts as sorts;
 ghost use Rattle.query.specs.Sorts.{sort_of_kind};
 ghost use Rattle.query.specs.declared.expr.Op.TheVariants as op;

@@ -3,7 +3,7 @@
 ghost use Rattle.std.specs.Prelude.{◌≡◌, true, is_some, if◌then◌else◌, length, Some, IfOk, IfErr};
 ghost use Rattle.arrays.specs.Item as item;
 ghost use Rattle.kernels.specs.Beside.{has_number};
-ghost use Rattle.kernels.specs.Lift.{item_at};
+ghost use Rattle.arrays.specs.Slot.{item_at};
 ghost use Rattle.query.specs.Sorts.{sort_of_kind, sort_of_two};
 ghost use Rattle.query.specs.declared.expr.Op.TheVariants as op;
 ghost use Rattle.query.specs.declared.sort.Sort.TheVariants as sort;

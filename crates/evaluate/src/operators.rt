@@ -2,7 +2,7 @@
 
 ghost use Rattle.std.specs.Prelude.{◌≡◌, ◌≤◌, true, false, is_some, length, IfOk, IfErr};
 ghost use Rattle.arrays.specs.Item as item;
-ghost use Rattle.kernels.specs.Lift.{item_at};
+ghost use Rattle.arrays.specs.Slot.{item_at};
 ghost use Rattle.query.specs.Sorts as sorts;
 ghost use Rattle.query.specs.declared.sort.Sort.TheVariants as sort;
 ghost use Rattle.query.specs.Sorts.{sort_of_kind, sort_of_one, sort_of_two};

@@ -2,9 +2,9 @@
 
 ghost use Rattle.std.specs.Prelude.{◌≡◌, ◌≤◌, ℕ, true, is_some, length, Some, IfOk, IfErr};
 ghost use Rattle.arrays.specs.Item as item;
-ghost use Rattle.arrays.specs.Slot.{holds_at, is_text};
-ghost use Rattle.kernels.specs.Lift.{item_at};
-ghost use Rattle.kernels.specs.Order.{meets, order};
+ghost use Rattle.arrays.specs.Slot.{holds_at, is_text, item_at};
+ghost use Rattle.arrays.specs.Order.{order};
+ghost use Rattle.kernels.specs.Order.{meets};
 ghost use Rattle.query.specs.Sorts.{sort_of_kind, sort_of_two};
 ghost use Rattle.query.specs.declared.sort.Sort.TheVariants as sort;
 ghost use Rattle.evaluate.specs.Value.{of_two};

@@ -12,7 +12,7 @@ use Rattle.std.specs.List.{filter_map}
 use Rattle.arrays.specs.Item.{Item, int, boolean, text}
 use Rattle.arrays.specs.Kind as kind
 use Rattle.arrays.specs.Kind.{Kind}
-use Rattle.kernels.specs.Order.{order}
+use Rattle.arrays.specs.Order.{order}
 use Rattle.group.specs.Bounds.{IsGreatestOf, IsLeastOf}
 use Rattle.group.specs.Stats.{greater, greatest_of, least_of, lesser, number_of, ordered}
 use Rattle.group.proofs.JoinLemmas.{are_bytes, are_numbers, are_truths, bytes_of_text, cond-item, pick, picks-first, picks-second, reduce-items, truth_of}

@@ -6,3 +6,4 @@ pub mod JoinLemmas
 pub mod NumberLemmas
 pub mod BoundLemmas
 pub mod SendingLemmas
+pub mod ColumnsLemmas

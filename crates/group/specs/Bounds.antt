@@ -3,7 +3,7 @@ use Rattle.std.specs.Prelude.{◌≡◌, List, false, All, Contains}
 use Rattle.std.specs.Ordering.{is_gt}
 use Rattle.arrays.specs.Item.{Item}
 use Rattle.arrays.specs.Kind.{Kind}
-use Rattle.kernels.specs.Order.{order}
+use Rattle.arrays.specs.Order.{order}
 use Rattle.group.specs.Stats.{ordered}
 
 -- The item is one of the column's values and behind none of them.

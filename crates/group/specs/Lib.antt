@@ -5,3 +5,4 @@ pub mod Tally
 pub mod Summary
 pub mod Joined
 pub mod Bounds
+pub mod Columns

@@ -5,7 +5,7 @@ use Rattle.std.specs.Ordering.{is_gt}
 use Rattle.arrays.specs.Kind as kind
 use Rattle.arrays.specs.Kind.{Kind}
 use Rattle.arrays.specs.Item.{Item, null, int, boolean, text, list, is_null}
-use Rattle.kernels.specs.Order.{order}
+use Rattle.arrays.specs.Order.{order}
 
 -- How many items are null: of a dictionary-encoded column also those whose entry is null.
 abbrev pub nulls_of : List Item → ℕ

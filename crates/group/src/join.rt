@@ -5,7 +5,7 @@ ghost use Rattle.std.specs.Option.{ForSome};
 ghost use Rattle.std.specs.Ordering.{is_gt};
 ghost use Rattle.arrays.specs.Item.{Item};
 ghost use Rattle.arrays.specs.Kind.{Kind};
-ghost use Rattle.kernels.specs.Order.{order};
+ghost use Rattle.arrays.specs.Order.{order};
 ghost use Rattle.group.specs.Joined.{better, both_sums};
 ghost use Rattle.group.specs.Stats.{greater, lesser};
 ghost use Rattle.group.specs.Summary.{AreStats, scalar_item};

@@ -1,6 +1,7 @@
 //! Statistics of columns.
 #![tactic(auto)]
 
+pub mod columns;
 mod copy;
 mod join;
 pub mod laws;
@@ -9,6 +10,7 @@ mod slots;
 pub mod stats;
 mod tally;
 
+pub use columns::{joined_all, stats_of_all};
 pub use join::joined;
 pub use slots::stats_of;
 pub use stats::{ColumnStats, Scalar};

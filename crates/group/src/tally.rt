@@ -4,7 +4,7 @@ ghost use Rattle.std.specs.Prelude.{◌≡◌, ◌+◌, ◌^◌, ◌<◌, ◌++�
 ghost use Rattle.std.specs.Ordering.{is_gt};
 ghost use Rattle.arrays.specs.Item.{Item, null};
 ghost use Rattle.arrays.specs.Kind.{Kind};
-ghost use Rattle.kernels.specs.Order.{order};
+ghost use Rattle.arrays.specs.Order.{order};
 ghost use Rattle.group.specs.Stats.{greater, is_ordered, lesser};
 ghost use Rattle.group.specs.Tally.{IsTally, chosen};
 

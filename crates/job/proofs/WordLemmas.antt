@@ -1,12 +1,12 @@
 -- What `clap` says of the words, at the program's command line.
-use Rattle.std.proofs.Common.{◌≡◌, ◌≢◌, ℕ, List, Bool, true, false, refl, inl, inr}
-use Rattle.std.specs.Prelude.{Option, None, Some}
-use Rattle.std.specs.Str.Parse.{digits_value, without_leading_plus}
+use Rattle.std.proofs.Common.{◌≡◌, ◌≢◌, ◌∙◌, ℕ, List, Bool, true, false, ap, refl, subst, sym, inl, inr}
+use Rattle.std.proofs.lemmas.Option.{same_Some}
+use Rattle.std.specs.Prelude.{Option, None, Some, option_map}
 use Rattle.clap.proofs.OnLiterals.{clap_on_literals}
-use Rattle.clap.specs.Words.{HasKind, IsAmong, Text, fault_of, is_simple_and_free, kind_of, takes}
+use Rattle.clap.specs.Words.{HasKind, IsAmong, Row, Text, fault_of, is_simple_and_free, kind_of, takes}
 use Rattle.clap.specs.declared.error.Error.{Error}
 use Rattle.clap.specs.declared.error.kind.ErrorKind.TheVariants.{OutOfMemory}
-use Rattle.job.specs.Asked.{IsRefusal}
+use Rattle.job.specs.Asked.{FindsNone, HasNoWorkers, HasWorkers, IsNumber, IsRefusal}
 use Rattle.job.specs.CommandLine.{arrowtab}
 
 -- `clap` has an exact function of the words for this command line
@@ -32,7 +32,12 @@ refused words error passes kinds other = record {
 }
 
 -- a text that is there, and whose number is known wherever it is
-pub number_there : (text : Option Text) (n : ℕ) → text ≢ None → ((t : Text) → text ≡ Some t → digits_value 10 (without_leading_plus t) ≡ n)
-    → (t : Text) × (text ≡ Some t) × (digits_value 10 (without_leading_plus t) ≡ n)
+pub number_there : (text : Option Text) (n : ℕ) → text ≢ None → ((t : Text) → text ≡ Some t → IsNumber t n) → (t : Text) × (text ≡ Some t) × IsNumber t n
 number_there None n there value = absurd (there refl)
 number_there (Some t) n there value = (t, refl, value t refl)
+
+-- a job that is found has a number of workers
+pub none_numbered : (found : Option (Text × List Row)) (rows : List Row) → Some rows ≡ option_map (λ (p : Text × List Row). p.1) found → HasNoWorkers rows → FindsNone found
+none_numbered found rows is none job finds ready =
+    let same : Some rows ≡ Some finds.rows = is ∙ ap (option_map (λ (p : Text × List Row). p.1)) finds.command in
+    none job.workers (subst (λ r. HasWorkers r job.workers) (sym (same_Some rows finds.rows same)) finds.workers) ready.worker ready.few

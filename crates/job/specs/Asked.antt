@@ -1,6 +1,6 @@
 -- Which job the words of the command line ask for, and why they ask for none. `clap` has functions of the words for both.
 use Rattle.std.specs.Prelude.{◌≡◌, ◌≢◌, ◌<◌, ◌≤◌, ℕ, List, [], length, map, Option, Some, false, ⊤, codes, string_bytes, String}
-use Rattle.std.specs.Str.Parse.{digits_value, without_leading_plus}
+use Rattle.std.specs.Str.Parse.{IsNumeral, digits_value, without_leading_plus}
 use Rattle.std.specs.declared.alloc.Global.{Global}
 use Rattle.clap.specs.Words.{IsAmong, Row, Text, all_of, fault_of, first_of, kind_of, one_of, subcommand_of, takes}
 use Rattle.clap.specs.declared.error.Error.{Error}
@@ -28,9 +28,13 @@ HasQuery rows (Query text) = first_of (codes "QUERY") rows ≡ Some (string_byte
 abbrev pub names_of : List (String Global) → List Text
 names_of names = map string_bytes names
 
--- The number of workers is the value of --workers, in decimal digits.
+-- The text is the number in decimal digits, with a plus before them or none.
+abbrev pub IsNumber : Text → ℕ → Type 0
+IsNumber text number = IsNumeral 10 (without_leading_plus text) × (digits_value 10 (without_leading_plus text) ≡ number)
+
+-- The number of workers is the value of --workers.
 abbrev pub HasWorkers : List Row → ℕ → Type 0
-HasWorkers rows workers = (text : Text) × (one_of (codes "N") rows ≡ Some text) × (digits_value 10 (without_leading_plus text) ≡ workers)
+HasWorkers rows workers = (text : Text) × (one_of (codes "N") rows ≡ Some text) × IsNumber text workers
 
 -- What `clap` finds in the words is the command with its query, the names of the files, and the number of workers.
 pub record Finds (found : Option (Text × List Row)) (job : Job) : Type 0 where
@@ -57,14 +61,30 @@ pub record IsRefusal (words : List Text) (error : Error) : Type 0 where
   pub kind : IsAmong (kind_of error) (fault_of arrowtab words)
   pub of_words : kind_of error ≢ OutOfMemory
 
+-- Nothing that `clap` finds is a job that is ready to be run.
+abbrev pub FindsNone : Option (Text × List Row) → Type 0
+FindsNone found = (job : Job) → Finds found job → IsReady job → ⊥
+
 -- Why the words ask for no job. Memory may run out at any words.
 abbrev pub IsFaultOf : List Text → JobFault → Type 0
 IsFaultOf words (Line error) = IsRefusal words error
-IsFaultOf words Unread = fault_of arrowtab words ≡ []
+IsFaultOf words Unread = (fault_of arrowtab words ≡ []) × FindsNone (subcommand_of arrowtab words)
 IsFaultOf words NoMemory = ⊤
 
--- No error of `clap`.
-abbrev pub IsNoLine : JobFault → Type 0
-IsNoLine (Line error) = ⊥
-IsNoLine Unread = ⊤
-IsNoLine NoMemory = ⊤
+-- ---- the same of what `clap` found, which is no error of `clap`
+
+-- Why there is no job.
+abbrev pub IsUnfound : Option (Text × List Row) → JobFault → Type 0
+IsUnfound found (Line error) = ⊥
+IsUnfound found Unread = FindsNone found
+IsUnfound found NoMemory = ⊤
+
+-- Why there is no command: none of this word has its query.
+abbrev pub IsNoCommand : Text → List Row → JobFault → Type 0
+IsNoCommand word rows (Line error) = ⊥
+IsNoCommand word rows Unread = (command : Command) → word ≡ word_of command → HasQuery rows command → ⊥
+IsNoCommand word rows NoMemory = ⊤
+
+-- No number of workers is one that a job may have.
+abbrev pub HasNoWorkers : List Row → Type 0
+HasNoWorkers rows = (workers : ℕ) → HasWorkers rows workers → 1 ≤ workers → workers ≤ 64 → ⊥

@@ -1,7 +1,7 @@
 //! The words of the command line as a job.
-ghost use Rattle.std.specs.Prelude.{◌≡◌, ◌≤◌, IfErr, IfOk, IfSome, codes, map, option_map};
+ghost use Rattle.std.specs.Prelude.{◌≡◌, ◌≤◌, IfErr, IfOk, IfSome, None, codes, map, option_map};
 ghost use Rattle.clap.specs.Words.{all_of, first_of, found_of, rows_of, subcommand_rows_of};
-ghost use Rattle.job.specs.Asked.{Asks, Finds, HasQuery, HasWorkers, IsFaultOf, IsNoLine, IsReady, names_of, word_of};
+ghost use Rattle.job.specs.Asked.{Asks, Finds, HasNoWorkers, HasQuery, HasWorkers, IsFaultOf, IsNoCommand, IsReady, IsUnfound, names_of, word_of};
 
 use crate::asked::{Command, Job};
 use crate::command_line::arrowtab;
@@ -32,7 +32,7 @@ pub fn job(alloc: Global, words: &[&str]) -> Result<Job, JobFault>
 fn job_of(alloc: Global, matches: &ArgMatches<'_>) -> Result<Job, JobFault>
     ensures found { IfOk result (Finds (subcommand_rows_of matches.now)) }
     ensures ready { IfOk result IsReady }
-    ensures err { IfErr result IsNoLine }
+    ensures err { IfErr result (IsUnfound (subcommand_rows_of matches.now)) }
 {
     let Some((word, found)) = matches.subcommand() else {
         return Err(JobFault::Unread);
@@ -61,7 +61,7 @@ fn job_of(alloc: Global, matches: &ArgMatches<'_>) -> Result<Job, JobFault>
 fn command_of(alloc: Global, word: &str, found: &ArgMatches<'_>) -> Result<Command, JobFault>
     ensures word { IfOk result (λ command. word.now ≡ word_of command) }
     ensures query { IfOk result (HasQuery (rows_of (found_of found.now))) }
-    ensures err { IfErr result IsNoLine }
+    ensures err { IfErr result (IsNoCommand word.now (rows_of (found_of found.now))) }
 {
     match word {
         "stats" => Ok(Command::Stats),
@@ -75,7 +75,7 @@ fn command_of(alloc: Global, word: &str, found: &ArgMatches<'_>) -> Result<Comma
 fn query_of(alloc: Global, found: &ArgMatches<'_>) -> Result<Command, JobFault>
     ensures word { IfOk result (λ command. codes "query" ≡ word_of command) }
     ensures query { IfOk result (HasQuery (rows_of (found_of found.now))) }
-    ensures err { IfErr result IsNoLine }
+    ensures err { IfErr result (IsNoCommand (codes "query") (rows_of (found_of found.now))) }
 {
     let Some(text) = text_of(found) else {
         return Err(JobFault::Unread);
@@ -105,6 +105,7 @@ fn files_of<'a, 'b>(found: &'b ArgMatches<'a>) -> Option<&'b [&'a str]>
 fn workers_of(found: &ArgMatches<'_>) -> Option<u32>
     ensures value { IfSome result (HasWorkers (rows_of (found_of found.now))) }
     ensures few { IfSome result (λ workers. (1 ≤ workers) × (workers ≤ 64)) }
+    ensures none { result ≡ None → HasNoWorkers (rows_of (found_of found.now)) }
 {
     let workers = found.get_one::<u32>("N")?;
     if workers < 1 || workers > 64 {

@@ -12,7 +12,8 @@ use Rattle.arrays.specs.Seen.{Seen, valid_at}
 use Rattle.arrays.specs.Shown.{kept}
 use Rattle.truths.specs.Valid.{both_valid, valid_in_both}
 use Rattle.arrays.proofs.ListLemmas.{map-range-below}
-use Rattle.kernels.specs.Lift.{item_at, lifted}
+use Rattle.arrays.specs.Slot.{item_at}
+use Rattle.kernels.specs.Lift.{lifted}
 use Rattle.kernels.specs.Fault.{IsKernelFault, type_fault}
 use Rattle.kernels.specs.Arithmetic.{exact, results, is_outside, first_bad, are_one_int, operands_fault, arithmetic_fault}
 use Rattle.kernels.specs.Beside.{fault_from, fault_with, has_number, number_beside, number_fault}

@@ -10,10 +10,11 @@ use Rattle.arrays.specs.Item as item
 use Rattle.arrays.specs.Item.{Item, null, int, text, is_null}
 use Rattle.arrays.specs.Offsets.{of_slot}
 use Rattle.arrays.specs.Seen.{Seen, valid_at, valid_in}
-use Rattle.arrays.specs.Slot.{holds_at}
+use Rattle.arrays.specs.Slot.{holds_at, item_at}
 use Rattle.arrays.specs.Values.{HasBits, HasTexts, valid_values}
-use Rattle.kernels.specs.Lift.{item_at, lifted}
-use Rattle.kernels.specs.Order.{compared, meets, order}
+use Rattle.kernels.specs.Lift.{lifted}
+use Rattle.arrays.specs.Order.{order}
+use Rattle.kernels.specs.Order.{compared, meets}
 use Rattle.truths.specs.Truth.{truth_at}
 use Rattle.kernels.specs.Wanted.{decisions, wants}
 use Rattle.kernels.specs.declared.comparison.CmpOp.{CmpOp}

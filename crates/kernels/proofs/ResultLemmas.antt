@@ -21,7 +21,8 @@ use Rattle.arrays.specs.Values.{HasNumbers}
 use Rattle.arrays.proofs.ListLemmas.{map-range-below}
 use Rattle.layout.proofs.RowLemmas.{least_found, least_none}
 use Rattle.types.proofs.SchemaLemmas.{position-map}
-use Rattle.kernels.specs.Lift.{item_at, lifted}
+use Rattle.arrays.specs.Slot.{item_at}
+use Rattle.kernels.specs.Lift.{lifted}
 use Rattle.arrays.specs.Packed.{IsBufferOf}
 use Rattle.arrays.specs.Shown.{kept, shown}
 use Rattle.truths.specs.Valid.{valid_in_both, both_valid}

@@ -4,7 +4,7 @@ use Rattle.colbits.specs.Bitmap.{bit_of}
 use Rattle.arrays.specs.Item.{Item}
 use Rattle.arrays.specs.Seen.{valid_in}
 use Rattle.kernels.specs.Kleene.{truth_of}
-use Rattle.kernels.specs.Lift.{item_at}
+use Rattle.arrays.specs.Slot.{item_at}
 
 -- The truth value at a place, none where it isn't known.
 abbrev pub truth_in : List Item → ℕ → Option Bool

@@ -1,11 +1,8 @@
 -- Functions of items, place by place.
-use Rattle.std.specs.Prelude.{ℕ, ◌||◌, List, map, length, if◌then◌else◌, slice_index_or}
+use Rattle.std.specs.Prelude.{ℕ, ◌||◌, List, map, length, if◌then◌else◌}
 use Rattle.std.specs.List.{range_with_len}
 use Rattle.arrays.specs.Item.{Item, null, is_null}
-
--- The item at a place of a column.
-abbrev pub item_at : List Item → ℕ → Item
-item_at column i = slice_index_or column i null
+use Rattle.arrays.specs.Slot.{item_at}
 
 -- f of two items, null where either is null.
 abbrev pub lifted : (Item → Item → Item) → Item → Item → Item

@@ -1,13 +1,12 @@
--- Comparisons: numbers by value, false before true, texts byte by byte, a front before what it begins.
+-- Comparisons.
 use Rattle.std.specs.Prelude.{List, Bool, true, ◌&&◌, Option}
 use Rattle.std.specs.declared.cmp.Ordering.{Ordering}
-use Rattle.std.specs.declared.cmp.Ordering.TheVariants.{Equal}
-use Rattle.std.specs.Ordering.{int_cmp, bool_cmp, nat_cmp, is_eq, is_ne, is_lt, is_le, is_gt, is_ge}
-use Rattle.std.specs.Cmp.Lexicographic.{slice_cmp}
+use Rattle.std.specs.Ordering.{is_eq, is_ne, is_lt, is_le, is_gt, is_ge}
 use Rattle.arrays.specs.Item as item
-use Rattle.arrays.specs.Item.{Item, int, text}
+use Rattle.arrays.specs.Item.{Item}
 use Rattle.arrays.specs.Kind as kind
 use Rattle.arrays.specs.Kind.{Kind, same_int}
+use Rattle.arrays.specs.Order.{order}
 use Rattle.arrays.specs.Seen.{Seen}
 use Rattle.arrays.specs.Slot.{is_text}
 use Rattle.kernels.specs.Lift.{lift}
@@ -15,13 +14,6 @@ use Rattle.kernels.specs.Fault.{shape_fault}
 use Rattle.kernels.specs.declared.comparison.CmpOp.{CmpOp}
 use Rattle.kernels.specs.declared.comparison.CmpOp.TheVariants.{Eq, Ne, Lt, Le, Gt, Ge}
 use Rattle.kernels.specs.declared.fault.KernelFault.{KernelFault}
-
--- How two items of one kind stand to each other.
-abbrev pub order : Item → Item → Ordering
-order (int x) (int y) = int_cmp x y
-order (item.boolean x) (item.boolean y) = bool_cmp x y
-order (text x) (text y) = slice_cmp nat_cmp x y
-order x y = Equal
 
 -- Whether two items that stand so to each other meet the comparison.
 abbrev pub meets : CmpOp → Ordering → Bool

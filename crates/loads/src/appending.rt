@@ -3,8 +3,8 @@
 ghost use Rattle.std.specs.Prelude.{◌≡◌, ◌∷◌, [], IfErr, IfOk, OnErr, OnOk};
 ghost use Rattle.loads.specs.Loaded.{Loaded, StandsFor};
 
-use answers::Gate;
 use arrays::RecordBatch;
+use crews::Gate;
 use shared::{Naming, Publish, Receipt, Refusal, SharedTable, Shown, Worker};
 use std::sync::Wait;
 use std::sync::ledger::Ledger;

@@ -8,5 +8,6 @@ pub mod loading;
 mod outcomes;
 mod work;
 
+pub use crews::{Gate, OpenGate};
 pub use fault::LoadFault;
 pub use loading::load_all;

@@ -86,12 +86,12 @@ module _ (N : RattleType) (n : naming.Ghosts N.Denot) (m : names.Ghosts N.Denot)
   inside-send : IsSend (inside.the_row N n m)
   inside-send =
       let D = inside.the_type N n m in
-      recorded_send (Struct (shape D)) D.D D.to D.to_one (struct_send (shape D) (search (version-send, version-sync, crosses, sendable) depth 20, (search (front.the_send, crosses, sendable) depth 20, tt)))
+      recorded_send (Struct (shape D)) D.D D.to D.to_one (struct_send (shape D) (search (version-send, version-sync, crosses, sendable) depth 20, (search (front.the_send, crosses, sendable) depth 20, (search sendable depth 20, tt))))
 
   inside-sync : IsSync (inside.the_row N n m)
   inside-sync =
       let D = inside.the_type N n m in
-      recorded_sync (Struct (shape D)) D.D D.to D.to_one (struct_sync (shape D) (search (version-send, version-sync, crosses, sendable) depth 20, (search (front.the_sync, crosses, sendable) depth 20, tt)))
+      recorded_sync (Struct (shape D)) D.D D.to D.to_one (struct_sync (shape D) (search (version-send, version-sync, crosses, sendable) depth 20, (search (front.the_sync, crosses, sendable) depth 20, (search sendable depth 20, tt))))
 
   shown-send : IsSend (shown.the_row N n m)
   shown-send = search (inside-send, crosses, sendable) depth 20

@@ -2,6 +2,7 @@
 use Rattle.std.proofs.Common.{◌≡◌, ◌∙◌, ◌⊎◌, inl, inr, ℕ, ◌+◌, ◌≤◌, ◌^◌, List, ◌∷◌, ◌++◌, [], refl, Bool, true, false, Option, Some, None, IfSome, IfErr, IfOk, OnOk, Result, Ok, Err, ap, length, length-append, sym, subst, arith}
 use Rattle.std.specs.Prelude.{is_some, option_map}
 use Rattle.std.specs.Bool.{then_some}
+use Rattle.std.specs.Result.{MatchResult, result_ok}
 use mathlib.Core.List.{IsPrefix}
 use Rattle.std.proofs.lemmas.Bool.Decides.{nat_tests}
 use Rattle.arrays.specs.Batch.{Batch, rows_of}
@@ -20,6 +21,11 @@ pub ok_each : {A E : Type 0} {P Q : A → Type 0} (r : Result A E) → ((x : A) 
 ok_each (Ok x) f is = f x is
 ok_each (Err e) f is = tt
 
+-- the same where something stands besides
+pub ok_with : {A E P : Type 0} {Q S : A → Type 0} (r : Result A E) → ((x : A) → P → Q x → S x) → OnOk r P → IfOk r Q → IfOk r S
+ok_with (Ok x) f also is = f x also is
+ok_with (Err e) f also is = tt
+
 pub err_each : {A E : Type 0} {P Q : E → Type 0} (r : Result A E) → ((e : E) → P e → Q e) → IfErr r P → IfErr r Q
 err_each (Ok x) f is = tt
 err_each (Err e) f is = f e is
@@ -35,6 +41,22 @@ shown_next shows value None None state same is shown = tt
 shown_next shows value None (Some p) state same is shown = absurd (cc same)
 shown_next shows value (Some v) None state same is shown = tt
 shown_next shows value (Some v) (Some p) state same is shown = subst (shows p) is shown
+
+-- the next one is there where it's made if anybody shows versions
+pub some_then : {A : Type 0} (b : Bool) (x : A) → is_some (then_some b x) ≡ b
+some_then true x = refl
+some_then false x = refl
+
+pub then_each : {V : Type 0} (value : V → Contents) (b : Bool) (next : Option V) (version : V) (state : Contents) → next ≡ then_some b version → value version ≡ state
+    → IfSome next (λ v. value v ≡ state)
+then_each value true next version state made is = subst (λ o. IfSome o (λ v. value v ≡ state)) (sym made) is
+then_each value false next version state made is = subst (λ o. IfSome o (λ v. value v ≡ state)) (sym made) tt
+
+-- a copy that is kept where it was made is the state's
+pub copy_kept : {V E : Type 0} (value : V → Contents) (Q : E → Type 0) (copy : Result V E) (kept : Option V) (version : V) (state : Contents)
+    → MatchResult copy (λ v. value v ≡ value version) Q → kept ≡ result_ok copy → value version ≡ state → IfSome kept (λ v. value v ≡ state)
+copy_kept value Q (Ok v) kept version state same made is = subst (λ o. IfSome o (λ v. value v ≡ state)) (sym made) (same ∙ is)
+copy_kept value Q (Err e) kept version state same made is = subst (λ o. IfSome o (λ v. value v ≡ state)) (sym made) tt
 
 not_full : (d n : Option Refusal) (full : Bool) (book texts : Option Refusal) → first (d ∷ first (n ∷ then_some full TableFull ∷ book ∷ texts ∷ []) ∷ []) ≡ None → full ≡ false
 not_full (Some d) n full book texts none = absurd (cc none)

@@ -35,14 +35,17 @@ module _ (C Q N P : RattleType) (c : ledger.Ghosts C.Denot) (q : ledger.Ghosts Q
               (
                 search (send-P, crosses, sendable) depth 20,
                 (
-                  search (book.the_send, crosses, sendable) depth 20,
+                  search sendable depth 20,
                   (
                     search (book.the_send, crosses, sendable) depth 20,
                     (
-                      search (share.the_send, crosses, sendable) depth 20,
+                      search (book.the_send, crosses, sendable) depth 20,
                       (
                         search (share.the_send, crosses, sendable) depth 20,
-                        tt,
+                        (
+                          search (share.the_send, crosses, sendable) depth 20,
+                          tt,
+                        ),
                       ),
                     ),
                   ),

@@ -11,6 +11,7 @@ pub mod opening;
 pub mod outcome;
 pub mod pair;
 pub mod reader;
+mod seal;
 pub mod shared_table;
 pub mod shown;
 pub mod worker;

@@ -8,12 +8,14 @@ ghost use Rattle.shared.specs.Missing.{AllThere};
 ghost use Rattle.shared.specs.Balance.{IsOfWorkers};
 ghost use Rattle.shared.specs.Hand.{HasAdded, HasSeen, IsPartOf, IsWhole, calls_of_hand, having_seen, rows_of_hand};
 ghost use Rattle.table.specs.Cause.{IsLegal, batch_cause, early_cause};
+ghost use Rattle.table.specs.Compacted.{IsCompacted};
 ghost use Rattle.table.specs.Contents.{Contents, admitted};
 ghost use Rattle.table.specs.History.{rows};
 
 use crate::lending::tell_totals;
 use crate::naming::{Accepted, Event, Naming};
 use crate::outcome::Receipt;
+use crate::seal::Seal;
 use crate::shown::{Publish, Shown};
 use crate::worker::Worker;
 use arrays::RecordBatch;
@@ -30,12 +32,14 @@ use table::{Ready, Refusal, TableState, Version};
 #[derive(Drop)]
 pub(crate) struct Locked<C: Ledger, Q: Ledger, N: Naming, P: Publish<Item = Shown<N>>> {
     pub(crate) state: TableState,
-    /// The last version that was asked for, where nothing was added since.
+    /// The last version that was asked for, where nothing was added or joined since.
     pub(crate) newest: Option<Arc<Version>>,
     pub(crate) head: Head<Event, N>,
     pub(crate) front: Front<Event, N>,
     /// None where nobody reads.
     pub(crate) publisher: Option<P>,
+    /// Which of those that were shown is shown.
+    pub(crate) number: u64,
     pub(crate) call_book: Book<C>,
     pub(crate) row_book: Book<Q>,
     /// No part of the ledger; the workers lend it theirs.
@@ -105,7 +109,13 @@ impl<C: Ledger, Q: Ledger, N: Naming, P: Publish<Item = Shown<N>>> Locked<C, Q, 
         };
         add(wait, &self.head, &mut self.front, &accepted);
         self.newest = None;
-        show(wait, &mut self.publisher, next, &self.front);
+        show(
+            wait,
+            &mut self.publisher,
+            next,
+            &self.front,
+            &mut self.number,
+        );
         worker.raise(
             &mut self.call_book,
             &mut self.row_book,
@@ -130,6 +140,36 @@ impl<C: Ledger, Q: Ledger, N: Naming, P: Publish<Item = Shown<N>>> Locked<C, Q, 
         begin(wait, &worker.seen, &self.front);
         worker.see(&self.front);
         self.version()
+    }
+
+    /// Joins neighbouring batches, as `TableState::compact` does, shows that to readers, and gives the table as it is then, which
+    /// is kept for the next who asks. The worker sees the table's history. After a refusal nothing else is changed.
+    pub(crate) fn compact<W: Wait>(
+        &mut self,
+        wait: &W,
+        worker: &mut Worker<C, Q, N>,
+        max_rows: u32,
+    ) -> Result<Arc<Version>, NoMemory>
+        ensures compacted { OnOk result (IsCompacted max_rows self.old self.new) }
+        ensures kept { OnErr result (self.new ≡ self.old) }
+        ensures seen { HasSeen N.fields worker.old worker.new }
+        ensures all { worker.new.seen ≡ self.old.history }
+        ensures version { IfOk result (λ v. arc_value v ≡ self.new) }
+        ensures fields { self.old.fields ≡ N.fields }
+    {
+        begin(wait, &worker.seen, &self.front);
+        worker.see(&self.front);
+        let (version, second) = self.state.compact_shown(max_rows)?;
+        self.newest = version.clone().ok();
+        let shown = self.publisher.is_some().then_some(second);
+        show(
+            wait,
+            &mut self.publisher,
+            shown,
+            &self.front,
+            &mut self.number,
+        );
+        Ok(version)
     }
 
     /// The table as it is: the version that is kept, else a new one, which is kept for the next who asks.
@@ -255,12 +295,13 @@ fn admit(
     }
 }
 
-/// Shows readers the next version, which there is where anybody shows it.
+/// Shows readers the next version, which there is where anybody shows it, and counts it.
 fn show<W: Wait, N: Naming, P: Publish<Item = Shown<N>>>(
     wait: &W,
     publisher: &mut Option<P>,
     next: Option<Arc<Version>>,
     front: &Front<Event, N>,
+    number: &mut u64,
 )
     requires there { is_some next ≡ is_some publisher.old }
     requires version { IfSome next (λ v. (front.now ≡ (arc_value v).history) × ((arc_value v).fields ≡ N.fields)) }
@@ -271,7 +312,12 @@ fn show<W: Wait, N: Naming, P: Publish<Item = Shown<N>>>(
         return;
     };
     if let Some(publisher) = publisher {
-        let front = front.again();
-        publisher.show(wait, Shown { version, front });
+        *number = number.wrapping_add(1);
+        let next = Shown {
+            version,
+            front: front.again(),
+            number: *number,
+        };
+        publisher.show(wait, Seal, next);
     }
 }

@@ -123,8 +123,8 @@ fn new_publisher<N: Naming, R: Wait + Drop>(
     requires fields { (arc_value version.now).fields ≡ N.fields }
     ensures { IfOk result (λ p. (published p ≡ arc_value version.now) × (pending p ≡ [])) }
 {
-    let first = Shown::new(version, front)?;
-    let second = Shown::new(version, front)?;
+    let first = Shown::new(version, front, 0)?;
+    let second = Shown::new(version, front, 0)?;
     let mut publisher = WriteHandle::new(alloc, wait, first, second, MOST as usize)?;
     // The queue of what is to be shown gets both its places now, so that no append has to ask for one.
     publish_twice(&mut publisher, version, front)?;
@@ -143,10 +143,10 @@ fn publish_twice<N: Naming, R: Wait + Drop>(
     ensures { OnOk result ((published publisher.new ≡ arc_value version.now) × (pending publisher.new ≡ [])) }
 {
     publisher
-        .append(Shown::new(version, front)?)
+        .append(Shown::new(version, front, 0)?)
         .map_err(|_| NoMemory)?;
     publisher
-        .append(Shown::new(version, front)?)
+        .append(Shown::new(version, front, 0)?)
         .map_err(|_| NoMemory)?;
     Ok(publisher.publish()?)
 }

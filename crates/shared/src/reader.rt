@@ -95,7 +95,7 @@ impl<N: Naming> Reader<N> {
         }
     }
 
-    /// Has what is shown as its own, where it's newer.
+    /// Has what is shown as its own, where it's another than the one that it has.
     ///
     /// # Errors
     /// `NoMemory` where the copy of the version was refused, and where the table has ended.
@@ -105,20 +105,20 @@ impl<N: Naming> Reader<N> {
         let Some(guard) = self.handle.enter() else {
             return Err(NoMemory);
         };
-        if begins(&guard.front, &self.own) {
+        if is_own(&self.own, guard.number) {
             return Ok(());
         }
-        let shown = Shown::new(&guard.version, &guard.front)?;
+        let shown = Shown::new(&guard.version, &guard.front, guard.number)?;
         drop(guard);
         self.own = Some(shown.apart(self.alloc)?);
         Ok(())
     }
 }
 
-/// Whether the version that a reader has has all of a history already.
-fn begins<N: Naming>(front: &Front<Event, N>, own: &Option<Shown<N>>) -> bool {
+/// Whether a reader has what was shown with this number already.
+fn is_own<N: Naming>(own: &Option<Shown<N>>, number: u64) -> bool {
     match own {
-        Some(own) => front.begins(&own.front),
+        Some(own) => own.number == number,
         None => false,
     }
 }

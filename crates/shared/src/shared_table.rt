@@ -2,6 +2,7 @@
 
 ghost use Rattle.std.specs.Prelude.{◌≡◌, ◌⊎◌, ◌≤◌, [], All, IfErr, IfOk, IfSome, OnErr, OnOk, Some, length, sum_by};
 ghost use Rattle.std.specs.Arc.{arc_value};
+ghost use Rattle.compaction.specs.Groups.{AreApart};
 ghost use Rattle.shared.specs.Balance.{IsOfWorkers};
 ghost use Rattle.shared.specs.Gathered.{Stands};
 ghost use Rattle.shared.specs.Hand.{HasAdded, HasSeen, IsKept, IsRaised, IsWhole, calls_of_hand, rows_of_hand};
@@ -95,6 +96,7 @@ impl<C: Ledger, Q: Ledger, N: Naming, P: Publish<Item = Shown<N>>> SharedTable<C
             head,
             front,
             publisher,
+            number: 0,
             call_book,
             row_book,
             no_calls,
@@ -130,7 +132,7 @@ impl<C: Ledger, Q: Ledger, N: Naming, P: Publish<Item = Shown<N>>> SharedTable<C
     }
 
     /// The table as it is when the lock is got, whose history the worker then has seen, where memory is refused too. Where
-    /// nothing was appended since the last one, it's the same version.
+    /// nothing was appended or joined since the last one, it's the same version.
     pub fn snapshot<W: Wait>(
         &self,
         wait: &W,
@@ -142,6 +144,24 @@ impl<C: Ledger, Q: Ledger, N: Naming, P: Publish<Item = Shown<N>>> SharedTable<C
         ensures fields { IfOk result (λ v. (arc_value v).fields ≡ N.fields) }
     {
         self.lock.lock(wait).snapshot(wait, worker)
+    }
+
+    /// Joins neighbouring batches, as `TableState::compact` does, while no worker appends, and shows that to the readers. Nothing is
+    /// added: the history, the book and what each worker appended stay. The worker sees the history that the table has when the
+    /// lock is got, where memory is refused too; then the table is as it was.
+    pub fn compact<W: Wait>(
+        &self,
+        wait: &W,
+        worker: &mut Worker<C, Q, N>,
+        max_rows: u32,
+    ) -> Result<Arc<Version>, NoMemory>
+        ensures kept { IsKept worker.old worker.new }
+        ensures seen { HasSeen N.fields worker.old worker.new }
+        ensures all { IfOk result (λ v. (arc_value v).history ≡ worker.new.seen) }
+        ensures fields { IfOk result (λ v. (arc_value v).fields ≡ N.fields) }
+        ensures apart { IfOk result (λ v. AreApart N.fields max_rows (arc_value v).batches) }
+    {
+        self.lock.lock(wait).compact(wait, worker, max_rows)
     }
 
     /// Ends the table, and gives all that was appended to it, where all its workers are handed in.

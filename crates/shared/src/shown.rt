@@ -6,6 +6,7 @@ ghost use Rattle.std.specs.Arc.{arc_value};
 ghost use Rattle.table.specs.Contents.{Contents};
 
 use crate::naming::{Event, Naming};
+use crate::seal::Seal;
 use colbits::NoMemory;
 use histories::Front;
 use left_right::{Absorb, WriteHandle};
@@ -14,13 +15,15 @@ use std::marker::Model;
 use std::sync::{Arc, Wait};
 use table::Version;
 
-/// A version with its history.
+/// A version with its history. No value of it leaves this crate.
 ///
 /// Clauses see the version.
 #[derive(Drop)]
 pub struct Shown<N: Naming> {
     pub(crate) version: Arc<Version>,
     pub(crate) front: Front<Event, N>,
+    /// Which of those that were shown it is, counted from 0. It tells it from another with the same history.
+    pub(crate) number: u64,
 }
 
 impl<N: Naming> Model for Shown<N> {
@@ -43,6 +46,7 @@ impl<N: Naming> Shown<N> {
     pub(crate) fn new(
         version: &Arc<Version>,
         front: &Front<Event, N>,
+        number: u64,
     ) -> Result<Shown<N>, AllocError>
         requires front { front.now ≡ (arc_value version.now).history }
         requires fields { (arc_value version.now).fields ≡ N.fields }
@@ -52,6 +56,7 @@ impl<N: Naming> Shown<N> {
         Ok(Shown {
             version,
             front: front.again(),
+            number,
         })
     }
 
@@ -60,11 +65,16 @@ impl<N: Naming> Shown<N> {
     pub(crate) fn apart(self, alloc: Global) -> Result<Shown<N>, NoMemory>
         ensures { IfOk result (λ s. s ≡ self) }
     {
-        let Shown { version, front } = self;
+        let Shown {
+            version,
+            front,
+            number,
+        } = self;
         let own = Arc::new(alloc, version.share()?);
         Ok(Shown {
             version: own.unwrap_or(version),
             front,
+            number,
         })
     }
 }
@@ -77,12 +87,13 @@ impl<N: Naming> Absorb<Shown<N>> for Shown<N> {
     ghost applied = { λ before next. next };
 
     fn absorb_first(&mut self, operation: &Shown<N>, _other: &Shown<N>) -> Result<(), AllocError> {
-        *self = Shown::new(&operation.version, &operation.front)?;
+        *self = Shown::new(&operation.version, &operation.front, operation.number)?;
         Ok(())
     }
 }
 
-/// Who shows values to readers, one after the other.
+/// Who shows values to readers, one after the other. No other crate can implement it, nor have a value shown: it would have to
+/// name a `Seal`.
 pub trait Publish: Drop {
     type Item;
 
@@ -90,7 +101,7 @@ pub trait Publish: Drop {
     ghost shows: { Self → Self.Item → Type 0 };
 
     /// Shows the next value. It waits for readers of the one before the last.
-    fn show<W: Wait>(&mut self, wait: &W, next: Self::Item)
+    fn show<W: Wait>(&mut self, wait: &W, seal: Seal, next: Self::Item)
         ensures { shows self.new next };
 }
 
@@ -106,7 +117,7 @@ impl<T: Absorb<T> + Drop, R: Wait + Drop> Publish for WriteHandle<T, T, R> {
 
     ghost shows = { λ w x. ((before : T.State) × (T.state (published w) ≡ T.applied before x)) × (pending w ≡ []) };
 
-    fn show<W: Wait>(&mut self, wait: &W, next: T)
+    fn show<W: Wait>(&mut self, wait: &W, _seal: Seal, next: T)
         ensures applied { (before : T.State) × (T.state (published self.new) ≡ T.applied before next) }
         ensures nothing { pending self.new ≡ [] }
     {

@@ -17,13 +17,13 @@ use Rattle.group.specs.Summary.{AreStats}
 use Rattle.group.specs.declared.stats.ColumnStats.{ColumnStats}
 use Rattle.table.specs.Cause.{IsLegal}
 use Rattle.table.specs.Contents.{Contents}
-use Rattle.table.specs.Held.{IsHeld, batches_of, book_of, dictionaries_in, pair_of, pieces_of, show}
+use Rattle.table.specs.Held.{IsHeld, batches_of, book_of, dictionaries_in, pair_of, pieces_in, show}
 use Rattle.table.specs.History.{History, cut}
 use Rattle.table.specs.Lawful.{AreStatsOf, LawfulTable, counted, dictionaries_of, dictionary_in, table_of, texts_in}
 use Rattle.table.specs.Ready.{AreTexts}
 use Rattle.table.specs.Stored.{is_text_field, stored_field, stored_fields}
 use Rattle.table.specs.declared.held.Held.{Held}
-use Rattle.table.proofs.TableLemmas.{all_zip-push}
+use Rattle.group.proofs.ColumnsLemmas.{all_zip-push}
 
 -- ---- no texts
 
@@ -110,11 +110,11 @@ pub held-empty : (h : Held) → h.batches.items ≡ [] → h.batch_stats.items �
 held-empty h batches pieces entries rows are texts =
     let fields = arc_value h.schema in
     let no_batches : batches_of h ≡ [] = ap (map arc_value) batches in
-    let no_pieces : pieces_of h ≡ [] = ap (map (λ (s : Arc (Vec ColumnStats Global) Global). (arc_value s).items)) pieces in
+    let no_pieces : pieces_in h ≡ [] = ap (map (λ (s : Arc (Vec ColumnStats Global) Global). (arc_value s).items)) pieces in
     let no_entries : book_of h ≡ [] = ap (map pair_of) entries in
     record {
       lawful =
-          subst (λ (b : List Batch). LawfulTable fields b (pieces_of h) (arc_value h.stats).items (dictionaries_in h) (book_of h)) (sym no_batches)
+          subst (λ (b : List Batch). LawfulTable fields b (pieces_in h) (arc_value h.stats).items (dictionaries_in h) (book_of h)) (sym no_batches)
           (subst (λ (p : List (List ColumnStats)). LawfulTable fields [] p (arc_value h.stats).items (dictionaries_in h) (book_of h)) (sym no_pieces)
           (subst (λ (e : List (ℕ × ℕ)). LawfulTable fields [] [] (arc_value h.stats).items (dictionaries_in h) e) (sym no_entries)
           (lawful-empty fields (arc_value h.stats).items (dictionaries_in h) are texts)));

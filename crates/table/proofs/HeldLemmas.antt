@@ -13,7 +13,7 @@ use Rattle.arrays.specs.Shape.{FieldShape, kind_of_field}
 use Rattle.group.specs.Summary.{AreStats}
 use Rattle.group.specs.declared.stats.ColumnStats.{ColumnStats}
 use Rattle.std.proofs.lemmas.List.{get_or-map, length-map}
-use Rattle.table.specs.Held.{IsHeld, batches_of, book_of, pair_of, pieces_of, show}
+use Rattle.table.specs.Held.{IsHeld, batches_of, book_of, pair_of, pieces_in, show}
 use Rattle.table.specs.History.{book, rows}
 use Rattle.table.specs.Lawful.{AreStatsOf, dictionaries_of, table_of}
 use Rattle.table.specs.declared.held.Held.{Held}
@@ -77,7 +77,7 @@ length-batches h = length-map (batches_of h) rows_of ∙ length-map h.batches.it
 pub length-pieces : (h : Held) → IsHeld h → length h.batch_stats.items ≡ length (show h).batches
 length-pieces h is =
     sym (length-map h.batch_stats.items (λ (s : Arc (Vec ColumnStats Global) Global). (arc_value s).items))
-    ∙ sym (length-all_zip (λ (b : Batch) (s : List ColumnStats). AreStatsOf (arc_value h.schema) (rows_of b) s) (batches_of h) (pieces_of h) is.lawful.parts)
+    ∙ sym (length-all_zip (λ (b : Batch) (s : List ColumnStats). AreStatsOf (arc_value h.schema) (rows_of b) s) (batches_of h) (pieces_in h) is.lawful.parts)
     ∙ sym (length-map (batches_of h) rows_of)
 
 pub length-dictionaries : (h : Held) → IsHeld h → length h.dictionaries.items ≡ length (arc_value h.schema)
@@ -111,7 +111,7 @@ all_zip-map R f (x ∷ xs) (y ∷ ys) all = (all.0, all_zip-map R f xs ys all.1)
 pub piece-at : (h : Held) → IsHeld h → (i : ℕ) (t : Table) (s : Arc (Vec ColumnStats Global) Global) → slice_get (show h).batches i ≡ Some t → slice_get h.batch_stats.items i ≡ Some s
     → AreStatsOf (arc_value h.schema) t (arc_value s).items
 piece-at h is i t s at there =
-    all_zip-at (AreStatsOf (arc_value h.schema)) (map rows_of (batches_of h)) (pieces_of h) i t (arc_value s).items
-    (all_zip-map (AreStatsOf (arc_value h.schema)) rows_of (batches_of h) (pieces_of h) is.lawful.parts)
+    all_zip-at (AreStatsOf (arc_value h.schema)) (map rows_of (batches_of h)) (pieces_in h) i t (arc_value s).items
+    (all_zip-map (AreStatsOf (arc_value h.schema)) rows_of (batches_of h) (pieces_in h) is.lawful.parts)
     at
     (slice_get-map (λ (q : Arc (Vec ColumnStats Global) Global). (arc_value q).items) h.batch_stats.items i ∙ ap (option_map (λ (q : Arc (Vec ColumnStats Global) Global). (arc_value q).items)) there)

@@ -15,8 +15,9 @@ use Rattle.arrays.specs.Slot.{is_text}
 use Rattle.group.specs.Summary.{AreStats}
 use Rattle.group.specs.declared.stats.ColumnStats.{ColumnStats}
 use Rattle.pool.specs.Texts.{firsts, texts_of}
-use Rattle.table.specs.Counted.{AreJoined, AreTheirs}
-use Rattle.table.specs.Lawful.{NamesFront, texts_in}
+use Rattle.group.specs.Columns.{AreJoined, AreTheirs}
+use Rattle.compaction.specs.Under.{NamesFront}
+use Rattle.table.specs.Lawful.{texts_in}
 use Rattle.table.specs.Recoded.{coded, dictionary_for, grown, stored_seen}
 use Rattle.table.specs.Stored.{stored_kind}
 use Rattle.table.proofs.CodeLemmas.{among-grown, codes-back}

@@ -14,7 +14,6 @@ pub mod ReadyLemmas
 pub mod StateLemmas
 pub mod RecodedLemmas
 pub mod KindLemmas
-pub mod StatsLemmas
 pub mod StoredLemmas
 pub mod EmptyLemmas
 pub mod BatchLemmas
@@ -23,3 +22,4 @@ pub mod CauseLemmas
 pub mod ExportLemmas
 pub mod AnswerLemmas
 pub mod SendingLemmas
+pub mod JoinedLemmas

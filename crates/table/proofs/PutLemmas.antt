@@ -1,24 +1,27 @@
 -- A table with what is new put in.
 use Rattle.std.proofs.Common.{◌≡◌, ◌∙◌, ℕ, ◌+◌, ◌-◌, ◌<◌, ◌≤◌, ◌^◌, List, [], ◌∷◌, ◌++◌, length, map, Bool, true, false, Option, None, Some, cond, ap, sym, refl, subst, arith, length-append}
-use Rattle.std.specs.Prelude.{option_map}
+use Rattle.std.specs.Prelude.{Err, IfOk, Ok, Result, option_map}
 use Rattle.std.specs.Arc.{arc_value}
 use Rattle.std.specs.declared.alloc.Global.{Global}
+use Rattle.std.specs.declared.sync.Arc.{Arc}
 use Rattle.std.specs.declared.vec.Vec.{Vec}
 use Rattle.std.specs.List.{enumerate_from}
 use Rattle.std.proofs.lemmas.Bool.{ltb-false}
 use Rattle.std.proofs.lemmas.List.{map-append}
+use Rattle.colbits.specs.declared.memory.NoMemory.{NoMemory}
 use Rattle.arrays.specs.Batch.{Batch, rows_of, Table}
 use Rattle.arrays.specs.Seen.{Seen}
 use Rattle.arrays.specs.Shape.{FieldShape}
 use Rattle.group.specs.declared.stats.ColumnStats.{ColumnStats}
 use Rattle.std.specs.Bool.{then_some}
+use Rattle.compaction.specs.Under.{pieces_of}
 use Rattle.table.specs.Cause.{IsLegal, batch_cause, cause, difference, is_book_full, is_table_full, null_cause, texts_cause}
 use Rattle.table.specs.Contents.{Contents, admitted}
-use Rattle.table.specs.Held.{IsHeld, IsPut, IsSame, batches_of, book_of, dictionaries_in, pieces_of, show}
+use Rattle.table.specs.Held.{IsHeld, IsPut, IsSame, IsWith, batches_of, book_of, dictionaries_in, pieces_in, show}
 use Rattle.table.specs.History.{History, cut, rows}
 use Rattle.table.specs.Lawful.{LawfulTable, counted, dictionaries_of, table_of, texts_in}
 use Rattle.table.specs.Ready.{AreTexts, IsReady}
-use Rattle.table.specs.declared.held.Prepared.{Prepared}
+use Rattle.table.specs.declared.change.Addition.{Addition}
 use Rattle.table.specs.declared.held.Held.{Held}
 use Rattle.table.specs.declared.refusal.Refusal.TheVariants.{BookFull, SchemaDiffers, TableFull}
 use Rattle.table.proofs.BatchLemmas.{length-rows_of}
@@ -59,12 +62,12 @@ cause-none fields h b none =
 pub Held-same : (h g : Held) → IsSame h g → IsHeld h → IsHeld g
 Held-same h g same is = record {
   lawful =
-      subst (λ (f : List FieldShape). LawfulTable f (batches_of g) (pieces_of g) (arc_value g.stats).items (dictionaries_in g) (book_of g)) (sym same.schema)
-      (subst (λ (b : List Batch). LawfulTable (arc_value h.schema) b (pieces_of g) (arc_value g.stats).items (dictionaries_in g) (book_of g)) (sym same.batches)
+      subst (λ (f : List FieldShape). LawfulTable f (batches_of g) (pieces_in g) (arc_value g.stats).items (dictionaries_in g) (book_of g)) (sym same.schema)
+      (subst (λ (b : List Batch). LawfulTable (arc_value h.schema) b (pieces_in g) (arc_value g.stats).items (dictionaries_in g) (book_of g)) (sym same.batches)
       (subst (λ (p : List (List ColumnStats)). LawfulTable (arc_value h.schema) (batches_of h) p (arc_value g.stats).items (dictionaries_in g) (book_of g)) (sym same.pieces)
-      (subst (λ (s : List ColumnStats). LawfulTable (arc_value h.schema) (batches_of h) (pieces_of h) s (dictionaries_in g) (book_of g)) (sym same.stats)
-      (subst (λ (d : List (Option Seen)). LawfulTable (arc_value h.schema) (batches_of h) (pieces_of h) (arc_value h.stats).items d (book_of g)) (sym same.dictionaries)
-      (subst (λ (e : List (ℕ × ℕ)). LawfulTable (arc_value h.schema) (batches_of h) (pieces_of h) (arc_value h.stats).items (dictionaries_in h) e) (sym same.book) is.lawful)))));
+      (subst (λ (s : List ColumnStats). LawfulTable (arc_value h.schema) (batches_of h) (pieces_in h) s (dictionaries_in g) (book_of g)) (sym same.stats)
+      (subst (λ (d : List (Option Seen)). LawfulTable (arc_value h.schema) (batches_of h) (pieces_in h) (arc_value h.stats).items d (book_of g)) (sym same.dictionaries)
+      (subst (λ (e : List (ℕ × ℕ)). LawfulTable (arc_value h.schema) (batches_of h) (pieces_in h) (arc_value h.stats).items (dictionaries_in h) e) (sym same.book) is.lawful)))));
   rows = same.rows ∙ is.rows ∙ ap counted (sym same.book);
   legal =
       subst (λ (f : List FieldShape). IsLegal f (show g).history) (sym same.schema)
@@ -85,9 +88,27 @@ show-same h g same = λ i. record {
   batches = map rows_of (same.batches i);
 }
 
+-- what holds of what is answered
+pub if-ok : {P Q : Held → Type 0} → ((h : Held) → P h → Q h) → (r : Result Held NoMemory) → IfOk r P → IfOk r Q
+if-ok more (Err e) is = tt
+if-ok more (Ok h) is = more h is
+
+-- other batches and statistics, which are the same
+pub with-same : (h other : Held) (batches : List (Arc Batch Global)) (pieces : List (Arc (Vec ColumnStats Global) Global))
+    → map arc_value batches ≡ batches_of h → pieces_of pieces ≡ pieces_in h → IsWith batches pieces h other → IsSame h other
+with-same h other batches pieces same_batches same_pieces is = record {
+  schema = is.schema;
+  rows = is.rows;
+  batches = ap (map arc_value) is.batches ∙ same_batches;
+  pieces = ap pieces_of is.pieces ∙ same_pieces;
+  stats = is.stats;
+  dictionaries = is.dictionaries;
+  book = is.book;
+}
+
 -- ---- what is shared, with a shared batch put in
 
-module _ (h s r : Held) (p q : Prepared) (shared : IsSame h s) (reserved : IsSame s r) (batch : arc_value q.batch ≡ arc_value p.batch) where
+module _ (h s r : Held) (p q : Addition) (shared : IsSame h s) (reserved : IsSame s r) (batch : arc_value q.batch ≡ arc_value p.batch) where
   rows_new : (arc_value q.batch).rows ≡ (arc_value p.batch).rows
   rows_new = ap (λ (b : Batch). b.rows) batch
 
@@ -103,7 +124,7 @@ module _ (h s r : Held) (p q : Prepared) (shared : IsSame h s) (reserved : IsSam
     pieces =
         put.pieces
         ∙ ap (λ l. l ++ (arc_value q.batch_stats).items ∷ []) (reserved.pieces ∙ shared.pieces)
-        ∙ ap (λ (v : Vec ColumnStats Global). pieces_of h ++ v.items ∷ []) pieces;
+        ∙ ap (λ (v : Vec ColumnStats Global). pieces_in h ++ v.items ∷ []) pieces;
     stats = put.stats ∙ stats;
     dictionaries = put.dictionaries ∙ dictionaries;
     book =
@@ -114,7 +135,7 @@ module _ (h s r : Held) (p q : Prepared) (shared : IsSame h s) (reserved : IsSam
 
 -- ---- one batch more
 
-module _ (h g : Held) (b : Batch) (worker : ℕ) (p : Prepared) (is : IsHeld h) (ready : IsReady h b p) (put : IsPut worker p h g) where
+module _ (h g : Held) (b : Batch) (worker : ℕ) (p : Addition) (is : IsHeld h) (ready : IsReady h b p) (put : IsPut worker p h g) where
   same_cause : cause (arc_value h.schema) (show h).history (rows_of b) ≡ None
   same_cause = cause-none (arc_value h.schema) (show h).history b ready.allowed
 
@@ -141,10 +162,10 @@ module _ (h g : Held) (b : Batch) (worker : ℕ) (p : Prepared) (is : IsHeld h) 
       below : length (book_of h) + 1 ≤ 2 ^ 32
       below = omega (arith, is.lawful.short)
 
-  lawful : LawfulTable (arc_value h.schema) (batches_of h ++ arc_value p.batch ∷ []) (pieces_of h ++ (arc_value p.batch_stats).items ∷ []) (arc_value p.stats).items (map (option_map arc_value) p.dictionaries.items) (book_of h ++ (worker, (arc_value p.batch).rows) ∷ [])
+  lawful : LawfulTable (arc_value h.schema) (batches_of h ++ arc_value p.batch ∷ []) (pieces_in h ++ (arc_value p.batch_stats).items ∷ []) (arc_value p.stats).items (map (option_map arc_value) p.dictionaries.items) (book_of h ++ (worker, (arc_value p.batch).rows) ∷ [])
   lawful =
       let t = table_of (batches_of h) in
-      Lawful-push (arc_value h.schema) (batches_of h) (pieces_of h) (arc_value h.stats).items (dictionaries_in h) (book_of h) is.lawful
+      Lawful-push (arc_value h.schema) (batches_of h) (pieces_in h) (arc_value h.stats).items (dictionaries_in h) (book_of h) is.lawful
       (arc_value p.batch) (arc_value p.batch_stats).items (arc_value p.stats).items (map (option_map arc_value) p.dictionaries.items) worker (arc_value p.batch).rows
       ready.stored
       (subst (λ (u : Table). Rattle.table.specs.Lawful.AreStatsOf (arc_value h.schema) u (arc_value p.batch_stats).items) (sym ready.rows) ready.piece)
@@ -167,12 +188,12 @@ module _ (h g : Held) (b : Batch) (worker : ℕ) (p : Prepared) (is : IsHeld h) 
   pub put-held : IsHeld g
   put-held = record {
     lawful =
-        subst (λ (f : List FieldShape). LawfulTable f (batches_of g) (pieces_of g) (arc_value g.stats).items (dictionaries_in g) (book_of g)) (sym put.schema)
-        (subst (λ (l : List Batch). LawfulTable (arc_value h.schema) l (pieces_of g) (arc_value g.stats).items (dictionaries_in g) (book_of g)) (sym put.batches)
+        subst (λ (f : List FieldShape). LawfulTable f (batches_of g) (pieces_in g) (arc_value g.stats).items (dictionaries_in g) (book_of g)) (sym put.schema)
+        (subst (λ (l : List Batch). LawfulTable (arc_value h.schema) l (pieces_in g) (arc_value g.stats).items (dictionaries_in g) (book_of g)) (sym put.batches)
         (subst (λ (l : List (List ColumnStats)). LawfulTable (arc_value h.schema) (batches_of h ++ arc_value p.batch ∷ []) l (arc_value g.stats).items (dictionaries_in g) (book_of g)) (sym put.pieces)
-        (subst (λ (s : List ColumnStats). LawfulTable (arc_value h.schema) (batches_of h ++ arc_value p.batch ∷ []) (pieces_of h ++ (arc_value p.batch_stats).items ∷ []) s (dictionaries_in g) (book_of g)) (sym (ap (λ (v : Rattle.std.specs.declared.vec.Vec.Vec ColumnStats Rattle.std.specs.declared.alloc.Global.Global). v.items) put.stats))
-        (subst (λ (d : List (Option Seen)). LawfulTable (arc_value h.schema) (batches_of h ++ arc_value p.batch ∷ []) (pieces_of h ++ (arc_value p.batch_stats).items ∷ []) (arc_value p.stats).items d (book_of g)) (sym put.dictionaries)
-        (subst (λ (e : List (ℕ × ℕ)). LawfulTable (arc_value h.schema) (batches_of h ++ arc_value p.batch ∷ []) (pieces_of h ++ (arc_value p.batch_stats).items ∷ []) (arc_value p.stats).items (map (option_map arc_value) p.dictionaries.items) e) (sym put.book) lawful)))));
+        (subst (λ (s : List ColumnStats). LawfulTable (arc_value h.schema) (batches_of h ++ arc_value p.batch ∷ []) (pieces_in h ++ (arc_value p.batch_stats).items ∷ []) s (dictionaries_in g) (book_of g)) (sym (ap (λ (v : Rattle.std.specs.declared.vec.Vec.Vec ColumnStats Rattle.std.specs.declared.alloc.Global.Global). v.items) put.stats))
+        (subst (λ (d : List (Option Seen)). LawfulTable (arc_value h.schema) (batches_of h ++ arc_value p.batch ∷ []) (pieces_in h ++ (arc_value p.batch_stats).items ∷ []) (arc_value p.stats).items d (book_of g)) (sym put.dictionaries)
+        (subst (λ (e : List (ℕ × ℕ)). LawfulTable (arc_value h.schema) (batches_of h ++ arc_value p.batch ∷ []) (pieces_in h ++ (arc_value p.batch_stats).items ∷ []) (arc_value p.stats).items (map (option_map arc_value) p.dictionaries.items) e) (sym put.book) lawful)))));
     rows = put.rows ∙ ap (λ n. n + (arc_value p.batch).rows) is.rows ∙ sym (Rattle.table.proofs.TableLemmas.counted-push (book_of h) (worker, (arc_value p.batch).rows)) ∙ ap counted (sym put.book);
     legal =
         subst (λ (f : List FieldShape). IsLegal f (show g).history) (sym put.schema)

@@ -8,12 +8,13 @@ use Rattle.arrays.specs.Seen.{Seen}
 use Rattle.arrays.specs.Shape.{FieldShape}
 use Rattle.group.specs.declared.stats.ColumnStats.{ColumnStats}
 use Rattle.table.specs.Cause.{batch_cause, difference, early_cause, null_cause}
-use Rattle.table.specs.Counted.{AreJoined, AreTheirs}
+use Rattle.group.specs.Columns.{AreJoined, AreTheirs}
 use Rattle.table.specs.Held.{IsHeld, batches_of, show}
-use Rattle.table.specs.Lawful.{AreStatsOf, NamesFront, dictionaries_of, table_of, texts_in}
+use Rattle.compaction.specs.Under.{NamesFront}
+use Rattle.table.specs.Lawful.{AreStatsOf, dictionaries_of, table_of, texts_in}
 use Rattle.table.specs.Ready.{AreTexts, IsReady}
 use Rattle.table.specs.Recoded.{dictionary_for, full_cause, grown, stored_seen}
-use Rattle.table.specs.declared.held.Prepared.{Prepared}
+use Rattle.table.specs.declared.change.Addition.{Addition}
 use Rattle.table.specs.declared.held.Held.{Held}
 use Rattle.table.specs.declared.refusal.Refusal.{Refusal}
 use Rattle.table.specs.declared.refusal.Refusal.TheVariants.{NoMemory}
@@ -89,7 +90,7 @@ module _ (h : Held) (b : Batch) (is : IsHeld h) (early : early_cause (arc_value 
   pub stored-lawful : batch_fault fields b.rows (map stored_seen (zip pools columns)) ≡ None
   stored-lawful = kept-lawful fields b (map stored_seen (zip pools columns)) kept lawful
 
-  pub ready : (p : Prepared) → full_cause pools columns ≡ None → (arc_value p.batch).fields ≡ fields → (arc_value p.batch).rows ≡ b.rows
+  pub ready : (p : Addition) → full_cause pools columns ≡ None → (arc_value p.batch).fields ≡ fields → (arc_value p.batch).rows ≡ b.rows
       → (arc_value p.batch).columns ≡ map stored_seen (zip pools columns)
       → map (option_map arc_value) p.dictionaries.items ≡ map dictionary_for (zip (map grown (zip pools columns)) columns)
       → AreTheirs b.columns (arc_value p.batch_stats).items

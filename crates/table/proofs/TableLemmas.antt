@@ -14,10 +14,12 @@ use Rattle.arrays.specs.Kind as kind
 use Rattle.arrays.specs.Seen.{Seen}
 use Rattle.arrays.specs.Shape.{FieldShape}
 use Rattle.arrays.specs.Shown.{shown}
+use Rattle.group.proofs.ColumnsLemmas.{all_zip-push}
 use Rattle.group.specs.declared.stats.ColumnStats.{ColumnStats}
 use Rattle.pool.specs.Texts.{firsts, texts_of}
 use Rattle.pool.proofs.TextLemmas.{beyond, firsts-append}
-use Rattle.table.specs.Lawful.{AreStatsOf, EndsWithEntry, IsStored, LawfulTable, NamesFront, counted, dictionaries_of, dictionary_in, table_of, texts_in}
+use Rattle.compaction.specs.Under.{NamesFront}
+use Rattle.table.specs.Lawful.{AreStatsOf, EndsWithEntry, IsStored, LawfulTable, counted, dictionaries_of, dictionary_in, table_of, texts_in}
 use Rattle.table.specs.Stored.{is_text_field}
 use Rattle.table.proofs.FrontLemmas.{prefix_trans}
 
@@ -26,12 +28,6 @@ table_of-push batches b = flat_map-append rows_of batches (b ∷ []) ∙ ap (λ 
 
 pub counted-push : (entries : List (ℕ × ℕ)) (e : ℕ × ℕ) → counted (entries ++ e ∷ []) ≡ counted entries + e.1
 counted-push entries e = omega (arith, sum_by-append (λ (p : ℕ × ℕ). p.1) entries (e ∷ []))
-
-pub all_zip-push : {A B : Type 0} (R : A → B → Type 0) (xs : List A) (ys : List B) (x : A) (y : B) → AllZip R xs ys → R x y → AllZip R (xs ++ x ∷ []) (ys ++ y ∷ [])
-all_zip-push R [] [] x y all one = (one, tt)
-all_zip-push R [] (b ∷ ys) x y all one = absurd all
-all_zip-push R (a ∷ xs) [] x y all one = absurd all
-all_zip-push R (a ∷ xs) (b ∷ ys) x y all one = (all.0, all_zip-push R xs ys x y all.1 one)
 
 -- each front of the batches ends where an entry ends
 ends-push : (batches : List Batch) (entries : List (ℕ × ℕ)) (b : Batch) (worker : ℕ) → ((i : ℕ) → i ≤ length batches → EndsWithEntry batches entries i)

@@ -1,13 +1,13 @@
 -- A table all of whose parts agree.
-use Rattle.std.specs.Prelude.{◌≡◌, ℕ, ◌≤◌, ◌<◌, ◌^◌, List, [], map, flat_map, length, sum_by, take, All, Option, Some, None, ⊤, if◌then◌else◌}
+use Rattle.std.specs.Prelude.{◌≡◌, ℕ, ◌≤◌, ◌<◌, ◌^◌, List, [], map, flat_map, length, sum_by, take, All, Option, Some, None, if◌then◌else◌}
 use Rattle.std.specs.List.{AllZip, enumerate_from}
-use mathlib.Core.List.{IsPrefix}
 use Rattle.arrays.specs.Batch.{Batch, batch_fault, rows_of, Table, column}
 use Rattle.arrays.specs.Item.{text}
 use Rattle.arrays.specs.Kind as kind
 use Rattle.arrays.specs.Seen.{Seen}
 use Rattle.arrays.specs.Shape.{FieldShape, kind_of_field}
 use Rattle.arrays.specs.Shown.{shown}
+use Rattle.compaction.specs.Under.{NamesFront}
 use Rattle.group.specs.Summary.{AreStats}
 use Rattle.group.specs.declared.stats.ColumnStats.{ColumnStats}
 use Rattle.pool.specs.Texts.{firsts, texts_of}
@@ -44,12 +44,7 @@ dictionaries_of fields t = map (dictionary_in t) (enumerate_from 0 fields)
 abbrev pub AreStatsOf : List FieldShape → Table → List ColumnStats → Type 0
 AreStatsOf fields t stats = AllZip (λ e s. AreStats s (kind_of_field e.1) (column t e.0)) (enumerate_from 0 fields) stats
 
--- The dictionary that the column names begins the other, where there is one.
-abbrev pub NamesFront : Seen → Option Seen → Type 0
-NamesFront c None = ⊤
-NamesFront c (Some d) = IsPrefix c.entries.items d.items
-
--- So does each dictionary that a column of the batch names.
+-- Each dictionary that a column of the batch names begins that of the table.
 abbrev pub NamesFronts : List FieldShape → Table → Batch → Type 0
 NamesFronts fields t b = AllZip NamesFront b.columns (dictionaries_of fields t)
 

@@ -4,8 +4,9 @@ pub mod Stored
 pub mod Cause
 pub mod Columns
 pub mod Recoded
-pub mod Counted
 pub mod Lawful
 pub mod Held
 pub mod Ready
 pub mod Export
+pub mod Change
+pub mod Compacted

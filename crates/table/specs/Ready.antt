@@ -6,8 +6,9 @@ use mathlib.Core.List.{IsPrefix}
 use Rattle.arrays.specs.Batch.{Batch, rows_of, Table}
 use Rattle.table.specs.Cause.{IsTableOf, batch_cause}
 use Rattle.table.specs.Held.{batches_of, show}
-use Rattle.table.specs.Lawful.{AreStatsOf, IsStored, NamesFront, dictionaries_of, table_of, texts_in}
-use Rattle.table.specs.declared.held.Prepared.{Prepared}
+use Rattle.compaction.specs.Under.{NamesFront}
+use Rattle.table.specs.Lawful.{AreStatsOf, IsStored, dictionaries_of, table_of, texts_in}
+use Rattle.table.specs.declared.change.Addition.{Addition}
 use Rattle.table.specs.declared.held.Held.{Held}
 
 -- The texts of each of the table's columns.
@@ -23,7 +24,7 @@ abbrev pub BeginWithTexts : Held → Table → List (List (List ℕ)) → Type 0
 BeginWithTexts h t pools = AllZip IsPrefix (all_texts h t) pools
 
 -- What is ready is the batch as it is stored after what the table holds.
-pub record IsReady (h : Held) (b : Batch) (p : Prepared) : Type 0 where
+pub record IsReady (h : Held) (b : Batch) (p : Addition) : Type 0 where
   pub allowed : batch_cause (arc_value h.schema) (show h).history b ≡ None
   pub stored : IsStored (arc_value h.schema) (arc_value p.batch)
   pub rows : rows_of (arc_value p.batch) ≡ rows_of b

@@ -2,10 +2,11 @@
 
 ghost use Rattle.std.specs.Prelude.{◌≡◌, ◌+◌, ◌^◌, ◌≤◌, IfOk, OnOk, map, option_map};
 ghost use Rattle.std.specs.Arc.{arc_value};
-ghost use Rattle.table.specs.Held.{HasRoom, IsPut, IsSame};
+ghost use Rattle.table.specs.Held.{HasRoom, IsPut, IsSame, IsWith};
 
 mod empty;
 
+use crate::change::Addition;
 use crate::entry::Entry;
 use arrays::{RecordBatch, Schema, Words};
 use colbits::NoMemory;
@@ -29,15 +30,6 @@ pub(crate) struct Held {
     pub(crate) book: Vec<Entry>,
 }
 
-/// A batch as it is stored, and what the table holds with it: all that is new.
-#[derive(Drop)]
-pub(crate) struct Prepared {
-    pub(crate) batch: Arc<RecordBatch>,
-    pub(crate) batch_stats: Arc<Vec<ColumnStats>>,
-    pub(crate) stats: Arc<Vec<ColumnStats>>,
-    pub(crate) dictionaries: Vec<Option<Arc<Words>>>,
-}
-
 impl Held {
     /// Makes room for one batch more, so that putting it in can't fail.
     pub(crate) fn reserve(&mut self) -> Result<(), NoMemory>
@@ -50,18 +42,18 @@ impl Held {
         Ok(())
     }
 
-    /// Puts a prepared batch of a worker in. No memory is taken.
-    pub(crate) fn put_in(&mut self, worker: u32, new: Prepared)
+    /// Puts a batch of a worker in. No memory is taken.
+    pub(crate) fn put_in(&mut self, worker: u32, addition: Addition)
         requires room { HasRoom self.old }
-        requires few { self.old.rows + (arc_value new.batch).rows ≤ 2 ^ 40 }
-        ensures { IsPut worker new self.old self.new }
+        requires few { self.old.rows + (arc_value addition.batch).rows ≤ 2 ^ 40 }
+        ensures { IsPut worker addition self.old self.new }
     {
-        let Prepared {
+        let Addition {
             batch,
             batch_stats,
             stats,
             dictionaries,
-        } = new;
+        } = addition;
         let rows = batch.rows();
         self.batches.push_reserved(batch);
         self.batch_stats.push_reserved(batch_stats);
@@ -75,51 +67,48 @@ impl Held {
     pub(crate) fn share(&self, alloc: Global, room: usize) -> Result<Held, NoMemory>
         ensures { IfOk result (λ h. IsSame self.now h) }
     {
+        let batches = all_shared(alloc, &self.batches, room)?;
+        let batch_stats = all_shared(alloc, &self.batch_stats, room)?;
+        self.with_batches(alloc, batches, batch_stats, room)
+    }
+
+    /// The same parts, shared, but for the batches and their statistics. In the book lies room for so many entries more.
+    pub(crate) fn with_batches(
+        &self,
+        alloc: Global,
+        batches: Vec<Arc<RecordBatch>>,
+        batch_stats: Vec<Arc<Vec<ColumnStats>>>,
+        room: usize,
+    ) -> Result<Held, NoMemory>
+        ensures { IfOk result (λ h. IsWith batches.items batch_stats.items self.now h) }
+    {
         let mut book = Vec::with_capacity(alloc, self.book.len().saturating_add(room))?;
         book.extend_from_slice(&self.book)?;
         Ok(Held {
             schema: self.schema.clone()?,
             rows: self.rows,
-            batches: all_shared(alloc, &self.batches, room)?,
-            batch_stats: all_shared(alloc, &self.batch_stats, room)?,
+            batches,
+            batch_stats,
             stats: self.stats.clone()?,
             dictionaries: dictionaries_shared(alloc, &self.dictionaries)?,
             book,
         })
     }
 
-    /// The same parts, shared, with a prepared batch of a worker put in.
+    /// The same parts, shared, with a batch of a worker put in.
     pub(crate) fn with_batch(
         &self,
         alloc: Global,
         worker: u32,
-        new: &Prepared,
+        addition: &Addition,
     ) -> Result<Held, NoMemory>
-        requires { self.now.rows + (arc_value new.now.batch).rows ≤ 2 ^ 40 }
-        ensures { IfOk result (λ h. IsPut worker new.now self.now h) }
+        requires { self.now.rows + (arc_value addition.now.batch).rows ≤ 2 ^ 40 }
+        ensures { IfOk result (λ h. IsPut worker addition.now self.now h) }
     {
         let mut held = self.share(alloc, 1)?;
         held.reserve()?;
-        held.put_in(worker, new.share(alloc)?);
+        held.put_in(worker, addition.share(alloc)?);
         Ok(held)
-    }
-}
-
-impl Prepared {
-    /// The same parts, shared.
-    fn share(&self, alloc: Global) -> Result<Prepared, NoMemory>
-        ensures batch { IfOk result (λ p. arc_value p.batch ≡ arc_value self.now.batch) }
-        ensures pieces { IfOk result (λ p. arc_value p.batch_stats ≡ arc_value self.now.batch_stats) }
-        ensures stats { IfOk result (λ p. arc_value p.stats ≡ arc_value self.now.stats) }
-        ensures dictionaries { IfOk result (λ p. map (option_map arc_value) p.dictionaries.items
-            ≡ map (option_map arc_value) self.now.dictionaries.items) }
-    {
-        Ok(Prepared {
-            batch: self.batch.clone()?,
-            batch_stats: self.batch_stats.clone()?,
-            stats: self.stats.clone()?,
-            dictionaries: dictionaries_shared(alloc, &self.dictionaries)?,
-        })
     }
 }
 
@@ -139,7 +128,7 @@ fn all_shared<T: Drop>(
 }
 
 /// The same dictionaries, shared.
-fn dictionaries_shared(
+pub(crate) fn dictionaries_shared(
     alloc: Global,
     dictionaries: &[Option<Arc<Words>>],
 ) -> Result<Vec<Option<Arc<Words>>>, NoMemory>

@@ -3,16 +3,18 @@
 
 mod admission;
 mod cause;
+mod change;
 mod columns;
 pub mod entry;
 mod export;
 mod held;
+mod joining;
 pub mod laws;
+mod look;
 mod nulls;
 pub mod ready;
 pub mod refusal;
 pub mod state;
-mod stats;
 mod stored;
 pub mod version;
 

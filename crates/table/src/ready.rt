@@ -2,12 +2,11 @@
 
 ghost use Rattle.std.specs.Prelude.{◌≡◌, IfOk};
 ghost use Rattle.std.specs.Arc.{arc_value};
-ghost use Rattle.table.specs.Counted.{AreTheirs};
+ghost use Rattle.group.specs.Columns.{AreTheirs};
 
-use crate::stats::shared_stats;
 use arrays::RecordBatch;
 use colbits::NoMemory;
-use group::ColumnStats;
+use group::{ColumnStats, stats_of_all};
 use std::alloc::Global;
 use std::marker::Model;
 use std::sync::Arc;
@@ -31,7 +30,7 @@ impl Model for Ready {
     ghost coded = { batch_code };
 
     ghost use Rattle.std.specs.Arc.{arc_value};
-    ghost use Rattle.table.specs.Counted.{AreTheirs};
+    ghost use Rattle.group.specs.Columns.{AreTheirs};
 
     ghost view = { λ r. r.batch };
 
@@ -70,4 +69,15 @@ impl Ready {
         let Ready { batch, batch_stats } = self;
         (batch, batch_stats)
     }
+}
+
+/// The statistics of each column of a batch, to be shared.
+pub(crate) fn shared_stats(
+    alloc: Global,
+    batch: &RecordBatch,
+) -> Result<Arc<Vec<ColumnStats>>, NoMemory>
+    ensures { IfOk result (λ s. AreTheirs batch.now.columns (arc_value s).items) }
+{
+    let stats = stats_of_all(alloc, batch.columns())?;
+    Ok(Arc::new(alloc, stats)?)
 }

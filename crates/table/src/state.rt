@@ -4,16 +4,18 @@ ghost use Rattle.std.specs.Prelude.{◌≡◌, ◌⊎◌, [], IfErr, IfOk, None,
 ghost use Rattle.std.specs.Arc.{arc_value};
 ghost use Rattle.table.specs.Cause.{IsLegal, batch_cause, early_cause};
 ghost use Rattle.table.specs.Contents.{Contents, admitted};
-ghost use Rattle.table.specs.Counted.{AreTheirs};
+ghost use Rattle.group.specs.Columns.{AreTheirs};
+ghost use Rattle.table.specs.Compacted.{IsCompacted};
 ghost use Rattle.table.specs.Stored.{stored_fields};
 
-use crate::admission::{prepare, prepare_shown};
 use crate::cause::early_refusal;
+use crate::change::{Change, commit};
 use crate::held::Held;
-use crate::ready::Ready;
+use crate::look::Look;
+use crate::ready::{Ready, shared_stats};
 use crate::refusal::Refusal;
-use crate::stats::shared_stats;
 use crate::version::Version;
+use crate::{admission, joining};
 use arrays::{RecordBatch, Schema};
 use colbits::NoMemory;
 use group::ColumnStats;
@@ -76,7 +78,8 @@ impl TableState {
             return Err(refusal);
         }
         let batch_stats = shared_stats(self.alloc, batch)?;
-        self.put(worker, batch, batch_stats)
+        let (number, ()) = self.add(worker, batch, batch_stats)?;
+        Ok(number)
     }
 
     /// Does what `admit` does with a batch that was made ready before, so that a lock over the table is held no longer than it
@@ -93,7 +96,10 @@ impl TableState {
         let (batch, batch_stats) = ready.parts();
         match early_refusal(&self.held, &batch) {
             Some(refusal) => Err(refusal),
-            None => self.put(worker, &batch, batch_stats),
+            None => {
+                let (number, ()) = self.add(worker, &batch, batch_stats)?;
+                Ok(number)
+            }
         }
     }
 
@@ -112,45 +118,21 @@ impl TableState {
         let (batch, batch_stats) = ready.parts();
         match early_refusal(&self.held, &batch) {
             Some(refusal) => Err(refusal),
-            None => self.put_shown(worker, &batch, batch_stats),
+            None => self.add(worker, &batch, batch_stats),
         }
     }
 
-    /// Puts a batch in, whose statistics were made before. Nothing but its texts and the memory can stand against it.
-    fn put(
+    /// Adds a batch whose statistics were made before. Nothing but its texts and the memory can stand against it.
+    fn add<L: Look>(
         &mut self,
         worker: u32,
         batch: &RecordBatch,
         batch_stats: Arc<Vec<ColumnStats>>,
-    ) -> Result<u32, Refusal>
-        requires stats { AreTheirs batch.now.columns (arc_value batch_stats).items }
-        requires allowed { early_cause self.old.fields self.old.history batch.now ≡ None }
-        ensures number { IfOk result (λ n. n ≡ length self.old.history) }
-        ensures allowed { OnOk result (batch_cause self.old.fields self.old.history batch.now ≡ None) }
-        ensures added { OnOk result (self.new ≡ admitted self.old worker batch.now) }
-        ensures err { IfErr result (λ e. (e ≡ Refusal.NoMemory)
-            ⊎ (batch_cause self.old.fields self.old.history batch.now ≡ Some e)) }
-        ensures kept { OnErr result (self.new ≡ self.old) }
-        ensures legal { IsLegal self.new.fields self.new.history }
-    {
-        let number = self.held.book.len() as u32;
-        self.held.reserve()?;
-        let new = prepare(self.alloc, &self.held, &mut self.pools, batch, batch_stats)?;
-        self.held.put_in(worker, new);
-        Ok(number)
-    }
-
-    /// The same, with the version that shows the batch.
-    fn put_shown(
-        &mut self,
-        worker: u32,
-        batch: &RecordBatch,
-        batch_stats: Arc<Vec<ColumnStats>>,
-    ) -> Result<(u32, Arc<Version>), Refusal>
+    ) -> Result<(u32, L), Refusal>
         requires stats { AreTheirs batch.now.columns (arc_value batch_stats).items }
         requires allowed { early_cause self.old.fields self.old.history batch.now ≡ None }
         ensures number { IfOk result (λ r. r.0 ≡ length self.old.history) }
-        ensures shown { IfOk result (λ r. arc_value r.1 ≡ self.new) }
+        ensures seen { IfOk result (λ r. L.sees r.1 self.new) }
         ensures allowed { OnOk result (batch_cause self.old.fields self.old.history batch.now ≡ None) }
         ensures added { OnOk result (self.new ≡ admitted self.old worker batch.now) }
         ensures err { IfErr result (λ e. (e ≡ Refusal.NoMemory)
@@ -160,16 +142,54 @@ impl TableState {
     {
         let number = self.held.book.len() as u32;
         self.held.reserve()?;
-        let (prepared, version) = prepare_shown(
+        let addition = admission::stage(
             self.alloc,
             &self.held,
             &mut self.pools,
-            worker,
             batch,
             batch_stats,
         )?;
-        self.held.put_in(worker, prepared);
-        Ok((number, version))
+        let change = Change::Batch { worker, addition };
+        let seen = commit(self.alloc, &mut self.held, &mut self.pools, change)?;
+        Ok((number, seen))
+    }
+
+    /// Joins neighbouring batches. From the first on, a batch is joined to those before it where all of them together have at
+    /// most `max_rows` rows, no more than an array holds, and no offset is past 2^31 - 1. Rows, book, dictionaries and the
+    /// statistics of columns stay; a batch that stays alone is shared. After a refusal the table is as it was.
+    pub fn compact(&mut self, max_rows: u32) -> Result<(), NoMemory>
+        ensures compacted { OnOk result (IsCompacted max_rows self.old self.new) }
+        ensures kept { OnErr result (self.new ≡ self.old) }
+        ensures legal { IsLegal self.new.fields self.new.history }
+    {
+        self.join(max_rows)
+    }
+
+    /// Does what `compact` does, and gives the version of the table with the batches joined, for two who look at it. It is made
+    /// before they are joined.
+    pub fn compact_shown(&mut self, max_rows: u32) -> Result<(Arc<Version>, Arc<Version>), NoMemory>
+        ensures shown { IfOk result (λ v. (arc_value v.0 ≡ self.new) × (arc_value v.1 ≡ self.new)) }
+        ensures compacted { OnOk result (IsCompacted max_rows self.old self.new) }
+        ensures kept { OnErr result (self.new ≡ self.old) }
+        ensures legal { IsLegal self.new.fields self.new.history }
+    {
+        self.join(max_rows)
+    }
+
+    /// Joins neighbouring batches, and gives what is made of the table as it is then.
+    fn join<L: Look>(&mut self, max_rows: u32) -> Result<L, NoMemory>
+        ensures seen { IfOk result (λ l. L.sees l self.new) }
+        ensures compacted { OnOk result (IsCompacted max_rows self.old self.new) }
+        ensures kept { OnErr result (self.new ≡ self.old) }
+        ensures legal { IsLegal self.new.fields self.new.history }
+    {
+        let next = joining::stage(self.alloc, &self.held, max_rows)?;
+        commit(
+            self.alloc,
+            &mut self.held,
+            &mut self.pools,
+            Change::Whole(next),
+        )
     }
 
     /// The table as it is, to be shared and read. No column is copied.

@@ -19,7 +19,7 @@ pub(crate) enum Case {
     Refused,
     Whole,
     Soak,
-    /// Each of so many workers appends so many batches, and each reader looks as often.
+    /// Each of so many workers appends so many batches; the others join them, and each reader looks, as often.
     LookOn { count: u32, turns: u32 },
 }
 

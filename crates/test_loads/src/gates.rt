@@ -1,6 +1,6 @@
 //! A gate at which one worker waits for another, and one that counts.
 
-use answers::Gate;
+use crews::Gate;
 use std::hint::spin_loop;
 use std::sync::atomic::{AtomicBool, AtomicU64, Ordering};
 

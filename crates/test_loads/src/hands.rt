@@ -5,22 +5,29 @@ use std::alloc::Global;
 use std::sync::ledger::Ledger;
 use std::test::Fail;
 
-/// A worker, or a reader.
+/// A worker that appends, one that joins what was appended, or a reader.
 #[derive(Drop)]
 pub(crate) enum Hand<C: Ledger, Q: Ledger, N: Naming> {
     Appends(Worker<C, Q, N>),
+    Joins(Worker<C, Q, N>),
     Reads(Reader<N>),
 }
 
-/// All workers, and behind them all readers.
+/// All workers, of whom so many append and the others join, and behind them all readers.
 pub(crate) fn all_hands<C: Ledger, Q: Ledger, N: Naming>(
     alloc: Global,
     workers: Vec<Worker<C, Q, N>>,
+    count: u32,
     readers: Vec<Reader<N>>,
 ) -> Result<Vec<Hand<C, Q, N>>, Fail> {
     let mut hands = Vec::new(alloc);
     for worker in workers {
-        hands.push(Hand::Appends(worker))?;
+        let hand = if worker.number() < count {
+            Hand::Appends(worker)
+        } else {
+            Hand::Joins(worker)
+        };
+        hands.push(hand)?;
     }
     for reader in readers {
         hands.push(Hand::Reads(reader))?;
@@ -35,8 +42,10 @@ pub(crate) fn workers_of<C: Ledger, Q: Ledger, N: Naming>(
 ) -> Result<Vec<Worker<C, Q, N>>, Fail> {
     let mut workers = Vec::new(alloc);
     for hand in hands {
-        if let Hand::Appends(worker) = hand {
-            workers.push(worker)?;
+        match hand {
+            Hand::Appends(worker) => workers.push(worker)?,
+            Hand::Joins(worker) => workers.push(worker)?,
+            Hand::Reads(_reader) => {}
         }
     }
     Ok(workers)

@@ -3,8 +3,8 @@
 use crate::cases::Case;
 use crate::gates::{Counting, Holding};
 use crate::testing::{NUMBERS, expect_added, load, play};
-use answers::OpenGate;
 use arrow_json::read_file;
+use crews::OpenGate;
 use loads::LoadFault;
 use shared::{Naming, Publish, Refusal, SharedTable, Shown, Worker};
 use std::alloc::Global;
@@ -74,7 +74,7 @@ fn a_worker_without_a_file_appends_nothing(rt: HostRuntime) -> Result<(), Fail> 
     play(&rt, &rt, rt.alloc(), file.schema(), 3, 0, Case::Alone)
 }
 
-/// Of three workers only the first has a file.
+/// Of three workers only the first has a file, and it has one when files are loaded again: appends are counted from 0 on then.
 pub(crate) fn alone<
     C: Ledger + Send + Sync,
     Q: Ledger + Send + Sync,
@@ -102,7 +102,11 @@ pub(crate) fn alone<
     )??;
     assert!(rt; gate.has_let_in(2, 0));
     assert!(rt; receipts.len() == 1 && receipts[0].entry() == 1);
-    let ones: &[_] = &[[Some(1), Some(2)].as_slice(), &[Some(3)]];
+    let again = Counting::new();
+    let receipts = load(wait, rt, alloc, &table, &mut workers, &[FOUR], &again)??;
+    assert!(rt; again.has_let_in(1, 0));
+    assert!(rt; receipts.len() == 1 && receipts[0].entry() == 2);
+    let ones: &[_] = &[[Some(1), Some(2)].as_slice(), &[Some(3)], &[Some(4)]];
     expect_added(wait, rt, alloc, table, workers, &[ones, &[], &[]])
 }
 

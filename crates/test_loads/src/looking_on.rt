@@ -1,4 +1,5 @@
-//! Workers that append for long, and readers who look on: nothing is lost, and nothing that was seen goes.
+//! Workers that append for long, one that joins what they append, and readers who look on: nothing is lost, and nothing that was
+//! seen goes.
 
 use crate::cases::Case;
 use crate::hands::{Hand, all_hands, workers_of};
@@ -24,19 +25,24 @@ fn two_readers_look_on_while_two_workers_append(rt: HostRuntime) -> Result<(), F
 }
 
 #[test]
-fn sixteen_readers_look_on_while_sixteen_workers_append(rt: HostRuntime) -> Result<(), Fail> {
+fn sixteen_readers_look_on_while_sixteen_workers_append_and_one_joins(
+    rt: HostRuntime,
+) -> Result<(), Fail> {
     let case = Case::LookOn {
         count: 16,
         turns: 625,
     };
-    play(&rt, &rt, rt.alloc(), &no_columns(rt.alloc())?, 16, 16, case)
+    play(&rt, &rt, rt.alloc(), &no_columns(rt.alloc())?, 17, 16, case)
 }
 
 fn no_columns(alloc: Global) -> Result<Schema, Fail> {
     Ok(Schema::new(Vec::new(alloc))?)
 }
 
-/// Each worker appends so many batches, and each reader looks as often.
+/// How many rows the batches have at most that are joined.
+const MOST_ROWS: u32 = 64;
+
+/// Each worker appends so many batches, or joins them as often, and each reader looks as often.
 #[derive(Drop)]
 pub(crate) struct Soaking<
     'a,
@@ -53,7 +59,7 @@ pub(crate) struct Soaking<
     turns: u32,
     /// The receipt that a worker told of last.
     told: Mutex<Option<Receipt<N>>>,
-    /// A batch was refused, or a reader missed what it had seen or learnt of.
+    /// A batch was refused, batches couldn't be joined, or somebody missed what was there before.
     is_wrong: AtomicBool,
 }
 
@@ -66,6 +72,7 @@ impl<'a, C: Ledger, Q: Ledger, N: Naming, P: Publish<Item = Shown<N>>, W: Wait> 
     fn work(&self, _place: usize, hand: &mut Hand<C, Q, N>) {
         let is_right = match hand {
             Hand::Appends(worker) => self.append(worker),
+            Hand::Joins(worker) => self.join(worker),
             Hand::Reads(reader) => self.read(reader),
         };
         if !is_right {
@@ -89,6 +96,19 @@ impl<'a, C: Ledger, Q: Ledger, N: Naming, P: Publish<Item = Shown<N>>, W: Wait> 
                 Ok(receipt) => *self.told.lock(self.wait) = Some(receipt),
                 Err(_) => return false,
             }
+        }
+        true
+    }
+
+    /// Whether all batches could be joined, and no row was lost by that.
+    fn join(&self, worker: &mut Worker<C, Q, N>) -> bool {
+        let mut rows = 0;
+        for _turn in 0..self.turns {
+            match self.table.compact(self.wait, worker, MOST_ROWS) {
+                Ok(version) if version.rows() >= rows => rows = version.rows(),
+                _ => return false,
+            }
+            yield_now();
         }
         true
     }
@@ -122,7 +142,7 @@ impl<'a, C: Ledger, Q: Ledger, N: Naming, P: Publish<Item = Shown<N>>, W: Wait> 
     }
 }
 
-/// Has workers append and readers look on together, then counts what each worker appended.
+/// Has so many workers append, the others join, and readers look on together, then counts what each worker appended.
 pub(crate) fn look_on<
     C: Ledger + Send + Sync,
     Q: Ledger + Send + Sync,
@@ -140,7 +160,7 @@ pub(crate) fn look_on<
     count: u32,
     turns: u32,
 ) -> Result<(), Fail> {
-    let mut hands = all_hands(alloc, workers, readers)?;
+    let mut hands = all_hands(alloc, workers, count, readers)?;
     let batch = RecordBatch::new(no_columns(alloc)?, 1, Vec::new(alloc))?;
     assert!(rt; work_together(wait, rt, &table, &mut hands, &batch, turns));
     let all = u64::from(count) * u64::from(turns);

@@ -2,9 +2,9 @@
 
 use crate::cases::Case;
 use crate::testing::play;
-use answers::OpenGate;
 use arrays::File;
 use arrow_json::read_file;
+use crews::OpenGate;
 use loads::load_all;
 use shared::{Naming, Publish, SharedTable, Shown, Version, Worker};
 use std::alloc::Global;

@@ -4,9 +4,9 @@ ghost use Rattle.std.specs.Prelude.{◌≡◌};
 ghost use Rattle.table.specs.Stored.{stored_fields};
 
 use crate::cases::{Case, play_case};
-use answers::Gate;
 use arrays::{File, Schema};
 use arrow_json::read_file;
+use crews::Gate;
 use loads::{LoadFault, load_all};
 use shared::{Naming, Pair, Publish, Receipt, SharedTable, Shown, Worker, open};
 use std::alloc::Global;

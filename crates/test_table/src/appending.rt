@@ -13,8 +13,8 @@ use shared::{
 };
 use std::alloc::Global;
 use std::process::Abort;
-use std::sync::Wait;
 use std::sync::ledger::Ledger;
+use std::sync::{Arc, Wait};
 use std::test::Fail;
 use std::thread::Threads;
 
@@ -42,7 +42,8 @@ impl Scene for TwoOfThree {
     ) -> Result<(), Fail> {
         let mut workers = workers;
         append_five(rt, alloc, &table, &mut workers)?;
-        gather_late(rt, table, workers)
+        expect_appended(rt, &*gather_late(rt, table, workers)?);
+        Ok(())
     }
 }
 
@@ -63,27 +64,60 @@ fn append_five<C: Ledger, Q: Ledger, N: Naming, P: Publish<Item = Shown<N>>, R: 
     Ok(())
 }
 
-/// Without its last two workers the table isn't gathered; with them it is.
+/// Without the workers behind its first the table isn't gathered; with them it is.
 fn gather_late<C: Ledger, Q: Ledger, N: Naming, P: Publish<Item = Shown<N>>, R: Wait + Abort>(
     rt: &R,
     table: SharedTable<C, Q, N, P>,
     workers: Vec<Worker<C, Q, N>>,
-) -> Result<(), Fail> {
+) -> Result<Arc<Version>, Fail> {
     let mut workers = workers;
-    let (third, second) = (workers.pop(), workers.pop());
+    let count = workers.len();
+    assert!(rt; count > 0);
+    let mut others = workers.split_off(1)?;
     let fault = table.gather(rt, workers).err();
     let GatherFault {
         cause,
         table,
         mut workers,
-    } = fault.expect(rt, "two are missing");
+    } = fault.expect(rt, "the others are missing");
     assert!(rt; cause == GatherCause::WorkerMissing { number: 1 });
-    workers.extend(second)?;
-    workers.extend(third)?;
+    assert!(rt; workers.len() == 1 && workers[0].number() == 0);
+    workers.append(&mut others)?;
     let gathered = table.gather(rt, workers).ok().expect(rt, "all are there");
-    assert!(rt; gathered.workers.len() == 3);
-    expect_appended(rt, &*gathered.version);
-    Ok(())
+    assert!(rt; gathered.workers.len() == count);
+    Ok(gathered.version)
+}
+
+#[test]
+fn one_worker_of_two_is_not_all(rt: HostRuntime) -> Result<(), Fail> {
+    play::<OneOfTwo, _>(&rt, rt.alloc(), &schema_of(rt.alloc(), true)?, 2, 0)
+}
+
+/// Both of two workers append; the first alone isn't all.
+struct OneOfTwo;
+
+impl Scene for OneOfTwo {
+    fn play<
+        C: Ledger + Send + Sync,
+        Q: Ledger + Send + Sync,
+        N: Naming + Send + Sync,
+        P: Publish<Item = Shown<N>> + Send,
+        R: Wait + Threads + Abort + Sync,
+    >(
+        rt: &R,
+        alloc: Global,
+        table: SharedTable<C, Q, N, P>,
+        workers: Vec<Worker<C, Q, N>>,
+        _readers: Vec<Reader<N>>,
+    ) -> Result<(), Fail> {
+        let mut workers = workers;
+        for worker in workers.iter_mut() {
+            append(rt, alloc, &table, worker, SEVEN_AND_NINE)?;
+        }
+        let version = gather_late(rt, table, workers)?;
+        assert!(rt; version.rows() == 4 && version.book_len() == 2);
+        Ok(())
+    }
 }
 
 /// Asserts that a version shows what the first two workers appended, batch by batch.

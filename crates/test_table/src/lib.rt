@@ -10,6 +10,10 @@ mod appending;
 #[cfg(test)]
 mod batches;
 #[cfg(test)]
+mod compacting;
+#[cfg(test)]
+mod joining;
+#[cfg(test)]
 mod limits;
 #[cfg(test)]
 mod opening;

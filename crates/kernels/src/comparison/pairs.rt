@@ -7,9 +7,8 @@ ghost use Rattle.std.specs.declared.cmp.Ordering.{Ordering};
 ghost use Rattle.colbits.specs.Bit.{bit_in};
 ghost use Rattle.arrays.specs.Offsets.{of_slot};
 ghost use Rattle.arrays.specs.Seen.{valid_in};
-ghost use Rattle.arrays.specs.Slot.{holds_at, is_text};
-ghost use Rattle.kernels.specs.Lift.{item_at};
-ghost use Rattle.kernels.specs.Order.{order};
+ghost use Rattle.arrays.specs.Slot.{holds_at, is_text, item_at};
+ghost use Rattle.arrays.specs.Order.{order};
 ghost use Rattle.kernels.specs.Wanted.{wants};
 
 use super::packed::{are_equal, are_less, chosen};

@@ -2,7 +2,7 @@ use Rattle.std.proofs.Common.{◌≡◌, IfOk, Some, length, subst, sym}
 use Rattle.std.specs.Int.{w128}
 use Rattle.std.proofs.lemmas.Int.{to_z-of_z}
 use Rattle.arrays.specs.Item.{int}
-use Rattle.kernels.specs.Lift.{item_at}
+use Rattle.arrays.specs.Slot.{item_at}
 use Rattle.query.specs.Sorts.{sort_of_kind, sort_of_two}
 use Rattle.query.specs.declared.sort.Sort.TheVariants.{Literal, Truth}
 use Rattle.evaluate.specs.Making.{AreMade, StopsMaking, in_order}

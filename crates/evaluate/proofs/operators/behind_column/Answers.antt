@@ -1,6 +1,6 @@
 use Rattle.std.proofs.Common.{IfErr, IfOk, length, subst, sym}
 use Rattle.arrays.specs.Seen.{Seen}
-use Rattle.kernels.specs.Lift.{item_at}
+use Rattle.arrays.specs.Slot.{item_at}
 use Rattle.query.specs.Sorts as sorts
 use Rattle.query.specs.Sorts.{sort_of_kind, sort_of_two}
 use Rattle.evaluate.specs.Making.{AreMade, StopsMaking}

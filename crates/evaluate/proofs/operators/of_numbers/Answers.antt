@@ -4,7 +4,7 @@ use Rattle.std.proofs.lemmas.Int.{to_z-of_z}
 use Rattle.types.specs.Kind as kind
 use Rattle.arrays.specs.Item.{int}
 use Rattle.arrays.specs.Shown.{shown}
-use Rattle.kernels.specs.Lift.{item_at}
+use Rattle.arrays.specs.Slot.{item_at}
 use Rattle.query.specs.Sorts.{int64, sort_of_kind, sort_of_two}
 use Rattle.query.specs.declared.sort.Sort.TheVariants.{Literal}
 use Rattle.evaluate.specs.Making.{AreMade, StopsMaking, in_order}

@@ -1,7 +1,6 @@
 use Rattle.std.proofs.Common.{◌≡◌, ◌∙◌, [], ap, arith, inl, inr, sym}
 use Rattle.std.specs.Arc.{arc_value}
 use Rattle.shared.proofs.SeenLemmas.{some_each}
-use Rattle.table.specs.Contents.{Contents}
 use Rattle.shared.proofs.opening.open.Goals as goal
 use Rattle.shared.proofs.opening.open.Goals.{then-workers-gt-MOST-via-then-workers-gt-MOST, then-workers-gt-MOST-via-else-workers-gt-MOST+then-readers-gt-MOST}
 

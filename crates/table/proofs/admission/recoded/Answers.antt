@@ -9,7 +9,7 @@ use Rattle.arrays.specs.Shape.{FieldShape}
 use Rattle.arrays.specs.Typed.{IsItemOf}
 use Rattle.group.specs.declared.stats.ColumnStats.{ColumnStats}
 use Rattle.table.specs.Cause.{batch_cause}
-use Rattle.table.specs.Counted.{AreJoined}
+use Rattle.group.specs.Columns.{AreJoined}
 use Rattle.table.specs.Held.{show}
 use Rattle.table.specs.Recoded.{full_cause}
 use Rattle.table.proofs.KeptLemmas.{IsFew}

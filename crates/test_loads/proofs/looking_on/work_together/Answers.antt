@@ -32,7 +32,10 @@ module _ (C Q N : RattleType) (c : ledger.Ghosts C.Denot) (q : ledger.Ghosts Q.D
   hand-send =
       let T = hand.the_type C Q N c q n m in
       recorded_send (Enum (variants T)) T.D T.to T.to_one
-      (enum_send (variants T) ((search (worker.the_send, crosses, sendable) depth 20, tt), ((search (reader-send N n m, crosses, sendable) depth 20, tt), tt)))
+      (enum_send (variants T) (
+        (search (worker.the_send, crosses, sendable) depth 20, tt),
+        ((search (worker.the_send, crosses, sendable) depth 20, tt), ((search (reader-send N n m, crosses, sendable) depth 20, tt), tt)),
+      ))
 
 module _ (C Q N P : RattleType) (c : ledger.Ghosts C.Denot) (q : ledger.Ghosts Q.Denot) (n : naming.Ghosts N.Denot) (m : names.Ghosts N.Denot) (p : publish.Ghosts P.Denot Contents) (send-P : IsSend P) where
   receipt-send : IsSend (receipt.the_row N n m)

@@ -17,6 +17,9 @@ raise-requires-clause-rows g c =
     let few = room s.fields s.history c.args.ready c.in_ok-next.ensures.allowed in
     omega (arith, few, c.self.invariant.0.held, ap (λ (b : Batch). b.rows) (sym c.requires))
 
+pub show-requires-clause-there : goal.show-requires-clause-there
+show-requires-clause-there g c = c.in_ok-next.ensures.shown ∙ c.is_some.ensures
+
 pub invariant_of-self-2 : goal.invariant_of-self-2
 invariant_of-self-2 g c =
     let is = c.self.invariant in

@@ -1,4 +1,4 @@
-use Rattle.std.proofs.Common.{arith, length, subst}
+use Rattle.std.proofs.Common.{arith, subst}
 use Rattle.std.specs.Prelude.{All}
 use Rattle.shared.specs.Hand.{IsPartOf, IsWhole}
 use Rattle.shared.proofs.PartLemmas.{all_whole}

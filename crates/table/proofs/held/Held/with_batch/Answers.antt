@@ -3,11 +3,11 @@ use Rattle.table.proofs.held.Held.with_batch.Goals as goal
 
 pub put_in-requires-clause-few : goal.put_in-requires-clause-few
 put_in-requires-clause-few c =
-    shared-few c.args.self.now c.in_ok-held.held c.reserve.new.self c.args.new.now c.in_ok-share.field-0 c.in_ok-held.ensures c.reserve.ensures.same c.in_ok-share.ensures.batch
+    shared-few c.args.self.now c.in_ok-held.held c.reserve.new.self c.args.addition.now c.in_ok-share.field-0 c.in_ok-held.ensures c.reserve.ensures.same c.in_ok-share.ensures.batch
     c.requires
 
 pub returns : goal.returns
 returns c =
     let new = c.in_ok-share.ensures in
-    put-shared c.args.self.now c.in_ok-held.held c.reserve.new.self c.args.new.now c.in_ok-share.field-0 c.in_ok-held.ensures c.reserve.ensures.same new.batch
+    put-shared c.args.self.now c.in_ok-held.held c.reserve.new.self c.args.addition.now c.in_ok-share.field-0 c.in_ok-held.ensures c.reserve.ensures.same new.batch
     c.put_in.new.self c.args.worker c.put_in.ensures new.pieces new.stats new.dictionaries

@@ -11,7 +11,8 @@ use Rattle.arrays.specs.Shape.{FieldShape}
 use Rattle.table.specs.Contents.{Contents}
 use Rattle.table.specs.Held.{batches_of, book_of, dictionaries_in}
 use Rattle.table.specs.History.{book, rows}
-use Rattle.table.specs.Lawful.{EndsWithEntry, IsStored, NamesFront, NamesFronts, dictionaries_of, table_of}
+use Rattle.compaction.specs.Under.{NamesFront}
+use Rattle.table.specs.Lawful.{EndsWithEntry, IsStored, NamesFronts, dictionaries_of, table_of}
 use Rattle.table.proofs.HeldLemmas.{all-of-map, book-shown, rows-shown}
 use Rattle.table.proofs.version.Version.batches.Goals as goal
 

@@ -1,0 +1,115 @@
+-- How much texts and lists hold, added up.
+use Rattle.std.proofs.Common.{◌≡◌, ◌∙◌, ℕ, zero, suc, ◌+◌, ◌-◌, ◌≤◌, ◌<◌, List, [], ◌∷◌, ◌++◌, length, drop, true, false, Option, None, Some, ap, sym, refl, arith, length-append}
+use Rattle.std.specs.Prelude.{IfNone, slice_get}
+use Rattle.std.proofs.lemmas.Bool.{or_from, or_left, or_right}
+use Rattle.std.proofs.lemmas.Bool.Decides.{nat_tests}
+use Rattle.std.proofs.lemmas.Grind.{flat_map-append}
+use Rattle.std.proofs.lemmas.List.{append-nil}
+use Rattle.std.proofs.lemmas.List.Sums.{sum_by-append}
+use Rattle.arrays.specs.Item.{Item, items_of, list, list_of, null}
+use Rattle.arrays.specs.Kind as kind
+use Rattle.arrays.specs.Kind.{Kind, depth}
+use Rattle.arrays.specs.Lengths.{inner_items, is_past, items_in, text_length}
+use Rattle.select.specs.Big.{is_too_big}
+use Rattle.select.proofs.ListLemmas.{items_of-list_of}
+use Rattle.compaction.specs.Sizes.{levels, size_at}
+
+pub more-past : (m n : ℕ) → m ≤ n → is_past m ≡ true → is_past n ≡ true
+more-past m n le past = grind (arith, nat_tests)
+
+pub drop-at : {A : Type 0} (xs : List A) (i : ℕ) (x : A) → slice_get xs i ≡ Some x → drop i xs ≡ x ∷ drop (i + 1) xs
+drop-at [] i x at = cc
+drop-at (y ∷ xs) zero x at = let same : y ≡ x = cc in ap (λ z. z ∷ xs) same
+drop-at (y ∷ xs) (suc i) x at = let next : suc i + 1 ≡ suc (i + 1) = omega arith in drop-at xs i x at ∙ ap (λ j. x ∷ drop j (y ∷ xs)) (sym next)
+
+-- ---- what two columns hold, one behind the other
+
+pub size-append : (k : Kind) (level : ℕ) (xs ys : List Item) → size_at k level (xs ++ ys) ≡ size_at k level xs + size_at k level ys
+size-append (kind.int t) level xs ys = refl
+size-append kind.boolean level xs ys = refl
+size-append kind.dict level xs ys = refl
+size-append kind.utf8 zero xs ys = sum_by-append text_length xs ys
+size-append kind.utf8 (suc level) xs ys = refl
+size-append (kind.list k) zero xs ys = ap (λ (l : List Item). length l) (flat_map-append items_in xs ys) ∙ length-append (inner_items xs) (inner_items ys)
+size-append (kind.list k) (suc level) xs ys = ap (size_at k level) (flat_map-append items_in xs ys) ∙ size-append k level (inner_items xs) (inner_items ys)
+
+-- with one item more, counted from the rest
+pub size-rest : (k : Kind) (level : ℕ) (items : List Item) (i : ℕ) (x : Item) → slice_get items i ≡ Some x
+    → size_at k level (drop i items) ≡ size_at k level (x ∷ []) + size_at k level (drop (i + 1) items)
+size-rest k level items i x at = ap (size_at k level) (drop-at items i x at) ∙ size-append k level (x ∷ []) (drop (i + 1) items)
+
+-- ---- all levels
+
+-- what is past at a level is too big
+pub too-big-at : (k : Kind) (level : ℕ) (items : List Item) → is_past (size_at k level items) ≡ true → is_too_big k items ≡ true
+too-big-at (kind.int t) level items past = past
+too-big-at kind.boolean level items past = past
+too-big-at kind.dict level items past = past
+too-big-at kind.utf8 zero items past = past
+too-big-at kind.utf8 (suc level) items past = absurd cc
+too-big-at (kind.list k) zero items past = or_left (is_past (length (inner_items items))) (is_too_big k (inner_items items)) past
+too-big-at (kind.list k) (suc level) items past = or_right (is_past (length (inner_items items))) (is_too_big k (inner_items items)) (too-big-at k level (inner_items items) past)
+
+-- what is past at no level is not too big
+pub fits-at-all : (k : Kind) (items : List Item) → ((level : ℕ) → level < levels k → is_past (size_at k level items) ≡ false) → is_too_big k items ≡ false
+fits-at-all (kind.int t) items fits = refl
+fits-at-all kind.boolean items fits = refl
+fits-at-all kind.dict items fits = refl
+fits-at-all kind.utf8 items fits = fits 0 (omega arith)
+fits-at-all (kind.list k) items fits =
+    or_from (is_past (length (inner_items items))) (is_too_big k (inner_items items)) (fits 0 (omega arith))
+    (fits-at-all k (inner_items items) (λ level below. fits (suc level) (omega (arith, below))))
+
+pub levels-depth : (k : Kind) → levels k ≤ depth k + 1
+levels-depth (kind.int t) = omega arith
+levels-depth kind.boolean = omega arith
+levels-depth kind.dict = omega arith
+levels-depth kind.utf8 = omega arith
+levels-depth (kind.list k) = omega (arith, levels-depth k)
+
+-- ---- one item more
+
+-- what is left, with an item less
+pub size-less : (k : Kind) (level : ℕ) (items : List Item) (i : ℕ) (x : Item) (size more all : ℕ) → slice_get items i ≡ Some x → size + size_at k level (drop i items) ≡ all
+    → more ≡ size + size_at k level (x ∷ []) → more + size_at k level (drop (i + 1) items) ≡ all
+size-less k level items i x size more all at left sum = omega (arith, size-rest k level items i x at, left, sum)
+
+-- a sum that is past with one item is so with all
+pub past-with : (k : Kind) (level : ℕ) (items : List Item) (i : ℕ) (x : Item) (size all : ℕ) → slice_get items i ≡ Some x → size + size_at k level (drop i items) ≡ all
+    → is_past (size + size_at k level (x ∷ [])) ≡ true → is_past all ≡ true
+past-with k level items i x size all at left past = more-past (size + size_at k level (x ∷ [])) all (omega (arith, size-rest k level items i x at, left)) past
+
+-- what one list holds
+pub list-size : (xs : List Item) → length (inner_items (list (list_of xs) ∷ [])) ≡ length xs
+list-size xs = ap (λ (l : List Item). length l) (append-nil (items_of (list_of xs)) ∙ items_of-list_of xs)
+
+-- what the items of one list hold
+pub inner-size : (k l : Kind) (level : ℕ) (xs : List Item) → kind.list k ≡ l → 1 ≤ level → size_at l level (list (list_of xs) ∷ []) ≡ size_at k (level - 1) xs
+inner-size k l zero xs is some = absurd (omega (arith, some))
+inner-size k l (suc level) xs is some =
+    ap (λ m. size_at m (suc level) (list (list_of xs) ∷ [])) (sym is)
+    ∙ ap (size_at k level) (append-nil (items_of (list_of xs)) ∙ items_of-list_of xs)
+    ∙ ap (λ n. size_at k n xs) (let same : level ≡ suc level - 1 = omega arith in same)
+
+pub size-none : (k : Kind) (level : ℕ) → size_at k level [] ≡ 0
+size-none (kind.int t) level = refl
+size-none kind.boolean level = refl
+size-none kind.dict level = refl
+size-none kind.utf8 zero = refl
+size-none kind.utf8 (suc level) = refl
+size-none (kind.list k) zero = refl
+size-none (kind.list k) (suc level) = size-none k level
+
+-- a null holds nothing
+pub null-size : (k : Kind) (level : ℕ) → size_at k level (null ∷ []) ≡ 0
+null-size (kind.int t) level = refl
+null-size kind.boolean level = refl
+null-size kind.dict level = refl
+null-size kind.utf8 zero = refl
+null-size kind.utf8 (suc level) = refl
+null-size (kind.list k) zero = refl
+null-size (kind.list k) (suc level) = size-none k level
+
+pub if-none : {A : Type 0} (o : Option A) (P : Type 0) → P → IfNone o P
+if-none None P h = h
+if-none (Some x) P h = tt

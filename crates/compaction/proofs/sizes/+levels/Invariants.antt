@@ -1,0 +1,5 @@
+use Rattle.arrays.specs.Kind.{depth}
+use Rattle.compaction.proofs.sizes.+levels.Given as goal
+
+abbrev pub decreases-levels : goal.decreases-levels
+decreases-levels l = depth l.view.now.kind

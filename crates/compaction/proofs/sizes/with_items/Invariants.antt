@@ -1,0 +1,6 @@
+use Rattle.std.proofs.Common.{◌≡◌, ◌+◌, ◌≤◌, drop, length}
+use Rattle.arrays.specs.Lengths.{inner_items}
+use Rattle.compaction.proofs.sizes.with_items.Given as goal
+
+abbrev pub invariant-loop-i : goal.invariant-loop-i
+invariant-loop-i l = (l.items + length (inner_items (drop l.i l.view.items)) ≡ l.before + length (inner_items l.view.items)) × (l.items ≤ 2147483647)

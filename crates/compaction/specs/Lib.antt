@@ -1,0 +1,7 @@
+-- What the contracts of this crate speak of.
+pub mod Groups
+pub mod Under
+pub mod Sizes
+pub mod Fronts
+pub mod Columns
+pub mod Statistics

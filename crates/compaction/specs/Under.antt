@@ -1,0 +1,38 @@
+-- Batches of one schema, whose dictionary-encoded columns name fronts of one dictionary each.
+use Rattle.std.specs.Prelude.{◌≡◌, List, map, true, false, Option, Some, None, ⊤}
+use Rattle.std.specs.Arc.{arc_value}
+use Rattle.std.specs.declared.alloc.Global.{Global}
+use Rattle.std.specs.declared.sync.Arc.{Arc}
+use Rattle.std.specs.declared.vec.Vec.{Vec}
+use Rattle.std.specs.List.{AllZip}
+use mathlib.Core.List.{IsPrefix}
+use Rattle.arrays.specs.Batch.{Batch, batch_fault}
+use Rattle.arrays.specs.Kind as kind
+use Rattle.arrays.specs.Kind.{same_kind}
+use Rattle.arrays.specs.Seen.{Seen}
+use Rattle.arrays.specs.Shape.{FieldShape, kind_of_field}
+use Rattle.group.specs.Columns.{AreTheirs}
+use Rattle.group.specs.declared.stats.ColumnStats.{ColumnStats}
+
+-- There is a dictionary of texts where the field is a dictionary-encoded one, and none where it isn't.
+abbrev pub IsDictionary : FieldShape → Option Seen → Type 0
+IsDictionary f None = same_kind (kind_of_field f) kind.dict ≡ false
+IsDictionary f (Some d) = (same_kind (kind_of_field f) kind.dict ≡ true) × (d.kind ≡ kind.utf8)
+
+-- The dictionary that the column names begins the other, where there is one.
+abbrev pub NamesFront : Seen → Option Seen → Type 0
+NamesFront c None = ⊤
+NamesFront c (Some d) = IsPrefix c.entries.items d.items
+
+-- A lawful batch of the fields, whose columns name fronts of these dictionaries.
+pub record IsUnder (fields : List FieldShape) (dictionaries : List (Option Seen)) (b : Batch) : Type 0 where
+  pub same : b.fields ≡ fields
+  pub lawful : batch_fault b.fields b.rows b.columns ≡ None
+  pub fronts : AllZip NamesFront b.columns dictionaries
+
+abbrev pub pieces_of : List (Arc (Vec ColumnStats Global) Global) → List (List ColumnStats)
+pieces_of stats = map (λ (s : Arc (Vec ColumnStats Global) Global). (arc_value s).items) stats
+
+-- Each batch has the statistics of its columns.
+abbrev pub HaveStats : List Batch → List (List ColumnStats) → Type 0
+HaveStats batches pieces = AllZip (λ b s. AreTheirs b.columns s) batches pieces

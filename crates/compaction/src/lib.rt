@@ -1,0 +1,11 @@
+//! Neighbouring record batches joined into fewer, whose rows are the same.
+#![tactic(auto)]
+
+mod columns;
+mod compacting;
+mod groups;
+mod joining;
+mod sizes;
+mod statistics;
+
+pub use compacting::{Compacted, compact};

@@ -1,0 +1,91 @@
+//! How much texts and lists hold, counted without memory.
+
+ghost use Rattle.std.specs.Prelude.{◌≡◌, ◌+◌, ◌<◌, ◌≤◌, true, length, IfNone, IfSome};
+ghost use Rattle.arrays.specs.Kind as kind;
+ghost use Rattle.arrays.specs.Kind.{depth};
+ghost use Rattle.arrays.specs.Lengths.{inner_items, is_past, text_bytes};
+ghost use Rattle.arrays.specs.Slot.{is_list};
+ghost use Rattle.compaction.specs.Sizes.{levels, size_at};
+
+use arrays::{View, ViewType};
+
+/// The most items or bytes that offsets count, and the most slots that an array may have.
+pub(crate) const MOST: usize = 2147483647;
+
+/// At how many levels a view has offsets: those of its lists, of the lists in them, and of the texts.
+pub(crate) fn levels(view: &View<'_>) -> usize
+    ensures count { result ≡ levels view.now.kind }
+    ensures few { result ≤ depth view.now.kind + 1 }
+{
+    match view.ty() {
+        ViewType::Utf8 => 1,
+        ViewType::List(_) => 1 + levels(&view.lists().child),
+        ViewType::Int(_) | ViewType::Bool | ViewType::Dict => 0,
+    }
+}
+
+/// `before`, and how much a view holds at a level. None where that is past what offsets count.
+pub(crate) fn with_size(view: &View<'_>, level: usize, before: usize) -> Option<usize>
+    requires { before ≤ 2147483647 }
+    ensures some { IfSome result (λ n. (n ≡ before + size_at view.now.kind level view.now.items) × (n ≤ 2147483647)) }
+    ensures none { IfNone result (is_past (before + size_at view.now.kind level view.now.items) ≡ true) }
+{
+    match view.ty() {
+        ViewType::Utf8 if level == 0 => with_bytes(view, before),
+        ViewType::List(_) if level == 0 => with_items(view, before),
+        ViewType::List(_) => {
+            let mut size = before;
+            for i in 0..view.len() {
+                if let Some(list) = view.list_at(i) {
+                    size = with_size(&list, level - 1, size)?;
+                }
+            }
+            Some(size)
+        }
+        _ => Some(before),
+    }
+}
+
+/// The same of the bytes of texts.
+fn with_bytes(view: &View<'_>, before: usize) -> Option<usize>
+    requires kind { view.now.kind ≡ kind.utf8 }
+    requires few { before ≤ 2147483647 }
+    ensures some { IfSome result (λ n. (n ≡ before + text_bytes view.now.items) × (n ≤ 2147483647)) }
+    ensures none { IfNone result (is_past (before + text_bytes view.now.items) ≡ true) }
+{
+    let mut bytes = before;
+    for i in 0..view.len() {
+        if let Some(text) = view.utf8_at(i) {
+            bytes = sum_of(bytes, text.len())?;
+        }
+    }
+    Some(bytes)
+}
+
+/// The same of the items of lists.
+fn with_items(view: &View<'_>, before: usize) -> Option<usize>
+    requires kind { is_list view.now.kind ≡ true }
+    requires few { before ≤ 2147483647 }
+    ensures some { IfSome result (λ n. (n ≡ before + length (inner_items view.now.items)) × (n ≤ 2147483647)) }
+    ensures none { IfNone result (is_past (before + length (inner_items view.now.items)) ≡ true) }
+{
+    let mut items = before;
+    for i in 0..view.len() {
+        if let Some(list) = view.list_at(i) {
+            items = sum_of(items, list.len())?;
+        }
+    }
+    Some(items)
+}
+
+/// The sum, none where it is past what offsets count.
+fn sum_of(before: usize, more: usize) -> Option<usize>
+    requires { before ≤ 2147483647 }
+    ensures some { IfSome result (λ n. (n ≡ before + more) × (n ≤ 2147483647)) }
+    ensures none { IfNone result (is_past (before + more) ≡ true) }
+{
+    if more > MOST - before {
+        return None;
+    }
+    Some(before + more)
+}

@@ -1,0 +1,15 @@
+//! What a piece of work passes before it begins.
+
+/// Where values at work together may be made to wait for one another. It promises only that it returns.
+pub trait Gate: Sync {
+    /// Called by the value at `place` before its work number `call`.
+    fn pass(&self, place: u32, call: u32);
+}
+
+/// A gate at which nothing waits.
+#[derive(Clone, Copy, Debug)]
+pub struct OpenGate;
+
+impl Gate for OpenGate {
+    fn pass(&self, _place: u32, _call: u32) {}
+}

@@ -1,0 +1,17 @@
+use Rattle.std.proofs.Common.{refl, rules}
+use Rattle.clap.specs.Words.{found_of, rows_of, subcommand_rows_of}
+use Rattle.job.proofs.WordLemmas.{none_numbered}
+use Rattle.job.proofs.reading.job_of.Goals as goal
+
+pub returns-in_default-workers_of-clause-err : goal.returns-in_default-workers_of-clause-err
+returns-in_default-workers_of-clause-err c =
+    none_numbered (subcommand_rows_of c.args.matches.now) (rows_of (found_of c.in-Some.found.now)) c.in-Some.ensures.rows (c.in_default-workers_of.ensures.none refl)
+
+pub returns-clause-found : goal.returns-clause-found
+returns-clause-found c = record {
+  rows = rows_of (found_of c.in-Some.found.now);
+  command = search rules;
+  query = c.in_ok-command.ensures.query;
+  names = search rules;
+  workers = c.in-Some-workers_of.ensures.value;
+}

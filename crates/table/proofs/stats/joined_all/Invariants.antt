@@ -1,6 +1,0 @@
-use Rattle.std.proofs.Common.{take}
-use Rattle.table.specs.Counted.{AreJoined}
-use Rattle.table.proofs.stats.joined_all.Given as goal
-
-abbrev pub invariant-loop-k : goal.invariant-loop-k
-invariant-loop-k l = AreJoined (take l.k l.stats) (take l.k l.others) l.all.items

@@ -1,0 +1,117 @@
+//! What a table holds next, made before the table changes.
+
+ghost use Rattle.std.specs.Prelude.{◌≡◌, IfOk, OnErr, OnOk, map, option_map};
+ghost use Rattle.std.specs.Arc.{arc_value};
+ghost use Rattle.table.specs.Change.{CanCommit, IsNext};
+ghost use Rattle.table.specs.Held.{IsHeld, batches_of, show};
+ghost use Rattle.table.specs.Lawful.{table_of};
+ghost use Rattle.table.specs.Ready.{AreTexts, BeginWithTexts};
+
+use crate::columns::cut_back;
+use crate::held::{Held, dictionaries_shared};
+use crate::look::Look;
+use arrays::{RecordBatch, Words};
+use colbits::NoMemory;
+use group::ColumnStats;
+use pool::TextPool;
+use std::alloc::Global;
+use std::sync::Arc;
+
+/// A batch as it is stored, and what the table holds with it: all that is new.
+#[derive(Drop)]
+pub(crate) struct Addition {
+    pub(crate) batch: Arc<RecordBatch>,
+    pub(crate) batch_stats: Arc<Vec<ColumnStats>>,
+    pub(crate) stats: Arc<Vec<ColumnStats>>,
+    pub(crate) dictionaries: Vec<Option<Arc<Words>>>,
+}
+
+/// A change that is staged: all of it is made, and nothing of it is held yet.
+#[derive(Drop)]
+pub(crate) enum Change {
+    /// A batch of a worker comes behind the others.
+    Batch { worker: u32, addition: Addition },
+    /// All parts are others.
+    Whole(Held),
+}
+
+impl Addition {
+    /// The same parts, shared.
+    pub(crate) fn share(&self, alloc: Global) -> Result<Addition, NoMemory>
+        ensures batch { IfOk result (λ p. arc_value p.batch ≡ arc_value self.now.batch) }
+        ensures pieces { IfOk result (λ p. arc_value p.batch_stats ≡ arc_value self.now.batch_stats) }
+        ensures stats { IfOk result (λ p. arc_value p.stats ≡ arc_value self.now.stats) }
+        ensures dictionaries { IfOk result (λ p. map (option_map arc_value) p.dictionaries.items
+            ≡ map (option_map arc_value) self.now.dictionaries.items) }
+    {
+        Ok(Addition {
+            batch: self.batch.clone()?,
+            batch_stats: self.batch_stats.clone()?,
+            stats: self.stats.clone()?,
+            dictionaries: dictionaries_shared(alloc, &self.dictionaries)?,
+        })
+    }
+}
+
+impl Held {
+    /// What is held after a change, shared.
+    pub(crate) fn after(&self, alloc: Global, change: &Change) -> Result<Held, NoMemory>
+        requires { CanCommit change.now self.now }
+        ensures { IfOk result (λ h. IsNext change.now self.now h) }
+    {
+        match change {
+            Change::Batch { worker, addition } => self.with_batch(alloc, *worker, addition),
+            Change::Whole(held) => held.share(alloc, 0),
+        }
+    }
+
+    /// Makes a change. No memory is taken.
+    fn apply(&mut self, change: Change)
+        requires { CanCommit change self.old }
+        ensures { IsNext change self.old self.new }
+    {
+        match change {
+            Change::Batch { worker, addition } => self.put_in(worker, addition),
+            Change::Whole(held) => *self = held,
+        }
+    }
+}
+
+/// Commits a change, behind which nothing can fail, and gives what who looks at the table makes of it. Where there is no memory
+/// for that, nothing is changed, and texts that pools have beside those of what is held are taken back.
+pub(crate) fn commit<L: Look>(
+    alloc: Global,
+    held: &mut Held,
+    pools: &mut Vec<TextPool>,
+    change: Change,
+) -> Result<L, NoMemory>
+    requires held { IsHeld held.old }
+    requires can { CanCommit change held.old }
+    requires lawful { (h : Held) → IsNext change held.old h → IsHeld h }
+    requires begun { BeginWithTexts held.old (table_of (batches_of held.old)) pools.old.items }
+    ensures next { OnOk result (IsNext change held.old held.new) }
+    ensures seen { IfOk result (λ l. L.sees l (show held.new)) }
+    ensures pools { OnOk result (pools.new.items ≡ pools.old.items) }
+    ensures kept { OnErr result (held.new ≡ held.old) }
+    ensures back { OnErr result (AreTexts held.old (table_of (batches_of held.old)) pools.new.items) }
+{
+    match L::look(alloc, held, &change) {
+        Ok(seen) => {
+            held.apply(change);
+            Ok(seen)
+        }
+        Err(NoMemory) => {
+            take_back(held, pools);
+            Err(NoMemory)
+        }
+    }
+}
+
+/// Takes back the texts that pools have beside those of what is held.
+pub(crate) fn take_back(held: &Held, pools: &mut Vec<TextPool>)
+    requires held { IsHeld held.now }
+    requires begun { BeginWithTexts held.now (table_of (batches_of held.now)) pools.old.items }
+    ensures { AreTexts held.now (table_of (batches_of held.now)) pools.new.items }
+{
+    cut_back(pools, &held.dictionaries);
+}
