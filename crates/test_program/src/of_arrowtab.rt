@@ -5,6 +5,7 @@ ghost use Rattle.std.specs.Prelude.{◌≡◌, ◌^◌, ◌-◌, ◌<◌, All, I
 
 mod bytes;
 mod exports;
+mod failing;
 mod queries;
 mod refusals;
 mod runs;

@@ -1,7 +1,6 @@
 //! Runs over memory: the status, what went to the output, and the line of the fault.
 
-use super::{assert_case, expect, ran, source};
-use arrowtab::memory::{MemorySink, Plan};
+use super::{assert_case, expect};
 use std::alloc::{AllocError, Global};
 use std::process::Abort;
 use std::sync::Wait;
@@ -20,7 +19,7 @@ const OUTPUT: &str =
 const TEMPLATE: &str = r#"{"schema":{"fields":[FIELD]},"batches":[BATCHES]}"#;
 
 /// Fields, batches, and what is printed of their file.
-const PRINTED: [(&str, &str, &str); 9] = [
+const PRINTED: [(&str, &str, &str); 11] = [
     // No batch.
     (
         r#"{"name":"n","nullable":true,"type":{"name":"int","bitWidth":8,"isSigned":false},"children":[]}"#,
@@ -68,7 +67,19 @@ const PRINTED: [(&str, &str, &str); 9] = [
         r#"{"count":3,"columns":[{"name":"s","count":3,"VALIDITY":[1,0,1],"DATA":["pear","x","fig"]}]},{"count":2,"columns":[{"name":"s","count":2,"DATA":["pear","quince"]}]}"#,
         "rows 5\nworker 0 calls 2 rows 5\n\"s\" dictionary rows=5 nulls=1 sum=- least=\"fig\" greatest=\"quince\"\n",
     ),
-    // Both, with texts that are told as JSON spells them.
+    // Lists, of which a batch has none.
+    (
+        r#"{"name":"l","nullable":true,"type":{"name":"list"},"children":[{"name":"item","nullable":true,"type":{"name":"int","bitWidth":8,"isSigned":true},"children":[]}]}"#,
+        r#"{"count":0,"columns":[{"name":"l","count":0,"VALIDITY":[],"OFFSET":[],"children":[{"name":"item","count":0,"VALIDITY":[],"DATA":[]}]}]}"#,
+        "rows 0\nworker 0 calls 1 rows 0\n\"l\" list<int8> rows=0 nulls=0 sum=- least=- greatest=-\n",
+    ),
+    // Lists in lists: of two lists and of none, and null.
+    (
+        r#"{"name":"l","nullable":true,"type":{"name":"list"},"children":[{"name":"item","nullable":true,"type":{"name":"list"},"children":[{"name":"item","nullable":true,"type":{"name":"utf8"},"children":[]}]}]}"#,
+        r#"{"count":3,"columns":[{"name":"l","count":3,"VALIDITY":[1,0,1],"OFFSET":[0,2,2,2],"children":[{"name":"item","count":2,"VALIDITY":[1,1],"OFFSET":[0,1,2],"children":[{"name":"item","count":2,"VALIDITY":[1,1],"OFFSET":[0,1,2],"DATA":["a","b"]}]}]}]}"#,
+        "rows 3\nworker 0 calls 1 rows 3\n\"l\" list<list<utf8>> rows=3 nulls=1 sum=- least=- greatest=-\n",
+    ),
+    // Truth values and texts that are told as JSON spells them.
     (
         r#"{"name":"b","nullable":false,"type":{"name":"bool"},"children":[]},{"name":"\"s\"","nullable":false,"type":{"name":"utf8"},"children":[]}"#,
         r#"{"count":1,"columns":[{"name":"b","count":1,"DATA":[true]},{"name":"s","count":1,"DATA":["a\"b\n"]}]}"#,
@@ -149,52 +160,6 @@ fn tells_each_cut(rt: HostRuntime) {
         let line = "arrowtab: A: J1 NotJson\n";
         expect(&rt, rt.alloc(), STATS, (cut, None), line);
     }
-}
-
-/// Which read and which write fail, and the line of the fault.
-const FAILING: [(Plan, Plan, &str); 7] = [
-    (Plan::At(0), Plan::Never, UNREAD),
-    (Plan::At(1), Plan::Never, UNREAD),
-    (Plan::At(2), Plan::Never, UNREAD),
-    (Plan::At(3), Plan::Never, UNREAD),
-    (Plan::Never, Plan::At(0), UNWRITTEN),
-    (Plan::Never, Plan::At(1), UNWRITTEN),
-    (Plan::Never, Plan::At(2), UNWRITTEN),
-];
-
-const UNREAD: &str = "arrowtab: A: cannot be read\n";
-
-const UNWRITTEN: &str = "arrowtab: output failed\n";
-
-#[test]
-fn tells_each_failed_end(rt: HostRuntime) {
-    for (read, write, line) in FAILING {
-        let is_told = tells_failed_end(&rt, rt.alloc(), read, write, line);
-        assert!(rt; is_told, "at {read:?} and {write:?}");
-    }
-}
-
-/// Whether a run whose ends fail so tells this line, and has written nothing, or a front where its output fails.
-fn tells_failed_end(
-    rt: &(impl Wait + Threads + Sync),
-    alloc: Global,
-    read: Plan,
-    write: Plan,
-    line: &str,
-) -> bool {
-    let Ok(source) = source(alloc, FILE) else {
-        return false;
-    };
-    let mut sources = [source.in_pieces(100).failing(read)];
-    let out = MemorySink::new(alloc).in_pieces(50).failing(write);
-    let Some(came) = ran(rt, alloc, STATS, &mut sources, out) else {
-        return false;
-    };
-    let written = came.out.taken();
-    came.status == 1
-        && came.err.taken() == line.as_bytes()
-        && OUTPUT.as_bytes().starts_with(written)
-        && (write != Plan::Never || written.is_empty())
 }
 
 #[test]

@@ -1,10 +1,6 @@
 //! Runs over two files: which faults name which file, and what is counted where.
 
-use super::{expect, ran, source};
-use arrowtab::memory::{MemorySink, Plan};
-use std::alloc::Global;
-use std::sync::Wait;
-use std::thread::Threads;
+use super::expect;
 
 const STATS: &[&str] = &["arrowtab", "stats", "A", "B"];
 
@@ -68,25 +64,5 @@ const RUNS: [(&str, &str, &str); 5] = [
 fn files_are_added_in_order(rt: HostRuntime) {
     for (first, second, wanted) in RUNS {
         expect(&rt, rt.alloc(), STATS, (first, Some(second)), wanted);
-    }
-}
-
-#[test]
-fn tells_which_source_failed(rt: HostRuntime) {
-    assert!(rt; tells_that_the_second_failed(&rt, rt.alloc()));
-}
-
-/// Whether a run whose second source fails tells its name, and writes nothing.
-fn tells_that_the_second_failed(rt: &(impl Wait + Threads + Sync), alloc: Global) -> bool {
-    let Ok(first) = source(alloc, FIVE_AND_SEVEN) else {
-        return false;
-    };
-    let Ok(second) = source(alloc, MINUS_THREE) else {
-        return false;
-    };
-    let mut sources = [first, second.failing(Plan::At(0))];
-    match ran(rt, alloc, STATS, &mut sources, MemorySink::new(alloc)) {
-        Some(came) => came.is(1, "", "arrowtab: B: cannot be read\n"),
-        None => false,
     }
 }

@@ -18,26 +18,36 @@ const OTHER: &str =
 const PAIRS: &str =
     r#"{"schema":{"fields":[{"name":"k","nullable":true,"type":{"name":"utf8"},"children":[]},{"name":"v","nullable":true,"type":{"name":"int","bitWidth":32,"isSigned":true},"children":[]}]},"batches":[{"count":4,"columns":[{"name":"k","count":4,"VALIDITY":[0,1,0,1],"OFFSET":[0,0,1,1,2],"DATA":["","b","","a"]},{"name":"v","count":4,"VALIDITY":[1,1,1,0],"DATA":[1,2,3,0]}]}]}"#;
 
-/// How many workers load the numbers and a second file, which that is, and what is told of both.
-const RUNS: [(&str, &str, &str); 5] = [
+/// How many workers load the numbers and a second file, its name, which that is, and what is told of both.
+const RUNS: [(&str, &str, &str, &str); 5] = [
     (
         "2",
+        "B",
         NUMBERS,
         "rows 6\nworker 0 calls 1 rows 3\nworker 1 calls 1 rows 3\n\"n\" int64 rows=6 nulls=2 sum=18446744073709551612 least=-1 greatest=9223372036854775807\n",
     ),
     // A worker without a file has its line.
     (
         "3",
+        "B",
         NUMBERS,
         "rows 6\nworker 0 calls 1 rows 3\nworker 1 calls 1 rows 3\nworker 2 calls 0 rows 0\n\"n\" int64 rows=6 nulls=2 sum=18446744073709551612 least=-1 greatest=9223372036854775807\n",
     ),
-    ("2", PAIRS, DIFFERS),
-    ("2", OTHER, DIFFERS),
+    (
+        "2",
+        "Q",
+        PAIRS,
+        "arrowtab: Q: batch 0: A1 SchemaDiffers column=0\n",
+    ),
+    (
+        "2",
+        "M",
+        OTHER,
+        "arrowtab: M: batch 0: A1 SchemaDiffers column=0\n",
+    ),
     // The file of a refusal is told before any worker begins.
-    ("64", "{", "arrowtab: B: J1 NotJson\n"),
+    ("64", "B", "{", "arrowtab: B: J1 NotJson\n"),
 ];
-
-const DIFFERS: &str = "arrowtab: B: batch 0: A1 SchemaDiffers column=0\n";
 
 /// Counts the rows of each number of two files.
 const COUNTS: &[&str] = &[
@@ -53,8 +63,8 @@ const COUNTS: &[&str] = &[
 
 #[test]
 fn several_workers_print_what_one_would(rt: HostRuntime) {
-    for (workers, second, wanted) in RUNS {
-        let words = ["arrowtab", "stats", "--workers", workers, "A", "B"];
+    for (workers, name, second, wanted) in RUNS {
+        let words = ["arrowtab", "stats", "--workers", workers, "A", name];
         expect(&rt, rt.alloc(), &words, (NUMBERS, Some(second)), wanted);
     }
     let counts = "9223372036854775807 2\nnull 2\n-1 2\n";
