@@ -42,9 +42,9 @@ def watch(process):
     return known, last
 
 
-def phase(standing, appends, readers, looks=0, pause=0, watched=False):
+def phase(standing, appends, readers, looks=0, pause=0, watched=False, most=0):
     """The seconds from where the first batches stand: to the end, and, where they are watched, until the worker has ended and those that it and the readers use."""
-    words = [*programs.ours("readers"), *map(str, (standing, appends, readers, looks, pause))]
+    words = [*programs.ours("readers"), *map(str, (standing, appends, readers, looks, pause, most))]
     with subprocess.Popen(words, stdout=subprocess.PIPE) as process:
         process.stdout.readline()
         begin = time.monotonic()
@@ -76,7 +76,9 @@ def main():
     for pause, looks in (1_000, 4_000), (100, 30_000):
         tell_appends(f"each {pause} µs", {readers: [phase(0, 10_000, readers, looks, pause, watched=True) for _ in range(runs)] for readers in (1, 16)})
     for standing in map(int, sys.argv[2:] or ["100", "1000", "10000"]):
-        print(f"{standing:,} batches stand: an append takes {1000 * min(phase(standing, 1_000, 1).all for _ in range(runs)):.2f} µs", flush=True)
+        for most in 0, 65_536:
+            took = min(phase(standing, 1_000, 1, most=most).all for _ in range(runs))
+            print(f"{standing:,} batches stand{', joined up to 65,536 rows' if most else ''}: an append takes {1000 * took:.2f} µs", flush=True)
 
 
 if __name__ == "__main__":

@@ -1,10 +1,11 @@
-//! `bench SUBJECT WORD..` runs what scripts measure: `bench kernels`, `bench table`, `bench query`, `bench loads` or
+//! `bench SUBJECT WORD..` runs what scripts measure: `bench kernels`, `bench table`, `bench compaction`, `bench query`, `bench loads` or
 //! `bench readers`, each with the words that its module tells. Without words it runs on little, and without a subject each does.
 //!
 //! It ends with status 0 where that was printed, 1 where a fault was told on standard error in place of it, and 2 where the
 //! words ask for nothing.
 #![tactic(auto)]
 
+mod compaction_runs;
 mod fault;
 mod kernel_runs;
 mod load_runs;

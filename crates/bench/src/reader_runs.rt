@@ -1,6 +1,6 @@
-//! `bench readers STANDING APPENDS READERS LOOKS PAUSE` has one worker append so many batches of a row, says so, then has it append so
-//! many more while so many readers take the newest version so often each, with a pause of so many microseconds after each time, and
-//! says that all have ended.
+//! `bench readers STANDING APPENDS READERS LOOKS PAUSE MOST` has one worker append so many batches of a row, and join them up to so many
+//! rows where that isn't 0; says so, then has it append so many more while so many readers take the newest version so often each, with a
+//! pause of so many microseconds after each time, and says that all have ended.
 //!
 //! Without words two batches stand, and the worker appends three while two readers look four times.
 
@@ -38,6 +38,7 @@ fn shape_of(words: &[String]) -> Result<Shape, Fault> {
             readers: 2,
             looks: 4,
             pause: 0,
+            most: 0,
         });
     }
     Ok(Shape {
@@ -46,5 +47,6 @@ fn shape_of(words: &[String]) -> Result<Shape, Fault> {
         readers: number(words, 2)?,
         looks: number(words, 3)?,
         pause: number(words, 4)?,
+        most: number(words, 5)?,
     })
 }

@@ -3,7 +3,7 @@
 ghost use Rattle.std.specs.Prelude.{◌≡◌, Some, codes};
 
 use crate::fault::Fault;
-use crate::{kernel_runs, load_runs, query_runs, reader_runs, table_runs};
+use crate::{compaction_runs, kernel_runs, load_runs, query_runs, reader_runs, table_runs};
 use std::sync::Wait;
 use std::thread::Threads;
 use std::time::Clock;
@@ -15,6 +15,8 @@ pub(crate) enum Subject {
     Kernels,
     /// A table that batches are admitted to.
     Table,
+    /// Batches of a table joined.
+    Compaction,
     /// Queries of a table.
     Query,
     /// Workers that load files.
@@ -24,9 +26,10 @@ pub(crate) enum Subject {
 }
 
 /// All of them.
-pub(crate) const EACH: [Subject; 5] = [
+pub(crate) const EACH: [Subject; 6] = [
     Subject::Kernels,
     Subject::Table,
+    Subject::Compaction,
     Subject::Query,
     Subject::Loads,
     Subject::Readers,
@@ -37,6 +40,7 @@ impl Subject {
     pub(crate) fn of_name(name: &str) -> Option<Subject>
         ensures kernels { name.now ≡ codes "kernels" → result ≡ Some Subject.Kernels }
         ensures table { name.now ≡ codes "table" → result ≡ Some Subject.Table }
+        ensures compaction { name.now ≡ codes "compaction" → result ≡ Some Subject.Compaction }
         ensures query { name.now ≡ codes "query" → result ≡ Some Subject.Query }
         ensures loads { name.now ≡ codes "loads" → result ≡ Some Subject.Loads }
         ensures readers { name.now ≡ codes "readers" → result ≡ Some Subject.Readers }
@@ -44,6 +48,7 @@ impl Subject {
         match name {
             "kernels" => Some(Subject::Kernels),
             "table" => Some(Subject::Table),
+            "compaction" => Some(Subject::Compaction),
             "query" => Some(Subject::Query),
             "loads" => Some(Subject::Loads),
             "readers" => Some(Subject::Readers),
@@ -62,6 +67,7 @@ impl Subject {
         match self {
             Subject::Kernels => kernel_runs::run(rt, words),
             Subject::Table => table_runs::run(rt, words),
+            Subject::Compaction => compaction_runs::run(rt, words),
             Subject::Query => query_runs::run(threads, rt, words),
             Subject::Loads => load_runs::run(wait, threads, rt, words),
             Subject::Readers => reader_runs::run(wait, threads, rt, words),

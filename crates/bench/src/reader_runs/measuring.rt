@@ -16,8 +16,8 @@ use std::sync::ledger::{Blank, Ledger};
 use std::thread::Threads;
 use std::time::{Clock, Duration};
 
-/// How many batches stand, how many are appended, how many readers there are, how often each looks and how many microseconds it
-/// pauses after each look.
+/// How many batches stand, how many are appended, how many readers there are, how often each looks, how many microseconds it pauses
+/// after each look, and up to how many rows the batches that stand are joined: 0 where they aren't.
 #[derive(Clone, Copy)]
 pub(crate) struct Shape {
     pub(crate) standing: u32,
@@ -25,6 +25,7 @@ pub(crate) struct Shape {
     pub(crate) readers: u32,
     pub(crate) looks: u32,
     pub(crate) pause: u32,
+    pub(crate) most: u32,
 }
 
 /// Makes the table, says when the batches stand, has all work together and says when they have ended.
@@ -103,6 +104,9 @@ fn work_on<
     for worker in workers {
         let mut worker = worker;
         append(wait, table, batch, shape.standing, &mut worker);
+        if shape.most > 0 {
+            table.compact(wait, &mut worker, shape.most).ok()?;
+        }
         hands.push(Hand::Appends(worker)).ok()?;
     }
     println!(rt; "{} batches stand", shape.standing).ok()?;
