@@ -1,6 +1,7 @@
 #!/usr/bin/env python3
-"""Runs `arrowtab stats` on small files that would cost much where an array, a schema or a dictionary were copied each time that
-it is named, each under a limit of memory and of processor time.
+"""Runs `arrowtab` on files from strangers, each run under a limit of memory and of processor time: small ones that would cost much
+where an array, a schema or a dictionary were copied each time that it is named; some that state 2147483647 where a count or an offset
+stands, and hold nothing; files that are cut, that are none, or whose fault has a place; and ends that aren't files.
 
     tools/hostile_files.py PROGRAM
 
@@ -27,6 +28,9 @@ def entry(number, texts):
     return {"id": number, "data": {"count": texts, "columns": [column]}}
 
 
+# ---- what would cost much
+
+
 def one_dictionary():
     fields = [text_field(f"f{number}", 0) for number in range(3000)]
     return {"schema": {"fields": fields}, "dictionaries": [entry(0, 125000)], "batches": []}, 3000
@@ -44,11 +48,126 @@ def many_dictionaries():
 
 
 # What is in the file, what makes it, megabytes of memory, seconds.
-CASES = [
+COSTS = [
     ("3,000 fields that name one dictionary of 125,000 texts", one_dictionary, 70, 4),
     ("2,000 batches without rows under a name of 2 MB", long_name, 50, 4),
     ("100,000 fields with a dictionary each", many_dictionaries, 1000, 12),
 ]
+
+# ---- counts that are stated
+
+MOST = 2147483647
+ITEM = {"name": "item", "nullable": True, "type": {"name": "int", "bitWidth": 8, "isSigned": True}, "children": []}
+TYPES = {"int": INT32, "bool": {"name": "bool"}, "utf8": {"name": "utf8"}, "list": {"name": "list"}}
+PLACE = "/batches/0/columns/0"
+
+
+def field(name):
+    return {"name": "n", "nullable": True, "type": TYPES[name], "children": [ITEM] if name == "list" else []}
+
+
+def stated_columns():
+    """The type, how many rows the batch states, the column, and what is told of it."""
+    for name in ("int", "bool", "utf8"):
+        yield name, MOST, {"count": MOST, "DATA": []}, f"J7 CountDiffers at {PLACE}/DATA"
+        yield name, MOST, {"count": MOST, "VALIDITY": [], "DATA": []}, f"J7 CountDiffers at {PLACE}/VALIDITY"
+        yield name, MOST, {"count": MOST}, f"J2 MissingMember at {PLACE}/DATA"
+        yield name, 0, {"count": MOST, "DATA": []}, f"J7 CountDiffers at {PLACE}/count"
+    none = {"name": "item", "count": 0, "VALIDITY": [], "DATA": []}
+    most = {"name": "item", "count": MOST, "DATA": []}
+    yield "list", MOST, {"count": MOST, "OFFSET": [], "children": [none]}, f"J7 CountDiffers at {PLACE}/OFFSET"
+    yield "list", MOST, {"count": MOST, "OFFSET": [0], "children": [none]}, f"J7 CountDiffers at {PLACE}/OFFSET"
+    yield "list", MOST, {"count": MOST, "VALIDITY": [], "OFFSET": [0], "children": [none]}, f"J7 CountDiffers at {PLACE}/VALIDITY"
+    yield "list", 1, {"count": 1, "OFFSET": [0, MOST], "children": [none]}, f"J10 Layout V6 OffsetPastEnd at {PLACE}"
+    yield "list", 1, {"count": 1, "OFFSET": [MOST, MOST], "children": [none]}, f"J10 Layout V6 OffsetPastEnd at {PLACE}"
+    yield "list", 1, {"count": 1, "OFFSET": [0, MOST + 1], "children": [none]}, f"J6 BadOffset at {PLACE}/OFFSET/1"
+    yield "list", 0, {"count": 0, "OFFSET": [], "children": [most]}, f"J7 CountDiffers at {PLACE}/children/0/DATA"
+    yield "list", 1, {"count": 1, "OFFSET": [0, MOST], "children": [most]}, f"J7 CountDiffers at {PLACE}/children/0/DATA"
+
+
+def stated_dictionaries():
+    """The batch of a dictionary, and what is told of it."""
+    place = "/dictionaries/0/data/columns"
+    yield [{"count": MOST, "DATA": []}], f"J7 CountDiffers at {place}/0/DATA"
+    yield [{"count": MOST, "VALIDITY": [], "DATA": []}], f"J7 CountDiffers at {place}/0/VALIDITY"
+    yield [{"count": MOST, "OFFSET": [0, MOST], "DATA": []}], f"J7 CountDiffers at {place}/0/DATA"
+    yield [{"count": 0, "DATA": []}], f"J7 CountDiffers at {place}/0/count"
+    yield [], f"J7 CountDiffers at {place}"
+
+
+def stated_files():
+    """A file that states so many, and what is told of it."""
+    for name, rows, column, told in stated_columns():
+        yield {"schema": {"fields": [field(name)]}, "batches": [{"count": rows, "columns": [column]}]}, told
+    schema = {"fields": [text_field("s", 7)]}
+    for columns, told in stated_dictionaries():
+        data = {"count": MOST, "columns": columns}
+        yield {"schema": schema, "dictionaries": [{"id": 7, "data": data}], "batches": []}, told
+    for rows, column, told in [
+        (MOST, {"count": MOST, "DATA": []}, f"J7 CountDiffers at {PLACE}/DATA"),
+        (1, {"count": 1, "DATA": [MOST]}, f"J10 Layout V9 IndexPastDictionary row=0 at {PLACE}"),
+    ]:
+        yield {"schema": schema, "dictionaries": [entry(7, 1)], "batches": [{"count": rows, "columns": [column]}]}, told
+    yield {"schema": {"fields": [field("int")]}, "batches": [{"count": MOST, "columns": []}]}, "J7 CountDiffers at /batches/0/columns"
+    yield {"schema": {"fields": []}, "batches": [{"count": MOST + 1, "columns": []}]}, "J3 WrongMember at /batches/0/count"
+
+
+# ---- files whose faults have a place
+
+A = '{"schema":{"fields":[{"name":"n","nullable":true,"type":{"name":"int","bitWidth":64,"isSigned":true},"children":[]}]},"batches":[{"count":3,"columns":[{"name":"n","count":3,"VALIDITY":[1,0,1],"DATA":["9223372036854775807","x",-1]}]}]}'
+D = '{"schema":{"fields":[{"name":"s","nullable":true,"type":{"name":"utf8"},"children":[],"dictionary":{"id":7,"indexType":{"name":"int","bitWidth":8,"isSigned":true},"isOrdered":false}}]},"dictionaries":[{"id":7,"data":[{"count":4,"columns":[{"name":"x","count":4,"VALIDITY":[1,1,1,0],"OFFSET":[0,1,2,3,3],"DATA":["a","b","a",""]}]}]}],"batches":[{"count":5,"columns":[{"name":"s","count":5,"VALIDITY":[1,1,1,0,1],"DATA":[2,0,3,9,1]}]}]}'
+E = '{"schema":{"fields":[{"name":"l","nullable":true,"type":{"name":"list"},"children":[{"name":"item","nullable":true,"type":{"name":"int","bitWidth":8,"isSigned":true},"children":[]}]}]},"batches":[{"count":0,"columns":[{"name":"l","count":0,"VALIDITY":[],"OFFSET":[],"children":[{"name":"item","count":0,"VALIDITY":[],"DATA":[]}]}]}]}'
+STATS_OF_A = 'rows 3\nworker 0 calls 1 rows 3\n"n" int64 rows=3 nulls=1 sum=9223372036854775806 least=-1 greatest=9223372036854775807\n'
+STATS_OF_D = 'rows 5\nworker 0 calls 1 rows 5\n"s" dictionary rows=5 nulls=2 sum=- least="a" greatest="b"\n'
+STATS_OF_E = 'rows 0\nworker 0 calls 1 rows 0\n"l" list<int8> rows=0 nulls=0 sum=- least=- greatest=-\n'
+
+
+def put(text, *pairs):
+    """The text with each of these, which stand once in it, put for another."""
+    for found, other in pairs:
+        assert text.count(found) == 1, found
+        text = text.replace(found, other)
+    return text
+
+
+def nested(arrays):
+    return put(A, ('{"schema"', '{"x":' + "[" * arrays + "]" * arrays + ',"schema"'))
+
+
+def one_list(offsets):
+    return put(E, ('[{"count":0', '[{"count":1'), ('"name":"l","count":0,"VALIDITY":[],"OFFSET":[]', '"name":"l","count":1,"VALIDITY":[1],"OFFSET":' + offsets))
+
+
+# What it is, the text or the bytes, and what is told: the output, or the fault of the file, or several, one of which is told.
+FILES = [
+    ("a file of three numbers", A, STATS_OF_A),
+    ("a file with a dictionary", D, STATS_OF_D),
+    ("a file of lists", E, STATS_OF_E),
+    ("126 arrays in one another in a member that nobody asks for", nested(126), STATS_OF_A),
+    ("127 of them", nested(127), "J1 NotJson"),
+    ("100,000 of them", nested(100000), "J1 NotJson"),
+    ("counts of 2147483647", put(A, ('[{"count":3', '[{"count":2147483647'), ('"n","count":3', '"n","count":2147483647')),
+     ["J7 CountDiffers at /batches/0/columns/0/VALIDITY", "J7 CountDiffers at /batches/0/columns/0/DATA"]),
+    ("a count of 2147483648", put(A, ('[{"count":3', '[{"count":2147483648')), ["J3 WrongMember at /batches/0/count", "J7 CountDiffers at /batches/0/columns/0/count"]),
+    ("as many rows without columns as there may be", '{"schema":{"fields":[]},"batches":[{"count":2147483647,"columns":[]}]}', "rows 2147483647\nworker 0 calls 1 rows 2147483647\n"),
+    ("a list past its child", one_list("[0,1]"), "J10 Layout V6 OffsetPastEnd at /batches/0/columns/0"),
+    ("a list past what an offset holds", one_list("[0,2147483648]"), "J6 BadOffset at /batches/0/columns/0/OFFSET/1"),
+    ("a dictionary that isn't wrapped in an array", put(D, ('"data":[{', '"data":{'), ('""]}]}]}]', '""]}]}}]')), STATS_OF_D),
+    ("an index past the dictionary", put(D, ("[1,1,1,0,1]", "[1,1,1,1,1]")), "J10 Layout V9 IndexPastDictionary row=3 at /batches/0/columns/0"),
+    ("an index that is none of its type", put(D, ("[2,0,3,9,1]", "[200,0,3,9,1]")), "J5 BadNumber at /batches/0/columns/0/DATA/0"),
+    ("a dictionary of another number", put(D, ('[{"id":7', '[{"id":8')), "J8 NoDictionary at /schema/fields/0/dictionary/id"),
+    ("nothing", "", "J1 NotJson"),
+    ("a byte that is 0", "\0", "J1 NotJson"),
+    ("half a character of two bytes", b'{"schema":{"fields":[{"name":"\xc3"}]}}', "J1 NotJson"),
+    ("half a pair of surrogates", put(A, ('"name":"n","nullable"', '"name":"\\ud800","nullable"')), "J1 NotJson"),
+    ("a number past all floats", put(A, ("-1]", "1e400]")), ["J1 NotJson", "J5 BadNumber at /batches/0/columns/0/DATA/2"]),
+    ("a number that is no integer", put(A, ("-1]", "-1.5]")), "J5 BadNumber at /batches/0/columns/0/DATA/2"),
+    ("a schema before the schema", put(A, ('{"schema":', '{"schema":{"fields":[]},"schema":')), STATS_OF_A),
+    ("two documents", A + A, "J1 NotJson"),
+    ("a mark of the order of bytes", "\ufeff" + A, "J1 NotJson"),
+]
+
+# ---- runs
 
 
 def limited(megabytes, seconds):
@@ -57,35 +176,101 @@ def limited(megabytes, seconds):
     resource.setrlimit(resource.RLIMIT_CORE, (0, 0))
 
 
-def fault(program, path, columns, megabytes, seconds):
-    """Why the run isn't as it should be, none where it is. A line is told of the rows, of each worker and of each column."""
-    with open(path + ".lines", "w+b") as out:
-        run = subprocess.run([program, "stats", path], stdout=out, stderr=subprocess.PIPE, preexec_fn=lambda: limited(megabytes, seconds))
-        out.seek(0)
-        lines = sum(1 for line in out)
-        out.seek(0)
-        first = out.readline()
-    if run.returncode:
-        return f"status {run.returncode}: {run.stderr[:200].decode(errors='replace').strip()}"
-    if first != b"rows 0\n" or lines < columns + 1:
-        return f"{lines} lines, the first of them {first[:80]!r}"
-    return None
+class Runs:
+    def __init__(self, program, room):
+        self.program, self.room = program, room
+        self.passed = self.failed = 0
+
+    def tell(self, name, fault):
+        self.passed += fault is None
+        self.failed += fault is not None
+        if fault:
+            print(f"{name}: {fault}", flush=True)
+
+    def file(self, data):
+        path = os.path.join(self.room, "file")
+        with open(path, "wb") as file:
+            file.write(data if isinstance(data, bytes) else data.encode())
+        return path
+
+    def run(self, names, megabytes=60, seconds=4, **streams):
+        streams = {"stdout": subprocess.PIPE, "stderr": subprocess.PIPE, "stdin": subprocess.DEVNULL, **streams}
+        return subprocess.run([self.program, "stats", *names], preexec_fn=lambda: limited(megabytes, seconds), timeout=60, **streams)
+
+    def expect(self, name, run, path, wanted):
+        """Tells whether a run gave this output, or this fault of the file, or one of these."""
+        told = (run.returncode, run.stdout, run.stderr)
+        lawful = [outcome(path, one) for one in ([wanted] if isinstance(wanted, str) else wanted)]
+        self.tell(name, None if told in lawful else f"{told[0]} {told[1][:100]!r} {told[2][:200]!r}")
+
+    def costs(self, name, make, megabytes, seconds):
+        document, columns = make()
+        path = self.file(json.dumps(document, separators=(",", ":")))
+        with open(path + ".lines", "w+b") as out:
+            run = self.run([path], megabytes, seconds, stdout=out)
+            out.seek(0)
+            lines = sum(1 for line in out)
+            out.seek(0)
+            first = out.readline()
+        right = run.returncode == 0 and first == b"rows 0\n" and lines >= columns + 1
+        self.tell(name, None if right else f"status {run.returncode}, {lines} lines, {run.stderr[:200]!r}")
+        print(f"{name}: within {megabytes} MB and {seconds} s", flush=True)
+
+    def cuts(self):
+        """The file of three numbers at each cut, alone; and behind itself, cut after 100 bytes."""
+        for size in range(len(A)):
+            path = self.file(A[:size])
+            self.expect(f"the first {size} bytes", self.run([path]), path, "J1 NotJson")
+        whole = os.path.join(self.room, "whole")
+        with open(whole, "w") as file:
+            file.write(A)
+        path = self.file(A[:100])
+        self.expect("a file, and one that is cut", self.run([whole, path]), path, "J1 NotJson")
+
+    def ends(self):
+        """Sources that can't be read, and outputs that take nothing."""
+        for name in (self.room, os.path.join(self.room, "nothing"), "/proc/self/mem"):
+            self.expect(f"to read {name}", self.run([name]), name, "cannot be read")
+        path = self.file(A)
+        with open("/dev/full", "wb") as full:
+            self.expect("a full device", self.run([path], stdout=full), None, "output failed")
+        read, write = os.pipe()
+        os.close(read)
+        self.expect("a pipe that nobody reads", self.run([path], stdout=write), None, "output failed")
+        os.close(write)
+        run = subprocess.run(["sh", "-c", 'exec "$0" stats "$1" >&-', self.program, path], stderr=subprocess.PIPE, timeout=60)
+        self.expect("an output that is closed", run, None, "output failed")
+        pipe = os.path.join(self.room, "pipe")
+        os.mkfifo(pipe)
+        writer = subprocess.Popen(["sh", "-c", 'printf %s "$0" > "$1"', A, pipe])
+        self.expect("a pipe with a name", self.run([pipe]), pipe, STATS_OF_A)
+        writer.wait()
+
+
+def outcome(path, wanted):
+    """The status of a run, its output and the line of its fault."""
+    if wanted.endswith("\n"):
+        return 0, wanted.encode(), b""
+    line = wanted if path is None else f"{path}: {wanted}"
+    return 1, b"" if path is not None else None, f"arrowtab: {line}\n".encode()
 
 
 def main():
     program = os.path.abspath(sys.argv[1])
-    failed = 0
     with tempfile.TemporaryDirectory() as room:
-        for name, make, megabytes, seconds in CASES:
-            path = os.path.join(room, "file")
-            document, columns = make()
-            with open(path, "w") as file:
-                json.dump(document, file, separators=(",", ":"))
-            told = fault(program, path, columns, megabytes, seconds)
-            failed += told is not None
-            print(f"{name}, within {megabytes} MB and {seconds} s: {told or 'passed'}", flush=True)
-    print(f"{len(CASES) - failed} passed, {failed} failed")
-    return 1 if failed else 0
+        runs = Runs(program, room)
+        for cost in COSTS:
+            runs.costs(*cost)
+        for number, (document, told) in enumerate(stated_files()):
+            path = runs.file(json.dumps(document, separators=(",", ":")))
+            runs.expect(f"file {number} that states 2147483647", runs.run([path]), path, told)
+        for name, data, told in FILES:
+            path = runs.file(data)
+            runs.expect(name, runs.run([path]), path, told)
+        runs.cuts()
+        runs.ends()
+    print(f"{runs.passed} passed, {runs.failed} failed")
+    return 1 if runs.failed else 0
 
 
 sys.exit(main())
