@@ -252,13 +252,13 @@ pub next_key : (wanted : Keys) (i : ℕ) (initial keys new : Keys) (numbers : Li
 next_key wanted i initial keys new numbers n below are at step =
     pushed_key initial keys new (take i wanted) (take (i + 1) wanted) (slice_index_or wanted i []) numbers n (take_more wanted i [] below) are at step
 
-module _ (view column : Seen) (code : Option ℤ) (row : ℕ) (is : view ≡ encoded (codes_of view) (dictionary_of view)) (of : column ≡ codes_of view)
-    (item : slice_index_or column.items row null ≡ item_of code) where
+module _ (view : Seen) (codes : List Item) (code : Option ℤ) (row : ℕ) (is : view ≡ encoded (codes_of view) (dictionary_of view)) (of : codes ≡ view.codes)
+    (item : slice_index_or codes row null ≡ item_of code) where
   items_are : view.items ≡ map (looked_up view.entries.items) view.codes
   items_are = ap (λ (s : Seen). s.items) is
 
   here : slice_index_or view.codes row null ≡ item_of code
-  here = sym (ap (λ (s : Seen). slice_index_or s.items row null) of) ∙ item
+  here = sym (ap (λ l. slice_index_or l row null) of) ∙ item
 
   there : row < length view.items → row < length view.codes
   there below = omega (arith, below, ap length items_are, length-map view.codes (looked_up view.entries.items))
@@ -276,10 +276,10 @@ module _ (view column : Seen) (code : Option ℤ) (row : ℕ) (is : view ≡ enc
       subst (λ m. is_code m (item_of code) ≡ true) room
       (subst (λ x. is_code (length view.entries.items) x ≡ true) here (All-get_or (λ c. is_code (length view.entries.items) c ≡ true) view.codes row null (there below) all))
 
-pub numbered_row : (view column : Seen) (number : Option ℤ) (row : ℕ) (b : Batch) (by : List ℕ) → column ≡ view → slice_index_or column.items row null ≡ item_of number
+pub numbered_row : (view : Seen) (items : List Item) (number : Option ℤ) (row : ℕ) (b : Batch) (by : List ℕ) → items ≡ view.items → slice_index_or items row null ≡ item_of number
     → AreKeys view.items b by → row < b.rows → key_of by (row_of b.columns row) ≡ item_of number ∷ []
-numbered_row view column number row b by of item keys below =
-    keys.each row below ∙ ap (λ x. x ∷ []) (sym (ap (λ (s : Seen). slice_index_or s.items row null) of) ∙ item)
+numbered_row view items number row b by of item keys below =
+    keys.each row below ∙ ap (λ x. x ∷ []) (sym (ap (λ l. slice_index_or l row null) of) ∙ item)
 
 -- ---- no columns for keys
 

@@ -1,5 +1,5 @@
 -- The columns and the rows of lawful batches.
-use Rattle.std.proofs.Common.{◌≡◌, ◌∙◌, ℕ, ◌<◌, [], length, get_or, Bool, true, false, cond, is_ok, Some, None, Result, Ok, Err, ap, sym, refl, zero-add}
+use Rattle.std.proofs.Common.{◌≡◌, ◌∙◌, ℕ, ◌<◌, [], List, length, get_or, Bool, true, false, cond, is_ok, Option, Some, None, Result, Ok, Err, ap, sym, refl, arith, zero-add}
 use Rattle.std.specs.Prelude.{slice_index_or}
 use Rattle.arrays.specs.Batch.{Batch, batch_fault}
 use Rattle.arrays.specs.Item.{Item, null}
@@ -20,7 +20,17 @@ use Rattle.evaluate.proofs.ColumnLemmas.{whole, field_there, sort_there, row_ite
 use Rattle.answers.specs.Kinds.{kind_at}
 use Rattle.answers.specs.Rows.{IsColumn}
 use Rattle.std.proofs.lemmas.List.{get_or-map}
-use Rattle.std.proofs.lemmas.List.FromFn.{get_or-map-range_with_len}
+use Rattle.std.proofs.lemmas.List.FromFn.{get_or-map-range_with_len, length-map-range_with_len}
+use Rattle.types.specs.declared.int_type.IntType.{IntType}
+use Rattle.arrays.specs.Item.{int}
+use Rattle.arrays.specs.Number.{number_at}
+use Rattle.arrays.specs.Seen.{valid_in}
+use Rattle.arrays.specs.Values.{number_items}
+
+-- a row of a column of numbers is one of its slots
+pub number_slot : (t : IntType) (bytes : List ℕ) (validity : Option (List Bool)) (n row : ℕ) → row < length (number_items t bytes validity n) → row < n
+number_slot t bytes validity n row below =
+    omega (arith, below, length-map-range_with_len (λ j. cond (valid_in validity j) (int (number_at t bytes j)) null) 0 n)
 
 -- A lawful batch has a column where a position has a sort.
 pub is_column : (b : Batch) (place : ℕ) (c : Seen) → batch_fault b.fields b.rows b.columns ≡ None → is_ok (sort_at b.fields place) ≡ true

@@ -15,7 +15,6 @@ ghost use Rattle.answers.specs.Memo.{AreKeys, IsNumbered, Knows, Remembers};
 
 use crate::key_set::KeySet;
 use crate::memo::{Memo, number_by, number_entry};
-use crate::number_column::NumberColumn;
 use arrays::{RecordBatch, View};
 use colbits::NoMemory;
 
@@ -44,7 +43,7 @@ pub(crate) fn number_codes(
 {
     let entries = view.entries();
     let codes = view.codes();
-    let column = NumberColumn::<i32>::of(&codes);
+    let column = codes.ints::<i32>();
     for row in rows {
         let code = column.get(*row);
         numbers.push(number_of_slot(keys, memo, &entries, batch, by, *row, code)?)?;

@@ -7,7 +7,8 @@ ghost use Rattle.query.specs.Fault.{fits};
 ghost use Rattle.answers.specs.Masks.{set_rows};
 ghost use Rattle.answers.specs.Runs.{AreTruths, AreVerdicts, StopsAt, keeps, kept_in};
 
-use crate::mask::Mask;
+use crate::mask;
+use arrays::Bools;
 use colbits::NoMemory;
 use evaluate::filter::evaluate_filter;
 use evaluate::slice::Slice;
@@ -43,7 +44,7 @@ pub(crate) fn keep_rows(
     match values {
         Some(values) => {
             kept.clear();
-            mask_of(values, len).push_places(kept, start)
+            mask::push_places(&mask_of(values, len), kept, start)
         }
         None => {
             kept.resize(len, 0)?;
@@ -69,19 +70,19 @@ pub(crate) fn count_rows(values: &Option<Values<'_>>, len: usize) -> usize
     ensures { (start : ℕ) → result ≡ length (kept_in values.now start len) }
 {
     match values {
-        Some(values) => mask_of(values, len).count(),
+        Some(values) => mask::count(&mask_of(values, len)),
         None => len,
     }
 }
 
 /// Which of so many rows are kept, where the values of the filter are these.
-fn mask_of<'a>(values: &'a Values<'_>, len: usize) -> Mask<'a>
+fn mask_of<'a>(values: &'a Values<'_>, len: usize) -> Bools<'a>
     requires { AreTruths len (Some values.now) }
-    ensures rows { set_rows result.validity result.bits ≡ filter (keeps (Some values.now)) (range_with_len 0 len) }
-    ensures size { length result.bits ≡ len }
+    ensures rows { set_rows result.validity result.values ≡ filter (keeps (Some values.now)) (range_with_len 0 len) }
+    ensures size { length result.values ≡ len }
 {
     if let Values::Column(column) = values {
-        return Mask::of(&column.view());
+        return mask::of(&column.view());
     }
     unreachable!()
 }

@@ -23,7 +23,6 @@ mod mask;
 mod memo;
 mod merging;
 mod neighbours;
-mod number_column;
 mod number_keys;
 mod numbering;
 mod numbers;

@@ -12,9 +12,9 @@ ghost use Rattle.answers.specs.Memo.{AreKeys, IsNumbered, Remembers};
 
 use crate::key_set::KeySet;
 use crate::memo::{Memo, number_by};
-use crate::number_column::NumberColumn;
-use arrays::{Integer, RecordBatch, View, ViewType, Width};
+use arrays::{Integer, RecordBatch, View, ViewType};
 use colbits::NoMemory;
+use types::with_integer;
 
 /// Puts the number of each row's key there, whose one item is the row's in this column.
 pub(crate) fn number_numbers(
@@ -41,16 +41,10 @@ pub(crate) fn number_numbers(
     let ViewType::Int(ty) = view.ty() else {
         unreachable!()
     };
-    match (ty.bits, ty.signed) {
-        (Width::W8, true) => number_as::<i8>(keys, memo, numbers, batch, by, rows, view),
-        (Width::W8, false) => number_as::<u8>(keys, memo, numbers, batch, by, rows, view),
-        (Width::W16, true) => number_as::<i16>(keys, memo, numbers, batch, by, rows, view),
-        (Width::W16, false) => number_as::<u16>(keys, memo, numbers, batch, by, rows, view),
-        (Width::W32, true) => number_as::<i32>(keys, memo, numbers, batch, by, rows, view),
-        (Width::W32, false) => number_as::<u32>(keys, memo, numbers, batch, by, rows, view),
-        (Width::W64, true) => number_as::<i64>(keys, memo, numbers, batch, by, rows, view),
-        (Width::W64, false) => number_as::<u64>(keys, memo, numbers, batch, by, rows, view),
-    }
+    with_integer!(
+        ty,
+        number_as::<_>(keys, memo, numbers, batch, by, rows, view)
+    )
 }
 
 /// The same, for a column of type `T`.
@@ -75,7 +69,7 @@ fn number_as<T: Integer>(
     ensures remembers { OnOk result (Remembers keys.new memo.new) }
     ensures entries { memo.new.entries ≡ memo.old.entries }
 {
-    let column = NumberColumn::<T>::of(view);
+    let column = view.ints::<T>();
     for row in rows {
         let number = column.get(*row);
         numbers.push(number_of_item(keys, memo, batch, by, *row, number)?)?;

@@ -14,10 +14,10 @@ ghost use Rattle.answers.specs.Tallies.{AreTallies, HasRoomFor};
 use crate::adding::add_each;
 use crate::best_number::BestNumber;
 use crate::end::End;
-use crate::number_column::NumberColumn;
 use crate::source::Candidates;
 use crate::total::Total;
-use arrays::{IntType, Integer, View, ViewType, Width};
+use arrays::{IntType, Integer, View, ViewType};
+use types::with_integer;
 
 /// Adds the numbers of a column at these rows to the sums of their groups.
 pub(crate) fn add_sums(totals: &mut [Total], view: &View<'_>, rows: &[usize], numbers: &[usize])
@@ -32,16 +32,7 @@ pub(crate) fn add_sums(totals: &mut [Total], view: &View<'_>, rows: &[usize], nu
     let ViewType::Int(ty) = view.ty() else {
         unreachable!()
     };
-    match (ty.bits, ty.signed) {
-        (Width::W8, true) => sums_as::<i8>(totals, view, rows, numbers),
-        (Width::W8, false) => sums_as::<u8>(totals, view, rows, numbers),
-        (Width::W16, true) => sums_as::<i16>(totals, view, rows, numbers),
-        (Width::W16, false) => sums_as::<u16>(totals, view, rows, numbers),
-        (Width::W32, true) => sums_as::<i32>(totals, view, rows, numbers),
-        (Width::W32, false) => sums_as::<u32>(totals, view, rows, numbers),
-        (Width::W64, true) => sums_as::<i64>(totals, view, rows, numbers),
-        (Width::W64, false) => sums_as::<u64>(totals, view, rows, numbers),
-    }
+    with_integer!(ty, sums_as::<_>(totals, view, rows, numbers))
 }
 
 /// The same, for a column of type `T`.
@@ -54,8 +45,7 @@ fn sums_as<T: Integer>(totals: &mut [Total], view: &View<'_>, rows: &[usize], nu
     ensures { (groups : List (List Item)) → AreTallies show_total (Sum 0) totals.old groups
         → AreTallies show_total (Sum 0) totals.new (spread numbers.now (items_at view.now.items rows.now) groups) }
 {
-    let column = NumberColumn::<T>::of(view);
-    add_each(totals, &column, rows, numbers)
+    add_each(totals, &view.ints::<T>(), rows, numbers)
 }
 
 /// Adds the numbers of a column of this type at these rows to what is sought in their groups.
@@ -75,16 +65,7 @@ pub(crate) fn add_best(
     ensures { (groups : List (List Item)) → AreTallies show_number (agg_at end 0) bests.old groups
         → AreTallies show_number (agg_at end 0) bests.new (spread numbers.now (items_at view.now.items rows.now) groups) }
 {
-    match (ty.bits, ty.signed) {
-        (Width::W8, true) => best_as::<i8>(bests, end, view, rows, numbers),
-        (Width::W8, false) => best_as::<u8>(bests, end, view, rows, numbers),
-        (Width::W16, true) => best_as::<i16>(bests, end, view, rows, numbers),
-        (Width::W16, false) => best_as::<u16>(bests, end, view, rows, numbers),
-        (Width::W32, true) => best_as::<i32>(bests, end, view, rows, numbers),
-        (Width::W32, false) => best_as::<u32>(bests, end, view, rows, numbers),
-        (Width::W64, true) => best_as::<i64>(bests, end, view, rows, numbers),
-        (Width::W64, false) => best_as::<u64>(bests, end, view, rows, numbers),
-    }
+    with_integer!(ty, best_as::<_>(bests, end, view, rows, numbers))
 }
 
 /// The same, for a column of type `T`.
@@ -103,6 +84,6 @@ fn best_as<T: Integer>(
     ensures { (groups : List (List Item)) → AreTallies show_number (agg_at end 0) bests.old groups
         → AreTallies show_number (agg_at end 0) bests.new (spread numbers.now (items_at view.now.items rows.now) groups) }
 {
-    let column = &NumberColumn::<T>::of(view);
+    let column = &view.ints::<T>();
     add_each(bests, &Candidates { end, column }, rows, numbers)
 }

@@ -2,6 +2,7 @@
 
 ghost use Rattle.std.specs.Prelude.{◌≡◌, ◌^◌, ◌<◌, ◌++◌, ◌∷◌, ℕ, [], List, length, replicate, slice_index_or};
 ghost use Rattle.arrays.specs.Item.{Item, null};
+ghost use Rattle.arrays.specs.Values.{number_items};
 ghost use Rattle.query.specs.declared.expr.Agg.{Agg};
 ghost use Rattle.query.specs.declared.expr.Agg.TheVariants.{Rows, Count, Sum};
 ghost use Rattle.answers.specs.Columns.{show_number, show_total};
@@ -10,9 +11,8 @@ ghost use Rattle.answers.specs.Tallies.{TallyShape, counted, tally_of};
 
 use crate::best_number::BestNumber;
 use crate::end::End;
-use crate::number_column::NumberColumn;
 use crate::total::Total;
-use arrays::{Integer, View};
+use arrays::{Integer, Ints, View};
 
 /// What each row of a batch adds to the cell of its group.
 pub(crate) trait Source<C> {
@@ -75,12 +75,12 @@ impl<'a, 'b> Source<u64> for EachItem<'a, 'b> {
     }
 }
 
-impl<'a, 'b, T: Integer> Source<Total> for NumberColumn<'a, 'b, T> {
+impl<'a, T: Integer> Source<Total> for Ints<'a, T> {
     ghost agg = { λ _. Sum 0 };
 
     ghost show = { show_total };
 
-    ghost items = { λ s. s.items };
+    ghost items = { λ s. number_items T.ty s.values.now s.validity s.slots };
 
     #[inline(always)]
     fn with_row(&self, cell: Total, row: usize) -> Total {
@@ -93,17 +93,17 @@ impl<'a, 'b, T: Integer> Source<Total> for NumberColumn<'a, 'b, T> {
 
 /// The numbers of a column, of which the one at the end is sought.
 #[derive(Drop)]
-pub(crate) struct Candidates<'a, 'b, 'c, T: Integer> {
+pub(crate) struct Candidates<'a, 'c, T: Integer> {
     pub(crate) end: End,
-    pub(crate) column: &'c NumberColumn<'a, 'b, T>,
+    pub(crate) column: &'c Ints<'a, T>,
 }
 
-impl<'a, 'b, 'c, T: Integer> Source<BestNumber> for Candidates<'a, 'b, 'c, T> {
+impl<'a, 'c, T: Integer> Source<BestNumber> for Candidates<'a, 'c, T> {
     ghost agg = { λ s. agg_at s.end 0 };
 
     ghost show = { show_number };
 
-    ghost items = { λ s. s.column.now.items };
+    ghost items = { λ s. number_items T.ty s.column.now.values.now s.column.now.validity s.column.now.slots };
 
     #[inline(always)]
     fn with_row(&self, cell: BestNumber, row: usize) -> BestNumber {

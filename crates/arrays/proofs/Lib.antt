@@ -5,6 +5,7 @@ pub mod FromPartsLemmas
 pub mod ListArrays
 pub mod ViewLemmas
 pub mod SlotLemmas
+pub mod TruthLemmas
 pub mod PartLemmas
 pub mod OffsetParts
 pub mod DictionaryViews

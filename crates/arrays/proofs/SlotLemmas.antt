@@ -1,5 +1,5 @@
 -- The slots of a view.
-use Rattle.std.proofs.Common.{◌≡◌, ◌∙◌, ℕ, ◌+◌, ◌-◌, ◌*◌, ◌<◌, ◌≤◌, List, [], ◌∷◌, map, Bool, true, false, not, length, take, cond, Option, Some, None, option_map, ap, sym, refl, subst, arith, pos, count_by, zero-add, ltb-false, slice_get, get_or}
+use Rattle.std.proofs.Common.{◌≡◌, ◌∙◌, ℕ, ◌+◌, ◌-◌, ◌*◌, ◌<◌, ◌≤◌, ℤ, List, [], ◌∷◌, map, Bool, true, false, not, length, take, cond, Option, Some, None, option_map, ap, sym, refl, subst, arith, pos, count_by, zero-add, ltb-false, slice_get, get_or}
 use Rattle.std.specs.List.{range_with_len}
 use Rattle.std.proofs.lemmas.List.FromFn.{get_or-map-range_with_len, take-map-range_with_len}
 use Rattle.std.proofs.lemmas.List.Sums.{sum_by-cons}
@@ -23,7 +23,8 @@ use Rattle.layout.specs.Checked.{checked_texts}
 use Rattle.arrays.specs.ViewType.{view_kind}
 use Rattle.arrays.specs.View.{read_view, show_view}
 use Rattle.arrays.specs.declared.view.View.TheInside.{Inside}
-use Rattle.arrays.specs.Values.{HasNumbers}
+use Rattle.arrays.specs.Slot.{item_of}
+use Rattle.arrays.specs.Values.{HasNumbers, number_in, number_items}
 use Rattle.layout.proofs.FirstFaultLemmas.{IsWhole, own_fault-none}
 use Rattle.layout.proofs.LawfulLemmas.{first-parts}
 use Rattle.arrays.proofs.ListLemmas.{map-range-below}
@@ -152,6 +153,23 @@ pub number_there : (t : IntType) (bytes : List ℕ) (s : Seen) (j : ℕ) → Has
 number_there t bytes s j has within =
     let w = bytes_of t.bits in
     subst (λ m. j * w + w ≤ m) (sym has.size) (row_fits j w (length s.items) w within (omega arith))
+
+-- ---- columns of numbers
+
+pub number_items-view : (t : IntType) (bytes : List ℕ) (validity : Option (List Bool)) (n : ℕ) (s : Seen) → HasNumbers t bytes s → validity ≡ s.validity → n ≡ length s.items
+    → number_items t bytes validity n ≡ s.items
+number_items-view t bytes validity n s has same size =
+    ap (λ v. number_items t bytes v n) same ∙ ap (number_items t bytes s.validity) size ∙ sym has.numbers
+
+pub item_if : (b : Bool) (z : ℤ) → cond b (int z) null ≡ item_of (cond b (Some z) None)
+item_if true z = refl
+item_if false z = refl
+
+pub number_items-slot : (t : IntType) (bytes : List ℕ) (validity : Option (List Bool)) (n j : ℕ) → j < n
+    → get_or (number_items t bytes validity n) j null ≡ item_of (number_in t bytes validity j)
+number_items-slot t bytes validity n j within =
+    get_or-map-range_with_len (λ k. cond (valid_in validity k) (int (number_at t bytes k)) null) 0 n j j null within (zero-add j)
+    ∙ item_if (valid_in validity j) (number_at t bytes j)
 
 -- ---- views
 

@@ -14,6 +14,7 @@ pub use Rattle.layout.specs.Offsets
 pub use Rattle.layout.specs.Reading
 pub use Rattle.layout.specs.Seen
 pub mod Values
+pub mod Truth
 pub mod Slot
 pub mod Order
 pub mod BatchSchema

@@ -20,6 +20,6 @@ pub use builder::texts::TextBuilder;
 pub use builder::validity::ValidityBuilder;
 pub use file::File;
 pub use layout::{LayoutFault, RawArray};
-pub use types::{DataType, Field, IntType, Integer, Schema, SchemaFault, Width};
-pub use view::{Lists, Texts, View, ViewType};
+pub use types::{DataType, Field, IntType, Integer, Packed, Schema, SchemaFault, Width};
+pub use view::{Bools, Ints, Lists, Texts, View, ViewType};
 pub use words::Words;

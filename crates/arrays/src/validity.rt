@@ -1,13 +1,15 @@
 //! Validities that are kept only where a slot isn't valid.
 
-ghost use Rattle.std.specs.Prelude.{◌≡◌, map, IfOk};
+ghost use Rattle.std.specs.Prelude.{◌≡◌, ◌+◌, ◌^◌, ◌<◌, ℕ, map, IfOk};
 ghost use Rattle.std.specs.List.{range_with_len};
+ghost use Rattle.colbits.specs.Bit.{bit, bit_in};
 ghost use Rattle.arrays.specs.Packed.{IsBufferOf};
 ghost use Rattle.layout.specs.Seen.{valid_in};
 ghost use Rattle.arrays.specs.Shown.{kept};
 
 use colbits::{BitmapBuf, Bits, Buffer, NoMemory, Places};
 use std::alloc::Global;
+use std::simd::prelude::*;
 
 /// The validity of slots that are valid where the places are 1: none where all of them are. It fails for want of memory
 /// alone.
@@ -45,5 +47,28 @@ pub fn is_valid(validity: &Option<Bits<'_>>, i: usize) -> bool
     match validity {
         None => true,
         Some(bits) => i < bits.len() && bits.get(i),
+    }
+}
+
+/// Which of slots `i` to `i + 63` are valid, the first of them least significant.
+#[inline(always)]
+pub fn valid_word(validity: &Option<Bits<'_>>, i: usize) -> u64
+    ensures { (j : ℕ) → j < 64 → bit_in result j ≡ valid_in validity.now (i + j) }
+{
+    match validity {
+        None => u64::MAX,
+        Some(bits) => bits.word(i),
+    }
+}
+
+/// Which of slots `i` to `i + 255` are valid, eight to a lane.
+#[inline(always)]
+pub fn valid_lanes(validity: &Option<Bits<'_>>, i: usize) -> u8x32
+    requires { i + 256 < 2 ^ 64 }
+    ensures { (j : ℕ) → j < 256 → bit result j ≡ valid_in validity.now (i + j) }
+{
+    match validity {
+        None => return u8x32::splat(u8::MAX),
+        Some(bits) => bits.lanes(i),
     }
 }

@@ -7,13 +7,17 @@ ghost use Rattle.layout.specs.Seen.{null_count_of, part, valid_at};
 ghost use Rattle.arrays.specs.Slot.{holds_at};
 ghost use Rattle.arrays.specs.ViewType.{view_kind};
 
+mod bools;
 mod dictionary;
+mod ints;
 mod items;
 mod parts;
 mod typed;
 
 use crate::words::Words;
+pub use bools::Bools;
 use colbits::{Bits, Buffer};
+pub use ints::Ints;
 use layout::{RawArray, buffers};
 pub use parts::{Lists, Texts};
 use std::marker::Model;

@@ -1,7 +1,7 @@
 //! The statistics of the slots of a view.
 
 ghost use Rattle.std.specs.Prelude.{◌≡◌, IfOk, option_map, true};
-ghost use Rattle.arrays.specs.Item.{boolean, text};
+ghost use Rattle.arrays.specs.Item.{boolean, int, text};
 ghost use Rattle.arrays.specs.Kind as kind;
 ghost use Rattle.arrays.specs.Slot.{is_list, is_text};
 ghost use Rattle.group.specs.Summary.{AreStats, scalar_item};
@@ -10,9 +10,10 @@ use crate::number::Number;
 use crate::stats::{ColumnStats, Scalar};
 use crate::tally::{Tally, greater, lesser};
 use arrays::validity::is_valid;
-use arrays::{IntType, View, ViewType, Width};
+use arrays::{IntType, Integer, View, ViewType};
 use colbits::NoMemory;
 use std::alloc::Global;
+use types::with_integer;
 
 /// The statistics of a column.
 pub fn stats_of(alloc: Global, view: &View<'_>) -> Result<ColumnStats, NoMemory>
@@ -31,33 +32,23 @@ fn int_stats(ty: IntType, view: &View<'_>) -> ColumnStats
     requires { view.now.kind ≡ kind.int ty }
     ensures { AreStats result view.now.kind view.now.items }
 {
-    match (ty.bits, ty.signed) {
-        (Width::W8, true) => number_stats::<i8>(view),
-        (Width::W8, false) => number_stats::<u8>(view),
-        (Width::W16, true) => number_stats::<i16>(view),
-        (Width::W16, false) => number_stats::<u16>(view),
-        (Width::W32, true) => number_stats::<i32>(view),
-        (Width::W32, false) => number_stats::<u32>(view),
-        (Width::W64, true) => number_stats::<i64>(view),
-        (Width::W64, false) => number_stats::<u64>(view),
-    }
+    with_integer!(ty, number_stats::<_>(view))
 }
 
 /// The statistics of a column of numbers of type `T`.
-fn number_stats<T: Number>(view: &View<'_>) -> ColumnStats
+fn number_stats<T: Integer>(view: &View<'_>) -> ColumnStats
     requires { view.now.kind ≡ kind.int T.ty }
     ensures { AreStats result view.now.kind view.now.items }
 {
-    let numbers = view.numbers(T::ty());
-    let validity = view.validity();
-    let slots = view.slots();
+    let column = view.ints::<T>();
+    let slots = column.slots;
     let mut tally = Tally::new();
     let mut sum: i128 = 0;
     for i in 0..slots as usize {
-        if is_valid(&validity, i) {
-            let number = T::at(numbers, i);
-            sum += number;
-            tally = tally.with_value(T::narrow(number));
+        if is_valid(&column.validity, i) {
+            let number = column.read(i);
+            sum += number.wide();
+            tally = tally.with_value(Number { number });
         } else {
             tally = tally.with_null();
         }
@@ -76,13 +67,12 @@ fn truth_stats(view: &View<'_>) -> ColumnStats
     requires { view.now.kind ≡ kind.boolean }
     ensures { AreStats result view.now.kind view.now.items }
 {
-    let bits = view.bool_bits();
-    let known = view.validity();
-    let slots = view.slots();
+    let column = view.bools();
+    let slots = column.slots;
     let mut tally = Tally::new();
     for i in 0..slots as usize {
-        if is_valid(&known, i) {
-            tally = tally.with_value(bits.get(i));
+        if is_valid(&column.validity, i) {
+            tally = tally.with_value(column.values.get(i));
         } else {
             tally = tally.with_null();
         }
@@ -145,11 +135,11 @@ fn list_stats(view: &View<'_>) -> ColumnStats
 }
 
 /// A number as a value, if there is one.
-fn number_scalar<T: Number>(number: Option<T>) -> Option<Scalar>
-    ensures { option_map scalar_item result ≡ option_map T.item number }
+fn number_scalar<T: Integer>(number: Option<Number<T>>) -> Option<Scalar>
+    ensures { option_map scalar_item result ≡ option_map (λ n. int (T.value n.number)) number }
 {
     match number {
-        Some(number) => Some(Scalar::Int(number.wide())),
+        Some(Number { number }) => Some(Scalar::Int(number.wide())),
         None => None,
     }
 }

@@ -1,18 +1,19 @@
 -- Three-valued logic, place by place.
-use Rattle.std.proofs.Common.{◌≡◌, ◌∙◌, ℕ, ◌+◌, ◌<◌, List, Bool, true, false, not, ◌&&◌, cond, length, Option, Some, None, is_some, option_map, get_or, ap, sym, refl, zero-add}
+use Rattle.std.proofs.Common.{◌≡◌, ◌∙◌, ℕ, ◌+◌, ◌<◌, List, Bool, true, false, not, ◌&&◌, cond, length, map, Option, Some, None, is_some, option_map, ap, sym, refl, arith}
 use Rattle.std.specs.List.{range_with_len}
-use Rattle.std.proofs.lemmas.List.FromFn.{get_or-map-range_with_len}
 use Rattle.std.proofs.lemmas.Simd.{map-map}
-use Rattle.colbits.specs.Bitmap.{bit_of}
 use Rattle.arrays.specs.Item.{Item, null, boolean}
 use Rattle.arrays.specs.Kind as kind
 use Rattle.arrays.specs.Kind.{Kind, same_kind}
-use Rattle.arrays.specs.Seen.{Seen, valid_at, valid_in}
-use Rattle.arrays.specs.Slot.{item_of_bool}
-use Rattle.arrays.specs.Values.{HasBits}
+use Rattle.arrays.specs.Seen.{Seen}
+use Rattle.arrays.specs.Slot.{item_at, item_of_bool}
+use Rattle.arrays.specs.Truth.{knows_false}
+use Rattle.arrays.specs.Values.{bool_in}
 use Rattle.arrays.proofs.ListLemmas.{map-range-below}
-use Rattle.kernels.specs.Kleene.{truth_of, negation, truths_fault}
-use Rattle.kernels.specs.Known.{truth_in, stored_truth, knows_false, knows_true}
+use Rattle.arrays.proofs.TruthLemmas.{bool_items-slot}
+use Rattle.kernels.specs.Kleene.{and_known, conjunction, disjunction, negation, or_known, truth_of, truths_fault}
+use Rattle.kernels.specs.Known.{HasTruths, are_both, is_either, tells_and, tells_or}
+use Rattle.kernels.specs.Lift.{at_each_place}
 use Rattle.truths.specs.Truth.{truth_at, truths_of}
 use Rattle.kernels.specs.declared.fault.KernelFault.{KernelFault}
 use Rattle.kernels.specs.declared.fault.KernelFault.TheVariants.{TypesDiffer}
@@ -38,18 +39,15 @@ kinds-from_no_fault a b e =
     let passed = tests_passed (same_kind a.kind kind.boolean) (same_kind b.kind kind.boolean) _ e in
     (kind_of_truths a.kind passed.0, kind_of_truths b.kind passed.1)
 
-truth_of-slot : (valid bit : Bool) → truth_of (cond valid (boolean bit) null) ≡ cond valid (Some bit) None
-truth_of-slot true bit = refl
-truth_of-slot false bit = refl
+truth_again : (o : Option Bool) → truth_of (item_of_bool o) ≡ o
+truth_again None = refl
+truth_again (Some b) = refl
 
-pub stored-truth : (s : Seen) (validity : Option (List Bool)) (bits : List Bool) (i : ℕ) → HasBits bits s → validity ≡ s.validity → i < length s.items
-    → truth_in s.items i ≡ stored_truth validity bits i
-stored-truth s validity bits i has same below =
-    let slot : ℕ → Item = λ j. cond (valid_at s j) (boolean (bit_of bits j)) null in
-    ap (λ items. truth_in items i) has.values
-    ∙ ap truth_of (get_or-map-range_with_len slot 0 (length s.items) i i null below (zero-add i))
-    ∙ truth_of-slot (valid_at s i) (bit_of bits i)
-    ∙ ap (λ v. stored_truth v bits i) (sym same)
+-- the truth value of a slot is that of its item
+truth_is : (bits : List Bool) (validity : Option (List Bool)) (n : ℕ) (items : List Item) (i : ℕ) → HasTruths bits validity n items → i < n
+    → bool_in bits validity i ≡ truth_of (item_at items i)
+truth_is bits validity n items i has within =
+    sym (ap truth_of (sym (ap (λ l. item_at l i) has.values) ∙ bool_items-slot bits validity n i within) ∙ truth_again (bool_in bits validity i))
 
 -- ---- the connectives at one place
 
@@ -59,34 +57,55 @@ not_place (Some b) = refl
 
 -- ---- columns
 
-pub truths-negation : (xs : List Item) → truths_of (λ i. is_some (truth_in xs i)) (λ i. knows_false (truth_in xs i)) (length xs) ≡ negation xs
-truths-negation xs =
-    let item_at : ℕ → Item = λ i. get_or xs i null in
-    map-range-below (truth_at (λ i. is_some (truth_in xs i)) (λ i. knows_false (truth_in xs i))) (λ i. item_of_bool (option_map not (truth_in xs i))) 0 (length xs)
-    (λ i below. not_place (truth_in xs (0 + i)))
-    ∙ sym (map-map (λ x. item_of_bool (option_map not (truth_of x))) item_at (range_with_len 0 (length xs)))
-    ∙ ap negation (listed xs null)
+-- two columns, place by place
+connected : (tells both : Option Bool → Option Bool → Bool) (f : Option Bool → Option Bool → Option Bool)
+    → ((x y : Option Bool) → cond (tells x y) (boolean (both x y)) null ≡ item_of_bool (f x y))
+    → (xs : List Bool) (v : Option (List Bool)) (ys : List Bool) (w : Option (List Bool)) (n m : ℕ) (a b : List Item) → n ≡ m → HasTruths xs v n a → HasTruths ys w m b
+    → truths_of (λ i. tells (bool_in xs v i) (bool_in ys w i)) (λ i. both (bool_in xs v i) (bool_in ys w i)) n
+    ≡ at_each_place (λ x y. item_of_bool (f (truth_of x) (truth_of y))) a b
+connected tells both f place xs v ys w n m a b same has_a has_b =
+    map-range-below (truth_at (λ i. tells (bool_in xs v i) (bool_in ys w i)) (λ i. both (bool_in xs v i) (bool_in ys w i)))
+    (λ i. item_of_bool (f (truth_of (item_at a i)) (truth_of (item_at b i)))) 0 n
+    (λ i below.
+    place (bool_in xs v (0 + i)) (bool_in ys w (0 + i))
+    ∙ (λ j. item_of_bool (f (truth_is xs v n a (0 + i) has_a (omega (arith, below)) j) (truth_is ys w m b (0 + i) has_b (omega (arith, below, same)) j))))
+    ∙ ap (λ k. map (λ i. item_of_bool (f (truth_of (item_at a i)) (truth_of (item_at b i)))) (range_with_len 0 k)) has_a.size
 
--- ---- words
+and_place : (x y : Option Bool) → cond (tells_and x y) (boolean (are_both x y)) null ≡ item_of_bool (and_known x y)
+and_place (Some true) (Some true) = refl
+and_place (Some true) (Some false) = refl
+and_place (Some true) None = refl
+and_place (Some false) (Some true) = refl
+and_place (Some false) (Some false) = refl
+and_place (Some false) None = refl
+and_place None (Some true) = refl
+and_place None (Some false) = refl
+and_place None None = refl
 
--- a slot is true where it is valid and its bit is 1, and false where it is valid and its bit is 0
-pub stored-true : (validity : Option (List Bool)) (bits : List Bool) (i : ℕ) → (valid_in validity i && bit_of bits i) ≡ knows_true (stored_truth validity bits i)
-stored-true validity bits i = by_case (valid_in validity i)
-  where
-    by_case : (b : Bool) → (b && bit_of bits i) ≡ knows_true (cond b (Some (bit_of bits i)) None)
-    by_case true = refl
-    by_case false = refl
+or_place : (x y : Option Bool) → cond (tells_or x y) (boolean (is_either x y)) null ≡ item_of_bool (or_known x y)
+or_place (Some true) (Some true) = refl
+or_place (Some true) (Some false) = refl
+or_place (Some true) None = refl
+or_place (Some false) (Some true) = refl
+or_place (Some false) (Some false) = refl
+or_place (Some false) None = refl
+or_place None (Some true) = refl
+or_place None (Some false) = refl
+or_place None None = refl
 
-pub stored-false : (validity : Option (List Bool)) (bits : List Bool) (i : ℕ) → (valid_in validity i && not (bit_of bits i)) ≡ knows_false (stored_truth validity bits i)
-stored-false validity bits i = by_case (valid_in validity i)
-  where
-    by_case : (b : Bool) → (b && not (bit_of bits i)) ≡ knows_false (cond b (Some (bit_of bits i)) None)
-    by_case true = refl
-    by_case false = refl
+pub truths-conjunction : (xs : List Bool) (v : Option (List Bool)) (ys : List Bool) (w : Option (List Bool)) (n m : ℕ) (a b : List Item) → n ≡ m → HasTruths xs v n a → HasTruths ys w m b
+    → truths_of (λ i. tells_and (bool_in xs v i) (bool_in ys w i)) (λ i. are_both (bool_in xs v i) (bool_in ys w i)) n ≡ conjunction a b
+truths-conjunction = connected tells_and are_both and_known and_place
 
-pub stored-known : (validity : Option (List Bool)) (bits : List Bool) (i : ℕ) → valid_in validity i ≡ is_some (stored_truth validity bits i)
-stored-known validity bits i = by_case (valid_in validity i)
-  where
-    by_case : (b : Bool) → b ≡ is_some (cond b (Some (bit_of bits i)) None)
-    by_case true = refl
-    by_case false = refl
+pub truths-disjunction : (xs : List Bool) (v : Option (List Bool)) (ys : List Bool) (w : Option (List Bool)) (n m : ℕ) (a b : List Item) → n ≡ m → HasTruths xs v n a → HasTruths ys w m b
+    → truths_of (λ i. tells_or (bool_in xs v i) (bool_in ys w i)) (λ i. is_either (bool_in xs v i) (bool_in ys w i)) n ≡ disjunction a b
+truths-disjunction = connected tells_or is_either or_known or_place
+
+pub truths-negation : (bits : List Bool) (v : Option (List Bool)) (n : ℕ) (items : List Item) → HasTruths bits v n items
+    → truths_of (λ i. is_some (bool_in bits v i)) (λ i. knows_false (bool_in bits v i)) n ≡ negation items
+truths-negation bits v n items has =
+    map-range-below (truth_at (λ i. is_some (bool_in bits v i)) (λ i. knows_false (bool_in bits v i))) (λ i. item_of_bool (option_map not (truth_of (item_at items i)))) 0 n
+    (λ i below. not_place (bool_in bits v (0 + i)) ∙ ap (λ o. item_of_bool (option_map not o)) (truth_is bits v n items (0 + i) has (omega (arith, below))))
+    ∙ ap (λ k. map (λ i. item_of_bool (option_map not (truth_of (item_at items i)))) (range_with_len 0 k)) has.size
+    ∙ sym (map-map (λ x. item_of_bool (option_map not (truth_of x))) (λ i. item_at items i) (range_with_len 0 (length items)))
+    ∙ ap negation (listed items null)

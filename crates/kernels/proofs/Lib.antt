@@ -7,4 +7,4 @@ pub mod NumberLemmas
 pub mod CheckedLemmas
 pub mod ResultLemmas
 pub mod BesideLemmas
-pub mod NativeLemmas
+pub mod RowLemmas

@@ -30,11 +30,6 @@ held_at t result j = if is_of_type t (result j) then result j else pos 0
 unfoldable pub bytes_of_results : IntType → (ℕ → ℤ) → ℕ → ℕ → List ℕ
 bytes_of_results t result start n = flat_map (λ j. bytes_of_number t (held_at t result j)) (range_with_len start n)
 
--- Unless it is told to be outside the type, the exact result is of the type, and the number is this result.
-pub record IsTold (t : IntType) (exact z : ℤ) (outside : Bool) : Type 0 where
-  pub of_type : outside ≡ false → is_of_type t exact ≡ true
-  pub number : outside ≡ false → z ≡ exact
-
 -- The results of the n slots from slot start on are of the type, and the rows are their bytes.
 pub record AreRows (t : IntType) (result : ℕ → ℤ) (start n : ℕ) (rows : List (List ℕ)) : Type 0 where
   pub of_type : (j : ℕ) → j < n → is_of_type t (result (start + j)) ≡ true

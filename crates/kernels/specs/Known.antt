@@ -1,28 +1,13 @@
 -- Truth values that are known, or aren't.
-use Rattle.std.specs.Prelude.{ℕ, ◌&&◌, ◌||◌, List, Bool, false, not, Option, Some, None, if◌then◌else◌}
-use Rattle.colbits.specs.Bitmap.{bit_of}
+use Rattle.std.specs.Prelude.{◌≡◌, ℕ, ◌&&◌, ◌||◌, List, Bool, Option, length}
 use Rattle.arrays.specs.Item.{Item}
-use Rattle.arrays.specs.Seen.{valid_in}
-use Rattle.kernels.specs.Kleene.{truth_of}
-use Rattle.arrays.specs.Slot.{item_at}
+use Rattle.arrays.specs.Truth.{knows_false, knows_true}
+use Rattle.arrays.specs.Values.{bool_items}
 
--- The truth value at a place, none where it isn't known.
-abbrev pub truth_in : List Item → ℕ → Option Bool
-truth_in items i = truth_of (item_at items i)
-
--- The truth value that lies in a slot, none where the slot isn't valid.
-abbrev pub stored_truth : Option (List Bool) → List Bool → ℕ → Option Bool
-stored_truth validity bits i = if valid_in validity i then Some (bit_of bits i) else None
-
--- Known, and true.
-abbrev pub knows_true : Option Bool → Bool
-knows_true (Some b) = b
-knows_true None = false
-
--- Known, and false.
-abbrev pub knows_false : Option Bool → Bool
-knows_false (Some b) = not b
-knows_false None = false
+-- The items are these truth values where their slots are valid, else null.
+pub record HasTruths (bits : List Bool) (validity : Option (List Bool)) (n : ℕ) (items : List Item) : Type 0 where
+  pub size : n ≡ length items
+  pub values : bool_items bits validity n ≡ items
 
 -- When two truth values tell whether both are true, and when they are.
 abbrev pub tells_and : Option Bool → Option Bool → Bool

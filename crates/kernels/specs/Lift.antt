@@ -1,5 +1,5 @@
 -- Functions of items, place by place.
-use Rattle.std.specs.Prelude.{ℕ, ◌||◌, List, map, length, if◌then◌else◌}
+use Rattle.std.specs.Prelude.{◌||◌, List, map, length, if◌then◌else◌}
 use Rattle.std.specs.List.{range_with_len}
 use Rattle.arrays.specs.Item.{Item, null, is_null}
 use Rattle.arrays.specs.Slot.{item_at}

@@ -3,24 +3,23 @@
 ghost use Rattle.std.specs.Prelude.{◌≡◌, ◌+◌, ◌++◌, ◌<◌, ◌≤◌, ◌+ℤ◌, ◌-ℤ◌, ◌*ℤ◌, IfErr, IfNone, IfOk, IfSome, OnOk};
 ghost use Rattle.std.specs.Prelude.{None, true, false, length};
 ghost use Rattle.arrays.specs.Kind as kind;
-ghost use Rattle.arrays.specs.Number.{is_of_type};
+ghost use Rattle.arrays.specs.Number.{IsResult, is_of_type};
 ghost use Rattle.arrays.specs.Seen.{valid_in};
 ghost use Rattle.arrays.specs.ViewType.{view_kind};
 ghost use Rattle.kernels.specs.Arithmetic.{are_one_int, arithmetic_fault, operands_fault, results};
 ghost use Rattle.kernels.specs.Beside.{fault_from, fault_with, number_beside, number_fault};
-ghost use Rattle.kernels.specs.Computed.{AreOutside, AreResults, AreRows, IsTold, StopsAt, bytes_of_results, result_at};
+ghost use Rattle.kernels.specs.Computed.{AreOutside, AreResults, AreRows, StopsAt, bytes_of_results, result_at};
 ghost use Rattle.kernels.specs.Fault.{IsKernelFault};
 ghost use Rattle.arrays.specs.Shown.{shown};
 
 use crate::fault::KernelFault;
-use crate::native::{Native, Packed};
-use crate::side::{Column, One, Own, Side, number_bytes, type_with};
-use arrays::validity::buffer_of;
-use arrays::{Array, IntType, Integer, View, ViewType, Width};
+use crate::side::{One, Own, Side, type_with};
+use arrays::validity::{buffer_of, valid_word};
+use arrays::{Array, IntType, Integer, Packed, View, ViewType};
 use colbits::{BitmapBuf, Bits, Buffer, NoMemory};
 use std::alloc::Global;
-use std::marker::PhantomData;
-use truths::{both_valid, valid_word};
+use truths::both_valid;
+use types::with_integer;
 
 /// The sums of two columns of one integer type: null where either is null, else the exact sum, which has to be of
 /// the type. `TypesDiffer` unless both columns are of one integer type; else `LengthsDiffer` unless they are of one
@@ -99,7 +98,7 @@ pub fn mul_number(alloc: Global, a: &View<'_>, number: i128) -> Result<Array, Ke
 /// An operation on two numbers of the eight integer types.
 trait Operation {
     ghost use Rattle.std.specs.Prelude.{◌≡◌, ◌^◌, ◌≤ℤ◌, ℤ, neg_ℤ, pos, false, IfNone, IfSome};
-    ghost use Rattle.arrays.specs.Number.{is_of_type};
+    ghost use Rattle.arrays.specs.Number.{IsResult, is_of_type};
     ghost use Rattle.types.specs.declared.int_type.IntType.{IntType};
 
     // The exact result, of any size.
@@ -115,8 +114,8 @@ trait Operation {
         ensures none { IfNone result ((t : IntType) → is_of_type t (exact x y) ≡ false) };
 
     /// The result by the type's own arithmetic, and whether it is outside the type.
-    fn own<T: Native>(x: T, y: T) -> (T, bool)
-        ensures { IsTold T.ty (exact (T.number x) (T.number y)) (T.number result.0) result.1 };
+    fn own<T: Integer>(x: T, y: T) -> (T, bool)
+        ensures { IsResult T.ty (exact (T.value x) (T.value y)) (T.value result.0) result.1 };
 }
 
 /// The first number and the second together.
@@ -133,8 +132,8 @@ impl Operation for Sum {
     }
 
     #[inline(always)]
-    fn own<T: Native>(x: T, y: T) -> (T, bool) {
-        x.sum(y)
+    fn own<T: Integer>(x: T, y: T) -> (T, bool) {
+        x.overflowing_add(y)
     }
 }
 
@@ -152,8 +151,8 @@ impl Operation for Difference {
     }
 
     #[inline(always)]
-    fn own<T: Native>(x: T, y: T) -> (T, bool) {
-        x.difference(y)
+    fn own<T: Integer>(x: T, y: T) -> (T, bool) {
+        x.overflowing_sub(y)
     }
 }
 
@@ -171,8 +170,8 @@ impl Operation for Reversed {
     }
 
     #[inline(always)]
-    fn own<T: Native>(x: T, y: T) -> (T, bool) {
-        y.difference(x)
+    fn own<T: Integer>(x: T, y: T) -> (T, bool) {
+        y.overflowing_sub(x)
     }
 }
 
@@ -190,8 +189,8 @@ impl Operation for Product {
     }
 
     #[inline(always)]
-    fn own<T: Native>(x: T, y: T) -> (T, bool) {
-        x.product(y)
+    fn own<T: Integer>(x: T, y: T) -> (T, bool) {
+        x.overflowing_mul(y)
     }
 }
 
@@ -205,16 +204,7 @@ fn compute<O: Operation>(alloc: Global, a: &View<'_>, b: &View<'_>) -> Result<Ar
     if a.len() != b.len() {
         return Err(KernelFault::LengthsDiffer);
     }
-    match (ty.bits, ty.signed) {
-        (Width::W8, true) => computed::<O, i8, 1>(alloc, a, b),
-        (Width::W8, false) => computed::<O, u8, 1>(alloc, a, b),
-        (Width::W16, true) => computed::<O, i16, 2>(alloc, a, b),
-        (Width::W16, false) => computed::<O, u16, 2>(alloc, a, b),
-        (Width::W32, true) => computed::<O, i32, 4>(alloc, a, b),
-        (Width::W32, false) => computed::<O, u32, 4>(alloc, a, b),
-        (Width::W64, true) => computed::<O, i64, 8>(alloc, a, b),
-        (Width::W64, false) => computed::<O, u64, 8>(alloc, a, b),
-    }
+    with_integer!(ty, computed::<_, _, O>(alloc, a, b))
 }
 
 /// The integer type of two columns.
@@ -232,7 +222,7 @@ fn one_type(a: ViewType<'_>, b: ViewType<'_>) -> Result<IntType, KernelFault>
 }
 
 /// The results of two columns of this integer type and of one length.
-fn computed<O: Operation, T: Packed<N>, const N: usize>(
+fn computed<T: Packed<N>, const N: usize, O: Operation>(
     alloc: Global,
     a: &View<'_>,
     b: &View<'_>,
@@ -245,7 +235,7 @@ fn computed<O: Operation, T: Packed<N>, const N: usize>(
     ensures err { IfErr result (λ e. IsKernelFault (operands_fault a.now b.now) (arithmetic_fault O.exact a.now b.now) e) }
 {
     let validity = both_valid(alloc, a, b)?;
-    let (x, y) = (Column::<T>::of(a), Column::<T>::of(b));
+    let (x, y) = (a.ints::<T>(), b.ints::<T>());
     let numbers = numbers::<O, T, _, _, N>(alloc, &x, &y, &bits_of(&validity), x.slots)?;
     let values = Buffer::from_vec(numbers)?;
     Ok(Array::from_numbers(alloc, T::ty(), x.slots, buffer_of(validity), values)?)
@@ -262,20 +252,11 @@ fn compute_with<O: Operation>(
     ensures err { IfErr result (λ e. IsKernelFault (number_fault a.now number) (fault_with O.exact a.now number) e) }
 {
     let ty = type_with(a.ty(), number)?;
-    match (ty.bits, ty.signed) {
-        (Width::W8, true) => computed_with::<O, i8, 1>(alloc, a, number),
-        (Width::W8, false) => computed_with::<O, u8, 1>(alloc, a, number),
-        (Width::W16, true) => computed_with::<O, i16, 2>(alloc, a, number),
-        (Width::W16, false) => computed_with::<O, u16, 2>(alloc, a, number),
-        (Width::W32, true) => computed_with::<O, i32, 4>(alloc, a, number),
-        (Width::W32, false) => computed_with::<O, u32, 4>(alloc, a, number),
-        (Width::W64, true) => computed_with::<O, i64, 8>(alloc, a, number),
-        (Width::W64, false) => computed_with::<O, u64, 8>(alloc, a, number),
-    }
+    with_integer!(ty, computed_with::<_, _, O>(alloc, a, number))
 }
 
 /// The results of a column of this integer type and a number of it.
-fn computed_with<O: Operation, T: Packed<N>, const N: usize>(
+fn computed_with<T: Packed<N>, const N: usize, O: Operation>(
     alloc: Global,
     a: &View<'_>,
     number: i128,
@@ -286,15 +267,12 @@ fn computed_with<O: Operation, T: Packed<N>, const N: usize>(
         × (r ≡ shown a.now.kind (results O.exact a.now.items (number_beside a.now number).items))) }
     ensures err { IfErr result (λ e. IsKernelFault (number_fault a.now number) (fault_with O.exact a.now number) e) }
 {
-    let bytes = number_bytes::<T>(alloc, number)?;
-
     // A number is valid at each slot, so that the column's own validity is that of the results.
     let validity = both_valid(alloc, a, a)?;
-    let x = Column::<T>::of(a);
-    let y = One::<T> {
-        bytes: &bytes,
+    let x = a.ints::<T>();
+    let y = One {
+        number: T::narrow(number),
         slots: x.slots,
-        of: PhantomData,
     };
     let numbers = numbers::<O, T, _, _, N>(alloc, &x, &y, &bits_of(&validity), x.slots)?;
     let values = Buffer::from_vec(numbers)?;

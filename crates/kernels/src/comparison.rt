@@ -16,13 +16,13 @@ mod pairs;
 mod wanted;
 
 use crate::fault::KernelFault;
-use crate::side::{Column, One, number_bytes, type_with};
-use arrays::{Array, IntType, Integer, View, ViewType, Width};
+use crate::side::{One, type_with};
+use arrays::{Array, IntType, Integer, View, ViewType};
 use colbits::NoMemory;
 use pairs::{Bools, Numbers, Pairs, Shown, Utf8s};
 use std::alloc::Global;
-use std::marker::PhantomData;
 use truths::{BothValid, Truths, array_of};
+use types::with_integer;
 use wanted::Wanted;
 
 /// A comparison.
@@ -116,16 +116,7 @@ fn compare_ints(
     requires lengths { length a.now.items ≡ length b.now.items }
     ensures { IfOk result (λ r. r ≡ shown kind.boolean (compared op a.now.items b.now.items)) }
 {
-    match (ty.bits, ty.signed) {
-        (Width::W8, true) => compare_numbers::<i8>(alloc, op, a, b),
-        (Width::W8, false) => compare_numbers::<u8>(alloc, op, a, b),
-        (Width::W16, true) => compare_numbers::<i16>(alloc, op, a, b),
-        (Width::W16, false) => compare_numbers::<u16>(alloc, op, a, b),
-        (Width::W32, true) => compare_numbers::<i32>(alloc, op, a, b),
-        (Width::W32, false) => compare_numbers::<u32>(alloc, op, a, b),
-        (Width::W64, true) => compare_numbers::<i64>(alloc, op, a, b),
-        (Width::W64, false) => compare_numbers::<u64>(alloc, op, a, b),
-    }
+    with_integer!(ty, compare_numbers::<_>(alloc, op, a, b))
 }
 
 /// Compares two columns of numbers of type `T`.
@@ -141,8 +132,8 @@ fn compare_numbers<T: Integer>(
     ensures { IfOk result (λ r. r ≡ shown kind.boolean (compared op a.now.items b.now.items)) }
 {
     let pairs = Numbers {
-        a: Column::<T>::of(a),
-        b: Column::<T>::of(b),
+        a: a.ints::<T>(),
+        b: b.ints::<T>(),
         valid: BothValid::of(a, b),
         slots: a.slots(),
     };
@@ -161,16 +152,7 @@ fn compare_with(
     requires has { is_of_type ty number ≡ true }
     ensures { IfOk result (λ r. r ≡ shown kind.boolean (compared op a.now.items (number_beside a.now number).items)) }
 {
-    match (ty.bits, ty.signed) {
-        (Width::W8, true) => compare_each::<i8>(alloc, op, a, number),
-        (Width::W8, false) => compare_each::<u8>(alloc, op, a, number),
-        (Width::W16, true) => compare_each::<i16>(alloc, op, a, number),
-        (Width::W16, false) => compare_each::<u16>(alloc, op, a, number),
-        (Width::W32, true) => compare_each::<i32>(alloc, op, a, number),
-        (Width::W32, false) => compare_each::<u32>(alloc, op, a, number),
-        (Width::W64, true) => compare_each::<i64>(alloc, op, a, number),
-        (Width::W64, false) => compare_each::<u64>(alloc, op, a, number),
-    }
+    with_integer!(ty, compare_each::<_>(alloc, op, a, number))
 }
 
 /// Compares a column of numbers of type `T` and one of them.
@@ -184,14 +166,12 @@ fn compare_each<T: Integer>(
     requires has { is_of_type T.ty number ≡ true }
     ensures { IfOk result (λ r. r ≡ shown kind.boolean (compared op a.now.items (number_beside a.now number).items)) }
 {
-    let bytes = number_bytes::<T>(alloc, number)?;
-    let one = One::<T> {
-        bytes: &bytes,
+    let one = One {
+        number: T::narrow(number),
         slots: a.slots(),
-        of: PhantomData,
     };
     let pairs = Numbers {
-        a: Column::<T>::of(a),
+        a: a.ints::<T>(),
         b: one,
         valid: BothValid {
             a: a.validity(),

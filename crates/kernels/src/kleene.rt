@@ -1,23 +1,22 @@
 //! Three-valued logic: null is a truth value that isn't known.
 
-ghost use Rattle.std.specs.Prelude.{◌≡◌, ◌+◌, ◌<◌, ◌≤◌, Some, None, is_none, is_some, length, ℕ, IfOk, IfErr};
-ghost use Rattle.colbits.specs.Bit.{bit, bit_in};
+ghost use Rattle.std.specs.Prelude.{◌≡◌, Some, None, is_some, IfOk, IfErr};
 ghost use Rattle.arrays.specs.Kind as kind;
-ghost use Rattle.arrays.specs.Seen.{valid_in};
 ghost use Rattle.arrays.specs.Kind.{same_kind};
 ghost use Rattle.kernels.specs.Fault.{IsKernelFault};
 ghost use Rattle.kernels.specs.Kleene.{conjunction, disjunction, negation, truth_fault, truths_fault};
-ghost use Rattle.kernels.specs.Known.{are_both, is_either, knows_false, knows_true, stored_truth, tells_and, tells_or, truth_in};
+ghost use Rattle.arrays.specs.Truth.{knows_false};
+ghost use Rattle.arrays.specs.Values.{bool_in};
+ghost use Rattle.kernels.specs.Known.{HasTruths, are_both, is_either, tells_and, tells_or};
 ghost use Rattle.arrays.specs.Shown.{shown};
 
 use crate::fault::KernelFault;
-use arrays::validity::is_valid;
-use arrays::{Array, View, ViewType};
-use colbits::Bits;
-use colbits::lanes::{both, either, flipped};
+use arrays::validity::{is_valid, valid_lanes, valid_word};
+use arrays::{Array, Bools, View, ViewType};
+use colbits::lanes::{both, either};
 use std::alloc::Global;
 use std::simd::prelude::*;
-use truths::{Truths, array_of, valid_lanes, valid_word};
+use truths::{Truths, array_of};
 
 /// False where either is false, true where both are true, else null. It fails where the views aren't both of
 /// truth values, then where their lengths differ, and else for want of memory alone.
@@ -50,7 +49,7 @@ pub fn kleene_not(alloc: Global, a: &View<'_>) -> Result<Array, KernelFault>
     if !is_of_truths(a) {
         return Err(KernelFault::TypesDiffer);
     }
-    let operand = Truth::of(a);
+    let operand = a.bools();
     Ok(array_of(alloc, &Not { operand })?)
 }
 
@@ -78,136 +77,47 @@ fn fault_of(a: &View<'_>, b: &View<'_>) -> Option<KernelFault>
 }
 
 /// The truth values of two views of one length.
-fn operands_of<'a, 'b, 'c, 'd>(
-    a: &'a View<'b>,
-    b: &'c View<'d>,
-) -> Result<Operands<'a, 'b, 'c, 'd>, KernelFault>
+fn operands_of<'a, 'b>(a: &View<'a>, b: &View<'b>) -> Result<Operands<'a, 'b>, KernelFault>
     ensures ok { IfOk result (λ o. (truths_fault a.now b.now ≡ None)
-        × (o.a.view.now ≡ a.now) × (o.b.view.now ≡ b.now)) }
+        × HasTruths o.a.values o.a.validity o.a.slots a.now.items × HasTruths o.b.values o.b.validity o.b.slots b.now.items) }
     ensures err { IfErr result (λ e. truths_fault a.now b.now ≡ Some e) }
 {
     match fault_of(a, b) {
         Some(fault) => Err(fault),
         None => Ok(Operands {
-            a: Truth::of(a),
-            b: Truth::of(b),
+            a: a.bools(),
+            b: b.bools(),
         }),
-    }
-}
-
-/// The truth values of a view. The bit of a slot that isn't valid is any bit.
-#[derive(Drop)]
-struct Truth<'a, 'b> {
-    view: &'a View<'b>,
-    validity: Option<Bits<'b>>,
-    bits: Bits<'b>,
-    ghost size: { length bits ≡ length view.now.items },
-    ghost each: { (i : ℕ) → i < length view.now.items → truth_in view.now.items i ≡ stored_truth validity bits i },
-}
-
-impl<'a, 'b> Truth<'a, 'b> {
-    /// Those of a view.
-    fn of(view: &'a View<'b>) -> Truth<'a, 'b>
-        requires { view.now.kind ≡ kind.boolean }
-        ensures { result.view.now ≡ view.now }
-    {
-        Truth {
-            view,
-            validity: view.validity(),
-            bits: view.bool_bits(),
-        }
-    }
-
-    /// Whether none can be null.
-    fn are_valid(&self) -> bool
-        ensures { result ≡ is_none self.now.validity }
-    {
-        self.validity.is_none()
-    }
-
-    #[inline(always)]
-    fn is_true(&self, i: usize) -> bool
-        requires { i < length self.now.view.now.items }
-        ensures { result ≡ knows_true (truth_in self.now.view.now.items i) }
-    {
-        is_valid(&self.validity, i) & self.bits.get(i)
-    }
-
-    #[inline(always)]
-    fn is_false(&self, i: usize) -> bool
-        requires { i < length self.now.view.now.items }
-        ensures { result ≡ knows_false (truth_in self.now.view.now.items i) }
-    {
-        is_valid(&self.validity, i) & !self.bits.get(i)
-    }
-
-    /// Which of slots `i` to `i + 63` are true, the first of them least significant.
-    #[inline(always)]
-    fn true_word(&self, i: usize) -> u64
-        requires { i + 64 ≤ length self.now.view.now.items }
-        ensures { (j : ℕ) → j < 64 → bit_in result j ≡ knows_true (truth_in self.now.view.now.items (i + j)) }
-    {
-        valid_word(&self.validity, i) & self.bits.whole_word(i)
-    }
-
-    /// Which of these are false.
-    #[inline(always)]
-    fn false_word(&self, i: usize) -> u64
-        requires { i + 64 ≤ length self.now.view.now.items }
-        ensures { (j : ℕ) → j < 64 → bit_in result j ≡ knows_false (truth_in self.now.view.now.items (i + j)) }
-    {
-        valid_word(&self.validity, i) & !self.bits.whole_word(i)
-    }
-
-    /// Which of slots `i` to `i + 255` are true, eight to a lane.
-    #[inline(always)]
-    fn true_lanes(&self, i: usize) -> u8x32
-        requires { i + 256 ≤ length self.now.view.now.items }
-        ensures { (j : ℕ) → j < 256 → bit result j ≡ knows_true (truth_in self.now.view.now.items (i + j)) }
-    {
-        let _slots = self.view.len();
-        both(valid_lanes(&self.validity, i), self.bits.whole_lanes(i))
-    }
-
-    /// Which of these are false.
-    #[inline(always)]
-    fn false_lanes(&self, i: usize) -> u8x32
-        requires { i + 256 ≤ length self.now.view.now.items }
-        ensures { (j : ℕ) → j < 256 → bit result j ≡ knows_false (truth_in self.now.view.now.items (i + j)) }
-    {
-        let _slots = self.view.len();
-        let unset = flipped(self.bits.whole_lanes(i));
-        both(valid_lanes(&self.validity, i), unset)
     }
 }
 
 /// The truth values of two views of one length.
 #[derive(Drop)]
-struct Operands<'a, 'b, 'c, 'd> {
-    a: Truth<'a, 'b>,
-    b: Truth<'c, 'd>,
-    ghost one_length: { length a.view.now.items ≡ length b.view.now.items },
+struct Operands<'a, 'b> {
+    a: Bools<'a>,
+    b: Bools<'b>,
+    ghost one_length: { a.slots ≡ b.slots },
 }
 
 /// Whether both are true.
 #[derive(Drop)]
-struct And<'a, 'b, 'c, 'd> {
-    operands: Operands<'a, 'b, 'c, 'd>,
+struct And<'a, 'b> {
+    operands: Operands<'a, 'b>,
 }
 
-impl<'a, 'b, 'c, 'd> Truths for And<'a, 'b, 'c, 'd> {
-    ghost count = { λ o. length o.operands.a.view.now.items };
+impl<'a, 'b> Truths for And<'a, 'b> {
+    ghost count = { λ o. o.operands.a.slots };
 
-    ghost known = { λ o i. tells_and (truth_in o.operands.a.view.now.items i) (truth_in o.operands.b.view.now.items i) };
+    ghost known = { λ o i. tells_and (bool_in o.operands.a.values o.operands.a.validity i) (bool_in o.operands.b.values o.operands.b.validity i) };
 
-    ghost value = { λ o i. are_both (truth_in o.operands.a.view.now.items i) (truth_in o.operands.b.view.now.items i) };
+    ghost value = { λ o i. are_both (bool_in o.operands.a.values o.operands.a.validity i) (bool_in o.operands.b.values o.operands.b.validity i) };
 
     fn slots(&self) -> u32 {
-        self.operands.a.view.slots()
+        self.operands.a.slots
     }
 
     fn are_known(&self) -> bool {
-        self.operands.a.are_valid() && self.operands.b.are_valid()
+        self.operands.a.validity.is_none() && self.operands.b.validity.is_none()
     }
 
     fn known(&self, i: usize) -> bool {
@@ -249,23 +159,23 @@ impl<'a, 'b, 'c, 'd> Truths for And<'a, 'b, 'c, 'd> {
 
 /// Whether either is true.
 #[derive(Drop)]
-struct Or<'a, 'b, 'c, 'd> {
-    operands: Operands<'a, 'b, 'c, 'd>,
+struct Or<'a, 'b> {
+    operands: Operands<'a, 'b>,
 }
 
-impl<'a, 'b, 'c, 'd> Truths for Or<'a, 'b, 'c, 'd> {
-    ghost count = { λ o. length o.operands.a.view.now.items };
+impl<'a, 'b> Truths for Or<'a, 'b> {
+    ghost count = { λ o. o.operands.a.slots };
 
-    ghost known = { λ o i. tells_or (truth_in o.operands.a.view.now.items i) (truth_in o.operands.b.view.now.items i) };
+    ghost known = { λ o i. tells_or (bool_in o.operands.a.values o.operands.a.validity i) (bool_in o.operands.b.values o.operands.b.validity i) };
 
-    ghost value = { λ o i. is_either (truth_in o.operands.a.view.now.items i) (truth_in o.operands.b.view.now.items i) };
+    ghost value = { λ o i. is_either (bool_in o.operands.a.values o.operands.a.validity i) (bool_in o.operands.b.values o.operands.b.validity i) };
 
     fn slots(&self) -> u32 {
-        self.operands.a.view.slots()
+        self.operands.a.slots
     }
 
     fn are_known(&self) -> bool {
-        self.operands.a.are_valid() && self.operands.b.are_valid()
+        self.operands.a.validity.is_none() && self.operands.b.validity.is_none()
     }
 
     fn known(&self, i: usize) -> bool {
@@ -307,23 +217,23 @@ impl<'a, 'b, 'c, 'd> Truths for Or<'a, 'b, 'c, 'd> {
 
 /// Whether it is false.
 #[derive(Drop)]
-struct Not<'a, 'b> {
-    operand: Truth<'a, 'b>,
+struct Not<'a> {
+    operand: Bools<'a>,
 }
 
-impl<'a, 'b> Truths for Not<'a, 'b> {
-    ghost count = { λ o. length o.operand.view.now.items };
+impl<'a> Truths for Not<'a> {
+    ghost count = { λ o. o.operand.slots };
 
-    ghost known = { λ o i. is_some (truth_in o.operand.view.now.items i) };
+    ghost known = { λ o i. is_some (bool_in o.operand.values o.operand.validity i) };
 
-    ghost value = { λ o i. knows_false (truth_in o.operand.view.now.items i) };
+    ghost value = { λ o i. knows_false (bool_in o.operand.values o.operand.validity i) };
 
     fn slots(&self) -> u32 {
-        self.operand.view.slots()
+        self.operand.slots
     }
 
     fn are_known(&self) -> bool {
-        self.operand.are_valid()
+        self.operand.validity.is_none()
     }
 
     fn known(&self, i: usize) -> bool {
@@ -346,7 +256,7 @@ impl<'a, 'b> Truths for Not<'a, 'b> {
 
     #[inline(always)]
     fn known_lanes(&self, i: usize) -> u8x32 {
-        let _slots = self.operand.view.len();
+        let _slots = self.operand.slots;
         valid_lanes(&self.operand.validity, i)
     }
 

@@ -5,7 +5,6 @@ pub mod arithmetic;
 pub mod comparison;
 pub mod fault;
 pub mod kleene;
-mod native;
 pub mod nulls;
 mod side;
 

@@ -8,13 +8,13 @@ ghost use Rattle.kernels.specs.Nulls.{nulls};
 ghost use Rattle.arrays.specs.Shown.{shown};
 
 use crate::fault::KernelFault;
-use arrays::validity::is_valid;
+use arrays::validity::{is_valid, valid_lanes, valid_word};
 use arrays::{Array, IntType, View, ViewType, Width};
 use colbits::Bits;
 use colbits::lanes::flipped;
 use std::alloc::Global;
 use std::simd::prelude::*;
-use truths::{Truths, array_of, valid_lanes, valid_word};
+use truths::{Truths, array_of};
 
 /// True where the view has no item: where the slot isn't valid, and of a dictionary-encoded view also where its
 /// entry isn't. It fails for want of memory alone.

@@ -1,19 +1,13 @@
 //! What stands at each slot on one side of an operator: the numbers of a column, or one number.
 
-ghost use Rattle.std.specs.Prelude.{◌≡◌, ◌<◌, ◌≤◌, ◌^◌, ◌*◌, ◌≤ℤ◌, ℕ, ℤ, neg_ℤ, pos, true, false, length, IfErr, IfOk};
+ghost use Rattle.std.specs.Prelude.{◌≡◌, ◌<◌, ◌^◌, ◌≤ℤ◌, ℕ, ℤ, neg_ℤ, pos, true, false, IfErr, IfOk};
 ghost use Rattle.arrays.specs.Kind as kind;
-ghost use Rattle.arrays.specs.Kind.{bytes_of};
 ghost use Rattle.arrays.specs.Number.{is_of_type, number_at};
-ghost use Rattle.arrays.specs.Values.{HasNumbers};
 ghost use Rattle.arrays.specs.ViewType.{view_kind};
 ghost use Rattle.kernels.specs.Beside.{has_number};
 
 use crate::fault::KernelFault;
-use crate::native::Native;
-use arrays::{IntType, Integer, View, ViewType};
-use colbits::NoMemory;
-use std::alloc::Global;
-use std::marker::PhantomData;
+use arrays::{IntType, Integer, Ints, ViewType};
 
 /// A number at each slot; at one that isn't valid, any number.
 pub(crate) trait Side {
@@ -32,92 +26,54 @@ pub(crate) trait Side {
 }
 
 /// A side whose numbers are of type `T`, told as such.
-pub(crate) trait Own<T: Native>: Side {
+pub(crate) trait Own<T: Integer>: Side {
     /// The number at slot `j`.
     fn own(&self, j: usize) -> T
         requires { j < Self.count self.now }
-        ensures { T.number result ≡ Self.number self.now j };
+        ensures { T.value result ≡ Self.number self.now j };
 }
 
-/// The numbers of a column of type `T`.
-#[derive(Drop)]
-pub(crate) struct Column<'a, T: Integer> {
-    pub(crate) numbers: &'a [u8],
-    pub(crate) slots: u32,
-    pub(crate) of: PhantomData<T>,
-    ghost has: { slots * bytes_of T.ty.bits ≤ length numbers.now },
-    ghost short: { slots ≤ 2147483647 },
-}
-
-impl<'a, T: Integer> Column<'a, T> {
-    /// Those of a view.
-    pub(crate) fn of(view: &View<'a>) -> Column<'a, T>
-        requires { view.now.kind ≡ kind.int T.ty }
-        ensures slots { result.slots ≡ length view.now.items }
-        ensures numbers { HasNumbers T.ty result.numbers.now view.now }
-    {
-        Column {
-            numbers: view.numbers(T::ty()),
-            slots: view.slots(),
-            of: PhantomData,
-        }
-    }
-}
-
-impl<'a, T: Integer> Side for Column<'a, T> {
+impl<'a, T: Integer> Side for Ints<'a, T> {
     ghost count = { λ c. c.slots };
 
-    ghost number = { λ c j. number_at T.ty c.numbers.now j };
+    ghost number = { λ c j. number_at T.ty c.values.now j };
 
     #[inline(always)]
     fn at(&self, j: usize) -> i128 {
-        T::at(self.numbers, j)
+        self.read(j).wide()
     }
 }
 
-impl<'a, T: Native> Own<T> for Column<'a, T> {
+impl<'a, T: Integer> Own<T> for Ints<'a, T> {
     #[inline(always)]
     fn own(&self, j: usize) -> T {
-        T::read(self.numbers, j)
+        self.read(j)
     }
 }
 
-/// One number of type `T` at each slot. It is read from its bytes, so that the compiler knows its width.
+/// One number of type `T` at each slot.
 #[derive(Drop)]
-pub(crate) struct One<'a, T: Integer> {
-    pub(crate) bytes: &'a [u8],
+pub(crate) struct One<T: Integer> {
+    pub(crate) number: T,
     pub(crate) slots: u32,
-    pub(crate) of: PhantomData<T>,
-    ghost has: { bytes_of T.ty.bits ≤ length bytes.now },
 }
 
-impl<'a, T: Integer> Side for One<'a, T> {
+impl<T: Integer> Side for One<T> {
     ghost count = { λ o. o.slots };
 
-    ghost number = { λ o j. number_at T.ty o.bytes.now 0 };
+    ghost number = { λ o j. T.value o.number };
 
     #[inline(always)]
     fn at(&self, _j: usize) -> i128 {
-        T::at(self.bytes, 0)
+        self.number.wide()
     }
 }
 
-impl<'a, T: Native> Own<T> for One<'a, T> {
+impl<T: Integer> Own<T> for One<T> {
     #[inline(always)]
     fn own(&self, _j: usize) -> T {
-        T::read(self.bytes, 0)
+        self.number
     }
-}
-
-/// The bytes of a number.
-pub(crate) fn number_bytes<T: Integer>(alloc: Global, number: i128) -> Result<Vec<u8>, NoMemory>
-    requires { is_of_type T.ty number ≡ true }
-    ensures size { IfOk result (λ v. bytes_of T.ty.bits ≤ length v.items) }
-    ensures number { IfOk result (λ v. number_at T.ty v.items 0 ≡ number) }
-{
-    let mut bytes = Vec::new(alloc);
-    T::push(&mut bytes, number)?;
-    Ok(bytes)
 }
 
 /// The integer type of a column, which has the number.

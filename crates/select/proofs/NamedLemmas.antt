@@ -16,8 +16,8 @@ use Rattle.arrays.specs.Slot.{item_of}
 use Rattle.arrays.specs.Values.{HasNumbers}
 use Rattle.select.specs.Named.{NameRows, index_at, row_named, rows_named}
 use Rattle.select.specs.Picked.{IsPick, is_row, picked_at}
-use Rattle.select.specs.Stored.{stored}
-use Rattle.select.proofs.PickLemmas.{stored-row}
+use Rattle.arrays.specs.Values.{number_in}
+use Rattle.select.proofs.PickLemmas.{number-row}
 use Rattle.select.proofs.RestLemmas.{below_all}
 use Rattle.select.proofs.SelectionLemmas.{Taken, Taken-more, Taken-none}
 
@@ -58,7 +58,7 @@ index_below t bytes validity n at rows is some = omega (arith, below_all rows at
 -- an index is the item of its slot
 pub index_there : (t : IntType) (bytes : List ℕ) (validity : Option (List Bool)) (s : Seen) (i : ℕ) → HasNumbers t bytes s → validity ≡ s.validity → i < length s.items
     → slice_get s.items i ≡ Some (index_at t bytes validity i)
-index_there t bytes validity s i has same below = stored-row t bytes validity s i (stored t bytes validity (Some i)) has same below refl
+index_there t bytes validity s i has same below = number-row t bytes validity s i (number_in t bytes validity i) has same below refl
 
 -- so many indices that name a row
 pub Taken-named : (t : IntType) (bytes : List ℕ) (validity : Option (List Bool)) (s : Seen) (n i : ℕ) → HasNumbers t bytes s → validity ≡ s.validity → i ≤ length s.items
@@ -66,7 +66,7 @@ pub Taken-named : (t : IntType) (bytes : List ℕ) (validity : Option (List Bool
 Taken-named t bytes validity s n zero has same within names = Taken-none n s.items (rows_named t bytes validity 0) refl
 Taken-named t bytes validity s n (suc i) has same within names =
     let one : i + 1 ≡ suc i = omega arith in
-    let index = stored t bytes validity (Some i) in
+    let index = number_in t bytes validity i in
     let code = names.each i (omega arith) in
     let before = Taken-named t bytes validity s n i has same (omega (arith, within)) (record { each = λ j below. names.each j (omega (arith, below)) }) in
     subst (λ k. Taken n s.items k (rows_named t bytes validity k)) one
@@ -75,7 +75,7 @@ Taken-named t bytes validity s n (suc i) has same within names =
     (map-range_with_len_more (row_named t bytes validity) 0 i i (zero-add i)))
 
 pub names-more : (t : IntType) (bytes : List ℕ) (validity : Option (List Bool)) (rows more n : ℕ) → rows ≤ more → NameRows t bytes validity rows n → NameRows t bytes validity more n
-names-more t bytes validity rows more n few names = record { each = λ j below. code_more rows more (stored t bytes validity (Some j)) few (names.each j below) }
+names-more t bytes validity rows more n few names = record { each = λ j below. code_more rows more (number_in t bytes validity j) few (names.each j below) }
 
 row_there : (t : IntType) (bytes : List ℕ) (validity : Option (List Bool)) (j : ℕ) → is_some validity ≡ false → is_row (row_named t bytes validity j) ≡ true
 row_there t bytes None j none = refl

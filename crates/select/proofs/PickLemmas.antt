@@ -6,16 +6,16 @@ use Rattle.std.specs.List.{range_with_len}
 use Rattle.std.proofs.lemmas.Simd.{map-map}
 use Rattle.arrays.proofs.ListLemmas.{map-range-below}
 use Rattle.std.proofs.lemmas.List.FromFn.{fill_by_all}
-use Rattle.std.proofs.lemmas.Option.{slice_get_within, slice_get-get_or, get_or_from_slice_get}
+use Rattle.std.proofs.lemmas.Option.{slice_get_within, get_or_from_slice_get}
 use Rattle.types.specs.declared.int_type.IntType.{IntType}
 use Rattle.arrays.specs.Slot.{item_of}
-use Rattle.arrays.specs.Item.{Item, null, int}
+use Rattle.arrays.specs.Item.{Item, int}
 use Rattle.arrays.specs.Number.{number_at}
 use Rattle.arrays.specs.Seen.{Seen, valid_at}
-use Rattle.arrays.specs.Values.{HasNumbers}
+use Rattle.arrays.specs.Values.{HasNumbers, number_in}
 use Rattle.arrays.proofs.PartLemmas.{item_slot}
-use Rattle.select.specs.Picked.{picked, picked_at, IsPick}
-use Rattle.select.specs.Stored.{stored}
+use Rattle.arrays.proofs.SlotLemmas.{item_if}
+use Rattle.select.specs.Picked.{picked, picked_at}
 
 -- one more of a list
 pub take-one : {A : Type 0} (xs : List A) (j : ℕ) (x : A) → slice_get xs j ≡ Some x → take (j + 1) xs ≡ take j xs ++ x ∷ []
@@ -30,18 +30,6 @@ picked-more items picks j pick at = ap (picked items) (take-one picks j pick at)
 pub all-at : {A : Type 0} (P : A → Type 0) (xs : List A) (j : ℕ) (x : A) → All P xs → slice_get xs j ≡ Some x → P x
 all-at P xs j x all at = Rattle.std.proofs.Common.subst P (get_or_from_slice_get xs j x x at) (all j x (slice_get_within xs j x at))
 
-stored-if : (t : IntType) (bytes : List ℕ) (i : ℕ) (b : Bool) → item_of (cond b (Some (number_at t bytes i)) None) ≡ cond b (int (number_at t bytes i)) null
-stored-if t bytes i true = refl
-stored-if t bytes i false = refl
-
--- the number of a picked slot is its item
-pub item_of-stored : (t : IntType) (bytes : List ℕ) (s : Seen) (pick : Option ℕ) → HasNumbers t bytes s → IsPick (length s.items) pick
-    → item_of (stored t bytes s.validity pick) ≡ picked_at s.items pick
-item_of-stored t bytes s None has within = refl
-item_of-stored t bytes s (Some i) has within =
-    stored-if t bytes i (valid_at s i)
-    ∙ sym (get_or_from_slice_get s.items i (cond (valid_at s i) (int (number_at t bytes i)) null) null (item_slot (λ j. int (number_at t bytes j)) s i has.numbers within))
-
 -- a column of picked rows gets one more
 pub pushed : (items : List Item) (picks : List (Option ℕ)) (j : ℕ) (pick : Option ℕ) (old new : List Item) (x : Item)
     → slice_get picks j ≡ Some pick → old ≡ picked items (take j picks) → x ≡ picked_at items pick → new ≡ old ++ x ∷ []
@@ -54,11 +42,11 @@ pub picked-all : (items : List Item) (picks : List (Option ℕ)) (j : ℕ) → l
 picked-all items picks j past = ap (picked items) (take_all j picks past)
 
 -- the number of a row is its item
-pub stored-row : (t : IntType) (bytes : List ℕ) (validity : Option (List Bool)) (s : Seen) (i : ℕ) (r : Option ℤ) → HasNumbers t bytes s → validity ≡ s.validity → i < length s.items
-    → r ≡ stored t bytes validity (Some i) → slice_get s.items i ≡ Some (item_of r)
-stored-row t bytes validity s i r has same within is =
-    slice_get-get_or s.items i null within
-    ∙ ap (λ x. Some x) (sym (ap item_of is ∙ ap (λ v. item_of (stored t bytes v (Some i))) same ∙ item_of-stored t bytes s (Some i) has within))
+pub number-row : (t : IntType) (bytes : List ℕ) (validity : Option (List Bool)) (s : Seen) (i : ℕ) (r : Option ℤ) → HasNumbers t bytes s → validity ≡ s.validity → i < length s.items
+    → r ≡ number_in t bytes validity i → slice_get s.items i ≡ Some (item_of r)
+number-row t bytes validity s i r has same within is =
+    item_slot (λ j. int (number_at t bytes j)) s i has.numbers within
+    ∙ ap (λ x. Some x) (sym (ap item_of is ∙ ap (λ v. item_of (number_in t bytes v i)) same ∙ sym (item_if (valid_at s i) (number_at t bytes i))))
 
 -- a list mapped, place by place
 pub by_place : {A B : Type 0} (g : A → B) (xs : List A) (f : ℕ → B) (d : A) → ((j : ℕ) → j < length xs → f j ≡ g (get_or xs j d)) → map f (range_with_len 0 (length xs)) ≡ map g xs

@@ -1,20 +1,20 @@
 -- Rows that indices name.
-use Rattle.std.specs.Prelude.{◌≡◌, ℕ, ◌<◌, List, Bool, map, true, false, Option, Some, option_map}
+use Rattle.std.specs.Prelude.{◌≡◌, ℕ, ◌<◌, List, Bool, map, true, false, Option, option_map}
 use Rattle.std.specs.List.{range_with_len}
 use Rattle.types.specs.declared.int_type.IntType.{IntType}
 use Rattle.arrays.specs.Dictionary.{is_code}
 use Rattle.arrays.specs.Item.{Item}
 use Rattle.arrays.specs.Number.{natural}
 use Rattle.arrays.specs.Slot.{item_of}
-use Rattle.select.specs.Stored.{stored}
+use Rattle.arrays.specs.Values.{number_in}
 
 -- Index j, null where its slot isn't valid.
 abbrev pub index_at : IntType → List ℕ → Option (List Bool) → ℕ → Item
-index_at t bytes validity j = item_of (stored t bytes validity (Some j))
+index_at t bytes validity j = item_of (number_in t bytes validity j)
 
 -- The row that index j names, none where it is null.
 abbrev pub row_named : IntType → List ℕ → Option (List Bool) → ℕ → Option ℕ
-row_named t bytes validity j = option_map natural (stored t bytes validity (Some j))
+row_named t bytes validity j = option_map natural (number_in t bytes validity j)
 
 -- The rows that the first n indices name.
 abbrev pub rows_named : IntType → List ℕ → Option (List Bool) → ℕ → List (Option ℕ)

@@ -1,14 +1,9 @@
 -- Numbers as they lie in a column.
-use Rattle.std.specs.Prelude.{◌≡◌, ℕ, ◌*◌, ◌<◌, ℤ, List, Bool, false, length, Option, Some, None, IfSome, slice_index_or, if◌then◌else◌}
+use Rattle.std.specs.Prelude.{◌≡◌, ℕ, ◌*◌, ◌<◌, List, Bool, false, length, Option, Some, None, IfSome, slice_index_or}
 use Rattle.types.specs.declared.int_type.IntType.{IntType}
 use Rattle.arrays.specs.Kind.{bytes_of}
 use Rattle.arrays.specs.Number.{number_at}
 use Rattle.arrays.specs.Seen.{valid_in}
-
--- The number of the picked slot, none where it isn't valid or no slot is picked.
-abbrev pub stored : IntType → List ℕ → Option (List Bool) → Option ℕ → Option ℤ
-stored t bytes validity None = None
-stored t bytes validity (Some i) = if valid_in validity i then Some (number_at t bytes i) else None
 
 -- Whether a row is picked, and its slot is valid.
 abbrev pub is_stored : Option (List Bool) → Option ℕ → Bool

@@ -12,7 +12,7 @@ ghost use Rattle.select.specs.Selection.{filter_fault, kept};
 use crate::fault::SelectFault;
 use crate::gather::gather;
 use crate::trues::Trues;
-use arrays::{Array, View, ViewType};
+use arrays::{Array, Bools, View, ViewType};
 use colbits::{BitmapBuf, Bits, Places};
 use std::alloc::Global;
 
@@ -42,11 +42,21 @@ fn keep_true(alloc: Global, view: &View<'_>, mask: &View<'_>) -> Result<Array, S
     ensures ok { IfOk result (λ r. r ≡ chosen view.now.kind (λ items. kept items mask.now.items) view.now) }
     ensures err { IfErr result (IsFull (is_too_big view.now.kind (kept view.now.items mask.now.items))) }
 {
-    let bits = mask.bool_bits();
-    match mask.validity() {
-        None => keep_ones(alloc, view, mask, bits),
+    let Bools {
+        values,
+        validity,
+        ..
+    } = mask.bools();
+    match validity {
+        None => keep_ones(alloc, view, mask, values),
         Some(valid) => {
-            let trues = BitmapBuf::from_places(alloc, &TrueSlots { bits, valid })?;
+            let trues = BitmapBuf::from_places(
+                alloc,
+                &TrueSlots {
+                    bits: values,
+                    valid,
+                },
+            )?;
             keep_ones(alloc, view, mask, trues.bits())
         }
     }

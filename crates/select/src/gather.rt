@@ -21,7 +21,6 @@ use crate::picks::Picks;
 use crate::rows::Rows;
 use arrays::{Array, View, ViewType};
 pub(crate) use lists::spread_out;
-pub(crate) use numbers::Numbers;
 use std::alloc::Global;
 
 /// The array of the picked rows. Of a dictionary-encoded view it shares the dictionary.

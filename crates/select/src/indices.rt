@@ -11,15 +11,14 @@ ghost use Rattle.select.specs.Picked.{IsPick, picked};
 ghost use Rattle.select.specs.Selection.{outside, taken};
 
 use crate::fault::SelectFault;
-use crate::gather::Numbers;
 use crate::rows::{Place, Rows};
-use arrays::{Integer, View};
+use arrays::{Integer, Ints, View};
 use std::marker::Model;
 
 /// The rows that indices of type `T` name, none where an index is null. Nothing is copied.
 #[derive(Drop)]
 pub(crate) struct Indices<'a, T: Integer> {
-    numbers: Numbers<'a, T>,
+    numbers: Ints<'a, T>,
 }
 
 impl<'a, T: Integer> Model for Indices<'a, T> {
@@ -43,7 +42,7 @@ impl<'a, T: Integer> Indices<'a, T> {
         ensures within { IfOk result (λ r. All (IsPick len) r) }
         ensures err { IfErr result (λ e. option_map (λ row. SelectFault.IndexOutOfRange row) (outside len indices.now.items) ≡ Some e) }
     {
-        let numbers = Numbers::<T>::of(indices);
+        let numbers = indices.ints::<T>();
         match first_outside(&numbers, len) {
             Some(row) => Err(SelectFault::IndexOutOfRange { row }),
             None => Ok(Indices::new(numbers)),
@@ -51,7 +50,7 @@ impl<'a, T: Integer> Indices<'a, T> {
     }
 
     /// The rows that numbers name.
-    fn new(numbers: Numbers<'a, T>) -> Indices<'a, T>
+    fn new(numbers: Ints<'a, T>) -> Indices<'a, T>
         requires { NameRows T.ty numbers.values.now numbers.validity 2147483647 numbers.slots }
         ensures { result ≡ rows_named T.ty numbers.entry.values.now numbers.entry.validity numbers.entry.slots }
     {
@@ -60,12 +59,12 @@ impl<'a, T: Integer> Indices<'a, T> {
 }
 
 /// The least of the numbers that is there and names none of `len` rows.
-fn first_outside<T: Integer>(numbers: &Numbers<'_, T>, len: usize) -> Option<usize>
+fn first_outside<T: Integer>(numbers: &Ints<'_, T>, len: usize) -> Option<usize>
     ensures some { IfSome result (IsLeastOutside T.ty numbers.now.values.now numbers.now.validity len numbers.now.slots) }
     ensures none { IfNone result (NameRows T.ty numbers.now.values.now numbers.now.validity len numbers.now.slots) }
 {
     for i in 0..numbers.slots as usize {
-        if !names_row(numbers.at(Some(i)), len) {
+        if !names_row(numbers.get(i), len) {
             return Some(i);
         }
     }
@@ -102,7 +101,7 @@ impl<'a, T: Integer> Rows for Indices<'a, T> {
 
     #[inline(always)]
     fn next(&self, place: &mut Place) -> Option<usize> {
-        let index = self.numbers.at(Some(place.at as usize));
+        let index = self.numbers.get(place.at as usize);
         place.at += 1;
         match index {
             Some(row) => Some(row as usize),

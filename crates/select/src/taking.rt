@@ -10,8 +10,9 @@ ghost use Rattle.select.specs.Selection.{indices_fault, take_fault, taken};
 use crate::fault::SelectFault;
 use crate::gather::gather;
 use crate::indices::Indices;
-use arrays::{Array, Integer, View, ViewType, Width};
+use arrays::{Array, Integer, View, ViewType};
 use std::alloc::Global;
+use types::with_integer;
 
 /// The items at the indices, in their order and as often as they come: null where the index is null. A
 /// dictionary-encoded view keeps its kind and shares its dictionary. `WrongKind` unless the indices are integers;
@@ -26,16 +27,7 @@ pub fn take(alloc: Global, view: &View<'_>, indices: &View<'_>) -> Result<Array,
     let ViewType::Int(ty) = indices.ty() else {
         return Err(SelectFault::WrongKind);
     };
-    match (ty.bits, ty.signed) {
-        (Width::W8, true) => take_at::<i8>(alloc, view, indices),
-        (Width::W8, false) => take_at::<u8>(alloc, view, indices),
-        (Width::W16, true) => take_at::<i16>(alloc, view, indices),
-        (Width::W16, false) => take_at::<u16>(alloc, view, indices),
-        (Width::W32, true) => take_at::<i32>(alloc, view, indices),
-        (Width::W32, false) => take_at::<u32>(alloc, view, indices),
-        (Width::W64, true) => take_at::<i64>(alloc, view, indices),
-        (Width::W64, false) => take_at::<u64>(alloc, view, indices),
-    }
+    with_integer!(ty, take_at::<_>(alloc, view, indices))
 }
 
 /// The items at indices of type `T`, which are read where they lie.

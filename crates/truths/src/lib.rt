@@ -6,4 +6,4 @@ pub mod array;
 pub mod validity;
 
 pub use array::{Truths, array_of};
-pub use validity::{BothValid, both_valid, valid_lanes, valid_word};
+pub use validity::{BothValid, both_valid};

@@ -1,13 +1,12 @@
 //! The slots that are valid in both of two views.
 
-ghost use Rattle.std.specs.Prelude.{◌≡◌, ℕ, ◌+◌, ◌^◌, ◌<◌, ◌&&◌, length, IfOk};
-ghost use Rattle.colbits.specs.Bit.{bit, bit_in};
+ghost use Rattle.std.specs.Prelude.{◌≡◌, ◌&&◌, length, IfOk};
 ghost use Rattle.arrays.specs.Seen.{valid_in};
 ghost use Rattle.arrays.specs.Shown.{kept};
 ghost use Rattle.truths.specs.Valid.{both_valid};
 
 use arrays::View;
-use arrays::validity::{is_valid, validity_of};
+use arrays::validity::{is_valid, valid_lanes, valid_word, validity_of};
 use colbits::lanes::both;
 use colbits::{BitmapBuf, Bits, NoMemory, Places};
 use std::alloc::Global;
@@ -70,28 +69,5 @@ impl<'a, 'b> Places for BothValid<'a, 'b> {
     fn lanes(&self, i: usize) -> u8x32 {
         let _count = self.len;
         both(valid_lanes(&self.a, i), valid_lanes(&self.b, i))
-    }
-}
-
-/// Which of slots `i` to `i + 63` are valid, the first of them least significant.
-#[inline(always)]
-pub fn valid_word(validity: &Option<Bits<'_>>, i: usize) -> u64
-    ensures { (j : ℕ) → j < 64 → bit_in result j ≡ valid_in validity.now (i + j) }
-{
-    match validity {
-        None => u64::MAX,
-        Some(bits) => bits.word(i),
-    }
-}
-
-/// Which of slots `i` to `i + 255` are valid, eight to a lane.
-#[inline(always)]
-pub fn valid_lanes(validity: &Option<Bits<'_>>, i: usize) -> u8x32
-    requires { i + 256 < 2 ^ 64 }
-    ensures { (j : ℕ) → j < 256 → bit result j ≡ valid_in validity.now (i + j) }
-{
-    match validity {
-        None => return u8x32::splat(u8::MAX),
-        Some(bits) => bits.lanes(i),
     }
 }

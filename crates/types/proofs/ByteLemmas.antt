@@ -1,14 +1,11 @@
 -- Numbers and bits of bytes.
-use Rattle.std.proofs.Common.{◌≡◌, ℕ, ℤ, FitsSigned, ◌+◌, ◌*◌, ◌/◌, ◌%◌, ◌^◌, ◌<◌, ◌≤◌, ◌∙◌, pos, false, true, sym, bit_and, nat_eq, List, [], ◌∷◌, length, drop, get_or, ap, arith}
-use Rattle.std.specs.Int.{Width as Bits, from_le_bytes, cast_signed, cast_unsigned, bit_at, w32, w128}
-use Rattle.std.proofs.lemmas.Int.{to_z-of_z}
+use Rattle.std.proofs.Common.{◌≡◌, ℕ, ◌+◌, ◌*◌, ◌/◌, ◌%◌, ◌^◌, ◌<◌, ◌≤◌, ◌∙◌, pos, false, bit_and, nat_eq, List, [], ◌∷◌, length, drop, get_or, ap, arith}
+use Rattle.std.specs.Int.{from_le_bytes, cast_signed, bit_at, w32}
 use Rattle.std.proofs.lemmas.List.{get_or-take, get_or-drop, get_or_past}
 use Rattle.std.proofs.lemmas.Nat.Bits.{shr_and_one, bit_at-zero}
 use Rattle.colbits.specs.Bit.{bit}
 use Rattle.colbits.specs.Slice.{slice}
-use Rattle.types.specs.declared.int_type.IntType.{IntType}
-use Rattle.types.specs.declared.int_type.Width.{Width}
-use Rattle.types.specs.Kind.{bits_of, bytes_of, int32}
+use Rattle.types.specs.Kind.{int32}
 use Rattle.types.specs.Number.{number_at}
 
 -- an element of a part
@@ -42,21 +39,3 @@ bit-read bytes k = ap (λ b. nat_eq b 1) (shr_and_one _ _)
 pub bit-past : (bytes : List ℕ) (k : ℕ) → length bytes ≤ k / 8 → bit bytes k ≡ false
 unfolding bit
 bit-past bytes k h = ap (λ b. nat_eq (bit_at b (k % 8)) 1) (get_or_past bytes (k / 8) 0 h) ∙ ap (λ b. nat_eq b 1) (bit_at-zero (k % 8))
-
--- ---- numbers of a type
-
-pub number_at-unsigned : (t : IntType) (bytes : List ℕ) (j n : ℕ) → t.signed ≡ false
-    → n ≡ from_le_bytes (bits_of t.bits) (slice bytes (j * bytes_of t.bits) (bytes_of t.bits)) → pos n ≡ number_at t bytes j
-unfolding number_at
-number_at-unsigned t bytes j n plain is = rw plain (ap pos is)
-
-pub number_at-signed : (t : IntType) (w : Width) (bytes : List ℕ) (j n : ℕ) → t.signed ≡ true → t.bits ≡ w
-    → n ≡ from_le_bytes (bits_of t.bits) (slice bytes (j * bytes_of t.bits) (bytes_of t.bits)) → cast_signed (bits_of w) n ≡ number_at t bytes j
-unfolding number_at
-number_at-signed t w bytes j n signed width is =
-    rw signed (ap (λ v. cast_signed (bits_of v) n) (sym width) ∙ ap (cast_signed (bits_of t.bits)) is)
-
--- a signed number that is widened
-pub widened : (w : Bits) (wide narrow read : ℤ) → FitsSigned w128 wide → wide ≡ cast_signed w (cast_unsigned w narrow) → FitsSigned w narrow → narrow ≡ read
-    → cast_signed w128 (cast_unsigned w128 wide) ≡ read
-widened w wide narrow read fits is narrow_fits same = to_z-of_z w128 wide fits ∙ is ∙ to_z-of_z w narrow narrow_fits ∙ same

@@ -1,5 +1,5 @@
 -- Numbers as little-endian bytes (Arrow columnar format, "Fixed-size primitive layout").
-use Rattle.std.specs.Prelude.{ℕ, ◌-◌, ◌*◌, ◌^◌, ℤ, pos, negsuc, Bool, false, int_lt, nat_lt, List, MatchBool, FitsSigned, if◌then◌else◌}
+use Rattle.std.specs.Prelude.{◌≡◌, ℕ, ◌-◌, ◌*◌, ◌^◌, ℤ, pos, negsuc, Bool, true, false, int_lt, nat_lt, List, MatchBool, FitsSigned, if◌then◌else◌}
 use Rattle.std.specs.Int.{FitsUnsigned, cast_signed, cast_unsigned, from_le_bytes, to_le_bytes}
 use Rattle.colbits.specs.Slice.{slice}
 use Rattle.types.specs.declared.int_type.IntType.{IntType}
@@ -32,3 +32,9 @@ is_of_type t (negsuc n) = if t.signed then nat_lt n (2 ^ (8 * bytes_of t.bits - 
 -- The bytes of a number: two's complement if signed.
 unfoldable pub bytes_of_number : IntType → ℤ → List ℕ
 bytes_of_number t z = to_le_bytes (bits_of t.bits) (if t.signed then cast_unsigned (bits_of t.bits) z else natural z)
+
+-- What a type's own arithmetic gives of an exact result: unless it is told to be outside, the exact result is of the type, and the
+-- number is this result.
+pub record IsResult (t : IntType) (exact z : ℤ) (outside : Bool) : Type 0 where
+  pub of_type : outside ≡ false → is_of_type t exact ≡ true
+  pub number : outside ≡ false → z ≡ exact

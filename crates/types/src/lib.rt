@@ -4,6 +4,7 @@
 
 pub mod data_type;
 pub mod depth;
+pub mod dispatch;
 pub mod int_type;
 pub mod integer;
 pub mod numbers;
@@ -12,6 +13,6 @@ pub mod schema;
 pub use data_type::{DataType, Field, is_same};
 pub use depth::{has_dict_in_list, is_too_deep};
 pub use int_type::{IntType, Width};
-pub use integer::Integer;
+pub use integer::{Integer, Packed};
 pub use numbers::{int32_at, natural_at, number_at, push_number};
 pub use schema::{Schema, SchemaFault};

@@ -14,10 +14,10 @@ ghost use Rattle.kernels.specs.Wanted.{wants};
 use super::packed::{are_equal, are_less, chosen};
 use super::wanted::Wanted;
 use crate::side::Side;
-use arrays::validity::is_valid;
+use arrays::validity::{is_valid, valid_word};
 use arrays::{Texts, View};
 use colbits::Bits;
-use truths::{BothValid, valid_word};
+use truths::BothValid;
 
 /// Two items at each place, where both are there.
 pub(crate) trait Pairs {

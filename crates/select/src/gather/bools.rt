@@ -18,7 +18,8 @@ pub(super) fn gather<R: Rows>(alloc: Global, view: &View<'_>, rows: &R) -> Resul
     requires within { All (IsPick (length view.now.items)) (R.picks rows.now) }
     ensures { IfOk result (λ r. r ≡ shown kind.boolean (picked view.now.items (R.picks rows.now))) }
 {
-    let validity = picked_validity(alloc, &view.validity(), rows)?;
-    let values = picked_bits(alloc, &Some(view.bool_bits()), rows)?;
+    let bools = view.bools();
+    let validity = picked_validity(alloc, &bools.validity, rows)?;
+    let values = picked_bits(alloc, &Some(bools.values), rows)?;
     Array::from_bits(alloc, rows.slots(), validity, values)
 }

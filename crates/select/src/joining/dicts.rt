@@ -15,7 +15,6 @@ ghost use Rattle.select.specs.Joined.{IsEncoded, is_content_too_big, joined, joi
 
 use super::{slots_of, texts};
 use crate::fault::SelectFault;
-use crate::gather::Numbers;
 use arrays::{Array, IntBuilder, IntType, View, Width, Words};
 use colbits::NoMemory;
 use std::alloc::Global;
@@ -86,9 +85,9 @@ fn push_shifted(builder: &mut IntBuilder, view: &View<'_>, before: usize) -> Res
     ensures items { OnOk result (builder.new.items ≡ builder.old.items ++ map (shifted before) view.now.codes) }
 {
     let codes = view.codes();
-    let numbers = Numbers::<i32>::of(&codes);
+    let numbers = codes.ints::<i32>();
     for i in 0..codes.len() {
-        builder.push_as::<i32>(shift(numbers.at(Some(i)), before))?;
+        builder.push_as::<i32>(shift(numbers.get(i), before))?;
     }
     Ok(())
 }

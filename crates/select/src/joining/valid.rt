@@ -8,10 +8,9 @@ ghost use Rattle.arrays.specs.Shown.{kept};
 ghost use Rattle.select.specs.Joined.{AreStarts, IsPlace, joined_items, joined_valid};
 
 use arrays::View;
-use arrays::validity::validity_of;
+use arrays::validity::{valid_word, validity_of};
 use colbits::{BitmapBuf, NoMemory, Places};
 use std::alloc::Global;
-use truths::valid_word;
 
 /// The validity of the slots of views, which have so many together: none where each of them is valid.
 pub(super) fn joined_validity(

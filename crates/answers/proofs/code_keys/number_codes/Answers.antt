@@ -11,7 +11,7 @@ pub number_of_slot-requires-clause-code : goal.number_of_slot-requires-clause-co
 number_of_slot-requires-clause-code c =
     let view = c.args.view.now in
     let row = get_or c.args.rows.now c.loop-row.row-index 0 in
-    coded_within view c.of-column.result c.get-code.result row c.codes-codes.ensures.items (c.of-column.ensures ∙ c.codes-codes.ensures.value) c.get-code.ensures.item _
+    coded_within view _ c.get-code.result row c.codes-codes.ensures.items (c.ints-column.ensures.items ∙ ap (λ (s : Seen). s.items) c.codes-codes.ensures.value) c.get-code.ensures.item _
     (omega (arith, c.requires.within c.loop-row.row-index 0 c.loop-row-test.true, c.requires.items.len)) c.codes-codes.ensures.within
     (ap (λ (s : Seen). length s.items) (sym c.entries-entries.ensures))
 
@@ -26,7 +26,7 @@ loop-row-preserved c =
     let new = c.number_of_slot.new.keys in
     let memo = c.number_of_slot.new.memo in
     let same = ap (λ (s : Seen). s.items) c.entries-entries.ensures in
-    let is = coded_row view c.of-column.result c.get-code.result row c.codes-codes.ensures.items (c.of-column.ensures ∙ c.codes-codes.ensures.value) c.get-code.ensures.item
+    let is = coded_row view _ c.get-code.result row c.codes-codes.ensures.items (c.ints-column.ensures.items ∙ ap (λ (s : Seen). s.items) c.codes-codes.ensures.value) c.get-code.ensures.item
     c.args.batch.now c.args.by.now c.requires.items (c.requires.within c.loop-row.row-index 0 c.loop-row-test.true) in
     let step = c.in_ok-number_of_slot.ensures (is ∙ ap (λ l. looked_up l (item_of c.get-code.result) ∷ []) (sym same)) v.2
     (subst (λ l. Knows c.loop-row.keys l c.loop-row.memo) (sym same) v.3) in

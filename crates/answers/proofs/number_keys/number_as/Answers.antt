@@ -8,7 +8,7 @@ loop-row-preserved g c =
     let row = get_or c.args.rows.now c.loop-row.row-index 0 in
     let v = c.loop-row.invariant in
     let new = c.number_of_item.new.keys in
-    let is = numbered_row c.args.view.now c.of-column.result c.get-number.result row c.args.batch.now c.args.by.now c.of-column.ensures c.get-number.ensures.item
+    let is = numbered_row c.args.view.now _ c.get-number.result row c.args.batch.now c.args.by.now c.ints-column.ensures.items c.get-number.ensures.item
     c.requires.items (c.requires.within c.loop-row.row-index 0 c.loop-row-test.true) in
     let step = c.in_ok-number_of_item.ensures.number is v.2 in
     let next = next_number c.args.by.now c.args.batch.now.columns c.args.rows.now c.loop-row.row-index c.args.keys.now c.loop-row.keys new c.loop-row.numbers.items

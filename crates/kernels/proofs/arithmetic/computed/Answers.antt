@@ -14,18 +14,18 @@ returns-in_err-numbers-clause-err g c =
     let ty = g.T.Integer.ty in
     let a = c.args.a.now in
     let b = c.args.b.now in
-    let x = number_at ty c.of-x.result.numbers.now in
-    let y = number_at ty c.of-y.result.numbers.now in
+    let x = number_at ty c.ints-x.result.values.now in
+    let y = number_at ty c.ints-y.result.values.now in
     let are : AreOperands ty x y a b = record {
       kind_a = c.requires.kind_a;
       kind_b = c.requires.kind_b;
       lengths = c.requires.lengths;
-      of_a = column_numbers ty c.of-x.result.numbers.now a c.of-x.ensures.numbers;
-      of_b = column_numbers ty c.of-y.result.numbers.now b c.of-y.ensures.numbers;
+      of_a = column_numbers ty c.ints-x.result.values.now a c.ints-x.ensures.values;
+      of_b = column_numbers ty c.ints-y.result.values.now b c.ints-y.ensures.values;
     } in
     let valid_is : c.bits_of.result ≡ kept (both_valid a b) = c.bits_of.ensures ∙ c.in_ok-validity.ensures in
     told_on c.from_residual-in_err-numbers.result (operands_fault a b) (arithmetic_fault f a b) c.in_err-numbers.field-0.0 c.from_residual-in_err-numbers.ensures.1
-    (told f ty x y a b c.bits_of.result c.of-x.result.slots c.in_err-numbers.field-0.0 are valid_is c.of-x.ensures.slots c.in_err-numbers.ensures.err)
+    (told f ty x y a b c.bits_of.result c.ints-x.result.slots c.in_err-numbers.field-0.0 are valid_is c.ints-x.ensures.slots c.in_err-numbers.ensures.err)
 
 pub returns-clause-ok : goal.returns-clause-ok
 returns-clause-ok g c =
@@ -33,22 +33,22 @@ returns-clause-ok g c =
     let ty = g.T.Integer.ty in
     let a = c.args.a.now in
     let b = c.args.b.now in
-    let x = number_at ty c.of-x.result.numbers.now in
-    let y = number_at ty c.of-y.result.numbers.now in
+    let x = number_at ty c.ints-x.result.values.now in
+    let y = number_at ty c.ints-y.result.values.now in
     let are : AreOperands ty x y a b = record {
       kind_a = c.requires.kind_a;
       kind_b = c.requires.kind_b;
       lengths = c.requires.lengths;
-      of_a = column_numbers ty c.of-x.result.numbers.now a c.of-x.ensures.numbers;
-      of_b = column_numbers ty c.of-y.result.numbers.now b c.of-y.ensures.numbers;
+      of_a = column_numbers ty c.ints-x.result.values.now a c.ints-x.ensures.values;
+      of_b = column_numbers ty c.ints-y.result.values.now b c.ints-y.ensures.values;
     } in
-    let n = c.of-x.result.slots in
+    let n = c.ints-x.result.slots in
     let valid = c.bits_of.result in
     let bitmap = c.buffer_of.result in
     let numbers = c.in_ok-numbers.numbers.items in
     let valid_is : valid ≡ kept (both_valid a b) = c.bits_of.ensures ∙ c.in_ok-validity.ensures in
     let is =
-    computed f ty x y a b valid n bitmap numbers are valid_is c.of-x.ensures.slots
+    computed f ty x y a b valid n bitmap numbers are valid_is c.ints-x.ensures.slots
     (subst (λ v. IsBufferOf bitmap v) (sym c.bits_of.ensures) c.buffer_of.ensures) c.in_ok-numbers.ensures.ok in (
       is.faultless,
       c.in_ok-from_numbers.ensures

@@ -1,7 +1,7 @@
 use Rattle.std.proofs.Common.{◌≤◌, arith, rules, sym, subst}
 use Rattle.arrays.specs.Seen.{valid_in}
 use Rattle.kernels.specs.Computed.{AreResults, result_at}
-use Rattle.kernels.proofs.NativeLemmas.{AreResults-rows}
+use Rattle.kernels.proofs.RowLemmas.{AreResults-rows}
 use Rattle.kernels.proofs.arithmetic.push_word.Goals as goal
 
 pub write_rows-requires : goal.write_rows-requires

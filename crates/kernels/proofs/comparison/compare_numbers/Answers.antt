@@ -8,9 +8,9 @@ returns g c =
     let ty = g.T.Integer.ty in
     let a = c.args.a.now in
     let b = c.args.b.now in
-    let x = c.of.result.numbers.now in
-    let y = c.of-2.result.numbers.now in
-    let valid = c.of-3 in
-    let same = numbers-compared c.args.op a b c.requires.lengths (number_at ty x) (number_at ty y) (column_numbers ty x a c.of.ensures.numbers) (column_numbers ty y b c.of-2.ensures.numbers)
+    let x = c.ints.result.values.now in
+    let y = c.ints-2.result.values.now in
+    let valid = c.of in
+    let same = numbers-compared c.args.op a b c.requires.lengths (number_at ty x) (number_at ty y) (column_numbers ty x a c.ints.ensures.values) (column_numbers ty y b c.ints-2.ensures.values)
     valid.result.a valid.result.b c.slots.result valid.ensures.a valid.ensures.b c.slots.ensures.count in
     rw (← same) c.decided.ensures

@@ -10,7 +10,7 @@ returns-then-not-names_row-clause-some g c =
     record {
       within = c.loop-i-test.true;
       before = c.loop-i.invariant;
-      outside = cc (c.if-not-names_row.ensures, ap (λ z. is_code c.args.len (item_of z)) c.at.ensures.value);
+      outside = cc (c.if-not-names_row.ensures, ap (λ z. is_code c.args.len (item_of z)) c.get.ensures.value);
     }
 
 pub loop-i-preserved : goal.loop-i-preserved
@@ -18,5 +18,5 @@ loop-i-preserved g c =
     let numbers = c.args.numbers.now in
     let i = c.loop-i.i in
     let here : is_code c.args.len (index_at g.T.Integer.ty numbers.values.now numbers.validity i) ≡ true =
-    cc (c.if-not-names_row.ensures, ap (λ z. is_code c.args.len (item_of z)) c.at.ensures.value) in
+    cc (c.if-not-names_row.ensures, ap (λ z. is_code c.args.len (item_of z)) c.get.ensures.value) in
     record { each = below_more (λ j. is_code c.args.len (index_at g.T.Integer.ty numbers.values.now numbers.validity j) ≡ true) i c.loop-i.invariant.each here }

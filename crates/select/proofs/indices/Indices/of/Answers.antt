@@ -12,8 +12,8 @@ returns-in-Some-clause-err g c =
     let t = g.T.Integer.ty in
     let s = c.args.indices.now in
     let row = c.in-Some.row in
-    let numbers = c.of-numbers.result in
-    let has = c.of-numbers.ensures in
+    let numbers = c.ints-numbers.result in
+    let has = c.ints-numbers.ensures in
     let least = c.in-Some.ensures.some in
     let before = Taken-named t numbers.values.now numbers.validity s c.args.len row has.values has.validity (omega (arith, least.within, has.slots)) least.before in
     ap (option_map (λ row. IndexOutOfRange row))
@@ -22,15 +22,15 @@ returns-in-Some-clause-err g c =
 
 pub new-requires : goal.new-requires
 new-requires g c =
-    let numbers = c.of-numbers.result in
+    let numbers = c.ints-numbers.result in
     names-more g.T.Integer.ty numbers.values.now numbers.validity c.args.len 2147483647 numbers.slots c.requires.short c.in-None.ensures.none
 
 pub returns-in-None-clause-inside : goal.returns-in-None-clause-inside
 returns-in-None-clause-inside g c =
     let t = g.T.Integer.ty in
     let s = c.args.indices.now in
-    let numbers = c.of-numbers.result in
-    let has = c.of-numbers.ensures in
+    let numbers = c.ints-numbers.result in
+    let has = c.ints-numbers.ensures in
     let all = Taken-named t numbers.values.now numbers.validity s c.args.len numbers.slots has.values has.validity (omega (arith, has.slots)) c.in-None.ensures.none in
     Taken-inside c.args.len s.items numbers.slots (rows_named t numbers.values.now numbers.validity numbers.slots) all (omega (arith, has.slots))
 
@@ -38,8 +38,8 @@ pub returns-in-None-clause-rows : goal.returns-in-None-clause-rows
 returns-in-None-clause-rows g c = λ items.
     let t = g.T.Integer.ty in
     let s = c.args.indices.now in
-    let numbers = c.of-numbers.result in
-    let has = c.of-numbers.ensures in
+    let numbers = c.ints-numbers.result in
+    let has = c.ints-numbers.ensures in
     let all = Taken-named t numbers.values.now numbers.validity s c.args.len numbers.slots has.values has.validity (omega (arith, has.slots)) c.in-None.ensures.none in
     ap (picked items) c.new.ensures ∙ Taken-all c.args.len s.items items numbers.slots (rows_named t numbers.values.now numbers.validity numbers.slots) all (omega (arith, has.slots))
 
@@ -47,7 +47,7 @@ pub returns-in-None-clause-within : goal.returns-in-None-clause-within
 returns-in-None-clause-within g c =
     let t = g.T.Integer.ty in
     let s = c.args.indices.now in
-    let numbers = c.of-numbers.result in
-    let has = c.of-numbers.ensures in
+    let numbers = c.ints-numbers.result in
+    let has = c.ints-numbers.ensures in
     let all = Taken-named t numbers.values.now numbers.validity s c.args.len numbers.slots has.values has.validity (omega (arith, has.slots)) c.in-None.ensures.none in
     subst (All (IsPick c.args.len)) (sym c.new.ensures) all.within

@@ -12,8 +12,8 @@ use Rattle.select.proofs.RestLemmas.{told_next}
 use Rattle.select.proofs.StoredLemmas.{FitsSigned-from_type}
 use Rattle.select.proofs.indices.IndicesRows.next.Goals as goal
 
-pub at-index-requires : goal.at-index-requires
-at-index-requires g c =
+pub get-index-requires : goal.get-index-requires
+get-index-requires g c =
     let r = c.self.inside.numbers in
     index_below g.T.Integer.ty r.values.now r.validity r.slots c.args.place.now.at c.args.self.now c.self.view_is c.requires
 

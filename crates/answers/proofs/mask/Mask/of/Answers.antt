@@ -1,7 +1,0 @@
-use Rattle.std.proofs.Common.{◌∙◌, ap}
-use Rattle.answers.specs.Masks.{set_rows}
-use Rattle.answers.proofs.MaskLemmas.{set_items}
-use Rattle.answers.proofs.mask.Mask.of.Goals as goal
-
-pub returns-clause-rows : goal.returns-clause-rows
-returns-clause-rows c = ap (λ v. set_rows v c.bool_bits.result) c.validity.ensures ∙ set_items c.args.view.now c.bool_bits.result c.bool_bits.ensures

@@ -1,7 +1,0 @@
-use Rattle.std.proofs.Common.{◌+◌, ◌∙◌, ap, sym}
-use Rattle.colbits.proofs.LaneLemmas.{bit-ones}
-use Rattle.arrays.specs.Seen.{valid_in}
-use Rattle.truths.proofs.validity.valid_lanes.Goals as goal
-
-pub returns-in-None : goal.returns-in-None
-returns-in-None c = λ j h. bit-ones j h ∙ ap (λ v. valid_in v (c.args.i + j)) (sym c.in-None.is)
