@@ -1,5 +1,7 @@
 -- What the proofs of this crate share.
 mod ReportLemmas
+mod SendingLemmas
+mod ParseLemmas
 mod ReadLemmas
 mod PlanLemmas
 mod WorkedLemmas

@@ -1,25 +1,99 @@
--- Source after source, read to its end.
-use Rattle.std.proofs.Common.{◌≡◌, ◌∙◌, ℕ, zero, suc, ◌+◌, ◌<◌, ◌≤◌, List, [], ◌∷◌, ◌++◌, length, get_or, map, slice_get, set, take, Option, Some, option_map, IfSome, ap, sym, refl, subst, arith}
-use Rattle.std.proofs.lemmas.List.{get_or-set_same, length-map, length-set, map-append, take_more}
+-- Windows of sources, read to their ends and then parsed.
+use Rattle.std.proofs.Common.{◌≡◌, ◌∙◌, ℕ, zero, suc, ◌+◌, ◌<◌, ◌≤◌, List, [], ◌∷◌, ◌++◌, append_assoc, append-nil, inl, inr, length, get_or, map, slice_get, set, take, Option, None, Some, option_map, IfSome, ap, sym, refl, subst, arith}
+use Rattle.std.proofs.lemmas.Bool.{cases_lt, false≢true}
+use Rattle.std.proofs.lemmas.List.{get_or-set_same, length-append, length-map, length-set, map-append}
 use Rattle.std.proofs.lemmas.Option.{get_or_from_slice_get, slice_get-get_or, slice_get-map}
+use Rattle.std.proofs.lemmas.Slice.Zip.{AllZip-long}
+use Rattle.std.specs.Prelude.{◌⊎◌, All, Err, is_some}
 use Rattle.std.specs.List.{AllByRecursion, AllZip}
 use Rattle.arrays.specs.File.{File}
-use Rattle.arrow_json.specs.JsonFile.{AreUnder, Reads, file_of}
-use Rattle.arrowtab.specs.Explained.{ExplainsFiles, ExplainsSource}
-use Rattle.arrowtab.specs.Run.{AreRead, FailedRead, FailedFile}
+use Rattle.arrow_json.specs.JsonFile.{AreUnder, BytesFault, Reads, file_of}
+use Rattle.ends.specs.Source.{CountsReads}
+use Rattle.ends.specs.declared.source.SourceFault.{SourceFault}
+use Rattle.ends.specs.declared.source.SourceFault.TheVariants.{ReadFailed}
+use Rattle.json.proofs.Found.{Some_inj}
+use Rattle.json_places.specs.JsonTable.{FileData}
+use Rattle.json_places.specs.declared.fault.JsonFault.{JsonFault}
+use Rattle.arrowtab.proofs.ParseLemmas.{zip_more}
+use Rattle.arrowtab.specs.Explained.{ExplainsFiles, IsOfFirst}
+use Rattle.arrowtab.specs.Parsed.{AddsFiles, IsFirstUnread, IsTextOf, StopsParsing}
+use Rattle.arrowtab.specs.Run.{AreRead, Inputs}
 use Rattle.arrowtab.specs.declared.run_fault.FileFault.TheVariants.{CannotRead, Json, Refused}
 use Rattle.arrowtab.specs.declared.run_fault.RunFault.{RunFault}
 use Rattle.arrowtab.specs.declared.run_fault.RunFault.TheVariants.{NoMemory, OfFile, QueryUnread, QueryRefused}
 
-all_more : {X : Type 0} (P : X → Type 0) (xs : List X) (x : X) → AllByRecursion P xs → P x → AllByRecursion P (xs ++ x ∷ [])
-all_more P [] x all p = (p, tt)
-all_more P (y ∷ ys) x all p = (all.0, all_more P ys x all.1 p)
+-- ---- lists beside one another
 
-zip_more : {X Y : Type 0} (R : X → Y → Type 0) (xs : List X) (ys : List Y) (x : X) (y : Y) → AllZip R xs ys → R x y → AllZip R (xs ++ x ∷ []) (ys ++ y ∷ [])
-zip_more R [] [] x y all r = (r, tt)
-zip_more R [] (b ∷ bs) x y all r = absurd all
-zip_more R (a ∷ rest) [] x y all r = absurd all
-zip_more R (a ∷ rest) (b ∷ bs) x y all r = (all.0, zip_more R rest bs x y all.1 r)
+all_append : {X : Type 0} (P : X → Type 0) (xs ys : List X) → AllByRecursion P xs → AllByRecursion P ys → AllByRecursion P (xs ++ ys)
+all_append P [] ys all more = more
+all_append P (x ∷ xs) ys all more = (all.0, all_append P xs ys all.1 more)
+
+zip_append : {X Y : Type 0} (R : X → Y → Type 0) (xs us : List X) (ys vs : List Y) → AllZip R xs ys → AllZip R us vs → AllZip R (xs ++ us) (ys ++ vs)
+zip_append R [] us [] vs all more = more
+zip_append R [] us (y ∷ ys) vs all more = absurd all
+zip_append R (x ∷ xs) us [] vs all more = absurd all
+zip_append R (x ∷ xs) us (y ∷ ys) vs all more = (all.0, zip_append R xs us ys vs all.1 more)
+
+front_of : {X : Type 0} (xs ys : List X) → take (length xs) (xs ++ ys) ≡ xs
+front_of [] [] = refl
+front_of [] (y ∷ ys) = refl
+front_of (x ∷ xs) ys = ap (λ l. x ∷ l) (front_of xs ys)
+
+next_of : {X : Type 0} (xs : List X) (y : X) (ys : List X) → slice_get (xs ++ y ∷ ys) (length xs) ≡ Some y
+next_of [] y ys = refl
+next_of (x ∷ xs) y ys = next_of xs y ys
+
+some_next : {X : Type 0} (xs ys : List X) (y : X) → slice_get (xs ++ ys) (length xs) ≡ Some y → (rest : List X) × (ys ≡ y ∷ rest)
+some_next [] [] y at = absurd (false≢true (ap is_some at))
+some_next [] (z ∷ ys) y at = (ys, ap (λ x. x ∷ ys) (Some_inj z y at))
+some_next (x ∷ xs) ys y at = some_next xs ys y at
+
+-- ---- texts that sources told, and what they are read as
+
+-- The text is all that its source has to give, where it tells it.
+abbrev pub IsTold : Option (List ℕ) → List ℕ → Type 0
+IsTold input text = IfSome input (λ bytes. text ≡ bytes)
+
+one_read : (input : Option (List ℕ)) (text : List ℕ) (f : File) → IsTold input text → IsTextOf text f → IfSome input (λ bytes. Reads bytes (file_of f))
+one_read None text f told is = tt
+one_read (Some bytes) text f told is = subst (λ b. Reads b (file_of f)) told is.0
+
+told_read : (inputs : Inputs) (texts : List (List ℕ)) (files : List File) → AllZip IsTold inputs texts → AllZip IsTextOf texts files → AreRead inputs (map file_of files)
+told_read [] [] [] told read = tt
+told_read [] [] (f ∷ files) told read = absurd read
+told_read [] (t ∷ texts) [] told read = absurd told
+told_read [] (t ∷ texts) (f ∷ files) told read = absurd told
+told_read (i ∷ inputs) [] [] told read = absurd told
+told_read (i ∷ inputs) [] (f ∷ files) told read = absurd told
+told_read (i ∷ inputs) (t ∷ texts) [] told read = absurd read
+told_read (i ∷ inputs) (t ∷ texts) (f ∷ files) told read = (one_read i t f told.0 read.0, told_read inputs texts files told.1 read.1)
+
+texts_under : (texts : List (List ℕ)) (files : List File) → AllZip IsTextOf texts files → AllByRecursion (λ f. AreUnder f.fields f.batches) files
+texts_under [] [] read = tt
+texts_under [] (f ∷ files) read = absurd read
+texts_under (t ∷ texts) [] read = absurd read
+texts_under (t ∷ texts) (f ∷ files) read = (read.0.1, texts_under texts files read.1)
+
+told_stands : (input : Option (List ℕ)) (text : List ℕ) (f : JsonFault) → IsTold input text → BytesFault text f.kind f.path → IfSome input (λ bytes. BytesFault bytes f.kind f.path)
+told_stands None text f told stands = tt
+told_stands (Some bytes) text f told stands = subst (λ b. BytesFault b f.kind f.path) told stands
+
+-- The sources of some texts, of the one behind them, and of the rest.
+record Parted (inputs : Inputs) (front : List (List ℕ)) (text : List ℕ) : Type 0 where
+  fore : Inputs
+  input : Option (List ℕ)
+  aft : Inputs
+  are : inputs ≡ fore ++ input ∷ aft
+  told : AllZip IsTold fore front
+  tells : IsTold input text
+
+parted : (inputs : Inputs) (front : List (List ℕ)) (text : List ℕ) (rest : List (List ℕ)) → AllZip IsTold inputs (front ++ text ∷ rest) → Parted inputs front text
+parted [] [] text rest told = absurd told
+parted (i ∷ inputs) [] text rest told = record { fore = []; input = i; aft = inputs; are = refl; told = tt; tells = told.0 }
+parted [] (u ∷ front) text rest told = absurd told
+parted (i ∷ inputs) (u ∷ front) text rest told =
+    let p = parted inputs front text rest told.1 in
+    record { fore = i ∷ p.fore; input = p.input; aft = p.aft; are = ap (λ l. i ∷ l) p.are; told = (told.0, p.told); tells = p.tells }
 
 module _ {S : Type 0} where
   set_here : (xs : List S) (n : ℕ) (y : S) → n < length xs → slice_get (set xs n y) n ≡ Some y
@@ -32,73 +106,205 @@ module _ {S : Type 0} where
   set_later (x ∷ xs) (suc n) zero y h = absurd (omega (arith, h))
   set_later (x ∷ xs) (suc n) (suc i) y h = set_later xs n i y (omega (arith, h))
 
-  -- the sources from place n on are untouched, and the files of those before it were read
-  pub record ReadSoFar (remaining : S → Option (List ℕ)) (olds sources : List S) (files : List File) (n : ℕ) : Type 0 where
-    pub same : length sources ≡ length olds
-    pub rest : (i : ℕ) → n ≤ i → slice_get sources i ≡ slice_get olds i
-    pub read : AreRead (take n (map remaining olds)) (map file_of files)
-    pub under : AllByRecursion (λ f. AreUnder f.fields f.batches) files
-
-  -- the source at place n, as it was at first
-  untouched : (olds sources : List S) (n : ℕ) (d : S) → length sources ≡ length olds → ((i : ℕ) → n ≤ i → slice_get sources i ≡ slice_get olds i) → n < length olds
-      → slice_get olds n ≡ Some (get_or sources n d)
-  untouched olds sources n d same rest within = sym (rest n (omega arith)) ∙ slice_get-get_or sources n d (omega (arith, within, same))
+  set_earlier : (xs : List S) (n i : ℕ) (y : S) → i < n → slice_get (set xs n y) i ≡ slice_get xs i
+  set_earlier [] n i y h = refl
+  set_earlier (x ∷ xs) zero i y h = absurd (omega (arith, h))
+  set_earlier (x ∷ xs) (suc n) zero y h = refl
+  set_earlier (x ∷ xs) (suc n) (suc i) y h = set_earlier xs n i y (omega (arith, h))
 
   shown_at : {B : Type 0} (f : S → B) (xs : List S) (n : ℕ) (s : S) → slice_get xs n ≡ Some s → slice_get (map f xs) n ≡ Some (f s)
   shown_at f xs n s at = slice_get-map f xs n ∙ ap (option_map f) at
 
-  pub ReadSoFar-none : (remaining : S → Option (List ℕ)) (olds : List S) → ReadSoFar remaining olds olds [] 0
-  ReadSoFar-none remaining olds = record { same = refl; rest = λ i h. refl; read = tt; under = tt }
+  -- The sources from place n on are untouched. Those before it were read without a failure: the first ones to these files,
+  -- the others to these texts.
+  pub record ReadSoFar (remaining : S → Option (List ℕ)) (failures : S → ℕ) (olds sources : List S) (files : List File) (texts : List (List ℕ)) (n : ℕ) : Type 0 where
+    pub same : length sources ≡ length olds
+    pub untouched : (i : ℕ) → n ≤ i → slice_get sources i ≡ slice_get olds i
+    pub quiet : (i : ℕ) → i < n → slice_get (map failures sources) i ≡ slice_get (map failures olds) i
+    pub front : Inputs
+    pub back : Inputs
+    pub rest : Inputs
+    pub are : map remaining olds ≡ front ++ (back ++ rest)
+    pub count : length front + length back ≡ n
+    pub read : AreRead front (map file_of files)
+    pub under : AllByRecursion (λ f. AreUnder f.fields f.batches) files
+    pub told : AllZip IsTold back texts
 
-  pub ReadSoFar-more : (remaining : S → Option (List ℕ)) (olds sources : List S) (files : List File) (n : ℕ) (d new : S) (f : File) → ReadSoFar remaining olds sources files n
-      → n < length olds → IfSome (remaining (get_or sources n d)) (λ bytes. Reads bytes (file_of f)) → AreUnder f.fields f.batches
-      → ReadSoFar remaining olds (set sources n new) (files ++ f ∷ []) (n + 1)
-  ReadSoFar-more remaining olds sources files n d new f so_far within reads under =
-      let s = get_or sources n d in
-      let at = shown_at remaining olds n s (untouched olds sources n d so_far.same so_far.rest within) in
-      let next : take (n + 1) (map remaining olds) ≡ take n (map remaining olds) ++ remaining s ∷ [] =
-      take_more (map remaining olds) n (remaining s) (omega (arith, within, length-map olds remaining))
-      ∙ ap (λ x. take n (map remaining olds) ++ x ∷ []) (get_or_from_slice_get (map remaining olds) n (remaining s) (remaining s) at) in
-      record {
-        same = length-set sources n new ∙ so_far.same;
-        rest = λ i h. set_later sources n i new h ∙ so_far.rest i (omega (arith, h));
-        read =
-            subst (λ inputs. AreRead inputs (map file_of (files ++ f ∷ []))) (sym next)
-            (subst (λ fs. AreRead (take n (map remaining olds) ++ remaining s ∷ []) fs) (sym (map-append file_of files (f ∷ [])))
-            (zip_more (λ input file. IfSome input (λ bytes. Reads bytes file)) (take n (map remaining olds)) (map file_of files) (remaining s) (file_of f) so_far.read reads));
-        under = all_more (λ g. AreUnder g.fields g.batches) files f so_far.under under;
+  module _ (remaining : S → Option (List ℕ)) (failures : S → ℕ) (olds : List S) where
+    pub ReadSoFar-none : ReadSoFar remaining failures olds olds [] [] 0
+    ReadSoFar-none = record { same = refl; untouched = λ i h. refl; quiet = λ i h. refl; front = []; back = []; rest = map remaining olds; are = refl; count = refl; read = tt; under = tt; told = tt }
+
+    module _ (sources : List S) (files : List File) (texts : List (List ℕ)) (n : ℕ) (so_far : ReadSoFar remaining failures olds sources files texts n) where
+      pub still : (i : ℕ) (new : S) → i < n → slice_get (map failures (set sources n new)) i ≡ slice_get (map failures olds) i
+      still i new h = slice_get-map failures (set sources n new) i ∙ ap (option_map failures) (set_earlier sources n i new h) ∙ sym (slice_get-map failures sources i) ∙ so_far.quiet i h
+
+      -- the source at place n, as it was at first
+      first_at : (d : S) → n < length olds → slice_get olds n ≡ Some (get_or sources n d)
+      first_at d within = sym (so_far.untouched n (omega arith)) ∙ slice_get-get_or sources n d (omega (arith, within, so_far.same))
+
+      pub all_at : (P : S → Type 0) (d : S) → All P olds → n < length olds → P (get_or sources n d)
+      all_at P d all within = subst P (get_or_from_slice_get olds n (get_or sources n d) d (first_at d within)) (all n d within)
+
+      -- the sources that are read, and the files of all
+      whole : map remaining olds ≡ (so_far.front ++ so_far.back) ++ so_far.rest
+      whole = so_far.are ∙ sym (append_assoc so_far.front so_far.back so_far.rest)
+
+      long : n ≡ length (so_far.front ++ so_far.back)
+      long = sym so_far.count ∙ sym (length-append so_far.front so_far.back)
+
+      all_read : (new : List File) → AddsFiles texts files new → AreRead (so_far.front ++ so_far.back) (map file_of new)
+      all_read new adds =
+          subst (λ fs. AreRead (so_far.front ++ so_far.back) fs) (sym (ap (map file_of) adds.1 ∙ map-append file_of files adds.0))
+          (zip_append (λ input file. IfSome input (λ bytes. Reads bytes file)) so_far.front so_far.back (map file_of files) (map file_of adds.0) so_far.read (told_read so_far.back texts adds.0 so_far.told adds.2))
+
+      next_input : (d : S) → n < length olds → (later : Inputs) × (so_far.rest ≡ remaining (get_or sources n d) ∷ later)
+      next_input d within =
+          some_next (so_far.front ++ so_far.back) so_far.rest (remaining (get_or sources n d))
+          (subst (λ k. slice_get ((so_far.front ++ so_far.back) ++ so_far.rest) k ≡ Some (remaining (get_or sources n d))) long
+          (subst (λ l. slice_get l n ≡ Some (remaining (get_or sources n d))) whole (shown_at remaining olds n _ (first_at d within))))
+
+      -- one source more is read
+      pub ReadSoFar-told : (d new : S) (text : List ℕ) → n < length olds → failures new ≡ failures (get_or sources n d) → IsTold (remaining (get_or sources n d)) text
+          → ReadSoFar remaining failures olds (set sources n new) files (texts ++ text ∷ []) (n + 1)
+      ReadSoFar-told d new text within kept told =
+          let s = get_or sources n d in
+          let next = next_input d within in
+          record {
+            same = length-set sources n new ∙ so_far.same;
+            untouched = λ i h. set_later sources n i new h ∙ so_far.untouched i (omega (arith, h));
+            quiet = λ i h. elim (cases_lt i n) [
+              | inl lower ↦ still i new lower
+              | inr not_lower ↦ subst (λ k. slice_get (map failures (set sources n new)) k ≡ slice_get (map failures olds) k) (omega (arith, h, not_lower))
+                  (shown_at failures (set sources n new) n new (set_here sources n new (omega (arith, within, so_far.same))) ∙ ap (λ k. Some k) kept ∙ sym (shown_at failures olds n s (first_at d within)))
+            ];
+            front = so_far.front;
+            back = so_far.back ++ remaining s ∷ [];
+            rest = next.0;
+            are = so_far.are ∙ ap (λ l. so_far.front ++ l) (ap (λ l. so_far.back ++ l) next.1 ∙ sym (append_assoc so_far.back (remaining s ∷ []) next.0));
+            count = omega (arith, so_far.count, length-append so_far.back (remaining s ∷ []));
+            read = so_far.read;
+            under = so_far.under;
+            told = zip_more IsTold so_far.back texts (remaining s) text so_far.told told;
+          }
+
+      -- the texts are parsed
+      pub ReadSoFar-added : (new : List File) → AddsFiles texts files new → ReadSoFar remaining failures olds sources new [] n
+      ReadSoFar-added new adds = record {
+        same = so_far.same;
+        untouched = so_far.untouched;
+        quiet = so_far.quiet;
+        front = so_far.front ++ so_far.back;
+        back = [];
+        rest = so_far.rest;
+        are = whole;
+        count = omega (arith, long);
+        read = all_read new adds;
+        under = subst (AllByRecursion (λ f. AreUnder f.fields f.batches)) (sym adds.1) (all_append (λ f. AreUnder f.fields f.batches) files adds.0 so_far.under (texts_under texts adds.0 adds.2));
+        told = tt;
       }
 
-  -- what a source's fault was explained by, over all sources
-  pub explained : (remaining : S → Option (List ℕ)) (failures : S → ℕ) (olds sources : List S) (files : List File) (n : ℕ) (d new : S) (fault : RunFault) → ReadSoFar remaining olds sources files n
-      → n < length olds → ExplainsSource n (remaining (get_or sources n d)) (failures (get_or sources n d)) (failures new) fault
-      → ExplainsFiles (map remaining olds) (map failures olds) (map failures (set sources n new)) fault
-  explained remaining failures olds sources files n d new NoMemory so_far within why = tt
-  explained remaining failures olds sources files n d new (OfFile g CannotRead) so_far within why =
-      let s = get_or sources n d in
-      let at = untouched olds sources n d so_far.same so_far.rest within in
-      subst (FailedRead (map failures olds) (map failures (set sources n new))) (sym why.0) (record {
-        failed = failures s;
-        failures = failures new;
-        first = shown_at failures olds n s at;
-        last = shown_at failures (set sources n new) n new (set_here sources n new (omega (arith, within, so_far.same)));
-        more = why.1;
-      })
-  explained remaining failures olds sources files n d new (OfFile g (Json fault)) so_far within why =
-      let s = get_or sources n d in
-      let at = untouched olds sources n d so_far.same so_far.rest within in
-      subst (λ k. FailedFile (map remaining olds) k fault.kind fault.path) (sym why.0) (record { input = remaining s; of_file = shown_at remaining olds n s at; stands = why.1 })
-  explained remaining failures olds sources files n d new (OfFile g (Refused number refusal)) so_far within why = absurd why
-  explained remaining failures olds sources files n d new (QueryUnread f) so_far within why = absurd why
-  explained remaining failures olds sources files n d new (QueryRefused f) so_far within why = absurd why
+      -- ---- a text that is no file
 
-  -- all of them were read
-  pub ReadSoFar-whole : (remaining : S → Option (List ℕ)) (olds sources : List S) (files : List File) (n : ℕ) → ReadSoFar remaining olds sources files n → length olds ≤ n → AreRead (map remaining olds) (map file_of files)
-  ReadSoFar-whole remaining olds sources files n so_far past =
-      subst (λ inputs. AreRead inputs (map file_of files)) (take-whole (map remaining olds) n (omega (arith, past, length-map olds remaining))) so_far.read
-    where
-      take-whole : (xs : List (Option (List ℕ))) (n : ℕ) → length xs ≤ n → take n xs ≡ xs
-      take-whole [] zero h = refl
-      take-whole [] (suc n) h = refl
-      take-whole (x ∷ xs) zero h = absurd (omega (arith, h))
-      take-whole (x ∷ xs) (suc n) h = ap (λ ys. x ∷ ys) (take-whole xs n (omega (arith, h)))
+      record Unread (file : ℕ) (f : JsonFault) : Type 0 where
+        fore : Inputs
+        input : Option (List ℕ)
+        aft : Inputs
+        split : map remaining olds ≡ fore ++ input ∷ aft
+        place : file ≡ length fore
+        within : file < n
+        data_before : List FileData
+        read_before : AreRead fore data_before
+        fails : IfSome input (λ bytes. BytesFault bytes f.kind f.path)
+
+      unread : (file : ℕ) (f : JsonFault) → IsFirstUnread texts (length files) file f → Unread file f
+      unread file f u =
+          let p = parted so_far.back u.front u.text u.rest (subst (AllZip IsTold so_far.back) u.is so_far.told) in
+          record {
+            fore = so_far.front ++ p.fore;
+            input = p.input;
+            aft = p.aft ++ so_far.rest;
+            split =
+                so_far.are ∙ ap (λ l. so_far.front ++ (l ++ so_far.rest)) p.are ∙ ap (λ l. so_far.front ++ l) (append_assoc p.fore (p.input ∷ p.aft) so_far.rest)
+                ∙ sym (append_assoc so_far.front p.fore (p.input ∷ (p.aft ++ so_far.rest)));
+            place = omega (arith, u.place, length-append so_far.front p.fore, AllZip-long _ so_far.front (map file_of files) so_far.read, length-map files file_of, AllZip-long IsTold p.fore u.front p.told);
+            within = omega (
+              arith,
+              u.place,
+              so_far.count,
+              AllZip-long _ so_far.front (map file_of files) so_far.read,
+              length-map files file_of,
+              AllZip-long IsTold p.fore u.front p.told,
+              ap (λ l. length l) p.are,
+              length-append p.fore (p.input ∷ p.aft),
+            );
+            data_before = map file_of files ++ map file_of u.files;
+            read_before = zip_append (λ input file. IfSome input (λ bytes. Reads bytes file)) so_far.front p.fore (map file_of files) (map file_of u.files) so_far.read (told_read p.fore u.front u.files p.told u.read);
+            fails = told_stands p.input u.text f p.tells u.stands;
+          }
+
+      pub parsing_explained : (after : List ℕ) (fault : RunFault) → StopsParsing texts (length files) fault → ExplainsFiles (map remaining olds) (map failures olds) after fault
+      parsing_explained after NoMemory why = tt
+      parsing_explained after (OfFile file CannotRead) why = absurd why
+      parsing_explained after (OfFile file (Json f)) why =
+          let u = unread file f why in
+          record { input = u.input; of_file = ap (λ l. slice_get l file) u.split ∙ subst (λ k. slice_get (u.fore ++ u.input ∷ u.aft) k ≡ Some u.input) (sym u.place) (next_of u.fore u.input u.aft); stands = u.fails }
+      parsing_explained after (OfFile file (Refused number refusal)) why = absurd why
+      parsing_explained after (QueryUnread f) why = absurd why
+      parsing_explained after (QueryRefused f) why = absurd why
+
+      pub parsing_first : (after : List ℕ) (fault : RunFault) → ((i : ℕ) → i < n → slice_get after i ≡ slice_get (map failures olds) i) → StopsParsing texts (length files) fault
+          → IsOfFirst (map remaining olds) (map failures olds) after fault
+      parsing_first after NoMemory quiet why = tt
+      parsing_first after (OfFile file CannotRead) quiet why = absurd why
+      parsing_first after (OfFile file (Json f)) quiet why =
+          let u = unread file f why in
+          let front : take file (map remaining olds) ≡ u.fore = ap (take file) u.split ∙ subst (λ k. take k (u.fore ++ u.input ∷ u.aft) ≡ u.fore) (sym u.place) (front_of u.fore (u.input ∷ u.aft)) in
+          ((λ i h. quiet i (omega (arith, h, u.within))), (u.data_before, subst (λ inputs. AreRead inputs u.data_before) (sym front) u.read_before))
+      parsing_first after (OfFile file (Refused number refusal)) quiet why = absurd why
+      parsing_first after (QueryUnread f) quiet why = tt
+      parsing_first after (QueryRefused f) quiet why = tt
+
+      -- ---- a source that isn't read, of number n: the files before it are
+
+      pub source_explained : (d new : S) (fault : SourceFault) (told : RunFault) → n < length olds → (fault ≡ ReadFailed → failures (get_or sources n d) < failures new)
+          → (told ≡ NoMemory) ⊎ ((fault ≡ ReadFailed) × (told ≡ OfFile n CannotRead)) → ExplainsFiles (map remaining olds) (map failures olds) (map failures (set sources n new)) told
+      source_explained d new fault told within counted (inl is) = subst (ExplainsFiles (map remaining olds) (map failures olds) (map failures (set sources n new))) (sym is) tt
+      source_explained d new fault told within counted (inr is) = subst (ExplainsFiles (map remaining olds) (map failures olds) (map failures (set sources n new))) (sym is.1) (record {
+        failed = failures (get_or sources n d);
+        failures = failures new;
+        first = shown_at failures olds n _ (first_at d within);
+        last = shown_at failures (set sources n new) n new (set_here sources n new (omega (arith, within, so_far.same)));
+        more = counted is.0;
+      })
+
+      pub source_first : (new : S) (fault : SourceFault) (told : RunFault) (more : List File) → AddsFiles texts files more
+          → (told ≡ NoMemory) ⊎ ((fault ≡ ReadFailed) × (told ≡ OfFile n CannotRead)) → IsOfFirst (map remaining olds) (map failures olds) (map failures (set sources n new)) told
+      source_first new fault told more adds (inl is) = subst (IsOfFirst (map remaining olds) (map failures olds) (map failures (set sources n new))) (sym is) tt
+      source_first new fault told more adds (inr is) =
+          let fore = so_far.front ++ so_far.back in
+          let front : take n (map remaining olds) ≡ fore = ap (take n) whole ∙ subst (λ k. take k (fore ++ so_far.rest) ≡ fore) (sym long) (front_of fore so_far.rest) in
+          subst (IsOfFirst (map remaining olds) (map failures olds) (map failures (set sources n new))) (sym is.1)
+          ((λ i h. still i new h), (map file_of more, subst (λ inputs. AreRead inputs (map file_of more)) (sym front) (all_read more adds)))
+
+      -- all of them were read
+      pub ReadSoFar-whole : (new : List File) → AddsFiles texts files new → length olds ≤ n → AreRead (map remaining olds) (map file_of new)
+      ReadSoFar-whole new adds past =
+          let fore = so_far.front ++ so_far.back in
+          let none : so_far.rest ≡ [] = empty so_far.rest (omega (arith, long, past, length-map olds remaining, ap (λ l. length l) whole, length-append fore so_far.rest)) in
+          subst (λ inputs. AreRead inputs (map file_of new)) (sym (whole ∙ ap (λ l. fore ++ l) none ∙ append-nil fore)) (all_read new adds)
+        where
+          empty : (xs : Inputs) → length xs ≡ 0 → xs ≡ []
+          empty [] h = refl
+          empty (x ∷ xs) h = absurd (omega (arith, h))
+
+    -- the same, where its text is pushed
+    pub ReadSoFar-pushed : {V : Type 0} (bytes : V → List ℕ) (sources : List S) (files : List File) (texts all : List V) (n : ℕ) (d new : S) (text : V)
+        → ReadSoFar remaining failures olds sources files (map bytes texts) n → n < length olds → all ≡ texts ++ text ∷ [] → failures new ≡ failures (get_or sources n d)
+        → IsTold (remaining (get_or sources n d)) (bytes text) → ReadSoFar remaining failures olds (set sources n new) files (map bytes all) (n + 1)
+    ReadSoFar-pushed bytes sources files texts all n d new text so_far within is kept told =
+        subst (λ ts. ReadSoFar remaining failures olds (set sources n new) files ts (n + 1)) (sym (ap (map bytes) is ∙ map-append bytes texts (text ∷ [])))
+        (ReadSoFar-told sources files (map bytes texts) n so_far d new (bytes text) within kept told)
+
+-- a read that failed is counted
+pub counted : (A : Type 0) (old new : ℕ) (fault : SourceFault) → CountsReads {A = A} old new (Err fault) → fault ≡ ReadFailed → old < new
+counted A old new fault counts is = let grown : new ≡ old + 1 = subst (λ f. CountsReads {A = A} old new (Err f)) is counts in omega (arith, grown)

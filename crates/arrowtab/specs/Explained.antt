@@ -1,7 +1,7 @@
 -- Why there is no output.
-use Rattle.std.specs.Prelude.{◌≡◌, ℕ, ◌<◌, List, Option, IfSome, ⊤}
-use Rattle.arrowtab.specs.Run.{FailedFile, FailedQuery, FailedRead, Inputs, Refuses, RefusesQuery}
-use Rattle.arrow_json.specs.JsonFile.{BytesFault}
+use Rattle.std.specs.Prelude.{◌≡◌, ◌<◌, ℕ, List, slice_get, take, ⊤}
+use Rattle.arrowtab.specs.Run.{AreRead, FailedFile, FailedQuery, FailedRead, Inputs, Refuses, RefusesQuery}
+use Rattle.json_places.specs.JsonTable.{FileData}
 use Rattle.job.specs.declared.asked.Command.{Command}
 use Rattle.arrowtab.specs.declared.run_fault.FileFault.{FileFault}
 use Rattle.arrowtab.specs.declared.run_fault.FileFault.TheVariants.{CannotRead, Json, Refused}
@@ -34,11 +34,9 @@ Explains command workers inputs before after (OfFile file fault) = ExplainsFile 
 Explains command workers inputs before after (QueryUnread f) = FailedQuery command f.kind f.path
 Explains command workers inputs before after (QueryRefused f) = RefusesQuery command workers inputs f
 
--- The same of one source, by its number.
-abbrev pub ExplainsSource : ℕ → Option (List ℕ) → ℕ → ℕ → RunFault → Type 0
-ExplainsSource number input failed failures NoMemory = ⊤
-ExplainsSource number input failed failures (OfFile file CannotRead) = (file ≡ number) × (failed < failures)
-ExplainsSource number input failed failures (OfFile file (Json f)) = (file ≡ number) × IfSome input (λ bytes. BytesFault bytes f.kind f.path)
-ExplainsSource number input failed failures (OfFile file (Refused place refusal)) = ⊥
-ExplainsSource number input failed failures (QueryUnread f) = ⊥
-ExplainsSource number input failed failures (QueryRefused f) = ⊥
+-- No file before the fault's has one: no failure of their sources is counted, and their bytes are read.
+abbrev pub IsOfFirst : Inputs → List ℕ → List ℕ → RunFault → Type 0
+IsOfFirst inputs before after NoMemory = ⊤
+IsOfFirst inputs before after (OfFile file fault) = ((i : ℕ) → i < file → slice_get after i ≡ slice_get before i) × ((files : List FileData) × AreRead (take file inputs) files)
+IsOfFirst inputs before after (QueryUnread f) = ⊤
+IsOfFirst inputs before after (QueryRefused f) = ⊤

@@ -10,5 +10,6 @@ pub mod Lines
 pub mod Told
 pub mod Run
 pub mod Explained
+pub mod Parsed
 pub mod Wanted
 pub mod Worked

@@ -38,7 +38,7 @@ pub(crate) fn answer<W: Wait + Sync, T: Threads + Sync, S: Source>(
         (map S.failures sources.old) (map S.failures sources.new)) }
 {
     match wanted_of(alloc, &job.command) {
-        Ok(wanted) => match read_files(alloc, sources) {
+        Ok(wanted) => match read_files(threads, alloc, job.workers, sources) {
             Ok(files) => answer_files(wait, threads, alloc, job.workers, &wanted, files),
             Err(fault) => Err(fault),
         },

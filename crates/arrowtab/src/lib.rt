@@ -8,6 +8,7 @@ mod group_lines;
 mod groups;
 mod invocation;
 pub mod laws;
+mod name;
 mod reading;
 pub mod refusal;
 mod report;
@@ -16,6 +17,7 @@ mod tell;
 mod text;
 mod together;
 mod wanted;
+mod windows;
 
 pub use arrow_json::{JsonFault, JsonFaultKind, Member, Path, Step, fault_text};
 pub use ends::{

@@ -4,6 +4,7 @@ ghost use Rattle.arrowtab.specs.Lines.{unread_line, file_line, query_line, refus
 ghost use Rattle.arrowtab.specs.Told.{IsLineOf, IsOfFile, TookFault, fault_line};
 ghost use Rattle.job.specs.Asked.{names_of};
 
+use crate::name::push_name;
 use crate::refusal::refusal_text;
 use crate::run_fault::{FileFault, RunFault};
 use arrow_json::{JsonFault, fault_text};
@@ -57,7 +58,7 @@ fn unread_line(alloc: Global, name: &str) -> Result<String, NoMemory>
     ensures { IfOk result (λ text. string_bytes text ≡ unread_line name.now) }
 {
     let mut text = String::from_str(alloc, "arrowtab: ")?;
-    text.push_str(name)?;
+    push_name(&mut text, name)?;
     text.push_str(": cannot be read")?;
     text.push_str("\n")?;
     Ok(text)
@@ -68,7 +69,7 @@ fn file_line(alloc: Global, name: &str, fault: &JsonFault) -> Result<String, NoM
 {
     let what = fault_text(alloc, fault)?;
     let mut text = String::from_str(alloc, "arrowtab: ")?;
-    text.push_str(name)?;
+    push_name(&mut text, name)?;
     text.push_str(": ")?;
     text.push_str(&what)?;
     text.push_str("\n")?;
@@ -85,7 +86,7 @@ fn refusal_line(
 {
     let what = refusal_text(alloc, refusal)?;
     let mut text = String::from_str(alloc, "arrowtab: ")?;
-    text.push_str(name)?;
+    push_name(&mut text, name)?;
     text.push_str(": batch ")?;
     write!(text, "{batch}")?;
     text.push_str(": ")?;

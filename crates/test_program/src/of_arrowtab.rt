@@ -6,11 +6,13 @@ ghost use Rattle.std.specs.Prelude.{◌≡◌, ◌^◌, ◌-◌, ◌<◌, All, I
 mod bytes;
 mod exports;
 mod failing;
+mod names;
 mod queries;
 mod refusals;
 mod runs;
 mod several;
 mod together;
+mod windows;
 mod words;
 
 use arrowtab::memory::{MemorySink, MemorySource};

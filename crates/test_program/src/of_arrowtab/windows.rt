@@ -1,0 +1,111 @@
+//! Files that are parsed side by side: however many workers there are, one thing is told of five files.
+ghost use Rattle.std.specs.Prelude.{◌≡◌, IfOk};
+
+use super::{Outcome, assert_case, ran, source};
+use arrowtab::memory::{MemorySink, MemorySource, Plan};
+use std::alloc::{AllocError, Global};
+use std::sync::Wait;
+use std::thread::Threads;
+
+/// A file of the number 7, one without batches, and bytes that are no file.
+const SEVEN: &str =
+    r#"{"schema":{"fields":[{"name":"n","nullable":true,"type":{"name":"int","bitWidth":8,"isSigned":true},"children":[]}]},"batches":[{"count":1,"columns":[{"name":"n","count":1,"DATA":[7]}]}]}"#;
+
+const NONE: &str =
+    r#"{"schema":{"fields":[{"name":"n","nullable":true,"type":{"name":"int","bitWidth":8,"isSigned":true},"children":[]}]},"batches":[]}"#;
+
+const CUT: &str = r#"{"schema":"#;
+
+/// Counts the rows, and adds the numbers.
+const SUM: &str = r#"{"aggs":[{"agg":"rows"},{"agg":"sum","column":"n"}]}"#;
+
+const WORKERS: [&str; 4] = ["1", "2", "4", "64"];
+
+/// What each of five files is, by a letter, and what is told of them: s is seven, n has no batches, c is cut, and the source
+/// of f fails.
+const RUNS: [([u8; 5], &str); 18] = [
+    (*b"sssss", "5 35\n"),
+    (*b"snsns", "3 21\n"),
+    (*b"nnnns", "1 7\n"),
+    (*b"cssss", "arrowtab: A: J1 NotJson\n"),
+    (*b"scsss", "arrowtab: B: J1 NotJson\n"),
+    (*b"sscss", "arrowtab: C: J1 NotJson\n"),
+    (*b"ssscs", "arrowtab: D: J1 NotJson\n"),
+    (*b"ssssc", "arrowtab: E: J1 NotJson\n"),
+    (*b"ccsss", "arrowtab: A: J1 NotJson\n"),
+    (*b"ssccc", "arrowtab: C: J1 NotJson\n"),
+    (*b"fssss", "arrowtab: A: cannot be read\n"),
+    (*b"sfsss", "arrowtab: B: cannot be read\n"),
+    (*b"ssfss", "arrowtab: C: cannot be read\n"),
+    (*b"sssfs", "arrowtab: D: cannot be read\n"),
+    (*b"ssssf", "arrowtab: E: cannot be read\n"),
+    (*b"scfss", "arrowtab: B: J1 NotJson\n"),
+    (*b"sfcss", "arrowtab: B: cannot be read\n"),
+    (*b"cnsff", "arrowtab: A: J1 NotJson\n"),
+];
+
+#[test]
+fn the_first_fault_is_told(rt: HostRuntime) {
+    for (files, wanted) in RUNS {
+        for workers in WORKERS {
+            let is_right = is_told(&rt, rt.alloc(), workers, files, wanted);
+            assert_case(&rt, is_right, &[workers], wanted);
+        }
+    }
+}
+
+/// Whether this is what so many workers tell of five files.
+fn is_told(
+    rt: &(impl Wait + Threads + Sync),
+    alloc: Global,
+    workers: &str,
+    files: [u8; 5],
+    wanted: &str,
+) -> bool {
+    match ran_over_five(rt, alloc, workers, files) {
+        Some(came) => came.tells(wanted),
+        None => false,
+    }
+}
+
+/// A run of so many workers over five files.
+fn ran_over_five(
+    rt: &(impl Wait + Threads + Sync),
+    alloc: Global,
+    workers: &str,
+    files: [u8; 5],
+) -> Option<Outcome> {
+    let words = [
+        "arrowtab",
+        "query",
+        "--workers",
+        workers,
+        "--query",
+        SUM,
+        "A",
+        "B",
+        "C",
+        "D",
+        "E",
+    ];
+    let mut sources = [
+        source_of(alloc, files[0]).ok()?,
+        source_of(alloc, files[1]).ok()?,
+        source_of(alloc, files[2]).ok()?,
+        source_of(alloc, files[3]).ok()?,
+        source_of(alloc, files[4]).ok()?,
+    ];
+    ran(rt, alloc, &words, &mut sources, MemorySink::new(alloc))
+}
+
+/// The source of a file, by its letter.
+fn source_of(alloc: Global, file: u8) -> Result<MemorySource, AllocError>
+    ensures { IfOk result (λ s. s.failures ≡ 0) }
+{
+    match file {
+        b'n' => source(alloc, NONE),
+        b'c' => source(alloc, CUT),
+        b'f' => Ok(source(alloc, SEVEN)?.failing(Plan::At(0))),
+        _ => source(alloc, SEVEN),
+    }
+}
