@@ -8,12 +8,12 @@ output. With several workers the runs are of one file, or print statistics, whic
 'N passed, M failed', of cases."""
 import concurrent.futures
 import os
-import shutil
 import subprocess
 import sys
 import tempfile
 
-TOP = os.path.dirname(os.path.dirname(os.path.abspath(__file__)))
+from refusals import TOP, built
+
 WANTED = (1, b"", b"arrowtab: no memory\n")
 # A run that takes longer waits for something that never comes.
 SECONDS = 20
@@ -34,23 +34,6 @@ def cases():
         yield ["stats", "--workers", workers, example("mixed.json"), example("mixed.json")]
         yield ["export", "--workers", workers, example("dictionaries.json")]
         yield ["query", "--workers", workers, "--query", query, example("mixed.json")]
-
-
-def compiler():
-    """A compiler of C that is there: the system's, or the kit's, which has no headers."""
-    for name in ("cc", "clang", "gcc"):
-        if shutil.which(name):
-            return [name]
-    page = subprocess.run(["rt", "doc"], stdout=subprocess.PIPE, check=True, text=True).stdout.strip()
-    tools = os.path.join(os.path.dirname(page), "toolchain", "bin")
-    return [os.path.join(tools, "clang"), "-nostdinc", "-fuse-ld=lld", "-B", tools]
-
-
-def built(room):
-    library = os.path.join(room, "refusals.so")
-    source = os.path.join(TOP, "tools", "refusals.c")
-    subprocess.run([*compiler(), "-O2", "-shared", "-fPIC", "-nostdlib", "-fno-builtin", "-o", library, source], check=True)
-    return library
 
 
 class Sweep:

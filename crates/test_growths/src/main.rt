@@ -1,60 +1,66 @@
-//! `test_growths` makes calls that want memory. Where a growth was refused, a call has to tell want of memory and to change
-//! nothing, and comes to its answer when it is made again. It prints what came of each call.
+//! `test_growths` goes over each call of the library that may want memory and starts no thread, and has each request that the call makes refused, one in each run,
+//! and then all from one on. A call that tells want of memory has changed nothing, and comes to its answer when it is made again; no
+//! other comes to another answer than with ample memory, and none keeps a block.
 //!
-//! The number on its input says how many growths it makes before the calls: where one growth of a run is refused, the
-//! same one in each run, that decides which growth of the calls it is (`tools/refused_growths.sh`).
+//! What refuses requests is a library that is loaded into the program (`tools/refused_calls.py`). Without it the program says so and fails.
 #![tactic(auto)]
 
-mod admitting;
-mod outcome;
+mod bits;
+mod fault;
+mod gathering;
+mod kernels_of;
+mod opening;
+mod pools;
+mod queries;
+mod refusals;
+mod run;
+mod samples;
+mod scene;
+mod selections;
+mod shared_tables;
+mod stage;
+mod statistics;
+mod stop;
+mod sweep;
+mod tables;
+mod tally;
+mod tell;
+mod texts;
 
-use outcome::Outcome;
 use std::alloc::Global;
-use std::io::read_to_string;
+use std::io::Print;
 use std::process::ExitCode;
+use std::sync::Wait;
+use std::test::Fail;
+use sweep::sweep_all;
+use tally::Tally;
 
-fn main(rt: HostRuntime) -> ExitCode {
-    let Some(count) = number_on_input(&rt) else {
-        let _ = eprintln!(rt; "test_growths: no number");
-        return ExitCode::FAILURE;
-    };
-    if !makes_growths(rt.alloc(), count) {
-        let _ = println!(rt; "refused before the calls");
-        return ExitCode::SUCCESS;
+fn main(rt: HostRuntime) -> Result<ExitCode, Fail> {
+    if !refusals::are_made(rt.alloc()) {
+        println!(rt; "test_growths: nothing refuses requests, see tools/refused_calls.py")?;
+        return Ok(ExitCode::FAILURE);
     }
-    let calls = [
-        ("the same batch", admitting::admits_again(rt.alloc())),
-        ("another batch", admitting::admits_another(rt.alloc())),
-    ];
-    tell(&rt, &calls)
+    let mut tally = Tally::new();
+    sweep_columns(&rt, rt.alloc(), &mut tally)?;
+    sweep_tables(&rt, rt.alloc(), &mut tally)?;
+    println!(rt; "{tally}")?;
+    Ok(tally.status())
 }
 
-/// The number that is the input.
-fn number_on_input(rt: &HostRuntime) -> Option<u32> {
-    let text = read_to_string(rt.alloc(), rt.reader()).ok()?;
-    text.as_str().trim().parse().ok()
+/// Has each request of the calls on columns, files and texts refused.
+fn sweep_columns<R: Print>(rt: &R, alloc: Global, tally: &mut Tally) -> Result<(), Fail> {
+    sweep_all(rt, alloc, &bits::MAKERS, tally)?;
+    sweep_all(rt, alloc, &kernels_of::CASES, tally)?;
+    sweep_all(rt, alloc, &selections::CASES, tally)?;
+    sweep_all(rt, alloc, &statistics::CASES, tally)?;
+    sweep_all(rt, alloc, &pools::CASES, tally)?;
+    sweep_all(rt, alloc, &texts::CALLS, tally)
 }
 
-/// Makes so many growths. Whether none was refused.
-fn makes_growths(alloc: Global, count: u32) -> bool {
-    for _growth in 0..count {
-        if Box::new(alloc, 0u8).is_err() {
-            return false;
-        }
-    }
-    true
-}
-
-/// Prints what came of each call.
-fn tell(rt: &HostRuntime, calls: &[(&str, Outcome)]) -> ExitCode {
-    let mut all = Outcome::Answered;
-    for (call, outcome) in calls {
-        let _ = println!(rt; "{outcome}: {call}");
-        all = all.and(*outcome);
-    }
-    if all == Outcome::Wrong {
-        ExitCode::FAILURE
-    } else {
-        ExitCode::SUCCESS
-    }
+/// Has each request of the calls on batches and tables refused.
+fn sweep_tables<R: Print + Wait>(rt: &R, alloc: Global, tally: &mut Tally) -> Result<(), Fail> {
+    sweep_all(rt, alloc, &tables::CASES, tally)?;
+    sweep_all(rt, alloc, &queries::CASES, tally)?;
+    sweep_all(rt, alloc, &opening::CASES, tally)?;
+    sweep_all(rt, alloc, &shared_tables::CASES, tally)
 }

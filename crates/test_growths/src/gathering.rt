@@ -1,0 +1,69 @@
+//! A table that is gathered.
+
+use crate::scene::Scene;
+use crate::stage::tell_workers;
+use crate::stop::Stop;
+use crate::tell::tell_version;
+use shared::{GatherCause, Naming, Publish, SharedTable, Shown, Version, Worker};
+use std::alloc::Global;
+use std::sync::ledger::Ledger;
+use std::sync::{Arc, Wait};
+use std::test::Fail;
+
+/// A table, until it is gathered, and its workers.
+#[derive(Drop)]
+pub(crate) struct Gathering<C: Ledger, Q: Ledger, N: Naming, P: Publish<Item = Shown<N>>> {
+    table: Option<SharedTable<C, Q, N, P>>,
+    workers: Option<Vec<Worker<C, Q, N>>>,
+}
+
+impl<C: Ledger, Q: Ledger, N: Naming, P: Publish<Item = Shown<N>>> Gathering<C, Q, N, P> {
+    pub(crate) fn new(
+        table: SharedTable<C, Q, N, P>,
+        workers: Vec<Worker<C, Q, N>>,
+    ) -> Gathering<C, Q, N, P> {
+        Gathering {
+            table: Some(table),
+            workers: Some(workers),
+        }
+    }
+}
+
+impl<C: Ledger, Q: Ledger, N: Naming, P: Publish<Item = Shown<N>>, R: Wait> Scene<R>
+    for Gathering<C, Q, N, P> {
+    type Answer = Arc<Version>;
+
+    fn call(&mut self, rt: &R, _alloc: Global) -> Result<Arc<Version>, Stop> {
+        let (Some(table), Some(workers)) = (self.table.take(), self.workers.take()) else {
+            return Err(Stop::Other);
+        };
+        match table.gather(rt, workers) {
+            Ok(gathered) => {
+                self.workers = Some(gathered.workers);
+                Ok(gathered.version)
+            }
+            Err(fault) => {
+                self.table = Some(fault.table);
+                self.workers = Some(fault.workers);
+                Err(match fault.cause {
+                    GatherCause::NoMemory => Stop::NoMemory,
+                    GatherCause::WorkerMissing { .. } => Stop::Other,
+                })
+            }
+        }
+    }
+
+    /// What the table shows is told by the answer.
+    fn tell(&mut self, _rt: &R, told: &mut String) -> Result<(), Fail> {
+        let is_there = self.table.is_some();
+        write!(told, "{is_there} ")?;
+        if let Some(workers) = &self.workers {
+            tell_workers(told, workers)?;
+        }
+        Ok(())
+    }
+
+    fn tell_answer(told: &mut String, answer: &Arc<Version>) -> Result<(), Fail> {
+        tell_version(told, answer)
+    }
+}

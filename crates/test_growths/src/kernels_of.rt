@@ -1,0 +1,139 @@
+//! The kernels.
+
+use crate::refusals::Refused;
+use crate::run::{Ran, run};
+use crate::scene::Scene;
+use crate::stop::Stop;
+use crate::sweep::Trial;
+use crate::tell::tell_array;
+use arrays::{Array, View};
+use kernels::{
+    CmpOp, KernelFault, add, add_number, compare, compare_number, is_null, kleene_and, kleene_not,
+    kleene_or, mul, mul_number, sub, sub_from_number, sub_number,
+};
+use std::alloc::Global;
+use std::test::Fail;
+use test_samples::{Flat, INT8, INT64, NAMES, Sample, sampled};
+
+/// A kernel.
+#[derive(Clone, Copy)]
+enum Kernel {
+    Add,
+    Sub,
+    Mul,
+    AddNumber,
+    SubNumber,
+    SubFromNumber,
+    MulNumber,
+    Compare,
+    CompareNumber,
+    And,
+    Or,
+    Not,
+    IsNull,
+}
+
+/// The numbers 1, null, 3 and 4.
+const SMALL: Sample = Sample::Of((Flat::Int(INT8), 4, &[Some(&[0x0d]), Some(&[1, 0, 3, 4])]));
+
+/// The numbers 1, 2, 3 and 4.
+const LARGE: Sample = Sample::Of((
+    Flat::Int(INT64),
+    4,
+    &[
+        None,
+        Some(b"\x01\0\0\0\0\0\0\0\x02\0\0\0\0\0\0\0\x03\0\0\0\0\0\0\0\x04\0\0\0\0\0\0\0"),
+    ],
+));
+
+/// The truth values true, null, false and true.
+const TRUTHS: Sample = Sample::Of((Flat::Bool, 4, &[Some(&[0x0d]), Some(&[0x09])]));
+
+const TEXTS: Sample = Sample::Of(NAMES);
+
+pub(crate) const CASES: [(&str, Case); 21] = [
+    ("add", Case(Kernel::Add, SMALL)),
+    ("add, 64 bits", Case(Kernel::Add, LARGE)),
+    ("sub", Case(Kernel::Sub, SMALL)),
+    ("mul", Case(Kernel::Mul, SMALL)),
+    ("add_number", Case(Kernel::AddNumber, SMALL)),
+    ("add_number, 64 bits", Case(Kernel::AddNumber, LARGE)),
+    ("sub_number", Case(Kernel::SubNumber, SMALL)),
+    ("sub_from_number", Case(Kernel::SubFromNumber, SMALL)),
+    ("mul_number", Case(Kernel::MulNumber, SMALL)),
+    ("compare", Case(Kernel::Compare, SMALL)),
+    ("compare, 64 bits", Case(Kernel::Compare, LARGE)),
+    ("compare, truth values", Case(Kernel::Compare, TRUTHS)),
+    ("compare, texts", Case(Kernel::Compare, TEXTS)),
+    ("compare, codes", Case(Kernel::Compare, Sample::Coded)),
+    ("compare_number", Case(Kernel::CompareNumber, SMALL)),
+    ("kleene_and", Case(Kernel::And, TRUTHS)),
+    ("kleene_or", Case(Kernel::Or, TRUTHS)),
+    ("kleene_not", Case(Kernel::Not, TRUTHS)),
+    ("is_null", Case(Kernel::IsNull, SMALL)),
+    ("is_null, codes", Case(Kernel::IsNull, Sample::Coded)),
+    ("is_null, lists", Case(Kernel::IsNull, Sample::Lists)),
+];
+
+/// A kernel, and the column that it is given, on both sides where it wants two.
+#[derive(Clone, Copy)]
+pub(crate) struct Case(Kernel, Sample);
+
+impl<R> Trial<R> for Case {
+    fn run(&self, rt: &R, alloc: Global, refused: Option<Refused>) -> Result<Ran, Fail> {
+        let Case(kernel, sample) = *self;
+        let scene = Computing {
+            kernel,
+            column: sampled(alloc, sample)?,
+        };
+        run(rt, alloc, scene, refused)
+    }
+}
+
+/// A kernel with its column.
+#[derive(Drop)]
+struct Computing {
+    kernel: Kernel,
+    column: Array,
+}
+
+impl<R> Scene<R> for Computing {
+    type Answer = Array;
+
+    fn call(&mut self, _rt: &R, alloc: Global) -> Result<Array, Stop> {
+        let (a, b) = (self.column.view(), self.column.view());
+        Ok(computed(alloc, self.kernel, &a, &b)?)
+    }
+
+    fn tell(&mut self, _rt: &R, told: &mut String) -> Result<(), Fail> {
+        tell_array(told, &self.column)
+    }
+
+    fn tell_answer(told: &mut String, answer: &Array) -> Result<(), Fail> {
+        tell_array(told, answer)
+    }
+}
+
+/// What a kernel makes of two views, or of the first.
+fn computed(
+    alloc: Global,
+    kernel: Kernel,
+    a: &View<'_>,
+    b: &View<'_>,
+) -> Result<Array, KernelFault> {
+    match kernel {
+        Kernel::Add => add(alloc, a, b),
+        Kernel::Sub => sub(alloc, a, b),
+        Kernel::Mul => mul(alloc, a, b),
+        Kernel::AddNumber => add_number(alloc, a, 7),
+        Kernel::SubNumber => sub_number(alloc, a, 7),
+        Kernel::SubFromNumber => sub_from_number(alloc, a, 7),
+        Kernel::MulNumber => mul_number(alloc, a, 7),
+        Kernel::Compare => compare(alloc, CmpOp::Le, a, b),
+        Kernel::CompareNumber => compare_number(alloc, CmpOp::Lt, a, 3),
+        Kernel::And => kleene_and(alloc, a, b),
+        Kernel::Or => kleene_or(alloc, a, b),
+        Kernel::Not => kleene_not(alloc, a),
+        Kernel::IsNull => is_null(alloc, a),
+    }
+}

@@ -1,0 +1,84 @@
+//! A table that is opened.
+
+ghost use Rattle.std.specs.Prelude.{◌≡◌};
+ghost use Rattle.table.specs.Stored.{stored_fields};
+
+use crate::fault::Fault;
+use crate::refusals::{Refused, begin, end};
+use crate::run::Ran;
+use crate::samples::{TWO_BATCHES, file};
+use crate::stop::Stop;
+use crate::sweep::Trial;
+use arrays::Schema;
+use shared::{Naming, Pair, open};
+use std::alloc::Global;
+use std::marker::Brand;
+use std::sync::Wait;
+use std::sync::ledger::{Blank, Ledger};
+use std::test::Fail;
+
+/// A table of two workers and so many readers is opened.
+#[derive(Clone, Copy)]
+pub(crate) struct Opening(u32);
+
+pub(crate) const CASES: [(&str, Opening); 2] = [
+    ("open", Opening(2)),
+    ("open, no readers", Opening(0)),
+];
+
+impl<R: Wait> Trial<R> for Opening {
+    /// What is opened is told by how many workers and readers there are. All that is handed over is gone with a refusal.
+    fn run(&self, rt: &R, alloc: Global, refused: Option<Refused>) -> Result<Ran, Fail> {
+        let Opening(readers) = *self;
+        let (first, met) = opened(rt, alloc, readers, refused)?;
+        let last = match first {
+            Err(Stop::NoMemory) if met => opened(rt, alloc, readers, None)?.0,
+            other => other,
+        };
+        match last {
+            Ok((workers, readers)) => {
+                let told = format!(in alloc; "{workers} {readers}")?;
+                Ok(Ran::Answered(met, told))
+            }
+            Err(_) => Ok(Ran::Wrong(Fault::NoAnswer)),
+        }
+    }
+}
+
+/// How many workers and readers a table has, or why it wasn't opened; and whether a request was refused.
+fn opened<R: Wait>(
+    rt: &R,
+    alloc: Global,
+    readers: u32,
+    refused: Option<Refused>,
+) -> Result<(Result<(usize, usize), Stop>, bool), Fail> {
+    let file = file(alloc, TWO_BATCHES)?;
+    let pair = Pair::new(alloc, file.schema())?;
+    let schema = file.schema().copy(alloc)?;
+    let (calls, rows) = (Blank::new(2), Blank::new(2));
+    Ok(opened_so::<Brand, Brand, Brand, R>(rt, alloc, schema, readers, calls, rows, pair, refused))
+}
+
+/// The same, under the names of two ledgers and of a history.
+fn opened_so<C: Ledger, Q: Ledger, N: Naming, R: Wait>(
+    rt: &R,
+    alloc: Global,
+    schema: Schema,
+    readers: u32,
+    calls: Blank,
+    rows: Blank,
+    pair: Pair,
+    refused: Option<Refused>,
+) -> (Result<(usize, usize), Stop>, bool)
+    requires calls { (calls.name ≡ C.name) × (calls.parts ≡ C.parts) × (calls.parts ≡ 2) }
+    requires rows { (rows.name ≡ Q.name) × (rows.parts ≡ Q.parts) × (rows.parts ≡ 2) }
+    requires pair { (pair.book ≡ N.book) × (pair.fields ≡ N.fields) × (pair.fields ≡ stored_fields schema) }
+{
+    begin(alloc, refused);
+    let opened = open::<C, Q, N, &R>(rt, alloc, schema, 2, readers, calls, rows, pair);
+    let met = end(alloc);
+    match opened {
+        Ok((_table, workers, readers)) => (Ok((workers.len(), readers.len())), met),
+        Err(fault) => (Err(Stop::from(fault)), met),
+    }
+}

@@ -1,0 +1,138 @@
+//! Columns of texts recoded into a pool.
+
+ghost use Rattle.arrays.specs.Slot.{is_text};
+ghost use Rattle.std.specs.Prelude.{◌≡◌, IsTrue, true};
+
+use crate::refusals::Refused;
+use crate::run::{Ran, run};
+use crate::scene::Scene;
+use crate::stop::Stop;
+use crate::sweep::Trial;
+use crate::tell::{tell_array, tell_arrays};
+use arrays::{Array, View, ViewType};
+use pool::{TextPool, recode, unify};
+use std::alloc::Global;
+use std::test::Fail;
+use test_samples::{NAMES, Sample, sampled};
+
+/// A call that gives texts a dictionary, or makes one a column.
+#[derive(Clone, Copy)]
+enum Coding {
+    Recode,
+    Unify,
+    ToArray,
+}
+
+const TEXTS: Sample = Sample::Of(NAMES);
+
+pub(crate) const CASES: [(&str, Case); 5] = [
+    ("recode, texts", Case(Coding::Recode, TEXTS)),
+    ("recode, codes", Case(Coding::Recode, Sample::Coded)),
+    ("unify, texts", Case(Coding::Unify, TEXTS)),
+    ("unify, codes", Case(Coding::Unify, Sample::Coded)),
+    ("TextPool::to_array", Case(Coding::ToArray, TEXTS)),
+];
+
+/// A call, and the column that it is given.
+#[derive(Clone, Copy)]
+pub(crate) struct Case(Coding, Sample);
+
+impl<R> Trial<R> for Case {
+    fn run(&self, rt: &R, alloc: Global, refused: Option<Refused>) -> Result<Ran, Fail> {
+        let Case(coding, sample) = *self;
+        let mut pool = TextPool::new(alloc);
+        let column = sampled(alloc, sample)?;
+        let other = sampled(alloc, Sample::Coded)?;
+        fill(alloc, &other.view(), &mut pool)?;
+        let scene = Recoding {
+            coding,
+            pool,
+            columns: [column, other],
+        };
+        run(rt, alloc, scene, refused)
+    }
+}
+
+/// Puts the first text of a view into a pool.
+fn fill(alloc: Global, view: &View<'_>, pool: &mut TextPool) -> Result<(), Fail> {
+    if view.len() == 0 {
+        return Ok(());
+    }
+    let first = view.slice(0, 1);
+    if is_of_texts(&first) {
+        let _codes = recode(alloc, &first, pool)?;
+    }
+    Ok(())
+}
+
+/// A call with a pool that has a text, and two columns.
+#[derive(Drop)]
+struct Recoding {
+    coding: Coding,
+    pool: TextPool,
+    columns: [Array; 2],
+}
+
+/// What a call gave: a column, or the entries of a dictionary and the codes of each column.
+#[derive(Drop)]
+enum Coded {
+    Column(Array),
+    Unified(Array, Vec<Array>),
+}
+
+impl<R> Scene<R> for Recoding {
+    type Answer = Coded;
+
+    fn call(&mut self, _rt: &R, alloc: Global) -> Result<Coded, Stop> {
+        let [column, other] = &self.columns;
+        let (view, other) = (column.view(), other.view());
+        if !is_of_texts(&view) || !is_of_texts(&other) {
+            return Err(Stop::Other);
+        }
+        match self.coding {
+            Coding::Recode => Ok(Coded::Column(recode(alloc, &view, &mut self.pool)?)),
+            Coding::ToArray => Ok(Coded::Column(self.pool.to_array(alloc)?)),
+            Coding::Unify => {
+                let (entries, codes) = unify(alloc, &[view, other])?;
+                Ok(Coded::Unified(entries, codes))
+            }
+        }
+    }
+
+    fn tell(&mut self, _rt: &R, told: &mut String) -> Result<(), Fail> {
+        tell_arrays(told, &self.columns)?;
+        tell_pool(told, &self.pool)
+    }
+
+    fn tell_answer(told: &mut String, answer: &Coded) -> Result<(), Fail> {
+        match answer {
+            Coded::Column(column) => tell_array(told, column),
+            Coded::Unified(entries, codes) => {
+                tell_array(told, entries)?;
+                tell_arrays(told, codes)
+            }
+        }
+    }
+}
+
+/// Whether a view is of texts.
+fn is_of_texts(view: &View<'_>) -> bool
+    ensures { IsTrue result → is_text view.now.kind ≡ true }
+{
+    match view.ty() {
+        ViewType::Utf8 => true,
+        ViewType::Dict => true,
+        _ => false,
+    }
+}
+
+/// Tells the texts of a pool: there are few.
+fn tell_pool(told: &mut String, pool: &TextPool) -> Result<(), Fail> {
+    let count = pool.len();
+    write!(told, "{count} texts: ")?;
+    for code in 0..10 {
+        let text = pool.text_of(code);
+        write!(told, "{text:?} ")?;
+    }
+    Ok(())
+}

@@ -1,0 +1,91 @@
+//! Files, a table and queries that calls are tried on.
+
+use arrays::{File, RecordBatch};
+use arrow_json::read_file;
+use query::QueryText;
+use query_json::read_query;
+use std::alloc::Global;
+use std::sync::Arc;
+use std::test::Fail;
+use table::TableState;
+
+/// Two batches: texts, numbers, truth values, lists of numbers, lists of such lists, numbers of 64 bits, and codes.
+pub(crate) const TWO_BATCHES: &str = r#"{"schema":{"fields":[
+{"name":"s","nullable":true,"type":{"name":"utf8"},"children":[]},
+{"name":"n","nullable":true,"type":{"name":"int","bitWidth":32,"isSigned":true},"children":[]},
+{"name":"b","nullable":true,"type":{"name":"bool"},"children":[]},
+{"name":"l","nullable":true,"type":{"name":"list"},"children":[{"name":"item","nullable":true,"type":{"name":"int","bitWidth":8,"isSigned":true},"children":[]}]},
+{"name":"m","nullable":true,"type":{"name":"list"},"children":[{"name":"item","nullable":true,"type":{"name":"list"},"children":[{"name":"item","nullable":true,"type":{"name":"int","bitWidth":8,"isSigned":true},"children":[]}]}]},
+{"name":"w","nullable":true,"type":{"name":"int","bitWidth":64,"isSigned":false},"children":[]},
+{"name":"d","nullable":true,"type":{"name":"utf8"},"children":[],"dictionary":{"id":0,"indexType":{"name":"int","isSigned":true,"bitWidth":32},"isOrdered":false}}]},
+"dictionaries":[{"id":0,"data":{"count":2,"columns":[{"name":"d","count":2,"VALIDITY":[1,1],"OFFSET":[0,1,2],"DATA":["x","y"]}]}}],
+"batches":[{"count":3,"columns":[
+{"name":"s","count":3,"VALIDITY":[1,0,1],"OFFSET":[0,1,1,2],"DATA":["a","","b"]},
+{"name":"n","count":3,"VALIDITY":[1,1,0],"DATA":[5,-6,0]},
+{"name":"b","count":3,"VALIDITY":[1,1,1],"DATA":[1,0,1]},
+{"name":"l","count":3,"VALIDITY":[1,0,1],"OFFSET":[0,2,2,3],"children":[{"name":"item","count":3,"VALIDITY":[1,0,1],"DATA":[1,0,3]}]},
+{"name":"m","count":3,"VALIDITY":[1,0,1],"OFFSET":[0,2,2,2],"children":[{"name":"item","count":2,"VALIDITY":[1,1],"OFFSET":[0,1,3],"children":[{"name":"item","count":3,"VALIDITY":[1,1,1],"DATA":[1,2,3]}]}]},
+{"name":"w","count":3,"VALIDITY":[1,1,0],"DATA":["5","18446744073709551615","0"]},
+{"name":"d","count":3,"VALIDITY":[1,1,0],"DATA":[1,0,0]}]},
+{"count":2,"columns":[
+{"name":"s","count":2,"VALIDITY":[1,1],"OFFSET":[0,1,2],"DATA":["b","c"]},
+{"name":"n","count":2,"VALIDITY":[1,1],"DATA":[7,5]},
+{"name":"b","count":2,"VALIDITY":[0,1],"DATA":[0,1]},
+{"name":"l","count":2,"VALIDITY":[1,1],"OFFSET":[0,0,1],"children":[{"name":"item","count":1,"VALIDITY":[1],"DATA":[4]}]},
+{"name":"m","count":2,"VALIDITY":[1,1],"OFFSET":[0,0,1],"children":[{"name":"item","count":1,"VALIDITY":[0],"OFFSET":[0,0],"children":[{"name":"item","count":0,"VALIDITY":[],"DATA":[]}]}]},
+{"name":"w","count":2,"VALIDITY":[1,0],"DATA":["7","0"]},
+{"name":"d","count":2,"VALIDITY":[1,1],"DATA":[0,0]}]}]}"#;
+
+/// One more batch, with texts that the two don't have.
+pub(crate) const ONE_MORE: &str = r#"{"schema":{"fields":[
+{"name":"s","nullable":true,"type":{"name":"utf8"},"children":[]},
+{"name":"n","nullable":true,"type":{"name":"int","bitWidth":32,"isSigned":true},"children":[]},
+{"name":"b","nullable":true,"type":{"name":"bool"},"children":[]},
+{"name":"l","nullable":true,"type":{"name":"list"},"children":[{"name":"item","nullable":true,"type":{"name":"int","bitWidth":8,"isSigned":true},"children":[]}]},
+{"name":"m","nullable":true,"type":{"name":"list"},"children":[{"name":"item","nullable":true,"type":{"name":"list"},"children":[{"name":"item","nullable":true,"type":{"name":"int","bitWidth":8,"isSigned":true},"children":[]}]}]},
+{"name":"w","nullable":true,"type":{"name":"int","bitWidth":64,"isSigned":false},"children":[]},
+{"name":"d","nullable":true,"type":{"name":"utf8"},"children":[]}]},
+"batches":[{"count":2,"columns":[
+{"name":"s","count":2,"VALIDITY":[1,1],"OFFSET":[0,6,7],"DATA":["Lisbon","a"]},
+{"name":"n","count":2,"VALIDITY":[1,1],"DATA":[70000,5]},
+{"name":"b","count":2,"VALIDITY":[1,1],"DATA":[0,1]},
+{"name":"l","count":2,"VALIDITY":[1,0],"OFFSET":[0,1,1],"children":[{"name":"item","count":1,"VALIDITY":[0],"DATA":[0]}]},
+{"name":"m","count":2,"VALIDITY":[1,0],"OFFSET":[0,1,1],"children":[{"name":"item","count":1,"VALIDITY":[1],"OFFSET":[0,2],"children":[{"name":"item","count":2,"VALIDITY":[1,1],"DATA":[4,5]}]}]},
+{"name":"w","count":2,"VALIDITY":[1,1],"DATA":["9","1"]},
+{"name":"d","count":2,"VALIDITY":[1,1],"OFFSET":[0,5,6],"DATA":["Braga","y"]}]}]}"#;
+
+/// A query with a filter, grouped by texts.
+pub(crate) const BY_TEXT: &str =
+    r#"{"filter":{"op":"lt","args":[{"op":"add","args":[{"column":"n"},{"int":1}]},{"int":200}]},"by":["s"],"aggs":[{"agg":"rows"},{"agg":"sum","column":"n"},{"agg":"least","column":"d"}]}"#;
+
+/// A query over all rows, grouped by texts and truth values.
+pub(crate) const BY_TWO: &str =
+    r#"{"by":["s","b"],"aggs":[{"agg":"count","column":"n"},{"agg":"greatest","column":"n"}]}"#;
+
+/// The file of a text.
+pub(crate) fn file(alloc: Global, text: &str) -> Result<File, Fail> {
+    Ok(read_file(alloc, text.as_bytes())?)
+}
+
+/// The query of a text.
+pub(crate) fn query_text(alloc: Global, text: &str) -> Result<QueryText, Fail> {
+    Ok(read_query(alloc, text.as_bytes())?)
+}
+
+/// The first batch of the file of a text.
+pub(crate) fn first_batch(alloc: Global, text: &str) -> Result<Arc<RecordBatch>, Fail> {
+    let file = file(alloc, text)?;
+    let batch = file.batches().first().ok_or("a batch")?;
+    Ok(batch.clone()?)
+}
+
+/// A table of two batches, each of another worker.
+pub(crate) fn table(alloc: Global) -> Result<TableState, Fail> {
+    let file = file(alloc, TWO_BATCHES)?;
+    let mut table = TableState::new(alloc, file.schema().copy(alloc)?)?;
+    for batch in file.batches() {
+        let worker = table.version()?.book_len();
+        table.admit(worker, batch)?;
+    }
+    Ok(table)
+}

@@ -1,0 +1,133 @@
+//! Tables of many workers and readers, on one thread.
+
+ghost use Rattle.std.specs.Prelude.{◌≡◌};
+ghost use Rattle.table.specs.Stored.{stored_fields};
+
+use crate::gathering::Gathering;
+use crate::refusals::Refused;
+use crate::run::{Ran, run};
+use crate::samples::{ONE_MORE, TWO_BATCHES, file, first_batch};
+use crate::stage::{Call, Stage};
+use crate::sweep::Trial;
+use arrays::Schema;
+use shared::{Naming, Pair, Publish, Reader, SharedTable, Shown, Worker, open};
+use std::alloc::Global;
+use std::marker::Brand;
+use std::sync::Wait;
+use std::sync::ledger::{Blank, Ledger};
+use std::test::Fail;
+
+/// What is tried on a table of two workers.
+#[derive(Clone, Copy)]
+enum Play {
+    Call(Call),
+    Gather,
+}
+
+pub(crate) const CASES: [(&str, Case); 9] = [
+    ("SharedTable::append", Case(Play::Call(Call::Append), 1)),
+    (
+        "SharedTable::append, no readers",
+        Case(Play::Call(Call::Append), 0),
+    ),
+    ("SharedTable::snapshot", Case(Play::Call(Call::Snapshot), 1)),
+    ("SharedTable::compact", Case(Play::Call(Call::Compact), 1)),
+    (
+        "SharedTable::compact, no readers",
+        Case(Play::Call(Call::Compact), 0),
+    ),
+    ("Reader::latest", Case(Play::Call(Call::Latest), 1)),
+    (
+        "append, compact and latest in turn",
+        Case(Play::Call(Call::InTurn), 1),
+    ),
+    ("SharedTable::gather", Case(Play::Gather, 1)),
+    ("SharedTable::gather, no readers", Case(Play::Gather, 0)),
+];
+
+/// What is tried, and how many readers there are.
+#[derive(Clone, Copy)]
+pub(crate) struct Case(Play, u32);
+
+impl<R: Wait> Trial<R> for Case {
+    fn run(&self, rt: &R, alloc: Global, refused: Option<Refused>) -> Result<Ran, Fail> {
+        let file = file(alloc, TWO_BATCHES)?;
+        let pair = Pair::new(alloc, file.schema())?;
+        let (calls, rows) = (Blank::new(2), Blank::new(2));
+        played::<Brand, Brand, Brand, R>(
+            rt,
+            alloc,
+            file.schema(),
+            calls,
+            rows,
+            pair,
+            *self,
+            refused,
+        )
+    }
+}
+
+/// The same, under the names of two ledgers and of a history.
+fn played<C: Ledger, Q: Ledger, N: Naming, R: Wait>(
+    rt: &R,
+    alloc: Global,
+    schema: &Schema,
+    calls: Blank,
+    rows: Blank,
+    pair: Pair,
+    case: Case,
+    refused: Option<Refused>,
+) -> Result<Ran, Fail>
+    requires calls { (calls.name ≡ C.name) × (calls.parts ≡ C.parts) × (calls.parts ≡ 2) }
+    requires rows { (rows.name ≡ Q.name) × (rows.parts ≡ Q.parts) × (rows.parts ≡ 2) }
+    requires pair { (pair.book ≡ N.book) × (pair.fields ≡ N.fields) × (pair.fields ≡ stored_fields schema.now) }
+{
+    let Case(play, readers) = case;
+    let schema = schema.copy(alloc)?;
+    let opened = open::<C, Q, N, &R>(rt, alloc, schema, 2, readers, calls, rows, pair)?;
+    ran(rt, alloc, opened, play, refused)
+}
+
+/// What comes of a play on a table that nothing was appended to.
+fn ran<C: Ledger, Q: Ledger, N: Naming, P: Publish<Item = Shown<N>>, R: Wait>(
+    rt: &R,
+    alloc: Global,
+    opened: (
+        SharedTable<C, Q, N, P>,
+        Vec<Worker<C, Q, N>>,
+        Vec<Reader<N>>,
+    ),
+    play: Play,
+    refused: Option<Refused>,
+) -> Result<Ran, Fail> {
+    let (table, mut workers, mut readers) = opened;
+    append_two(rt, alloc, &table, &mut workers, &mut readers)?;
+    match play {
+        Play::Call(call) => {
+            let batch = first_batch(alloc, ONE_MORE)?;
+            let scene = Stage::new(call, batch, table, workers, readers);
+            run(rt, alloc, scene, refused)
+        }
+        Play::Gather => run(rt, alloc, Gathering::new(table, workers), refused),
+    }
+}
+
+/// Has each worker append two batches, and each reader learn of them.
+fn append_two<C: Ledger, Q: Ledger, N: Naming, P: Publish<Item = Shown<N>>, R: Wait>(
+    rt: &R,
+    alloc: Global,
+    table: &SharedTable<C, Q, N, P>,
+    workers: &mut [Worker<C, Q, N>],
+    readers: &mut [Reader<N>],
+) -> Result<(), Fail> {
+    let file = file(alloc, TWO_BATCHES)?;
+    for worker in workers.iter_mut() {
+        for batch in file.batches() {
+            let receipt = table.append(rt, worker, batch)?;
+            for reader in readers.iter_mut() {
+                reader.learn(&receipt);
+            }
+        }
+    }
+    Ok(())
+}

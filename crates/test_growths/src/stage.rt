@@ -1,0 +1,153 @@
+//! A table with its workers and readers.
+
+use crate::scene::Scene;
+use crate::stop::Stop;
+use crate::tell::tell_version;
+use arrays::RecordBatch;
+use shared::{Naming, Publish, Reader, SharedTable, Shown, Version, Worker};
+use std::alloc::Global;
+use std::sync::ledger::Ledger;
+use std::sync::{Arc, Wait};
+use std::test::Fail;
+
+/// A call of a table, a worker or a reader.
+#[derive(Clone, Copy, PartialEq, Eq)]
+pub(crate) enum Call {
+    Append,
+    Snapshot,
+    Compact,
+    Latest,
+    /// Each worker appends, the batches are joined, and the reader looks.
+    InTurn,
+}
+
+/// A call with a table, its workers and its readers, and a batch that is to be appended.
+#[derive(Drop)]
+pub(crate) struct Stage<C: Ledger, Q: Ledger, N: Naming, P: Publish<Item = Shown<N>>> {
+    call: Call,
+    batch: Arc<RecordBatch>,
+    table: SharedTable<C, Q, N, P>,
+    workers: Vec<Worker<C, Q, N>>,
+    readers: Vec<Reader<N>>,
+    /// How many of several calls are behind.
+    turns: u32,
+}
+
+impl<C: Ledger, Q: Ledger, N: Naming, P: Publish<Item = Shown<N>>> Stage<C, Q, N, P> {
+    pub(crate) fn new(
+        call: Call,
+        batch: Arc<RecordBatch>,
+        table: SharedTable<C, Q, N, P>,
+        workers: Vec<Worker<C, Q, N>>,
+        readers: Vec<Reader<N>>,
+    ) -> Stage<C, Q, N, P> {
+        Stage {
+            call,
+            batch,
+            table,
+            workers,
+            readers,
+            turns: 0,
+        }
+    }
+
+    /// Has the worker at a place append the batch.
+    fn append<R: Wait>(&mut self, rt: &R, place: usize) -> Result<Seen, Stop> {
+        match self.workers.get_mut(place) {
+            Some(worker) => {
+                let receipt = self.table.append(rt, worker, &self.batch)?;
+                Ok(Seen::Entry(receipt.entry()))
+            }
+            None => Err(Stop::Other),
+        }
+    }
+
+    /// Has the first worker join the batches, or only look.
+    fn compact<R: Wait>(&mut self, rt: &R, joins: bool) -> Result<Seen, Stop> {
+        match self.workers.first_mut() {
+            Some(worker) if joins => Ok(Seen::Version(self.table.compact(rt, worker, 100)?)),
+            Some(worker) => Ok(Seen::Version(self.table.snapshot(rt, worker)?)),
+            None => Err(Stop::Other),
+        }
+    }
+
+    /// Has the reader look.
+    fn latest(&mut self) -> Result<Seen, Stop> {
+        match self.readers.first_mut() {
+            Some(reader) => Ok(Seen::Version(reader.latest()?)),
+            None => Err(Stop::Other),
+        }
+    }
+
+    /// Makes those of several calls that aren't behind yet.
+    fn go_on<R: Wait>(&mut self, rt: &R) -> Result<Seen, Stop> {
+        for turn in self.turns..3 {
+            let _seen = match turn {
+                0 => self.append(rt, 0)?,
+                1 => self.append(rt, 1)?,
+                _ => self.compact(rt, true)?,
+            };
+            self.turns = turn + 1;
+        }
+        self.latest()
+    }
+}
+
+/// What a call gave.
+#[derive(Drop)]
+pub(crate) enum Seen {
+    Entry(u32),
+    Version(Arc<Version>),
+}
+
+impl<C: Ledger, Q: Ledger, N: Naming, P: Publish<Item = Shown<N>>, R: Wait> Scene<R>
+    for Stage<C, Q, N, P> {
+    type Answer = Seen;
+
+    fn call(&mut self, rt: &R, _alloc: Global) -> Result<Seen, Stop> {
+        match self.call {
+            Call::Append => self.append(rt, 0),
+            Call::Snapshot => self.compact(rt, false),
+            Call::Compact => self.compact(rt, true),
+            Call::Latest => self.latest(),
+            Call::InTurn => self.go_on(rt),
+        }
+    }
+
+    /// Of several calls some may be behind. A version that was taken is kept until there is a newer one, and isn't taken before a
+    /// call that takes one.
+    fn tell(&mut self, rt: &R, told: &mut String) -> Result<(), Fail> {
+        if self.call == Call::InTurn && self.turns < 3 {
+            return Ok(());
+        }
+        tell_workers(told, &self.workers)?;
+        if self.call == Call::Snapshot {
+            return Ok(());
+        }
+        if let Some(worker) = self.workers.last_mut() {
+            let version = self.table.snapshot(rt, worker)?;
+            tell_version(told, &version)?;
+        }
+        Ok(())
+    }
+
+    fn tell_answer(told: &mut String, answer: &Seen) -> Result<(), Fail> {
+        match answer {
+            Seen::Entry(number) => write!(told, "{number} ")?,
+            Seen::Version(version) => tell_version(told, version)?,
+        }
+        Ok(())
+    }
+}
+
+/// Tells how much each worker appended.
+pub(crate) fn tell_workers<C: Ledger, Q: Ledger, N: Naming>(
+    told: &mut String,
+    workers: &[Worker<C, Q, N>],
+) -> Result<(), Fail> {
+    for worker in workers {
+        let (number, calls, rows) = (worker.number(), worker.calls(), worker.rows());
+        write!(told, "{number} {calls} {rows} ")?;
+    }
+    Ok(())
+}

@@ -1,0 +1,89 @@
+//! Statistics of columns.
+
+use crate::refusals::Refused;
+use crate::run::{Ran, run};
+use crate::scene::Scene;
+use crate::stop::Stop;
+use crate::sweep::Trial;
+use crate::tell::tell_array;
+use arrays::Array;
+use group::{ColumnStats, joined, stats_of};
+use std::alloc::Global;
+use std::test::Fail;
+use test_samples::{NAMES, Sample, sampled};
+
+/// A call that makes statistics.
+#[derive(Clone, Copy)]
+enum Summary {
+    Of,
+    Joined,
+    Copy,
+}
+
+const TEXTS: Sample = Sample::Of(NAMES);
+
+pub(crate) const CASES: [(&str, Case); 6] = [
+    ("stats_of, texts", Case(Summary::Of, TEXTS)),
+    ("stats_of, codes", Case(Summary::Of, Sample::Coded)),
+    ("joined, texts", Case(Summary::Joined, TEXTS)),
+    ("joined, codes", Case(Summary::Joined, Sample::Coded)),
+    ("ColumnStats::copy, texts", Case(Summary::Copy, TEXTS)),
+    (
+        "ColumnStats::copy, codes",
+        Case(Summary::Copy, Sample::Coded),
+    ),
+];
+
+/// A call, and the column that the statistics are of.
+#[derive(Clone, Copy)]
+pub(crate) struct Case(Summary, Sample);
+
+impl<R> Trial<R> for Case {
+    fn run(&self, rt: &R, alloc: Global, refused: Option<Refused>) -> Result<Ran, Fail> {
+        let Case(summary, sample) = *self;
+        let column = sampled(alloc, sample)?;
+        let stats = stats_of(alloc, &column.view())?;
+        let scene = Summing {
+            summary,
+            column,
+            stats,
+        };
+        run(rt, alloc, scene, refused)
+    }
+}
+
+/// A call with a column and its statistics.
+#[derive(Drop)]
+struct Summing {
+    summary: Summary,
+    column: Array,
+    stats: ColumnStats,
+}
+
+impl<R> Scene<R> for Summing {
+    type Answer = ColumnStats;
+
+    fn call(&mut self, _rt: &R, alloc: Global) -> Result<ColumnStats, Stop> {
+        let stats = &self.stats;
+        match self.summary {
+            Summary::Of => Ok(stats_of(alloc, &self.column.view())?),
+            Summary::Joined if stats.rows < 100 => Ok(joined(alloc, stats, stats)?),
+            Summary::Joined => Err(Stop::Other),
+            Summary::Copy => Ok(stats.copy(alloc)?),
+        }
+    }
+
+    fn tell(&mut self, _rt: &R, told: &mut String) -> Result<(), Fail> {
+        tell_array(told, &self.column)?;
+        tell_stats(told, &self.stats)
+    }
+
+    fn tell_answer(told: &mut String, answer: &ColumnStats) -> Result<(), Fail> {
+        tell_stats(told, answer)
+    }
+}
+
+fn tell_stats(told: &mut String, stats: &ColumnStats) -> Result<(), Fail> {
+    write!(told, "{stats:?} ")?;
+    Ok(())
+}

@@ -1,0 +1,164 @@
+//! What is seen of values, as a text: two values of which all is alike have one text.
+
+use arrays::{Array, File, RecordBatch, View, ViewType};
+use std::sync::Arc;
+use std::test::Fail;
+use table::Version;
+
+/// More levels of lists than a type has.
+const LEVELS: u32 = 16;
+
+/// Tells a column: its type, and then its slots.
+pub(crate) fn tell_array(told: &mut String, array: &Array) -> Result<(), Fail> {
+    let ty = array.ty();
+    write!(told, "{ty:?} ")?;
+    tell_view(told, &array.view())
+}
+
+/// Tells the slots of a view, and of lists those of their items too.
+pub(crate) fn tell_view(told: &mut String, view: &View<'_>) -> Result<(), Fail> {
+    let mut level = view.slice(0, view.len());
+    for _level in 0..LEVELS {
+        tell_level(told, &level)?;
+        let ViewType::List(_) = level.ty() else {
+            return Ok(());
+        };
+        level = level.lists().child;
+    }
+    Ok(())
+}
+
+/// Tells the slots of a view, and of lists only how long they are.
+fn tell_level(told: &mut String, view: &View<'_>) -> Result<(), Fail> {
+    let len = view.len();
+    let nulls = view.null_count();
+    let has_validity = view.validity().is_some();
+    write!(told, "{len} {nulls} {has_validity}: ")?;
+    match view.ty() {
+        ViewType::Int(_) => tell_numbers(told, view),
+        ViewType::Bool => tell_bools(told, view),
+        ViewType::Utf8 => tell_texts(told, view),
+        ViewType::List(_) => tell_lengths(told, view),
+        ViewType::Dict => {
+            tell_numbers(told, &view.codes())?;
+            tell_texts(told, &view.entries())
+        }
+    }
+}
+
+fn tell_numbers(told: &mut String, view: &View<'_>) -> Result<(), Fail> {
+    let ViewType::Int(_) = view.ty() else {
+        return Ok(());
+    };
+    for i in 0..view.len() {
+        let number = view.int_at(i);
+        write!(told, "{number:?} ")?;
+    }
+    Ok(())
+}
+
+fn tell_bools(told: &mut String, view: &View<'_>) -> Result<(), Fail> {
+    let ViewType::Bool = view.ty() else {
+        return Ok(());
+    };
+    for i in 0..view.len() {
+        let value = view.bool_at(i);
+        write!(told, "{value:?} ")?;
+    }
+    Ok(())
+}
+
+fn tell_texts(told: &mut String, view: &View<'_>) -> Result<(), Fail> {
+    let ViewType::Utf8 = view.ty() else {
+        return Ok(());
+    };
+    for i in 0..view.len() {
+        let text = view.utf8_at(i);
+        write!(told, "{text:?} ")?;
+    }
+    Ok(())
+}
+
+fn tell_lengths(told: &mut String, view: &View<'_>) -> Result<(), Fail> {
+    let ViewType::List(_) = view.ty() else {
+        return Ok(());
+    };
+    for i in 0..view.len() {
+        let length = match view.list_at(i) {
+            Some(items) => Some(items.len()),
+            None => None,
+        };
+        write!(told, "{length:?} ")?;
+    }
+    Ok(())
+}
+
+/// Tells columns, one after the other.
+pub(crate) fn tell_arrays(told: &mut String, arrays: &[Array]) -> Result<(), Fail> {
+    for array in arrays {
+        tell_array(told, array)?;
+    }
+    Ok(())
+}
+
+/// Tells a batch, with its fields.
+pub(crate) fn tell_batch(told: &mut String, batch: &RecordBatch) -> Result<(), Fail> {
+    let rows = batch.rows();
+    let fields = batch.schema().fields();
+    write!(told, "{rows} rows of {fields:?}: ")?;
+    tell_arrays(told, batch.columns())
+}
+
+/// Tells batches, one after the other.
+fn tell_batches(told: &mut String, batches: &[Arc<RecordBatch>]) -> Result<(), Fail> {
+    for batch in batches {
+        tell_batch(told, batch)?;
+    }
+    Ok(())
+}
+
+/// Tells a file.
+pub(crate) fn tell_file(told: &mut String, file: &File) -> Result<(), Fail> {
+    let fields = file.schema().fields();
+    write!(told, "{fields:?}: ")?;
+    tell_batches(told, file.batches())
+}
+
+/// Tells all that a version of a table shows.
+pub(crate) fn tell_version(told: &mut String, version: &Version) -> Result<(), Fail> {
+    let rows = version.rows();
+    let fields = version.schema().fields();
+    write!(told, "{rows} rows of {fields:?}: ")?;
+    tell_book(told, version)?;
+    tell_batches(told, version.batches())?;
+    for k in 0..version.schema().len() {
+        tell_column(told, version, k)?;
+    }
+    Ok(())
+}
+
+/// Tells who added what.
+fn tell_book(told: &mut String, version: &Version) -> Result<(), Fail> {
+    for i in 0..version.book_len() {
+        let entry = version.book_at(i);
+        write!(told, "{entry:?} ")?;
+    }
+    Ok(())
+}
+
+/// Tells what is known of a column beside its batches: its dictionary and its statistics, and those of each batch.
+fn tell_column(told: &mut String, version: &Version, k: usize) -> Result<(), Fail> {
+    if k >= version.schema().len() {
+        return Ok(());
+    }
+    if let Some(words) = version.dictionary(k) {
+        tell_view(told, &words.view())?;
+    }
+    let stats = version.stats(k);
+    write!(told, "{stats:?} ")?;
+    for b in 0..version.batches().len() {
+        let stats = version.batch_stats(b, k);
+        write!(told, "{stats:?} ")?;
+    }
+    Ok(())
+}

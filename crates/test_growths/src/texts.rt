@@ -1,0 +1,129 @@
+//! What is read from bytes and words, and printed.
+
+use crate::refusals::Refused;
+use crate::run::{Ran, run};
+use crate::samples::{BY_TEXT, TWO_BATCHES, file};
+use crate::scene::Scene;
+use crate::stop::Stop;
+use crate::sweep::Trial;
+use crate::tell::tell_file;
+use arrays::File;
+use arrow_json::{read_file, read_file_from_vec};
+use arrow_text::print_file;
+use ends::memory::MemorySource;
+use ends::read_whole;
+use job::{Job, job};
+use query::QueryText;
+use query_json::read_query;
+use std::alloc::Global;
+use std::mem;
+use std::test::Fail;
+
+/// A call that reads or prints.
+#[derive(Clone, Copy)]
+pub(crate) enum Reading {
+    ReadFile,
+    ReadFileFromVec,
+    ReadQuery,
+    ReadWhole,
+    Job,
+    PrintFile,
+}
+
+pub(crate) const CALLS: [(&str, Reading); 6] = [
+    ("read_file", Reading::ReadFile),
+    ("read_file_from_vec", Reading::ReadFileFromVec),
+    ("read_query", Reading::ReadQuery),
+    ("read_whole", Reading::ReadWhole),
+    ("job", Reading::Job),
+    ("print_file", Reading::PrintFile),
+];
+
+const WORDS: [&str; 7] = [
+    "arrowtab",
+    "query",
+    "--workers",
+    "2",
+    "--query",
+    "{}",
+    "towns.json",
+];
+
+impl<R> Trial<R> for Reading {
+    fn run(&self, rt: &R, alloc: Global, refused: Option<Refused>) -> Result<Ran, Fail> {
+        let scene = Text {
+            call: *self,
+            file: file(alloc, TWO_BATCHES)?,
+            source: source(alloc)?,
+            bytes: Vec::new(alloc),
+        };
+        run(rt, alloc, scene, refused)
+    }
+}
+
+/// A source of a text.
+fn source(alloc: Global) -> Result<MemorySource, Fail> {
+    Ok(MemorySource::new(Vec::from_slice(alloc, TWO_BATCHES.as_bytes())?))
+}
+
+/// A call with a file to be printed, a source to be read, and bytes that it may keep.
+#[derive(Drop)]
+struct Text {
+    call: Reading,
+    file: File,
+    source: MemorySource,
+    bytes: Vec<u8>,
+}
+
+/// What was read or printed.
+#[derive(Drop)]
+enum Read {
+    File(File),
+    Query(QueryText),
+    Bytes(Vec<u8>),
+    Job(Job),
+    Text(String),
+}
+
+impl<R> Scene<R> for Text {
+    type Answer = Read;
+
+    fn renew(&mut self, alloc: Global) -> Result<(), Fail> {
+        self.source = source(alloc)?;
+        self.bytes = Vec::from_slice(alloc, TWO_BATCHES.as_bytes())?;
+        Ok(())
+    }
+
+    fn call(&mut self, _rt: &R, alloc: Global) -> Result<Read, Stop> {
+        match self.call {
+            Reading::ReadFile => Ok(Read::File(read_file(alloc, TWO_BATCHES.as_bytes())?)),
+            Reading::ReadFileFromVec => {
+                let bytes = mem::replace(&mut self.bytes, Vec::new(alloc));
+                Ok(Read::File(read_file_from_vec(alloc, bytes)?))
+            }
+            Reading::ReadQuery => Ok(Read::Query(read_query(alloc, BY_TEXT.as_bytes())?)),
+            Reading::ReadWhole if self.source.failures() == 0 => {
+                Ok(Read::Bytes(read_whole(alloc, &mut self.source)?))
+            }
+            Reading::ReadWhole => Err(Stop::Other),
+            Reading::Job => Ok(Read::Job(job(alloc, &WORDS)?)),
+            Reading::PrintFile => Ok(Read::Text(print_file(alloc, &self.file)?)),
+        }
+    }
+
+    /// What a source gave before it wanted memory is gone.
+    fn tell(&mut self, _rt: &R, told: &mut String) -> Result<(), Fail> {
+        tell_file(told, &self.file)
+    }
+
+    fn tell_answer(told: &mut String, answer: &Read) -> Result<(), Fail> {
+        match answer {
+            Read::File(file) => tell_file(told, file)?,
+            Read::Query(query) => write!(told, "{query:?}")?,
+            Read::Bytes(bytes) => write!(told, "{bytes:?}")?,
+            Read::Job(job) => write!(told, "{job:?}")?,
+            Read::Text(text) => told.push_str(text.as_str())?,
+        }
+        Ok(())
+    }
+}
