@@ -2,6 +2,7 @@
 
 mod alone;
 mod deep;
+mod hostile;
 mod over;
 
 use Held::{Bytes, Int32s, Nothing};
@@ -11,7 +12,7 @@ use colbits::Buffer;
 use std::alloc::Global;
 use std::process::Abort;
 use std::test::Fail;
-use test_samples::{INT32, lists_of, raw, shows_numbers};
+use test_samples::{INT32, Positions, lists_of, raw, shows_numbers};
 
 /// A type that isn't a list: of numbers the width, and whether they are signed.
 #[derive(Clone, Copy)]
@@ -75,13 +76,12 @@ fn buffer(alloc: Global, held: Held) -> Result<Option<Buffer>, Fail> {
     Ok(Some(Buffer::from_vec(bytes)?))
 }
 
-/// The fault of an array over its children and its dictionary.
-fn fault_of(
-    alloc: Global,
-    own: Part,
-    children: &[Part],
-    dictionary: Option<Part>,
-) -> Result<Option<LayoutFault>, Fail> {
+/// A part over its children and its dictionary.
+type Whole = (Part, &'static [Part], Option<Part>);
+
+/// The parts with what stands in them.
+fn assembled(alloc: Global, whole: Whole) -> Result<RawArray, Fail> {
+    let (own, children, dictionary) = whole;
     let mut array = parts(alloc, own)?;
     for child in children {
         array.children.push(parts(alloc, *child)?)?;
@@ -89,11 +89,8 @@ fn fault_of(
     if let Some(entries) = dictionary {
         array.dictionary = Some(Box::new(alloc, parts(alloc, entries)?)?);
     }
-    Ok(validate(alloc, array).err())
+    Ok(array)
 }
-
-/// A part over its children and its dictionary.
-type Whole = (Part, &'static [Part], Option<Part>);
 
 /// Asserts the fault of each, in groups of one fault.
 fn expect_faults(
@@ -102,30 +99,41 @@ fn expect_faults(
     groups: &[(Option<LayoutFault>, &[Whole])],
 ) -> Result<(), Fail> {
     for (fault, wholes) in groups {
-        for (i, (own, children, dictionary)) in wholes.iter().enumerate() {
-            let told = fault_of(alloc, *own, *children, *dictionary)?;
+        for (i, whole) in wholes.iter().enumerate() {
+            let told = validate(alloc, assembled(alloc, *whole)?).err();
             assert!(rt; told == *fault, "{told:?} for {fault:?}, {i}");
         }
     }
     Ok(())
 }
 
-/// The number 42 in so many lists of one slot.
-fn in_lists(alloc: Global, lists: usize) -> Result<RawArray, Fail> {
-    let int = DataType::Int(INT32);
-    let mut parts = raw(alloc, int, 1, &[None, Some(&[42, 0, 0, 0])])?;
-    for depth in 1..=lists {
-        let ty = lists_of(alloc, depth, DataType::Int(INT32))?;
-        let mut list = raw(alloc, ty, 1, &[None, Some(&[0, 0, 0, 0, 1, 0, 0, 0])])?;
-        list.children.push(parts)?;
-        parts = list;
+/// An array in so many lists of one slot, each of these positions.
+fn in_lists(
+    alloc: Global,
+    lists: usize,
+    array: RawArray,
+    slot: Positions,
+) -> Result<RawArray, Fail> {
+    let mut inner = array;
+    for _list in 0..lists {
+        let ty = lists_of(alloc, 1, inner.ty.copy(alloc)?)?;
+        let mut list = raw(alloc, ty, 1, slot)?;
+        list.children.push(inner)?;
+        inner = list;
     }
-    Ok(parts)
+    Ok(inner)
 }
+
+/// The number 42.
+const NUMBER: Positions = &[None, Some(&[42, 0, 0, 0])];
+
+/// A slot of one item.
+const ONE_ITEM: Positions = &[None, Some(&[0, 0, 0, 0, 1, 0, 0, 0])];
 
 #[test]
 fn reads_the_number_in_eight_lists(rt: HostRuntime) -> Result<(), Fail> {
-    let array = validate(rt.alloc(), in_lists(rt.alloc(), 8)?)?;
+    let number = raw(rt.alloc(), DataType::Int(INT32), 1, NUMBER)?;
+    let array = validate(rt.alloc(), in_lists(rt.alloc(), 8, number, ONE_ITEM)?)?;
     let mut view = array.view();
     for _list in 0..8 {
         assert!(rt; matches!(view.ty(), ViewType::List(_)) && view.len() == 1);

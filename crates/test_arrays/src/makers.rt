@@ -5,7 +5,7 @@ ghost use Rattle.arrays.specs.Item.{int, null};
 ghost use Rattle.arrays.specs.Kind as kind;
 ghost use Rattle.arrays.specs.Kind.{int32};
 
-use arrays::{Array, DataType, IntBuilder, LayoutFault, ViewType, Words};
+use arrays::{Array, DataType, IntBuilder, IntType, LayoutFault, ViewType, Words};
 use colbits::Buffer;
 use std::alloc::Global;
 use std::process::Abort;
@@ -78,14 +78,18 @@ fn makes_and_copies_lists_with_their_items_field(rt: HostRuntime) -> Result<(), 
     Ok(())
 }
 
-/// Lists over the numbers 1, 2 and 3, of which the second is null, with these offsets from outside.
-fn tried(alloc: Global, offsets: &[u8]) -> Result<Result<Array, LayoutFault>, Fail> {
+/// What lists from outside say of themselves: the type of their items, how many they are, their bitmap and offsets.
+type Outside<'a> = (IntType, u32, &'a [u8], &'a [u8]);
+
+/// Lists from outside over the numbers 1, 2 and 3.
+fn tried(alloc: Global, outside: Outside<'_>) -> Result<Result<Array, LayoutFault>, Fail> {
+    let (item, len, validity, offsets) = outside;
     let values = Buffer::from_bytes(alloc, &[1, 0, 2, 0, 3, 0])?;
     let child = Array::from_numbers(alloc, INT16, 3, None, values)?;
-    let item = field(alloc, "item", true, DataType::Int(INT16))?;
-    let validity = Buffer::from_bytes(alloc, &[0x05])?;
+    let item = field(alloc, "item", true, DataType::Int(item))?;
+    let validity = Buffer::from_bytes(alloc, validity)?;
     let offsets = Buffer::from_bytes(alloc, offsets)?;
-    Ok(Array::try_list(alloc, item, 3, Some(validity), offsets, child))
+    Ok(Array::try_list(alloc, item, len, Some(validity), offsets, child))
 }
 
 /// The offsets 1, 2, 3 and 3.
@@ -93,7 +97,7 @@ const LATE: &[u8] = &[1, 0, 0, 0, 2, 0, 0, 0, 3, 0, 0, 0, 3, 0, 0, 0];
 
 #[test]
 fn makes_lists_of_offsets_from_outside(rt: HostRuntime) -> Result<(), Fail> {
-    let array = tried(rt.alloc(), LATE)??;
+    let array = tried(rt.alloc(), (INT16, 3, &[0x05], LATE))??;
     let view = array.view();
     assert!(rt; shows_lists(&view, &[Some(&[Some(2)]), None, Some(&[])]));
     assert!(rt; has_item(&view, "item", true));
@@ -111,18 +115,30 @@ const PAST: &[u8] = &[0, 0, 0, 0, 1, 0, 0, 0, 3, 0, 0, 0, 4, 0, 0, 0];
 const SHORT: &[u8] = &[0, 0, 0, 0, 1, 0, 0, 0, 3, 0, 0, 0];
 
 #[test]
-fn tells_what_is_wrong_with_offsets(rt: HostRuntime) -> Result<(), Fail> {
-    let cases = [
-        (NEGATIVE, LayoutFault::OffsetNegative),
-        (DECREASING, LayoutFault::OffsetDecreases { row: 1 }),
-        (PAST, LayoutFault::OffsetPastEnd),
-        (SHORT, LayoutFault::BufferTooShort),
+fn tells_what_is_wrong_with_lists_from_outside(rt: HostRuntime) -> Result<(), Fail> {
+    let cases: [(Outside<'_>, LayoutFault); 9] = [
+        ((INT16, 2147483648, &[0x05], OFFSETS), LayoutFault::TooLong),
+        ((INT32, 3, &[0x05], OFFSETS), LayoutFault::ChildDiffers),
+        ((INT16, 3, &[], OFFSETS), LayoutFault::BufferTooShort),
+        ((INT16, 3, &[0x05], SHORT), LayoutFault::BufferTooShort),
+        (
+            (INT16, 2147483647, &[0x05], OFFSETS),
+            LayoutFault::BufferTooShort,
+        ),
+        ((INT16, 3, &[0x05], NEGATIVE), LayoutFault::OffsetNegative),
+        (
+            (INT16, 0, &[], &[0, 0, 0, 0x80]),
+            LayoutFault::OffsetNegative,
+        ),
+        (
+            (INT16, 3, &[0x05], DECREASING),
+            LayoutFault::OffsetDecreases { row: 1 },
+        ),
+        ((INT16, 3, &[0x05], PAST), LayoutFault::OffsetPastEnd),
     ];
-    for (offsets, fault) in cases {
-        assert!(rt;
-            tried(rt.alloc(), offsets)?.err() == Some(fault),
-            "{fault:?}"
-        );
+    for (outside, fault) in cases {
+        let told = tried(rt.alloc(), outside)?.err();
+        assert!(rt; told == Some(fault), "{told:?} for {fault:?}");
     }
     Ok(())
 }

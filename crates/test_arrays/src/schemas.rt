@@ -54,7 +54,19 @@ const BATCHES: &[(Columns, Option<BatchFault>)] = &[
     ((&[INT32, INT16], 2, &[(INT32, 2), (INT16, 2)]), None),
     // A batch without columns may have rows, but not too many.
     ((&[], 3, &[]), None),
+    ((&[], 2147483647, &[]), None),
     ((&[], 2147483648, &[]), Some(LengthsDiffer { column: 0 })),
+    ((&[], u32::MAX, &[]), Some(LengthsDiffer { column: 0 })),
+    ((&[], 2, &[(INT32, 2)]), Some(ColumnCount)),
+    (
+        (&[INT32], 2147483648, &[(INT32, 2)]),
+        Some(LengthsDiffer { column: 0 }),
+    ),
+    // A type that differs comes before a length.
+    (
+        (&[INT32, INT32], 2, &[(INT32, 1), (INT16, 2)]),
+        Some(TypeDiffers { column: 1 }),
+    ),
 ];
 
 const ZEROS: Positions = &[None, Some(&[0, 0, 0, 0, 0, 0, 0, 0])];

@@ -1,0 +1,132 @@
+//! Arrays that a stranger may hand in, as rows: each with its name, in groups of one fault. Beside those that are refused
+//! stand those that are lawful, or have the next fault, a step from them.
+
+mod depths;
+mod dictionaries;
+mod forms;
+mod lengths;
+mod lists;
+mod numbers;
+mod orders;
+mod texts;
+mod validity;
+
+use super::Inner::{self, Numbers};
+use super::in_lists;
+use Place::{Entries, InLists, InNulls, Top};
+use arrays::{DataType, LayoutFault, RawArray, Width, validate};
+use forms::Form;
+use std::alloc::Global;
+use std::process::Abort;
+use std::test::Fail;
+use test_samples::{Positions, raw};
+
+/// What it is, and its parts.
+type Row = (&'static str, Form);
+
+/// The rows of one fault, or of none.
+type Group = (Option<LayoutFault>, &'static [Row]);
+
+/// Where an array stands. Nothing above it names any of its slots, and all of them are looked at.
+#[derive(Clone, Copy, Debug)]
+enum Place {
+    Top,
+    /// In so many lists in one another.
+    InLists(usize),
+    /// In so many lists in one another that are null.
+    InNulls(usize),
+    /// As the texts of a dictionary.
+    Entries,
+}
+
+/// Each place of an array of no lists and no codes.
+const ANYWHERE: &[Place] = &[
+    Top,
+    InLists(1),
+    InLists(2),
+    InLists(8),
+    InNulls(1),
+    InNulls(8),
+];
+
+/// Each place of an array of lists.
+const OF_LISTS: &[Place] = &[
+    Top,
+    InLists(1),
+    InLists(2),
+    InLists(7),
+    InNulls(1),
+    InNulls(7),
+];
+
+/// Each place of an array of texts.
+const OF_TEXTS: &[Place] = &[
+    Top,
+    InLists(1),
+    InLists(2),
+    InLists(8),
+    InNulls(1),
+    InNulls(8),
+    Entries,
+];
+
+const INT8: Inner = Numbers(Width::W8, true);
+
+const INT64: Inner = Numbers(Width::W64, true);
+
+/// A list without items.
+const NO_ITEMS: Positions = &[None, Some(&[0; 8])];
+
+/// The same, under a null.
+const NULL_ITEMS: Positions = &[Some(&[0]), Some(&[0; 8])];
+
+/// A null over the code 0.
+const NULL_CODE: Positions = &[Some(&[0]), Some(&[0; 4])];
+
+/// The array at its place. What stands above it is lawful if the place is one for its type.
+fn placed(alloc: Global, place: Place, array: RawArray) -> Result<RawArray, Fail> {
+    match place {
+        Top => Ok(array),
+        InLists(lists) => in_lists(alloc, lists, array, NO_ITEMS),
+        InNulls(lists) => in_lists(alloc, lists, array, NULL_ITEMS),
+        Entries => {
+            let mut codes = raw(alloc, DataType::Dict, 1, NULL_CODE)?;
+            codes.dictionary = Some(Box::new(alloc, array)?);
+            Ok(codes)
+        }
+    }
+}
+
+/// Asserts the fault of an array at each place.
+fn expect_at(
+    rt: &impl Abort,
+    alloc: Global,
+    places: &[Place],
+    row: Row,
+    fault: Option<LayoutFault>,
+) -> Result<(), Fail> {
+    let (name, form) = row;
+    for place in places {
+        let array = placed(alloc, *place, form.parts(alloc)?)?;
+        let told = validate(alloc, array).err();
+        assert!(rt; told == fault, "{told:?} for {fault:?}: {name}, {place:?}");
+    }
+    Ok(())
+}
+
+/// Asserts the fault of each row, at each place.
+fn expect_rows(rt: &impl Abort, alloc: Global, places: &[Place], group: Group) -> Result<(), Fail> {
+    let (fault, rows) = group;
+    for row in rows {
+        expect_at(rt, alloc, places, *row, fault)?;
+    }
+    Ok(())
+}
+
+/// Asserts the fault of each row of each group, at each place.
+fn expect(rt: &impl Abort, alloc: Global, places: &[Place], groups: &[Group]) -> Result<(), Fail> {
+    for group in groups {
+        expect_rows(rt, alloc, places, *group)?;
+    }
+    Ok(())
+}

@@ -1,0 +1,336 @@
+//! Lists: positions, offsets and the one child.
+
+use super::Place::{InLists, InNulls, Top};
+use super::forms::Form::{Lists, Over};
+use super::{Group, INT8, INT64, OF_LISTS, expect};
+use crate::layouts::Held::{self, Bytes, Int32s, Nothing};
+use crate::layouts::Inner::{Bits, Indices, Numbers, Texts};
+use crate::layouts::Part;
+use arrays::LayoutFault::{
+    BufferTooShort, ChildDiffers, ExtraBuffer, MissingBuffer, NotUtf8, NullCountDiffers,
+    OffsetDecreases, OffsetNegative, OffsetPastEnd,
+};
+use arrays::Width;
+use std::test::Fail;
+
+const EMPTY: Held = Bytes(&[]);
+
+const NUMBERS: Part = (0, INT8, 0, None, &[Nothing, EMPTY]);
+
+const POSITIONS: &[Group] = &[
+    (
+        Some(MissingBuffer),
+        &[
+            (
+                "no position",
+                Over((1, INT8, 0, None, &[]), &[NUMBERS], None),
+            ),
+            (
+                "a bitmap alone",
+                Over((1, INT8, 1, None, &[Bytes(&[1])]), &[NUMBERS], None),
+            ),
+            (
+                "nothing as offsets",
+                Over((1, INT8, 0, None, &[EMPTY, Nothing]), &[NUMBERS], None),
+            ),
+        ],
+    ),
+    (
+        None,
+        &[(
+            "two",
+            Over((1, INT8, 0, None, &[EMPTY; 2]), &[NUMBERS], None),
+        )],
+    ),
+    (
+        Some(ExtraBuffer),
+        &[
+            (
+                "three",
+                Over((1, INT8, 0, None, &[EMPTY; 3]), &[NUMBERS], None),
+            ),
+            (
+                "a third without bytes",
+                Over(
+                    (1, INT8, 0, None, &[EMPTY, EMPTY, Nothing]),
+                    &[NUMBERS],
+                    None,
+                ),
+            ),
+        ],
+    ),
+];
+
+/// Offsets and bitmaps that are too few.
+const SIZES: &[Group] = &[
+    (
+        None,
+        &[
+            ("0, an offset", Lists(0, None, &[0], 0)),
+            ("0, no offset, two items", Lists(0, None, &[], 2)),
+            ("1, two offsets", Lists(1, None, &[0, 0], 2)),
+            ("8, a byte of bits", Lists(8, Some(&[0]), &[0; 9], 2)),
+        ],
+    ),
+    (
+        Some(BufferTooShort),
+        &[
+            (
+                "0, a byte",
+                Over(
+                    (1, INT8, 0, None, &[Nothing, Bytes(&[0])]),
+                    &[NUMBERS],
+                    None,
+                ),
+            ),
+            (
+                "0, three bytes",
+                Over(
+                    (1, INT8, 0, None, &[Nothing, Bytes(&[0; 3])]),
+                    &[NUMBERS],
+                    None,
+                ),
+            ),
+            ("1, no offset", Lists(1, None, &[], 2)),
+            ("1, an offset", Lists(1, None, &[0], 2)),
+            (
+                "1, a byte less",
+                Over(
+                    (1, INT8, 1, None, &[Nothing, Bytes(&[0; 7])]),
+                    &[NUMBERS],
+                    None,
+                ),
+            ),
+            ("1, no byte of bits", Lists(1, Some(&[]), &[0, 0], 2)),
+            ("9, a byte of bits", Lists(9, Some(&[0]), &[0; 10], 2)),
+        ],
+    ),
+];
+
+const RISING: &[Group] = &[
+    (
+        None,
+        &[
+            ("-1 behind the last", Lists(1, None, &[0, 2, -1], 2)),
+            ("all the same", Lists(2, None, &[2, 2, 2], 2)),
+        ],
+    ),
+    (
+        Some(OffsetNegative),
+        &[
+            ("-1 of none", Lists(0, None, &[-1], 2)),
+            ("-2^31 first", Lists(1, None, &[i32::MIN, 2], 2)),
+            // As an unsigned number it would be 2^31.
+            ("-2^31 last", Lists(1, None, &[0, i32::MIN], 2)),
+            ("-1 between nulls", Lists(2, Some(&[0]), &[0, -1, 2], 2)),
+        ],
+    ),
+    (
+        Some(OffsetDecreases { row: 0 }),
+        &[
+            ("the first", Lists(2, None, &[1, 0, 2], 2)),
+            ("each null", Lists(2, Some(&[0]), &[2, 1, 0], 2)),
+            ("from 2^31 - 1", Lists(1, None, &[i32::MAX, 0], 2)),
+        ],
+    ),
+    (
+        Some(OffsetDecreases { row: 1 }),
+        &[
+            ("the last", Lists(2, None, &[0, 2, 1], 2)),
+            ("from past the end", Lists(2, None, &[0, i32::MAX, 2], 2)),
+        ],
+    ),
+];
+
+const PAST_END: &[Group] = &[
+    (
+        None,
+        &[
+            ("at the end", Lists(1, None, &[0, 2], 2)),
+            ("empty at the end", Lists(1, None, &[2, 2], 2)),
+            ("none at the end", Lists(0, None, &[2], 2)),
+        ],
+    ),
+    // The child has bytes for one more, and no slot.
+    (
+        Some(OffsetPastEnd),
+        &[
+            ("an item more", Lists(1, None, &[0, 3], 2)),
+            ("an item of none", Lists(1, None, &[0, 1], 0)),
+            ("2^31 - 1", Lists(1, None, &[0, i32::MAX], 2)),
+            ("empty past the end", Lists(1, None, &[3, 3], 2)),
+            ("null past the end", Lists(1, Some(&[0]), &[0, 3], 2)),
+            ("none past the end", Lists(0, None, &[3], 2)),
+        ],
+    ),
+];
+
+/// Two nulls.
+const NULLS: Part = (0, INT8, 2, Some(2), &[Bytes(&[0]), Bytes(&[7; 2])]);
+
+const COUNTS: &[Group] = &[
+    (
+        None,
+        &[
+            (
+                "0 without bits",
+                Over(
+                    (1, INT8, 1, Some(0), &[Nothing, Int32s(&[0, 0])]),
+                    &[NULLS],
+                    None,
+                ),
+            ),
+            (
+                "1 of two",
+                Over(
+                    (1, INT8, 2, Some(1), &[Bytes(&[2]), Int32s(&[0, 0, 2])]),
+                    &[NULLS],
+                    None,
+                ),
+            ),
+        ],
+    ),
+    (
+        Some(NullCountDiffers),
+        &[
+            (
+                "an empty one as null",
+                Over(
+                    (1, INT8, 1, Some(1), &[Nothing, Int32s(&[0, 0])]),
+                    &[NULLS],
+                    None,
+                ),
+            ),
+            (
+                "7 past the lists",
+                Over(
+                    (1, INT8, 2, Some(7), &[Bytes(&[2]), Int32s(&[0, 0, 2])]),
+                    &[NULLS],
+                    None,
+                ),
+            ),
+            (
+                "those of the items",
+                Over(
+                    (1, INT8, 1, Some(2), &[Bytes(&[1]), Int32s(&[0, 2])]),
+                    &[NULLS],
+                    None,
+                ),
+            ),
+        ],
+    ),
+];
+
+const UNSIGNED: Part = (0, Numbers(Width::W8, false), 0, None, &[Nothing, EMPTY]);
+
+const LONG: Part = (0, INT64, 0, None, &[Nothing, EMPTY]);
+
+const TRUTHS: Part = (0, Bits, 0, None, &[Nothing, EMPTY]);
+
+const TEXTS: Part = (0, Texts, 0, None, &[EMPTY; 3]);
+
+const CODES: Part = (0, Indices, 0, None, &[Nothing, EMPTY]);
+
+const LISTS: Part = (1, INT8, 0, None, &[Nothing, EMPTY]);
+
+const CHILDREN: &[Group] = &[
+    (None, &[("its child", Over(LISTS, &[NUMBERS], None))]),
+    (
+        Some(ChildDiffers),
+        &[
+            ("none", Over(LISTS, &[], None)),
+            ("three", Over(LISTS, &[NUMBERS, NUMBERS, NUMBERS], None)),
+            ("and then another", Over(LISTS, &[NUMBERS, TEXTS], None)),
+            ("and a dictionary", Over(LISTS, &[NUMBERS], Some(TEXTS))),
+            ("without a sign", Over(LISTS, &[UNSIGNED], None)),
+            ("of another width", Over(LISTS, &[LONG], None)),
+            ("truth values", Over(LISTS, &[TRUTHS], None)),
+            ("lists", Over(LISTS, &[LISTS], None)),
+        ],
+    ),
+];
+
+/// A list of no texts, over two.
+const OF_TEXT: Part = (1, Texts, 1, None, &[Bytes(&[0]), Int32s(&[1, 1])]);
+
+const SPOILT: Part = (
+    0,
+    Texts,
+    2,
+    None,
+    &[Nothing, Int32s(&[0, 1, 2]), Bytes(b"a\xff")],
+);
+
+const COVERED: Part = (
+    0,
+    Texts,
+    2,
+    None,
+    &[Bytes(&[1]), Int32s(&[0, 1, 2]), Bytes(b"a\xff")],
+);
+
+const UNNAMED: &[Group] = &[
+    (None, &[("under a null", Over(OF_TEXT, &[COVERED], None))]),
+    (
+        Some(NotUtf8 { row: 1 }),
+        &[("valid", Over(OF_TEXT, &[SPOILT], None))],
+    ),
+];
+
+const LISTS_OF_LISTS: Part = (2, INT8, 0, None, &[Nothing, EMPTY]);
+
+const LISTS_OF_CODES: Part = (1, Indices, 0, None, &[Nothing, EMPTY]);
+
+/// Children of another depth, and codes.
+const DEEPER: &[Group] = &[(
+    Some(ChildDiffers),
+    &[
+        ("over numbers", Over(LISTS_OF_LISTS, &[NUMBERS], None)),
+        (
+            "over the same",
+            Over(LISTS_OF_LISTS, &[LISTS_OF_LISTS], None),
+        ),
+        ("over lists of none", Over(LISTS_OF_LISTS, &[LISTS], None)),
+        (
+            "texts that are codes",
+            Over((1, Texts, 0, None, &[Nothing, EMPTY]), &[CODES], None),
+        ),
+        (
+            "codes that are texts",
+            Over(LISTS_OF_CODES, &[TEXTS], Some(TEXTS)),
+        ),
+        (
+            "lists of codes",
+            Over(
+                (2, Indices, 0, None, &[Nothing, EMPTY]),
+                &[LISTS_OF_CODES],
+                None,
+            ),
+        ),
+    ],
+)];
+
+#[test]
+fn lists_have_two_positions_of_enough_bytes(rt: HostRuntime) -> Result<(), Fail> {
+    expect(&rt, rt.alloc(), OF_LISTS, POSITIONS)?;
+    expect(&rt, rt.alloc(), OF_LISTS, SIZES)?;
+    expect(&rt, rt.alloc(), OF_LISTS, COUNTS)
+}
+
+#[test]
+fn offsets_of_lists_rise_and_end_with_the_items(rt: HostRuntime) -> Result<(), Fail> {
+    expect(&rt, rt.alloc(), OF_LISTS, RISING)?;
+    expect(&rt, rt.alloc(), OF_LISTS, PAST_END)
+}
+
+#[test]
+fn lists_have_the_one_child_of_their_items(rt: HostRuntime) -> Result<(), Fail> {
+    expect(&rt, rt.alloc(), OF_LISTS, CHILDREN)?;
+    expect(&rt, rt.alloc(), OF_LISTS, UNNAMED)?;
+    expect(
+        &rt,
+        rt.alloc(),
+        &[Top, InLists(1), InLists(6), InNulls(6)],
+        DEEPER,
+    )
+}
