@@ -74,9 +74,6 @@ no_item (suc m) (suc r) = no_item m r
 pub seen_rows : (m : ℕ) (columns : List Seen) (rows : List ℕ) → items_at (replicate m null) rows ≡ map (λ r. item_for agg.Rows (row_of columns r)) rows
 seen_rows m columns rows = alike (λ r. slice_index_or (replicate m null) r null) (λ r. item_for agg.Rows (row_of columns r)) rows (λ r. no_item m r)
 
-pub within_column : (b : Batch) (place : ℕ) (s : Seen) (rows : List ℕ) → IsColumn b place s → All (λ r. r < b.rows) rows → All (λ r. r < length s.items) rows
-within_column b place s rows is h = subst (λ n. All (λ r. r < n) rows) (sym is.len) h
-
 -- ---- rows more
 
 abbrev pub shape : Agg ℕ → List TallyShape → ColumnShape
@@ -139,9 +136,6 @@ column_grown show a s n old new x is none grows =
     ap (λ l. shape a (map show l)) grows
     ∙ ap (shape a) (map_padded show n x old ∙ ap (λ t. padded n t (map show old)) none)
     ∙ ap (λ (t : ColumnShape). shape t.agg (padded n (tally_of t.agg []) t.tallies)) (sym is)
-
-pub few_before : {C : Type 0} (show : C → TallyShape) (a : Agg ℕ) (s : ColumnShape) (n : ℕ) (old : List C) → s ≡ shape a (map show old) → length s.tallies ≤ n → length old ≤ n
-few_before show a s n old is few = omega (arith, few, ap (λ (t : ColumnShape). length t.tallies) is, length-map old show)
 
 pub shape_padded : (s t : ColumnShape) (tables : List Table) (n : ℕ) → s ≡ column_of tables s.agg → t ≡ shape s.agg (padded n (tally_of s.agg []) s.tallies) → t ≡ column_of (padded n [] tables) s.agg
 shape_padded s t tables n h is =

@@ -2,14 +2,13 @@
 use Rattle.std.proofs.Common.{◌≡◌, ◌∙◌, ℕ, ◌+◌, List, [], Option, Some, None, get_or, ◌∷◌, ◌++◌, filter, length, length-append, map, replicate, refl, sym, ap, subst}
 use Rattle.std.specs.Prelude.{slice_set}
 use Rattle.std.proofs.lemmas.List.{length-map}
-use Rattle.arrays.specs.Batch.{Batch, Table}
+use Rattle.arrays.specs.Batch.{Table}
 use Rattle.types.specs.Shape.{FieldShape}
 use Rattle.query.specs.Tree.{Tree}
 use Rattle.query.specs.declared.expr.Agg.{Agg}
 use Rattle.query.specs.declared.expr.Agg.TheVariants.{Rows}
 use Rattle.answers.specs.Columns.{ColumnShape, column_of, rows_column, show_column}
 use Rattle.answers.specs.Groups.{is_kept, key_of, keys_of, rows_of_key}
-use Rattle.answers.specs.Runs.{AreSound}
 use Rattle.answers.specs.declared.column.TallyColumn.{TallyColumn}
 use Rattle.answers.specs.Grouping.{IsGrouped, tables_of}
 use Rattle.answers.specs.Keys.{with_keys}
@@ -83,7 +82,3 @@ pub all_kept : (fields : List FieldShape) (f : Option (Tree ℕ)) (rows : Table)
 all_kept fields (Some t) rows none = absurd cc
 all_kept fields None [] none = refl
 all_kept fields None (r ∷ rows) none = ap (λ (l : Table). r ∷ l) (all_kept fields None rows none)
-
-pub all_sound : (b : Batch) (start n : ℕ) (f : Option (Tree ℕ)) → f ≡ None → AreSound b start n f
-all_sound b start n (Some t) none = absurd cc
-all_sound b start n None none = record { each = λ i below. refl }

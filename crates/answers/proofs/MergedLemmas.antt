@@ -1,7 +1,6 @@
 -- The tallies of groups, to which those of the rows behind are added.
-use Rattle.std.proofs.Common.{◌≡◌, ◌∙◌, ℕ, zero, suc, ◌+◌, ◌<◌, ◌≤◌, ◌^◌, ℤ, pos, ◌+ℤ◌, false, cond, List, [], ◌∷◌, ◌++◌, length, map, take, drop, replicate, ◌-◌, get_or, Option, Some, None, option_map, Result, Ok, Err, OnOk, refl, sym, ap, subst, arith, length-append}
+use Rattle.std.proofs.Common.{◌≡◌, ◌∙◌, ℕ, zero, suc, ◌+◌, ◌<◌, ◌≤◌, ◌^◌, false, cond, List, [], ◌∷◌, ◌++◌, length, map, take, drop, replicate, ◌-◌, get_or, Option, Some, None, option_map, Result, Ok, Err, OnOk, refl, sym, ap, subst, arith, length-append}
 use Rattle.std.specs.Prelude.{All, slice_index_or, slice_set}
-use Rattle.std.proofs.lemmas.Int.{ints}
 use Rattle.std.proofs.lemmas.List.{get_or-map, get_or-set_same, length-map, length-replicate, length-set, length-take, map-append, take-map, take_more}
 use Rattle.std.proofs.lemmas.List.Elements.{All-append, All-cons, All-filter, All-get_or, All-head, All-map, All-nil, All-replicate, All-set, All-tail, All-weaker}
 use Rattle.arrays.specs.Batch.{Row, Table}
@@ -23,7 +22,6 @@ use Rattle.answers.specs.Merging.{AreAlike, AreFew, column_merged, merge_all, me
 use Rattle.answers.specs.Same.{same_key}
 use Rattle.answers.specs.Spread.{padded}
 use Rattle.answers.specs.Tallies.{TallyShape, bettered, counted, item_for, items_for, tally_of}
-use Rattle.answers.specs.Totals.{sum_if_any}
 use Rattle.query.specs.declared.queries.Query.{Query}
 use Rattle.answers.specs.declared.grouping.Grouping.{Grouping}
 use Rattle.answers.specs.declared.end.End.{End}
@@ -36,21 +34,6 @@ use Rattle.answers.proofs.SpreadLemmas.{set_shown}
 use Rattle.answers.proofs.TallyLemmas.{counts_few, item_first, not_better, some_cond}
 
 -- ---- one cell
-
-pub totals_merged : (m n r : ℕ) (x y z : ℤ) → (m ≡ 0 → x ≡ pos 0) → (n ≡ 0 → y ≡ pos 0) → r ≡ m + n → z ≡ x +ℤ y
-    → sum_if_any r z ≡ better ◌+ℤ◌ (sum_if_any m x) (sum_if_any n y)
-totals_merged zero zero r x y z ex ey er ez = ap (λ k. sum_if_any k z) er
-totals_merged zero (suc n) r x y z ex ey er ez =
-    let k : r ≡ suc n = omega (arith, er) in
-    let s : z ≡ y = omega (arith, ints, ez, ex refl) in
-    ap (λ k. sum_if_any k z) k ∙ ap Some s
-totals_merged (suc m) zero r x y z ex ey er ez =
-    let k : r ≡ suc m = omega (arith, er) in
-    let s : z ≡ x = omega (arith, ints, ez, ey refl) in
-    ap (λ k. sum_if_any k z) k ∙ ap Some s
-totals_merged (suc m) (suc n) r x y z ex ey er ez =
-    let k : r ≡ suc (m + suc n) = omega (arith, er) in
-    ap (λ k. sum_if_any k z) k ∙ ap Some ez
 
 pub merged_end : (end : End) (c : ℕ) (s t : TallyShape) → merged (agg_at end c) s t ≡ bettered (better (further end) s.best t.best)
 merged_end Least c s t = refl
@@ -75,13 +58,6 @@ merge_all-push a [] [] tallies n t h = refl
 merge_all-push a [] (x ∷ more) tallies n t h = absurd (omega (arith, h))
 merge_all-push a (m ∷ ns) [] tallies n t h = absurd (omega (arith, h))
 merge_all-push a (m ∷ ns) (x ∷ more) tallies n t h = merge_all-push a ns more (slice_set tallies m (merged a (slice_index_or tallies m (counted 0)) x)) n t (omega (arith, h))
-
-pub length-merge_all : (a : Agg ℕ) (ns : List ℕ) (more tallies : List TallyShape) → length (merge_all a ns more tallies) ≡ length tallies
-length-merge_all a [] more tallies = refl
-length-merge_all a (n ∷ ns) [] tallies = refl
-length-merge_all a (n ∷ ns) (t ∷ more) tallies =
-    let x = merged a (slice_index_or tallies n (counted 0)) t in
-    length-merge_all a ns more (slice_set tallies n x) ∙ length-set tallies n x
 
 module _ {C : Type 0} (show : C → TallyShape) (a : Agg ℕ) (old cells others : List C) (numbers : List ℕ) (i n : ℕ) (cell other : C)
     (below : i < length numbers) (lengths : length numbers ≡ length others) (at : n ≡ get_or numbers i 0) (is : other ≡ get_or others i other)

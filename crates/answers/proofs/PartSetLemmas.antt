@@ -1,6 +1,6 @@
 -- Keys in a set, and their parts.
 use lib.Pointwise.{pointwise, pointwise_decides}
-use Rattle.std.proofs.Common.{◌≡◌, ◌∙◌, ℕ, ℤ, pos, negsuc, ◌+ℤ◌, ◌-ℤ◌, ◌≤ℤ◌, arith, ◌+◌, ◌<◌, ◌≤◌, Bool, true, false, ◌&&◌, ◌||◌, cond, ltb, List, [], ◌∷◌, ◌++◌, length, map, take, get_or, Some, refl, rules, sym, ap, true≢false}
+use Rattle.std.proofs.Common.{◌≡◌, ◌∙◌, ℕ, ℤ, pos, negsuc, ◌+ℤ◌, ◌-ℤ◌, ◌≤ℤ◌, arith, ◌+◌, ◌^◌, ◌<◌, ◌≤◌, Bool, true, false, ◌&&◌, ◌||◌, cond, ltb, List, [], ◌∷◌, ◌++◌, length, map, take, get_or, Some, refl, rules, sym, ap, true≢false}
 use Rattle.std.specs.Prelude.{IfOk, Option, Result, Ok, Err, option_map, slice_get, int_lt, if◌then◌else◌}
 use Rattle.std.specs.Bool.{Decides}
 use Rattle.std.specs.Option.{ForSome}
@@ -106,14 +106,14 @@ module _ {K : Type 0} (f : K → List Part) (eq : K → K → Bool) (alike : (x 
 -- ---- numbers that stand for parts
 
 abbrev none : ℤ
-none = pos 1267650600228229401496703205376
+none = pos (2 ^ 100)
 
 abbrev last : ℤ
-last = pos 1267650600246676145570412756992
+last = pos (2 ^ 100 + 2 ^ 64)
 
 -- That of the first text.
 abbrev first : ℤ
-first = pos 1267650600228229401496703205377
+first = pos (2 ^ 100 + 1)
 
 -- The number that stands for a part.
 number_back : Part → ℤ
@@ -133,14 +133,14 @@ back_again : (z : ℤ) → number_back (part_of_number z) ≡ z
 unfolding number_back
 back_again (negsuc n) = refl
 back_again (pos n) = go (int_lt (pos n) none) (int_lt last (pos n)) (int_eq (pos n) none) refl refl where
-  go : (a b c : Bool) → ltb n 1267650600228229401496703205376 ≡ a → int_eq (pos n) none ≡ c
+  go : (a b c : Bool) → ltb n (2 ^ 100) ≡ a → int_eq (pos n) none ≡ c
       → number_back (if a || b then part.Int (pos n) else (if c then part.Null else part.Text (natural (pos n -ℤ first)))) ≡ pos n
   go true b c p q = refl
   go false true c p q = refl
   go false false true p q = sym ((Decides-int_eq (pos n) none).0 q)
   go false false false p q =
-      let least = ltb-false n 1267650600228229401496703205376 p in
-      let other : n ≡ 1267650600228229401496703205376 → ⊥ = λ e. true≢false (sym ((Decides-int_eq (pos n) none).1 (ap pos e)) ∙ q) in
+      let least = ltb-false n (2 ^ 100) p in
+      let other : n ≡ 2 ^ 100 → ⊥ = λ e. true≢false (sym ((Decides-int_eq (pos n) none).1 (ap pos e)) ∙ q) in
       behind (pos n) (omega (arith, ints, least, other))
 
 pub number_alike : (x y : ℤ) → int_eq x y ≡ same_parts (parts_of_number x) (parts_of_number y)

@@ -1,26 +1,24 @@
 -- The columns and the rows of lawful batches.
-use Rattle.std.proofs.Common.{◌≡◌, ◌∙◌, ℕ, ◌<◌, [], List, length, get_or, Bool, true, false, cond, is_ok, Option, Some, None, Result, Ok, Err, ap, sym, refl, arith, zero-add}
+use Rattle.std.proofs.Common.{◌≡◌, ◌∙◌, ℕ, ◌<◌, [], List, length, get_or, Bool, true, false, cond, is_ok, Option, Some, None, Result, Ok, Err, ap, sym, refl, arith}
 use Rattle.std.specs.Prelude.{slice_index_or}
 use Rattle.arrays.specs.Batch.{Batch, batch_fault}
-use Rattle.arrays.specs.Item.{Item, null}
+use Rattle.arrays.specs.Item.{null}
 use Rattle.arrays.specs.Kind as kind
 use Rattle.arrays.specs.Kind.{Kind}
-use Rattle.arrays.specs.Slot.{is_list, is_int}
+use Rattle.arrays.specs.Slot.{is_list}
 use Rattle.types.specs.Shape.{FieldShape, boolean, field, kind_of_field}
 use Rattle.query.specs.Columns.{sort_at}
 use Rattle.query.specs.Fault.{fault_unless}
-use Rattle.query.specs.Sorts as sorts
 use Rattle.query.specs.Sorts.{is_plain, sort_of_kind}
 use Rattle.query.specs.declared.fault.QueryFault.{QueryFault}
 use Rattle.query.specs.declared.fault.QueryFault.TheVariants.{WrongKind}
 use Rattle.query.specs.declared.sort.Sort.{Sort}
-use Rattle.arrays.specs.Seen.{Seen, valid_at}
-use Rattle.arrays.specs.Values.{valid_values}
+use Rattle.arrays.specs.Seen.{Seen}
 use Rattle.evaluate.proofs.ColumnLemmas.{whole, field_there, sort_there, row_item, place_within}
 use Rattle.answers.specs.Kinds.{kind_at}
 use Rattle.answers.specs.Rows.{IsColumn}
 use Rattle.std.proofs.lemmas.List.{get_or-map}
-use Rattle.std.proofs.lemmas.List.FromFn.{get_or-map-range_with_len, length-map-range_with_len}
+use Rattle.std.proofs.lemmas.List.FromFn.{length-map-range_with_len}
 use Rattle.types.specs.declared.int_type.IntType.{IntType}
 use Rattle.arrays.specs.Item.{int}
 use Rattle.arrays.specs.Number.{number_at}
@@ -55,14 +53,6 @@ kind_there b place c lawful ok is =
     ∙ (whole b.fields b.rows b.columns lawful).kind place c f (place_within b place lawful ok)
     ∙ sym (get_or-map kind_of_field b.fields place f kind.boolean (field_there b.fields place ok))
 
--- The value where the slot is valid, else null.
-pub valid_item : (value : ℕ → Item) (s : Seen) (i : ℕ) (b : Bool) → s.items ≡ valid_values value s → i < length s.items → valid_at s i ≡ b
-    → slice_index_or s.items i null ≡ cond b (value i) null
-valid_item value s i b are within is =
-    ap (λ l. slice_index_or l i null) are
-    ∙ get_or-map-range_with_len (λ j. cond (valid_at s j) (value j) null) 0 (length s.items) i i null within (zero-add i)
-    ∙ ap (λ b. cond b (value i) null) is
-
 -- Where there is no fault, there is a sort that passes.
 pub has_sort : (test : Sort → Bool) (r : Result Sort QueryFault) → fault_unless test r ≡ None → is_ok r ≡ true
 has_sort test (Ok s) h = refl
@@ -81,10 +71,3 @@ plain_is_no_list kind.boolean h = refl
 plain_is_no_list kind.utf8 h = refl
 plain_is_no_list (kind.list k) h = absurd cc
 plain_is_no_list kind.dict h = refl
-
-pub numbers_are_int : (k : Kind) → sorts.is_int (sort_of_kind k) ≡ true → is_int k ≡ true
-numbers_are_int (kind.int t) h = refl
-numbers_are_int kind.boolean h = absurd cc
-numbers_are_int kind.utf8 h = absurd cc
-numbers_are_int (kind.list k) h = absurd cc
-numbers_are_int kind.dict h = absurd cc

@@ -1,9 +1,9 @@
 -- The rows of a slice that are kept.
-use Rattle.std.proofs.Common.{◌≡◌, ◌∙◌, ℕ, zero, suc, ◌+◌, ◌<◌, ◌≤◌, Bool, true, false, cond, List, [], ◌∷◌, ◌++◌, length, get_or, filter, map, take, is_some, Option, Some, None, Result, Ok, Err, IfOk, IfErr, refl, sym, ap, subst, arith, append_assoc, below_more, zero-add}
+use Rattle.std.proofs.Common.{◌≡◌, ◌∙◌, ℕ, zero, suc, ◌+◌, ◌<◌, ◌≤◌, true, false, cond, List, [], ◌∷◌, ◌++◌, length, get_or, filter, map, take, is_some, Option, Some, None, Result, Ok, Err, IfOk, IfErr, refl, sym, ap, subst, arith, append_assoc, below_more, zero-add}
 use Rattle.std.specs.Prelude.{All, is_none, unwrap_or}
 use Rattle.std.specs.List.{range_with_len}
-use Rattle.std.proofs.lemmas.List.{append-nil, length-map, map-append, take_more}
-use Rattle.std.proofs.lemmas.List.Elements.{All-nil, All-cons, All-head, All-tail, filter-append}
+use Rattle.std.proofs.lemmas.List.{append-nil, length-map, take_more}
+use Rattle.std.proofs.lemmas.List.Elements.{All-nil, All-cons, All-head, All-tail}
 use Rattle.std.proofs.lemmas.List.FromFn.{get_or-map-range_with_len, length-map-range_with_len, length-range_with_len, map-range_with_len_more}
 use Rattle.std.proofs.lemmas.List.Sums.{length-filter, count_by-le-length}
 use Rattle.arrays.specs.Batch.{Batch, Row, Table, row_of, rows_of}
@@ -16,9 +16,8 @@ use Rattle.evaluate.specs.declared.stop.Stop.{Stop}
 use Rattle.evaluate.specs.declared.stop.Stop.TheVariants.{Bad, NoMemory}
 use Rattle.evaluate.specs.declared.values.Values.{Values}
 use Rattle.answers.specs.Groups.{is_bad, is_kept, verdict, verdict_of}
-use Rattle.answers.proofs.GroupLemmas.{take_past}
 use Rattle.answers.proofs.SameLemmas.{either}
-use Rattle.answers.specs.Runs.{AreSound, AreVerdicts, IsBadRow, StopsAt, is_true, keeps, kept_in, rows_in}
+use Rattle.answers.specs.Runs.{AreVerdicts, IsBadRow, StopsAt, is_true, keeps, kept_in, rows_in}
 
 -- ---- the filter
 
@@ -55,12 +54,6 @@ stops_at b start n (Some t) (Bad row) h = record {
 }
 stops_at b start n (Some t) NoMemory h = tt
 
-verdict_sound : (d : Option Bool) (k : Bool) → d ≡ Some k → is_none d ≡ false
-verdict_sound d k is = ap is_none is
-
-pub are_sound : (b : Batch) (start n : ℕ) (f : Option (Tree ℕ)) (o : Option Values) → AreVerdicts b start n f o → AreSound b start n f
-are_sound b start n f o v = record { each = λ i below. verdict_sound (verdict b.fields f (row_in b start i)) (keeps o i) (v.each i below) }
-
 pub if_ok : {T E : Type 0} (r : Result T E) (P Q : T → Type 0) → ((x : T) → P x → Q x) → IfOk r P → IfOk r Q
 if_ok (Ok x) P Q f h = f x h
 if_ok (Err e) P Q f h = tt
@@ -70,15 +63,6 @@ if_err (Ok x) P Q f h = tt
 if_err (Err e) P Q f h = f e h
 
 -- ---- rows one after the other
-
-range-push : (a n : ℕ) → range_with_len a (n + 1) ≡ range_with_len a n ++ (a + n) ∷ []
-range-push a zero =
-    let e : a ≡ a + 0 = omega arith in
-    ap (λ m. m ∷ []) e
-range-push a (suc n) =
-    let more : suc n + 1 ≡ suc (n + 1) = omega arith in
-    let last : a + 1 + n ≡ a + suc n = omega arith in
-    ap (range_with_len a) more ∙ ap (λ l. a ∷ l) (range-push (a + 1) n ∙ ap (λ m. range_with_len (a + 1) n ++ m ∷ []) last)
 
 all_range : (P : ℕ → Type 0) (a n : ℕ) → ((i : ℕ) → a ≤ i → i < a + n → P i) → All P (range_with_len a n)
 all_range P a zero h = All-nil P
@@ -108,21 +92,7 @@ alike : (f g : ℕ → Row) (xs : List ℕ) → ((i : ℕ) → f i ≡ g i) → 
 alike f g [] same = refl
 alike f g (x ∷ xs) same = ap (λ y. y ∷ map f xs) (same x) ∙ ap (λ l. g x ∷ l) (alike f g xs same)
 
-pub whole_rows : (b : Batch) → rows_in b 0 b.rows ≡ rows_of b
-whole_rows b = alike (row_in b 0) (row_of b.columns) (range_with_len 0 b.rows) (λ i. ap (row_of b.columns) (zero-add i))
-
 -- ---- the rows that are kept
-
-pub kept-push : (o : Option Values) (start n : ℕ) (k : Bool) → keeps o n ≡ k → kept_in o start (n + 1) ≡ kept_in o start n ++ cond k ((start + n) ∷ []) []
-kept-push o start n k is =
-    ap (λ l. map (λ i. start + i) (filter (keeps o) l)) (range-push 0 n)
-    ∙ ap (map (λ i. start + i)) (filter-append (keeps o) (range_with_len 0 n) ((0 + n) ∷ []))
-    ∙ ap (λ m. map (λ i. start + i) (filter (keeps o) (range_with_len 0 n) ++ filter (keeps o) (m ∷ []))) (zero-add n)
-    ∙ map-append (λ i. start + i) (filter (keeps o) (range_with_len 0 n)) (filter (keeps o) (n ∷ []))
-    ∙ ap (λ l. kept_in o start n ++ l) (ap (λ b. map (λ i. start + i) (cond b (n ∷ []) [])) is ∙ one k start n) where
-      one : (k : Bool) (start n : ℕ) → map (λ i. start + i) (cond k (n ∷ []) []) ≡ cond k ((start + n) ∷ []) []
-      one true start n = refl
-      one false start n = refl
 
 each_kept : (xs : List ℕ) → filter (keeps None) xs ≡ xs
 each_kept [] = refl
@@ -188,15 +158,6 @@ pub rows_more : (b : Batch) (i : ℕ) → i < b.rows → take (i + 1) (rows_of b
 rows_more b i below =
     take_more (rows_of b) i [] (omega (arith, below, length-rows b))
     ∙ ap (λ r. take i (rows_of b) ++ r ∷ []) (get_or-map-range_with_len (row_of b.columns) 0 b.rows i i [] below (zero-add i))
-
-pub all_rows_taken : (b : Batch) (i : ℕ) → b.rows ≤ i → take i (rows_of b) ≡ rows_of b
-all_rows_taken b i past = take_past (rows_of b) i (omega (arith, past, length-rows b))
-
-pub sound_at : (b : Batch) (n : ℕ) (f : Option (Tree ℕ)) (j : ℕ) → is_bad b.fields f (row_in b 0 j) ≡ false → is_bad b.fields f (row_of b.columns j) ≡ false
-sound_at b n f j h = ap (λ k. is_bad b.fields f (row_of b.columns k)) (sym (zero-add j)) ∙ h
-
-pub bad_here : (b : Batch) (f : Option (Tree ℕ)) (row : ℕ) → verdict b.fields f (row_in b 0 row) ≡ None → verdict b.fields f (row_of b.columns row) ≡ None
-bad_here b f row h = ap (λ k. verdict b.fields f (row_of b.columns k)) (sym (zero-add row)) ∙ h
 
 -- ---- slice by slice
 

@@ -1,5 +1,5 @@
 -- Items and keys are the same exactly where they are equal.
-use Rattle.std.proofs.Common.{◌≡◌, ◌∙◌, Bool, true, false, not, ◌&&◌, List, [], ◌∷◌, refl, sym, ap, true≢false}
+use Rattle.std.proofs.Common.{◌≡◌, ◌∙◌, Bool, true, false, ◌&&◌, List, [], ◌∷◌, refl, sym, ap, true≢false}
 use Rattle.std.specs.Bool.{Decides}
 use Rattle.std.specs.Cmp.{IsEquivalence, booleans_Decides, decided}
 use Rattle.std.proofs.lemmas.Bool.Decides.{Decides-int_eq}
@@ -11,10 +11,6 @@ use Rattle.answers.specs.Same.{same_item, same_items, same_key}
 pub either : {C : Type 0} (b : Bool) → (b ≡ true → C) → (b ≡ false → C) → C
 either true t f = t refl
 either false t f = f refl
-
-pub is_not : (a b : Bool) → not a ≡ b → a ≡ not b
-is_not true b h = ap not h
-is_not false b h = ap not h
 
 pub both_true : (a b : Bool) → (a && b) ≡ true → (a ≡ true) × (b ≡ true)
 both_true true b h = (refl, h)

@@ -34,33 +34,6 @@ shared-batch = arc.the_row batch.the_row global.the_row ghosts
 shared-sync : IsSync shared-batch
 shared-sync = search (batch-send, batch-sync, crosses, sendable) depth 20
 
-module _ (ℓ ℓ₁ ℓ₂ ℓ₃ : NamedLft) (G : RattleType) (ν : List ℕ) (gate : IsSync G) where
-  abbrev pub one-has : List RattleType
-  one-has = global.the_row ∷ (shr_slice_field ℓ shared-batch tt).row ∷ (shr_ref_field ℓ₁ query.the_row tt).row ∷ (shr_ref_field ℓ₂ texts.the_row tt).row
-      ∷ cuts.the_row ∷ u32-field.row ∷ (shr_ref_field ℓ₃ (param 1 G) tt).row ∷ []
-
-  -- A closure that looks at one piece.
-  pub one-send : IsSend (TupleAt ν one-has)
-  one-send =
-      let T = type_at ν one-has in
-      recorded_send (Struct (shape T)) T.D T.to T.to_one
-      (struct_send (shape T) (
-        search (crosses, sendable) depth 20,
-        (
-          shr_slice_send ℓ.mir ℓ.lft shared-batch shared-sync,
-          (
-            shr_send ℓ₁.mir ℓ₁.lft query.the_row query-sync,
-            (
-              shr_send ℓ₂.mir ℓ₂.lft texts.the_row texts-sync,
-              (
-                search (crosses, sendable) depth 20,
-                (search (crosses, sendable) depth 20, (shr_send ℓ₃.mir ℓ₃.lft (param 1 G) (param_sync 1 G gate), tt)),
-              ),
-            ),
-          ),
-        ),
-      ))
-
 module _ (ℓ ℓ₁ ℓ₂ ℓ₃ ℓ₄ : NamedLft) (T G : RattleType) (ν : List ℕ) (threads : IsSync T) (gate : IsSync G) where
   abbrev pub several-has : List RattleType
   several-has = (shr_ref_field ℓ (param 0 T) tt).row ∷ global.the_row ∷ (shr_slice_field ℓ₁ shared-batch tt).row ∷ (shr_ref_field ℓ₂ query.the_row tt).row

@@ -19,16 +19,6 @@ module _ {A : Type 0} where
   spread-push (m ∷ ns) [] groups n x h = absurd (omega (arith, h))
   spread-push (m ∷ ns) (y ∷ xs) groups n x h = spread-push ns xs (put m y groups) n x (omega (arith, h))
 
-  length-put : (n : ℕ) (x : A) (groups : List (List A)) → length (put n x groups) ≡ length groups
-  length-put n x [] = refl
-  length-put zero x (g ∷ groups) = refl
-  length-put (suc n) x (g ∷ groups) = ap suc (length-put n x groups)
-
-  pub length-spread : (ns : List ℕ) (xs : List A) (groups : List (List A)) → length (spread ns xs groups) ≡ length groups
-  length-spread [] xs groups = refl
-  length-spread (n ∷ ns) [] groups = refl
-  length-spread (n ∷ ns) (x ∷ xs) groups = length-spread ns xs (put n x groups) ∙ length-put n x groups
-
   put-short : (n k : ℕ) (x : A) (groups : List (List A)) → length (slice_index_or (put n x groups) k []) ≤ length (slice_index_or groups k []) + 1
   put-short n k x [] = omega arith
   put-short zero zero x (g ∷ groups) = omega (arith, length-append g (x ∷ []))

@@ -14,25 +14,12 @@ use Rattle.answers.specs.declared.end.End.{End}
 use Rattle.answers.specs.declared.end.End.TheVariants.{Least, Greatest}
 use Rattle.answers.specs.Ends.{agg_at, is_better, is_further, with_item}
 use Rattle.answers.specs.Groups.{cell}
-use Rattle.answers.specs.Tallies.{TallyShape, bettered, counted, held, items_for, summed, tally_of, told}
+use Rattle.answers.specs.Tallies.{TallyShape, bettered, held, items_for, summed, tally_of, told}
 use Rattle.answers.specs.Totals.{sum_if_any}
 use Rattle.answers.proofs.SameLemmas.{either}
 
 held-push : (xs : List Item) (x : Item) (b : Bool) → is_null x ≡ b → held (xs ++ x ∷ []) ≡ held xs ++ cond (not b) (x ∷ []) []
 held-push xs x b is = filter-append (λ x. not (is_null x)) xs (x ∷ []) ∙ ap (λ b. held xs ++ cond (not b) (x ∷ []) []) is
-
--- ---- counts
-
-pub row_counted : (n : ℕ) (xs : List Item) (x : Item) → counted n ≡ tally_of agg.Rows xs → counted (n + 1) ≡ tally_of agg.Rows (xs ++ x ∷ [])
-row_counted n xs x h = ap counted (omega (arith, ap (λ (t : TallyShape). t.count) h, length-append xs (x ∷ [])))
-
-pub item_counted : (n : ℕ) (xs : List Item) (x : Item) → is_null x ≡ false → counted n ≡ tally_of (agg.Count 0) xs → counted (n + 1) ≡ tally_of (agg.Count 0) (xs ++ x ∷ [])
-item_counted n xs x is h =
-    ap counted (omega (arith, ap (λ (t : TallyShape). t.count) h, length-append (held xs) (x ∷ [])))
-    ∙ ap (λ l. counted (length l)) (sym (held-push xs x false is))
-
-pub null_passed : (n : ℕ) (xs : List Item) (x : Item) → is_null x ≡ true → counted n ≡ tally_of (agg.Count 0) xs → counted n ≡ tally_of (agg.Count 0) (xs ++ x ∷ [])
-null_passed n xs x is h = h ∙ ap (λ l. counted (length l)) (sym (held-push xs x true is ∙ append-nil (held xs)))
 
 -- ---- sums
 
@@ -145,9 +132,6 @@ pub item_bettered : (end : End) (c : ℕ) (old new : Option Item) (xs : List Ite
     → bettered new ≡ tally_of (agg_at end c) (xs ++ x ∷ [])
 item_bettered end c old new xs x is h =
     ap bettered (is ∙ ap (λ o. with_item end o x) (ap (λ (t : TallyShape). t.best) (h ∙ best_is end c xs)) ∙ best-push end xs x) ∙ sym (best_is end c (xs ++ x ∷ []))
-
-pub null_no_better : (end : End) (c : ℕ) (old : Option Item) (xs : List Item) → bettered old ≡ tally_of (agg_at end c) xs → bettered old ≡ tally_of (agg_at end c) (xs ++ null ∷ [])
-null_no_better end c old xs h = item_bettered end c old old xs null (sym (ap (λ b. cond b (Some null) old) (not_better end old null refl))) h
 
 -- ---- what is told
 

@@ -1,5 +1,5 @@
 -- The least and the greatest of items.
-use Rattle.std.specs.Prelude.{ℕ, ℤ, pos, Bool, not, Option, Some, None, if◌then◌else◌}
+use Rattle.std.specs.Prelude.{ℕ, ◌^◌, ℤ, pos, Bool, not, Option, Some, None, if◌then◌else◌}
 use Rattle.std.specs.Ordering.{int_eq, is_gt}
 use Rattle.arrays.specs.Item.{Item, int, is_null}
 use Rattle.arrays.specs.Order.{order}
@@ -36,4 +36,4 @@ item_if_any x = if is_null x then None else Some x
 
 -- 2^100, which no integer type has, stands for none.
 abbrev pub number_if_any : ℤ → Option Item
-number_if_any z = if int_eq z (pos 1267650600228229401496703205376) then None else Some (int z)
+number_if_any z = if int_eq z (pos (2 ^ 100)) then None else Some (int z)

@@ -1,6 +1,6 @@
 -- The parts of keys in a set.
 use lib.Pointwise.{pointwise}
-use Rattle.std.specs.Prelude.{ℤ, pos, ◌-ℤ◌, Bool, ◌||◌, List, [], ◌∷◌, map, int_lt, if◌then◌else◌}
+use Rattle.std.specs.Prelude.{ℤ, pos, ◌+◌, ◌^◌, ◌-ℤ◌, Bool, ◌||◌, List, [], ◌∷◌, map, int_lt, if◌then◌else◌}
 use Rattle.std.specs.Ordering.{int_eq}
 use Rattle.arrays.specs.Number.{natural}
 use Rattle.arrayvec.specs.ArrayVec.{ArrayVec}
@@ -15,8 +15,8 @@ use Rattle.answers.specs.declared.part_set.Stored.TheVariants as stored
 -- 2^100, which no integer type has, stands for null among numbers, and the 2^64 behind it stand for texts by their places.
 abbrev pub part_of_number : ℤ → Part
 part_of_number z =
-    if int_lt z (pos 1267650600228229401496703205376) || int_lt (pos 1267650600246676145570412756992) z then part.Int z
-    else (if int_eq z (pos 1267650600228229401496703205376) then part.Null else part.Text (natural (z -ℤ pos 1267650600228229401496703205377)))
+    if int_lt z (pos (2 ^ 100)) || int_lt (pos (2 ^ 100 + 2 ^ 64)) z then part.Int z
+    else (if int_eq z (pos (2 ^ 100)) then part.Null else part.Text (natural (z -ℤ pos (2 ^ 100 + 1))))
 
 -- The parts of a key for which a number stands.
 abbrev pub parts_of_number : ℤ → List Part

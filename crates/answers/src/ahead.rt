@@ -3,7 +3,7 @@
 ghost use Rattle.std.specs.Prelude.{◌≡◌};
 
 /// The most items for which there is room before they come.
-const MOST: usize = 131072;
+const MOST: usize = 1 << 17;
 
 /// Where there is no room for so many items, makes room for eight times as many, so that few are copied when more come. Room that isn't
 /// used takes addresses alone. Where it was refused, nothing is changed.

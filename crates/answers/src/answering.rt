@@ -11,10 +11,10 @@ ghost use Rattle.answers.specs.Answers.{IsAnswer, IsRefusal, all_rows, first_fie
 use crate::common::common_texts;
 use crate::counting::count_all;
 use crate::groups::Answer;
-use crate::piece::{Cuts, look_at_pieces};
-use crate::telling::tell_groups;
+use crate::piece::{Cuts, look_at_one, look_at_pieces};
+use crate::telling::{tell_groups, tell_in_turn};
 use arrays::RecordBatch;
-use crews::Gate;
+use crews::{Alone, Gate};
 use query::{Query, QueryFault};
 use std::alloc::Global;
 use std::sync::Arc;
@@ -47,6 +47,9 @@ pub fn answer<T: Threads + Sync, G: Gate>(
     ensures ok { IfOk result (IsAnswer (first_fields (map arc_value batches.now)) (asked query.now) (all_rows (map arc_value batches.now))) }
     ensures err { IfErr result (IsRefusal (first_fields (map arc_value batches.now)) (asked query.now) (all_rows (map arc_value batches.now))) }
 {
+    if pieces == 1 {
+        return answer_alone(alloc, batches, query, gate);
+    }
     let rows = count_all(batches, query);
     let common = common_texts(alloc, batches, query)?;
     let cuts = Cuts { rows, pieces };
@@ -55,5 +58,30 @@ pub fn answer<T: Threads + Sync, G: Gate>(
     )?;
     let count = whole.keys.len();
     let groups = tell_groups(threads, alloc, &whole, 0, count, pieces, count)?;
+    Ok(Answer { groups })
+}
+
+/// The same in one piece, for whoever may start no thread: nothing that is called here starts one or gives others a turn.
+///
+/// # Errors
+/// As `answer`.
+pub fn answer_alone<G: Gate>(
+    alloc: Global,
+    batches: &[Arc<RecordBatch>],
+    query: &Query,
+    gate: &G,
+) -> Result<Answer, QueryFault>
+    requires types { All (λ (b : Batch). map kind_of_field b.fields ≡ map kind_of_field (first_fields (map arc_value batches.now))) (map arc_value batches.now) }
+    requires fits { All (λ (b : Batch). fits b.fields (asked query.now) ≡ true) (map arc_value batches.now) }
+    requires few { length (all_rows (map arc_value batches.now)) ≤ 2 ^ 40 }
+    ensures ok { IfOk result (IsAnswer (first_fields (map arc_value batches.now)) (asked query.now) (all_rows (map arc_value batches.now))) }
+    ensures err { IfErr result (IsRefusal (first_fields (map arc_value batches.now)) (asked query.now) (all_rows (map arc_value batches.now))) }
+{
+    let rows = count_all(batches, query);
+    let common = common_texts(alloc, batches, query)?;
+    let cuts = Cuts { rows, pieces: 1 };
+    let whole = look_at_one(alloc, batches, query, &common, cuts, 0, &Alone(gate))?;
+    let count = whole.keys.len();
+    let groups = tell_in_turn(alloc, &whole, 0, count, count)?;
     Ok(Answer { groups })
 }

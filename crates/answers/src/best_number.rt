@@ -8,7 +8,7 @@ ghost use Rattle.answers.specs.Ends.{further, number_if_any, with_item};
 use crate::end::{End, is_further};
 
 /// Stands for no number: no integer type has it.
-const NONE: i128 = 1267650600228229401496703205376;
+const NONE: i128 = 1 << 100;
 
 /// The best number so far, if there is one.
 #[derive(Clone, Copy)]

@@ -1,9 +1,9 @@
 //! The numbers of keys of one dictionary-encoded column, by its codes.
 
-ghost use Rattle.std.specs.Prelude.{◌≡◌, ◌∷◌, ◌<◌, ◌≤◌, ◌^◌, [], All, IfOk, List, None, OnOk, false, int_lt, length, pos, true};
+ghost use Rattle.std.specs.Prelude.{◌≡◌, ◌∷◌, ◌<◌, ◌≤◌, ◌^◌, [], All, IfOk, None, OnOk, false, int_lt, length, pos, true};
 ghost use Rattle.arrays.specs.Batch.{row_of};
 ghost use Rattle.arrays.specs.Dictionary.{is_code, looked_up};
-ghost use Rattle.arrays.specs.Item.{Item, int};
+ghost use Rattle.arrays.specs.Item.{int};
 ghost use Rattle.arrays.specs.Kind as kind;
 ghost use Rattle.arrays.specs.Number.{is_negative, natural};
 ghost use Rattle.arrays.specs.Slot.{item_of};

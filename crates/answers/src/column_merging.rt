@@ -1,6 +1,6 @@
 //! The tallies of one aggregate, to which those of the rows behind are added.
 
-ghost use Rattle.std.specs.Prelude.{◌≡◌, ◌<◌, ◌≤◌, ◌^◌, ℕ, [], All, List, None, OnOk, length, map};
+ghost use Rattle.std.specs.Prelude.{◌≡◌, ◌<◌, ◌≤◌, ◌^◌, ℕ, [], All, List, OnOk, length, map};
 ghost use Rattle.arrays.specs.Batch.{Table};
 ghost use Rattle.arrays.specs.Kind.{Kind};
 ghost use Rattle.answers.specs.Columns.{column_of, show_column, show_item, show_number, show_total};

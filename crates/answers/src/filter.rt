@@ -1,6 +1,6 @@
 //! Which rows of a slice a query looks at.
 
-ghost use Rattle.std.specs.Prelude.{◌≡◌, ◌<◌, ◌+◌, ◌^◌, ◌++◌, ℕ, IfOk, IfErr, None, OnOk, Some, filter, length, true};
+ghost use Rattle.std.specs.Prelude.{◌≡◌, ◌<◌, ◌+◌, ◌^◌, ℕ, IfOk, IfErr, None, OnOk, Some, filter, length, true};
 ghost use Rattle.std.specs.List.{range_with_len};
 ghost use Rattle.query.specs.Asked.{asked};
 ghost use Rattle.query.specs.Fault.{fits};

@@ -6,7 +6,6 @@ ghost use Rattle.types.specs.Shape.{FieldShape};
 ghost use Rattle.answers.specs.Pieces.{AreLooked, AreNeighbours};
 
 use crate::grouping::Grouping;
-use crate::side_by_side::Work;
 use query::{Query, QueryFault};
 use std::alloc::Global;
 
@@ -32,25 +31,5 @@ impl<'a> Neighbours<'a> {
         let mut whole = early?;
         whole.merge(alloc, late?)?;
         Ok(whole)
-    }
-}
-
-impl<'a> Work for Neighbours<'a> {
-    ghost use Rattle.std.specs.Prelude.{ℕ, List};
-    ghost use Rattle.arrays.specs.Batch.{Table};
-    ghost use Rattle.query.specs.declared.queries.Query.{Query};
-    ghost use Rattle.types.specs.Shape.{FieldShape};
-    ghost use Rattle.answers.specs.Pieces.{AreLooked, AreNeighbours};
-
-    type Outcome = Looked<'a>;
-
-    ghost asks = { λ n. (fields : List FieldShape) × (q : Query) × (rows : Table) × (pieces : ℕ) × (from : ℕ) × (middle : ℕ) × (to : ℕ)
-        × AreNeighbours fields q rows pieces from middle to n };
-
-    ghost gives = { λ n looked. (fields : List FieldShape) (q : Query) (rows : Table) (pieces from middle to : ℕ)
-        → AreNeighbours fields q rows pieces from middle to n → AreLooked fields q rows pieces from to looked };
-
-    fn work(self, alloc: Global) -> Looked<'a> {
-        self.put_together(alloc)
     }
 }

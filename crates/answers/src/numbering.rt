@@ -1,8 +1,6 @@
 //! The numbers of the groups of rows.
 
 ghost use Rattle.std.specs.Prelude.{◌≡◌, ◌<◌, ◌≤◌, [], All, None, OnOk, length};
-ghost use Rattle.arrays.specs.Kind as kind;
-ghost use Rattle.arrays.specs.Slot.{is_int};
 ghost use Rattle.query.specs.Columns.{sort_at};
 ghost use Rattle.query.specs.Fault.{key_fault};
 ghost use Rattle.answers.specs.Keys.{AreNumbers, keys_at, with_keys};

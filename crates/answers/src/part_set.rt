@@ -16,10 +16,10 @@ use indexmap::IndexSet;
 use std::alloc::Global;
 
 /// Stands for null among numbers: no integer type has it.
-pub(crate) const NULL: i128 = 1267650600228229401496703205376;
+pub(crate) const NULL: i128 = 1 << 100;
 
 /// The last of the numbers behind it, which stand for texts by their places.
-const LAST: i128 = 1267650600246676145570412756992;
+const LAST: i128 = NULL + (1 << 64);
 
 /// The parts of keys in order of coming, each key once.
 #[derive(Drop)]

@@ -10,7 +10,6 @@ ghost use Rattle.query.specs.Fault.{fits};
 ghost use Rattle.answers.specs.Answers.{all_rows, first_fields};
 ghost use Rattle.answers.specs.Pieces.{AreLooked, HasRun, IsAsked, IsPieceRefusal, between, cut_at};
 
-use crate::four::look_at_four;
 use crate::grouping::Grouping;
 use crate::neighbours::Neighbours;
 use crate::run::add_part;
@@ -26,13 +25,14 @@ use std::thread::{Threads, join};
 
 /// The groups of the rows from one place up to another, over all batches, one batch after the other: `Overflow` with the least of
 /// these rows where the filter is bad, or `NoMemory` where a growth was refused.
-pub(crate) fn look_at_piece<'a>(
+fn look_at_piece<'a, G: Gate>(
     alloc: Global,
     batches: &[Arc<RecordBatch>],
     query: &Query,
     common: &'a TextSet,
     from: u64,
     to: u64,
+    gate: &G,
 ) -> Result<Grouping<'a>, QueryFault>
     requires types { All (λ (b : Batch). map kind_of_field b.fields ≡ map kind_of_field (first_fields (map arc_value batches.now))) (map arc_value batches.now) }
     requires fits { All (λ (b : Batch). fits b.fields (asked query.now) ≡ true) (map arc_value batches.now) }
@@ -57,6 +57,7 @@ pub(crate) fn look_at_piece<'a>(
             start as usize,
             (end - start) as usize,
             &mut kept,
+            gate,
         ) {
             Ok(()) => before += rows,
             Err(Stop::Bad(row)) => {
@@ -101,9 +102,6 @@ pub(crate) fn look_at_pieces<'a, T: Threads + Sync, G: Gate>(
     if count == 1 {
         return look_at_one(alloc, batches, query, common, cuts, from, gate);
     }
-    if count == 4 {
-        return look_at_four(threads, alloc, batches, query, common, cuts, from, gate);
-    }
     let high = back_of(count);
     let low = count - high;
     let middle = from + low;
@@ -147,7 +145,7 @@ pub(crate) fn look_at_one<'a, G: Gate>(
     gate.pass(place, 0);
     let first = cuts.at(place);
     let last = cuts.at(place + 1);
-    look_at_piece(alloc, batches, query, common, first, last)
+    look_at_piece(alloc, batches, query, common, first, last, gate)
 }
 
 /// Into how many neighbouring pieces so many rows are cut.

@@ -1,7 +1,7 @@
 //! The rows of a batch, one slice after the other.
 
 ghost use Rattle.std.specs.Prelude.{◌≡◌, ◌+◌, ◌<◌, ◌≤◌, ◌^◌, ◌++◌, IfErr, IfOk, None, OnOk, true};
-ghost use Rattle.arrays.specs.Batch.{Table, rows_of};
+ghost use Rattle.arrays.specs.Batch.{Table};
 ghost use Rattle.query.specs.Asked.{asked};
 ghost use Rattle.query.specs.Fault.{fits};
 ghost use Rattle.answers.specs.Grouping.{CountsRows, IsReadyFor};
@@ -10,24 +10,24 @@ ghost use Rattle.answers.specs.Runs.{AreSound, HasKept, HasRoomFor, StopsAt, row
 use crate::filter::{count_rows, filter_values, keep_rows};
 use crate::grouping::Grouping;
 use arrays::RecordBatch;
+use crews::Gate;
 use evaluate::slice::Slice;
 use evaluate::stop::Stop;
 use query::{Agg, Query};
 use std::alloc::Global;
-use std::thread::yield_now;
 
 /// After how many rows a thread lets others go first. No more are looked at together.
 const TURN: usize = 16384;
 
 /// Of so many groups what is known stays in the processor's caches while others have their turn.
-const FEW: usize = 4096;
+const FEW_GROUPS: usize = 4096;
 
 /// How many rows are looked at together where there is no filter.
 const SLICE: usize = 2048;
 
 /// Adds those of so many rows of a batch from the start on that the query's filter keeps, or tells the least of them where the
 /// filter is bad, counted from the start.
-pub(crate) fn add_part(
+pub(crate) fn add_part<G: Gate>(
     alloc: Global,
     grouping: &mut Grouping<'_>,
     query: &Query,
@@ -35,6 +35,7 @@ pub(crate) fn add_part(
     start: usize,
     rows: usize,
     kept: &mut Vec<usize>,
+    gate: &G,
 ) -> Result<(), Stop>
     requires fits { fits batch.now.fields (asked query.now) ≡ true }
     requires within { start + rows ≤ batch.now.rows }
@@ -68,9 +69,17 @@ pub(crate) fn add_part(
             Err(Stop::Bad(row)) => return Err(Stop::Bad(at + row)),
             Err(Stop::NoMemory) => return Err(Stop::NoMemory),
         }
-        take_turns(at < rows && at.is_multiple_of(TURN) && grouping.keys.len() <= FEW);
+        let more = at < rows && at.is_multiple_of(TURN) && grouping.keys.len() <= FEW_GROUPS;
+        take_turns(gate, more);
     }
     Ok(())
+}
+
+/// Lets others go first where there is more to do, so that of more threads than processors all end at about the same time.
+fn take_turns<G: Gate>(gate: &G, more: bool) {
+    if more {
+        gate.turn();
+    }
 }
 
 /// The most rows that are looked at together, so that what is known of them stays in the processor's caches, for batches of any size. A
@@ -80,13 +89,6 @@ fn most_rows(query: &Query) -> usize
     ensures few { result ≤ 2 ^ 14 }
 {
     if query.filter.is_some() { TURN } else { SLICE }
-}
-
-/// Lets other threads go first where there is more to do, so that of more threads than processors all end at about the same time.
-fn take_turns(more: bool) {
-    if more {
-        yield_now();
-    }
 }
 
 /// Adds the rows of a slice that the query's filter keeps; their places are kept in between, unless they are only counted.

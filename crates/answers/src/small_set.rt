@@ -2,9 +2,9 @@
 
 ghost use Rattle.std.specs.Prelude.{◌≡◌, ◌+◌, ◌<◌, ◌^◌, ◌++◌, ◌∷◌, [], IfOk, None, OnErr, OnOk, Some, false, if◌then◌else◌, length, nat_eq, slice_get, slice_index_or, true, ℕ, ℤ};
 ghost use Rattle.std.specs.Option.{ForSome};
-ghost use Rattle.std.specs.List.{IsDistinct, list_any};
+ghost use Rattle.std.specs.List.{list_any};
 ghost use Rattle.std.specs.Ordering.{int_eq};
-ghost use Rattle.answers.specs.SmallSets.{is_near, is_small, number_of_code, past_null, place_end};
+ghost use Rattle.answers.specs.SmallSets.{is_near, is_small, number_of_code, place_end};
 
 use crate::ahead::make_room;
 use crate::code_keys::place_of;
@@ -15,7 +15,7 @@ use std::alloc::Global;
 use std::marker::Model;
 
 /// So many numbers from 0 on are near, so that a table of places by them stays in a processor's cache.
-const FEW: i128 = 131072;
+const NEAR: i128 = 1 << 17;
 
 /// Numbers in order of coming, each once: near ones, null, and texts with near places. A table tells where each stands, which takes one
 /// look; a hashed number takes two, of which the second waits for the first.
@@ -122,7 +122,7 @@ impl SmallSet {
 fn is_near(number: i128) -> bool
     ensures { result ≡ is_near number }
 {
-    0 <= number && number < FEW
+    0 <= number && number < NEAR
 }
 
 /// Whether a table tells the place of such a number.
@@ -140,7 +140,7 @@ fn code_of(number: i128) -> u32
     if is_near(number) {
         return number as u32;
     }
-    (number - NULL + FEW) as u32
+    (number - NULL + NEAR) as u32
 }
 
 /// The number of which this is the code.
@@ -149,10 +149,10 @@ fn number_of_code(code: u32) -> i128
     ensures { result ≡ number_of_code code }
 {
     let number = i128::from(code);
-    if number < FEW {
+    if number < NEAR {
         number
     } else {
-        number - FEW + NULL
+        number - NEAR + NULL
     }
 }
 

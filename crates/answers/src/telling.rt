@@ -16,7 +16,7 @@ use std::alloc::Global;
 use std::thread::{Threads, join};
 
 /// How many groups are told before others are told beside them.
-const FEW: usize = 4096;
+const FEW_GROUPS: usize = 4096;
 
 /// The groups from one up to another: of each its key, and what is told of its rows. Many are told in so many parts, side by side.
 /// There is room for `room` groups in the list.
@@ -36,7 +36,7 @@ pub(crate) fn tell_groups<T: Threads + Sync>(
     ensures { IfOk result (λ v. map shape_of v.items ≡ told_from grouping.now from (to - from)) }
 {
     let count = to - from;
-    if count <= FEW || parts <= 1 {
+    if count <= FEW_GROUPS || parts <= 1 {
         return tell_in_turn(alloc, grouping, from, to, room);
     }
     let fewer = back_of(parts);
@@ -57,7 +57,7 @@ pub(crate) fn tell_groups<T: Threads + Sync>(
 }
 
 /// The same, one after the other.
-fn tell_in_turn(
+pub(crate) fn tell_in_turn(
     alloc: Global,
     grouping: &Grouping<'_>,
     from: usize,

@@ -17,15 +17,17 @@ use Rattle.layout.specs.Seen.{Seen, valid_at, valid_in}
 use Rattle.arrays.specs.Shown.{kept, shown}
 use Rattle.arrays.specs.Values.{HasNumbers}
 use Rattle.arrays.specs.Builder.{built, item_at, numbers_where, IsBuilt}
-use Rattle.arrays.proofs.ListLemmas.{map-range-below, map-range-joined}
+use Rattle.layout.proofs.ListLemmas.{map-range-below}
+use Rattle.arrays.proofs.ListLemmas.{map-range-joined}
 use Rattle.types.proofs.EncodingLemmas.{length-bytes_of_number, number_at-append-front, number_at-append-end, number_at-append-past}
 use Rattle.arrays.proofs.FinishedLemmas.{slots_shown}
+use Rattle.types.specs.Limits.{most_slots}
 
 -- one row more
 more_rows : (n w : ℕ) → n * w + w ≡ (n + 1) * w
 more_rows n w = omega arith
 
-pub IsBuilt-push : (t : IntType) (values : List ℕ) (valid : List Bool) (z : ℤ) (b : Bool) → IsBuilt t values valid → length valid < 2147483647
+pub IsBuilt-push : (t : IntType) (values : List ℕ) (valid : List Bool) (z : ℤ) (b : Bool) → IsBuilt t values valid → length valid < most_slots
     → IsBuilt t (values ++ bytes_of_number t z) (valid ++ b ∷ [])
 IsBuilt-push t values valid z b is room = record {
   whole =
@@ -72,11 +74,11 @@ pub record Added (t : IntType) (values : List ℕ) (valid : List Bool) (old : Co
   pub one_more : built t values valid ≡ old.items ++ x ∷ []
 
 pub added : (t : IntType) (values bytes : List ℕ) (valid flags : List Bool) (z : ℤ) (b : Bool) (old : Column)
-    → ◌≡◌ {A = Column} (record { ty = t; items = built t values valid }) old → IsBuilt t values valid → IsOfType old.ty z → length old.items < 2147483647
+    → ◌≡◌ {A = Column} (record { ty = t; items = built t values valid }) old → IsBuilt t values valid → IsOfType old.ty z → length old.items < most_slots
     → bytes ≡ values ++ bytes_of_number t z → flags ≡ valid ++ b ∷ [] → Added t bytes flags old (cond b (int z) null)
 added t values bytes valid flags z b old is whole of_type room bytes_are flags_are =
     let of_t = subst (λ s. IsOfType s z) (sym (ap (λ (c : Column). c.ty) is)) of_type in
-    let few : length valid < 2147483647 = omega (arith, length-built t values valid, ap (λ (c : Column). length c.items) is) in
+    let few : length valid < most_slots = omega (arith, length-built t values valid, ap (λ (c : Column). length c.items) is) in
     let still = IsBuilt-push t values valid z b whole few in
     record {
       built_still = subst (λ v. IsBuilt t v flags) (sym bytes_are) (subst (λ f. IsBuilt t (values ++ bytes_of_number t z) f) (sym flags_are) still);
@@ -93,7 +95,7 @@ pub record Tried {E : Type 0} (r : Result (Unit {0}) E) (t : IntType) (values : 
   pub one_more : OnOk r (built t values valid ≡ old.items ++ x ∷ [])
 
 pub tried : {E : Type 0} (r : Result (Unit {0}) E) (t s : IntType) (values longer bytes : List ℕ) (valid flags : List Bool) (n : ℕ) (y z : ℤ) (b : Bool) (old : Column)
-    → ◌≡◌ {A = Column} (record { ty = t; items = built t values valid }) old → IsBuilt t values valid → IsOfType old.ty z → length old.items < 2147483647 → s ≡ old.ty → y ≡ z
+    → ◌≡◌ {A = Column} (record { ty = t; items = built t values valid }) old → IsBuilt t values valid → IsOfType old.ty z → length old.items < most_slots → s ≡ old.ty → y ≡ z
     → longer ≡ values ++ bytes_of_number s y → n ≡ length values → OnOk r (bytes ≡ longer) → OnOk r (flags ≡ valid ++ b ∷ []) → OnErr r (bytes ≡ take n longer) → OnErr r (flags ≡ valid)
     → Tried r t bytes flags old (cond b (int z) null)
 tried (Ok u) t s values longer bytes valid flags n y z b old is whole of_type room type_is same grows before bytes_are flags_are bytes_were flags_were =
@@ -112,7 +114,7 @@ more_slots : (n m w a b : ℕ) → a ≡ n * w → b ≡ m * w → a + b ≡ (n 
 more_slots n m w a b at first = omega arith
 
 pub IsBuilt-joined : (t : IntType) (values numbers : List ℕ) (valid more : List Bool) (m : ℕ) → IsBuilt t values valid → length numbers ≡ m * bytes_of t.bits → length more ≡ m
-    → length valid + m ≤ 2147483647 → IsBuilt t (values ++ numbers) (valid ++ more)
+    → length valid + m ≤ most_slots → IsBuilt t (values ++ numbers) (valid ++ more)
 IsBuilt-joined t values numbers valid more m is size count room =
     let longer : length (valid ++ more) ≡ length valid + m = length-append valid more ∙ ap (λ k. length valid + k) count in
     record {
@@ -151,11 +153,11 @@ pub record Extended (t : IntType) (values : List ℕ) (valid : List Bool) (old :
   pub many_more : built t values valid ≡ old.items ++ numbers_where validity old.ty numbers m
 
 pub extended : (t : IntType) (values numbers bytes : List ℕ) (valid flags : List Bool) (validity : Option (List Bool)) (m : ℕ) (old : Column)
-    → ◌≡◌ {A = Column} (record { ty = t; items = built t values valid }) old → IsBuilt t values valid → length numbers ≡ m * bytes_of old.ty.bits → length old.items + m ≤ 2147483647
+    → ◌≡◌ {A = Column} (record { ty = t; items = built t values valid }) old → IsBuilt t values valid → length numbers ≡ m * bytes_of old.ty.bits → length old.items + m ≤ most_slots
     → bytes ≡ values ++ numbers → flags ≡ valid ++ map (valid_in validity) (range_with_len 0 m) → Extended t bytes flags old validity numbers m
 extended t values numbers bytes valid flags validity m old is whole size room bytes_are flags_are =
     let more = map (valid_in validity) (range_with_len 0 m) in
-    let few : length valid + m ≤ 2147483647 = omega (arith, length-built t values valid, ap (λ (c : Column). length c.items) is) in
+    let few : length valid + m ≤ most_slots = omega (arith, length-built t values valid, ap (λ (c : Column). length c.items) is) in
     let of_type = size ∙ ap (λ (c : Column). m * bytes_of c.ty.bits) (sym is) in
     let still = IsBuilt-joined t values numbers valid more m whole of_type (length-map-range_with_len (valid_in validity) 0 m) few in
     record {

@@ -8,7 +8,7 @@ use Rattle.std.proofs.Math.Seq.{take-length}
 use Rattle.layout.specs.Item.{Item, null, text, list, list_of}
 use Rattle.arrays.specs.Growing.{cut_texts, AreTextsOf, IsText}
 use Rattle.arrays.specs.Lengths.{cut, total, text_length, text_bytes}
-use Rattle.layout.specs.Offsets.{length_of, of_slot, start_of}
+use Rattle.layout.specs.Offsets.{length_at, slot_at, start_at}
 
 -- ---- how long slots are together
 
@@ -40,24 +40,24 @@ lists_cut (Some n ∷ ls) items = ap (λ xs. list (list_of (take n items)) ∷ x
 
 -- How long slot j is, none where it isn't valid.
 abbrev pub slot_length : (ℕ → Bool) → List ℕ → ℕ → Option ℕ
-slot_length valid offsets j = cond (valid j) (Some (length_of offsets j)) None
+slot_length valid offsets j = cond (valid j) (Some (length_at offsets j)) None
 
 -- Offsets that rise, by which a slot that isn't valid is empty.
 pub record Rises (valid : ℕ → Bool) (n : ℕ) (offsets : List ℕ) : Type 0 where
-  pub rising : (j : ℕ) → j < n → start_of offsets j ≤ start_of offsets (j + 1)
-  pub empty : (j : ℕ) → j < n → valid j ≡ false → length_of offsets j ≡ 0
+  pub rising : (j : ℕ) → j < n → start_at offsets j ≤ start_at offsets (j + 1)
+  pub empty : (j : ℕ) → j < n → valid j ≡ false → length_at offsets j ≡ 0
 
 slot_total : (b : Bool) (l start end : ℕ) → l ≡ end - start → start ≤ end → (b ≡ false → l ≡ 0) → unwrap_or (cond b (Some l) None) 0 + start ≡ end
 slot_total true l start end is le empty = omega arith
 slot_total false l start end is le empty = let none = empty refl in omega arith
 
 pub total-from : (valid : ℕ → Bool) (offsets : List ℕ) (n : ℕ) → Rises valid n offsets → (d a : ℕ) → a + d ≡ n
-    → total (map (slot_length valid offsets) (range_with_len a d)) + start_of offsets a ≡ start_of offsets n
+    → total (map (slot_length valid offsets) (range_with_len a d)) + start_at offsets a ≡ start_at offsets n
 total-from valid offsets n rises zero a e =
-    let same : start_of offsets a ≡ start_of offsets n = ap (start_of offsets) (omega arith) in
+    let same : start_at offsets a ≡ start_at offsets n = ap (start_at offsets) (omega arith) in
     omega (arith, same)
 total-from valid offsets n rises (suc d) a e =
-    let here = slot_total (valid a) (length_of offsets a) (start_of offsets a) (start_of offsets (a + 1)) refl (rises.rising a (omega arith)) (rises.empty a (omega arith)) in
+    let here = slot_total (valid a) (length_at offsets a) (start_at offsets a) (start_at offsets (a + 1)) refl (rises.rising a (omega arith)) (rises.empty a (omega arith)) in
     let there = total-from valid offsets n rises d (a + 1) (omega arith) in
     let both = total-cons (slot_length valid offsets a) (map (slot_length valid offsets) (range_with_len (a + 1) d)) in
     omega (arith, here, there, both)
@@ -73,12 +73,12 @@ slot_cut wrap x false l start end ls values out is le empty rest =
     ap (λ xs. x ∷ xs) (ap (λ s. cut_by wrap x ls (drop s values)) (omega arith) ∙ rest)
 
 pub cut-from : {A X : Type 0} (wrap : List A → X) (x : X) (valid : ℕ → Bool) (offsets : List ℕ) (n : ℕ) (values : List A) → Rises valid n offsets → (d a : ℕ) → a + d ≡ n
-    → cut_by wrap x (map (slot_length valid offsets) (range_with_len a d)) (drop (start_of offsets a) values)
-    ≡ map (λ j. cond (valid j) (wrap (of_slot offsets values j)) x) (range_with_len a d)
+    → cut_by wrap x (map (slot_length valid offsets) (range_with_len a d)) (drop (start_at offsets a) values)
+    ≡ map (λ j. cond (valid j) (wrap (slot_at offsets values j)) x) (range_with_len a d)
 cut-from wrap x valid offsets n values rises zero a e = refl
 cut-from wrap x valid offsets n values rises (suc d) a e =
-    slot_cut wrap x (valid a) (length_of offsets a) (start_of offsets a) (start_of offsets (a + 1)) (map (slot_length valid offsets) (range_with_len (a + 1) d)) values
-    (map (λ j. cond (valid j) (wrap (of_slot offsets values j)) x) (range_with_len (a + 1) d))
+    slot_cut wrap x (valid a) (length_at offsets a) (start_at offsets a) (start_at offsets (a + 1)) (map (slot_length valid offsets) (range_with_len (a + 1) d)) values
+    (map (λ j. cond (valid j) (wrap (slot_at offsets values j)) x) (range_with_len (a + 1) d))
     refl (rises.rising a (omega arith)) (rises.empty a (omega arith)) (cut-from wrap x valid offsets n values rises d (a + 1) (omega arith))
 
 -- ---- a slot more

@@ -19,7 +19,7 @@ use Rattle.layout.specs.Reading.{Reading, inner_of, read_parts}
 use Rattle.layout.specs.Checked.{checked_texts}
 use Rattle.layout.proofs.FirstFaultLemmas.{IsWhole, own_fault-whole}
 use Rattle.layout.proofs.LawfulLemmas.{texts_of, either_false, none_held, no_dictionary}
-use Rattle.arrays.proofs.ListLemmas.{map-range-below}
+use Rattle.layout.proofs.ListLemmas.{map-range-below}
 use Rattle.layout.proofs.RowLemmas.{least_none}
 use Rattle.arrays.proofs.SlotLemmas.{whole}
 use Rattle.layout.proofs.SeenLemmas.{seen-kind, length-column}

@@ -12,10 +12,11 @@ use Rattle.types.specs.Number.{natural, number_at, is_negative}
 use Rattle.types.specs.First.{first}
 use Rattle.layout.specs.Fault.{own_fault, is_validity_short, are_offsets_short, least_row}
 use Rattle.arrays.specs.FromParts.{AreTexts, show_bits, show_numbers, show_texts}
-use Rattle.layout.specs.Offsets.{AreOffsets, of_slot, start_of}
+use Rattle.layout.specs.Offsets.{AreOffsetBytes, slot_at, start_at}
 use Rattle.layout.specs.Reading.{read_parts, reading}
 use Rattle.layout.proofs.FirstFaultLemmas.{own_fault-whole}
 use Rattle.layout.proofs.RowLemmas.{any_none, least_none}
+use Rattle.types.specs.Limits.{most_slots}
 
 -- parts without a child, as they were handed in
 pub read_same : (k l : Kind) (m n : ℕ) (buffers parts : Buffers) (children : List RawArray) → k ≡ l → m ≡ n → buffers ≡ parts → children ≡ []
@@ -28,13 +29,13 @@ read_same k l m n buffers parts children kind_is len_is buffers_are none =
 
 -- ---- numbers
 
-own_fault-int : (t : IntType) (n : ℕ) (validity : Option (List ℕ)) (values : List ℕ) → n ≤ 2147483647 → n * bytes_of t.bits ≤ length values → is_validity_short n validity ≡ false
+own_fault-int : (t : IntType) (n : ℕ) (validity : Option (List ℕ)) (values : List ℕ) → n ≤ most_slots → n * bytes_of t.bits ≤ length values → is_validity_short n validity ≡ false
     → own_fault (kind.int t) n None (validity ∷ Some values ∷ []) [] None ≡ None
 unfolding own_fault
 own_fault-int t n validity values short long valid =
-    rw (le-ltb 2147483647 n short) (rw valid (rw (le-ltb (length values) (n * bytes_of t.bits) long) refl))
+    rw (le-ltb most_slots n short) (rw valid (rw (le-ltb (length values) (n * bytes_of t.bits) long) refl))
 
-pub read_numbers : (t : IntType) (n : ℕ) (validity : Option (List ℕ)) (values : List ℕ) → n ≤ 2147483647 → n * bytes_of t.bits ≤ length values → is_validity_short n validity ≡ false
+pub read_numbers : (t : IntType) (n : ℕ) (validity : Option (List ℕ)) (values : List ℕ) → n ≤ most_slots → n * bytes_of t.bits ≤ length values → is_validity_short n validity ≡ false
     → (read_parts (kind.int t) n None (validity ∷ Some values ∷ []) [] None).fault ≡ None
 unfolding read_parts
 read_numbers t n validity values short long valid =
@@ -47,12 +48,12 @@ show_read_numbers t n validity values = refl
 
 -- ---- truth values
 
-own_fault-boolean : (n : ℕ) (validity : Option (List ℕ)) (packed : List ℕ) → n ≤ 2147483647 → is_validity_short n (Some packed) ≡ false → is_validity_short n validity ≡ false
+own_fault-boolean : (n : ℕ) (validity : Option (List ℕ)) (packed : List ℕ) → n ≤ most_slots → is_validity_short n (Some packed) ≡ false → is_validity_short n validity ≡ false
     → own_fault kind.boolean n None (validity ∷ Some packed ∷ []) [] None ≡ None
 unfolding own_fault
-own_fault-boolean n validity packed short long valid = rw (le-ltb 2147483647 n short) (rw valid (rw long refl))
+own_fault-boolean n validity packed short long valid = rw (le-ltb most_slots n short) (rw valid (rw long refl))
 
-pub read_bits : (n : ℕ) (validity : Option (List ℕ)) (packed : List ℕ) → n ≤ 2147483647 → is_validity_short n (Some packed) ≡ false → is_validity_short n validity ≡ false
+pub read_bits : (n : ℕ) (validity : Option (List ℕ)) (packed : List ℕ) → n ≤ most_slots → is_validity_short n (Some packed) ≡ false → is_validity_short n validity ≡ false
     → (read_parts kind.boolean n None (validity ∷ Some packed ∷ []) [] None).fault ≡ None
 unfolding read_parts
 read_bits n validity packed short long valid =
@@ -76,7 +77,7 @@ pub record OffsetsPass (n : ℕ) (offsets : List ℕ) : Type 0 where
   pub none_negative : list_any (λ j. is_negative (number_at int32 offsets j)) (range_with_len 0 (n + 1)) ≡ false
   pub none_decreases : least_row (λ j. int_lt (number_at int32 offsets (j + 1)) (number_at int32 offsets j)) n ≡ None
 
-pub offsets_pass : (n : ℕ) (offsets : List ℕ) (most : ℕ) → AreOffsets n offsets most → OffsetsPass n offsets
+pub offsets_pass : (n : ℕ) (offsets : List ℕ) (most : ℕ) → AreOffsetBytes n offsets most → OffsetsPass n offsets
 offsets_pass n offsets most are = record {
   enough = rw (le-ltb (length offsets) (4 * (n + 1)) are.size) refl;
   none_negative = any_none (λ j. is_negative (number_at int32 offsets j)) (n + 1) (λ j below. are.counted j (omega arith));
@@ -91,13 +92,13 @@ valid_text : (b : Bool) (bytes : List ℕ) → (b ≡ true → IsUtf8 bytes) →
 valid_text false bytes h = refl
 valid_text true bytes h = ap not (is_utf8-from_IsUtf8 bytes (h refl))
 
-own_fault-utf8 : (n : ℕ) (validity : Option (List ℕ)) (offsets bytes : List ℕ) → n ≤ 2147483647 → is_validity_short n validity ≡ false
-    → AreOffsets n offsets (length bytes) → AreTexts n validity offsets bytes
+own_fault-utf8 : (n : ℕ) (validity : Option (List ℕ)) (offsets bytes : List ℕ) → n ≤ most_slots → is_validity_short n validity ≡ false
+    → AreOffsetBytes n offsets (length bytes) → AreTexts n validity offsets bytes
     → own_fault kind.utf8 n None (validity ∷ Some offsets ∷ Some bytes ∷ []) [] None ≡ None
 own_fault-utf8 n validity offsets bytes short valid are texts =
     let pass = offsets_pass n offsets (length bytes) are in
     own_fault-whole kind.utf8 n None (validity ∷ Some offsets ∷ Some bytes ∷ []) [] None record {
-      short = le-ltb 2147483647 n short;
+      short = le-ltb most_slots n short;
       shallow = refl;
       none_missing = refl;
       none_extra = refl;
@@ -106,16 +107,16 @@ own_fault-utf8 n validity offsets bytes short valid are texts =
       data_enough = pass.enough;
       none_negative = pass.none_negative;
       none_decreases = pass.none_decreases;
-      within_end = le-ltb (length bytes) (start_of offsets n) are.last;
+      within_end = le-ltb (length bytes) (start_at offsets n) are.last;
       count_agrees = refl;
       all_texts =
-          least_none (λ j. is_valid_in validity j && not (is_utf8 (of_slot offsets bytes j))) n
-          (λ j below. valid_text (is_valid_in validity j) (of_slot offsets bytes j) (texts.each j below));
+          least_none (λ j. is_valid_in validity j && not (is_utf8 (slot_at offsets bytes j))) n
+          (λ j below. valid_text (is_valid_in validity j) (slot_at offsets bytes j) (texts.each j below));
       all_codes = refl;
     }
 
-pub read_texts : (n : ℕ) (validity : Option (List ℕ)) (offsets bytes : List ℕ) → n ≤ 2147483647 → is_validity_short n validity ≡ false
-    → AreOffsets n offsets (length bytes) → AreTexts n validity offsets bytes
+pub read_texts : (n : ℕ) (validity : Option (List ℕ)) (offsets bytes : List ℕ) → n ≤ most_slots → is_validity_short n validity ≡ false
+    → AreOffsetBytes n offsets (length bytes) → AreTexts n validity offsets bytes
     → (read_parts kind.utf8 n None (validity ∷ Some offsets ∷ Some bytes ∷ []) [] None).fault ≡ None
 unfolding read_parts
 read_texts n validity offsets bytes short valid are texts =

@@ -17,14 +17,15 @@ use Rattle.types.specs.Number.{natural, number_at, is_negative, IsOfType, bytes_
 use Rattle.arrays.specs.Growing.{cut_texts, lengths_where, AreFresh, AreLaid, AreTextsOf, IsText}
 use Rattle.arrays.specs.Lengths.{cut, is_past, total}
 use Rattle.arrays.specs.FromParts.{AreTexts, show_lists, show_slots, show_texts}
-use Rattle.layout.specs.Offsets.{AreOffsets, length_of, of_slot, start_of}
+use Rattle.layout.specs.Offsets.{AreOffsetBytes, length_at, slot_at, start_at}
 use Rattle.arrays.specs.Packed.{IsBufferOf}
 use Rattle.layout.specs.Seen.{Seen, no_entries}
 use Rattle.arrays.specs.Shown.{kept, shown}
 use Rattle.arrays.proofs.CutLemmas.{cut_by, cut-from, lists_cut, slot_length, Rises, texts_cut, total-from, total-push}
 use Rattle.types.proofs.EncodingLemmas.{length-bytes_of_number, number_at-append-front, number_at-append-end}
-use Rattle.arrays.proofs.ListLemmas.{map-range-below}
+use Rattle.layout.proofs.ListLemmas.{map-range-below}
 use Rattle.arrays.proofs.ValidityLemmas.{IsKept, kept_buffer}
+use Rattle.types.specs.Limits.{most_slots}
 
 -- ---- one offset more
 
@@ -34,7 +35,7 @@ pub record AreFollowed (n : ℕ) (before after : List ℕ) (end : ℕ) : Type 0 
   pub last : number_at int32 after (n + 1) ≡ pos end
   pub size : length after ≡ length before + 4
 
-pub offset_more : (n : ℕ) (offsets : List ℕ) (end : ℕ) → length offsets ≡ 4 * (n + 1) → end ≤ 2147483647
+pub offset_more : (n : ℕ) (offsets : List ℕ) (end : ℕ) → length offsets ≡ 4 * (n + 1) → end ≤ most_slots
     → AreFollowed n offsets (offsets ++ bytes_of_number int32 (pos end)) end
 offset_more n offsets end size short =
     let fits : IsOfType int32 (pos end) = omega (arith, ints) in
@@ -44,20 +45,20 @@ offset_more n offsets end size short =
       size = omega (arith, length-append offsets (bytes_of_number int32 (pos end)), length-bytes_of_number int32 (pos end));
     }
 
-start_same : (n : ℕ) (before after : List ℕ) (end : ℕ) → AreFollowed n before after end → (j : ℕ) → j < n + 1 → start_of after j ≡ start_of before j
+start_same : (n : ℕ) (before after : List ℕ) (end : ℕ) → AreFollowed n before after end → (j : ℕ) → j < n + 1 → start_at after j ≡ start_at before j
 start_same n before after end is j h = ap natural (is.front j h)
 
-start_last : (n : ℕ) (before after : List ℕ) (end : ℕ) → AreFollowed n before after end → start_of after (n + 1) ≡ end
+start_last : (n : ℕ) (before after : List ℕ) (end : ℕ) → AreFollowed n before after end → start_at after (n + 1) ≡ end
 start_last n before after end is = ap natural is.last
 
-length_same : (n : ℕ) (before after : List ℕ) (end : ℕ) → AreFollowed n before after end → (j : ℕ) → j < n → length_of after j ≡ length_of before j
+length_same : (n : ℕ) (before after : List ℕ) (end : ℕ) → AreFollowed n before after end → (j : ℕ) → j < n → length_at after j ≡ length_at before j
 length_same n before after end is j h =
     let here = start_same n before after end is j (omega (arith, h)) in
     let next = start_same n before after end is (j + 1) (omega (arith, h)) in
-    ap (λ e. e - start_of after j) next ∙ ap (λ s. start_of before (j + 1) - s) here
+    ap (λ e. e - start_at after j) next ∙ ap (λ s. start_at before (j + 1) - s) here
 
-bounds_more : (n : ℕ) (before after : List ℕ) (most end : ℕ) → AreFollowed n before after end → AreOffsets n before most → start_of before n ≡ most → most ≤ end
-    → length before ≡ 4 * (n + 1) → AreOffsets (n + 1) after end
+bounds_more : (n : ℕ) (before after : List ℕ) (most end : ℕ) → AreFollowed n before after end → AreOffsetBytes n before most → start_at before n ≡ most → most ≤ end
+    → length before ≡ 4 * (n + 1) → AreOffsetBytes (n + 1) after end
 bounds_more n before after most end is are ends le size =
     let last = start_last n before after end is in
     let seam = start_same n before after end is n (omega arith) in
@@ -68,7 +69,7 @@ bounds_more n before after most end is are ends le size =
           below_more (λ k. is_negative (number_at int32 after k) ≡ false) (n + 1) (λ k below. ap is_negative (is.front k below) ∙ are.counted k (omega (arith, below)))
           (ap is_negative is.last ∙ le-ltb end 0 (omega arith)) j (omega (arith, h));
       rising =
-          below_more (λ j. start_of after j ≤ start_of after (j + 1)) n
+          below_more (λ j. start_at after j ≤ start_at after (j + 1)) n
           (λ j below.
           let here = start_same n before after end is j (omega (arith, below)) in
           let next = start_same n before after end is (j + 1) (omega (arith, below)) in
@@ -78,7 +79,7 @@ bounds_more n before after most end is are ends le size =
       last = omega (arith, last);
     }
 
-pub fresh-push : (valid : List Bool) (offsets : List ℕ) (most more : ℕ) (b : Bool) → AreFresh valid offsets most → (b ≡ false → more ≡ 0) → most + more ≤ 2147483647
+pub fresh-push : (valid : List Bool) (offsets : List ℕ) (most more : ℕ) (b : Bool) → AreFresh valid offsets most → (b ≡ false → more ≡ 0) → most + more ≤ most_slots
     → AreFresh (valid ++ b ∷ []) (offsets ++ bytes_of_number int32 (pos (most + more))) (most + more)
 fresh-push valid offsets most more b is empty short =
     let n = length valid in
@@ -88,14 +89,14 @@ fresh-push valid offsets most more b is empty short =
     let last = start_last n offsets after (most + more) followed in
     let seam = start_same n offsets after (most + more) followed n (omega arith) in
     record {
-      bounds = subst (λ m. AreOffsets m after (most + more)) (sym count) (bounds_more n offsets after most (most + more) followed is.bounds is.ends (omega arith) is.size);
+      bounds = subst (λ m. AreOffsetBytes m after (most + more)) (sym count) (bounds_more n offsets after most (most + more) followed is.bounds is.ends (omega arith) is.size);
       first = start_same n offsets after (most + more) followed 0 (omega arith) ∙ is.first;
-      ends = ap (start_of after) count ∙ last;
+      ends = ap (start_at after) count ∙ last;
       size = omega (arith, followed.size, is.size, count);
       short = short;
       empty =
           λ j below.
-          below_more (λ k. get_or (valid ++ b ∷ []) k false ≡ false → length_of after k ≡ 0) n
+          below_more (λ k. get_or (valid ++ b ∷ []) k false ≡ false → length_at after k ≡ 0) n
           (λ k under zero.
           length_same n offsets after (most + more) followed k under
           ∙ is.empty k under (sym (get_or_append_left valid (b ∷ []) false k under) ∙ zero))
@@ -104,7 +105,7 @@ fresh-push valid offsets most more b is empty short =
           omega (arith, last, seam, is.ends, none)) j (omega (arith, below, count));
     }
 
-pub lengths-push : (valid : List Bool) (offsets : List ℕ) (most more : ℕ) (b : Bool) → AreFresh valid offsets most → most + more ≤ 2147483647
+pub lengths-push : (valid : List Bool) (offsets : List ℕ) (most more : ℕ) (b : Bool) → AreFresh valid offsets most → most + more ≤ most_slots
     → lengths_where (valid ++ b ∷ []) (offsets ++ bytes_of_number int32 (pos (most + more))) ≡ lengths_where valid offsets ++ cond b (Some more) None ∷ []
 unfolding lengths_where
 lengths-push valid offsets most more b is short =
@@ -115,16 +116,16 @@ lengths-push valid offsets most more b is short =
     let at' = slot_length (λ j. get_or valid j false) offsets in
     let front : (j : ℕ) → j < n → at j ≡ at' j =
     λ j below.
-    ap (λ v. cond v (Some (length_of after j)) None) (get_or_append_left valid (b ∷ []) false j below)
+    ap (λ v. cond v (Some (length_at after j)) None) (get_or_append_left valid (b ∷ []) false j below)
     ∙ ap (λ l. cond (get_or valid j false) (Some l) None) (length_same n offsets after (most + more) followed j below) in
     let last = start_last n offsets after (most + more) followed in
     let seam = start_same n offsets after (most + more) followed n (omega arith) in
-    let long : length_of after n ≡ more = omega (arith, last, seam, is.ends) in
+    let long : length_at after n ≡ more = omega (arith, last, seam, is.ends) in
     ap (λ m. map at (range_with_len 0 m)) (length-append valid (b ∷ []))
     ∙ map-range_with_len_more at 0 n n (zero-add n)
     ∙ ap (λ xs. xs ++ at n ∷ []) (map-range-below at at' 0 n (λ j below. ap at (zero-add j) ∙ front j below ∙ ap at' (sym (zero-add j))))
     ∙ ap (λ x. map at' (range_with_len 0 n) ++ x ∷ [])
-    (ap (λ v. cond v (Some (length_of after n)) None) (get_or-append_seam valid b [] false) ∙ ap (λ l. cond b (Some l) None) long)
+    (ap (λ v. cond v (Some (length_at after n)) None) (get_or-append_seam valid b [] false) ∙ ap (λ l. cond b (Some l) None) long)
 
 pub length-lengths_where : (valid : List Bool) (offsets : List ℕ) → length (lengths_where valid offsets) ≡ length valid
 unfolding lengths_where
@@ -142,7 +143,7 @@ total-fresh valid offsets most is =
 -- ---- a slot more
 
 -- the end as a number of 128 bits
-pub wide : (n : ℕ) → n ≤ 2147483647 → to_z w128 n ≡ pos n
+pub wide : (n : ℕ) → n ≤ most_slots → to_z w128 n ≡ pos n
 wide n short = omega (arith, ints)
 
 slot_again : (slot : Option ℕ) → cond (is_some slot) (Some (unwrap_or slot 0)) None ≡ slot
@@ -159,7 +160,7 @@ pub record Grown (valid : List Bool) (offsets : List ℕ) (most : ℕ) (old : Li
   pub one_more : lengths_where valid offsets ≡ old ++ slot ∷ []
 
 pub grown : (valid flags : List Bool) (offsets bytes : List ℕ) (most more : ℕ) (b : Bool) (old : List (Option ℕ)) (slot : Option ℕ) → lengths_where valid offsets ≡ old → AreFresh valid offsets most
-    → b ≡ is_some slot → more ≡ unwrap_or slot 0 → most + more ≤ 2147483647 → bytes ≡ offsets ++ bytes_of_number int32 (pos (most + more)) → flags ≡ valid ++ b ∷ []
+    → b ≡ is_some slot → more ≡ unwrap_or slot 0 → most + more ≤ most_slots → bytes ≡ offsets ++ bytes_of_number int32 (pos (most + more)) → flags ≡ valid ++ b ∷ []
     → Grown flags bytes (most + more) old slot
 grown valid flags offsets bytes most more b old slot view_is is b_is more_is short bytes_are flags_are =
     let after = offsets ++ bytes_of_number int32 (pos (most + more)) in
@@ -178,31 +179,31 @@ grown valid flags offsets bytes most more b old slot view_is is b_is more_is sho
 
 -- a slot that the offsets don't hold
 pub past_by : (valid : List Bool) (offsets : List ℕ) (most : ℕ) (old : List (Option ℕ)) (slot : Option ℕ) → lengths_where valid offsets ≡ old → AreFresh valid offsets most
-    → 2147483647 < most + unwrap_or slot 0 → is_past (total (old ++ slot ∷ [])) ≡ true
+    → most_slots < most + unwrap_or slot 0 → is_past (total (old ++ slot ∷ [])) ≡ true
 past_by valid offsets most old slot view_is is past =
     let old_total : total old ≡ most = ap total (sym view_is) ∙ total-fresh valid offsets most is in
-    lt-ltb 2147483647 (total (old ++ slot ∷ [])) (omega (arith, past, old_total, total-push old slot))
+    lt-ltb most_slots (total (old ++ slot ∷ [])) (omega (arith, past, old_total, total-push old slot))
 
 -- a slot that they hold
 pub within_by : (valid : List Bool) (offsets : List ℕ) (most : ℕ) (old : List (Option ℕ)) (slot : Option ℕ) → lengths_where valid offsets ≡ old → AreFresh valid offsets most
-    → most + unwrap_or slot 0 ≤ 2147483647 → is_past (total (old ++ slot ∷ [])) ≡ false
+    → most + unwrap_or slot 0 ≤ most_slots → is_past (total (old ++ slot ∷ [])) ≡ false
 within_by valid offsets most old slot view_is is within =
     let old_total : total old ≡ most = ap total (sym view_is) ∙ total-fresh valid offsets most is in
-    le-ltb 2147483647 (total (old ++ slot ∷ [])) (omega (arith, within, old_total, total-push old slot))
+    le-ltb most_slots (total (old ++ slot ∷ [])) (omega (arith, within, old_total, total-push old slot))
 
 same_bools : (x y : Bool) → (x ≡ true → y ≡ true) → (x ≡ false → y ≡ false) → x ≡ y
 same_bools true y h k = sym (h refl)
 same_bools false y h k = sym (k refl)
 
-same_test : (m n sum : ℕ) → m ≤ 2147483647 → sum ≡ m + n → nat_lt (2147483647 - m) n ≡ is_past sum
+same_test : (m n sum : ℕ) → m ≤ most_slots → sum ≡ m + n → nat_lt (most_slots - m) n ≡ is_past sum
 same_test m n sum short is =
-    same_bools (nat_lt (2147483647 - m) n) (is_past sum)
-    (λ h. lt-ltb 2147483647 sum (omega (arith, short, is, ltb-true (2147483647 - m) n h)))
-    (λ h. le-ltb 2147483647 sum (omega (arith, short, is, ltb-false (2147483647 - m) n h)))
+    same_bools (nat_lt (most_slots - m) n) (is_past sum)
+    (λ h. lt-ltb most_slots sum (omega (arith, short, is, ltb-true (most_slots - m) n h)))
+    (λ h. le-ltb most_slots sum (omega (arith, short, is, ltb-false (most_slots - m) n h)))
 
 -- whether they hold it
 pub full_for : (valid : List Bool) (offsets : List ℕ) (most : ℕ) (old : List (Option ℕ)) (more : ℕ) → lengths_where valid offsets ≡ old → AreFresh valid offsets most
-    → most ≤ 2147483647 → nat_lt (2147483647 - most) more ≡ is_past (total (old ++ Some more ∷ []))
+    → most ≤ most_slots → nat_lt (most_slots - most) more ≡ is_past (total (old ++ Some more ∷ []))
 full_for valid offsets most old more view_is is short =
     let old_total : total old ≡ most = ap total (sym view_is) ∙ total-fresh valid offsets most is in
     same_test most more (total (old ++ Some more ∷ [])) short (omega (arith, old_total, total-push old (Some more)))
@@ -244,7 +245,7 @@ lengths-none valid offsets no_slots = ap (λ (v : List Bool). map (slot_length (
 listed : (valid : List Bool) → valid ≡ map (λ i. get_or valid i false) (range_with_len 0 (length valid))
 listed valid = fill_by_all (λ i. get_or valid i false) valid (length valid) false refl (λ k h. refl)
 
-laid_as : (valid : List Bool) (offsets : List ℕ) (most : ℕ) (bitmap : Option (List Bool)) (validity : Option (List ℕ)) → AreFresh valid offsets most → length valid ≤ 2147483647
+laid_as : (valid : List Bool) (offsets : List ℕ) (most : ℕ) (bitmap : Option (List Bool)) (validity : Option (List ℕ)) → AreFresh valid offsets most → length valid ≤ most_slots
     → bitmap ≡ kept valid → IsBufferOf validity bitmap → AreLaid (lengths_where valid offsets) (length valid) validity offsets
 unfolding lengths_where
 laid_as valid offsets most bitmap validity is short kept_is holds =
@@ -256,17 +257,17 @@ laid_as valid offsets most bitmap validity is short kept_is holds =
     record {
       short = short;
       long = packed.long;
-      bounds = subst (λ m. AreOffsets n offsets m) (sym (total-fresh valid offsets most is)) is.bounds;
+      bounds = subst (λ m. AreOffsetBytes n offsets m) (sym (total-fresh valid offsets most is)) is.bounds;
       first = is.first;
       needed = packed.shown ∙ ap kept (map-range-below at (is_valid_in validity) 0 n same);
       slots =
           map-range-below (slot_length at offsets) (slot_length (is_valid_in validity) offsets) 0 n
-          (λ i below. ap (λ v. cond v (Some (length_of offsets (0 + i))) None) (same i below));
+          (λ i below. ap (λ v. cond v (Some (length_at offsets (0 + i))) None) (same i below));
       empty = λ j below zero. is.empty j below (sym (packed.each j below) ∙ zero);
     }
 
 pub laid : (valid : List Bool) (offsets bytes : List ℕ) (most n : ℕ) (old : List (Option ℕ)) (bitmap : Option (List Bool)) (validity : Option (List ℕ)) → lengths_where valid offsets ≡ old
-    → AreFresh valid offsets most → n ≡ length valid → n ≤ 2147483647 → bitmap ≡ kept valid → IsBufferOf validity bitmap → bytes ≡ offsets → AreLaid old n validity bytes
+    → AreFresh valid offsets most → n ≡ length valid → n ≤ most_slots → bitmap ≡ kept valid → IsBufferOf validity bitmap → bytes ≡ offsets → AreLaid old n validity bytes
 laid valid offsets bytes most n old bitmap validity view_is is count short kept_is holds bytes_are =
     let same = laid_as valid offsets most bitmap validity is (omega (arith, count, short)) kept_is holds in
     subst (λ o. AreLaid old n validity o) (sym bytes_are) (subst (λ m. AreLaid old m validity offsets) (sym count) (subst (λ ls. AreLaid ls (length valid) validity offsets) view_is same))
@@ -277,7 +278,7 @@ column : Kind → Option (List Bool) → List Item → Seen
 column k v items = record { kind = k; validity = v; items = items; codes = []; entries = no_entries }
 
 pub items-laid : {A : Type 0} (wrap : List A → Item) (lengths : List (Option ℕ)) (n : ℕ) (validity : Option (List ℕ)) (offsets : List ℕ) (values : List A) → AreLaid lengths n validity offsets
-    → cut_by wrap null lengths values ≡ map (λ j. cond (is_valid_in validity j) (wrap (of_slot offsets values j)) null) (range_with_len 0 n)
+    → cut_by wrap null lengths values ≡ map (λ j. cond (is_valid_in validity j) (wrap (slot_at offsets values j)) null) (range_with_len 0 n)
 items-laid wrap lengths n validity offsets values is =
     ap (λ ls. cut_by wrap null ls values) is.slots
     ∙ ap (λ s. cut_by wrap null (map (slot_length (is_valid_in validity) offsets) (range_with_len 0 n)) (drop s values)) (sym is.first)
@@ -289,14 +290,14 @@ there false x h = refl
 
 pub shown-laid : {A : Type 0} (wrap : List A → Item) (k : Kind) (lengths : List (Option ℕ)) (n : ℕ) (validity : Option (List ℕ)) (offsets : List ℕ) (values : List A)
     → ((xs : List A) → is_null (wrap xs) ≡ false) → AreLaid lengths n validity offsets
-    → show_slots k n validity (λ j. wrap (of_slot offsets values j)) ≡ shown k (cut_by wrap null lengths values)
+    → show_slots k n validity (λ j. wrap (slot_at offsets values j)) ≡ shown k (cut_by wrap null lengths values)
 unfolding column
 shown-laid wrap k lengths n validity offsets values wrapped is =
-    let slot : ℕ → Item = λ j. cond (is_valid_in validity j) (wrap (of_slot offsets values j)) null in
+    let slot : ℕ → Item = λ j. cond (is_valid_in validity j) (wrap (slot_at offsets values j)) null in
     let items : map slot (range_with_len 0 n) ≡ cut_by wrap null lengths values = sym (items-laid wrap lengths n validity offsets values is) in
     let known : map (λ x. not (is_null x)) (map slot (range_with_len 0 n)) ≡ map (is_valid_in validity) (range_with_len 0 n) =
     map-map (λ x. not (is_null x)) slot (range_with_len 0 n)
-    ∙ map-range-below (λ j. not (is_null (slot j))) (is_valid_in validity) 0 n (λ j below. there (is_valid_in validity (0 + j)) (wrap (of_slot offsets values (0 + j))) (wrapped (of_slot offsets values (0 + j)))) in
+    ∙ map-range-below (λ j. not (is_null (slot j))) (is_valid_in validity) 0 n (λ j below. there (is_valid_in validity (0 + j)) (wrap (slot_at offsets values (0 + j))) (wrapped (slot_at offsets values (0 + j)))) in
     ap (λ v. column k v (map slot (range_with_len 0 n))) (is.needed ∙ ap kept (sym known))
     ∙ ap (shown k) items
 
@@ -305,11 +306,11 @@ pub texts-laid : (lengths : List (Option ℕ)) (n : ℕ) (validity : Option (Lis
 texts-laid lengths n validity offsets bytes is texts = record {
   each =
       λ j below valid.
-      let slot : ℕ → Item = λ i. cond (is_valid_in validity i) (text (of_slot offsets bytes i)) null in
+      let slot : ℕ → Item = λ i. cond (is_valid_in validity i) (text (slot_at offsets bytes i)) null in
       let all = subst (All IsText) (texts_cut lengths bytes ∙ items-laid text lengths n validity offsets bytes is) texts.utf8 in
       let here = All-get_or IsText (map slot (range_with_len 0 n)) j null (omega (arith, below, length-map-range_with_len slot 0 n)) all in
-      let same : get_or (map slot (range_with_len 0 n)) j null ≡ text (of_slot offsets bytes j) =
-      get_or-map-range_with_len slot 0 n j j null below (zero-add j) ∙ ap (λ v. cond v (text (of_slot offsets bytes j)) null) valid in
+      let same : get_or (map slot (range_with_len 0 n)) j null ≡ text (slot_at offsets bytes j) =
+      get_or-map-range_with_len slot 0 n j j null below (zero-add j) ∙ ap (λ v. cond v (text (slot_at offsets bytes j)) null) valid in
       subst IsText same here;
 }
 

@@ -7,7 +7,6 @@ pub mod ViewLemmas
 pub mod SlotLemmas
 pub mod TruthLemmas
 pub mod PartLemmas
-pub mod OffsetParts
 pub mod DictionaryViews
 pub mod NumberLemmas
 pub mod DictionaryLemmas
@@ -17,6 +16,7 @@ pub mod LaidLemmas
 pub mod SlotsLemmas
 pub mod FinishedLemmas
 pub mod GrowingLemmas
+pub mod SizeLemmas
 pub mod TypedLemmas
 pub mod BatchLemmas
 pub mod SendingLemmas

@@ -4,7 +4,7 @@ use Rattle.layout.specs.declared.fault.LayoutFault.{LayoutFault}
 use Rattle.layout.specs.declared.raw.RawArray.{RawArray, RawArray-F, roll-RawArray, out-roll-RawArray}
 use Rattle.std.specs.Arc.{arc_value}
 use Rattle.types.specs.Kind as kind
-use Rattle.types.specs.Kind.{Kind, bytes_of, depth, kind_of, same_int, same_kind}
+use Rattle.types.specs.Kind.{Kind, bytes_of, depth, kind_of, same_kind}
 use Rattle.layout.specs.Seen.{Seen}
 use Rattle.layout.specs.Checked.{checked, checked_texts}
 use Rattle.arrays.specs.Array.{kind_with, read_array, show_array, words_with}
@@ -12,7 +12,7 @@ use Rattle.arrays.specs.Parts.{read_alone}
 use Rattle.layout.specs.Reading.{Reading, read_parts, reading, inner_of}
 use Rattle.types.specs.First.{first}
 use Rattle.layout.specs.Fault.{Inner, do_parts_differ, is_validity_short, own_fault}
-use Rattle.layout.specs.Offsets.{AreOffsets, start_of}
+use Rattle.layout.specs.Offsets.{AreOffsetBytes, start_at}
 use Rattle.layout.specs.Inner.{inner_children, inner_dictionary, own_fault_of}
 use Rattle.arrays.specs.FromParts.{show_lists, list_parts}
 use Rattle.arrays.specs.declared.array.Array.TheInside.{Inside}
@@ -20,8 +20,8 @@ use Rattle.layout.specs.Layout.{Buffers, column}
 use Rattle.layout.proofs.FirstFaultLemmas.{own_fault-whole, held-reading}
 use Rattle.arrays.proofs.FromPartsLemmas.{offsets_pass}
 use Rattle.arrays.proofs.PartsLemmas.{kind-array, kind-plain}
-use Rattle.layout.proofs.SeenLemmas.{seen-kind}
 use Rattle.layout.proofs.LawfulLemmas.{either_false, no_dictionary, parts_agree, reading-again}
+use Rattle.types.specs.Limits.{most_slots}
 
 -- ---- the parts of an array that has no dictionary
 
@@ -71,13 +71,13 @@ read_over k l m n buffers parts children raw child kind_is len_is buffers_are on
     ∙ ap (λ rs. read_parts l n None parts (map reading rs) None) one
     ∙ ap (λ r. read_parts l n None parts (r ∷ []) None) is
 
-own_fault-list : (n : ℕ) (validity : Option (List ℕ)) (offsets : List ℕ) (child : Seen) → n ≤ 2147483647 → is_validity_short n validity ≡ false
-    → AreOffsets n offsets (length child.items) → same_kind child.kind kind.dict ≡ false → depth child.kind < 8
+own_fault-list : (n : ℕ) (validity : Option (List ℕ)) (offsets : List ℕ) (child : Seen) → n ≤ most_slots → is_validity_short n validity ≡ false
+    → AreOffsetBytes n offsets (length child.items) → same_kind child.kind kind.dict ≡ false → depth child.kind < 8
     → own_fault (kind.list child.kind) n None (validity ∷ Some offsets ∷ []) (inner_of (checked child) ∷ []) None ≡ None
 own_fault-list n validity offsets child short valid are other shallow =
     let pass = offsets_pass n offsets (length child.items) are in
     own_fault-whole (kind.list child.kind) n None (validity ∷ Some offsets ∷ []) (inner_of (checked child) ∷ []) None record {
-      short = le-ltb 2147483647 n short;
+      short = le-ltb most_slots n short;
       shallow = le-ltb 8 (suc (depth child.kind)) (omega arith);
       none_missing = refl;
       none_extra = refl;
@@ -86,14 +86,14 @@ own_fault-list n validity offsets child short valid are other shallow =
       data_enough = pass.enough;
       none_negative = pass.none_negative;
       none_decreases = pass.none_decreases;
-      within_end = le-ltb (length child.items) (start_of offsets n) are.last;
+      within_end = le-ltb (length child.items) (start_at offsets n) are.last;
       count_agrees = refl;
       all_texts = refl;
       all_codes = refl;
     }
 
-pub read_lists : (n : ℕ) (validity : Option (List ℕ)) (offsets : List ℕ) (child : Seen) → n ≤ 2147483647 → is_validity_short n validity ≡ false
-    → AreOffsets n offsets (length child.items) → same_kind child.kind kind.dict ≡ false → depth child.kind < 8
+pub read_lists : (n : ℕ) (validity : Option (List ℕ)) (offsets : List ℕ) (child : Seen) → n ≤ most_slots → is_validity_short n validity ≡ false
+    → AreOffsetBytes n offsets (length child.items) → same_kind child.kind kind.dict ≡ false → depth child.kind < 8
     → (read_parts (kind.list child.kind) n None (validity ∷ Some offsets ∷ []) (checked child ∷ []) None).fault ≡ None
 unfolding read_parts
 read_lists n validity offsets child short valid are other shallow =

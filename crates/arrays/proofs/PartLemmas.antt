@@ -12,30 +12,31 @@ use Rattle.colbits.proofs.BitLemmas.{get_or-bits, length-bits}
 use Rattle.layout.specs.declared.raw.RawArray.{RawArray, out-RawArray}
 use Rattle.layout.specs.Item.{Item, null, is_null, boolean, text, list, list_of}
 use Rattle.types.specs.Kind as kind
-use Rattle.types.specs.Kind.{Kind, kind_of, same_kind}
-use Rattle.layout.specs.Layout.{Buffers, bytes_at, buffer_at, is_valid, column, value_at, start_at, length_at}
+use Rattle.types.specs.Kind.{Kind, int32, kind_of, same_kind}
+use Rattle.types.specs.Number.{is_negative, number_at}
+use Rattle.layout.specs.Layout.{Buffers, bytes_at, buffer_at, is_valid, column, value_at}
 use Rattle.layout.specs.declared.fault.LayoutFault.{LayoutFault}
 use Rattle.types.specs.First.{first}
-use Rattle.layout.specs.Fault.{own_fault, bytes_for, child_length, is_no_child, bad_text_row, is_no_text}
-use Rattle.layout.specs.Inner.{HasOffsets}
+use Rattle.layout.specs.Fault.{are_offsets_short, own_fault, bytes_for, child_length, is_no_child, bad_text_row, is_no_text}
 use Rattle.layout.specs.Seen.{Seen, part, valid_in, valid_at}
 use Rattle.layout.specs.Reading.{Reading, read_parts, reading, inner_of, fault, child_fault, dictionary_fault, child_items, entries_of}
 use Rattle.layout.specs.Checked.{checked_texts}
-use Rattle.layout.specs.Offsets.{AreOffsets, offsets_from, start_of, length_of}
+use Rattle.layout.specs.Offsets.{AreOffsets, of_slot, offsets_in, slot_at}
 use Rattle.arrays.specs.Values.{HasBits, HasTexts, HasLists, valid_values}
 use Rattle.arrays.specs.Slot.{is_list, holds_at}
 use Rattle.arrays.specs.View.{read_view, show_view}
 use Rattle.arrays.specs.ViewType.{view_kind}
 use Rattle.arrays.specs.declared.view.View.TheInside.{Inside}
 use Rattle.layout.proofs.FirstFaultLemmas.{IsWhole, reading-raw}
-use Rattle.layout.proofs.ChildLemmas.{only_child}
-use Rattle.arrays.proofs.ListLemmas.{map-range-below}
+use Rattle.layout.proofs.ChildLemmas.{OneChild, only_child}
+use Rattle.layout.proofs.ListLemmas.{map-range-below}
 use Rattle.layout.proofs.OffsetLemmas.{fails-least_none}
-use Rattle.arrays.proofs.OffsetParts.{rising-texts, rising-lists, has_offsets_part, start_part, length_part, AreOffsets-part}
+use Rattle.layout.proofs.OffsetParts.{AreOffsets-part, Rising, enough-part, of_slot-in, rising-lists, rising-texts}
 use Rattle.arrays.proofs.SlotLemmas.{seen-validity, slice-column, validity-part, valid-part, valid-view, whole}
 use Rattle.layout.proofs.SeenLemmas.{length-items, length-slice, seen-kind, short-of_lawful}
 use Rattle.arrays.proofs.ViewLemmas.{length-show_view, kind-show_view}
 use Rattle.layout.proofs.LawfulLemmas.{either_false}
+use Rattle.types.specs.Limits.{most_slots}
 
 -- ---- the items of part of an array, by the value of each slot
 
@@ -132,9 +133,9 @@ bits_of_view v s shows kind_is lawful within =
 -- ---- texts
 
 is_utf8_at : (n : ℕ) (buffers : Buffers) → bad_text_row kind.utf8 n buffers ≡ None → (j : ℕ) → j < n → is_valid buffers j ≡ true
-    → IsUtf8 (slice (bytes_at buffers 2) (start_at buffers j) (length_at buffers j))
+    → IsUtf8 (slot_at (bytes_at buffers 1) (bytes_at buffers 2) j)
 is_utf8_at n buffers none j below valid =
-    let bytes = slice (bytes_at buffers 2) (start_at buffers j) (length_at buffers j) in
+    let bytes = slot_at (bytes_at buffers 1) (bytes_at buffers 2) j in
     let fine : (true && not (is_utf8 bytes)) ≡ false = ap (λ b. b && not (is_utf8 bytes)) (sym valid) ∙ fails-least_none (is_no_text buffers) n none j below in
     IsUtf8-from_is_utf8 bytes (not_false (is_utf8 bytes) fine)
   where
@@ -142,46 +143,60 @@ is_utf8_at n buffers none j below valid =
     not_false true h = refl
     not_false false h = cc
 
--- the texts of a view
-pub record ViewTexts (v : Inside) (s : Seen) : Type 0 where
-  pub enough : HasOffsets (v.start + v.len) (bytes_at v.buffers.now 1)
-  pub texts : HasTexts (offsets_from (bytes_at v.buffers.now 1) v.start v.len) (bytes_at v.buffers.now 2) s
+-- The offsets of n slots are there from slot `start` on.
+pub record HasOffsets (first : List ℕ) (start n : ℕ) : Type 0 where
+  pub enough : are_offsets_short (start + n) first ≡ false
+  pub counted : (j : ℕ) → j ≤ start + n → is_negative (number_at int32 first j) ≡ false
 
-pub texts_of_view : (v : Inside) (s : Seen) → show_view v ≡ s → s.kind ≡ kind.utf8 → (read_view v).fault ≡ None → v.start + v.len ≤ v.total → ViewTexts v s
-texts_of_view v s shows kind_is lawful within =
+has_offsets : (total : ℕ) (first : List ℕ) (most : ℕ) → Rising total first most → (start n : ℕ) → start + n ≤ total → HasOffsets first start n
+has_offsets total first most rises start n within = record {
+  enough = enough-part total (start + n) first rises.enough within;
+  counted = λ j below. rises.counted j (omega (arith, below, within));
+}
+
+-- The texts of a view, whose offsets and bytes are these.
+pub record ViewTexts (first bytes : List ℕ) (start n : ℕ) (s : Seen) : Type 0 where
+  pub there : HasOffsets first start n
+  pub texts : HasTexts (offsets_in first start n) bytes s
+
+whole_texts : (v : Inside) (s : Seen) → show_view v ≡ s → s.kind ≡ kind.utf8 → (read_view v).fault ≡ None → v.start + v.len ≤ v.total
+    → ViewTexts (bytes_at v.buffers.now 1) (bytes_at v.buffers.now 2) v.start v.len s
+whole_texts v s shows kind_is lawful within =
     let buffers = v.buffers.now in
+    let first = bytes_at buffers 1 in
     let bytes = bytes_at buffers 2 in
-    let offsets = offsets_from (bytes_at buffers 1) v.start v.len in
+    let offsets = offsets_in first v.start v.len in
     let is = kind_shown v s shows ∙ kind_is in
     let w = whole_view v kind.utf8 is lawful in
     let rises = rising-texts v.total None buffers _ _ w in
     let slots = length-show_view v within in
-    let same : (j : ℕ) → j < v.len → slice (bytes_at buffers 2) (start_at buffers (v.start + j)) (length_at buffers (v.start + j)) ≡ slice bytes (start_of offsets j) (length_of offsets j) =
-    λ j h.
-    ap (λ a. slice bytes a (length_at buffers (v.start + j))) (sym (start_part v.total (bytes_at buffers 1) rises.enough v.start v.len within j (omega (arith, h))))
-    ∙ ap (slice bytes (start_of offsets j)) (sym (length_part v.total (bytes_at buffers 1) rises.enough v.start v.len within j h)) in
     record {
-      enough = has_offsets_part v.total (v.start + v.len) (bytes_at buffers 1) rises.enough within;
+      there = has_offsets v.total first (length bytes) rises v.start v.len within;
       texts = subst (HasTexts offsets bytes) shows (record {
-        bounds = subst (λ n. AreOffsets n offsets (length bytes)) (sym slots) (AreOffsets-part v.total (bytes_at buffers 1) (length bytes) rises v.start v.len within);
-        texts = items-view v _ within (λ j h. value_is v kind.utf8 is j ∙ ap text (same j h));
+        bounds = subst (λ n. AreOffsets n offsets (length bytes)) (sym slots) (AreOffsets-part v.total first (length bytes) rises v.start v.len within);
+        texts = items-view v _ within (λ j h. value_is v kind.utf8 is j ∙ ap text (sym (of_slot-in first bytes v.start v.len j h)));
         utf8 =
             λ j h valid.
             let below : j < v.len = omega (arith, h, slots) in
-            subst IsUtf8 (same j below) (is_utf8_at v.total buffers w.all_texts (v.start + j) (omega (arith, below, within)) (sym (valid-view v j within below) ∙ valid));
+            subst IsUtf8 (sym (of_slot-in first bytes v.start v.len j below))
+            (is_utf8_at v.total buffers w.all_texts (v.start + j) (omega (arith, below, within)) (sym (valid-view v j within below) ∙ valid));
       });
     }
 
--- the same of what was read
-pub texts_read : (v : Inside) (s : Seen) (from offsets bytes : List ℕ) → show_view v ≡ s → s.kind ≡ kind.utf8 → (read_view v).fault ≡ None → v.start + v.len ≤ v.total
-    → from ≡ bytes_at v.buffers.now 1 → offsets ≡ offsets_from from v.start v.len → bytes ≡ bytes_at v.buffers.now 2 → HasTexts offsets bytes s
-texts_read v s from offsets bytes shows kind_is lawful within from_is offsets_is bytes_is =
-    subst (λ o. HasTexts o bytes s) (sym (offsets_is ∙ ap (λ b. offsets_from b v.start v.len) from_is))
-    (subst (λ b. HasTexts (offsets_from (bytes_at v.buffers.now 1) v.start v.len) b s) (sym bytes_is) (texts_of_view v s shows kind_is lawful within).texts)
+-- as many slots as a view has items
+slots_of : (v : Inside) (s : Seen) (n : ℕ) → show_view v ≡ s → v.start + v.len ≤ v.total → n ≡ length s.items → v.len ≡ n
+slots_of v s n shows within slots = sym (length-show_view v within) ∙ ap (λ (q : Seen). length q.items) shows ∙ sym slots
+
+pub texts_of_view : (v : Inside) (s : Seen) (first bytes : List ℕ) (n : ℕ) → show_view v ≡ s → s.kind ≡ kind.utf8 → (read_view v).fault ≡ None → v.start + v.len ≤ v.total
+    → first ≡ bytes_at v.buffers.now 1 → bytes ≡ bytes_at v.buffers.now 2 → n ≡ length s.items → ViewTexts first bytes v.start n s
+texts_of_view v s first bytes n shows kind_is lawful within first_is bytes_is slots =
+    subst (λ f. ViewTexts f bytes v.start n s) (sym first_is)
+    (subst (λ b. ViewTexts (bytes_at v.buffers.now 1) b v.start n s) (sym bytes_is)
+    (subst (λ m. ViewTexts (bytes_at v.buffers.now 1) (bytes_at v.buffers.now 2) v.start m s) (slots_of v s n shows within slots) (whole_texts v s shows kind_is lawful within)))
 
 -- ---- lists
 
-list_kind : (k : Kind) → is_list k ≡ true → (j : Kind) × (k ≡ kind.list j)
+pub list_kind : (k : Kind) → is_list k ≡ true → (j : Kind) × (k ≡ kind.list j)
 list_kind (kind.int t) h = cc
 list_kind kind.boolean h = cc
 list_kind kind.utf8 h = cc
@@ -192,28 +207,20 @@ some_child : (k : Kind) (children : List RawArray) → is_no_child k (map inner_
 some_child k [] h = cc
 some_child k (c ∷ cs) h = omega arith
 
--- a view of lists has offsets and a child
-pub record ViewChild (v : Inside) : Type 0 where
-  pub enough : HasOffsets (v.start + v.len) (bytes_at v.buffers.now 1)
-  pub there : 0 < length v.children.now
-
-pub child_of_view : (v : Inside) (s : Seen) → show_view v ≡ s → is_list s.kind ≡ true → (read_view v).fault ≡ None → v.start + v.len ≤ v.total → ViewChild v
-child_of_view v s shows listed lawful within =
+-- a view of lists has a child
+pub child_there : (v : Inside) (s : Seen) → show_view v ≡ s → is_list s.kind ≡ true → (read_view v).fault ≡ None → 0 < length v.children.now
+child_there v s shows listed lawful =
     let of = list_kind s.kind listed in
     let w = whole_view v (kind.list of.0) (kind_shown v s shows ∙ of.1) lawful in
-    record {
-      enough = has_offsets_part v.total (v.start + v.len) (bytes_at v.buffers.now 1) w.data_enough within;
-      there = some_child of.0 v.children.now (either_false _ _ w.parts_agree).0;
-    }
+    some_child of.0 v.children.now (either_false _ _ w.parts_agree).0
 
--- the lists of a view, and its child
-pub record ViewLists (v : Inside) (s : Seen) (raw : RawArray) : Type 0 where
-  pub lawful : fault raw ≡ None
-  pub plain : same_kind (kind_of (out-RawArray raw).ty) kind.dict ≡ false
-  pub no_dict : same_kind (reading raw).seen.kind kind.dict ≡ false
-  pub depth : kind.depth (reading raw).seen.kind < 8
-  pub short : length (reading raw).seen.items ≤ 2147483647
-  pub lists : HasLists (offsets_from (bytes_at v.buffers.now 1) v.start v.len) (reading raw).seen s
+-- The lists of a view, whose offsets and child are these.
+pub record ViewLists (first : List ℕ) (start n : ℕ) (s child : Seen) : Type 0 where
+  pub there : HasOffsets first start n
+  pub no_dict : same_kind child.kind kind.dict ≡ false
+  pub depth : kind.depth child.kind < 8
+  pub short : length child.items ≤ most_slots
+  pub lists : HasLists (offsets_in first start n) child s
 
 seen-reading : (raw : RawArray) → ((reading raw).seen.kind ≡ (reading raw).kind) × (length (reading raw).seen.items ≡ (reading raw).length)
 unfolding read_parts
@@ -227,7 +234,7 @@ seen-reading raw =
     )
 
 -- a lawful array has few items
-seen-short : (raw : RawArray) → fault raw ≡ None → length (reading raw).seen.items ≤ 2147483647
+seen-short : (raw : RawArray) → fault raw ≡ None → length (reading raw).seen.items ≤ most_slots
 seen-short raw lawful =
     let r = out-RawArray raw in
     let children = map reading r.children.items in
@@ -237,49 +244,55 @@ seen-short raw lawful =
     let items = length-items (kind_of r.ty) r.length r.null_count r.buffers.items children dictionary in
     omega (arith, short, ap (λ (q : Reading). length q.seen.items) is, items)
 
-pub lists_of_view : (v : Inside) (s : Seen) (d : RawArray) → show_view v ≡ s → is_list s.kind ≡ true → (read_view v).fault ≡ None → v.start + v.len ≤ v.total → ViewLists v s (slice_index_or v.children.now 0 d)
-lists_of_view v s d shows listed lawful within =
-    let buffers = v.buffers.now in
-    let offsets = offsets_from (bytes_at buffers 1) v.start v.len in
+pub child_of_view : (v : Inside) (s : Seen) (raw : RawArray) → show_view v ≡ s → (listed : is_list s.kind ≡ true) → (read_view v).fault ≡ None → raw ≡ slice_index_or v.children.now 0 raw
+    → OneChild (list_kind s.kind listed).0 v.children.now raw
+child_of_view v s raw shows listed lawful is =
+    let of = list_kind s.kind listed in
+    let w = whole_view v (kind.list of.0) (kind_shown v s shows ∙ of.1) lawful in
+    subst (OneChild of.0 v.children.now) (sym is)
+    (only_child of.0 v.children.now raw (either_false _ _ w.parts_agree).0
+    (children_lawful (view_kind v.ty) v.total v.buffers.now (map reading v.children.now) (option_map checked_texts (option_map (λ w. arc_value w.now) v.words)) lawful))
+
+whole_lists : (v : Inside) (s : Seen) (raw : RawArray) → show_view v ≡ s → is_list s.kind ≡ true → (read_view v).fault ≡ None → v.start + v.len ≤ v.total → raw ≡ slice_index_or v.children.now 0 raw
+    → ViewLists (bytes_at v.buffers.now 1) v.start v.len s (reading raw).seen
+whole_lists v s raw shows listed lawful within raw_is =
+    let first = bytes_at v.buffers.now 1 in
+    let inner = (reading raw).seen in
+    let offsets = offsets_in first v.start v.len in
     let of = list_kind s.kind listed in
     let is = kind_shown v s shows ∙ of.1 in
     let w = whole_view v (kind.list of.0) is lawful in
-    let raw = slice_index_or v.children.now 0 d in
-    let child = only_child of.0 v.children.now d (either_false _ _ w.parts_agree).0 (children_lawful (view_kind v.ty) v.total buffers (map reading v.children.now) (option_map checked_texts (option_map (λ w. arc_value w.now) v.words)) lawful) in
+    let child = child_of_view v s raw shows listed lawful raw_is in
     let seen = seen-reading raw in
-    let seen_kind : (reading raw).seen.kind ≡ of.0 = seen.0 ∙ child.kind_is in
+    let seen_kind : inner.kind ≡ of.0 = seen.0 ∙ child.kind_is in
     let few = ltb-false 8 (kind.depth (kind.list of.0)) w.shallow in
-    let most : child_length (map inner_of (map reading v.children.now)) ≡ length (reading raw).seen.items =
+    let most : child_length (map inner_of (map reading v.children.now)) ≡ length inner.items =
     ap (λ (cs : List RawArray). child_length (map inner_of (map reading cs))) child.is ∙ sym seen.1 in
-    let items : child_items (map reading v.children.now) ≡ (reading raw).seen.items = ap (λ (cs : List RawArray). child_items (map reading cs)) child.is in
-    let rises = rising-lists of.0 v.total None buffers _ _ w in
+    let items : child_items (map reading v.children.now) ≡ inner.items = ap (λ (cs : List RawArray). child_items (map reading cs)) child.is in
+    let rises = rising-lists of.0 v.total None v.buffers.now _ _ w in
     let slots = length-show_view v within in
-    let same : (j : ℕ) → j < v.len → slice (child_items (map reading v.children.now)) (start_at buffers (v.start + j)) (length_at buffers (v.start + j)) ≡ slice (reading raw).seen.items (start_of offsets j) (length_of offsets j) =
-    λ j h.
-    ap (λ xs. slice xs (start_at buffers (v.start + j)) (length_at buffers (v.start + j))) items
-    ∙ ap (λ a. slice (reading raw).seen.items a (length_at buffers (v.start + j))) (sym (start_part v.total (bytes_at buffers 1) rises.enough v.start v.len within j (omega (arith, h))))
-    ∙ ap (slice (reading raw).seen.items (start_of offsets j)) (sym (length_part v.total (bytes_at buffers 1) rises.enough v.start v.len within j h)) in
-    let bounds = AreOffsets-part v.total (bytes_at buffers 1) (child_length (map inner_of (map reading v.children.now))) rises v.start v.len within in
+    let same : (j : ℕ) → j < v.len → slot_at first (child_items (map reading v.children.now)) (v.start + j) ≡ of_slot offsets inner.items j =
+    λ j h. ap (λ xs. slot_at first xs (v.start + j)) items ∙ sym (of_slot-in first inner.items v.start v.len j h) in
+    let bounds = AreOffsets-part v.total first (child_length (map inner_of (map reading v.children.now))) rises v.start v.len within in
     record {
-      lawful = child.lawful;
-      plain = child.plain;
+      there = has_offsets v.total first _ rises v.start v.len within;
       no_dict = ap (λ k. same_kind k kind.dict) seen.0 ∙ child.no_dict;
       depth = omega (arith, few, ap kind.depth seen_kind);
       short = seen-short raw child.lawful;
       lists = record {
         kind = of.1 ∙ ap kind.list (sym child.kind_is ∙ sym seen.0);
-        bounds = subst (λ n. AreOffsets n offsets (length (reading raw).seen.items)) (sym slots ∙ ap (λ (q : Seen). length q.items) shows) (subst (AreOffsets v.len offsets) most bounds);
-        lists = subst (λ (q : Seen). q.items ≡ valid_values (λ j. list (list_of (slice (reading raw).seen.items (start_of offsets j) (length_of offsets j)))) q) shows (items-view v _ within (λ j h. value_is v (kind.list of.0) is j ∙ ap (λ xs. list (list_of xs)) (same j h)));
+        bounds = subst (λ n. AreOffsets n offsets (length inner.items)) (sym slots ∙ ap (λ (q : Seen). length q.items) shows) (subst (AreOffsets v.len offsets) most bounds);
+        lists = subst (λ (q : Seen). q.items ≡ valid_values (λ j. list (list_of (of_slot offsets inner.items j))) q) shows
+            (items-view v _ within (λ j h. value_is v (kind.list of.0) is j ∙ ap (λ xs. list (list_of xs)) (same j h)));
       };
     }
 
--- the same of what was read
-pub lists_read : (v : Inside) (s child : Seen) (raw d : RawArray) (from offsets : List ℕ) → show_view v ≡ s → is_list s.kind ≡ true → (read_view v).fault ≡ None → v.start + v.len ≤ v.total
-    → from ≡ bytes_at v.buffers.now 1 → offsets ≡ offsets_from from v.start v.len → raw ≡ slice_index_or v.children.now 0 d → child ≡ (reading raw).seen → HasLists offsets child s
-lists_read v s child raw d from offsets shows listed lawful within from_is offsets_is raw_is child_is =
-    subst (λ o. HasLists o child s) (sym (offsets_is ∙ ap (λ b. offsets_from b v.start v.len) from_is))
-    (subst (λ q. HasLists (offsets_from (bytes_at v.buffers.now 1) v.start v.len) q s) (sym (child_is ∙ ap (λ (r : RawArray). (reading r).seen) raw_is))
-    (lists_of_view v s d shows listed lawful within).lists)
+pub lists_of_view : (v : Inside) (s child : Seen) (raw : RawArray) (first : List ℕ) (n : ℕ) → show_view v ≡ s → is_list s.kind ≡ true → (read_view v).fault ≡ None → v.start + v.len ≤ v.total
+    → raw ≡ slice_index_or v.children.now 0 raw → child ≡ (reading raw).seen → first ≡ bytes_at v.buffers.now 1 → n ≡ length s.items → ViewLists first v.start n s child
+lists_of_view v s child raw first n shows listed lawful within raw_is child_is first_is slots =
+    subst (ViewLists first v.start n s) (sym child_is)
+    (subst (λ f. ViewLists f v.start n s (reading raw).seen) (sym first_is)
+    (subst (λ m. ViewLists (bytes_at v.buffers.now 1) v.start m s (reading raw).seen) (slots_of v s n shows within slots) (whole_lists v s raw shows listed lawful within raw_is)))
 
 -- ---- the item of one slot
 

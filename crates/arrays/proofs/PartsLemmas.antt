@@ -1,5 +1,5 @@
 -- What an array's parts show.
-use Rattle.std.proofs.Common.{◌≡◌, ◌≢◌, ◌∙◌, ℕ, List, map, true, false, length, Option, Some, None, option_map, ap, sym, refl}
+use Rattle.std.proofs.Common.{◌≡◌, ◌≢◌, ℕ, List, map, true, false, length, Option, Some, None, option_map, refl}
 use Rattle.std.specs.Arc.{arc_value}
 use Rattle.types.specs.Kind as kind
 use Rattle.types.specs.Kind.{Kind, kind_of, same_kind}

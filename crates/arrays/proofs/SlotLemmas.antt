@@ -1,11 +1,10 @@
 -- The slots of a view.
-use Rattle.std.proofs.Common.{◌≡◌, ◌∙◌, ℕ, ◌+◌, ◌-◌, ◌*◌, ◌<◌, ◌≤◌, ℤ, List, [], ◌∷◌, map, Bool, true, false, not, length, take, cond, Option, Some, None, option_map, ap, sym, refl, subst, arith, pos, count_by, zero-add, ltb-false, slice_get, get_or}
+use Rattle.std.proofs.Common.{◌≡◌, ◌∙◌, ℕ, ◌+◌, ◌-◌, ◌*◌, ◌<◌, ◌≤◌, ℤ, List, [], ◌∷◌, map, Bool, true, false, not, length, take, cond, Option, Some, None, option_map, ap, sym, refl, subst, arith, count_by, zero-add, ltb-false, slice_get, get_or}
 use Rattle.std.specs.List.{range_with_len}
 use Rattle.std.proofs.lemmas.List.FromFn.{get_or-map-range_with_len, take-map-range_with_len}
 use Rattle.std.proofs.lemmas.List.Sums.{sum_by-cons}
 use Rattle.std.proofs.lemmas.Nat.{row_fits, mul-le}
 use Rattle.std.proofs.lemmas.Option.{slice_get-get_or}
-use Rattle.std.specs.Int.{cast_signed, from_le_bytes}
 use Rattle.std.specs.Arc.{arc_value}
 use Rattle.colbits.specs.Bit.{bits}
 use Rattle.colbits.specs.Slice.{slice}
@@ -13,7 +12,7 @@ use Rattle.colbits.proofs.BitLemmas.{get_or-bits, slice-bits, drop-map-range, ma
 use Rattle.types.specs.declared.int_type.IntType.{IntType}
 use Rattle.layout.specs.Item.{Item, null, int}
 use Rattle.types.specs.Kind as kind
-use Rattle.types.specs.Kind.{Kind, bits_of, bytes_of}
+use Rattle.types.specs.Kind.{Kind, bytes_of}
 use Rattle.layout.specs.Layout.{Buffers, buffer_at, bytes_at, is_valid, is_valid_in, validity_of, column, value_at}
 use Rattle.types.specs.Number.{number_at}
 use Rattle.layout.specs.Seen.{Seen, part, valid_in, valid_at, nulls_in}
@@ -24,11 +23,12 @@ use Rattle.arrays.specs.ViewType.{view_kind}
 use Rattle.arrays.specs.View.{read_view, show_view}
 use Rattle.arrays.specs.declared.view.View.TheInside.{Inside}
 use Rattle.arrays.specs.Slot.{item_of}
-use Rattle.arrays.specs.Values.{HasNumbers, number_in, number_items}
+use Rattle.arrays.specs.Values.{HasNumbers, items_where, valid_values}
 use Rattle.layout.proofs.FirstFaultLemmas.{IsWhole, own_fault-none}
 use Rattle.layout.proofs.LawfulLemmas.{first-parts}
-use Rattle.arrays.proofs.ListLemmas.{map-range-below}
-use Rattle.layout.proofs.SeenLemmas.{slice-slice, length-slice, length-items}
+use Rattle.layout.proofs.ListLemmas.{map-range-below}
+use Rattle.layout.proofs.OffsetParts.{number_at-slice}
+use Rattle.layout.proofs.SeenLemmas.{length-slice, length-items}
 
 -- where no fault stands, each test has passed
 pub whole : (k : Kind) (n : ℕ) (stated : Option ℕ) (buffers : Buffers) (children : List Reading) (dictionary : Option Reading)
@@ -66,19 +66,6 @@ valid-part start len j None h = refl
 valid-part start len j (Some bytes) h = get_or-bits bytes start len j false h
 
 -- ---- numbers
-
-pub number_at-slice : (t : IntType) (bytes : List ℕ) (start len j : ℕ) → j < len
-    → number_at t (slice bytes (start * bytes_of t.bits) (len * bytes_of t.bits)) j ≡ number_at t bytes (start + j)
-unfolding number_at
-number_at-slice t bytes start len j h =
-    let w = bytes_of t.bits in
-    let within : j * w + w ≤ len * w = row_fits j w len w h (omega arith) in
-    let place : start * w + j * w ≡ (start + j) * w = places start j w in
-    ap (λ b. cond t.signed (cast_signed (bits_of t.bits) (from_le_bytes (bits_of t.bits) b)) (pos (from_le_bytes (bits_of t.bits) b)))
-    (slice-slice bytes (start * w) (len * w) (j * w) w within ∙ ap (λ s. slice bytes s w) place)
-  where
-    places : (s j w : ℕ) → s * w + j * w ≡ (s + j) * w
-    places s j w = omega arith
 
 -- a part of a column, place by place
 pub slice-column : (k : Kind) (n : ℕ) (buffers : Buffers) (child entries : List Item) (start len : ℕ) → start + len ≤ n
@@ -154,22 +141,21 @@ number_there t bytes s j has within =
     let w = bytes_of t.bits in
     subst (λ m. j * w + w ≤ m) (sym has.size) (row_fits j w (length s.items) w within (omega arith))
 
--- ---- columns of numbers
+-- ---- columns of values
 
-pub number_items-view : (t : IntType) (bytes : List ℕ) (validity : Option (List Bool)) (n : ℕ) (s : Seen) → HasNumbers t bytes s → validity ≡ s.validity → n ≡ length s.items
-    → number_items t bytes validity n ≡ s.items
-number_items-view t bytes validity n s has same size =
-    ap (λ v. number_items t bytes v n) same ∙ ap (number_items t bytes s.validity) size ∙ sym has.numbers
+-- the items of a view, by its values
+pub items-seen : (value : ℕ → Item) (validity : Option (List Bool)) (n : ℕ) (s : Seen) → s.items ≡ valid_values value s → validity ≡ s.validity → n ≡ length s.items
+    → items_where value validity n ≡ s.items
+items-seen value validity n s has same size =
+    ap (λ v. items_where value v n) same ∙ ap (items_where value s.validity) size ∙ sym has
+
+-- the item of one slot
+pub items-slot : (value : ℕ → Item) (validity : Option (List Bool)) (n j : ℕ) → j < n → get_or (items_where value validity n) j null ≡ cond (valid_in validity j) (value j) null
+items-slot value validity n j within = get_or-map-range_with_len (λ k. cond (valid_in validity k) (value k) null) 0 n j j null within (zero-add j)
 
 pub item_if : (b : Bool) (z : ℤ) → cond b (int z) null ≡ item_of (cond b (Some z) None)
 item_if true z = refl
 item_if false z = refl
-
-pub number_items-slot : (t : IntType) (bytes : List ℕ) (validity : Option (List Bool)) (n j : ℕ) → j < n
-    → get_or (number_items t bytes validity n) j null ≡ item_of (number_in t bytes validity j)
-number_items-slot t bytes validity n j within =
-    get_or-map-range_with_len (λ k. cond (valid_in validity k) (int (number_at t bytes k)) null) 0 n j j null within (zero-add j)
-    ∙ item_if (valid_in validity j) (number_at t bytes j)
 
 -- ---- views
 

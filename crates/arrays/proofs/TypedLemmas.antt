@@ -1,65 +1,18 @@
 -- Items are of their column's kind.
-use Rattle.std.proofs.Common.{◌≡◌, ℕ, zero, suc, ◌+◌, ◌*◌, ◌^◌, ◌<◌, pos, List, [], ◌∷◌, length, Bool, true, false, cond, get_or, All, sym, refl, subst, arith, map, zero-add}
-use mir.Val.{bits}
-use Rattle.std.proofs.Math.Facts.{sfits_to_z}
-use Rattle.std.proofs.lemmas.Int.{ints}
+use Rattle.std.proofs.Common.{◌≡◌, ℕ, zero, suc, ◌+◌, ◌<◌, List, [], ◌∷◌, length, Bool, true, false, cond, get_or, All, sym, refl, subst, arith, map, zero-add}
 use Rattle.std.proofs.lemmas.List.Elements.{All-drop, All-map, All-take}
 use Rattle.std.proofs.lemmas.List.FromFn.{get_or-range_with_len, length-range_with_len}
 use Rattle.std.specs.List.{range_with_len}
-use Rattle.std.specs.Int.{from_le_bytes, cast_signed}
 use Rattle.std.specs.Prelude.{slice_index_or}
-use Rattle.colbits.specs.Slice.{slice}
-use Rattle.types.specs.declared.int_type.Width.{Width}
-use Rattle.types.specs.declared.int_type.Width.TheVariants.{W8, W16, W32, W64}
-use Rattle.types.specs.declared.int_type.IntType.{IntType}
 use Rattle.arrays.specs.Dictionary.{looked_up}
 use Rattle.types.specs.Kind as kind
-use Rattle.types.specs.Kind.{Kind, bits_of, bytes_of}
+use Rattle.types.specs.Kind.{Kind}
 use Rattle.layout.specs.Item.{Item, null, int, boolean, text, list, list_of}
-use Rattle.types.specs.Number.{natural, number_at, IsOfType}
+use Rattle.types.specs.Number.{natural}
 use Rattle.layout.specs.Offsets.{of_slot}
 use Rattle.layout.specs.Seen.{Seen, valid_at}
 use Rattle.arrays.specs.Typed.{AreItemsOf, IsItemOf}
 use Rattle.arrays.specs.Values.{valid_values}
-use Rattle.types.proofs.ByteLemmas.{get_or-slice}
-
--- ---- numbers
-
-from_le_bytes-small : (w : Width) (bytes : List ℕ) → ((i : ℕ) → i < bytes_of w → get_or bytes i 0 < 256) → from_le_bytes (bits_of w) bytes < 2 ^ bits (bits_of w)
-from_le_bytes-small W8 bytes h =
-    let b0 = h 0 (omega arith) in
-    omega arith
-from_le_bytes-small W16 bytes h =
-    let b0 = h 0 (omega arith) in
-    let b1 = h 1 (omega arith) in
-    omega arith
-from_le_bytes-small W32 bytes h =
-    let b0 = h 0 (omega arith) in
-    let b1 = h 1 (omega arith) in
-    let b2 = h 2 (omega arith) in
-    let b3 = h 3 (omega arith) in
-    omega arith
-from_le_bytes-small W64 bytes h =
-    let b0 = h 0 (omega arith) in
-    let b1 = h 1 (omega arith) in
-    let b2 = h 2 (omega arith) in
-    let b3 = h 3 (omega arith) in
-    let b4 = h 4 (omega arith) in
-    let b5 = h 5 (omega arith) in
-    let b6 = h 6 (omega arith) in
-    let b7 = h 7 (omega arith) in
-    omega arith
-
-of_type : (w : Width) (signed : Bool) (n : ℕ) → n < 2 ^ bits (bits_of w)
-    → IsOfType (record { bits = w; signed = signed }) (cond signed (cast_signed (bits_of w) n) (pos n))
-of_type w true n h = sfits_to_z (record { fits = h })
-of_type w false n h = (omega (arith, ints), omega (arith, ints))
-
-pub number_at-of_type : (t : IntType) (bytes : List ℕ) (j : ℕ) → ((i : ℕ) → get_or bytes i 0 < 256) → IsOfType t (number_at t bytes j)
-unfolding number_at
-number_at-of_type t bytes j small =
-    of_type t.bits t.signed _ (from_le_bytes-small t.bits (slice bytes (j * bytes_of t.bits) (bytes_of t.bits))
-    (λ i below. subst (λ n. n < 256) (sym (get_or-slice bytes (j * bytes_of t.bits) (bytes_of t.bits) i below)) (small (j * bytes_of t.bits + i))))
 
 -- ---- slots
 

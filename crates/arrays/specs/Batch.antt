@@ -11,6 +11,7 @@ use Rattle.std.specs.Coded.{Coded, code_by, coded_ℕ, coded_list, coded×}
 use Rattle.std.specs.Option.{option_or}
 use Rattle.types.specs.Code.{field_code}
 use Rattle.layout.specs.Code.{seen_code}
+use Rattle.types.specs.Limits.{most_slots}
 
 -- Columns under their fields, of so many rows.
 pub record Batch : Type 0 where
@@ -28,7 +29,7 @@ differing_length rows columns = position (λ c. not (length c.items == rows)) co
 
 -- The least column that isn't as long as the rows, or is one of too many rows.
 abbrev pub bad_length : ℕ → List Seen → Option ℕ
-bad_length rows columns = if nat_lt 2147483647 rows then Some 0 else differing_length rows columns
+bad_length rows columns = if nat_lt most_slots rows then Some 0 else differing_length rows columns
 
 -- The first fault of columns under fields.
 abbrev pub batch_fault : List FieldShape → ℕ → List Seen → Option BatchFault

@@ -8,6 +8,7 @@ use Rattle.layout.specs.Item.{Item, null, int}
 use Rattle.arrays.specs.Column.{Column}
 use Rattle.layout.specs.Seen.{valid_in}
 use Rattle.arrays.specs.declared.builder.IntBuilder.TheInside.{Inside}
+use Rattle.types.specs.Limits.{most_slots}
 
 -- A number where the slot is valid.
 abbrev pub item_at : IntType → List ℕ → List Bool → ℕ → Item
@@ -26,4 +27,4 @@ numbers_where validity t values n = map (λ j. if valid_in validity j then int (
 -- A number for each slot, and no more slots than an array may have.
 pub record IsBuilt (t : IntType) (values : List ℕ) (valid : List Bool) : Type 0 where
   pub whole : length values ≡ length valid * bytes_of t.bits
-  pub short : length valid ≤ 2147483647
+  pub short : length valid ≤ most_slots

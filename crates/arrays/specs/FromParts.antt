@@ -9,7 +9,7 @@ use Rattle.types.specs.Kind as kind
 use Rattle.types.specs.Kind.{Kind}
 use Rattle.layout.specs.Layout.{is_valid_in}
 use Rattle.types.specs.Number.{number_at}
-use Rattle.layout.specs.Offsets.{of_slot}
+use Rattle.layout.specs.Offsets.{slot_at}
 use Rattle.layout.specs.Seen.{Seen, no_entries}
 use Rattle.layout.specs.Reading.{Reading, read_parts}
 use Rattle.layout.specs.Checked.{checked}
@@ -34,16 +34,16 @@ show_bits n validity packed = show_slots kind.boolean n validity (λ j. boolean 
 
 -- The bytes of each valid slot are a text. What lies under a null is any bytes.
 pub record AreTexts (n : ℕ) (validity : Option (List ℕ)) (offsets bytes : List ℕ) : Type 0 where
-  pub each : (j : ℕ) → j < n → is_valid_in validity j ≡ true → IsUtf8 (of_slot offsets bytes j)
+  pub each : (j : ℕ) → j < n → is_valid_in validity j ≡ true → IsUtf8 (slot_at offsets bytes j)
 
 -- Texts. ("Variable-size binary layout")
 abbrev pub show_texts : ℕ → Option (List ℕ) → List ℕ → List ℕ → Seen
-show_texts n validity offsets bytes = show_slots kind.utf8 n validity (λ j. text (of_slot offsets bytes j))
+show_texts n validity offsets bytes = show_slots kind.utf8 n validity (λ j. text (slot_at offsets bytes j))
 
 -- Lists over the items of a child, each from one offset up to the next. ("Variable-size list layout")
 abbrev pub show_lists : ℕ → Option (List ℕ) → List ℕ → Seen → Seen
 show_lists n validity offsets child =
-    show_slots (kind.list child.kind) n validity (λ j. list (list_of (of_slot offsets child.items j)))
+    show_slots (kind.list child.kind) n validity (λ j. list (list_of (slot_at offsets child.items j)))
 
 -- The parts of an array of lists over a child that is lawful: their fault, if there is one, and what they show.
 abbrev pub list_parts : Kind → ℕ → Option (List ℕ) → List ℕ → Seen → Reading

@@ -1,8 +1,12 @@
 -- How much the items of a column hold together, and columns cut by such lengths.
-use Rattle.std.specs.Prelude.{◌≡◌, ◌⊎◌, ℕ, List, [], ◌∷◌, length, take, drop, sum_by, flat_map, Option, Some, None, Bool, true, false, nat_lt, unwrap_or}
+use Rattle.std.specs.Prelude.{◌≡◌, ◌⊎◌, ◌||◌, ℕ, List, [], ◌∷◌, length, take, drop, sum_by, flat_map, Option, Some, None, Bool, true, false, nat_lt, unwrap_or}
 use Rattle.layout.specs.Item.{Item, null, text, list, items_of, list_of}
+use Rattle.layout.specs.Seen.{Seen}
 use Rattle.arrays.specs.declared.builder.fault.BuildFault.{BuildFault}
 use Rattle.arrays.specs.declared.builder.fault.BuildFault.TheVariants.{NoMemory, OffsetsFull}
+use Rattle.types.specs.Kind as kind
+use Rattle.types.specs.Kind.{Kind}
+use Rattle.types.specs.Limits.{most_slots}
 
 -- How many bytes a text has.
 abbrev pub text_length : Item → ℕ
@@ -22,6 +26,10 @@ items_in x = []
 abbrev pub inner_items : List Item → List Item
 inner_items items = flat_map items_in items
 
+-- The items of columns, one column after the other.
+abbrev pub joined_items : List Seen → List Item
+joined_items columns = flat_map (λ s. s.items) columns
+
 -- How long a list is, none of what is no list.
 abbrev pub list_length : Item → Option ℕ
 list_length (list xs) = Some (length (items_of xs))
@@ -37,9 +45,15 @@ cut [] items = []
 cut (None ∷ lengths) items = null ∷ cut lengths items
 cut (Some n ∷ lengths) items = list (list_of (take n items)) ∷ cut lengths (drop n items)
 
--- More than 32-bit offsets count.
+-- More than 32-bit offsets count. (Arrow columnar format, "Variable-size binary layout", "Variable-size list layout")
 abbrev pub is_past : ℕ → Bool
-is_past n = nat_lt 2147483647 n
+is_past n = nat_lt most_slots n
+
+-- At some level of lists the bytes of all texts, or the number of all items of lists, is more than 32-bit offsets count.
+abbrev pub is_too_big : Kind → List Item → Bool
+is_too_big kind.utf8 items = is_past (text_bytes items)
+is_too_big (kind.list k) items = is_past (length (inner_items items)) || is_too_big k (inner_items items)
+is_too_big k items = false
 
 -- Why a slot is refused: with it the offsets would be past what they count, or, where they aren't, a growth was refused.
 abbrev pub IsBuildFault : Bool → BuildFault → Type 0

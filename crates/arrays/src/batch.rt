@@ -14,7 +14,7 @@ use std::alloc::Global;
 use std::marker::Model;
 use std::sync::Arc;
 use thiserror::Error;
-use types::{Field, Schema, is_same};
+use types::{Field, MOST_SLOTS, Schema, is_same};
 
 /// Why columns are no record batch.
 #[derive(Clone, Copy, Debug, PartialEq, Eq, Error)]
@@ -128,9 +128,6 @@ fn copies(alloc: Global, columns: &[Array]) -> Result<Vec<Array>, NoMemory>
     Ok(copied)
 }
 
-/// The most rows that a batch may have.
-const MOST_ROWS: u32 = 2147483647;
-
 /// The first fault of the columns.
 fn first_fault(schema: &Schema, rows: u32, columns: &[Array]) -> Option<BatchFault>
     ensures { result ≡ batch_fault schema.now rows columns.now }
@@ -151,7 +148,7 @@ fn first_fault(schema: &Schema, rows: u32, columns: &[Array]) -> Option<BatchFau
 fn bad_length(rows: u32, columns: &[Array]) -> Option<usize>
     ensures { result ≡ bad_length rows columns.now }
 {
-    if rows > MOST_ROWS {
+    if rows > MOST_SLOTS as u32 {
         return Some(0);
     }
     first_length_difference(rows, columns)

@@ -4,6 +4,7 @@ ghost use Rattle.types.specs.Number.{IsOfType};
 ghost use Rattle.types.specs.Kind as kind;
 ghost use Rattle.types.specs.Kind.{bytes_of};
 ghost use Rattle.arrays.specs.Shown.{shown};
+ghost use Rattle.types.specs.Limits.{most_slots};
 
 pub mod bools;
 pub mod fault;
@@ -52,7 +53,7 @@ impl IntBuilder {
 
     /// An empty column of the type, with room for so many slots.
     pub fn with_capacity(alloc: Global, ty: IntType, slots: usize) -> Result<IntBuilder, NoMemory>
-        requires { slots ≤ 2147483647 }
+        requires { slots ≤ most_slots }
         ensures { IfOk result (λ b. (b.ty ≡ ty) × (b.items ≡ [])) }
     {
         let width = ty.bits.bytes();
@@ -69,7 +70,7 @@ impl IntBuilder {
     /// Adds a slot at the end: the number, or null.
     pub fn push(&mut self, number: Option<i128>) -> Result<(), NoMemory>
         requires of_type { ForSome number (IsOfType self.old.ty) }
-        requires room { length self.old.items < 2147483647 }
+        requires room { length self.old.items < most_slots }
         ensures kept { self.new.ty ≡ self.old.ty }
         ensures ok { OnOk result (self.new.items ≡ self.old.items ++ item_of number ∷ []) }
         ensures err { OnErr result (self.new.items ≡ self.old.items) }
@@ -85,7 +86,7 @@ impl IntBuilder {
     pub fn push_as<T: Integer>(&mut self, number: Option<i128>) -> Result<(), NoMemory>
         requires ty { T.ty ≡ self.old.ty }
         requires of_type { ForSome number (IsOfType self.old.ty) }
-        requires room { length self.old.items < 2147483647 }
+        requires room { length self.old.items < most_slots }
         ensures kept { self.new.ty ≡ self.old.ty }
         ensures ok { OnOk result (self.new.items ≡ self.old.items ++ item_of number ∷ []) }
         ensures err { OnErr result (self.new.items ≡ self.old.items) }
@@ -101,7 +102,7 @@ impl IntBuilder {
     pub fn extended<T: Integer>(self, view: &View<'_>) -> Result<IntBuilder, NoMemory>
         requires kind { view.now.kind ≡ kind.int self.ty }
         requires ty { T.ty ≡ self.ty }
-        requires room { length self.items + length view.now.items ≤ 2147483647 }
+        requires room { length self.items + length view.now.items ≤ most_slots }
         ensures ty { IfOk result (λ b. b.ty ≡ self.ty) }
         ensures items { IfOk result (λ b. b.items ≡ self.items ++ view.now.items) }
     {
@@ -135,7 +136,7 @@ impl IntBuilder {
         count: usize,
     ) -> Result<IntBuilder, NoMemory>
         requires size { length numbers.now ≡ count * bytes_of self.ty.bits }
-        requires room { length self.items + count ≤ 2147483647 }
+        requires room { length self.items + count ≤ most_slots }
         ensures ty { IfOk result (λ b. b.ty ≡ self.ty) }
         ensures items { IfOk result (λ b. b.items ≡ self.items ++ numbers_where validity.now self.ty numbers.now count) }
     {
@@ -157,7 +158,7 @@ impl IntBuilder {
 
     fn add(&mut self, number: i128, valid: bool) -> Result<(), NoMemory>
         requires of_type { IsOfType self.old.ty number }
-        requires room { length self.old.items < 2147483647 }
+        requires room { length self.old.items < most_slots }
         ensures kept { self.new.ty ≡ self.old.ty }
         ensures ok { OnOk result (self.new.items ≡ self.old.items ++ (if valid then int number else null) ∷ []) }
         ensures err { OnErr result (self.new.items ≡ self.old.items) }
@@ -171,7 +172,7 @@ impl IntBuilder {
     fn add_as<T: Integer>(&mut self, number: i128, valid: bool) -> Result<(), NoMemory>
         requires ty { T.ty ≡ self.old.ty }
         requires of_type { IsOfType self.old.ty number }
-        requires room { length self.old.items < 2147483647 }
+        requires room { length self.old.items < most_slots }
         ensures kept { self.new.ty ≡ self.old.ty }
         ensures ok { OnOk result (self.new.items ≡ self.old.items ++ (if valid then int number else null) ∷ []) }
         ensures err { OnErr result (self.new.items ≡ self.old.items) }
@@ -192,7 +193,7 @@ fn mark(
     valid: bool,
 ) -> Result<(), NoMemory>
     requires within { before ≤ length values.old.items }
-    requires room { length slots.old < 2147483647 }
+    requires room { length slots.old < most_slots }
     ensures ok_values { OnOk result (values.new.items ≡ values.old.items) }
     ensures ok_slots { OnOk result (slots.new ≡ slots.old ++ valid ∷ []) }
     ensures err_values { OnErr result (values.new.items ≡ take before values.old.items) }

@@ -19,7 +19,9 @@ pub use builder::lists::ListBuilder;
 pub use builder::texts::TextBuilder;
 pub use builder::validity::ValidityBuilder;
 pub use file::File;
-pub use layout::{LayoutFault, RawArray};
-pub use types::{DataType, Field, IntType, Integer, Packed, Schema, SchemaFault, Width};
+pub use layout::{LayoutFault, Offsets, RawArray};
+pub use types::{
+    DataType, Field, INT32, IntType, Integer, MOST_SLOTS, Packed, Schema, SchemaFault, Width,
+};
 pub use view::{Bools, Ints, Lists, Texts, View, ViewType};
 pub use words::Words;

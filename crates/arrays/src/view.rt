@@ -6,12 +6,15 @@ ghost use Rattle.types.specs.Kind.{kind_of, same_kind};
 ghost use Rattle.layout.specs.Seen.{null_count_of, part, valid_at};
 ghost use Rattle.arrays.specs.Slot.{holds_at};
 ghost use Rattle.arrays.specs.ViewType.{view_kind};
+ghost use Rattle.types.specs.Limits.{most_slots};
 
 mod bools;
 mod dictionary;
 mod ints;
 mod items;
+mod lists;
 mod parts;
+mod texts;
 mod typed;
 
 use crate::words::Words;
@@ -19,9 +22,10 @@ pub use bools::Bools;
 use colbits::{Bits, Buffer};
 pub use ints::Ints;
 use layout::{RawArray, buffers};
-pub use parts::{Lists, Texts};
+pub use lists::Lists;
 use std::marker::Model;
 use std::sync::Arc;
+pub use texts::Texts;
 use types::{DataType, Field, IntType, is_same};
 
 /// The type of a view, with the item's field of a list.
@@ -78,6 +82,7 @@ pub struct View<'a> {
 }
 
 impl<'a> Model for View<'a> {
+    ghost use Rattle.types.specs.Limits.{most_slots};
     ghost use Rattle.std.specs.Prelude.{◌≡◌, ◌+◌, ◌≤◌, None};
     ghost use Rattle.layout.specs.Seen.{Seen};
     ghost use Rattle.layout.specs.Code.{seen_code};
@@ -91,7 +96,7 @@ impl<'a> Model for View<'a> {
     ghost view = { show_view };
 
     ghost invariant = { λ v. ((read_view v).fault ≡ None)
-        × (v.start + v.len ≤ v.total) × (v.total ≤ 2147483647) };
+        × (v.start + v.len ≤ v.total) × (v.total ≤ most_slots) };
 }
 
 impl<'a> View<'a> {
@@ -130,7 +135,7 @@ impl<'a> View<'a> {
     /// How many slots there are, as arrays are made of: no more than an array may have.
     pub fn slots(&self) -> u32
         ensures count { result ≡ length self.now.items }
-        ensures short { result ≤ 2147483647 }
+        ensures short { result ≤ most_slots }
     {
         let len = self.len;
         len as u32

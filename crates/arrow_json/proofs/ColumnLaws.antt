@@ -5,7 +5,7 @@ use Rattle.std.proofs.lemmas.Bool.Decides.{nat_tests}
 use Rattle.std.proofs.lemmas.List.Sums.{sum_by-cons}
 use Rattle.arrays.specs.Item.{Item}
 use Rattle.serde_json.specs.Data as data'
-use Rattle.serde_json.specs.Data.{Data, Items, no_items, item}
+use Rattle.serde_json.specs.Data.{Data, Items}
 use Rattle.serde_json.specs.Find.{get_item, as_null, as_array, as_object}
 use Rattle.serde_json.specs.Events.{items_len}
 use Rattle.json_places.specs.declared.path.Member.TheVariants as member

@@ -22,11 +22,11 @@ use Rattle.serde_json.specs.Data.{Data, Items}
 use Rattle.json_places.specs.declared.fault.JsonFault.{JsonFault}
 use Rattle.json_places.specs.declared.fault.JsonFaultKind.TheVariants.{UnsupportedType}
 use Rattle.json_places.specs.JsonFault.{Tells, IsFault, IsUnder}
-use Rattle.arrow_json.specs.JsonBatch.{HoldsColumn, HoldsTop, HoldsColumns, IsBookOf}
-use Rattle.arrow_json.specs.JsonBook.{Coding}
+use Rattle.arrow_json.specs.JsonBatch.{HoldsColumn, HoldsTop, HoldsColumns, IsCatalogOf}
+use Rattle.arrow_json.specs.JsonCatalog.{Coding}
 use Rattle.arrow_json.specs.JsonCodes.{ReadsCodes}
-use Rattle.arrow_json.specs.BookParts.{coding_of}
-use Rattle.arrow_json.specs.declared.book.Coding as reader
+use Rattle.arrow_json.specs.CatalogParts.{coding_of}
+use Rattle.arrow_json.specs.declared.catalog.Coding as reader
 use Rattle.arrow_json.specs.JsonBatchFault.{KindFault, CodedFault, Unread, unread, ColumnsFault, bad_column, BatchFault, no_batch_object, bad_rows, bad_list, bad_columns}
 use Rattle.json_places.proofs.JsonTells.{tells_at, tells_as, tells_under, tells_wants}
 
@@ -65,14 +65,14 @@ held n f g c b d e s t h p q r u =
     let c' : s ≡ t = cc in
     subst (λ x. HoldsTop (kind_of_field x) b n e t) a (subst (λ x. HoldsTop (kind_of_field f) x n e t) a' (subst (λ x. HoldsTop (kind_of_field f) c n x t) b' (subst (λ x. HoldsTop (kind_of_field f) c n d x) c' h)))
 
-pub column_pushed : (fields : List FieldShape) (book : List (Option Coding)) (n : ℕ) (ds : Items) (m : ℕ) (columns : List Seen) (f : FieldShape) (b : Option Coding) (d : Data) (s : Seen)
-    → HoldsColumns fields book n ds m columns → slice_get fields m ≡ Some f → slice_get book m ≡ Some b → get_item m ds ≡ Some d → HoldsTop (kind_of_field f) b n d s
-    → HoldsColumns fields book n ds (m + 1) (columns ++ s ∷ [])
-column_pushed fields book n ds m columns f b d s h at_field at_coding at_item column = record {
+pub column_pushed : (fields : List FieldShape) (catalog : List (Option Coding)) (n : ℕ) (ds : Items) (m : ℕ) (columns : List Seen) (f : FieldShape) (b : Option Coding) (d : Data) (s : Seen)
+    → HoldsColumns fields catalog n ds m columns → slice_get fields m ≡ Some f → slice_get catalog m ≡ Some b → get_item m ds ≡ Some d → HoldsTop (kind_of_field f) b n d s
+    → HoldsColumns fields catalog n ds (m + 1) (columns ++ s ∷ [])
+column_pushed fields catalog n ds m columns f b d s h at_field at_coding at_item column = record {
   len = omega (arith, length-append columns (s ∷ []), h.len);
   each = λ i g c e t field coding found got.
       below_more
-      (λ k. (g : FieldShape) (c : Option Coding) (e : Data) (t : Seen) → slice_get fields k ≡ Some g → slice_get book k ≡ Some c → get_item k ds ≡ Some e → slice_get (columns ++ s ∷ []) k ≡ Some t
+      (λ k. (g : FieldShape) (c : Option Coding) (e : Data) (t : Seen) → slice_get fields k ≡ Some g → slice_get catalog k ≡ Some c → get_item k ds ≡ Some e → slice_get (columns ++ s ∷ []) k ≡ Some t
       → HoldsTop (kind_of_field g) c n e t)
       m
       (λ k within g c e t field coding found got. h.each k g c e t field coding found (sym (slice_get-front columns (s ∷ []) k (omega (arith, h.len))) ∙ got))
@@ -91,14 +91,14 @@ columns_pushed fs cs n vs m columns f c v s h at_field is_field at_coding is_cod
     (subst (λ a. HoldsTop a (option_map coding_of c) n (view v) s) (sym (kind_of_field-field_of f)) column)
 
 -- the codings are as many as the fields, and those that are encoded are dictionaries
-pub book_count : (fs : List Field) (cs : List (Option reader.Coding)) → IsBookOf (fields_of fs) (map (option_map coding_of) cs) → length cs ≡ length fs
-book_count fs cs h = omega (arith, length-map cs (option_map coding_of), length-map fs field_of, h.len)
+pub catalog_count : (fs : List Field) (cs : List (Option reader.Coding)) → IsCatalogOf (fields_of fs) (map (option_map coding_of) cs) → length cs ≡ length fs
+catalog_count fs cs h = omega (arith, length-map cs (option_map coding_of), length-map fs field_of, h.len)
 
 encoded_by : (k : Kind) (c : Option reader.Coding) → ((x : Coding) → option_map coding_of c ≡ Some x → k ≡ kind.dict) → IfSome c (λ _. k ≡ kind.dict)
 encoded_by k None h = tt
 encoded_by k (Some c) h = h (coding_of c) refl
 
-pub encoded_field_at : (fs : List Field) (cs : List (Option reader.Coding)) (i : ℕ) (f : Field) (c : Option reader.Coding) → IsBookOf (fields_of fs) (map (option_map coding_of) cs)
+pub encoded_field_at : (fs : List Field) (cs : List (Option reader.Coding)) (i : ℕ) (f : Field) (c : Option reader.Coding) → IsCatalogOf (fields_of fs) (map (option_map coding_of) cs)
     → i < length fs → f ≡ get_or fs i f → i < length cs → c ≡ get_or cs i c → IfSome c (λ _. kind_of (out-Field f).ty ≡ kind.dict)
 encoded_field_at fs cs i f c h at_field is_field at_coding is_coding =
     encoded_by (kind_of (out-Field f).ty) c
@@ -117,19 +117,19 @@ pub ruleset columns_told = (tells_column, tells_wants)
 
 -- ---- batches
 
-pub batch_object : (fields : List FieldShape) (book : List (Option Coding)) (d : Data) (f : JsonFault) → Tells (Unlike as_object d) f → Tells (BatchFault fields book d) f
-batch_object fields book d f h = tells_as (Unlike as_object d) (BatchFault fields book d) f (λ k p w. no_batch_object k p w) h
+pub batch_object : (fields : List FieldShape) (catalog : List (Option Coding)) (d : Data) (f : JsonFault) → Tells (Unlike as_object d) f → Tells (BatchFault fields catalog d) f
+batch_object fields catalog d f h = tells_as (Unlike as_object d) (BatchFault fields catalog d) f (λ k p w. no_batch_object k p w) h
 
-pub batch_rows : (fields : List FieldShape) (book : List (Option Coding)) (d : Data) (f : JsonFault) → Tells (MemberFault member.Count (Unlike count_of) d) f → Tells (BatchFault fields book d) f
-batch_rows fields book d f h = tells_as (MemberFault member.Count (Unlike count_of) d) (BatchFault fields book d) f (λ k p w. bad_rows k p w) h
+pub batch_rows : (fields : List FieldShape) (catalog : List (Option Coding)) (d : Data) (f : JsonFault) → Tells (MemberFault member.Count (Unlike count_of) d) f → Tells (BatchFault fields catalog d) f
+batch_rows fields catalog d f h = tells_as (MemberFault member.Count (Unlike count_of) d) (BatchFault fields catalog d) f (λ k p w. bad_rows k p w) h
 
-pub batch_list : (fields : List FieldShape) (book : List (Option Coding)) (d : Data) (f : JsonFault) → Tells (MemberFault member.Columns (ListFault (length fields)) d) f → Tells (BatchFault fields book d) f
-batch_list fields book d f h = tells_as (MemberFault member.Columns (ListFault (length fields)) d) (BatchFault fields book d) f (λ k p w. bad_list k p w) h
+pub batch_list : (fields : List FieldShape) (catalog : List (Option Coding)) (d : Data) (f : JsonFault) → Tells (MemberFault member.Columns (ListFault (length fields)) d) f → Tells (BatchFault fields catalog d) f
+batch_list fields catalog d f h = tells_as (MemberFault member.Columns (ListFault (length fields)) d) (BatchFault fields catalog d) f (λ k p w. bad_list k p w) h
 
-pub batch_columns : (fields : List FieldShape) (book : List (Option Coding)) (d : Data) (rows : ℕ) (ds : Items) (f g : JsonFault) → Tells (ColumnsFault fields book rows ds) f
+pub batch_columns : (fields : List FieldShape) (catalog : List (Option Coding)) (d : Data) (rows : ℕ) (ds : Items) (f g : JsonFault) → Tells (ColumnsFault fields catalog rows ds) f
     → option_and_then count_of (member_of member.Count d) ≡ Some rows → option_and_then as_array (member_of member.Columns d) ≡ Some ds → IsUnder (step.Member member.Columns) f g
-    → Tells (BatchFault fields book d) g
-batch_columns fields book d rows ds f g told at_rows at_list up =
-    tells_under (ColumnsFault fields book rows ds) (BatchFault fields book d) (step.Member member.Columns) f g (λ k p w. bad_columns rows ds k p at_rows at_list w) told up
+    → Tells (BatchFault fields catalog d) g
+batch_columns fields catalog d rows ds f g told at_rows at_list up =
+    tells_under (ColumnsFault fields catalog rows ds) (BatchFault fields catalog d) (step.Member member.Columns) f g (λ k p w. bad_columns rows ds k p at_rows at_list w) told up
 
 pub ruleset batch_told = (batch_object, batch_rows, batch_list, batch_columns)

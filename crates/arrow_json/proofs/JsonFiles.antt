@@ -19,30 +19,30 @@ use Rattle.json_places.specs.declared.fault.JsonFault.{JsonFault}
 use Rattle.json_places.specs.declared.fault.JsonFaultKind.{JsonFaultKind}
 use Rattle.json_places.specs.JsonFault.{Tells, IsUnder}
 use Rattle.json_places.specs.JsonMember.{NoDocument, no_document, member_of, Unlike, Missing, MemberFault, absent, wrong, EachFault, ReadsFirst, ReadsEach}
-use Rattle.arrow_json.specs.BookParts.{HasEncodings}
+use Rattle.arrow_json.specs.CatalogParts.{HasEncodings}
 use Rattle.arrow_json.specs.EncodingParts.{AreEncoded}
 use Rattle.arrow_json.specs.JsonEncoding.{Encoding}
 use Rattle.arrow_json.specs.JsonFieldsFault.{SchemaFault}
-use Rattle.arrow_json.specs.JsonBatch.{IsBookOf, ReadsBatch}
+use Rattle.arrow_json.specs.JsonBatch.{IsCatalogOf, ReadsBatch}
 use Rattle.json_places.specs.JsonTable.{table_of}
-use Rattle.arrow_json.specs.JsonBook.{Coding, HasBook, HasCoding, listed_fields}
-use Rattle.arrow_json.specs.JsonBookFault.{BookFault}
+use Rattle.arrow_json.specs.JsonCatalog.{Coding, HasCatalog, HasCoding, listed_fields}
+use Rattle.arrow_json.specs.JsonCatalogFault.{CatalogFault}
 use Rattle.arrow_json.specs.JsonFields.{ReadsField, plain_field, encoded_field}
 use Rattle.arrow_json.specs.JsonBatchFault.{BatchFault}
-use Rattle.arrow_json.specs.JsonFile.{AreUnder, HasSchema, FileFault, no_file_object, bad_schema, bad_book, bad_batches, bad_batch, BytesFault, no_json, bad_file}
+use Rattle.arrow_json.specs.JsonFile.{AreUnder, HasSchema, FileFault, no_file_object, bad_schema, bad_catalog, bad_batches, bad_batch, BytesFault, no_json, bad_file}
 use Rattle.json_places.proofs.JsonTells.{tells_as, tells_under, tells_wants, tells_item_at}
 use Rattle.json_places.proofs.JsonItems.{each_pushed, get_item_some}
 use Rattle.arrow_json.proofs.SchemaLaws.{not_plain}
 
-pub tells_batch : (fields : List FieldShape) (book : List (Option Coding)) (vs : List Value) (i : ℕ) (v : Value) (f g : JsonFault) → Tells (BatchFault fields book (view v)) f → i < length vs → v ≡ get_or vs i v
-    → IsUnder (step.Item i) f g → Tells (EachFault (BatchFault fields book) (items_view vs)) g
-tells_batch fields book vs i v f g t within is up = tells_item_at (BatchFault fields book) vs i v f g t within is up
+pub tells_batch : (fields : List FieldShape) (catalog : List (Option Coding)) (vs : List Value) (i : ℕ) (v : Value) (f g : JsonFault) → Tells (BatchFault fields catalog (view v)) f → i < length vs → v ≡ get_or vs i v
+    → IsUnder (step.Item i) f g → Tells (EachFault (BatchFault fields catalog) (items_view vs)) g
+tells_batch fields catalog vs i v f g t within is up = tells_item_at (BatchFault fields catalog) vs i v f g t within is up
 
 -- the loop's step
-pub batch_pushed : (fields : List FieldShape) (book : List (Option Coding)) (vs : List Value) (n : ℕ) (bs : List Batch) (v : Value) (b : Batch) → ReadsFirst (ReadsBatch fields book) (items_view vs) n (map table_of bs)
-    → n < length vs → v ≡ get_or vs n v → ReadsBatch fields book (view v) (table_of b) → ReadsFirst (ReadsBatch fields book) (items_view vs) (n + 1) (map table_of (bs ++ b ∷ []))
-batch_pushed fields book vs n bs v b h within is batch =
-    rw (map-append table_of bs (b ∷ [])) (each_pushed (ReadsBatch fields book) vs n (map table_of bs) v (table_of b) h within is batch)
+pub batch_pushed : (fields : List FieldShape) (catalog : List (Option Coding)) (vs : List Value) (n : ℕ) (bs : List Batch) (v : Value) (b : Batch) → ReadsFirst (ReadsBatch fields catalog) (items_view vs) n (map table_of bs)
+    → n < length vs → v ≡ get_or vs n v → ReadsBatch fields catalog (view v) (table_of b) → ReadsFirst (ReadsBatch fields catalog) (items_view vs) (n + 1) (map table_of (bs ++ b ∷ []))
+batch_pushed fields catalog vs n bs v b h within is batch =
+    rw (map-append table_of bs (b ∷ [])) (each_pushed (ReadsBatch fields catalog) vs n (map table_of bs) v (table_of b) h within is batch)
 
 pub ruleset batches_told = (tells_batch, tells_wants)
 
@@ -56,8 +56,8 @@ pub file_schema : (d e : Data) (f g : JsonFault) → Tells (SchemaFault e) f →
 file_schema d e f g t at up =
     tells_under (SchemaFault e) (FileFault d) (step.Member member.Schema) f g (λ k p h. bad_schema k (step.Member member.Schema ∷ p) (wrong e k p at h)) t up
 
-pub file_book : (d : Data) (f : JsonFault) → Tells (BookFault d) f → Tells (FileFault d) f
-file_book d f t = tells_as (BookFault d) (FileFault d) f (λ k p h. bad_book k p h) t
+pub file_catalog : (d : Data) (f : JsonFault) → Tells (CatalogFault d) f → Tells (FileFault d) f
+file_catalog d f t = tells_as (CatalogFault d) (FileFault d) f (λ k p h. bad_catalog k p h) t
 
 -- the objects of the fields
 fields_listed : (d schema : Data) (ds : Items) → member_of member.Schema d ≡ Some schema → option_and_then as_array (member_of member.Fields schema) ≡ Some ds → listed_fields d ≡ Some ds
@@ -67,16 +67,16 @@ fields_listed d schema ds at found = ap (λ o. option_and_then as_array (option_
 pub encodings_listed : (d schema : Data) (encodings : List (Option Encoding)) → member_of member.Schema d ≡ Some schema → AreEncoded schema encodings → HasEncodings d encodings
 encodings_listed d schema encodings at h = record { fields = h.fields; listed = fields_listed d schema h.fields at h.listed; each = h.each }
 
--- the book of a file's fields
+-- the catalog of a file's fields
 coding_kind : (d e : Data) (f : FieldShape) (c : Coding) → ReadsField e f → HasCoding d e (Some c) → kind_of_field f ≡ kind.dict
 coding_kind d e f c (plain_field g object shallow) h = absurd (not_plain e f record { id = h.id; index = c.index } object h.encoding)
 coding_kind d e f c (encoded_field bytes b g) h = refl
 
-pub book_of : (d : Data) (fields : List FieldShape) (book : List (Option Coding)) → HasSchema d fields → HasBook d book → IsBookOf fields book
-book_of d fields book h g =
+pub catalog_of : (d : Data) (fields : List FieldShape) (catalog : List (Option Coding)) → HasSchema d fields → HasCatalog d catalog → IsCatalogOf fields catalog
+catalog_of d fields catalog h g =
     let listed = fields_listed d h.schema h.reads.fields.0 h.at_schema h.reads.fields.1 in
     let same : g.fields ≡ h.reads.fields.0 = cc (listed, g.listed) in
-    let each = subst (λ ds. ReadsEach (HasCoding d) ds book) same g.each in
+    let each = subst (λ ds. ReadsEach (HasCoding d) ds catalog) same g.each in
     record {
       len = each.len ∙ sym h.reads.fields.2.len;
       encoded = λ i f c at_field at_coding.
@@ -87,12 +87,12 @@ book_of d fields book h g =
 pub file_batches : (d : Data) (f : JsonFault) → Tells (MemberFault member.Batches (Unlike as_array) d) f → Tells (FileFault d) f
 file_batches d f t = tells_as (MemberFault member.Batches (Unlike as_array) d) (FileFault d) f (λ k p h. bad_batches k p h) t
 
-pub file_batch : (d : Data) (fields : List FieldShape) (book : List (Option Coding)) (ds : Items) (f g : JsonFault) → Tells (EachFault (BatchFault fields book) ds) f → HasSchema d fields → HasBook d book
+pub file_batch : (d : Data) (fields : List FieldShape) (catalog : List (Option Coding)) (ds : Items) (f g : JsonFault) → Tells (EachFault (BatchFault fields catalog) ds) f → HasSchema d fields → HasCatalog d catalog
     → option_and_then as_array (member_of member.Batches d) ≡ Some ds → IsUnder (step.Member member.Batches) f g → Tells (FileFault d) g
-file_batch d fields book ds f g t schema coded at up =
-    tells_under (EachFault (BatchFault fields book) ds) (FileFault d) (step.Member member.Batches) f g (λ k p h. bad_batch fields book ds k p schema coded at h) t up
+file_batch d fields catalog ds f g t schema coded at up =
+    tells_under (EachFault (BatchFault fields catalog) ds) (FileFault d) (step.Member member.Batches) f g (λ k p h. bad_batch fields catalog ds k p schema coded at h) t up
 
-pub ruleset file_told = (file_object, file_no_schema, file_schema, encodings_listed, file_book, book_of, file_batches, file_batch)
+pub ruleset file_told = (file_object, file_no_schema, file_schema, encodings_listed, file_catalog, catalog_of, file_batches, file_batch)
 
 no_file : (bytes : List ℕ) (k : JsonFaultKind) (p : List Step) → NoDocument bytes k p → BytesFault bytes k p
 no_file bytes k p (no_document h) = no_json h

@@ -12,23 +12,23 @@ use Rattle.json_places.specs.declared.path.Member.TheVariants as member
 use Rattle.json_places.specs.declared.path.Step.{Step}
 use Rattle.json_places.specs.declared.fault.JsonFaultKind.{JsonFaultKind}
 use Rattle.json_places.specs.JsonMember as at
-use Rattle.json_places.specs.JsonMember.{member_of, Unlike, ListFault, no_array, length_differs, EachFault, ReadsEach}
+use Rattle.json_places.specs.JsonMember.{member_of, Unlike, ListFault, EachFault, ReadsEach}
 use Rattle.json_places.specs.JsonNumber.{count_of, flag_of}
 use Rattle.arrow_json.specs.JsonFieldsFault.{SchemaFault}
 use Rattle.arrow_json.specs.JsonColumn.{numbers, truths, texts, HasFlags, valid_at}
-use Rattle.arrays.specs.Offsets.{of_slot}
+use Rattle.arrays.specs.Offsets.{slot_at}
 use Rattle.arrow_json.specs.JsonList.{Spells, offset_bytes, are_enough, lists_fault, list_slot, ReadsLists, HasLists, ReadsList}
 use Rattle.arrow_json.specs.JsonListFault.{OffsetsFault, no_offsets, not_enough, NoLists, no_list_object, bad_list_count, bad_list_flags, bad_offsets, bad_children, NoOffset, no_offset, no_flag_at, ChildFault, no_child_object, bad_child_count, bad_child_column, NotLawful, not_lawful, ListsFault, no_lists, no_flags_of_lists, bad_offset, bad_child, bad_lists}
 use Rattle.arrow_json.proofs.JsonLists.{column_count}
 use Rattle.json_places.specs.JsonTable.{Table, FileData}
 use Rattle.arrow_json.specs.JsonBatch.{ReadsColumn, ReadsTop, ReadsColumns, ReadsBatch}
-use Rattle.arrow_json.proofs.JsonFiles.{book_of}
+use Rattle.arrow_json.proofs.JsonFiles.{catalog_of}
 use Rattle.arrow_json.specs.JsonBatchFault.{KindFault, CodedFault, ColumnsFault, bad_column, BatchFault, no_batch_object, bad_rows, bad_list, bad_columns}
 use Rattle.json_places.proofs.JsonItems.{get_item_some}
-use Rattle.arrow_json.specs.JsonFile.{ReadsFile, Reads, FileFault, no_file_object, bad_schema, bad_book, bad_batches, bad_batch, BytesFault, no_json, bad_file}
+use Rattle.arrow_json.specs.JsonFile.{ReadsFile, Reads, FileFault, no_file_object, bad_schema, bad_catalog, bad_batches, bad_batch, BytesFault, no_json, bad_file}
 use Rattle.arrow_json.proofs.ColumnLaws.{count_law, list_law, flags_law, plain_law, same_plain}
-use Rattle.arrow_json.proofs.BookLaws.{codes_law, book_law, same_book}
-use Rattle.arrow_json.specs.JsonBook.{Coding}
+use Rattle.arrow_json.proofs.CatalogLaws.{codes_law, catalog_law, same_catalog}
+use Rattle.arrow_json.specs.JsonCatalog.{Coding}
 use Rattle.arrow_json.specs.JsonCodes.{indices}
 use Rattle.json_places.proofs.MemberLaws.{inner, no_object, not_unlike, no_member, under_law, get_item-within, slice_get-within, slice_get_some, each_law, same_lists, same_each}
 use Rattle.arrow_json.proofs.SchemaLaws.{schema_law, same_schema}
@@ -58,7 +58,7 @@ no_flags_law fs n offsets below items k p many slots (at.item i e k' p' found u)
     let within : i < n = omega (arith, get_item-within fs i e found, many) in
     let x = slice_get_some items i (omega (arith, slots.len)) in
     let none : valid_at (Some fs) i ≡ None = ap (option_and_then flag_of) found ∙ not_unlike flag_of e _ _ u in
-    let slot = ap (λ o. list_slot o (of_slot offsets below i)) none in
+    let slot = ap (λ o. list_slot o (slot_at offsets below i)) none in
     cc (slots.each i within, slot, x.1)
 
 no_offset_law : (d : Data) (z : ℤ) (k : JsonFaultKind) (p : List Step) → Spells d z → NoOffset d k p → ⊥
@@ -123,35 +123,35 @@ coded_law : (a : Kind) (c : Option Coding) (n : ℕ) (d : Data) (items : List It
 coded_law a None n d items k p h f = column_law a n d items k p h f
 coded_law a (Some c) n d items k p h f = codes_law c.index c.texts n d items k p h f
 
-columns_law : (fields : List FieldShape) (book : List (Option Coding)) (d : Data) (t : Table) (k : JsonFaultKind) (p : List Step) → (h : ReadsBatch fields book d t)
-    → ColumnsFault fields book t.rows h.found k p → ⊥
-columns_law fields book d t k p h (bad_column i f c e k' p' at_field at_coding found w) =
+columns_law : (fields : List FieldShape) (catalog : List (Option Coding)) (d : Data) (t : Table) (k : JsonFaultKind) (p : List Step) → (h : ReadsBatch fields catalog d t)
+    → ColumnsFault fields catalog t.rows h.found k p → ⊥
+columns_law fields catalog d t k p h (bad_column i f c e k' p' at_field at_coding found w) =
     let x = slice_get_some t.columns i (omega (arith, get_item-within h.found i e found, h.whole, h.columns.len)) in
     coded_law (kind_of_field f) c t.rows e x.0 _ _ (h.columns.each i f c e x.0 at_field at_coding found x.1) w
 
-batch_law : (fields : List FieldShape) (book : List (Option Coding)) (d : Data) (t : Table) (k : JsonFaultKind) (p : List Step) → ReadsBatch fields book d t → BatchFault fields book d k p → ⊥
-batch_law fields book d t k p h (no_batch_object k' p' u) = no_object count_of member.Count d t.rows h.count (not_unlike as_object d _ _ u)
-batch_law fields book d t k p h (bad_rows k' p' f) = no_member count_of member.Count d t.rows _ _ h.count f
-batch_law fields book d t k p h (bad_list k' p' f) =
+batch_law : (fields : List FieldShape) (catalog : List (Option Coding)) (d : Data) (t : Table) (k : JsonFaultKind) (p : List Step) → ReadsBatch fields catalog d t → BatchFault fields catalog d k p → ⊥
+batch_law fields catalog d t k p h (no_batch_object k' p' u) = no_object count_of member.Count d t.rows h.count (not_unlike as_object d _ _ u)
+batch_law fields catalog d t k p h (bad_rows k' p' f) = no_member count_of member.Count d t.rows _ _ h.count f
+batch_law fields catalog d t k p h (bad_list k' p' f) =
     let i = inner as_array (member_of member.Columns d) h.found h.listed in
     under_law member.Columns (ListFault (length fields)) d i.0 _ _ i.1 (λ k p w. list_law (length fields) i.0 h.found k p i.2 h.whole w) f
-batch_law fields book d t k p h (bad_columns rows ds k' p' at_rows at_list f) =
+batch_law fields catalog d t k p h (bad_columns rows ds k' p' at_rows at_list f) =
     let a : rows ≡ t.rows = cc (at_rows, h.count) in
     let b : ds ≡ h.found = cc (at_list, h.listed) in
-    columns_law fields book d t k' p' h (subst (λ x. ColumnsFault fields book x h.found k' p') a (subst (λ y. ColumnsFault fields book rows y k' p') b f))
+    columns_law fields catalog d t k' p' h (subst (λ x. ColumnsFault fields catalog x h.found k' p') a (subst (λ y. ColumnsFault fields catalog rows y k' p') b f))
 
 file_law : (d : Data) (f : FileData) (k : JsonFaultKind) (p : List Step) → ReadsFile d f → FileFault d k p → ⊥
 file_law d f k p h (no_file_object k' p' u) = no_object as_array member.Batches d h.batches h.at_batches (not_unlike as_object d _ _ u)
 file_law d f k p h (bad_schema k' p' w) = under_law member.Schema SchemaFault d h.schema.schema _ _ h.schema.at_schema (λ k p w. schema_law h.schema.schema f.fields k p h.schema.reads w) w
 file_law d f k p h (bad_batches k' p' w) = no_member as_array member.Batches d h.batches _ _ h.at_batches w
-file_law d f k p h (bad_book k' p' w) = book_law d h.book _ _ h.coded w
-file_law d f k p h (bad_batch fields book ds k' p' schema coded found w) =
+file_law d f k p h (bad_catalog k' p' w) = catalog_law d h.catalog _ _ h.coded w
+file_law d f k p h (bad_batch fields catalog ds k' p' schema coded found w) =
     let a : fields ≡ f.fields = same_schema d fields f.fields schema h.schema in
     let b : ds ≡ h.batches = cc (found, h.at_batches) in
-    let c : book ≡ h.book = same_book d book h.book coded h.coded in
-    each_law (ReadsBatch f.fields h.book) (BatchFault f.fields h.book) h.batches f.tables k' p' h.tables (λ e t k p r w. batch_law f.fields h.book e t k p r w)
-    (subst (λ x. EachFault (BatchFault x h.book) h.batches k' p') a
-    (subst (λ z. EachFault (BatchFault fields z) h.batches k' p') c (subst (λ y. EachFault (BatchFault fields book) y k' p') b w)))
+    let c : catalog ≡ h.catalog = same_catalog d catalog h.catalog coded h.coded in
+    each_law (ReadsBatch f.fields h.catalog) (BatchFault f.fields h.catalog) h.batches f.tables k' p' h.tables (λ e t k p r w. batch_law f.fields h.catalog e t k p r w)
+    (subst (λ x. EachFault (BatchFault x h.catalog) h.batches k' p') a
+    (subst (λ z. EachFault (BatchFault fields z) h.batches k' p') c (subst (λ y. EachFault (BatchFault fields catalog) y k' p') b w)))
 
 pub bytes_law : (bytes : List ℕ) (f : FileData) (k : JsonFaultKind) (p : List Step) → Reads bytes f → BytesFault bytes k p → ⊥
 bytes_law bytes f k p h (no_json none) =
@@ -175,9 +175,9 @@ same_list_column R c n d xs ys count law h g =
     same_lists xs ys (h.slots.len ∙ sym g.slots.len)
     (λ i x y at at'.
     let within : i < n = omega (arith, slice_get-within xs i x at, h.slots.len) in
-    let slot : list_slot (valid_at h.flags i) (of_slot (offset_bytes h.numbers) h.below i) ≡ list_slot (valid_at g.flags i) (of_slot (offset_bytes g.numbers) g.below i) =
-    ap (λ fs. list_slot (valid_at fs i) (of_slot (offset_bytes h.numbers) h.below i)) flags
-    ∙ (ap (λ ns. list_slot (valid_at g.flags i) (of_slot (offset_bytes ns) h.below i)) numbers ∙ ap (λ zs. list_slot (valid_at g.flags i) (of_slot (offset_bytes g.numbers) zs i)) below) in
+    let slot : list_slot (valid_at h.flags i) (slot_at (offset_bytes h.numbers) h.below i) ≡ list_slot (valid_at g.flags i) (slot_at (offset_bytes g.numbers) g.below i) =
+    ap (λ fs. list_slot (valid_at fs i) (slot_at (offset_bytes h.numbers) h.below i)) flags
+    ∙ (ap (λ ns. list_slot (valid_at g.flags i) (slot_at (offset_bytes ns) h.below i)) numbers ∙ ap (λ zs. list_slot (valid_at g.flags i) (slot_at (offset_bytes g.numbers) zs i)) below) in
     let e : Some x ≡ Some y = sym at ∙ (h.slots.each i within ∙ (slot ∙ (sym (g.slots.each i within) ∙ at'))) in
     cc)
 
@@ -192,27 +192,27 @@ same_coded : (a : Kind) (c : Option Coding) (n : ℕ) (d : Data) (xs ys : List I
 same_coded a None n d xs ys h g = same_column a n d xs ys h g
 same_coded a (Some c) n d xs ys h g = same_plain (indices c.index c.texts) n d xs ys h g
 
-same_columns : (fields : List FieldShape) (book : List (Option Coding)) (n : ℕ) (ds : Items) (xs ys : List (List Item)) → items_len ds ≡ length fields → length book ≡ length fields
-    → ReadsColumns fields book n ds (length fields) xs → ReadsColumns fields book n ds (length fields) ys → xs ≡ ys
-same_columns fields book n ds xs ys whole many h g =
+same_columns : (fields : List FieldShape) (catalog : List (Option Coding)) (n : ℕ) (ds : Items) (xs ys : List (List Item)) → items_len ds ≡ length fields → length catalog ≡ length fields
+    → ReadsColumns fields catalog n ds (length fields) xs → ReadsColumns fields catalog n ds (length fields) ys → xs ≡ ys
+same_columns fields catalog n ds xs ys whole many h g =
     same_lists xs ys (h.len ∙ sym g.len)
     (λ i x y at at'.
     let within : i < length fields = omega (arith, slice_get-within xs i x at, h.len) in
     let f = slice_get_some fields i within in
-    let c = slice_get_some book i (omega arith) in
+    let c = slice_get_some catalog i (omega arith) in
     let d = get_item_some ds i (omega arith) in
     same_coded (kind_of_field f.0) c.0 n d.0 x y (h.each i f.0 c.0 d.0 x f.1 c.1 d.1 at) (g.each i f.0 c.0 d.0 y f.1 c.1 d.1 at'))
 
 table_by : (t u : Table) → t.rows ≡ u.rows → t.columns ≡ u.columns → t ≡ u
 table_by t u rows columns = ap (λ n. record { rows = n; columns = t.columns }) rows ∙ ap (λ xs. record { rows = u.rows; columns = xs }) columns
 
-same_table : (fields : List FieldShape) (book : List (Option Coding)) (d : Data) (t u : Table) → length book ≡ length fields → ReadsBatch fields book d t → ReadsBatch fields book d u → t ≡ u
-same_table fields book d t u many h g =
+same_table : (fields : List FieldShape) (catalog : List (Option Coding)) (d : Data) (t u : Table) → length catalog ≡ length fields → ReadsBatch fields catalog d t → ReadsBatch fields catalog d u → t ≡ u
+same_table fields catalog d t u many h g =
     let rows : t.rows ≡ u.rows = cc (h.count, g.count) in
     let found : h.found ≡ g.found = cc (h.listed, g.listed) in
-    let read : ReadsColumns fields book u.rows g.found (length fields) t.columns =
-    subst (λ n. ReadsColumns fields book n g.found (length fields) t.columns) rows (subst (λ ds. ReadsColumns fields book t.rows ds (length fields) t.columns) found h.columns) in
-    table_by t u rows (same_columns fields book u.rows g.found t.columns u.columns g.whole many read g.columns)
+    let read : ReadsColumns fields catalog u.rows g.found (length fields) t.columns =
+    subst (λ n. ReadsColumns fields catalog n g.found (length fields) t.columns) rows (subst (λ ds. ReadsColumns fields catalog t.rows ds (length fields) t.columns) found h.columns) in
+    table_by t u rows (same_columns fields catalog u.rows g.found t.columns u.columns g.whole many read g.columns)
 
 file_by : (f g : FileData) → f.fields ≡ g.fields → f.tables ≡ g.tables → f ≡ g
 file_by f g fields tables = ap (λ fs. record { fields = fs; tables = f.tables }) fields ∙ ap (λ ts. record { fields = g.fields; tables = ts }) tables
@@ -221,12 +221,12 @@ same_file : (d : Data) (f g : FileData) → ReadsFile d f → ReadsFile d g → 
 same_file d f g h k =
     let fields : f.fields ≡ g.fields = same_schema d f.fields g.fields h.schema k.schema in
     let found : h.batches ≡ k.batches = cc (h.at_batches, k.at_batches) in
-    let book : h.book ≡ k.book = same_book d h.book k.book h.coded k.coded in
-    let read : ReadsEach (ReadsBatch g.fields k.book) k.batches f.tables =
-    subst (λ fs. ReadsEach (ReadsBatch fs k.book) k.batches f.tables) fields
-    (subst (λ b. ReadsEach (ReadsBatch f.fields b) k.batches f.tables) book (subst (λ ds. ReadsEach (ReadsBatch f.fields h.book) ds f.tables) found h.tables)) in
-    let many = (book_of d g.fields k.book k.schema k.coded).len in
-    file_by f g fields (same_each (ReadsBatch g.fields k.book) k.batches f.tables g.tables (λ e t u r r'. same_table g.fields k.book e t u many r r') read k.tables)
+    let catalog : h.catalog ≡ k.catalog = same_catalog d h.catalog k.catalog h.coded k.coded in
+    let read : ReadsEach (ReadsBatch g.fields k.catalog) k.batches f.tables =
+    subst (λ fs. ReadsEach (ReadsBatch fs k.catalog) k.batches f.tables) fields
+    (subst (λ b. ReadsEach (ReadsBatch f.fields b) k.batches f.tables) catalog (subst (λ ds. ReadsEach (ReadsBatch f.fields h.catalog) ds f.tables) found h.tables)) in
+    let many = (catalog_of d g.fields k.catalog k.schema k.coded).len in
+    file_by f g fields (same_each (ReadsBatch g.fields k.catalog) k.batches f.tables g.tables (λ e t u r r'. same_table g.fields k.catalog e t u many r r') read k.tables)
 
 pub bytes_same : (bytes : List ℕ) (f g : FileData) → Reads bytes f → Reads bytes g → f ≡ g
 bytes_same bytes f g h k =

@@ -17,7 +17,7 @@ use Rattle.arrays.specs.Kind as kind
 use Rattle.arrays.specs.Kind.{Kind, kind_of, same_kind, int32}
 use Rattle.arrays.specs.Layout.{is_valid_in}
 use Rattle.arrays.specs.Number.{bytes_of_number}
-use Rattle.arrays.specs.Offsets.{of_slot}
+use Rattle.arrays.specs.Offsets.{slot_at}
 use Rattle.arrays.specs.Packed.{IsBufferOf}
 use Rattle.arrays.specs.Reading.{read_parts}
 use Rattle.arrays.specs.Seen.{Seen}
@@ -265,7 +265,7 @@ slot_shown false items = refl
 shown_slots : (n : ℕ) (flags : Option Items) (validity : Option (List ℕ)) (offsets : List ℕ) (child : Seen) → HoldsFlags flags n validity
     → ReadsLists flags offsets child.items n (show_lists n validity offsets child).items
 shown_slots n flags validity offsets child held =
-    let slot : ℕ → Item = λ j. cond (is_valid_in validity j) (column.list (list_of (of_slot offsets child.items j))) column.null in
+    let slot : ℕ → Item = λ j. cond (is_valid_in validity j) (column.list (list_of (slot_at offsets child.items j))) column.null in
     let len : length (map slot (range_with_len 0 n)) ≡ n = length-map-range_with_len slot 0 n in
     record {
       len = len;
@@ -273,8 +273,8 @@ shown_slots n flags validity offsets child held =
           λ i below.
           slice_get-get_or (map slot (range_with_len 0 n)) i column.null (omega (arith, below, len))
           ∙ ap Some (get_or-map-range_with_len slot 0 n i i column.null below (omega arith))
-          ∙ slot_shown (is_valid_in validity i) (of_slot offsets child.items i)
-          ∙ ap (λ o. list_slot o (of_slot offsets child.items i)) (sym (held.each i below));
+          ∙ slot_shown (is_valid_in validity i) (slot_at offsets child.items i)
+          ∙ ap (λ o. list_slot o (slot_at offsets child.items i)) (sym (held.each i below));
     }
 
 pub lists_hold : (k : Kind) (n : ℕ) (d : Data) (flags : Option Items) (offsets : Items) (child : Data) (validity : Option (List ℕ)) (bytes : List ℕ) (s a : Seen)

@@ -1,12 +1,9 @@
 -- The slots of a column added one after another.
 use Rattle.std.proofs.Common.{◌≡◌, ◌∙◌, ℕ, ◌+◌, ℤ, Bool, List, [], ◌∷◌, ◌++◌, Option, Some, None, true, false, option_map, refl, sym, ap, subst, arith, length-append, below_more}
 use Rattle.std.specs.List.{slice_get, sum_by}
-use Rattle.std.proofs.lemmas.List.Sums.{sum_by_push}
 use Rattle.types.specs.declared.int_type.IntType.{IntType}
 use Rattle.arrays.specs.Item as column
 use Rattle.arrays.specs.Item.{Item}
-use Rattle.arrays.specs.Kind as kind
-use Rattle.arrays.specs.Kind.{Kind}
 use Rattle.arrays.specs.Lengths.{is_past, text_bytes}
 use Rattle.serde_json.specs.Data.{Data, Items}
 use Rattle.serde_json.specs.Find.{get_item, as_str}
@@ -19,7 +16,7 @@ use Rattle.arrow_json.specs.declared.column.Unfit.{Unfit}
 use Rattle.arrow_json.specs.declared.column.Unfit.TheVariants as unfit
 use Rattle.json_places.specs.JsonFault.{IsFault, Tells}
 use Rattle.json_places.specs.JsonNumber.{integer_of, flag_of}
-use Rattle.arrow_json.specs.JsonColumn.{Spelling, numbers, truths, texts, spelling_of, is_full, valid_at, slot_of, ReadsSlots}
+use Rattle.arrow_json.specs.JsonColumn.{Spelling, numbers, truths, texts, valid_at, slot_of, ReadsSlots}
 use Rattle.arrow_json.specs.JsonColumnFault.{SlotsFault, no_flag, no_value, too_long}
 use Rattle.arrow_json.specs.Unfit.{IsWith, IsUnfit, spells_nothing, has_no_room, refused, IsTold}
 use Rattle.json_places.proofs.JsonTells.{tells_at, tells_wants}
@@ -35,17 +32,6 @@ nothing (x ∷ xs) = nothing xs
 -- a column without offsets is never full
 pub never_full : (xs : List Item) → is_past (sum_by (λ (x : Item). 0) xs) ≡ false
 never_full xs = ap is_past (nothing xs)
-
--- a null takes none of the offsets
-null_size : (k : Kind) → (spelling_of k).size column.null ≡ 0
-null_size (kind.int t) = refl
-null_size kind.boolean = refl
-null_size kind.utf8 = refl
-null_size (kind.list k) = refl
-null_size kind.dict = refl
-
-still_fits : (s : Spelling) (xs : List Item) → s.size column.null ≡ 0 → is_full s xs ≡ false → is_full s (xs ++ column.null ∷ []) ≡ false
-still_fits s xs zero fits = ap is_past (sum_by_push s.size xs column.null ∙ (ap (λ n. sum_by s.size xs + n) zero ∙ omega arith)) ∙ fits
 
 -- ---- a value is taken
 
@@ -110,9 +96,6 @@ pub null_pushed : (s : Spelling) (flags : Option Items) (values : Items) (i : �
 null_pushed s flags values i old new d h null found grown =
     subst (λ xs. ReadsSlots s flags values (i + 1) xs) (sym grown) (slots_pushed s flags values i old column.null h (null_slot s flags values i d null found))
 
-pub null_fits : (k : Kind) (old new : List Item) → is_full (spelling_of k) old ≡ false → new ≡ old ++ column.null ∷ [] → is_full (spelling_of k) new ≡ false
-null_fits k old new fits grown = ap (is_full (spelling_of k)) grown ∙ still_fits (spelling_of k) old (null_size k) fits
-
 -- ---- a slot is refused
 
 pub tells_no_flag : (s : Spelling) (flags : Option Items) (values : Items) (i : ℕ) (d : Data) (f : JsonFault) → get_item i values ≡ Some d → valid_at flags i ≡ None
@@ -132,9 +115,6 @@ tells_unfit s flags values i items d u f h valid found (refused x is) told = tel
 
 pub no_slots_yet : (s : Spelling) (flags : Option Items) (values : Items) (items : List Item) → items ≡ [] → ReadsSlots s flags values 0 items
 no_slots_yet s flags values items none = subst (λ xs. ReadsSlots s flags values 0 xs) (sym none) record { len = refl; each = λ i below. absurd (omega (arith, below)) }
-
-pub nothing_fits : (s : Spelling) (items : List Item) → items ≡ [] → is_full s items ≡ false
-nothing_fits s items none = ap (is_full s) none
 
 pub ruleset slots_told = (tells_wants)
 

@@ -10,11 +10,11 @@ pub mod JsonLists
 pub mod JsonCodes
 pub mod JsonDictionaries
 pub mod Places
-pub mod JsonBooks
+pub mod JsonCatalogs
 pub mod JsonBatches
 pub mod JsonRecordBatches
 pub mod JsonFiles
 pub mod SchemaLaws
 pub mod ColumnLaws
-pub mod BookLaws
+pub mod CatalogLaws
 pub mod JsonLaws

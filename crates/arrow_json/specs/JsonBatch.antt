@@ -12,7 +12,7 @@ use Rattle.json_places.specs.JsonMember.{member_of}
 use Rattle.arrow_json.specs.JsonColumn.{ReadsPlain, numbers, truths, texts}
 use Rattle.arrow_json.specs.JsonList.{ReadsList}
 use Rattle.arrow_json.specs.JsonCodes.{ReadsCodes}
-use Rattle.arrow_json.specs.JsonBook.{Coding}
+use Rattle.arrow_json.specs.JsonCatalog.{Coding}
 use Rattle.json_places.specs.JsonTable.{Table}
 use Rattle.json_places.specs.declared.path.Member.TheVariants as member
 
@@ -30,7 +30,7 @@ pub record HoldsColumn (k : Kind) (rows : ℕ) (d : Data) (s : Seen) : Type 0 wh
   pub len : length s.items ≡ rows
   pub reads : ReadsColumn k rows d s.items
 
--- The column object of a field: whether it is encoded, the book says.
+-- The column object of a field: whether it is encoded, the catalog says.
 abbrev pub ReadsTop : Kind → Option Coding → ℕ → Data → List Item → Type 0
 ReadsTop k None n d items = ReadsColumn k n d items
 ReadsTop k (Some c) n d items = ReadsCodes c.index c.texts n d items
@@ -41,27 +41,27 @@ pub record HoldsTop (k : Kind) (c : Option Coding) (rows : ℕ) (d : Data) (s : 
   pub len : length s.items ≡ rows
   pub reads : ReadsTop k c rows d s.items
 
--- The book of the fields: it has one coding for each, and those that are encoded are dictionaries.
-pub record IsBookOf (fields : List FieldShape) (book : List (Option Coding)) : Type 0 where
-  pub len : length book ≡ length fields
-  pub encoded : (i : ℕ) (f : FieldShape) (c : Coding) → slice_get fields i ≡ Some f → slice_get book i ≡ Some (Some c) → kind_of_field f ≡ dict
+-- The catalog of the fields: it has one coding for each, and those that are encoded are dictionaries.
+pub record IsCatalogOf (fields : List FieldShape) (catalog : List (Option Coding)) : Type 0 where
+  pub len : length catalog ≡ length fields
+  pub encoded : (i : ℕ) (f : FieldShape) (c : Coding) → slice_get fields i ≡ Some f → slice_get catalog i ≡ Some (Some c) → kind_of_field f ≡ dict
 
 -- Arrays that are the columns of the first fields.
-pub record HoldsColumns (fields : List FieldShape) (book : List (Option Coding)) (rows : ℕ) (ds : Items) (m : ℕ) (columns : List Seen) : Type 0 where
+pub record HoldsColumns (fields : List FieldShape) (catalog : List (Option Coding)) (rows : ℕ) (ds : Items) (m : ℕ) (columns : List Seen) : Type 0 where
   pub len : length columns ≡ m
-  pub each : (i : ℕ) (f : FieldShape) (c : Option Coding) (d : Data) (s : Seen) → slice_get fields i ≡ Some f → slice_get book i ≡ Some c → get_item i ds ≡ Some d
+  pub each : (i : ℕ) (f : FieldShape) (c : Option Coding) (d : Data) (s : Seen) → slice_get fields i ≡ Some f → slice_get catalog i ≡ Some c → get_item i ds ≡ Some d
       → slice_get columns i ≡ Some s → HoldsTop (kind_of_field f) c rows d s
 
 -- The columns of the first fields.
-pub record ReadsColumns (fields : List FieldShape) (book : List (Option Coding)) (rows : ℕ) (ds : Items) (m : ℕ) (columns : List (List Item)) : Type 0 where
+pub record ReadsColumns (fields : List FieldShape) (catalog : List (Option Coding)) (rows : ℕ) (ds : Items) (m : ℕ) (columns : List (List Item)) : Type 0 where
   pub len : length columns ≡ m
-  pub each : (i : ℕ) (f : FieldShape) (c : Option Coding) (d : Data) (items : List Item) → slice_get fields i ≡ Some f → slice_get book i ≡ Some c → get_item i ds ≡ Some d
+  pub each : (i : ℕ) (f : FieldShape) (c : Option Coding) (d : Data) (items : List Item) → slice_get fields i ≡ Some f → slice_get catalog i ≡ Some c → get_item i ds ≡ Some d
       → slice_get columns i ≡ Some items → ReadsTop (kind_of_field f) c rows d items
 
 -- The batch object of a table under the fields.
-pub record ReadsBatch (fields : List FieldShape) (book : List (Option Coding)) (d : Data) (t : Table) : Type 0 where
+pub record ReadsBatch (fields : List FieldShape) (catalog : List (Option Coding)) (d : Data) (t : Table) : Type 0 where
   pub count : option_and_then count_of (member_of member.Count d) ≡ Some t.rows
   pub found : Items
   pub listed : option_and_then as_array (member_of member.Columns d) ≡ Some found
   pub whole : items_len found ≡ length fields
-  pub columns : ReadsColumns fields book t.rows found (length fields) t.columns
+  pub columns : ReadsColumns fields catalog t.rows found (length fields) t.columns

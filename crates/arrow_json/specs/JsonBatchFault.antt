@@ -10,7 +10,7 @@ use Rattle.arrow_json.specs.JsonColumn.{numbers, truths, texts}
 use Rattle.arrow_json.specs.JsonColumnFault.{ColumnFault}
 use Rattle.arrow_json.specs.JsonListFault.{ListsFault}
 use Rattle.arrow_json.specs.JsonCodesFault.{CodesFault}
-use Rattle.arrow_json.specs.JsonBook.{Coding}
+use Rattle.arrow_json.specs.JsonCatalog.{Coding}
 use Rattle.json_places.specs.declared.path.Member.TheVariants as member
 use Rattle.json_places.specs.declared.path.Step.{Step}
 use Rattle.json_places.specs.declared.path.Step.TheVariants as step
@@ -34,13 +34,13 @@ CodedFault k None n d kind path = KindFault k n d kind path
 CodedFault k (Some c) n d kind path = CodesFault c.index c.texts n d kind path
 
 -- Some column is wrong.
-pub data ColumnsFault (fields : List FieldShape) (book : List (Option Coding)) (rows : ℕ) (ds : Items) : JsonFaultKind → List Step → Type 0 where
-  bad_column : (i : ℕ) (f : FieldShape) (c : Option Coding) (d : Data) (kind : JsonFaultKind) (path : List Step) → slice_get fields i ≡ Some f → slice_get book i ≡ Some c → get_item i ds ≡ Some d
-      → CodedFault (kind_of_field f) c rows d kind path → ColumnsFault fields book rows ds kind (step.Item i ∷ path)
+pub data ColumnsFault (fields : List FieldShape) (catalog : List (Option Coding)) (rows : ℕ) (ds : Items) : JsonFaultKind → List Step → Type 0 where
+  bad_column : (i : ℕ) (f : FieldShape) (c : Option Coding) (d : Data) (kind : JsonFaultKind) (path : List Step) → slice_get fields i ≡ Some f → slice_get catalog i ≡ Some c → get_item i ds ≡ Some d
+      → CodedFault (kind_of_field f) c rows d kind path → ColumnsFault fields catalog rows ds kind (step.Item i ∷ path)
 
-pub data BatchFault (fields : List FieldShape) (book : List (Option Coding)) (d : Data) : JsonFaultKind → List Step → Type 0 where
-  no_batch_object : (kind : JsonFaultKind) (path : List Step) → Unlike as_object d kind path → BatchFault fields book d kind path
-  bad_rows : (kind : JsonFaultKind) (path : List Step) → MemberFault member.Count (Unlike count_of) d kind path → BatchFault fields book d kind path
-  bad_list : (kind : JsonFaultKind) (path : List Step) → MemberFault member.Columns (ListFault (length fields)) d kind path → BatchFault fields book d kind path
+pub data BatchFault (fields : List FieldShape) (catalog : List (Option Coding)) (d : Data) : JsonFaultKind → List Step → Type 0 where
+  no_batch_object : (kind : JsonFaultKind) (path : List Step) → Unlike as_object d kind path → BatchFault fields catalog d kind path
+  bad_rows : (kind : JsonFaultKind) (path : List Step) → MemberFault member.Count (Unlike count_of) d kind path → BatchFault fields catalog d kind path
+  bad_list : (kind : JsonFaultKind) (path : List Step) → MemberFault member.Columns (ListFault (length fields)) d kind path → BatchFault fields catalog d kind path
   bad_columns : (rows : ℕ) (ds : Items) (kind : JsonFaultKind) (path : List Step) → option_and_then count_of (member_of member.Count d) ≡ Some rows
-      → option_and_then as_array (member_of member.Columns d) ≡ Some ds → ColumnsFault fields book rows ds kind path → BatchFault fields book d kind (step.Member member.Columns ∷ path)
+      → option_and_then as_array (member_of member.Columns d) ≡ Some ds → ColumnsFault fields catalog rows ds kind path → BatchFault fields catalog d kind (step.Member member.Columns ∷ path)

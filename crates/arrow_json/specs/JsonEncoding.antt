@@ -1,8 +1,8 @@
 -- How the column of a field is encoded. (Arrow integration testing, "JSON test data format", Field and DictionaryType)
 use Rattle.std.specs.Prelude.{◌≡◌, ℤ, true, Option, Some, None, option_and_then}
 use Rattle.types.specs.declared.int_type.IntType.{IntType}
-use Rattle.types.specs.declared.int_type.Width.TheVariants.{W64}
 use Rattle.serde_json.specs.Data.{Data}
+use Rattle.arrays.specs.Kind.{int64}
 use Rattle.json_places.specs.JsonNumber.{integer_of}
 use Rattle.json_places.specs.JsonMember.{member_of, is_without}
 use Rattle.arrow_json.specs.JsonSchema.{ReadsInt}
@@ -12,9 +12,6 @@ use Rattle.json_places.specs.declared.path.Member.TheVariants as member
 pub record Encoding : Type 0 where
   pub id : ℤ
   pub index : IntType
-
-abbrev pub int64 : IntType
-int64 = record { bits = W64; signed = true }
 
 -- The number of a dictionary.
 abbrev pub id_of : Data → Option ℤ

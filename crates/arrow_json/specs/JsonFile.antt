@@ -10,8 +10,8 @@ use Rattle.serde_json.specs.Read.{read}
 use Rattle.json_places.specs.JsonMember.{member_of, Unlike, MemberFault, EachFault, ReadsEach}
 use Rattle.arrow_json.specs.JsonFields.{ReadsSchema}
 use Rattle.arrow_json.specs.JsonFieldsFault.{SchemaFault}
-use Rattle.arrow_json.specs.JsonBook.{Coding, HasBook}
-use Rattle.arrow_json.specs.JsonBookFault.{BookFault}
+use Rattle.arrow_json.specs.JsonCatalog.{Coding, HasCatalog}
+use Rattle.arrow_json.specs.JsonCatalogFault.{CatalogFault}
 use Rattle.json_places.specs.JsonTable.{FileData, table_of}
 use Rattle.arrow_json.specs.JsonBatch.{ReadsBatch}
 use Rattle.arrow_json.specs.JsonBatchFault.{BatchFault}
@@ -38,11 +38,11 @@ pub record HasSchema (d : Data) (fields : List FieldShape) : Type 0 where
 -- The document of a file.
 pub record ReadsFile (d : Data) (f : FileData) : Type 0 where
   pub schema : HasSchema d f.fields
-  pub book : List (Option Coding)
-  pub coded : HasBook d book
+  pub catalog : List (Option Coding)
+  pub coded : HasCatalog d catalog
   pub batches : Items
   pub at_batches : option_and_then as_array (member_of member.Batches d) ≡ Some batches
-  pub tables : ReadsEach (ReadsBatch f.fields book) batches f.tables
+  pub tables : ReadsEach (ReadsBatch f.fields catalog) batches f.tables
 
 -- The bytes are the text of a document of the file.
 pub record Reads (bytes : List ℕ) (f : FileData) : Type 0 where
@@ -56,11 +56,11 @@ pub record Reads (bytes : List ℕ) (f : FileData) : Type 0 where
 pub data FileFault (d : Data) : JsonFaultKind → List Step → Type 0 where
   no_file_object : (kind : JsonFaultKind) (path : List Step) → Unlike as_object d kind path → FileFault d kind path
   bad_schema : (kind : JsonFaultKind) (path : List Step) → MemberFault member.Schema SchemaFault d kind path → FileFault d kind path
-  bad_book : (kind : JsonFaultKind) (path : List Step) → BookFault d kind path → FileFault d kind path
+  bad_catalog : (kind : JsonFaultKind) (path : List Step) → CatalogFault d kind path → FileFault d kind path
   bad_batches : (kind : JsonFaultKind) (path : List Step) → MemberFault member.Batches (Unlike as_array) d kind path → FileFault d kind path
   -- a batch under the fields that are read
-  bad_batch : (fields : List FieldShape) (book : List (Option Coding)) (ds : Items) (kind : JsonFaultKind) (path : List Step) → HasSchema d fields → HasBook d book
-      → option_and_then as_array (member_of member.Batches d) ≡ Some ds → EachFault (BatchFault fields book) ds kind path → FileFault d kind (step.Member member.Batches ∷ path)
+  bad_batch : (fields : List FieldShape) (catalog : List (Option Coding)) (ds : Items) (kind : JsonFaultKind) (path : List Step) → HasSchema d fields → HasCatalog d catalog
+      → option_and_then as_array (member_of member.Batches d) ≡ Some ds → EachFault (BatchFault fields catalog) ds kind path → FileFault d kind (step.Member member.Batches ∷ path)
 
 pub data BytesFault (bytes : List ℕ) : JsonFaultKind → List Step → Type 0 where
   -- no UTF-8, or no JSON that is nested at most 127 deep

@@ -8,7 +8,7 @@ use Rattle.arrays.specs.Item.{Item, list_of}
 use Rattle.arrays.specs.Kind as kind
 use Rattle.arrays.specs.Kind.{Kind, int32}
 use Rattle.arrays.specs.Number.{bytes_of_number}
-use Rattle.arrays.specs.Offsets.{of_slot}
+use Rattle.arrays.specs.Offsets.{slot_at}
 use Rattle.serde_json.specs.Data.{Data, Items, no_items, item}
 use Rattle.serde_json.specs.Find.{as_array}
 use Rattle.serde_json.specs.Events.{items_len}
@@ -46,7 +46,7 @@ list_slot None items = None
 -- n slots over the child's items, each from one offset up to the next.
 pub record ReadsLists (flags : Option Items) (offsets : List ℕ) (below : List Item) (n : ℕ) (items : List Item) : Type 0 where
   pub len : length items ≡ n
-  pub each : (i : ℕ) → i < n → slice_get items i ≡ list_slot (valid_at flags i) (of_slot offsets below i)
+  pub each : (i : ℕ) → i < n → slice_get items i ≡ list_slot (valid_at flags i) (slot_at offsets below i)
 
 -- A column object of n lists, with a flag for each or none, offsets for all, and one child.
 pub record HasLists (n : ℕ) (d : Data) (flags : Option Items) (offsets : Items) (child : Data) : Type 0 where

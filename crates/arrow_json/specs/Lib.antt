@@ -14,10 +14,10 @@ pub mod JsonCodesFault
 pub mod CodeParts
 pub mod JsonDictionary
 pub mod JsonDictionaryFault
-pub mod JsonBook
-pub mod JsonBookFault
+pub mod JsonCatalog
+pub mod JsonCatalogFault
 pub mod PlaceParts
-pub mod BookParts
+pub mod CatalogParts
 pub mod JsonList
 pub mod JsonListFault
 pub mod SlotParts

@@ -2,7 +2,7 @@
 use Rattle.std.specs.Prelude.{◌≡◌, ◌≢◌, ℕ, ◌<◌, ℤ, List, slice_get, Some, unwrap_or}
 use Rattle.std.specs.BTreeMap.{BTreeMap, get}
 use Rattle.std.specs.Ordering.{int_cmp}
-use Rattle.arrow_json.specs.JsonBook.{IsOnly}
+use Rattle.arrow_json.specs.JsonCatalog.{IsOnly}
 use Rattle.arrow_json.specs.declared.place.Place.{Place}
 use Rattle.arrow_json.specs.declared.place.Place.TheVariants.{Nowhere, At, Again}
 

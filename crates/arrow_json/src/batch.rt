@@ -5,13 +5,13 @@ ghost use Rattle.arrays.specs.Kind.{kind_of};
 ghost use Rattle.arrays.specs.Shape.{fields_of};
 ghost use Rattle.types.specs.declared.data_type.Field.{out-Field};
 ghost use Rattle.serde_json.specs.View.{view, items_view};
-ghost use Rattle.arrow_json.specs.BookParts.{coding_of};
-ghost use Rattle.arrow_json.specs.JsonBatch.{HoldsColumn, HoldsColumns, HoldsTop, IsBookOf, ReadsBatch};
+ghost use Rattle.arrow_json.specs.CatalogParts.{coding_of};
+ghost use Rattle.arrow_json.specs.JsonBatch.{HoldsColumn, HoldsColumns, HoldsTop, IsCatalogOf, ReadsBatch};
 ghost use Rattle.json_places.specs.JsonTable.{table_of};
 ghost use Rattle.arrow_json.specs.JsonBatchFault.{BatchFault, CodedFault, ColumnsFault, KindFault};
 ghost use Rattle.json_places.specs.JsonFault.{Tells};
 
-use crate::book::Coding;
+use crate::catalog::Coding;
 use crate::codes::read_codes;
 use crate::column::{list_member, read_numbers, read_texts, read_truths};
 use crate::list::read_list;
@@ -70,22 +70,22 @@ fn read_coded(
 fn read_columns(
     alloc: Global,
     fields: &[Field],
-    book: &[Option<Coding>],
+    catalog: &[Option<Coding>],
     rows: u32,
     values: &[Value],
 ) -> Result<Vec<Array>, JsonFault>
     requires small { rows < 2 ^ 31 }
     requires whole { length values.now ≡ length fields.now }
-    requires book { IsBookOf (fields_of fields.now) (map (option_map coding_of) book.now) }
+    requires catalog { IsCatalogOf (fields_of fields.now) (map (option_map coding_of) catalog.now) }
     ensures ok { IfOk result (λ columns.
-        HoldsColumns (fields_of fields.now) (map (option_map coding_of) book.now) rows (items_view values.now)
+        HoldsColumns (fields_of fields.now) (map (option_map coding_of) catalog.now) rows (items_view values.now)
         (length fields.now) columns.items) }
     ensures err { IfErr result
-        (Tells (ColumnsFault (fields_of fields.now) (map (option_map coding_of) book.now) rows (items_view values.now))) }
+        (Tells (ColumnsFault (fields_of fields.now) (map (option_map coding_of) catalog.now) rows (items_view values.now))) }
 {
     let mut columns = Vec::new(alloc);
     for index in 0..fields.len() {
-        let read = read_coded(alloc, &fields[index], &book[index], rows, &values[index]);
+        let read = read_coded(alloc, &fields[index], &catalog[index], rows, &values[index]);
         let column = read.map_err(|fault| fault.under(alloc, Step::Item(index)))?;
         push(alloc, &mut columns, column)?;
     }
@@ -97,18 +97,18 @@ fn read_columns(
 pub(crate) fn read_batch(
     alloc: Global,
     schema: &Arc<Schema>,
-    book: &[Option<Coding>],
+    catalog: &[Option<Coding>],
     batch: &Value,
 ) -> Result<RecordBatch, JsonFault>
-    requires { IsBookOf (arc_value schema.now) (map (option_map coding_of) book.now) }
+    requires { IsCatalogOf (arc_value schema.now) (map (option_map coding_of) catalog.now) }
     ensures fields { IfOk result (λ b. b.fields ≡ arc_value schema.now) }
-    ensures ok { IfOk result (λ b. ReadsBatch (arc_value schema.now) (map (option_map coding_of) book.now) (view batch.now) (table_of b)) }
-    ensures err { IfErr result (Tells (BatchFault (arc_value schema.now) (map (option_map coding_of) book.now) (view batch.now))) }
+    ensures ok { IfOk result (λ b. ReadsBatch (arc_value schema.now) (map (option_map coding_of) catalog.now) (view batch.now) (table_of b)) }
+    ensures err { IfErr result (Tells (BatchFault (arc_value schema.now) (map (option_map coding_of) catalog.now) (view batch.now))) }
 {
     check_object(alloc, batch)?;
     let rows = count_member(alloc, batch, Member::Count)?;
     let values = list_member(alloc, batch, Member::Columns, schema.len())?;
-    let read = read_columns(alloc, schema.fields(), book, rows, values);
+    let read = read_columns(alloc, schema.fields(), catalog, rows, values);
     let columns = read.map_err(|fault| fault.under(alloc, Step::Member(Member::Columns)))?;
     let schema = schema.clone().map_err(|_| JsonFault::no_memory(alloc))?;
     Ok(RecordBatch::under(schema, rows, columns))

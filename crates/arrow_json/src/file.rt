@@ -2,19 +2,18 @@ ghost use Rattle.std.specs.Prelude.{◌≡◌, Some, IfOk, IfErr, OnOk, IsUtf8, 
 ghost use Rattle.std.specs.Arc.{arc_value};
 ghost use Rattle.serde_json.specs.Read.{read};
 ghost use Rattle.serde_json.specs.View.{view, items_view};
-ghost use Rattle.arrow_json.specs.BookParts.{HasEncodings, coding_of};
+ghost use Rattle.arrow_json.specs.CatalogParts.{HasEncodings, coding_of};
 ghost use Rattle.arrow_json.specs.EncodingParts.{parts_of};
-ghost use Rattle.arrow_json.specs.JsonBook.{HasBook};
-ghost use Rattle.arrow_json.specs.JsonBatch.{IsBookOf, ReadsBatch};
+ghost use Rattle.arrow_json.specs.JsonCatalog.{HasCatalog};
+ghost use Rattle.arrow_json.specs.JsonBatch.{IsCatalogOf, ReadsBatch};
 ghost use Rattle.json_places.specs.JsonTable.{table_of};
 ghost use Rattle.arrow_json.specs.JsonBatchFault.{BatchFault};
 ghost use Rattle.json_places.specs.JsonFault.{Tells};
-ghost use Rattle.json_places.specs.JsonMember.{EachFault, NoDocument, IsObject, ReadsEach, member_of};
-ghost use Rattle.arrow_json.specs.JsonFields.{ReadsSchema};
+ghost use Rattle.json_places.specs.JsonMember.{EachFault, NoDocument, IsObject, ReadsEach};
 ghost use Rattle.arrow_json.specs.JsonFile.{AreUnder, BytesFault, FileFault, HasSchema, Reads, ReadsFile, file_of};
 
 use crate::batch::read_batch;
-use crate::book::{Coding, read_book};
+use crate::catalog::{Coding, read_catalog};
 use crate::schema::{EncodedSchema, read_schema};
 use arrays::{File, RecordBatch, Schema};
 use json_places::document::parse;
@@ -29,15 +28,15 @@ use std::sync::Arc;
 fn read_shared(
     alloc: Global,
     schema: &Arc<Schema>,
-    book: &[Option<Coding>],
+    catalog: &[Option<Coding>],
     batch: &Value,
 ) -> Result<Arc<RecordBatch>, JsonFault>
-    requires { IsBookOf (arc_value schema.now) (map (option_map coding_of) book.now) }
+    requires { IsCatalogOf (arc_value schema.now) (map (option_map coding_of) catalog.now) }
     ensures fields { IfOk result (λ b. (arc_value b).fields ≡ (arc_value schema.now)) }
-    ensures ok { IfOk result (λ b. ReadsBatch (arc_value schema.now) (map (option_map coding_of) book.now) (view batch.now) (table_of (arc_value b))) }
-    ensures err { IfErr result (Tells (BatchFault (arc_value schema.now) (map (option_map coding_of) book.now) (view batch.now))) }
+    ensures ok { IfOk result (λ b. ReadsBatch (arc_value schema.now) (map (option_map coding_of) catalog.now) (view batch.now) (table_of (arc_value b))) }
+    ensures err { IfErr result (Tells (BatchFault (arc_value schema.now) (map (option_map coding_of) catalog.now) (view batch.now))) }
 {
-    let batch = read_batch(alloc, schema, book, batch)?;
+    let batch = read_batch(alloc, schema, catalog, batch)?;
     Arc::new(alloc, batch).map_err(|_| JsonFault::no_memory(alloc))
 }
 
@@ -46,19 +45,19 @@ fn read_shared(
 fn read_batches(
     alloc: Global,
     schema: &Arc<Schema>,
-    book: &[Option<Coding>],
+    catalog: &[Option<Coding>],
     values: &[Value],
 ) -> Result<Vec<Arc<RecordBatch>>, JsonFault>
-    requires { IsBookOf (arc_value schema.now) (map (option_map coding_of) book.now) }
+    requires { IsCatalogOf (arc_value schema.now) (map (option_map coding_of) catalog.now) }
     ensures under { IfOk result (λ batches. AreUnder (arc_value schema.now) (map arc_value batches.items)) }
-    ensures ok { IfOk result (λ batches. ReadsEach (ReadsBatch (arc_value schema.now) (map (option_map coding_of) book.now))
+    ensures ok { IfOk result (λ batches. ReadsEach (ReadsBatch (arc_value schema.now) (map (option_map coding_of) catalog.now))
         (items_view values.now) (map table_of (map arc_value batches.items))) }
-    ensures err { IfErr result (Tells (EachFault (BatchFault (arc_value schema.now) (map (option_map coding_of) book.now))
+    ensures err { IfErr result (Tells (EachFault (BatchFault (arc_value schema.now) (map (option_map coding_of) catalog.now))
         (items_view values.now))) }
 {
     let mut batches = Vec::new(alloc);
     for (index, value) in values.iter().enumerate() {
-        let read = read_shared(alloc, schema, book, value);
+        let read = read_shared(alloc, schema, catalog, value);
         let batch = read.map_err(|fault| fault.under(alloc, Step::Item(index)))?;
         push(alloc, &mut batches, batch)?;
     }
@@ -86,17 +85,17 @@ fn read_under(
     alloc: Global,
     document: &Value,
     schema: Arc<Schema>,
-    book: &[Option<Coding>],
+    catalog: &[Option<Coding>],
 ) -> Result<File, JsonFault>
     requires object { IsObject (view document.now) }
     requires schema { HasSchema (view document.now) (arc_value schema) }
-    requires book { HasBook (view document.now) (map (option_map coding_of) book.now) }
+    requires catalog { HasCatalog (view document.now) (map (option_map coding_of) catalog.now) }
     ensures under { IfOk result (λ f. AreUnder f.fields f.batches) }
     ensures ok { IfOk result (λ f. ReadsFile (view document.now) (file_of f)) }
     ensures err { IfErr result (Tells (FileFault (view document.now))) }
 {
     let values = array_member(alloc, document, Member::Batches)?;
-    let read = read_batches(alloc, &schema, book, values);
+    let read = read_batches(alloc, &schema, catalog, values);
     let batches = read.map_err(|fault| fault.under(alloc, Step::Member(Member::Batches)))?;
     Ok(File::new(schema, batches))
 }
@@ -110,8 +109,8 @@ fn read_document(alloc: Global, document: &Value) -> Result<File, JsonFault>
 {
     check_object(alloc, document)?;
     let read = file_schema(alloc, document)?;
-    let book = read_book(alloc, document, &read.encodings)?;
-    read_under(alloc, document, read.schema, &book)
+    let catalog = read_catalog(alloc, document, &read.encodings)?;
+    read_under(alloc, document, read.schema, &catalog)
 }
 
 /// The document that the bytes spell, which are let go of here.

@@ -2,7 +2,7 @@
 #![tactic(auto)]
 
 mod batch;
-mod book;
+mod catalog;
 mod codes;
 mod column;
 mod dictionary;

@@ -1,6 +1,6 @@
 //! Columns of lists.
 
-ghost use Rattle.std.specs.Prelude.{◌≡◌, ◌<◌, ◌^◌, ◌∷◌, [], false, true, length, IfOk, IfErr, IfSome, Some, option_and_then, option_map};
+ghost use Rattle.std.specs.Prelude.{◌≡◌, ◌<◌, ◌^◌, [], false, true, length, IfOk, IfErr, IfSome, Some, option_and_then};
 ghost use Rattle.arrays.specs.Fault.{is_validity_short};
 ghost use Rattle.arrays.specs.FromParts.{list_parts};
 ghost use Rattle.arrays.specs.Kind as kind;

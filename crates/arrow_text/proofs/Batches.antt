@@ -1,9 +1,9 @@
 -- The columns of lawful batches under the fields of a file.
-use Rattle.std.proofs.Common.{◌≡◌, ◌∙◌, ℕ, ◌<◌, List, [], ◌∷◌, length, map, get_or, Bool, true, false, not, cond, eqb, ◌||◌, Option, None, Some, option_map, position, refl, sym, subst, ap, ap₂, true≢false, arith}
+use Rattle.std.proofs.Common.{◌≡◌, ◌∙◌, ℕ, ◌<◌, List, [], ◌∷◌, length, map, get_or, Bool, true, false, not, cond, eqb, ◌||◌, Option, None, Some, option_map, refl, sym, subst, ap, ap₂, true≢false, arith}
 use Rattle.std.proofs.lemmas.Bool.{eqb-true}
 use Rattle.std.proofs.lemmas.List.{get_or-map, length-map}
 use Rattle.std.proofs.lemmas.Option.{get_or_from_slice_get, slice_get-get_or, slice_get_within}
-use Rattle.std.specs.Prelude.{nat_lt, slice_get}
+use Rattle.std.specs.Prelude.{slice_get}
 use Rattle.std.specs.List.{All, list_any, zip}
 use Rattle.std.specs.Option.{option_or}
 use Rattle.layout.proofs.ChildLemmas.{same_kinds}

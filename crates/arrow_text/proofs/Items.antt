@@ -1,18 +1,14 @@
 -- The items of lists.
-use Rattle.std.proofs.Common.{◌≡◌, ◌∙◌, ℕ, List, [], ◌∷◌, ◌++◌, Some, None, length, get_or, refl, sym, ap, append-nil}
+use Rattle.std.proofs.Common.{◌≡◌, ◌∙◌, ℕ, List, [], ◌∷◌, ◌++◌, Some, None, length, get_or, ap, append-nil}
 use Rattle.std.proofs.lemmas.Option.{get_or_from_slice_get}
 use Rattle.std.proofs.lemmas.List.Concat.{flat_map-append}
 use Rattle.std.specs.Prelude.{slice_get}
-use Rattle.arrays.specs.Item.{Item, null, items_of, list_of}
-use Rattle.arrays.specs.Lengths.{items_in}
+use Rattle.arrays.specs.Item.{Item, null}
+use Rattle.arrays.specs.Lengths.{items_in, joined_items}
 use Rattle.arrays.specs.Seen.{Seen}
 use Rattle.arrays.specs.Slot.{item_of_list}
+use Rattle.arrays.proofs.ListLemmas.{items_of-list_of}
 use Rattle.arrow_text.specs.ColumnData.{item_length}
-use Rattle.arrow_text.specs.Slots.{joined}
-
-pub items_of-list_of : (xs : List Item) → items_of (list_of xs) ≡ xs
-items_of-list_of [] = refl
-items_of-list_of (x ∷ xs) = ap (λ ys. x ∷ ys) (items_of-list_of xs)
 
 -- How long a list is that is there, and one that isn't.
 pub item_length-list : (items : List Item) (i : ℕ) (s : Seen) → slice_get items i ≡ Some (item_of_list (Some s)) → item_length (get_or items i null) ≡ length s.items
@@ -29,5 +25,5 @@ pub items_in-none : (items : List Item) (i : ℕ) → slice_get items i ≡ Some
 items_in-none items i is = ap items_in (get_or_from_slice_get items i _ null is)
 
 -- One more column.
-pub joined-push : (columns : List Seen) (c : Seen) → joined (columns ++ c ∷ []) ≡ joined columns ++ c.items
-joined-push columns c = flat_map-append (λ (s : Seen). s.items) columns (c ∷ []) ∙ ap (λ xs. joined columns ++ xs) (append-nil c.items)
+pub joined-push : (columns : List Seen) (c : Seen) → joined_items (columns ++ c ∷ []) ≡ joined_items columns ++ c.items
+joined-push columns c = flat_map-append (λ (s : Seen). s.items) columns (c ∷ []) ∙ ap (λ xs. joined_items columns ++ xs) (append-nil c.items)

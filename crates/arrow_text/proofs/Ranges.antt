@@ -1,5 +1,5 @@
 -- The numbers of each type are of at most 64 bits.
-use Rattle.std.proofs.Common.{◌≡◌, ◌^◌, ◌-◌, ℤ, pos, negsuc, neg_ℤ, Bool, true, false, arith}
+use Rattle.std.proofs.Common.{◌^◌, ◌-◌, ℤ, pos, neg_ℤ, Bool, true, false, arith}
 use Rattle.std.specs.Prelude.{◌≤ℤ◌}
 use Rattle.std.proofs.lemmas.Int.{ints}
 use Rattle.types.specs.declared.int_type.Width.{Width}

@@ -1,8 +1,7 @@
 -- The compact text of a plain value reads back as the value.
-use Rattle.std.proofs.Common.{◌≡◌, ◌∙◌, ℕ, suc, max, ◌≤◌, pos, negsuc, List, [], ◌++◌, Some, option_map, option_and_then, refl, sym, ap, ap₂, subst, append-nil}
+use Rattle.std.proofs.Common.{◌≡◌, ◌∙◌, ℕ, suc, max, ◌≤◌, pos, negsuc, List, [], Some, option_map, option_and_then, refl, sym, ap, ap₂, subst, append-nil}
 use Rattle.std.specs.Prelude.{⊤}
-use Rattle.std.specs.Ordering.{nat_cmp, match_ordering}
-use Rattle.std.specs.Cmp.Lexicographic.{slice_cmp}
+use Rattle.std.specs.Ordering.{match_ordering}
 use Rattle.json.specs.Json.{if_last, value}
 use Rattle.json.specs.Lex.{tokens}
 use Rattle.json.specs.Print.{IsNumber}

@@ -1,6 +1,6 @@
 -- The shapes of types.
 use Rattle.std.proofs.Common.{◌≡◌, ◌∙◌, ap}
-use Rattle.types.specs.declared.data_type.DataType.{DataType, DataType-F, out-DataType, fold-DataType, fold_out-DataType, map-DataType}
+use Rattle.types.specs.declared.data_type.DataType.{DataType, fold_out-DataType, map-DataType}
 use Rattle.types.specs.declared.data_type.DataType.TheVariants.{Dict, outs-Dict}
 use Rattle.types.specs.declared.data_type.Field.{Field}
 use Rattle.types.specs.Shape.{Shape, FieldShape, shape_step, field_step, shape_of, field_of, dict}

@@ -7,7 +7,8 @@ use Rattle.arrays.specs.Item.{Item, null, int, boolean, text, list}
 use Rattle.pool.specs.Texts.{firsts, texts_of}
 use Rattle.pool.proofs.TextLemmas.{firsts-push}
 use Rattle.json_places.specs.JsonTable.{Table, table_of, tables_of}
-use Rattle.arrow_text.specs.Dictionaries.{column_at, column_items, dictionaries_from, with_item, with_items}
+use Rattle.arrow_text.specs.Dictionaries.{column_at, column_items, dictionaries_from, with_items}
+use Rattle.pool.specs.Places.{with_item}
 
 pub with_items-append : (texts : List (List ℕ)) (xs ys : List Item) → with_items texts (xs ++ ys) ≡ with_items (with_items texts xs) ys
 with_items-append texts [] ys = refl

@@ -3,10 +3,11 @@ use Rattle.std.specs.Prelude.{◌≡◌, ℕ, suc, List, [], ◌∷◌, Some, sl
 use Rattle.std.specs.List.{flat_map}
 use Rattle.arrays.specs.Batch.{Batch}
 use Rattle.arrays.specs.File.{kinds_of}
-use Rattle.arrays.specs.Item.{Item, text}
+use Rattle.arrays.specs.Item.{Item}
 use Rattle.arrays.specs.Kind.{Kind, dict}
 use Rattle.arrays.specs.Shape.{FieldShape, kind_of_field}
-use Rattle.pool.specs.Texts.{firsts, texts_of, with_text}
+use Rattle.pool.specs.Texts.{firsts, texts_of}
+use Rattle.pool.specs.Places.{with_item}
 use Rattle.json_places.specs.JsonTable.{Table}
 
 -- The items of the column at the place.
@@ -28,11 +29,6 @@ dictionaries_from place [] tables = []
 dictionaries_from place (f ∷ fields) tables = dictionary_of (kind_of_field f) (column_items place tables) ∷ dictionaries_from (suc place) fields tables
 
 -- ---- in the making
-
--- The texts with one more, if the item is a text that isn't among them.
-abbrev pub with_item : List (List ℕ) → Item → List (List ℕ)
-with_item texts (text bytes) = with_text texts bytes
-with_item texts x = texts
 
 abbrev pub with_items : List (List ℕ) → List Item → List (List ℕ)
 with_items texts [] = texts

@@ -1,5 +1,5 @@
 -- The dictionaries of a file as values. (Arrow integration testing, "JSON test data format", DictionaryBatch)
-use Rattle.std.specs.Prelude.{ℕ, suc, List, [], ◌∷◌, codes, length, map}
+use Rattle.std.specs.Prelude.{ℕ, suc, List, ◌∷◌, codes, length, map}
 use Rattle.arrays.specs.Item.{Item, text}
 use Rattle.arrays.specs.Shape.{Shape, FieldShape, int, boolean, utf8, list, dict, field}
 use Rattle.serde_json.specs.Data.{Data, object, Items, no_items, item, no_members, member}

@@ -1,5 +1,5 @@
 -- The schema of a file as a value. (Arrow integration testing, "JSON test data format", Schema and Field)
-use Rattle.std.specs.Prelude.{ℕ, suc, ◌*◌, List, [], ◌∷◌, codes, Bool, true, false}
+use Rattle.std.specs.Prelude.{ℕ, suc, ◌*◌, List, [], ◌∷◌, codes, Bool, false}
 use Rattle.types.specs.declared.int_type.IntType.{IntType}
 use Rattle.types.specs.Kind.{bytes_of, int32}
 use Rattle.types.specs.Shape.{Shape, FieldShape, int, boolean as truth, utf8, list, dict, field}

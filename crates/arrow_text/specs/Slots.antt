@@ -32,10 +32,6 @@ IsPartOf k Texts = k ≡ kind.utf8
 IsPartOf k (Codes texts) = k ≡ kind.dict
 IsPartOf k Flags = ⊤
 
--- The items of columns one behind the other.
-abbrev pub joined : List Seen → List Item
-joined columns = flat_map (λ c. c.items) columns
-
 -- A value for each item follows.
 abbrev pub AddsEach : (Item → Data) → List Item → List Token → List Token → Type 0
 AddsEach value items old new = new ≡ old ++ flat_map (λ x. tokens_of (value x)) items

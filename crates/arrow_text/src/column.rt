@@ -1,14 +1,13 @@
 //! Columns as text.
 
-ghost use Rattle.std.specs.Prelude.{◌≡◌, All, IfOk, OnOk, string_bytes, true};
+ghost use Rattle.std.specs.Prelude.{◌≡◌, All, OnOk};
 ghost use Rattle.arrays.specs.Kind as kind;
-ghost use Rattle.arrays.specs.Kind.{Kind, kind_of};
-ghost use Rattle.arrays.specs.Lengths.{inner_items};
+ghost use Rattle.arrays.specs.Kind.{kind_of};
+ghost use Rattle.arrays.specs.Lengths.{inner_items, joined_items};
 ghost use Rattle.arrays.specs.Shape.{field_of};
-ghost use Rattle.arrays.specs.Slot.{is_list};
 ghost use Rattle.types.specs.declared.data_type.Field.{out-Field};
 ghost use Rattle.arrow_text.specs.ColumnData.{column_data, list_column, only, plain_column, sized, text_column};
-ghost use Rattle.arrow_text.specs.Slots.{AreOf, IsPartOf, code_in, joined, part_data};
+ghost use Rattle.arrow_text.specs.Slots.{AreOf, IsPartOf, code_in, part_data};
 ghost use Rattle.arrow_text.specs.Written.{Adds, AddsMembers};
 
 use crate::lists::lists_of;
@@ -38,7 +37,7 @@ fn write_plain(
     columns: &[View<'_>],
 ) -> Result<(), NoMemory>
     requires { All (λ c. IsPartOf c.kind part) columns.now }
-    ensures { OnOk result (Adds (plain_column (part_data part.entry) name.now (joined columns.now)) out.old out.new) }
+    ensures { OnOk result (Adds (plain_column (part_data part.entry) name.now (joined_items columns.now)) out.old out.new) }
 {
     let count = slot_count(columns)?;
     out.begin_object()?;
@@ -52,7 +51,7 @@ fn write_plain(
 /// Writes a column of texts.
 fn write_texts(out: &mut Output, name: &str, columns: &[View<'_>]) -> Result<(), NoMemory>
     requires { All (λ c. c.kind ≡ kind.utf8) columns.now }
-    ensures { OnOk result (Adds (text_column name.now (joined columns.now)) out.old out.new) }
+    ensures { OnOk result (Adds (text_column name.now (joined_items columns.now)) out.old out.new) }
 {
     let count = slot_count(columns)?;
     out.begin_object()?;
@@ -77,8 +76,8 @@ fn write_lists(
 ) -> Result<(), NoMemory>
     requires { AreOf (kind.list (kind_of (out-Field item.now).ty)) columns.now }
     ensures { OnOk result (Adds (list_column
-        (column_data (code_in texts.now) (field_of item.now) (inner_items (joined columns.now)))
-        name.now (joined columns.now)) out.old out.new) }
+        (column_data (code_in texts.now) (field_of item.now) (inner_items (joined_items columns.now)))
+        name.now (joined_items columns.now)) out.old out.new) }
 {
     let count = slot_count(columns)?;
     let lists = lists_of(alloc, columns)?;
@@ -102,7 +101,7 @@ fn write_children(
     lists: &[View<'_>],
 ) -> Result<(), NoMemory>
     requires { AreOf (kind_of (out-Field item.now).ty) lists.now }
-    ensures { OnOk result (Adds (only (column_data (code_in texts.now) (field_of item.now) (joined lists.now)))
+    ensures { OnOk result (Adds (only (column_data (code_in texts.now) (field_of item.now) (joined_items lists.now)))
         out.old out.new) }
 {
     out.begin_array()?;
@@ -121,7 +120,7 @@ pub(crate) fn write_column(
     columns: &[View<'_>],
 ) -> Result<(), NoMemory>
     requires { AreOf (kind_of (out-Field field.now).ty) columns.now }
-    ensures { OnOk result (Adds (column_data (code_in texts.now) (field_of field.now) (joined columns.now))
+    ensures { OnOk result (Adds (column_data (code_in texts.now) (field_of field.now) (joined_items columns.now))
         out.old out.new) }
 {
     let name = field.name.as_str();

@@ -11,7 +11,8 @@ ghost use Rattle.arrays.specs.Slot.{is_text};
 ghost use Rattle.types.specs.declared.data_type.Field.{out-Field};
 ghost use Rattle.pool.specs.Texts.{firsts, texts_of};
 ghost use Rattle.json_places.specs.JsonTable.{table_of, tables_of};
-ghost use Rattle.arrow_text.specs.Dictionaries.{IsEncodedAt, column_at, column_items, dictionaries_from, dictionary_of, with_item, with_items};
+ghost use Rattle.arrow_text.specs.Dictionaries.{IsEncodedAt, column_at, column_items, dictionaries_from, dictionary_of, with_items};
+ghost use Rattle.pool.specs.Places.{with_item};
 
 use crate::text_set::TextSet;
 use arrays::{DataType, Field, RecordBatch, View};

@@ -1,6 +1,6 @@
 //! The dictionaries of a file as text.
 
-ghost use Rattle.std.specs.Prelude.{◌≡◌, ◌++◌, IfOk, OnOk, length, map, string_bytes};
+ghost use Rattle.std.specs.Prelude.{◌≡◌, ◌++◌, OnOk, length, map, string_bytes};
 ghost use Rattle.arrays.specs.Shape.{field_of, fields_of};
 ghost use Rattle.json.specs.Tree.{items_tokens};
 ghost use Rattle.serde_json.specs.Data.{Items, array};

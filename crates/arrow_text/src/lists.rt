@@ -4,9 +4,9 @@ ghost use Rattle.std.specs.Prelude.{◌≡◌, ◌++◌, ◌<◌, All, IfOk, OnO
 ghost use Rattle.arrays.specs.Item.{null};
 ghost use Rattle.arrays.specs.Kind as kind;
 ghost use Rattle.arrays.specs.Kind.{Kind};
-ghost use Rattle.arrays.specs.Lengths.{inner_items, items_in};
+ghost use Rattle.arrays.specs.Lengths.{inner_items, items_in, joined_items};
 ghost use Rattle.arrays.specs.Slot.{is_list};
-ghost use Rattle.arrow_text.specs.Slots.{AreOf, joined};
+ghost use Rattle.arrow_text.specs.Slots.{AreOf};
 
 use arrays::View;
 use colbits::NoMemory;
@@ -16,8 +16,8 @@ use std::alloc::Global;
 fn push_list<'a>(lists: &mut Vec<View<'a>>, column: &View<'a>, i: usize) -> Result<(), NoMemory>
     requires list { is_list column.now.kind ≡ true }
     requires within { i < length column.now.items }
-    ensures items { OnOk result (joined lists.new.items
-        ≡ joined lists.old.items ++ items_in (slice_index_or column.now.items i null)) }
+    ensures items { OnOk result (joined_items lists.new.items
+        ≡ joined_items lists.old.items ++ items_in (slice_index_or column.now.items i null)) }
     ensures kinds { OnOk result ((k : Kind) → column.now.kind ≡ kind.list k → AreOf k lists.old.items
         → AreOf k lists.new.items) }
 {
@@ -33,7 +33,7 @@ fn push_list<'a>(lists: &mut Vec<View<'a>>, column: &View<'a>, i: usize) -> Resu
 /// Adds the lists of a column that are there, each as the column of its items.
 fn push_lists<'a>(lists: &mut Vec<View<'a>>, column: &View<'a>) -> Result<(), NoMemory>
     requires { is_list column.now.kind ≡ true }
-    ensures items { OnOk result (joined lists.new.items ≡ joined lists.old.items ++ inner_items column.now.items) }
+    ensures items { OnOk result (joined_items lists.new.items ≡ joined_items lists.old.items ++ inner_items column.now.items) }
     ensures kinds { OnOk result ((k : Kind) → column.now.kind ≡ kind.list k → AreOf k lists.old.items
         → AreOf k lists.new.items) }
 {
@@ -46,7 +46,7 @@ fn push_lists<'a>(lists: &mut Vec<View<'a>>, column: &View<'a>) -> Result<(), No
 /// The lists of columns that are there, each as the column of its items.
 pub(crate) fn lists_of<'a>(alloc: Global, columns: &[View<'a>]) -> Result<Vec<View<'a>>, NoMemory>
     requires { All (λ c. is_list c.kind ≡ true) columns.now }
-    ensures items { IfOk result (λ lists. joined lists.items ≡ inner_items (joined columns.now)) }
+    ensures items { IfOk result (λ lists. joined_items lists.items ≡ inner_items (joined_items columns.now)) }
     ensures kinds { IfOk result (λ lists. (k : Kind) → AreOf (kind.list k) columns.now → AreOf k lists.items) }
 {
     let mut lists = Vec::new(alloc);

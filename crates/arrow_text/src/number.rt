@@ -1,6 +1,6 @@
 //! Numbers of a column as text.
 
-ghost use Rattle.std.specs.Prelude.{◌≡◌, ◌^◌, ◌-◌, ◌≤ℤ◌, OnOk, neg_ℤ, pos};
+ghost use Rattle.std.specs.Prelude.{◌^◌, ◌-◌, ◌≤ℤ◌, OnOk, neg_ℤ, pos};
 ghost use Rattle.std.specs.Fmt.{signed_decimal};
 ghost use Rattle.types.specs.Number.{IsOfType};
 ghost use Rattle.serde_json.specs.Data.{string};

@@ -1,13 +1,13 @@
 //! The schema of a file as text.
 
-ghost use Rattle.std.specs.Prelude.{◌≡◌, OnOk, ◌++◌, string_bytes};
+ghost use Rattle.std.specs.Prelude.{OnOk, string_bytes};
 ghost use Rattle.types.specs.Shape.{field_of, fields_of, shape_of};
 ghost use Rattle.types.specs.declared.data_type.Field.{out-Field};
 ghost use Rattle.arrow_text.specs.Written.{Adds, AddsItems, AddsMembers};
 ghost use Rattle.arrow_text.specs.SchemaData.{children_data, dictionary_data, field_data, fields_data, int_type, named_members, named_type, other_members, schema_data, type_data};
 
 use crate::output::Output;
-use arrays::{DataType, Field, IntType, Schema, Width};
+use arrays::{DataType, Field, INT32, IntType, Schema};
 use colbits::NoMemory;
 
 /// Writes an integer type.
@@ -45,12 +45,6 @@ fn write_type(out: &mut Output, ty: &DataType) -> Result<(), NoMemory>
         DataType::List(_) => write_named_type(out, "list"),
     }
 }
-
-/// The codes of a dictionary.
-const INT32: IntType = IntType {
-    bits: Width::W32,
-    signed: true,
-};
 
 /// Writes how a field names its dictionary.
 fn write_dictionary(out: &mut Output, id: usize) -> Result<(), NoMemory>

@@ -6,7 +6,8 @@ ghost use Rattle.arrays.specs.Slot.{item_of_text};
 ghost use Rattle.arrays.specs.Typed.{IsItemOf};
 ghost use Rattle.serde_json.specs.Data.{array};
 ghost use Rattle.arrow_text.specs.ColumnData.{code_data, each, flag_data, item_length, offsets_data};
-ghost use Rattle.arrow_text.specs.Slots.{AddsEach, IsPartOf, code_in, is_sized, joined, part_data, starts_tokens};
+ghost use Rattle.arrow_text.specs.Slots.{AddsEach, IsPartOf, code_in, is_sized, part_data, starts_tokens};
+ghost use Rattle.arrays.specs.Lengths.{joined_items};
 ghost use Rattle.arrow_text.specs.Written.{Adds, AddsItems};
 
 use crate::number::write_number;
@@ -82,7 +83,7 @@ pub(crate) fn write_array(
     columns: &[View<'_>],
 ) -> Result<(), NoMemory>
     requires { All (λ c. IsPartOf c.kind part) columns.now }
-    ensures { OnOk result (Adds (array (each (part_data part.entry) (joined columns.now))) out.old out.new) }
+    ensures { OnOk result (Adds (array (each (part_data part.entry) (joined_items columns.now))) out.old out.new) }
 {
     out.begin_array()?;
     write_items(out, part, columns)
@@ -91,7 +92,7 @@ pub(crate) fn write_array(
 /// Writes a part of each slot of the columns, and the end of the array.
 fn write_items(out: &mut Output, part: Part<'_>, columns: &[View<'_>]) -> Result<(), NoMemory>
     requires { All (λ c. IsPartOf c.kind part) columns.now }
-    ensures { OnOk result (AddsItems (each (part_data part.entry) (joined columns.now)) out.old out.new) }
+    ensures { OnOk result (AddsItems (each (part_data part.entry) (joined_items columns.now)) out.old out.new) }
 {
     for column in columns {
         write_slots(out, part, column)?;
@@ -134,7 +135,7 @@ fn write_starts(out: &mut Output, view: &View<'_>, start: u64) -> Result<u64, No
 /// Writes the offsets of columns, one column behind the other, and the end of the array.
 fn write_ends(out: &mut Output, columns: &[View<'_>]) -> Result<(), NoMemory>
     requires { All (λ c. is_sized c.kind ≡ true) columns.now }
-    ensures { OnOk result (AddsItems (offsets_data 0 (joined columns.now)) out.old out.new) }
+    ensures { OnOk result (AddsItems (offsets_data 0 (joined_items columns.now)) out.old out.new) }
 {
     let mut end = 0;
     for column in columns {
@@ -147,7 +148,7 @@ fn write_ends(out: &mut Output, columns: &[View<'_>]) -> Result<(), NoMemory>
 /// Writes the array of offsets of columns, one column behind the other.
 pub(crate) fn write_offsets(out: &mut Output, columns: &[View<'_>]) -> Result<(), NoMemory>
     requires { All (λ c. is_sized c.kind ≡ true) columns.now }
-    ensures { OnOk result (Adds (array (offsets_data 0 (joined columns.now))) out.old out.new) }
+    ensures { OnOk result (Adds (array (offsets_data 0 (joined_items columns.now))) out.old out.new) }
 {
     out.begin_array()?;
     write_ends(out, columns)
@@ -155,7 +156,7 @@ pub(crate) fn write_offsets(out: &mut Output, columns: &[View<'_>]) -> Result<()
 
 /// How many slots the columns have together.
 pub(crate) fn slot_count(columns: &[View<'_>]) -> Result<u64, NoMemory>
-    ensures { IfOk result (λ n. n ≡ length (joined columns.now)) }
+    ensures { IfOk result (λ n. n ≡ length (joined_items columns.now)) }
 {
     let mut count = 0u64;
     for column in columns {

@@ -23,8 +23,9 @@ use Rattle.arrowtab.specs.Explained.{Explains, ExplainsFiles}
 use Rattle.arrowtab.specs.Loaded.{FileBatch, IsLoaded, IsStopped, batches_of}
 use Rattle.arrowtab.specs.Output.{Prints, PrintsNothing}
 use Rattle.arrowtab.specs.Run.{Answers, AreRead, Inputs, Refuses, RefusesQuery, table_fields}
-use Rattle.arrowtab.specs.Wanted.{IsUnread, IsWanted, PrintsWanted, RefusesWanted}
-use Rattle.arrowtab.specs.Worked.{IsRefusedOver, Shows, StopsWanted, batch_of, fields_for, listed}
+use Rattle.arrowtab.specs.Wanted.{IsWanted, PrintsWanted, RefusesWanted}
+use Rattle.arrowtab.specs.Worked.{IsRefusedOver, Shows, StopsWanted, batch_of, listed}
+use Rattle.loads.specs.Loaded.{fields_for}
 use Rattle.arrowtab.specs.declared.run_fault.FileFault.TheVariants.{CannotRead, Json, Refused}
 use Rattle.arrowtab.specs.declared.run_fault.RunFault.{RunFault}
 use Rattle.arrowtab.specs.declared.run_fault.RunFault.TheVariants.{NoMemory, OfFile, QueryUnread, QueryRefused}
@@ -143,13 +144,6 @@ files_explain command workers inputs before after (OfFile file (Json f)) why = w
 files_explain command workers inputs before after (OfFile file (Refused number refusal)) why = absurd why
 files_explain command workers inputs before after (QueryUnread f) why = absurd why
 files_explain command workers inputs before after (QueryRefused f) why = absurd why
-
--- what keeps the query from being read explains it
-pub unread_explains : (command : Command) (workers : ℕ) (inputs : Inputs) (before after : List ℕ) (fault : RunFault) → IsUnread command fault → Explains command workers inputs before after fault
-unread_explains command workers inputs before after NoMemory why = tt
-unread_explains command workers inputs before after (OfFile file fault) why = absurd why
-unread_explains command workers inputs before after (QueryUnread f) why = why
-unread_explains command workers inputs before after (QueryRefused f) why = absurd why
 
 -- there are as many files as sources
 pub some_files : (inputs : Inputs) (files : List File) → AreRead inputs (data_of files) → length files ≡ length inputs

@@ -8,7 +8,7 @@ use mathlib.Core.List.{IsPrefix}
 use Rattle.arrays.specs.Batch.{Batch, Table, rows_of}
 use Rattle.arrays.specs.File.{File}
 use Rattle.arrays.specs.Shape.{FieldShape}
-use Rattle.loads.specs.Loaded.{AllLoaded, AreRun, IsAlike, IsStopped as IsHalted, Loaded, StandsFor, Stop, batches_of, before_stop, pairs_of}
+use Rattle.loads.specs.Loaded.{AllLoaded, AreRun, batches_of, before_stop, fields_for, IsAlike, IsStopped as IsHalted, Loaded, pairs_of, StandsFor, Stop}
 use Rattle.loads.specs.Plan.{planned}
 use Rattle.loads.specs.Told.{IsLeast, Stands}
 use Rattle.loads.specs.declared.fault.LoadFault.TheVariants as load
@@ -24,7 +24,7 @@ use Rattle.table.specs.History.{History, of}
 use Rattle.table.specs.declared.refusal.Refusal.{Refusal}
 use Rattle.table.specs.declared.refusal.Refusal.TheVariants as refusal
 use Rattle.arrowtab.specs.Loaded.{IsLoaded, IsStopped}
-use Rattle.arrowtab.specs.Worked.{Holds, fields_for, listed}
+use Rattle.arrowtab.specs.Worked.{Holds, listed}
 use Rattle.arrowtab.specs.declared.run_fault.RunFault.{RunFault}
 use Rattle.arrowtab.proofs.PlanLemmas.{all_begun, by_recursion, each_planned, map_begun, order_begun, planned_front, same_test}
 use Rattle.arrowtab.proofs.WorkedLemmas.{loaded_of, stopped_of}

@@ -1,13 +1,11 @@
 -- What so many workers make of files, and what stops them.
-use Rattle.std.specs.Prelude.{◌≡◌, ◌∷◌, ℕ, List, [], map, ⊤}
+use Rattle.std.specs.Prelude.{◌≡◌, ℕ, List, map, ⊤}
 use Rattle.arrays.specs.Batch.{Batch, rows_of}
 use Rattle.arrays.specs.File.{File}
-use Rattle.arrays.specs.Shape.{FieldShape}
-use Rattle.loads.specs.Loaded.{batches_of}
+use Rattle.loads.specs.Loaded.{batches_of, fields_for}
 use Rattle.query.specs.declared.fault.QueryFault.{QueryFault}
 use Rattle.table.specs.Contents.{Contents}
 use Rattle.table.specs.History.{History}
-use Rattle.table.specs.Stored.{stored_fields}
 use Rattle.arrowtab.specs.Loaded.{FileBatch, IsLoaded, IsStopped}
 use Rattle.arrowtab.specs.Wanted.{PrintsWanted, RefusesWanted}
 use Rattle.arrowtab.specs.declared.run_fault.FileFault.TheVariants.{CannotRead, Json, Refused}
@@ -21,11 +19,6 @@ batch_of b = record { fields = b.fields; rows = rows_of b }
 -- The batches of each file.
 abbrev pub listed : List File → List (List FileBatch)
 listed files = map (map batch_of) (batches_of files)
-
--- The fields of the table that the files are loaded into: those of the first, as they are stored.
-abbrev pub fields_for : List File → List FieldShape
-fields_for [] = []
-fields_for (file ∷ files) = stored_fields file.fields
 
 -- The table has the first file's fields, and all batches.
 pub record Holds (workers : ℕ) (files : List File) (table : Contents) : Type 0 where

@@ -1,7 +1,8 @@
 //! The table of files that workers load together.
 ghost use Rattle.std.specs.Prelude.{◌≡◌, ◌<◌, ◌≤◌, All, IfErr, IfOk, length};
 ghost use Rattle.std.specs.Arc.{arc_value};
-ghost use Rattle.arrowtab.specs.Worked.{Holds, StopsLoading, fields_for};
+ghost use Rattle.arrowtab.specs.Worked.{Holds, StopsLoading};
+ghost use Rattle.loads.specs.Loaded.{fields_for};
 ghost use Rattle.shared.specs.Balance.{IsOfWorkers};
 ghost use Rattle.shared.specs.Hand.{AreNew, IsWhole};
 ghost use Rattle.shared.specs.Missing.{AllThere};

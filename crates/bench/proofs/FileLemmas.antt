@@ -1,7 +1,5 @@
 -- Files of one batch.
-use Rattle.std.proofs.Common.{◌≡◌, ◌∙◌, ℕ, ◌<◌, All, List, ap, arith, get_or, length, map, sym}
-use Rattle.std.specs.Prelude.{Some, slice_get}
-use Rattle.std.proofs.lemmas.List.{length-map}
+use Rattle.std.proofs.Common.{◌≡◌, ◌∙◌, All, List, ap, map, sym}
 use Rattle.std.proofs.lemmas.List.Elements.{All-map}
 use Rattle.std.proofs.lemmas.Option.{get_or_from_slice_get, slice_get_within}
 use Rattle.arrays.specs.Batch.{Batch}

@@ -1,5 +1,5 @@
 -- Bits of vectors of 32 bytes, which proofs see as the lists of their lanes.
-use Rattle.std.proofs.Common.{true, zero, suc, [], ◌∷◌, refl, ◌≡◌, ◌&&◌, ◌||◌, not, Bool, Fits, map, bit_and, w8, ℕ, ◌+◌, ◌-◌, ◌*◌, ◌/◌, ◌%◌, ◌^◌, ◌<◌, ◌∙◌, List, length, drop, get_or, slice_index, nat_eq, replicate, bit_or, sym, ap, arith}
+use Rattle.std.proofs.Common.{true, zero, suc, [], ◌∷◌, refl, ◌≡◌, ◌&&◌, ◌||◌, not, Bool, Fits, map, bit_and, w8, ℕ, ◌+◌, ◌-◌, ◌*◌, ◌/◌, ◌%◌, ◌^◌, ◌<◌, ◌∙◌, List, length, drop, get_or, slice_index, nat_eq, replicate, bit_or, ap, arith}
 use Rattle.std.proofs.lemmas.Simd.{Each1-get_or, get_or_narrower, get_or-replicate, get_or-zip2, length-zip2}
 use Rattle.std.proofs.lemmas.List.{get_or-map}
 use Rattle.std.proofs.lemmas.Nat.Bits.{bit_at_ones}
@@ -14,12 +14,6 @@ use Rattle.colbits.proofs.WordLemmas.{bit_at-mod, bit_at-shr, pow-256, bit-take,
 abbrev joined : List ℕ → List ℕ → ℕ → List ℕ
 joined low high shift =
     zip2 (λ a b. bit_or a b) (zip2 (λ a b. a / 2 ^ b) low (replicate 32 shift)) (zip2 (λ a b. a * 2 ^ b % 256) high (replicate 32 (8 - shift)))
-
-length-joined : (low high : List ℕ) (shift : ℕ) → length low ≡ 32 → length high ≡ 32 → length (joined low high shift) ≡ 32
-length-joined low high shift l h =
-    let a = length-zip2 (λ a b. a / 2 ^ b) low (replicate 32 shift) l in
-    let b = length-zip2 (λ a b. a * 2 ^ b % 256) high (replicate 32 (8 - shift)) h in
-    length-zip2 (λ a b. bit_or a b) (zip2 (λ a b. a / 2 ^ b) low (replicate 32 shift)) (zip2 (λ a b. a * 2 ^ b % 256) high (replicate 32 (8 - shift))) (a ∙ l ∙ sym (b ∙ h)) ∙ a ∙ l
 
 pub lane-joined : (low high : List ℕ) (shift k : ℕ) → length low ≡ 32 → length high ≡ 32 → k < 32
     → get_or (joined low high shift) k 0 ≡ bit_or (get_or low k 0 / 2 ^ shift) (get_or high k 0 * 2 ^ (8 - shift) % 256)

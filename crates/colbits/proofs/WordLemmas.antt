@@ -133,9 +133,6 @@ bit-to_le n i within =
     ap (λ b. nat_eq (bit_at b (i % 8)) 1) (get_or-low_first 0 8 n (i / 8) (omega arith) ∙ ap (λ j. byte_at j n) (zero-add (i / 8)) ∙ byte_at-shr (i / 8) n)
     ∙ ap (λ d. nat_eq d 1) (bit_at-mod (n / 2 ^ (8 * (i / 8))) 8 (i % 8) (omega arith) ∙ bit_at-shr n (8 * (i / 8)) (i % 8) ∙ ap (bit_at n) (omega arith))
 
-pub length-to_le : (n : ℕ) → length (to_le_bytes w64 n) ≡ 8
-length-to_le n = refl
-
 -- the eight bytes from byte `at` on, as a list
 pub eight-bytes : (bytes : List ℕ) (at : ℕ) → ((i : ℕ) → get_or bytes i 0 < 256) → (i : ℕ) → i < 64
     → bit_in (from_le_bytes w64 (map (λ k. get_or bytes (at + k) 0) (range_with_len 0 8))) i ≡ bit bytes (8 * at + i)

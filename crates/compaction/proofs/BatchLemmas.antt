@@ -18,6 +18,7 @@ use Rattle.arrays.specs.Shape.{FieldShape, kind_of_field}
 use Rattle.layout.proofs.ChildLemmas.{same_kinds}
 use Rattle.compaction.specs.Fronts.{IsBatchOf, IsOfKind}
 use Rattle.compaction.proofs.FitLemmas.{some-found}
+use Rattle.types.specs.Limits.{most_slots}
 
 pub map-same : {A B : Type 0} (f g : A → B) → ((x : A) → f x ≡ g x) → (xs : List A) → map f xs ≡ map g xs
 map-same f g h [] = refl
@@ -87,13 +88,13 @@ right-length false l h = (refl, h)
 pub record Whole (fields : List FieldShape) (n : ℕ) (columns : List Seen) : Type 0 where
   pub count : length columns ≡ length fields
   pub kinds : list_any wrong_kind (zip columns fields) ≡ false
-  pub small : nat_lt 2147483647 n ≡ false
+  pub small : nat_lt most_slots n ≡ false
   pub long : list_any (λ (c : Seen). not (eqb (length c.items) n)) columns ≡ false
 
 pub whole : (fields : List FieldShape) (n : ℕ) (columns : List Seen) → batch_fault fields n columns ≡ None → Whole fields n columns
 whole fields n columns lawful =
     let parts = no-fault (eqb (length columns) (length fields)) (differing_type fields columns) (bad_length n columns) lawful in
-    let lengths = right-length (nat_lt 2147483647 n) (differing_length n columns) parts.2 in
+    let lengths = right-length (nat_lt most_slots n) (differing_length n columns) parts.2 in
     record {
       count = eqb-true (length columns) (length fields) parts.0;
       kinds = among-missing wrong_kind (zip columns fields) parts.1;
@@ -110,7 +111,7 @@ faultless fields n columns is =
 
 -- ---- batches of the fields
 
-pub few-rows : (n : ℕ) → nat_lt 2147483647 n ≡ false → n ≤ 2147483647
+pub few-rows : (n : ℕ) → nat_lt most_slots n ≡ false → n ≤ most_slots
 few-rows n small = grind (arith, nat_tests)
 
 pub count-of : (fields : List FieldShape) (b : Batch) → IsBatchOf fields b → length b.columns ≡ length fields

@@ -22,6 +22,7 @@ use Rattle.compaction.proofs.BatchLemmas.{few-rows, length-rows_of, whole}
 use Rattle.compaction.proofs.FrontLemmas.{Shared, length-tables, tables_of}
 use Rattle.compaction.proofs.JoinedLemmas.{batches-of}
 use Rattle.compaction.proofs.StatisticsLemmas.{SharedStats, of-all-rows, of-columns}
+use Rattle.types.specs.Limits.{most_slots}
 
 -- ---- parts of lists
 
@@ -134,7 +135,7 @@ group-theirs fields words shared stats start n under have =
     of-all-rows fields (batches_in (part_of start n shared)) (pieces_of (part_of start n stats))
     (batches-of fields words (batches_in (part_of start n shared)) (group-under fields words shared start n under)) (group-stats shared stats start n have)
 
-one-table : (all : List Batch) (fields : List FieldShape) → length all ≡ 1 → All (IsBatchOf fields) all → length (together (map rows_of all)) ≤ 2147483647
+one-table : (all : List Batch) (fields : List FieldShape) → length all ≡ 1 → All (IsBatchOf fields) all → length (together (map rows_of all)) ≤ most_slots
 one-table [] fields one are = absurd (omega (arith, one))
 one-table (b ∷ []) fields one are =
     let is : IsBatchOf fields b = are 0 b (omega arith) in

@@ -11,9 +11,8 @@ use Rattle.arrays.specs.Batch.{Table, column}
 use Rattle.arrays.specs.Item.{Item, null}
 use Rattle.arrays.specs.Kind as kind
 use Rattle.arrays.specs.Kind.{Kind}
-use Rattle.arrays.specs.Lengths.{inner_items, is_past, items_in, text_bytes, text_length}
+use Rattle.arrays.specs.Lengths.{inner_items, is_past, is_too_big, items_in, text_bytes, text_length}
 use Rattle.arrays.specs.Shape.{FieldShape, kind_of_field}
-use Rattle.select.specs.Big.{is_too_big}
 use Rattle.compaction.specs.Groups.{is_big, is_one}
 
 pub less-past : (m n : ℕ) → m ≤ n → is_past n ≡ false → is_past m ≡ false

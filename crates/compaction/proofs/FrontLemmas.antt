@@ -23,6 +23,7 @@ use Rattle.compaction.proofs.BatchLemmas.{count-of, kind-at, length-rows_of}
 use Rattle.compaction.proofs.FitLemmas.{big-any, column-append, column-front, is_big_at, less-past, none-of}
 use Rattle.compaction.proofs.GroupLemmas.{together-append, together-split}
 use Rattle.compaction.proofs.SizeLemmas.{fits-at-all, size-append, size-none, too-big-at}
+use Rattle.types.specs.Limits.{most_slots}
 
 abbrev pub Shared : Type 0
 Shared = Arc Batch Global
@@ -90,10 +91,6 @@ longest-stop passes fronts tables most n below holds fails = record {
   longest = λ lt. fails-front passes fronts (n + 1) (max n 1 + 1) tables (omega arith) fails;
 }
 
--- all of them pass
-pub longest-all : (passes : Table → Bool) (tables : List Table) (most : ℕ) → 1 ≤ most → passes (together (take most tables)) ≡ true → IsLongest passes most most tables
-longest-all passes tables most some holds = record { some = some; within = omega arith; fits = inr holds; longest = λ lt. absurd (omega (arith, lt)) }
-
 -- a longest front of a longest front passes both tests
 pub longest-both : (p q : Table → Bool) → PassesFronts p → (tables : List Table) (most m n : ℕ) → IsLongest p most m tables → IsLongest q m n tables → IsLongest (λ t. p t && q t) most n tables
 longest-both p q fronts tables most m n first second = record {
@@ -140,10 +137,10 @@ few-fronts m t u holds =
     less : (a b : ℕ) → a ≤ b → nat_lt m b ≡ false → nat_lt m a ≡ false
     less a b le few = grind (arith, nat_tests)
 
-pub few-is : (m n : ℕ) → n ≤ m → n ≤ 2147483647 → (not (nat_lt m n) && not (is_past n)) ≡ true
+pub few-is : (m n : ℕ) → n ≤ m → n ≤ most_slots → (not (nat_lt m n) && not (is_past n)) ≡ true
 few-is m n le small = grind (arith, nat_tests)
 
-pub many-is : (m n : ℕ) → (m < n) ⊎ (2147483647 < n) → (not (nat_lt m n) && not (is_past n)) ≡ false
+pub many-is : (m n : ℕ) → (m < n) ⊎ (most_slots < n) → (not (nat_lt m n) && not (is_past n)) ≡ false
 many-is m n (inl more) = grind (arith, nat_tests)
 many-is m n (inr more) = grind (arith, nat_tests)
 
@@ -253,9 +250,6 @@ columns-more fields n f t below =
     or-false true = refl
     or-false false = refl
 
-pub columns-none : (fields : List FieldShape) (t : Table) → columns_fit fields 0 t ≡ true
-columns-none fields t = refl
-
 -- Rows that are few, whose first n columns are not too big.
 abbrev pub fits_so_far : List FieldShape → ℕ → ℕ → Table → Bool
 fits_so_far fields m n t = has_few m t && columns_fit fields n t
@@ -335,21 +329,16 @@ size-read k i level n batches b d c size below is same at items all before =
     ∙ ap (λ m. m + size_at k level c.items) before
     ∙ sym (size-more k i level batches n b c below is (items ∙ ap (λ (e : Batch). column (rows_of e) i) same))
 
-fits-small : (n : ℕ) → n ≤ 2147483647 → not (is_past n) ≡ true
+fits-small : (n : ℕ) → n ≤ most_slots → not (is_past n) ≡ true
 fits-small n le = grind (arith, nat_tests)
 
 -- a front that is as long as it can be
-pub level-stop : (k : Kind) (i level n most size past : ℕ) (batches : List Shared) → n < most → size ≡ size_at k level (column (together (take n (tables_of batches))) i) → size ≤ 2147483647
+pub level-stop : (k : Kind) (i level n most size past : ℕ) (batches : List Shared) → n < most → size ≡ size_at k level (column (together (take n (tables_of batches))) i) → size ≤ most_slots
     → past ≡ size_at k level (column (together (take (n + 1) (tables_of batches))) i) → is_past past ≡ true → IsLongest (fits_at k i level) most (max n 1) (tables_of batches)
 level-stop k i level n most size past batches below before few after full =
     longest-stop (fits_at k i level) (level-fronts k i level) (tables_of batches) most n below
     (ap (λ m. not (is_past m)) (sym before) ∙ fits-small size few)
     (not_from_true (is_past (size_at k level (column (together (take (n + 1) (tables_of batches))) i))) (ap is_past (sym after) ∙ full))
-
-pub level-all : (k : Kind) (i level most size : ℕ) (batches : List Shared) → 1 ≤ most → size ≡ size_at k level (column (together (take most (tables_of batches))) i) → size ≤ 2147483647
-    → IsLongest (fits_at k i level) most most (tables_of batches)
-level-all k i level most size batches some before few =
-    longest-all (fits_at k i level) (tables_of batches) most some (ap (λ m. not (is_past m)) (sym before) ∙ fits-small size few)
 
 -- one level more
 pub level-more : (k : Kind) (i level most len n : ℕ) (tables : List Table) → IsLongest (fits_below k i level) most len tables → IsLongest (fits_at k i level) len n tables

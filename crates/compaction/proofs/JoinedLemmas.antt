@@ -14,17 +14,16 @@ use Rattle.arrays.specs.Batch.{Batch, Row, Table, batch_fault, column, row_of, r
 use Rattle.arrays.specs.Item.{Item, null}
 use Rattle.arrays.specs.Kind as kind
 use Rattle.arrays.specs.Kind.{Kind, same_kind}
-use Rattle.arrays.specs.Lengths.{is_past}
+use Rattle.arrays.specs.Lengths.{is_past, is_too_big, joined_items}
 use Rattle.arrays.specs.Seen.{Seen}
 use Rattle.arrays.specs.Shape.{FieldShape, kind_of_field}
 use Rattle.group.proofs.ColumnsLemmas.{all_zip-more, all_zip-push}
-use Rattle.select.specs.Big.{is_too_big}
-use Rattle.select.specs.Joined.{joined_items, kind_of_first}
+use Rattle.select.specs.Joined.{kind_of_first}
 use Rattle.compaction.specs.Columns.{AreJoinable, IsColumnOf, IsJoined}
 use Rattle.compaction.specs.Fronts.{IsBatchOf}
 use Rattle.compaction.specs.Groups.{is_big, together}
 use Rattle.compaction.specs.Under.{IsDictionary, IsUnder, NamesFront}
-use Rattle.compaction.proofs.BatchLemmas.{count-of, faultless, few-rows, kind-at, row-item, same-itself, wrong_kind}
+use Rattle.compaction.proofs.BatchLemmas.{count-of, faultless, kind-at, row-item, same-itself, wrong_kind}
 use Rattle.compaction.proofs.FitLemmas.{big-any, column-append, is_big_at}
 use Rattle.compaction.proofs.FrontLemmas.{any_field, enumerated-at, length-enumerated}
 
@@ -256,6 +255,3 @@ pub batch-rows : (fields : List FieldShape) (dictionaries : List (Option Seen)) 
 batch-rows fields dictionaries batches b under all count =
     let t = together (map rows_of batches) in
     ap (λ n. map (row_of b.columns) (range_with_len 0 n)) count ∙ rows-are fields t b.columns all (wide-together fields batches (batches-of fields dictionaries batches under))
-
-pub few-together : (t : Table) → is_past (length t) ≡ false → length t ≤ 2147483647
-few-together t few = few-rows (length t) few

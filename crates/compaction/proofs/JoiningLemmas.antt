@@ -1,5 +1,5 @@
 -- Columns of several batches as one.
-use Rattle.std.proofs.Common.{◌≡◌, ◌∙◌, inl, inr, ℕ, ◌+◌, ◌≤◌, ◌<◌, ◌&&◌, ◌||◌, pos, negsuc, List, [], ◌∷◌, ◌++◌, length, map, take, All, Bool, true, false, not, Option, None, Some, get_or, ap, sym, refl, subst, arith, length-append}
+use Rattle.std.proofs.Common.{◌≡◌, ◌∙◌, inl, inr, ℕ, ◌+◌, ◌≤◌, ◌<◌, ◌&&◌, pos, negsuc, List, [], ◌∷◌, ◌++◌, length, map, take, All, Bool, true, false, not, Option, None, Some, get_or, ap, sym, refl, subst, arith, length-append}
 use Rattle.std.specs.Prelude.{flat_map, nat_lt}
 use mathlib.Core.List.{IsPrefix}
 use Rattle.std.proofs.lemmas.Bool.{and_parts, le-ltb, lt-ltb, ltb-true, or_from, true≢false}
@@ -10,14 +10,13 @@ use Rattle.arrays.specs.Dictionary.{codes_of, encoded, is_code, looked_up}
 use Rattle.arrays.specs.Item.{Item, boolean, int, list, null, text}
 use Rattle.arrays.specs.Kind as kind
 use Rattle.arrays.specs.Kind.{Kind, int32, same_kind}
-use Rattle.arrays.specs.Lengths.{is_past}
+use Rattle.arrays.specs.Lengths.{is_past, joined_items}
 use Rattle.arrays.specs.Seen.{Seen}
-use Rattle.select.specs.Big.{is_too_big}
 use Rattle.select.specs.Fault.{IsSelectFault}
-use Rattle.select.specs.Joined.{IsEncoded, concat_fault, is_joined_too_big, joined, joined_items, kind_of_first}
+use Rattle.select.specs.Joined.{IsEncoded, concat_fault, is_joined_too_big, joined, kind_of_first}
 use Rattle.select.specs.declared.fault.SelectFault.{SelectFault}
 use Rattle.select.specs.declared.fault.SelectFault.TheVariants.{NoMemory}
-use Rattle.select.proofs.JoinLemmas.{content-shown, fault-of, joined-shown}
+use Rattle.select.proofs.JoinLemmas.{fault-of}
 use Rattle.select.proofs.JoinedCodes.{length-codes-of}
 use Rattle.compaction.specs.Columns.{AreJoinable, IsJoined}
 use Rattle.compaction.proofs.BatchLemmas.{same-itself}
@@ -147,17 +146,6 @@ codes-named words columns codes are each is =
 
 pub codes-kind : (columns : List Seen) (codes : Seen) → 1 ≤ length columns → codes ≡ joined (kind_of_first (map codes_of columns)) (map codes_of columns) → codes.kind ≡ kind.int int32
 codes-kind columns codes some is = ap (λ (s : Seen). s.kind) (is ∙ ap (λ k. joined k (map codes_of columns)) (kind-codes_of columns some))
-
-pub plain-joined : (columns : List Seen) (c : Seen) → AreJoinable None columns → c ≡ joined (kind_of_first columns) columns → IsJoined None columns c
-plain-joined columns c are is =
-    let shows = is ∙ joined-shown (kind_of_first columns) columns (sym are.encoded) in
-    record { kind = ap (λ (s : Seen). s.kind) shows; items = ap (λ (s : Seen). s.items) shows; front = tt }
-
-pub plain-fits : (columns : List Seen) → AreJoinable None columns → is_joined_too_big (kind_of_first columns) columns ≡ false
-plain-fits columns are =
-    let k = kind_of_first columns in
-    ap (λ b. is_past (length (joined_items columns)) || b) (content-shown k columns (sym are.encoded))
-    ∙ or_from (is_past (length (joined_items columns))) (is_too_big k (joined_items columns)) are.few are.fits
 
 pub dict-kinds : (words : Seen) (columns : List Seen) → AreJoinable (Some words) columns → All (λ (s : Seen). s.kind ≡ kind.dict) columns
 dict-kinds words columns are = λ k d below. are.kinds k d below ∙ Rattle.layout.proofs.ChildLemmas.same_kinds (kind_of_first columns) kind.dict (sym are.encoded)

@@ -8,10 +8,9 @@ use Rattle.std.proofs.lemmas.List.{append-nil}
 use Rattle.std.proofs.lemmas.List.Sums.{sum_by-append}
 use Rattle.arrays.specs.Item.{Item, items_of, list, list_of, null}
 use Rattle.arrays.specs.Kind as kind
-use Rattle.arrays.specs.Kind.{Kind, depth}
-use Rattle.arrays.specs.Lengths.{inner_items, is_past, items_in, text_length}
-use Rattle.select.specs.Big.{is_too_big}
-use Rattle.select.proofs.ListLemmas.{items_of-list_of}
+use Rattle.arrays.specs.Kind.{Kind}
+use Rattle.arrays.specs.Lengths.{inner_items, is_past, is_too_big, items_in, text_length}
+use Rattle.arrays.proofs.ListLemmas.{items_of-list_of}
 use Rattle.compaction.specs.Sizes.{levels, size_at}
 
 pub more-past : (m n : ℕ) → m ≤ n → is_past m ≡ true → is_past n ≡ true
@@ -59,13 +58,6 @@ fits-at-all kind.utf8 items fits = fits 0 (omega arith)
 fits-at-all (kind.list k) items fits =
     or_from (is_past (length (inner_items items))) (is_too_big k (inner_items items)) (fits 0 (omega arith))
     (fits-at-all k (inner_items items) (λ level below. fits (suc level) (omega (arith, below))))
-
-pub levels-depth : (k : Kind) → levels k ≤ depth k + 1
-levels-depth (kind.int t) = omega arith
-levels-depth kind.boolean = omega arith
-levels-depth kind.dict = omega arith
-levels-depth kind.utf8 = omega arith
-levels-depth (kind.list k) = omega (arith, levels-depth k)
 
 -- ---- one item more
 

@@ -23,11 +23,12 @@ use Rattle.compaction.proofs.BatchLemmas.{column-is, count-of, kind-at}
 use Rattle.compaction.proofs.FitLemmas.{column-append}
 use Rattle.compaction.proofs.FrontLemmas.{any_field, length-enumerated, rows-front, together-more}
 use Rattle.compaction.proofs.JoinedLemmas.{IsColumn, all_zip-at, length-column}
+use Rattle.types.specs.Limits.{most_slots}
 
 -- ---- two tables
 
 rows-two : (t u : Table) (n : ℕ) (fields : List FieldShape) (a b : List ColumnStats) → AllZip (λ e s. AreStats s (kind_of_field e.1) (column t e.0)) (enumerate_from n fields) a
-    → AllZip (λ e s. AreStats s (kind_of_field e.1) (column u e.0)) (enumerate_from n fields) b → length t + length u ≤ 2147483647 → AllZip (λ x y. x.rows + y.rows ≤ 2 ^ 40) a b
+    → AllZip (λ e s. AreStats s (kind_of_field e.1) (column u e.0)) (enumerate_from n fields) b → length t + length u ≤ most_slots → AllZip (λ x y. x.rows + y.rows ≤ 2 ^ 40) a b
 rows-two t u n [] [] [] first second few = tt
 rows-two t u n [] (x ∷ a) b first second few = absurd first
 rows-two t u n [] [] (y ∷ b) first second few = absurd second
@@ -38,7 +39,7 @@ rows-two t u n (f ∷ fields) (x ∷ a) (y ∷ b) first second few = (
   rows-two t u (n + 1) fields a b first.1 second.1 few,
 )
 
-pub few-two : (fields : List FieldShape) (t u : Table) (a b : List ColumnStats) → AreStatsOf fields t a → AreStatsOf fields u b → length t + length u ≤ 2147483647 → AllZip (λ x y. x.rows + y.rows ≤ 2 ^ 40) a b
+pub few-two : (fields : List FieldShape) (t u : Table) (a b : List ColumnStats) → AreStatsOf fields t a → AreStatsOf fields u b → length t + length u ≤ most_slots → AllZip (λ x y. x.rows + y.rows ≤ 2 ^ 40) a b
 few-two fields t u a b first second few = rows-two t u 0 fields a b first second few
 
 pub count-stats : (fields : List FieldShape) (t : Table) (stats : List ColumnStats) → AreStatsOf fields t stats → length stats ≡ length fields

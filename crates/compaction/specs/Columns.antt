@@ -3,10 +3,9 @@ use Rattle.std.specs.Prelude.{◌≡◌, ℕ, ◌≤◌, All, List, length, slic
 use Rattle.arrays.specs.Batch.{Batch, column, rows_of}
 use Rattle.arrays.specs.Kind as kind
 use Rattle.arrays.specs.Kind.{same_kind}
-use Rattle.arrays.specs.Lengths.{is_past}
+use Rattle.arrays.specs.Lengths.{is_past, is_too_big, joined_items}
 use Rattle.arrays.specs.Seen.{Seen}
-use Rattle.select.specs.Big.{is_too_big}
-use Rattle.select.specs.Joined.{joined_items, kind_of_first}
+use Rattle.select.specs.Joined.{kind_of_first}
 use Rattle.compaction.specs.Under.{NamesFront}
 
 -- It is column k of the batch, and has the items of its rows.

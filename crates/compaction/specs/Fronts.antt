@@ -2,10 +2,9 @@
 use Rattle.std.specs.Prelude.{◌≡◌, ◌⊎◌, ℕ, ◌+◌, ◌<◌, ◌≤◌, nat_lt, List, length, take, slice_index_or, Bool, true, false, not, ◌&&◌, None}
 use Rattle.arrays.specs.Batch.{Batch, Table, batch_fault, column}
 use Rattle.arrays.specs.Kind.{Kind}
-use Rattle.arrays.specs.Lengths.{is_past}
+use Rattle.arrays.specs.Lengths.{is_past, is_too_big}
 use Rattle.arrays.specs.Seen.{Seen}
 use Rattle.arrays.specs.Shape.{FieldShape}
-use Rattle.select.specs.Big.{is_too_big}
 use Rattle.compaction.specs.Groups.{together}
 use Rattle.compaction.specs.Sizes.{size_at}
 

@@ -6,6 +6,7 @@ use Rattle.arrays.specs.Shape.{FieldShape, kind_of_field}
 use Rattle.group.specs.Summary.{AreStats}
 use Rattle.group.specs.declared.stats.ColumnStats.{ColumnStats}
 use Rattle.compaction.specs.Groups.{together}
+use Rattle.types.specs.Limits.{most_slots}
 
 -- These are the statistics of the table's columns.
 abbrev pub AreStatsOf : List FieldShape → Table → List ColumnStats → Type 0
@@ -16,4 +17,4 @@ pub record AreOfFew (pieces : List (List ColumnStats)) : Type 0 where
   pub fields : List FieldShape
   pub tables : List Table
   pub stats : AllZip (AreStatsOf fields) tables pieces
-  pub few : length (together tables) ≤ 2147483647
+  pub few : length (together tables) ≤ most_slots

@@ -1,6 +1,6 @@
 //! Which batches from the first on are joined, counted without memory.
 
-ghost use Rattle.std.specs.Prelude.{◌≡◌, ◌<◌, ◌≤◌, All, length, map};
+ghost use Rattle.std.specs.Prelude.{◌<◌, ◌≤◌, All, length, map};
 ghost use Rattle.std.specs.Arc.{arc_value};
 ghost use Rattle.arrays.specs.Batch.{Batch, rows_of};
 ghost use Rattle.arrays.specs.Kind.{Kind};
@@ -8,9 +8,10 @@ ghost use Rattle.compaction.specs.Fronts.{IsBatchOf, IsLongest, IsOfKind, fits_a
 ghost use Rattle.compaction.specs.Groups.{IsGroup};
 
 use crate::columns::column_of;
-use crate::sizes::{MOST, levels, with_size};
+use crate::sizes::{levels, with_size};
 use arrays::{RecordBatch, Schema};
 use std::sync::Arc;
+use types::MOST_SLOTS;
 
 /// How many batches from the first on are one group.
 pub(crate) fn group_len(schema: &Schema, batches: &[Arc<RecordBatch>], max_rows: u32) -> usize
@@ -31,7 +32,7 @@ fn rows_front(batches: &[Arc<RecordBatch>], max_rows: u32) -> usize
     requires { 1 ≤ length batches.now }
     ensures { IsLongest (has_few max_rows) (length batches.now) result (map rows_of (map arc_value batches.now)) }
 {
-    let most = MOST.min(max_rows as usize);
+    let most = MOST_SLOTS.min(max_rows as usize);
     let mut rows = 0;
     for n in 0..batches.len() {
         rows += batches[n].rows() as usize;

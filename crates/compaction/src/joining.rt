@@ -12,6 +12,7 @@ ghost use Rattle.select.specs.Joined.{IsEncoded, is_joined_too_big, joined, kind
 ghost use Rattle.compaction.specs.Columns.{AreJoinable, IsColumnOf, IsJoined};
 ghost use Rattle.compaction.specs.Groups.{is_big, together};
 ghost use Rattle.compaction.specs.Under.{IsDictionary, IsUnder};
+ghost use Rattle.types.specs.Limits.{most_slots};
 
 use crate::columns::column_of;
 use arrays::{Array, RecordBatch, Schema, View, Words};
@@ -66,7 +67,7 @@ fn joined(
 
 /// How many rows batches have together.
 fn rows_in(batches: &[Arc<RecordBatch>]) -> u32
-    requires { length (together (map rows_of (map arc_value batches.now))) ≤ 2147483647 }
+    requires { length (together (map rows_of (map arc_value batches.now))) ≤ most_slots }
     ensures { result ≡ length (together (map rows_of (map arc_value batches.now))) }
 {
     let mut rows = 0;

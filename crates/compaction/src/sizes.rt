@@ -6,11 +6,10 @@ ghost use Rattle.arrays.specs.Kind.{depth};
 ghost use Rattle.arrays.specs.Lengths.{inner_items, is_past, text_bytes};
 ghost use Rattle.arrays.specs.Slot.{is_list};
 ghost use Rattle.compaction.specs.Sizes.{levels, size_at};
+ghost use Rattle.types.specs.Limits.{most_slots};
 
 use arrays::{View, ViewType};
-
-/// The most items or bytes that offsets count, and the most slots that an array may have.
-pub(crate) const MOST: usize = 2147483647;
+use types::MOST_SLOTS;
 
 /// At how many levels a view has offsets: those of its lists, of the lists in them, and of the texts.
 pub(crate) fn levels(view: &View<'_>) -> usize
@@ -26,8 +25,8 @@ pub(crate) fn levels(view: &View<'_>) -> usize
 
 /// `before`, and how much a view holds at a level. None where that is past what offsets count.
 pub(crate) fn with_size(view: &View<'_>, level: usize, before: usize) -> Option<usize>
-    requires { before ≤ 2147483647 }
-    ensures some { IfSome result (λ n. (n ≡ before + size_at view.now.kind level view.now.items) × (n ≤ 2147483647)) }
+    requires { before ≤ most_slots }
+    ensures some { IfSome result (λ n. (n ≡ before + size_at view.now.kind level view.now.items) × (n ≤ most_slots)) }
     ensures none { IfNone result (is_past (before + size_at view.now.kind level view.now.items) ≡ true) }
 {
     match view.ty() {
@@ -49,8 +48,8 @@ pub(crate) fn with_size(view: &View<'_>, level: usize, before: usize) -> Option<
 /// The same of the bytes of texts.
 fn with_bytes(view: &View<'_>, before: usize) -> Option<usize>
     requires kind { view.now.kind ≡ kind.utf8 }
-    requires few { before ≤ 2147483647 }
-    ensures some { IfSome result (λ n. (n ≡ before + text_bytes view.now.items) × (n ≤ 2147483647)) }
+    requires few { before ≤ most_slots }
+    ensures some { IfSome result (λ n. (n ≡ before + text_bytes view.now.items) × (n ≤ most_slots)) }
     ensures none { IfNone result (is_past (before + text_bytes view.now.items) ≡ true) }
 {
     let mut bytes = before;
@@ -65,8 +64,8 @@ fn with_bytes(view: &View<'_>, before: usize) -> Option<usize>
 /// The same of the items of lists.
 fn with_items(view: &View<'_>, before: usize) -> Option<usize>
     requires kind { is_list view.now.kind ≡ true }
-    requires few { before ≤ 2147483647 }
-    ensures some { IfSome result (λ n. (n ≡ before + length (inner_items view.now.items)) × (n ≤ 2147483647)) }
+    requires few { before ≤ most_slots }
+    ensures some { IfSome result (λ n. (n ≡ before + length (inner_items view.now.items)) × (n ≤ most_slots)) }
     ensures none { IfNone result (is_past (before + length (inner_items view.now.items)) ≡ true) }
 {
     let mut items = before;
@@ -80,11 +79,11 @@ fn with_items(view: &View<'_>, before: usize) -> Option<usize>
 
 /// The sum, none where it is past what offsets count.
 fn sum_of(before: usize, more: usize) -> Option<usize>
-    requires { before ≤ 2147483647 }
-    ensures some { IfSome result (λ n. (n ≡ before + more) × (n ≤ 2147483647)) }
+    requires { before ≤ most_slots }
+    ensures some { IfSome result (λ n. (n ≡ before + more) × (n ≤ most_slots)) }
     ensures none { IfNone result (is_past (before + more) ≡ true) }
 {
-    if more > MOST - before {
+    if more > MOST_SLOTS - before {
         return None;
     }
     Some(before + more)

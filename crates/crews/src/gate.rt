@@ -1,9 +1,16 @@
 //! What a piece of work passes before it begins.
 
+use std::thread::yield_now;
+
 /// Where values at work together may be made to wait for one another. It promises only that it returns.
 pub trait Gate: Sync {
     /// Called by the value at `place` before its work number `call`.
     fn pass(&self, place: u32, call: u32);
+
+    /// Called by a value in the midst of its work, where others may have their turn first. Unless a gate says otherwise, they do.
+    fn turn(&self) {
+        yield_now();
+    }
 }
 
 /// A gate at which nothing waits.
@@ -12,4 +19,16 @@ pub struct OpenGate;
 
 impl Gate for OpenGate {
     fn pass(&self, _place: u32, _call: u32) {}
+}
+
+/// The gate of one value alone: it passes another one, and has nobody to give a turn to.
+#[derive(Drop)]
+pub struct Alone<'g, G: Gate>(pub &'g G);
+
+impl<'g, G: Gate> Gate for Alone<'g, G> {
+    fn pass(&self, place: u32, call: u32) {
+        self.0.pass(place, call);
+    }
+
+    fn turn(&self) {}
 }

@@ -8,7 +8,7 @@ use Rattle.std.specs.declared.cmp.Ordering.TheVariants.{Less, Equal, Greater}
 use Rattle.std.proofs.lemmas.Cmp.{int_cmp_total}
 use Rattle.std.proofs.lemmas.List.{get_or-replicate, length-replicate}
 use Rattle.types.specs.Kind as kind
-use Rattle.types.specs.Kind.{Kind, same_int}
+use Rattle.types.specs.Kind.{int64, Kind, same_int}
 use Rattle.types.specs.Number.{is_of_type}
 use Rattle.types.specs.declared.int_type.Width.{Width}
 use Rattle.types.specs.declared.int_type.Width.TheVariants.{W8, W16, W32, W64}
@@ -27,7 +27,7 @@ use Rattle.kernels.specs.declared.fault.KernelFault.{KernelFault}
 use Rattle.kernels.specs.declared.fault.KernelFault.TheVariants as faults
 use Rattle.kernels.proofs.BesideLemmas.{beside_item, beside_size}
 use Rattle.query.specs.Sorts as sorts
-use Rattle.query.specs.Sorts.{int64, is_alike, is_int, is_truth, sort_of_kind}
+use Rattle.query.specs.Sorts.{is_alike, is_int, is_truth, sort_of_kind}
 use Rattle.query.specs.declared.expr.Op.{Op}
 use Rattle.query.specs.declared.expr.Op.TheVariants as op
 use Rattle.query.specs.declared.sort.Sort.{Sort}
@@ -208,34 +208,6 @@ module _ (f : ℤ → ℤ → ℤ) (a : Seen) (z w : ℤ) (same : w ≡ z) (has 
       stops_as (sorts.arithmetic (sort_of_kind a.kind) (sort_of_kind a.kind)) (Some (sort_of_kind a.kind)) (λ i. lifted (exact f) (item_at b.items i) (item_at a.items i)) (λ i. lifted (exact f) (int z) (item_at a.items i)) (length a.items) (stop_of e)
       (sym (exact_sort a.kind z has)) (λ i below. ap (λ x. lifted (exact f) x (item_at a.items i)) (sym (beside_item a z i below)))
       (subst (λ n. StopsMaking (sorts.arithmetic (sort_of_kind a.kind) (sort_of_kind a.kind)) (λ i. lifted (exact f) (item_at b.items i) (item_at a.items i)) n (stop_of e)) (beside_size a z) at)
-
--- ---- sums and products, in either order
-
-commuted : (f : ℤ → ℤ → ℤ) → ((x y : ℤ) → f x y ≡ f y x) → (x : Item) (z : ℤ) → lifted (exact f) (int z) x ≡ lifted (exact f) x (int z)
-commuted f same null z = refl
-commuted f same (int w) z = ap int (same z w)
-commuted f same (boolean b) z = refl
-commuted f same (text t) z = refl
-commuted f same (list l) z = refl
-
-pub in_either : (first : Bool) (f : ℤ → ℤ → ℤ) → ((x y : ℤ) → f x y ≡ f y x) → (x : Item) (z : ℤ) → in_order first (lifted (exact f)) (int z) x ≡ lifted (exact f) x (int z)
-in_either true f same x z = commuted f same x z
-in_either false f same x z = refl
-
--- what is made by an operator, told of the number and the column in their order
-module _ (first : Bool) (o p : Op) (k : Kind) (z : ℤ) (xs : List Item) (n : ℕ) (made : Item → Item) (named : o ≡ p) (h : is_some (in_order first (sorts.sort_of_two o) (Literal z) (sort_of_kind k)) ≡ true)
-    (exactly : sorts.of_two p (sort_of_kind k) (sort_of_kind k) ≡ sorts.arithmetic (sort_of_kind k) (sort_of_kind k)) (same : (x : Item) → in_order first (of_two p) (int z) x ≡ made x) where
-  sort_told : in_order first (sorts.sort_of_two o) (Literal z) (sort_of_kind k) ≡ Some (sort_of_kind k)
-  sort_told = let is = beside first o k z h in is.sort ∙ ap (λ q. sorts.of_two q (sort_of_kind k) (sort_of_kind k)) named ∙ exactly ∙ exact_sort k z is.has
-
-  item_told : (i : ℕ) → in_order first (of_two o) (int z) (item_at xs i) ≡ made (item_at xs i)
-  item_told i = ap (λ q. in_order first (of_two q) (int z) (item_at xs i)) named ∙ same (item_at xs i)
-
-  pub exact_made : (v : Values) → AreMade (Some (sort_of_kind k)) (λ i. made (item_at xs i)) n v → AreMade (in_order first (sorts.sort_of_two o) (Literal z) (sort_of_kind k)) (λ i. in_order first (of_two o) (int z) (item_at xs i)) n v
-  exact_made v = made_as (Some (sort_of_kind k)) (in_order first (sorts.sort_of_two o) (Literal z) (sort_of_kind k)) (λ i. made (item_at xs i)) (λ i. in_order first (of_two o) (int z) (item_at xs i)) n v sort_told (λ i below. item_told i)
-
-  pub exact_stops : (e : stop.Stop) → StopsMaking (Some (sort_of_kind k)) (λ i. made (item_at xs i)) n e → StopsMaking (in_order first (sorts.sort_of_two o) (Literal z) (sort_of_kind k)) (λ i. in_order first (of_two o) (int z) (item_at xs i)) n e
-  exact_stops e = stops_as (Some (sort_of_kind k)) (in_order first (sorts.sort_of_two o) (Literal z) (sort_of_kind k)) (λ i. made (item_at xs i)) (λ i. in_order first (of_two o) (int z) (item_at xs i)) n e sort_told (λ i below. item_told i)
 
 -- ---- comparisons
 

@@ -22,6 +22,7 @@ use Rattle.query.specs.Columns.{sort_at, sort_of_field}
 use Rattle.query.specs.Sorts.{sort_of_kind}
 use Rattle.evaluate.proofs.PlaceLemmas.{all_before}
 use Rattle.std.proofs.lemmas.List.Sums.{fails_before_first}
+use Rattle.types.specs.Limits.{most_slots}
 
 -- ---- what no fault means
 
@@ -45,7 +46,7 @@ pub record Whole (fields : List FieldShape) (n : ℕ) (columns : List Seen) : Ty
   pub count : length columns ≡ length fields
   pub kind : (i : ℕ) (c : Seen) (f : FieldShape) → i < length columns → (get_or columns i c).kind ≡ kind_of_field (get_or fields i f)
   pub len : (i : ℕ) (c : Seen) → i < length columns → length (get_or columns i c).items ≡ n
-  pub few : n ≤ 2147483647
+  pub few : n ≤ most_slots
 
 abbrev is_wrong : Seen × FieldShape → Bool
 is_wrong p = not (same_kind p.0.kind (kind_of_field p.1))
@@ -66,7 +67,7 @@ get_or-zip (d ∷ columns) (g ∷ fields) (suc i) c f h = get_or-zip columns fie
 pub whole : (fields : List FieldShape) (n : ℕ) (columns : List Seen) → batch_fault fields n columns ≡ None → Whole fields n columns
 whole fields n columns lawful =
     let parts = no_fault (eqb (length columns) (length fields)) (differing_type fields columns) (bad_length n columns) lawful in
-    let few = in_bounds (nat_lt 2147483647 n) (differing_length n columns) parts.2 in
+    let few = in_bounds (nat_lt most_slots n) (differing_length n columns) parts.2 in
     let count = eqb-true (length columns) (length fields) parts.0 in
     record {
       count = count;
@@ -77,7 +78,7 @@ whole fields n columns lawful =
       len = λ i c below.
           eqb-true (length (get_or columns i c).items) n (untrue (eqb (length (get_or columns i c).items) n)
           (fails_before_first (λ (s : Seen). not (eqb (length s.items) n)) columns i c (omega (arith, below, all_before (λ (s : Seen). not (eqb (length s.items) n)) columns few.1))));
-      few = omega (arith, ltb-false 2147483647 n few.0);
+      few = omega (arith, ltb-false most_slots n few.0);
     }
 
 -- ---- the column at a place
@@ -103,7 +104,7 @@ place_within b place lawful ok = omega (arith, field_there b.fields place ok, (w
 pub slots_within : (b : Batch) (place start n : ℕ) (c : Seen) → batch_fault b.fields b.rows b.columns ≡ None → place < length b.columns → start + n ≤ b.rows → start + n ≤ length (get_or b.columns place c).items
 slots_within b place start n c lawful below within = omega (arith, within, (whole b.fields b.rows b.columns lawful).len place c below)
 
-pub few_rows : (b : Batch) (start n : ℕ) → batch_fault b.fields b.rows b.columns ≡ None → start + n ≤ b.rows → n ≤ 2147483647
+pub few_rows : (b : Batch) (start n : ℕ) → batch_fault b.fields b.rows b.columns ≡ None → start + n ≤ b.rows → n ≤ most_slots
 few_rows b start n lawful within = omega (arith, within, (whole b.fields b.rows b.columns lawful).few)
 
 -- Items of a slice.

@@ -11,7 +11,7 @@ use Rattle.std.specs.Prelude.{option_and_then}
 use Rattle.arrays.specs.Seen.{Seen}
 use Rattle.arrays.specs.Shown.{shown}
 use Rattle.types.specs.Kind as kind
-use Rattle.types.specs.Kind.{Kind, same_kind}
+use Rattle.types.specs.Kind.{Kind, same_kind, int64}
 use Rattle.kernels.specs.Arithmetic.{arithmetic_fault, exact, operands_fault, results}
 use Rattle.kernels.specs.Fault.{IsKernelFault}
 use Rattle.kernels.specs.Kleene.{conjunction, disjunction, negation, truth_fault, truths_fault}
@@ -219,51 +219,16 @@ settled_kind t kind.utf8 = refl
 settled_kind t (kind.list k) = refl
 settled_kind t kind.dict = refl
 
-pub kind_of_one : (o : Op) (k : Kind) → sorts.sort_of_one o (sort_of_kind k) ≡ sorts.of_one o (sort_of_kind k)
-kind_of_one o k = ap (option_and_then (sorts.of_one o)) (settled_kind sorts.int64 k)
-
 constant_placed : (x : Item) (n : ℕ) (r : Seen) → r ≡ shown kind.boolean (replicate n x) → IsPlaced kind.boolean (λ i. x) n r
 constant_placed x n r is = subst (IsPlaced kind.boolean (λ i. x) n) (sym is) (record { kind = refl; len = length-replicate n x; each = λ i below. get_or-replicate n i x null below })
-
-false_made : (s : Sort) (x : Item) (o : Op) (n : ℕ) (r : Seen) → is_truth s ≡ false → is_null x ≡ false → is_some (sorts.of_one o s) ≡ true → r ≡ shown kind.boolean (replicate n (boolean false))
-    → AreMade (sorts.of_one o s) (λ i. of_one o x) n (Column (Made r))
-false_made s x op.Not n r untrue item h is = absurd (true≢false (sym h ∙ ap (λ b. is_some (cond b (Some Truth) None)) untrue))
-false_made s x op.IsNull n r untrue item h is =
-    truth_made (Some Truth) (λ i. of_one op.IsNull x) n r refl
-    (let placed = constant_placed (boolean false) n r is in record { kind = placed.kind; len = placed.len; each = λ i below. placed.each i below ∙ ap (λ b. boolean b) (sym item) })
-false_made s x op.Add n r untrue item h is = absurd (true≢false (sym h))
-false_made s x op.Sub n r untrue item h is = absurd (true≢false (sym h))
-false_made s x op.Mul n r untrue item h is = absurd (true≢false (sym h))
-false_made s x op.Eq n r untrue item h is = absurd (true≢false (sym h))
-false_made s x op.Ne n r untrue item h is = absurd (true≢false (sym h))
-false_made s x op.Lt n r untrue item h is = absurd (true≢false (sym h))
-false_made s x op.Le n r untrue item h is = absurd (true≢false (sym h))
-false_made s x op.Gt n r untrue item h is = absurd (true≢false (sym h))
-false_made s x op.Ge n r untrue item h is = absurd (true≢false (sym h))
-false_made s x op.And n r untrue item h is = absurd (true≢false (sym h))
-false_made s x op.Or n r untrue item h is = absurd (true≢false (sym h))
-
--- A number isn't null.
-pub number_made : (z : ℤ) (o : Op) (n : ℕ) (r : Seen) → is_some (sorts.sort_of_one o (Literal z)) ≡ true → r ≡ shown kind.boolean (replicate n (boolean false))
-    → AreMade (sorts.sort_of_one o (Literal z)) (λ i. of_one o (int z)) n (Column (Made r))
-number_made z o n r h is = go (is_of_type sorts.int64 z) h where
-  go : (b : Bool) → is_some (option_and_then (sorts.of_one o) (cond b (Some (Int sorts.int64)) None)) ≡ true
-      → AreMade (option_and_then (sorts.of_one o) (cond b (Some (Int sorts.int64)) None)) (λ i. of_one o (int z)) n (Column (Made r))
-  go true h = false_made (Int sorts.int64) (int z) o n r refl refl h is
-  go false h = absurd (true≢false (sym h))
-
--- Neither is a text.
-pub text_made : (t : List ℕ) (o : Op) (n : ℕ) (r : Seen) → is_some (sorts.sort_of_one o Text) ≡ true → r ≡ shown kind.boolean (replicate n (boolean false))
-    → AreMade (sorts.sort_of_one o Text) (λ i. of_one o (text t)) n (Column (Made r))
-text_made t o n r h is = false_made Text (text t) o n r refl refl h is
 
 -- ---- beside a text
 
 text_first : (o : Op) (k : Kind) → sorts.sort_of_two o Text (sort_of_kind k) ≡ sorts.of_two o Text (sort_of_kind k)
-text_first o k = ap (λ s. option_and_then (λ b. sorts.of_two o Text b) s) (settled_kind sorts.int64 k)
+text_first o k = ap (λ s. option_and_then (λ b. sorts.of_two o Text b) s) (settled_kind int64 k)
 
 text_last : (o : Op) (k : Kind) → sorts.sort_of_two o (sort_of_kind k) Text ≡ sorts.of_two o (sort_of_kind k) Text
-text_last o k = ap (λ s. option_and_then (λ a. sorts.of_two o a Text) s) (settled_kind sorts.int64 k)
+text_last o k = ap (λ s. option_and_then (λ a. sorts.of_two o a Text) s) (settled_kind int64 k)
 
 compared_sort : (first : Bool) (o : Op) (c : CmpOp) (k : Kind) → comparison_of o ≡ Some c → is_some (in_order first (sorts.sort_of_two o) Text (sort_of_kind k)) ≡ true
     → in_order first (sorts.sort_of_two o) Text (sort_of_kind k) ≡ Some Truth

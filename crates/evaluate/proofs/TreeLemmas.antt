@@ -43,12 +43,6 @@ module _ (fields : List FieldShape) (o : Op) (a : Tree ℕ) where
   sort_one : (s : Sort) → checked (sort_at fields) a ≡ Ok s → checked (sort_at fields) tree ≡ ok_or (sort_of_one o s) WrongKind
   sort_one s is = ap (λ r. and_then (and_then r (λ t. Ok (t ∷ []))) (λ sorts. ok_or (sort_of_operator o sorts) WrongKind)) is
 
-  pub inner_one : is_ok (checked (sort_at fields) tree) ≡ true → is_ok (checked (sort_at fields) a) ≡ true
-  inner_one h = go (checked (sort_at fields) a) h where
-    go : (r : Result Sort QueryFault) → is_ok (and_then (and_then r (λ t. Ok (t ∷ []))) (λ sorts. ok_or (sort_of_operator o sorts) WrongKind)) ≡ true → is_ok r ≡ true
-    go (Ok s) h = refl
-    go (Err e) h = h
-
   pub outer_one : (s : Sort) → checked (sort_at fields) a ≡ Ok s → is_ok (checked (sort_at fields) tree) ≡ true → is_some (sort_of_one o s) ≡ true
   outer_one s is h = found (sort_of_one o s) (ap is_ok (sym (sort_one s is)) ∙ h)
 
@@ -58,9 +52,6 @@ module _ (fields : List FieldShape) (o : Op) (a : Tree ℕ) where
       ∙ ap (λ r. held_in r (of_one o x)) (sort_one s is)
       ∙ held_by-ok_or (sort_of_one o s) (of_one o x)
 
-  value_one_bad : (row : Row) → value fields row a ≡ None → value fields row tree ≡ None
-  value_one_bad row here = ap (λ v. option_and_then (λ xs. held_in (checked (sort_at fields) tree) (of_operands o xs)) (option_and_then (λ y. Some (y ∷ [])) v)) here
-
 pub made_one : (b : Batch) (start n : ℕ) (o : Op) (a : Tree ℕ) (va v : Values) → AreValues b start n a va
     → AreMade (sort_of_one o (sort_in va)) (λ i. of_one o (item_in va i)) n v → AreValues b start n (op o (one a none)) v
 made_one b start n o a va v inner made = record {
@@ -68,16 +59,6 @@ made_one b start n o a va v inner made = record {
   enough = made.enough;
   each = λ i below. value_one b.fields o a (row_in b start i) (sort_in va) (item_in va i) inner.sort (inner.each i below) ∙ made.each i below;
 }
-
-pub stops_one : (b : Batch) (start n : ℕ) (o : Op) (a : Tree ℕ) (va : Values) (e : Stop) → AreValues b start n a va
-    → StopsMaking (sort_of_one o (sort_in va)) (λ i. of_one o (item_in va i)) n e → StopsAt b start n (op o (one a none)) e
-stops_one b start n o a va (Bad row) inner at =
-    (at.0, value_one b.fields o a (row_in b start row) (sort_in va) (item_in va row) inner.sort (inner.each row at.0) ∙ at.1)
-stops_one b start n o a va NoMemory inner at = tt
-
-pub stops_within : (b : Batch) (start n : ℕ) (o : Op) (a : Tree ℕ) (e : Stop) → StopsAt b start n a e → StopsAt b start n (op o (one a none)) e
-stops_within b start n o a (Bad row) at = (at.0, value_one_bad b.fields o a (row_in b start row) at.1)
-stops_within b start n o a NoMemory at = tt
 
 -- ---- two operands
 
@@ -93,19 +74,6 @@ module _ (fields : List FieldShape) (o : Op) (a b : Tree ℕ) where
 
   sort_two : (s t : Sort) → checked (sort_at fields) a ≡ Ok s → checked (sort_at fields) b ≡ Ok t → checked (sort_at fields) pair ≡ ok_or (sort_of_two o s t) WrongKind
   sort_two s t left right = ap (λ r. sorted r (checked (sort_at fields) b)) left ∙ ap (λ r. sorted (Ok s) r) right
-
-  pub left_two : is_ok (checked (sort_at fields) pair) ≡ true → is_ok (checked (sort_at fields) a) ≡ true
-  left_two h = go (checked (sort_at fields) a) h where
-    go : (r : Result Sort QueryFault) → is_ok (sorted r (checked (sort_at fields) b)) ≡ true → is_ok r ≡ true
-    go (Ok s) h = refl
-    go (Err e) h = h
-
-  pub right_two : is_ok (checked (sort_at fields) pair) ≡ true → is_ok (checked (sort_at fields) b) ≡ true
-  right_two h = go (checked (sort_at fields) a) (checked (sort_at fields) b) h where
-    go : (r s : Result Sort QueryFault) → is_ok (sorted r s) ≡ true → is_ok s ≡ true
-    go (Ok s) (Ok t) h = refl
-    go (Ok s) (Err e) h = h
-    go (Err e) s h = absurd (true≢false (sym h))
 
   pub outer_two : (s t : Sort) → checked (sort_at fields) a ≡ Ok s → checked (sort_at fields) b ≡ Ok t → is_ok (checked (sort_at fields) pair) ≡ true → is_some (sort_of_two o s t) ≡ true
   outer_two s t left right h = found (sort_of_two o s t) (ap is_ok (sym (sort_two s t left right)) ∙ h)

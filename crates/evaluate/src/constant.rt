@@ -5,6 +5,7 @@ ghost use Rattle.types.specs.Kind as kind;
 ghost use Rattle.types.specs.Number.{IsOfType};
 ghost use Rattle.arrays.specs.Item as item;
 ghost use Rattle.arrays.specs.Shown.{shown};
+ghost use Rattle.types.specs.Limits.{most_slots};
 
 use arrays::{Array, BoolBuilder, IntBuilder, IntType};
 use colbits::NoMemory;
@@ -17,7 +18,7 @@ pub(crate) fn repeated_number(
     number: i128,
     len: usize,
 ) -> Result<Array, NoMemory>
-    requires short { len ≤ 2147483647 }
+    requires short { len ≤ most_slots }
     requires of_type { IsOfType ty number }
     ensures { IfOk result (λ a. a ≡ shown (kind.int ty) (replicate len (item.int number))) }
 {
@@ -30,7 +31,7 @@ pub(crate) fn repeated_number(
 
 /// The truth value at each of so many rows.
 pub(crate) fn repeated_truth(alloc: Global, value: bool, len: usize) -> Result<Array, NoMemory>
-    requires { len ≤ 2147483647 }
+    requires { len ≤ most_slots }
     ensures { IfOk result (λ a. a ≡ shown kind.boolean (replicate len (item.boolean value))) }
 {
     let mut column = BoolBuilder::with_capacity(alloc, len)?;

@@ -1,6 +1,6 @@
 //! Filters at the rows of a slice, and the least row where one is bad.
 
-ghost use Rattle.std.specs.Prelude.{◌≡◌, ◌+◌, ◌<◌, true, None, is_ok, IfOk, IfErr};
+ghost use Rattle.std.specs.Prelude.{◌≡◌, ◌<◌, true, None, is_ok, IfOk, IfErr};
 ghost use Rattle.query.specs.Asked.{asked};
 ghost use Rattle.query.specs.Checked.{checked};
 ghost use Rattle.query.specs.Columns.{sort_at};

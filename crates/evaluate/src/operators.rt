@@ -9,6 +9,7 @@ ghost use Rattle.query.specs.Sorts.{sort_of_kind, sort_of_one, sort_of_two};
 ghost use Rattle.evaluate.specs.Value.{of_one, of_two};
 ghost use Rattle.evaluate.specs.Making.{AreMade, StopsMaking, in_order, is_text_alone};
 ghost use Rattle.evaluate.specs.Slices.{AreEnough, column_of, item_in, sort_in};
+ghost use Rattle.types.specs.Limits.{most_slots};
 
 use crate::constant::{repeated_number, repeated_truth};
 use crate::stop::Stop;
@@ -17,8 +18,8 @@ use crate::values::{Operand, Values};
 use crate::{columns, number};
 use arrays::View;
 use query::Op;
-use query::sort::INT64;
 use std::alloc::Global;
+use types::INT64;
 
 /// What an operator makes of one operand.
 pub(crate) fn of_one<'a>(
@@ -27,7 +28,7 @@ pub(crate) fn of_one<'a>(
     operand: Values<'a>,
     len: usize,
 ) -> Result<Values<'a>, Stop>
-    requires short { len ≤ 2147483647 }
+    requires short { len ≤ most_slots }
     requires sort { is_some (sort_of_one op (sort_in operand)) ≡ true }
     requires enough { AreEnough len operand }
     ensures ok { IfOk result (AreMade (sort_of_one op (sort_in operand.entry)) (λ i. of_one op (item_in operand.entry i)) len) }
@@ -66,7 +67,7 @@ pub(crate) fn of_two<'a>(
     right: Values<'a>,
     len: usize,
 ) -> Result<Values<'a>, Stop>
-    requires short { len ≤ 2147483647 }
+    requires short { len ≤ most_slots }
     requires sort { is_some (sort_of_two op (sort_in left) (sort_in right)) ≡ true }
     requires left { AreEnough len left }
     requires right { AreEnough len right }
@@ -91,7 +92,7 @@ fn beside_text<'a>(
     is_first: bool,
     len: usize,
 ) -> Result<Values<'a>, Stop>
-    requires short { len ≤ 2147483647 }
+    requires short { len ≤ most_slots }
     requires sort { is_some (in_order is_first (sort_of_two op) sort.Text (sort_in other)) ≡ true }
     requires enough { AreEnough len other }
     ensures ok { IfOk result (AreMade (in_order is_first (sort_of_two op) sort.Text (sort_in other.entry))
@@ -113,7 +114,7 @@ fn of_columns<'a>(
     right: Values<'a>,
     len: usize,
 ) -> Result<Values<'a>, Stop>
-    requires short { len ≤ 2147483647 }
+    requires short { len ≤ most_slots }
     requires sort { is_some (sort_of_two op (sort_in left) (sort_in right)) ≡ true }
     requires left { AreEnough len left }
     requires right { AreEnough len right }
@@ -157,7 +158,7 @@ fn behind_number<'a>(
     right: Values<'_>,
     len: usize,
 ) -> Result<Values<'a>, Stop>
-    requires short { len ≤ 2147483647 }
+    requires short { len ≤ most_slots }
     requires sort { is_some (sort_of_two op (sort.Literal number) (sort_in right)) ≡ true }
     requires enough { AreEnough len right }
     requires right_column { is_text_alone right ≡ false }
@@ -179,7 +180,7 @@ fn of_numbers<'a>(
     right: i128,
     len: usize,
 ) -> Result<Values<'a>, Stop>
-    requires short { len ≤ 2147483647 }
+    requires short { len ≤ most_slots }
     requires sort { is_some (sort_of_two op (sort.Literal left) (sort.Literal right)) ≡ true }
     ensures ok { IfOk result (AreMade (sort_of_two op (sort.Literal left) (sort.Literal right)) (λ i. of_two op (item.int left) (item.int right)) len) }
     ensures err { IfErr result (StopsMaking (sort_of_two op (sort.Literal left) (sort.Literal right)) (λ i. of_two op (item.int left) (item.int right)) len) }

@@ -1,6 +1,7 @@
 //! Neighbouring rows of a batch.
 
-ghost use Rattle.std.specs.Prelude.{◌≡◌, ◌+◌, ◌≤◌};
+ghost use Rattle.std.specs.Prelude.{◌+◌, ◌≤◌};
+ghost use Rattle.types.specs.Limits.{most_slots};
 
 use arrays::RecordBatch;
 
@@ -11,5 +12,5 @@ pub struct Slice<'a> {
     pub start: usize,
     pub len: usize,
     ghost within: { start + len ≤ batch.now.rows },
-    ghost few: { len ≤ 2147483647 },
+    ghost few: { len ≤ most_slots },
 }

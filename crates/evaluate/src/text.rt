@@ -1,6 +1,6 @@
 //! Comparisons with a text that is the same at each row.
 
-ghost use Rattle.std.specs.Prelude.{◌≡◌, ◌≤◌, ℕ, true, is_some, length, Some, IfOk, IfErr};
+ghost use Rattle.std.specs.Prelude.{◌≡◌, ◌≤◌, true, is_some, length, Some, IfOk, IfErr};
 ghost use Rattle.arrays.specs.Item as item;
 ghost use Rattle.arrays.specs.Slot.{holds_at, is_text, item_at};
 ghost use Rattle.arrays.specs.Order.{order};
@@ -9,6 +9,7 @@ ghost use Rattle.query.specs.Sorts.{sort_of_kind, sort_of_two};
 ghost use Rattle.query.specs.declared.sort.Sort.TheVariants as sort;
 ghost use Rattle.evaluate.specs.Value.{of_two};
 ghost use Rattle.evaluate.specs.Making.{AreMade, in_order};
+ghost use Rattle.types.specs.Limits.{most_slots};
 
 use crate::columns::comparison_of;
 use crate::constant::repeated_truth;
@@ -30,7 +31,7 @@ pub(crate) fn compare_texts<'a>(
     is_first: bool,
     len: usize,
 ) -> Result<Values<'a>, Stop>
-    requires short { len ≤ 2147483647 }
+    requires short { len ≤ most_slots }
     requires sort { is_some (in_order is_first (sort_of_two op) sort.Text sort.Text) ≡ true }
     ensures ok { IfOk result (AreMade (in_order is_first (sort_of_two op) sort.Text sort.Text)
         (λ i. in_order is_first (of_two op) (item.text text.now) (item.text other.now)) len) }

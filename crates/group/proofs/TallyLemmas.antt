@@ -126,13 +126,6 @@ text_is kind.utf8 t e = refl
 text_is (kind.list k) t e = absurd cc
 text_is kind.dict t e = refl
 
-pub no_sum_of_texts : (k : Kind) (items : List Item) → is_text k ≡ true → sum_of k items ≡ None
-no_sum_of_texts (kind.int u) items e = absurd cc
-no_sum_of_texts kind.boolean items e = refl
-no_sum_of_texts kind.utf8 items e = refl
-no_sum_of_texts (kind.list k) items e = refl
-no_sum_of_texts kind.dict items e = refl
-
 -- lists have no order and no sum
 none_ordered : (k : Kind) (items : List Item) → is_list k ≡ true → ordered k items ≡ []
 none_ordered (kind.int t) items e = absurd cc

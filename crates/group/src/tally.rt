@@ -1,12 +1,11 @@
 //! The nulls, the least and the greatest of items that come one by one.
 
-ghost use Rattle.std.specs.Prelude.{◌≡◌, ◌+◌, ◌^◌, ◌<◌, ◌++◌, ◌∷◌, [], List, None, Some, option_map, true};
+ghost use Rattle.std.specs.Prelude.{◌≡◌, ◌+◌, ◌^◌, ◌<◌, None, Some, option_map};
 ghost use Rattle.std.specs.Ordering.{is_gt};
-ghost use Rattle.arrays.specs.Item.{Item, null};
-ghost use Rattle.arrays.specs.Kind.{Kind};
+ghost use Rattle.arrays.specs.Item.{Item};
 ghost use Rattle.arrays.specs.Order.{order};
-ghost use Rattle.group.specs.Stats.{greater, is_ordered, lesser};
-ghost use Rattle.group.specs.Tally.{IsTally, chosen};
+ghost use Rattle.group.specs.Stats.{greater, lesser};
+ghost use Rattle.group.specs.Tally.{chosen};
 
 /// Values that come before or behind one another.
 pub(crate) trait Value: Copy {

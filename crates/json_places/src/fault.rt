@@ -1,4 +1,4 @@
-ghost use Rattle.std.specs.Prelude.{◌≡◌, ◌∷◌, ◌++◌, ◌≢◌, [], IfOk, OnOk, codes, string_bytes};
+ghost use Rattle.std.specs.Prelude.{◌≡◌, IfOk, string_bytes};
 ghost use Rattle.json_places.specs.JsonFaultText.{kind_name, kind_text, fault_text, layout_name, row_of};
 
 use crate::path::{Path, Step, push_pointer};

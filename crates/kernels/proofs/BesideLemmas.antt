@@ -11,7 +11,7 @@ use Rattle.arrays.specs.Number.{is_of_type}
 use Rattle.arrays.specs.Seen.{Seen, valid_at}
 use Rattle.arrays.specs.Shown.{kept}
 use Rattle.truths.specs.Valid.{both_valid, valid_in_both}
-use Rattle.arrays.proofs.ListLemmas.{map-range-below}
+use Rattle.layout.proofs.ListLemmas.{map-range-below}
 use Rattle.arrays.specs.Slot.{item_at}
 use Rattle.kernels.specs.Lift.{lifted}
 use Rattle.kernels.specs.Fault.{IsKernelFault, type_fault}

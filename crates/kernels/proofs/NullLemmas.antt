@@ -15,7 +15,7 @@ use Rattle.arrays.proofs.ValidityLemmas.{valid-none}
 use Rattle.std.proofs.lemmas.List.{get_or-map, length-map}
 use Rattle.std.proofs.lemmas.Option.{get_or_from_slice_get}
 use Rattle.arrays.specs.Slot.{holds_at}
-use Rattle.arrays.proofs.ListLemmas.{map-range-below}
+use Rattle.layout.proofs.ListLemmas.{map-range-below}
 use Rattle.truths.specs.Truth.{truth_at, truths_of}
 use Rattle.truths.proofs.TruthLemmas.{listed}
 use Rattle.kernels.specs.Nulls.{nulls}

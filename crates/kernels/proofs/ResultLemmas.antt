@@ -18,7 +18,7 @@ use Rattle.arrays.specs.Fault.{least_row}
 use Rattle.arrays.specs.FromParts.{show_numbers}
 use Rattle.arrays.specs.Seen.{Seen, valid_at, valid_in, no_entries}
 use Rattle.arrays.specs.Values.{HasNumbers}
-use Rattle.arrays.proofs.ListLemmas.{map-range-below}
+use Rattle.layout.proofs.ListLemmas.{map-range-below}
 use Rattle.layout.proofs.RowLemmas.{least_found, least_none}
 use Rattle.types.proofs.SchemaLemmas.{position-map}
 use Rattle.arrays.specs.Slot.{item_at}

@@ -11,6 +11,7 @@ ghost use Rattle.kernels.specs.Beside.{fault_from, fault_with, number_beside, nu
 ghost use Rattle.kernels.specs.Computed.{AreOutside, AreResults, AreRows, StopsAt, bytes_of_results, result_at};
 ghost use Rattle.kernels.specs.Fault.{IsKernelFault};
 ghost use Rattle.arrays.specs.Shown.{shown};
+ghost use Rattle.types.specs.Limits.{most_slots};
 
 use crate::fault::KernelFault;
 use crate::side::{One, Own, Side, type_with};
@@ -298,7 +299,7 @@ fn numbers<O: Operation, T: Packed<N>, A: Own<T>, B: Own<T>, const N: usize>(
     valid: &Option<Bits<'_>>,
     len: u32,
 ) -> Result<Vec<u8>, KernelFault>
-    requires short { len ≤ 2147483647 }
+    requires short { len ≤ most_slots }
     requires a { len ≤ A.count a.now }
     requires b { len ≤ B.count b.now }
     ensures ok { let exact = result_at O.exact (A.number a.now) (B.number b.now) in
@@ -327,7 +328,7 @@ fn push_word<O: Operation, T: Packed<N>, A: Own<T>, B: Own<T>, const N: usize>(
     valid: &Option<Bits<'_>>,
     start: usize,
 ) -> Result<(), KernelFault>
-    requires short { start + 64 ≤ 2147483647 }
+    requires short { start + 64 ≤ most_slots }
     requires a { start + 64 ≤ A.count a.now }
     requires b { start + 64 ≤ B.count b.now }
     requires before { let exact = result_at O.exact (A.number a.now) (B.number b.now) in
@@ -353,7 +354,7 @@ fn write_rows<O: Operation, T: Packed<N>, A: Own<T>, B: Own<T>, const N: usize>(
     b: &B,
     start: usize,
 ) -> bool
-    requires short { start + 64 ≤ 2147483647 }
+    requires short { start + 64 ≤ most_slots }
     requires a { start + 64 ≤ A.count a.now }
     requires b { start + 64 ≤ B.count b.now }
     ensures size { length rows.new ≡ 64 }
@@ -379,7 +380,7 @@ fn push_checked<O: Operation, T: Integer, A: Side, B: Side>(
     count: usize,
 ) -> Result<(), KernelFault>
     requires word { count ≤ 64 }
-    requires short { start + count ≤ 2147483647 }
+    requires short { start + count ≤ most_slots }
     requires a { start + count ≤ A.count a.now }
     requires b { start + count ≤ B.count b.now }
     requires before { let exact = result_at O.exact (A.number a.now) (B.number b.now) in
@@ -410,7 +411,7 @@ fn push_results<O: Operation, T: Integer, A: Side, B: Side>(
     count: usize,
 ) -> Result<u64, NoMemory>
     requires word { count ≤ 64 }
-    requires short { start + count ≤ 2147483647 }
+    requires short { start + count ≤ most_slots }
     requires a { start + count ≤ A.count a.now }
     requires b { start + count ≤ B.count b.now }
     ensures numbers { let exact = result_at O.exact (A.number a.now) (B.number b.now) in

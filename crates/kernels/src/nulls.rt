@@ -6,10 +6,11 @@ ghost use Rattle.arrays.specs.Seen.{valid_at, valid_in};
 ghost use Rattle.arrays.specs.Slot.{holds_at};
 ghost use Rattle.kernels.specs.Nulls.{nulls};
 ghost use Rattle.arrays.specs.Shown.{shown};
+ghost use Rattle.types.specs.Limits.{most_slots};
 
 use crate::fault::KernelFault;
 use arrays::validity::{is_valid, valid_lanes, valid_word};
-use arrays::{Array, IntType, View, ViewType, Width};
+use arrays::{Array, INT32, View, ViewType};
 use colbits::Bits;
 use colbits::lanes::flipped;
 use std::alloc::Global;
@@ -67,18 +68,12 @@ fn may_have_null_entries(view: &View<'_>) -> bool
     entries.validity().is_some()
 }
 
-/// The type of codes.
-const INT32: IntType = IntType {
-    bits: Width::W32,
-    signed: true,
-};
-
 /// Whether a slot isn't valid.
 #[derive(Drop)]
 struct Invalid<'a> {
     validity: Option<Bits<'a>>,
     slots: u32,
-    ghost short: { slots ≤ 2147483647 },
+    ghost short: { slots ≤ most_slots },
 }
 
 impl<'a> Truths for Invalid<'a> {

@@ -11,16 +11,15 @@ use Rattle.layout.specs.Inner.{inner_raw, inner_children, inner_dictionary, own_
 use Rattle.layout.specs.Reading.{Reading, inner_of, reading_step, reading, child_fault, dictionary_fault, read_parts, fault}
 use Rattle.layout.specs.declared.fault.LayoutFault.{LayoutFault}
 use Rattle.layout.specs.declared.fault.LayoutFault.TheVariants.{MissingBuffer, ExtraBuffer, BufferTooShort, OffsetNegative, OffsetDecreases, OffsetPastEnd, NullCountDiffers, NotUtf8, IndexPastDictionary, ChildDiffers, TooLong, TooDeep}
-use Rattle.layout.specs.declared.raw.RawArray.{RawArray, RawArray-F, out-RawArray, fold_out-RawArray}
-use Rattle.layout.specs.declared.raw.RawArray.TheViews.{roll-RawArray}
-use Rattle.layout.specs.declared.raw.RawArray.TheFolds.{fold-roll-RawArray}
+use Rattle.layout.specs.declared.raw.RawArray.{RawArray, out-RawArray, fold_out-RawArray}
 use Rattle.layout.specs.declared.raw.RawArray.TheShapes.{former-RawArray-dictionary}
+use Rattle.types.specs.Limits.{most_slots}
 
 -- ---- no fault at all
 
 -- Every test of an array itself has passed.
 pub record IsWhole (k : Kind) (n : ℕ) (stated : Option ℕ) (buffers : Buffers) (children : List Inner) (dictionary : Option Inner) : Type 0 where
-  pub short : nat_lt 2147483647 n ≡ false
+  pub short : nat_lt most_slots n ≡ false
   pub shallow : nat_lt 8 (depth k) ≡ false
   pub none_missing : is_missing k buffers ≡ false
   pub none_extra : nat_lt (positions k) (length buffers) ≡ false
@@ -114,9 +113,9 @@ both_none None (Some fault) h = cc
 both_none (Some fault) b h = cc
 
 pub shape_faults-none : (k : Kind) (n : ℕ) (buffers : Buffers) (children : List Inner) (dictionary : Option Inner)
-    → first (shape_faults k n buffers children dictionary) ≡ None → (nat_lt 2147483647 n ≡ false) × (is_data_short k n buffers ≡ false)
+    → first (shape_faults k n buffers children dictionary) ≡ None → (nat_lt most_slots n ≡ false) × (is_data_short k n buffers ≡ false)
 shape_faults-none k n buffers children dictionary h =
-    let s = shaped (nat_lt 2147483647 n) (nat_lt 8 (depth k)) (is_missing k buffers) (nat_lt (positions k) (length buffers)) (do_parts_differ k children dictionary) (is_validity_short n (buffer_at buffers 0)) (is_data_short k n buffers) h in
+    let s = shaped (nat_lt most_slots n) (nat_lt 8 (depth k)) (is_missing k buffers) (nat_lt (positions k) (length buffers)) (do_parts_differ k children dictionary) (is_validity_short n (buffer_at buffers 0)) (is_data_short k n buffers) h in
     (s.short, s.data_enough)
 
 -- What the two halves make of the whole.
@@ -157,7 +156,7 @@ validity-enough raw buffers h same =
     let children = inner_children r.children.items in
     let dictionary = inner_dictionary r.dictionary in
     let bitmap = buffer_at r.buffers.items 0 in
-    let s = shaped (nat_lt 2147483647 r.length) (nat_lt 8 (depth k)) (is_missing k r.buffers.items) (nat_lt (positions k) (length r.buffers.items)) (do_parts_differ k children dictionary) (is_validity_short r.length bitmap) (is_data_short k r.length r.buffers.items) h in
+    let s = shaped (nat_lt most_slots r.length) (nat_lt 8 (depth k)) (is_missing k r.buffers.items) (nat_lt (positions k) (length r.buffers.items)) (do_parts_differ k children dictionary) (is_validity_short r.length bitmap) (is_data_short k r.length r.buffers.items) h in
     ap (λ b. is_validity_short r.length (buffer_at b 0)) same ∙ s.validity_enough
 
 -- Where an array has no fault of its own, each test has passed.
@@ -165,7 +164,7 @@ pub own_fault-none : (k : Kind) (n : ℕ) (stated : Option ℕ) (buffers : Buffe
     → own_fault k n stated buffers children dictionary ≡ None → IsWhole k n stated buffers children dictionary
 own_fault-none k n stated buffers children dictionary h =
     let parts = both_none _ _ (sym (own_fault-apart k n stated buffers children dictionary) ∙ h) in
-    let s = shaped (nat_lt 2147483647 n) (nat_lt 8 (depth k)) (is_missing k buffers) (nat_lt (positions k) (length buffers)) (do_parts_differ k children dictionary) (is_validity_short n (buffer_at buffers 0)) (is_data_short k n buffers) parts.0 in
+    let s = shaped (nat_lt most_slots n) (nat_lt 8 (depth k)) (is_missing k buffers) (nat_lt (positions k) (length buffers)) (do_parts_differ k children dictionary) (is_validity_short n (buffer_at buffers 0)) (is_data_short k n buffers) parts.0 in
     let f = filled (has_negative_offset k n buffers) (decreasing_row k n buffers) (is_past_end k n buffers children) (does_count_differ stated n buffers) (bad_text_row k n buffers) (bad_code_row k n buffers dictionary) parts.1 in
     record {
       short = s.short;
@@ -196,13 +195,6 @@ pub reading-raw : (raw : RawArray) → let r = out-RawArray raw in
 reading-raw raw =
     let r = out-RawArray raw in
     fold_out-RawArray Reading reading_step raw
-    ∙ ap (read_parts (kind_of r.ty) r.length r.null_count r.buffers.items (map reading r.children.items)) (entries-map reading r.dictionary)
-
--- The reading of a raw array that was put together, by its parts.
-pub reading-roll : (r : RawArray-F RawArray)
-    → reading (roll-RawArray r) ≡ read_parts (kind_of r.ty) r.length r.null_count r.buffers.items (map reading r.children.items) (option_map (λ b. reading b.value) r.dictionary)
-reading-roll r =
-    fold-roll-RawArray Reading reading_step r
     ∙ ap (read_parts (kind_of r.ty) r.length r.null_count r.buffers.items (map reading r.children.items)) (entries-map reading r.dictionary)
 
 -- What an array knows of its child is what the child's reading holds.

@@ -1,7 +1,9 @@
+pub mod ListLemmas
 pub mod SeenLemmas
 pub mod RowLemmas
 pub mod FirstFaultLemmas
 pub mod LawfulLemmas
 pub mod ChildLemmas
 pub mod OffsetLemmas
+pub mod OffsetParts
 pub mod CopyLemmas

@@ -5,7 +5,8 @@ use Rattle.std.specs.List.{position_or_len, range_with_len}
 use Rattle.std.proofs.lemmas.List.FromFn.{length-range_with_len}
 use Rattle.types.specs.Kind as kind
 use Rattle.types.specs.Kind.{Kind}
-use Rattle.layout.specs.Layout.{Buffers, bytes_at, offset_at, start_at}
+use Rattle.layout.specs.Layout.{Buffers, bytes_at, offset_at}
+use Rattle.layout.specs.Offsets.{start_at}
 use Rattle.types.specs.Number.{natural}
 use Rattle.layout.specs.Fault.{Inner, least_row, has_offsets, decreasing_row, is_past_end, child_length}
 
@@ -45,7 +46,7 @@ natural-rises (negsuc a) (negsuc b) h = omega arith
 
 -- a slot begins where the one before it ends, or after
 pub start-rises : (k : Kind) (n : ℕ) (buffers : Buffers) → has_offsets k ≡ true → decreasing_row k n buffers ≡ None
-    → (j : ℕ) → j < n → start_at buffers j ≤ start_at buffers (j + 1)
+    → (j : ℕ) → j < n → start_at (bytes_at buffers 1) j ≤ start_at (bytes_at buffers 1) (j + 1)
 start-rises kind.utf8 n buffers has none j below =
     natural-rises (offset_at buffers j) (offset_at buffers (j + 1)) (fails-least_none (λ i. int_lt (offset_at buffers (i + 1)) (offset_at buffers i)) n none j below)
 start-rises (kind.list k) n buffers has none j below =
@@ -66,22 +67,22 @@ rises_by starts n h (suc d) j within =
 
 -- each slot ends before the last one does
 pub start-le-last : (k : Kind) (n : ℕ) (buffers : Buffers) → has_offsets k ≡ true → decreasing_row k n buffers ≡ None
-    → (j : ℕ) → j ≤ n → start_at buffers j ≤ start_at buffers n
+    → (j : ℕ) → j ≤ n → start_at (bytes_at buffers 1) j ≤ start_at (bytes_at buffers 1) n
 start-le-last k n buffers has none j within =
-    let rise = rises_by (start_at buffers) n (start-rises k n buffers has none) (n - j) j (omega arith) in
-    let same : start_at buffers (j + (n - j)) ≡ start_at buffers n = ap (start_at buffers) (omega arith) in
+    let rise = rises_by (start_at (bytes_at buffers 1)) n (start-rises k n buffers has none) (n - j) j (omega arith) in
+    let same : start_at (bytes_at buffers 1) (j + (n - j)) ≡ start_at (bytes_at buffers 1) n = ap (start_at (bytes_at buffers 1)) (omega arith) in
     omega arith
 
 -- the texts end within the bytes
 pub text_ends : (n : ℕ) (buffers : Buffers) (children : List Inner) → decreasing_row kind.utf8 n buffers ≡ None → is_past_end kind.utf8 n buffers children ≡ false
-    → (j : ℕ) → j ≤ n → start_at buffers j ≤ length (bytes_at buffers 2)
+    → (j : ℕ) → j ≤ n → start_at (bytes_at buffers 1) j ≤ length (bytes_at buffers 2)
 text_ends n buffers children none within j below =
-    let last = ltb-false (length (bytes_at buffers 2)) (start_at buffers n) within in
+    let last = ltb-false (length (bytes_at buffers 2)) (start_at (bytes_at buffers 1) n) within in
     omega (arith, start-le-last kind.utf8 n buffers refl none j below)
 
 -- the lists end within the child
 pub list_ends : (k : Kind) (n : ℕ) (buffers : Buffers) (children : List Inner) → decreasing_row (kind.list k) n buffers ≡ None → is_past_end (kind.list k) n buffers children ≡ false
-    → (j : ℕ) → j ≤ n → start_at buffers j ≤ child_length children
+    → (j : ℕ) → j ≤ n → start_at (bytes_at buffers 1) j ≤ child_length children
 list_ends k n buffers children none within j below =
-    let last = ltb-false (child_length children) (start_at buffers n) within in
+    let last = ltb-false (child_length children) (start_at (bytes_at buffers 1) n) within in
     omega (arith, start-le-last (kind.list k) n buffers refl none j below)

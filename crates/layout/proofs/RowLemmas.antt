@@ -1,6 +1,6 @@
 -- Tests of rows 0, 1, ..: whether some row passes, the least that does, and how many do.
-use Rattle.std.proofs.Common.{◌≡◌, ℕ, zero, suc, ◌+◌, ◌-◌, ◌<◌, ◌∙◌, Bool, true, false, ◌||◌, ◌&&◌, not, cond, List, Some, None, length, map, take, drop, nat_lt, ap, refl, subst, arith, add-zero, lt-ltb, le-ltb, ltb-true, IsTrue, IsUtf8, IsCharBoundary, ◌↔◌}
-use Rattle.std.specs.List.{list_any, range_with_len, position_or_len, count_by, sum_by}
+use Rattle.std.proofs.Common.{◌≡◌, ℕ, zero, suc, ◌+◌, ◌-◌, ◌<◌, ◌∙◌, Bool, true, false, ◌||◌, ◌&&◌, not, cond, List, Some, None, length, map, take, drop, nat_lt, ap, refl, subst, arith, lt-ltb, le-ltb, ltb-true, IsTrue, IsUtf8, IsCharBoundary, ◌↔◌}
+use Rattle.std.specs.List.{list_any, range_with_len, position_or_len, count_by}
 use Rattle.std.proofs.lemmas.List.FromFn.{length-range_with_len}
 use Rattle.std.specs.Str.{is_utf8}
 use Rattle.std.proofs.lemmas.Bool.Decides.{same_from_decides}
@@ -11,7 +11,7 @@ use Rattle.std.proofs.lemmas.Str.{IsUtf8-from_is_utf8, is_utf8-from_IsUtf8, IsUt
 use Rattle.colbits.specs.Bit.{bit, bits}
 use Rattle.colbits.specs.Slice.{slice}
 use Rattle.layout.specs.Layout.{Buffers, buffer_at, bytes_at, is_valid, is_valid_in}
-use Rattle.layout.specs.Offsets.{of_slot, start_of}
+use Rattle.layout.specs.Offsets.{slot_at, start_at}
 use Rattle.layout.specs.Fault.{is_no_text, least_row, null_count}
 
 -- every row from a on that is below n fails
@@ -119,13 +119,13 @@ utf8-between bytes s e true falls text begins ends =
     subst (λ k. IsUtf8 (take k (drop s bytes))) none IsUtf8-nil
 utf8-between bytes s e false rises text begins ends = IsUtf8-between bytes s e text (ltb-false e s rises) begins ends
 
-pub text-between : (offsets bytes : List ℕ) (j : ℕ) → IsUtf8 bytes → IsCharBoundary bytes (start_of offsets j) → IsCharBoundary bytes (start_of offsets (j + 1))
-    → is_utf8 (of_slot offsets bytes j) ≡ true
+pub text-between : (offsets bytes : List ℕ) (j : ℕ) → IsUtf8 bytes → IsCharBoundary bytes (start_at offsets j) → IsCharBoundary bytes (start_at offsets (j + 1))
+    → is_utf8 (slot_at offsets bytes j) ≡ true
 text-between offsets bytes j text begins ends =
-    let s = start_of offsets j in
-    let e = start_of offsets (j + 1) in
-    is_utf8-from_IsUtf8 (of_slot offsets bytes j) (utf8-between bytes s e (nat_lt e s) refl text begins ends)
+    let s = start_at offsets j in
+    let e = start_at offsets (j + 1) in
+    is_utf8-from_IsUtf8 (slot_at offsets bytes j) (utf8-between bytes s e (nat_lt e s) refl text begins ends)
 
 -- a slot whose bytes are a text is one, valid or not
-pub no_text-of_text : (buffers : Buffers) (j : ℕ) → is_utf8 (of_slot (bytes_at buffers 1) (bytes_at buffers 2) j) ≡ true → is_no_text buffers j ≡ false
+pub no_text-of_text : (buffers : Buffers) (j : ℕ) → is_utf8 (slot_at (bytes_at buffers 1) (bytes_at buffers 2) j) ≡ true → is_no_text buffers j ≡ false
 no_text-of_text buffers j text = ap (λ b. is_valid buffers j && not b) text ∙ and-false (is_valid buffers j)

@@ -14,6 +14,7 @@ use Rattle.types.proofs.FirstLemmas.{first-none, then_some-none}
 use Rattle.layout.specs.Fault.{Inner, own_fault}
 use Rattle.layout.specs.Seen.{Seen, part}
 use Rattle.layout.specs.Reading.{Reading, read_parts, inner_of}
+use Rattle.types.specs.Limits.{most_slots}
 
 pub length-column : (k : Kind) (n : ℕ) (buffers : Buffers) (child entries : List Item) → length (column k n buffers child entries) ≡ n
 unfolding column
@@ -102,12 +103,12 @@ Fits-seen kind.dict n stated buffers children dictionary = record { items = leng
 -- ---- how long a lawful array is
 
 own_fault-short : (k : Kind) (n : ℕ) (stated : Option ℕ) (buffers : Buffers) (children : List Inner) (dictionary : Option Inner)
-    → own_fault k n stated buffers children dictionary ≡ None → n ≤ 2147483647
+    → own_fault k n stated buffers children dictionary ≡ None → n ≤ most_slots
 unfolding own_fault
-own_fault-short k n stated buffers children dictionary h = ltb-false 2147483647 n (then_some-none _ TooLong (first-none _ _ h).0)
+own_fault-short k n stated buffers children dictionary h = ltb-false most_slots n (then_some-none _ TooLong (first-none _ _ h).0)
 
 pub short-of_lawful : (k : Kind) (n : ℕ) (stated : Option ℕ) (buffers : Buffers) (children : List Reading) (dictionary : Option Reading)
-    → (read_parts k n stated buffers children dictionary).fault ≡ None → n ≤ 2147483647
+    → (read_parts k n stated buffers children dictionary).fault ≡ None → n ≤ most_slots
 unfolding read_parts
 short-of_lawful k n stated buffers children dictionary h =
     own_fault-short k n stated buffers (map inner_of children) (option_map inner_of dictionary) (first-none _ _ h).0

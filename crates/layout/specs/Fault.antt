@@ -4,12 +4,13 @@ use Rattle.std.specs.List.{range_with_len, list_any}
 use Rattle.std.specs.Str.{is_utf8}
 use Rattle.std.specs.Bool.{then_some}
 use Rattle.types.specs.First.{first}
-use Rattle.colbits.specs.Slice.{slice}
 use Rattle.types.specs.Kind.{Kind, int, boolean, utf8, list, dict, bytes_of, depth, same_kind}
 use Rattle.types.specs.Number.{is_negative}
-use Rattle.layout.specs.Layout.{Buffers, buffer_at, bytes_at, is_valid, offset_at, start_at, length_at, code_at}
+use Rattle.layout.specs.Layout.{Buffers, buffer_at, bytes_at, is_valid, offset_at, code_at}
+use Rattle.layout.specs.Offsets.{slot_at, start_at}
 use Rattle.layout.specs.declared.fault.LayoutFault.{LayoutFault}
 use Rattle.layout.specs.declared.fault.LayoutFault.TheVariants.{MissingBuffer, ExtraBuffer, BufferTooShort, OffsetNegative, OffsetDecreases, OffsetPastEnd, NullCountDiffers, NotUtf8, IndexPastDictionary, ChildDiffers, TooLong, TooDeep}
+use Rattle.types.specs.Limits.{most_slots}
 
 -- What an array knows of its child and of its dictionary.
 pub record Inner : Type 0 where
@@ -86,8 +87,8 @@ child_length [] = 0
 child_length (c ∷ cs) = c.length
 
 abbrev pub is_past_end : Kind → ℕ → Buffers → List Inner → Bool
-is_past_end utf8 n buffers children = nat_lt (length (bytes_at buffers 2)) (start_at buffers n)
-is_past_end (list k) n buffers children = nat_lt (child_length children) (start_at buffers n)
+is_past_end utf8 n buffers children = nat_lt (length (bytes_at buffers 2)) (start_at (bytes_at buffers 1) n)
+is_past_end (list k) n buffers children = nat_lt (child_length children) (start_at (bytes_at buffers 1) n)
 is_past_end k n buffers children = false
 
 -- ---- nulls, texts, codes
@@ -101,7 +102,7 @@ does_count_differ None n buffers = false
 does_count_differ (Some stated) n buffers = not (stated == null_count n buffers)
 
 abbrev pub is_no_text : Buffers → ℕ → Bool
-is_no_text buffers j = is_valid buffers j && not (is_utf8 (slice (bytes_at buffers 2) (start_at buffers j) (length_at buffers j)))
+is_no_text buffers j = is_valid buffers j && not (is_utf8 (slot_at (bytes_at buffers 1) (bytes_at buffers 2) j))
 
 abbrev pub bad_text_row : Kind → ℕ → Buffers → Option ℕ
 bad_text_row utf8 n buffers = least_row (is_no_text buffers) n
@@ -123,7 +124,7 @@ bad_code_row k n buffers dictionary = None
 -- The tests that come first: of lengths and shapes.
 abbrev pub shape_faults : Kind → ℕ → Buffers → List Inner → Option Inner → List (Option LayoutFault)
 shape_faults k n buffers children dictionary =
-    then_some (nat_lt 2147483647 n) TooLong
+    then_some (nat_lt most_slots n) TooLong
     ∷ then_some (nat_lt 8 (depth k)) TooDeep
     ∷ then_some (is_missing k buffers) MissingBuffer
     ∷ then_some (nat_lt (positions k) (length buffers)) ExtraBuffer

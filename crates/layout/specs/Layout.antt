@@ -1,10 +1,10 @@
 -- What the bytes of an array mean (Arrow columnar format, "Physical memory layout").
-use Rattle.std.specs.Prelude.{ℕ, ◌+◌, ◌-◌, ℤ, List, [], map, Bool, true, if◌then◌else◌, Option, Some, None, option_map, unwrap_or, slice_get, slice_index_or}
+use Rattle.std.specs.Prelude.{ℕ, ℤ, List, [], map, Bool, true, if◌then◌else◌, Option, Some, None, option_map, unwrap_or, slice_get, slice_index_or}
 use Rattle.std.specs.List.{range_with_len}
 use Rattle.colbits.specs.Bit.{bit, bits}
-use Rattle.colbits.specs.Slice.{slice}
 use Rattle.types.specs.Kind.{Kind, int, boolean, utf8, list, dict, int32}
 use Rattle.types.specs.Number.{natural, number_at}
+use Rattle.layout.specs.Offsets.{slot_at}
 use Rattle.layout.specs.Item as item
 use Rattle.layout.specs.Item.{Item}
 
@@ -23,13 +23,6 @@ bytes_at buffers k = unwrap_or (buffer_at buffers k) []
 -- Offset j of a text or list array. Bytes that aren't there read as 0, so that at length 0 no bytes stand for the one offset 0.
 abbrev pub offset_at : Buffers → ℕ → ℤ
 offset_at buffers j = number_at int32 (bytes_at buffers 1) j
-
--- Where slot j begins, and how long it is. ("Variable-size binary layout", "Variable-size list layout")
-abbrev pub start_at : Buffers → ℕ → ℕ
-start_at buffers j = natural (offset_at buffers j)
-
-abbrev pub length_at : Buffers → ℕ → ℕ
-length_at buffers j = start_at buffers (j + 1) - start_at buffers j
 
 -- Whether slot j is valid: its bit is 1, or there is no bitmap. ("Validity bitmaps")
 abbrev pub is_valid_in : Option (List ℕ) → ℕ → Bool
@@ -51,8 +44,8 @@ code_at buffers j = number_at int32 (bytes_at buffers 1) j
 abbrev pub value_at : Kind → Buffers → List Item → List Item → ℕ → Item
 value_at (int t) buffers child entries j = item.int (number_at t (bytes_at buffers 1) j)
 value_at boolean buffers child entries j = item.boolean (bit (bytes_at buffers 1) j)
-value_at utf8 buffers child entries j = item.text (slice (bytes_at buffers 2) (start_at buffers j) (length_at buffers j))
-value_at (list k) buffers child entries j = item.list (item.list_of (slice child (start_at buffers j) (length_at buffers j)))
+value_at utf8 buffers child entries j = item.text (slot_at (bytes_at buffers 1) (bytes_at buffers 2) j)
+value_at (list k) buffers child entries j = item.list (item.list_of (slot_at (bytes_at buffers 1) child j))
 value_at dict buffers child entries j = slice_index_or entries (natural (code_at buffers j)) item.null
 
 -- An item for each slot: null where the slot isn't valid.

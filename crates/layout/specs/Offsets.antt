@@ -1,12 +1,15 @@
 -- Offsets of texts and lists (Arrow columnar format, "Variable-size binary layout", "Variable-size list layout").
-use Rattle.std.specs.Prelude.{◌≡◌, ℕ, ◌+◌, ◌-◌, ◌*◌, ◌<◌, ◌≤◌, ◌==◌, List, [], ◌∷◌, false, length, if◌then◌else◌}
+use Rattle.std.specs.Prelude.{◌≡◌, ℕ, ◌+◌, ◌-◌, ◌*◌, ◌<◌, ◌≤◌, List, map, false, length, slice_index_or}
+use Rattle.std.specs.List.{range_with_len}
 use Rattle.colbits.specs.Slice.{slice}
 use Rattle.types.specs.Kind.{int32}
 use Rattle.types.specs.Number.{natural, number_at, is_negative}
 
+-- ---- as numbers
+
 -- Where slot j begins, and how long it is.
 abbrev pub start_of : List ℕ → ℕ → ℕ
-start_of offsets j = natural (number_at int32 offsets j)
+start_of offsets j = slice_index_or offsets j 0
 
 abbrev pub length_of : List ℕ → ℕ → ℕ
 length_of offsets j = start_of offsets (j + 1) - start_of offsets j
@@ -15,13 +18,31 @@ length_of offsets j = start_of offsets (j + 1) - start_of offsets j
 abbrev pub of_slot : {A : Type 0} → List ℕ → List A → ℕ → List A
 of_slot offsets values j = slice values (start_of offsets j) (length_of offsets j)
 
--- Offsets of n slots: one more than slots, none negative, none below the one before it, the last at most `most`.
+-- Offsets of n slots: one more than slots, none below the one before it, the last at most `most`.
 pub record AreOffsets (n : ℕ) (offsets : List ℕ) (most : ℕ) : Type 0 where
-  pub size : 4 * (n + 1) ≤ length offsets
-  pub counted : (j : ℕ) → j ≤ n → is_negative (number_at int32 offsets j) ≡ false
+  pub size : length offsets ≡ n + 1
   pub rising : (j : ℕ) → j < n → start_of offsets j ≤ start_of offsets (j + 1)
   pub last : start_of offsets n ≤ most
 
--- The offsets of len slots from slot start on. Where there are no bytes at all they are the one offset 0.
-abbrev pub offsets_from : List ℕ → ℕ → ℕ → List ℕ
-offsets_from bytes start len = if length bytes == 0 then 0 ∷ 0 ∷ 0 ∷ 0 ∷ [] else slice bytes (start * 4) ((len + 1) * 4)
+-- ---- as bytes
+
+-- The same where the offsets lie in bytes. Bytes that aren't there read as 0, so that at length 0 no bytes stand for the one offset 0.
+abbrev pub start_at : List ℕ → ℕ → ℕ
+start_at bytes j = natural (number_at int32 bytes j)
+
+abbrev pub length_at : List ℕ → ℕ → ℕ
+length_at bytes j = start_at bytes (j + 1) - start_at bytes j
+
+abbrev pub slot_at : {A : Type 0} → List ℕ → List A → ℕ → List A
+slot_at bytes values j = slice values (start_at bytes j) (length_at bytes j)
+
+-- The offsets of n slots from slot `start` on, as numbers.
+abbrev pub offsets_in : List ℕ → ℕ → ℕ → List ℕ
+offsets_in bytes start n = map (start_at bytes) (range_with_len start (n + 1))
+
+-- Bytes that are offsets of n slots, none of them negative.
+pub record AreOffsetBytes (n : ℕ) (bytes : List ℕ) (most : ℕ) : Type 0 where
+  pub size : 4 * (n + 1) ≤ length bytes
+  pub counted : (j : ℕ) → j ≤ n → is_negative (number_at int32 bytes j) ≡ false
+  pub rising : (j : ℕ) → j < n → start_at bytes j ≤ start_at bytes (j + 1)
+  pub last : start_at bytes n ≤ most

@@ -1,12 +1,12 @@
 //! Access to the buffers of an array, by position and slot.
 
-ghost use Rattle.std.specs.Prelude.{◌≡◌, ◌+◌, ◌*◌, ◌<◌, ◌≤◌};
+ghost use Rattle.std.specs.Prelude.{◌≡◌, ◌+◌, ◌<◌};
 ghost use Rattle.std.specs.Option.{option_copied};
 ghost use Rattle.colbits.specs.Bit.{bit};
 ghost use Rattle.colbits.specs.Slice.{slice};
 ghost use Rattle.layout.specs.Inner.{HasOffsets};
-ghost use Rattle.layout.specs.Layout.{bytes_at, buffer_at, is_valid, start_at, length_at};
-ghost use Rattle.layout.specs.Offsets.{start_of};
+ghost use Rattle.layout.specs.Layout.{bytes_at, buffer_at, is_valid};
+ghost use Rattle.layout.specs.Offsets.{slot_at, start_at};
 ghost use Rattle.types.specs.Kind.{int32};
 ghost use Rattle.types.specs.Number.{number_at};
 
@@ -62,7 +62,7 @@ pub(crate) fn offset_in(offsets: &[u8], j: usize) -> i32
 #[inline(always)]
 pub(crate) fn start_in(offsets: &[u8], j: usize) -> usize
     requires { HasOffsets j offsets.now }
-    ensures { result ≡ start_of offsets.now j }
+    ensures { result ≡ start_at offsets.now j }
 {
     let offset = offset_in(offsets, j);
     if offset < 0 { 0 } else { offset as usize }
@@ -71,13 +71,13 @@ pub(crate) fn start_in(offsets: &[u8], j: usize) -> usize
 /// The same, by the buffers of the array.
 pub(crate) fn start_at(buffers: &[Option<Buffer>], j: usize) -> usize
     requires { HasOffsets j (bytes_at buffers.now 1) }
-    ensures { result ≡ start_at buffers.now j }
+    ensures { result ≡ start_at (bytes_at buffers.now 1) j }
 {
     start_in(bytes_at(buffers, 1), j)
 }
 
 /// The `len` bytes from `start` on, fewer where the bytes end before.
-fn part(bytes: &[u8], start: usize, len: usize) -> &[u8]
+pub(crate) fn part(bytes: &[u8], start: usize, len: usize) -> &[u8]
     ensures { result.now ≡ slice bytes.now start len }
 {
     let rest = &bytes[start.min(bytes.len())..];
@@ -89,7 +89,7 @@ pub(crate) fn text_at(buffers: &[Option<Buffer>], j: usize) -> &[u8]
     requires enough { HasOffsets (j + 1) (bytes_at buffers.now 1) }
     requires short { j < 2147483648 }
     ensures { result.now
-        ≡ slice (bytes_at buffers.now 2) (start_at buffers.now j) (length_at buffers.now j) }
+        ≡ slot_at (bytes_at buffers.now 1) (bytes_at buffers.now 2) j }
 {
     let start = start_at(buffers, j);
     let end = start_at(buffers, j + 1);

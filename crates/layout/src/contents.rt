@@ -7,7 +7,7 @@ ghost use Rattle.colbits.specs.Bit.{bit};
 ghost use Rattle.layout.specs.Inner.{HasOffsets, inner_children, inner_dictionary};
 ghost use Rattle.types.specs.Kind.{int32, kind_of};
 ghost use Rattle.layout.specs.Fault.{bad_code_row, bad_text_row, decreasing_row, does_count_differ, has_negative_offset, has_offsets, is_data_short, is_no_code, is_no_text, is_past_end, is_validity_short, least_row, null_count};
-ghost use Rattle.layout.specs.Offsets.{of_slot};
+ghost use Rattle.layout.specs.Offsets.{slot_at};
 ghost use Rattle.types.specs.Number.{is_negative, number_at};
 ghost use Rattle.std.specs.Str.{is_utf8};
 ghost use Rattle.layout.specs.Layout.{buffer_at, bytes_at};
@@ -116,7 +116,7 @@ fn least_no_text(buffers: &[Option<Buffer>], n: usize) -> Option<usize>
 fn are_texts(offsets: &[u8], bytes: &[u8], n: usize) -> bool
     requires enough { HasOffsets n offsets.now }
     requires short { n < 2147483648 }
-    ensures { IsTrue result → (j : ℕ) → j < n → is_utf8 (of_slot offsets.now bytes.now j) ≡ true }
+    ensures { IsTrue result → (j : ℕ) → j < n → is_utf8 (slot_at offsets.now bytes.now j) ≡ true }
 {
     let Ok(text) = simdutf8::basic::from_utf8(bytes) else {
         return false;

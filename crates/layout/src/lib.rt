@@ -7,11 +7,13 @@ mod contents;
 pub mod copies;
 pub mod dropping;
 pub mod fault;
+pub mod offsets;
 pub mod raw;
 mod shapes;
 pub mod validator;
 
 pub use dropping::release;
 pub use fault::LayoutFault;
+pub use offsets::Offsets;
 pub use raw::RawArray;
 pub use validator::{first_fault, own_fault};

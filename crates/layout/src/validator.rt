@@ -8,16 +8,13 @@ ghost use Rattle.layout.specs.Inner.{content_faults_of, own_fault_of, shape_faul
 use crate::fault::LayoutFault;
 use crate::raw::RawArray;
 use crate::{contents, shapes};
-use types::is_too_deep;
-
-/// The greatest length of an array.
-const MOST_SLOTS: u64 = 2147483647;
+use types::{MOST_SLOTS, is_too_deep};
 
 /// The first fault of lengths and shapes, before any content is read.
 fn shape_fault(raw: &RawArray) -> Option<LayoutFault>
     ensures { result ≡ first (shape_faults_of raw.now) }
 {
-    if raw.length > MOST_SLOTS {
+    if raw.length > MOST_SLOTS as u64 {
         return Some(LayoutFault::TooLong);
     }
     if is_too_deep(&raw.ty) {

@@ -8,12 +8,11 @@ use Rattle.std.proofs.lemmas.Grind.{flat_map-append}
 use Rattle.std.proofs.lemmas.List.{get_or-map as at_any, append-nil, length-take-le, map-append, take_more}
 use Rattle.std.proofs.lemmas.List.Elements.{All-append, All-push, filter-append}
 use Rattle.std.proofs.lemmas.List.Sums.{sum_by-append}
-use Rattle.std.proofs.lemmas.Option.{get_or_from_slice_get}
 use Rattle.arrays.specs.Batch.{Batch, rows_of}
 use Rattle.arrays.specs.File.{File}
 use Rattle.arrays.specs.First.{first}
 use Rattle.arrays.specs.Shape.{FieldShape}
-use Rattle.histories.proofs.PrefixLemmas.{prefix_self, prefix_trans}
+use Rattle.histories.proofs.PrefixLemmas.{prefix_trans}
 use Rattle.shared.specs.Hand.{Hand, HasAdded, HasSeen, IsKept, IsRaised, calls_of_hand}
 use Rattle.table.specs.Cause.{cause, difference}
 use Rattle.table.specs.History.{History}
@@ -65,16 +64,6 @@ loaded_none fields old new kept is = record {
   alike = λ k d below. absurd (omega (arith, below));
 }
 
-pub loaded_itself : (fields : List FieldShape) (old : Hand) → Loaded fields [] old old
-loaded_itself fields old = record {
-  number = refl;
-  calls = omega arith;
-  rows = omega arith;
-  mine = sym (append-nil old.mine);
-  begun = prefix_self old.seen;
-  alike = λ k d below. absurd (omega (arith, below));
-}
-
 pairs-append : (worker : ℕ) (bs cs : List Batch) → pairs_of worker (bs ++ cs) ≡ pairs_of worker bs ++ pairs_of worker cs
 pairs-append worker bs cs = map-append (λ (b : Batch). (worker, rows_of b)) bs cs
 
@@ -95,10 +84,6 @@ loaded_then fields bs cs old mid new one two = record {
 pub loaded_same : (fields : List FieldShape) (bs cs : List Batch) (old new : Hand) → bs ≡ cs → Loaded fields bs old new → Loaded fields cs old new
 loaded_same fields bs cs old new same is = subst (λ xs. Loaded fields xs old new) same is
 
--- nothing more was appended, and more was seen
-pub loaded_still : (fields : List FieldShape) (bs : List Batch) (old mid new : Hand) → Loaded fields bs old mid → Loaded fields [] mid new → Loaded fields bs old new
-loaded_still fields bs old mid new one two = loaded_same fields (bs ++ []) bs old new (append-nil bs) (loaded_then fields bs [] old mid new one two)
-
 -- one batch of a list more
 pub loaded_more : (fields : List FieldShape) (bs : List Batch) (n : ℕ) (b : Batch) (old mid new : Hand) → n < length bs → get_or bs n b ≡ b
     → Loaded fields (take n bs) old mid → Loaded fields (b ∷ []) mid new → Loaded fields (take (n + 1) bs) old new
@@ -116,11 +101,6 @@ mapped_length v (x ∷ xs) = ap (λ (n : ℕ). suc n) (mapped_length v xs)
 pub batches_at : (files : List File) (n : ℕ) (f : File) (bs : List Batch) → n < length files → f ≡ get_or files n f → bs ≡ f.batches → get_or (batches_of files) n [] ≡ bs
 batches_at files n f bs below is same = at_any (λ (x : File). x.batches) files n f [] below ∙ ap (λ (x : File). x.batches) (sym is) ∙ sym same
 
--- what stands for the batch that was handed in stands for the batch at its place
-pub stands_at : (fields : List FieldShape) (h : History) (bs : List Batch) (n : ℕ) (shown b : Batch) (e : Refusal) → get_or bs n shown ≡ shown → StandsFor fields h shown e
-    → slice_get bs n ≡ Some b → StandsFor fields h b e
-stands_at fields h bs n shown b e is stands at = subst (λ x. StandsFor fields h x e) (sym is ∙ get_or_from_slice_get bs n b shown at) stands
-
 pub there : {A : Type 0} (xs : List A) (n : ℕ) → n < length xs → (x : A) × (slice_get xs n ≡ Some x)
 there [] n below = absurd (omega (arith, below))
 there (x ∷ xs) zero below = (x, refl)
@@ -137,9 +117,6 @@ last_moved first old new before last same is has = ap (λ (p : Option History). 
 pub newest_moved : (old new : Hand) (before last : Option History) → new ≡ old → last ≡ before → IsNewest old before → IsNewest new last
 newest_moved old new before last same is newest =
     subst (λ (h : Hand). IsNewest h last) (sym same) (subst (λ o. IsNewest old o) (sym is) newest)
-
-pub last_kept : (fields : List FieldShape) (first : ℕ) (old new : Hand) (last : Option History) → Loaded fields [] old new → HasLast first old last → HasLast first new last
-last_kept fields first old new last is has = has ∙ ap (λ (n : ℕ). nat_lt first n) (omega (arith, is.calls))
 
 -- ---- the plan
 

@@ -1,5 +1,5 @@
 -- How far workers come through their files.
-use Rattle.std.specs.Prelude.{◌≡◌, ◌⊎◌, ℕ, ◌+◌, ◌%◌, ◌<◌, ◌++◌, All, IfSome, List, [], length, map, slice_get, slice_index_or, sum_by, take, Option, None, Some, is_some, nat_lt, unwrap_or}
+use Rattle.std.specs.Prelude.{◌≡◌, ◌⊎◌, ℕ, ◌+◌, ◌%◌, ◌<◌, ◌++◌, All, IfSome, List, [], ◌∷◌, length, map, slice_get, slice_index_or, sum_by, take, Option, None, Some, is_some, nat_lt, unwrap_or}
 use mathlib.Core.List.{IsPrefix}
 use Rattle.arrays.specs.Batch.{Batch, rows_of}
 use Rattle.arrays.specs.File.{File}
@@ -8,6 +8,7 @@ use Rattle.shared.specs.Hand.{Hand, calls_of_hand, rows_of_hand}
 use Rattle.shared.specs.Left.{Left}
 use Rattle.table.specs.Cause.{batch_cause, difference}
 use Rattle.table.specs.History.{History}
+use Rattle.table.specs.Stored.{stored_fields}
 use Rattle.table.specs.declared.refusal.Refusal.{Refusal}
 use Rattle.table.specs.declared.refusal.Refusal.TheVariants.{NoMemory}
 use Rattle.loads.specs.Plan.{planned}
@@ -15,6 +16,11 @@ use Rattle.loads.specs.Plan.{planned}
 -- The batches of each file, in order.
 abbrev pub batches_of : List File → List (List Batch)
 batches_of files = map (λ f. f.batches) files
+
+-- The fields of the table that files are loaded into: those of the first, as they are stored.
+abbrev pub fields_for : List File → List FieldShape
+fields_for [] = []
+fields_for (file ∷ files) = stored_fields file.fields
 
 -- Batches as the pairs that a worker adds.
 abbrev pub pairs_of : ℕ → List Batch → History

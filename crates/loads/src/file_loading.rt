@@ -1,6 +1,6 @@
 //! Files that are appended by all workers.
 
-ghost use Rattle.std.specs.Prelude.{◌≡◌, ◌<◌, ℕ, length, slice_index_or};
+ghost use Rattle.std.specs.Prelude.{◌<◌, ℕ, length, slice_index_or};
 ghost use Rattle.loads.specs.Loaded.{IsDone, batches_of};
 ghost use Rattle.shared.specs.Hand.{Hand};
 

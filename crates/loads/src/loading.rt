@@ -1,6 +1,6 @@
 //! Files loaded by workers, side by side.
 
-ghost use Rattle.std.specs.Prelude.{◌≡◌, ◌<◌, IfErr, IfOk, OnOk, length};
+ghost use Rattle.std.specs.Prelude.{◌<◌, IfErr, IfOk, OnOk, length};
 ghost use Rattle.loads.specs.Loaded.{AllLoaded, batches_of};
 ghost use Rattle.loads.specs.Told.{AreNewest, AreReceipts, Stands};
 

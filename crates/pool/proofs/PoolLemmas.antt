@@ -1,5 +1,5 @@
 -- A pool by its fields.
-use Rattle.std.proofs.Common.{◌≡◌, ◌∙◌, ℕ, ◌+◌, ◌-◌, ◌<◌, ◌≤◌, true, false, List, [], ◌∷◌, ◌++◌, length, take, drop, map, refl, sym, ap, if◌then◌else◌, arith, length-append, String}
+use Rattle.std.proofs.Common.{◌≡◌, ◌∙◌, ℕ, ◌+◌, ◌-◌, ◌<◌, ◌≤◌, false, List, [], ◌∷◌, ◌++◌, length, take, drop, map, refl, sym, ap, if◌then◌else◌, arith, length-append, String}
 use Rattle.std.specs.Prelude.{sum_by}
 use Rattle.std.specs.List.{list_any}
 use Rattle.std.specs.Str.{bytes_eq}
@@ -8,8 +8,9 @@ use Rattle.std.proofs.lemmas.List.{take-map, map-append, take_rest}
 use Rattle.std.proofs.lemmas.List.Sums.{sum_by-cons, sum_by-take-drop, sum_by_push}
 use Rattle.pool.specs.Texts.{is_among, is_once, is_too_full, byte_count}
 use Rattle.pool.specs.Pool.{IsPool}
-use Rattle.pool.proofs.TextLemmas.{is_once-push, is_once-take, fits_from, fits_to, is_too_full-take, is_too_full-long, is_too_full-wide}
+use Rattle.pool.proofs.TextLemmas.{is_once-push, is_once-take, fits_from, fits_to, is_too_full-take}
 use Rattle.pool.proofs.PlaceLemmas.{list_any-map}
+use Rattle.types.specs.Limits.{most_slots}
 
 pub map-take : {X Y : Type 0} (f : X → Y) (n : ℕ) (xs : List X) → map f (take n xs) ≡ take n (map f xs)
 map-take f n xs = sym (take-map f n xs)
@@ -21,7 +22,7 @@ byte_count-map f (x ∷ xs) =
 
 module _ {X : Type 0} (f : X → List ℕ) where
   pub cut_bounded : (keys : List X) (bytes n : ℕ) → IsPool (map f keys) bytes
-      → sum_by (λ x. length (f x)) (take (length keys - n) (drop n keys)) ≤ 2147483647
+      → sum_by (λ x. length (f x)) (take (length keys - n) (drop n keys)) ≤ most_slots
   cut_bounded keys bytes n is =
       let g : X → ℕ = λ x. length (f x) in
       let rest : sum_by g (take (length keys - n) (drop n keys)) ≡ sum_by g (drop n keys) = ap (sum_by g) (take_rest keys n) in
@@ -45,13 +46,7 @@ module _ {X : Type 0} (f : X → List ℕ) where
         counted = omega (arith, cut_is, rest, sum_by-take-drop g keys n, byte_count-map f keys, byte_count-map f (take n keys), is.counted);
       }
 
-pub full_by_number : (ts : List (List ℕ)) (t : List ℕ) → 2147483647 ≤ length ts → is_too_full (ts ++ t ∷ []) ≡ true
-full_by_number ts t full = is_too_full-long (ts ++ t ∷ []) (omega (arith, length-append ts (t ∷ []), full))
-
-pub full_by_bytes : (ts : List (List ℕ)) (bytes : ℕ) (t : List ℕ) → IsPool ts bytes → 2147483647 - bytes < length t → is_too_full (ts ++ t ∷ []) ≡ true
-full_by_bytes ts bytes t is full = is_too_full-wide (ts ++ t ∷ []) (omega (arith, sum_by_push length ts t, is.counted, full))
-
-pub IsPool-push : (ts : List (List ℕ)) (bytes : ℕ) (t : List ℕ) → IsPool ts bytes → is_among ts t ≡ false → length ts < 2147483647 → length t ≤ 2147483647 - bytes
+pub IsPool-push : (ts : List (List ℕ)) (bytes : ℕ) (t : List ℕ) → IsPool ts bytes → is_among ts t ≡ false → length ts < most_slots → length t ≤ most_slots - bytes
     → IsPool (ts ++ t ∷ []) (bytes + length t)
 IsPool-push ts bytes t is apart few short =
     let p = fits_from ts is.fits in

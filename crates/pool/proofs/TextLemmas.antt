@@ -1,8 +1,8 @@
 -- Texts, each once.
-use Rattle.std.proofs.Common.{◌≡◌, ◌∙◌, ℕ, ◌<◌, ◌≤◌, Bool, true, false, not, ◌||◌, ◌&&◌, cond, List, [], ◌∷◌, ◌++◌, length, take, drop, filter, refl, sym, ap, if◌then◌else◌, arith, length-append, true≢false}
+use Rattle.std.proofs.Common.{◌≡◌, ◌∙◌, ℕ, ◌≤◌, Bool, true, false, not, ◌||◌, ◌&&◌, cond, List, [], ◌∷◌, ◌++◌, length, take, drop, filter, refl, sym, ap, if◌then◌else◌, arith, length-append, true≢false}
 use Rattle.std.specs.Prelude.{nat_lt}
 use Rattle.std.specs.Str.{bytes_eq}
-use Rattle.std.proofs.lemmas.Bool.{ltb-false, lt-ltb, le-ltb}
+use Rattle.std.proofs.lemmas.Bool.{ltb-false, le-ltb}
 use Rattle.std.proofs.lemmas.Cmp.{nat_list_eq_equiv}
 use Rattle.std.proofs.lemmas.Slice.Eq.{bytes_eq-Decides}
 use Rattle.std.proofs.lemmas.List.Elements.{filter-append}
@@ -10,6 +10,7 @@ use Rattle.std.proofs.lemmas.List.Folds.{list_any-append}
 use Rattle.std.proofs.lemmas.List.Sums.{sum_by-append}
 use Rattle.std.proofs.lemmas.List.{append-nil, take-append-drop}
 use Rattle.pool.specs.Texts.{firsts, is_among, is_once, with_text, byte_count, is_too_full}
+use Rattle.types.specs.Limits.{most_slots}
 
 -- A test goes one way or the other.
 pub either : {C : Type 0} (b : Bool) → (b ≡ true → C) → (b ≡ false → C) → C
@@ -140,14 +141,14 @@ pub is_once-take : (ts : List (List ℕ)) (n : ℕ) → is_once ts ≡ true → 
 is_once-take ts n once = is_once-start (take n ts) (drop n ts) (ap is_once (take-append-drop n ts) ∙ once)
 
 -- Texts that are not too many, in numbers.
-pub fits_from : (ts : List (List ℕ)) → is_too_full ts ≡ false → (length ts ≤ 2147483647) × (byte_count ts ≤ 2147483647)
+pub fits_from : (ts : List (List ℕ)) → is_too_full ts ≡ false → (length ts ≤ most_slots) × (byte_count ts ≤ most_slots)
 fits_from ts fits =
-    let p = neither (nat_lt 2147483647 (length ts)) (nat_lt 2147483647 (byte_count ts)) fits in
-    (ltb-false 2147483647 (length ts) p.0, ltb-false 2147483647 (byte_count ts) p.1)
+    let p = neither (nat_lt most_slots (length ts)) (nat_lt most_slots (byte_count ts)) fits in
+    (ltb-false most_slots (length ts) p.0, ltb-false most_slots (byte_count ts) p.1)
 
-pub fits_to : (ts : List (List ℕ)) → length ts ≤ 2147483647 → byte_count ts ≤ 2147483647 → is_too_full ts ≡ false
+pub fits_to : (ts : List (List ℕ)) → length ts ≤ most_slots → byte_count ts ≤ most_slots → is_too_full ts ≡ false
 fits_to ts few short =
-    ap (λ b. b || nat_lt 2147483647 (byte_count ts)) (le-ltb 2147483647 (length ts) few) ∙ le-ltb 2147483647 (byte_count ts) short
+    ap (λ b. b || nat_lt most_slots (byte_count ts)) (le-ltb most_slots (length ts) few) ∙ le-ltb most_slots (byte_count ts) short
 
 -- The first of texts that fit fit.
 is_too_full-start : (ts us : List (List ℕ)) → is_too_full (ts ++ us) ≡ false → is_too_full ts ≡ false
@@ -163,12 +164,6 @@ is_too_full-append ts us full =
 pub is_too_full-take : (ts : List (List ℕ)) (n : ℕ) → is_too_full ts ≡ false → is_too_full (take n ts) ≡ false
 is_too_full-take ts n fits = is_too_full-start (take n ts) (drop n ts) (ap is_too_full (take-append-drop n ts) ∙ fits)
 
-pub is_too_full-long : (ts : List (List ℕ)) → 2147483647 < length ts → is_too_full ts ≡ true
-is_too_full-long ts long = ap (λ b. b || nat_lt 2147483647 (byte_count ts)) (lt-ltb 2147483647 (length ts) long)
-
 or-true : (b : Bool) → (b || true) ≡ true
 or-true true = refl
 or-true false = refl
-
-pub is_too_full-wide : (ts : List (List ℕ)) → 2147483647 < byte_count ts → is_too_full ts ≡ true
-is_too_full-wide ts wide = ap (λ b. nat_lt 2147483647 (length ts) || b) (lt-ltb 2147483647 (byte_count ts) wide) ∙ or-true (nat_lt 2147483647 (length ts))

@@ -13,14 +13,15 @@ use Rattle.std.proofs.lemmas.Option.{slice_get_within, get_or_from_slice_get, sl
 use Rattle.arrays.specs.Slot.{item_of, item_of_text}
 use Rattle.arrays.specs.Item.{Item, null, text}
 use Rattle.arrays.specs.Kind.{int, int32}
-use Rattle.arrays.specs.Lengths.{is_past, text_bytes, text_length}
+use Rattle.arrays.specs.Lengths.{is_past, joined_items, text_bytes, text_length}
 use Rattle.arrays.specs.Seen.{Seen}
 use Rattle.arrays.specs.Shown.{shown}
 use Rattle.pool.specs.Codes.{code_item}
 use Rattle.pool.specs.Texts.{text_of, texts_of, firsts, is_among, is_too_full, byte_count}
-use Rattle.pool.specs.Unified.{joined, all_texts, codes_among}
+use Rattle.pool.specs.Unified.{all_texts, codes_among}
 use Rattle.pool.proofs.PlaceLemmas.{position-append, among_place}
 use Rattle.pool.proofs.TextLemmas.{beyond, firsts-append, firsts-once, is_once-firsts, is_among-firsts, is_too_full-append, is_too_full-take, fits_from}
+use Rattle.types.specs.Limits.{most_slots}
 
 or-right : (a b : Bool) → b ≡ true → (a || b) ≡ true
 or-right true b h = refl
@@ -61,39 +62,39 @@ pub record Unified (views : List Seen) (i : ℕ) (pool : List (List ℕ)) (codes
 
 module _ (views : List Seen) where
   abbrev rest_from : ℕ → List (List ℕ)
-  rest_from i = beyond (texts_of (joined (take i views))) (firsts (texts_of (joined (drop i views))))
+  rest_from i = beyond (texts_of (joined_items (take i views))) (firsts (texts_of (joined_items (drop i views))))
 
   grown : (i : ℕ) → all_texts views ≡ all_texts (take i views) ++ rest_from i
   grown i =
       ap all_texts (sym (take-append-drop i views))
       ∙ ap (λ l. firsts (texts_of l)) (flat_map-append (λ (v : Seen). v.items) (take i views) (drop i views))
-      ∙ ap firsts (filter_map-append text_of (joined (take i views)) (joined (drop i views)))
-      ∙ firsts-append (texts_of (joined (take i views))) (texts_of (joined (drop i views)))
+      ∙ ap firsts (filter_map-append text_of (joined_items (take i views)) (joined_items (drop i views)))
+      ∙ firsts-append (texts_of (joined_items (take i views))) (texts_of (joined_items (drop i views)))
 
   take-view : (i : ℕ) (v : Seen) → slice_get views i ≡ Some v → take (i + 1) views ≡ take i views ++ v ∷ []
   take-view i v at =
       take_more views i v (slice_get_within views i v at) ∙ ap (λ w. take i views ++ w ∷ []) (get_or_from_slice_get views i v v at)
 
   texts-view : (i : ℕ) (v : Seen) → slice_get views i ≡ Some v
-      → texts_of (joined (take (i + 1) views)) ≡ texts_of (joined (take i views)) ++ texts_of v.items
+      → texts_of (joined_items (take (i + 1) views)) ≡ texts_of (joined_items (take i views)) ++ texts_of v.items
   texts-view i v at =
-      ap (λ l. texts_of (joined l)) (take-view i v at)
-      ∙ ap texts_of (flat_map-append (λ (w : Seen). w.items) (take i views) (v ∷ []) ∙ ap (λ l. joined (take i views) ++ l) (append-nil v.items))
-      ∙ filter_map-append text_of (joined (take i views)) v.items
+      ap (λ l. texts_of (joined_items l)) (take-view i v at)
+      ∙ ap texts_of (flat_map-append (λ (w : Seen). w.items) (take i views) (v ∷ []) ∙ ap (λ l. joined_items (take i views) ++ l) (append-nil v.items))
+      ∙ filter_map-append text_of (joined_items (take i views)) v.items
 
   pub pool-view : (i : ℕ) (v : Seen) (pool : List (List ℕ)) → slice_get views i ≡ Some v → pool ≡ all_texts (take i views)
       → firsts (pool ++ texts_of v.items) ≡ all_texts (take (i + 1) views)
   pool-view i v pool at is =
-      ap (λ l. firsts (l ++ texts_of v.items)) is ∙ firsts-joined (texts_of (joined (take i views))) (texts_of v.items)
+      ap (λ l. firsts (l ++ texts_of v.items)) is ∙ firsts-joined (texts_of (joined_items (take i views))) (texts_of v.items)
       ∙ ap firsts (sym (texts-view i v at))
 
   codes-view : (i : ℕ) (v : Seen) → slice_get views i ≡ Some v
       → codes_among (all_texts (take (i + 1) views)) v ≡ codes_among (all_texts views) v
   codes-view i v at =
-      let seen = texts_of (joined (take i views)) in
+      let seen = texts_of (joined_items (take i views)) in
       let now = all_texts (take (i + 1) views) in
       ap (λ l. shown (int int32) l) (codes_grown v.items now (rest_from (i + 1)) (λ t h.
-      is_among-firsts (texts_of (joined (take (i + 1) views))) t ∙ ap (λ l. is_among l t) (texts-view i v at)
+      is_among-firsts (texts_of (joined_items (take (i + 1) views))) t ∙ ap (λ l. is_among l t) (texts-view i v at)
       ∙ list_any-append (bytes_eq t) seen (texts_of v.items) ∙ or-right (is_among seen t) (is_among (texts_of v.items) t) h))
       ∙ ap (λ l. codes_among l v) (sym (grown (i + 1)))
 
@@ -134,4 +135,4 @@ pub text_fits : (ts : List (List ℕ)) (i : ℕ) (o : Option (List ℕ)) (before
 text_fits ts i o before below is are fits =
     ap (λ l. is_past (text_bytes l)) (text_added ts i o before (before ++ item_of_text o ∷ []) below is are refl)
     ∙ ap is_past (text_bytes-map (take (i + 1) ts))
-    ∙ le-ltb 2147483647 (byte_count (take (i + 1) ts)) (fits_from (take (i + 1) ts) (is_too_full-take ts (i + 1) fits)).1
+    ∙ le-ltb most_slots (byte_count (take (i + 1) ts)) (fits_from (take (i + 1) ts) (is_too_full-take ts (i + 1) fits)).1

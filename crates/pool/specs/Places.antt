@@ -4,6 +4,7 @@ use Rattle.arrays.specs.Slot.{item_of}
 use Rattle.arrays.specs.Item.{Item, int, null, text}
 use Rattle.pool.specs.Codes.{code_item}
 use Rattle.pool.specs.Texts.{with_text}
+use Rattle.types.specs.Limits.{most_slots}
 
 -- The texts with that of the item, if it is one, at the end, unless it is among them.
 abbrev pub with_item : List (List ℕ) → Item → List (List ℕ)
@@ -14,7 +15,7 @@ with_item ts _ = ts
 pub record IsPlaced (old new : List (List ℕ)) (x : Item) (place : Option ℕ) : Type 0 where
   pub texts : new ≡ with_item old x
   pub code : item_of (option_map pos place) ≡ code_item new x
-  pub small : IfSome place (λ p. p < 2147483647)
+  pub small : IfSome place (λ p. p < most_slots)
 
 -- The place, if there is one, is that of the item's text.
 abbrev pub IsKnown : List (List ℕ) → Item → Option ℕ → Type 0

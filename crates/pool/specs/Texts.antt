@@ -5,6 +5,7 @@ use Rattle.std.specs.Str.{bytes_eq}
 use Rattle.arrays.specs.Item.{Item, text}
 use Rattle.pool.specs.declared.fault.PoolFault.{PoolFault}
 use Rattle.pool.specs.declared.fault.PoolFault.TheVariants.{NoMemory, TextsFull}
+use Rattle.types.specs.Limits.{most_slots}
 
 -- The bytes of a text, none of an item that is no text.
 abbrev pub text_of : Item → Option (List ℕ)
@@ -39,7 +40,7 @@ byte_count ts = sum_by length ts
 
 -- Whether a column of texts could not hold these: more texts, or more bytes together, than its 32-bit numbers count.
 abbrev pub is_too_full : List (List ℕ) → Bool
-is_too_full ts = nat_lt 2147483647 (length ts) || nat_lt 2147483647 (byte_count ts)
+is_too_full ts = nat_lt most_slots (length ts) || nat_lt most_slots (byte_count ts)
 
 -- The place of the text among these.
 abbrev pub place_of : List (List ℕ) → List ℕ → Option ℕ

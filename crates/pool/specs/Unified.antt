@@ -1,19 +1,15 @@
 -- Columns of texts brought to one dictionary.
-use Rattle.std.specs.Prelude.{ℕ, List, map, flat_map}
-use Rattle.arrays.specs.Item.{Item}
+use Rattle.std.specs.Prelude.{ℕ, List, map}
 use Rattle.arrays.specs.Kind.{int, int32}
 use Rattle.arrays.specs.Seen.{Seen}
 use Rattle.arrays.specs.Shown.{shown}
+use Rattle.arrays.specs.Lengths.{joined_items}
 use Rattle.pool.specs.Texts.{firsts, texts_of}
 use Rattle.pool.specs.Codes.{code_item}
 
--- The items of all columns, one column after the other.
-abbrev pub joined : List Seen → List Item
-joined views = flat_map (λ v. v.items) views
-
 -- The texts of all columns, in order of first appearance.
 abbrev pub all_texts : List Seen → List (List ℕ)
-all_texts views = firsts (texts_of (joined views))
+all_texts views = firsts (texts_of (joined_items views))
 
 -- The column of a column's codes among the texts.
 abbrev pub codes_among : List (List ℕ) → Seen → Seen

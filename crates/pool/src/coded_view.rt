@@ -5,16 +5,10 @@ ghost use Rattle.arrays.specs.Dictionary.{looked_up};
 ghost use Rattle.arrays.specs.Slot.{item_of};
 
 use arrays::validity::is_valid;
-use arrays::{IntType, View, ViewType, Width};
+use arrays::{INT32, View, ViewType};
 use colbits::Bits;
 use std::marker::Model;
 use types::natural_at;
-
-/// The type of codes.
-const INT32: IntType = IntType {
-    bits: Width::W32,
-    signed: true,
-};
 
 /// A dictionary-encoded view, whose codes are found once and not at each row.
 #[derive(Drop)]

@@ -1,10 +1,10 @@
-ghost use Rattle.std.specs.Prelude.{◌≡◌, ◌<◌, ◌≤◌, ◌==◌, ◌++◌, ◌∷◌, false, IfSome, ◌⊎◌, [], length, map, take, true, slice_get, sum_by, Some, IfOk, IfErr, OnOk, OnErr, option_copied};
+ghost use Rattle.std.specs.Prelude.{◌≡◌, ◌<◌, ◌≤◌, ◌==◌, ◌++◌, ◌∷◌, false, IfSome, [], length, map, take, true, slice_get, sum_by, Some, IfOk, IfErr, OnOk, OnErr, option_copied};
 ghost use Rattle.std.specs.String.{string_bytes};
-ghost use Rattle.std.specs.Option.{option_map};
 ghost use Rattle.arrays.specs.Item as item;
 ghost use Rattle.arrays.specs.Kind as kind;
 ghost use Rattle.arrays.specs.Shown.{shown};
 ghost use Rattle.pool.specs.Texts.{IsPoolFault, is_among, is_once, is_too_full, place_of, with_text};
+ghost use Rattle.types.specs.Limits.{most_slots};
 
 use crate::fault::PoolFault;
 use arrays::{Array, BuildFault, TextBuilder};
@@ -12,9 +12,7 @@ use colbits::NoMemory;
 use indexmap::IndexSet;
 use std::alloc::Global;
 use std::marker::Model;
-
-/// The most texts of a pool, and the most bytes of them together: what 32-bit numbers of a column count.
-const MOST: usize = 2147483647;
+use types::MOST_SLOTS;
 
 /// Texts in order of coming, each once.
 #[derive(Drop)]
@@ -71,7 +69,7 @@ impl TextPool {
     /// The place of a text, none where it isn't in the pool.
     pub fn code_of(&self, text: &str) -> Option<u32>
         ensures place { result ≡ place_of self.now text.now }
-        ensures small { IfSome result (λ code. code < 2147483647) }
+        ensures small { IfSome result (λ code. code < most_slots) }
     {
         match self.texts.get_index_of(text) {
             Some(place) => Some(place as u32),
@@ -127,7 +125,7 @@ impl TextPool {
         requires { is_too_full self.old ≡ false }
         ensures texts { OnOk result (self.new ≡ with_text self.old text.now) }
         ensures place { IfOk result (λ code. place_of self.new text.now ≡ Some code) }
-        ensures small { IfOk result (λ code. code < 2147483647) }
+        ensures small { IfOk result (λ code. code < most_slots) }
         ensures fits { is_too_full self.new ≡ false }
         ensures err { OnErr result (self.new ≡ self.old) }
         ensures fault { IfErr result (IsPoolFault (is_too_full (with_text self.old text.now))) }
@@ -143,13 +141,13 @@ impl TextPool {
         requires { is_among self.old text.now ≡ false }
         ensures texts { OnOk result (self.new ≡ self.old ++ text.now ∷ []) }
         ensures place { IfOk result (λ code. code ≡ length self.old) }
-        ensures small { IfOk result (λ code. code < 2147483647) }
+        ensures small { IfOk result (λ code. code < most_slots) }
         ensures fits { is_too_full self.new ≡ false }
         ensures err { OnErr result (self.new ≡ self.old) }
         ensures fault { IfErr result (IsPoolFault (is_too_full (self.old ++ text.now ∷ []))) }
     {
         let code = self.len();
-        if code >= MOST || text.len() > MOST - self.bytes {
+        if code >= MOST_SLOTS || text.len() > MOST_SLOTS - self.bytes {
             return Err(PoolFault::TextsFull);
         }
         let copy = String::from_str(self.alloc, text)?;
@@ -161,7 +159,7 @@ impl TextPool {
 
 /// How many bytes texts have together.
 fn byte_count(texts: &[String]) -> usize
-    requires { sum_by (λ t. length (string_bytes t)) texts.now ≤ 2147483647 }
+    requires { sum_by (λ t. length (string_bytes t)) texts.now ≤ most_slots }
     ensures { result ≡ sum_by (λ t. length (string_bytes t)) texts.now }
 {
     texts.iter().map(|t| t.len()).sum()

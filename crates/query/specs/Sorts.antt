@@ -1,9 +1,8 @@
 -- What kind of value an expression has, by the typing rules of queries.
 use Rattle.std.specs.Prelude.{Bool, true, false, ◌&&◌, if◌then◌else◌, Option, Some, None, option_and_then}
-use Rattle.types.specs.declared.int_type.Width.TheVariants.{W64}
 use Rattle.types.specs.declared.int_type.IntType.{IntType}
 use Rattle.types.specs.Kind as kind
-use Rattle.types.specs.Kind.{Kind, same_int}
+use Rattle.types.specs.Kind.{int64, Kind, same_int}
 use Rattle.types.specs.Number.{is_of_type}
 use Rattle.query.specs.declared.expr.Op.{Op}
 use Rattle.query.specs.declared.expr.Op.TheVariants as op
@@ -20,10 +19,6 @@ sort_of_kind (kind.list k) = sort.List
 sort_of_kind kind.dict = Text
 
 -- ---- literals
-
--- Signed, of 64 bits.
-abbrev pub int64 : IntType
-int64 = record { bits = W64; signed = true }
 
 -- The type of a literal that stands directly beside this: its own, if it is of an integer type and no literal.
 abbrev pub type_beside : Sort → IntType

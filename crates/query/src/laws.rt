@@ -1,6 +1,6 @@
 //! What holds of the columns that any query names.
 
-ghost use Rattle.std.specs.Prelude.{◌≡◌, ◌==◌, ℕ, List, Ok, Err, IsTrue, true, count_by, length, map, nat_lt};
+ghost use Rattle.std.specs.Prelude.{◌≡◌, ◌==◌, ℕ, List, Ok, Err, true, count_by, length, map, nat_lt};
 ghost use Rattle.std.specs.List.{list_all, list_any};
 ghost use Rattle.types.specs.Shape.{FieldShape};
 ghost use Rattle.query.specs.Asked.{Asked};

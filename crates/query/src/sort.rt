@@ -2,10 +2,10 @@
 
 ghost use Rattle.std.specs.Prelude.{◌≡◌};
 ghost use Rattle.types.specs.Kind.{kind_of};
-ghost use Rattle.query.specs.Sorts.{sort_of_kind, int64, sort_of_one, sort_of_two, of_one, of_two};
+ghost use Rattle.query.specs.Sorts.{sort_of_kind, sort_of_one, sort_of_two, of_one, of_two};
 
 use crate::expr::Op;
-use types::{DataType, IntType, Width};
+use types::{DataType, INT64, IntType};
 
 /// What is known of an expression's value before a row is looked at.
 #[derive(Clone, Copy, Debug, PartialEq, Eq)]
@@ -18,12 +18,6 @@ pub enum Sort {
     Text,
     List,
 }
-
-/// Signed numbers of 64 bits: what a literal is unless what stands beside it is of another integer type.
-pub const INT64: IntType = IntType {
-    bits: Width::W64,
-    signed: true,
-};
 
 /// The sort of a column of the type.
 pub(crate) fn sort_of_type(ty: &DataType) -> Sort

@@ -5,7 +5,7 @@ use Rattle.types.specs.declared.int_type.IntType.{IntType}
 use Rattle.types.specs.declared.int_type.Width.TheVariants.{W64}
 use Rattle.query.specs.declared.expr.Op.{Op}
 use Rattle.query.specs.declared.expr.Op.TheVariants as op
-use Rattle.query.specs.Sorts.{int64}
+use Rattle.types.specs.Kind.{int64}
 use Rattle.serde_json.specs.Data.{Data}
 use Rattle.json_places.specs.JsonMember.{member_of}
 use Rattle.json_places.specs.JsonNumber.{integer_of}

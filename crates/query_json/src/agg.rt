@@ -1,6 +1,6 @@
 //! The objects of aggregates.
 
-ghost use Rattle.std.specs.Prelude.{◌≡◌, ◌≢◌, IfOk, IfErr, string_bytes, codes};
+ghost use Rattle.std.specs.Prelude.{IfOk, IfErr, string_bytes};
 ghost use Rattle.query.specs.Resolved.{renamed_agg};
 ghost use Rattle.serde_json.specs.View.{view};
 ghost use Rattle.json_places.specs.JsonFault.{Tells};

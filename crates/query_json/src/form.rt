@@ -8,9 +8,8 @@ ghost use Rattle.query_json.specs.QueryForm.{form_of, has, literal_of, op_name, 
 use json_places::Member;
 use json_places::number::integer;
 use query::Op;
-use query::sort::INT64;
 use serde_json::Value;
-use types::{IntType, Width};
+use types::{INT64, IntType, Width};
 
 const UINT64: IntType = IntType {
     bits: Width::W64,

@@ -5,7 +5,7 @@ ghost use Rattle.query.specs.Resolved.{renamed_agg};
 ghost use Rattle.serde_json.specs.Find.{as_str};
 ghost use Rattle.serde_json.specs.View.{view, items_view};
 ghost use Rattle.json_places.specs.JsonFault.{Tells};
-ghost use Rattle.json_places.specs.JsonMember.{EachFault, IsObject, ReadsEach, Unlike, member_of};
+ghost use Rattle.json_places.specs.JsonMember.{EachFault, ReadsEach, Unlike, member_of};
 ghost use Rattle.json_places.specs.declared.path.Member.TheVariants as member;
 ghost use Rattle.query_json.specs.QueryAsked.{ReadsAgg, ReadsList, ReadsName, items_or_none};
 ghost use Rattle.query_json.specs.QueryAskedFault.{AggFault, AskedFault, NotListed};

@@ -1,4 +1,4 @@
-ghost use Rattle.std.specs.Prelude.{◌≡◌, Some, IfOk, IfErr, option_map};
+ghost use Rattle.std.specs.Prelude.{Some, IfOk, IfErr, option_map};
 ghost use Rattle.query.specs.Resolved.{named};
 ghost use Rattle.serde_json.specs.View.{view};
 ghost use Rattle.json_places.specs.JsonFault.{Tells};

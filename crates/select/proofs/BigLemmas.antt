@@ -11,9 +11,10 @@ use Rattle.select.specs.declared.fault.SelectFault.{SelectFault}
 use Rattle.select.specs.Fault.{IsFull, of_build}
 use Rattle.select.specs.Picked.{picked, picked_at}
 use Rattle.select.proofs.PickLemmas.{picked-more}
+use Rattle.types.specs.Limits.{most_slots}
 
 pub past-more : (m n : ℕ) → m ≤ n → is_past m ≡ true → is_past n ≡ true
-past-more m n le past = lt-ltb 2147483647 n (omega (arith, le, ltb-true 2147483647 m past))
+past-more m n le past = lt-ltb most_slots n (omega (arith, le, ltb-true most_slots m past))
 
 -- texts of the first rows are too many only where those of all are
 pub past-picked : (items : List Item) (picks : List (Option ℕ)) (j : ℕ) (pick : Option ℕ) (old : List Item) (x : Item) → slice_get picks j ≡ Some pick

@@ -1,9 +1,9 @@
 -- Columns one after the other.
-use Rattle.std.proofs.Common.{◌≡◌, ◌∙◌, ℕ, ◌+◌, ◌<◌, ◌≤◌, ◌||◌, ◌⊎◌, inl, inr, List, [], ◌∷◌, ◌++◌, length, take, drop, map, Bool, true, false, cond, Option, None, Some, option_map, Result, IfErr, ap, sym, refl, arith, subst, get_or, append_assoc, append-nil, length-append}
+use Rattle.std.proofs.Common.{◌≡◌, ◌∙◌, ℕ, ◌+◌, ◌<◌, ◌≤◌, ◌||◌, ◌⊎◌, inl, inr, List, [], ◌∷◌, ◌++◌, length, take, drop, map, Bool, true, false, cond, Option, None, Some, Result, IfErr, ap, sym, refl, arith, subst, get_or, append_assoc, append-nil, length-append}
 use Rattle.std.specs.Prelude.{slice_get, All, flat_map, sum_by, unwrap_or}
 use Rattle.std.specs.List.{list_all}
 use Rattle.std.proofs.lemmas.Grind.{flat_map-append}
-use Rattle.std.proofs.lemmas.List.{drop_more, length-map, map-append, take-append-drop, take-map, take_all, take_more}
+use Rattle.std.proofs.lemmas.List.{drop_more, length-map, map-append, take-append-drop, take-map, take_more}
 use Rattle.std.proofs.lemmas.List.Elements.{All-append}
 use Rattle.std.proofs.lemmas.List.Sums.{AllPass-from_list_all, sum_by-append, sum_by-take-le}
 use Rattle.std.proofs.lemmas.Option.{slice_get-get_or}
@@ -11,14 +11,13 @@ use Rattle.std.proofs.lemmas.Result.{IfErr-weaker}
 use Rattle.arrays.specs.Item.{Item, null}
 use Rattle.arrays.specs.Kind as kind
 use Rattle.arrays.specs.Kind.{Kind, same_kind}
-use Rattle.arrays.specs.Lengths.{cut, inner_items, is_past, items_in, list_length, text_bytes, text_length, total}
+use Rattle.arrays.specs.Lengths.{cut, inner_items, is_past, is_too_big, items_in, joined_items, list_length, text_bytes, text_length, total}
 use Rattle.arrays.specs.Seen.{Seen}
 use Rattle.arrays.specs.Shown.{shown}
 use Rattle.layout.proofs.ChildLemmas.{same_kinds}
-use Rattle.select.specs.Big.{is_too_big}
 use Rattle.select.specs.Children.{AreChildren, IsChild, IsInner, IsList}
 use Rattle.select.specs.Fault.{IsFull}
-use Rattle.select.specs.Joined.{concat_fault, is_content_too_big, joined, joined_items, kind_of_first}
+use Rattle.select.specs.Joined.{concat_fault, is_content_too_big, joined, kind_of_first}
 use Rattle.select.specs.declared.fault.SelectFault.{SelectFault}
 use Rattle.select.specs.declared.fault.SelectFault.TheVariants.{TypesDiffer}
 use Rattle.select.proofs.BigLemmas.{past-more}
@@ -177,15 +176,6 @@ All-one : {A : Type 0} (P : A → Type 0) (x : A) → P x → All P (x ∷ [])
 All-one P x h Rattle.std.proofs.Common.zero d below = h
 All-one P x h (Rattle.std.proofs.Common.suc k) d below = absurd (omega (arith, below))
 
-pub AreChildren-none : (k : Kind) (columns : List Seen) → AreChildren k (take 0 columns) []
-AreChildren-none k columns = record {
-  count = refl;
-  kinds = λ k d below. absurd (omega (arith, below));
-  items = refl;
-  lists = λ k d below. absurd (omega (arith, below));
-  inner = λ some. absurd (omega (arith, some));
-}
-
 pub AreChildren-more : (kind : Kind) (columns children more : List Seen) (k : ℕ) (s child : Seen) → k < length columns → s ≡ get_or columns k s
     → AreChildren kind (take k columns) children → IsChild s child → child.kind ≡ kind → more ≡ children ++ child ∷ [] → AreChildren kind (take (k + 1) columns) more
 AreChildren-more kind columns children more k s child below at are is same more_is =
@@ -203,9 +193,6 @@ AreChildren-more kind columns children more k s child below at are is same more_
       lists = subst (All IsList) (sym wider) (All-append IsList (joined_items (take k columns)) s.items are.lists is.lists);
       inner = λ some. subst IsInner same is.inner;
     }
-
-pub AreChildren-all : (kind : Kind) (columns children : List Seen) (k : ℕ) → AreChildren kind (take k columns) children → length columns ≤ k → AreChildren kind columns children
-AreChildren-all kind columns children k are past = subst (λ l. AreChildren kind l children) (take_all k columns past) are
 
 -- ---- kinds
 

@@ -14,8 +14,10 @@ use Rattle.arrays.specs.Number.{IsOfType}
 use Rattle.arrays.specs.Seen.{Seen}
 use Rattle.arrays.specs.Shown.{shown}
 use Rattle.arrays.specs.Kind as kind
-use Rattle.select.specs.Joined.{IsEncoded, joined, joined_codes, joined_entries, joined_items, shifted}
+use Rattle.select.specs.Joined.{IsEncoded, joined, joined_codes, joined_entries, shifted}
+use Rattle.arrays.specs.Lengths.{joined_items}
 use Rattle.select.proofs.ListLemmas.{get_or-map-any}
+use Rattle.types.specs.Limits.{most_slots}
 
 code-below : (n m : ℕ) → is_code n (int (pos m)) ≡ true → m < n
 code-below n m h = ltb-true m n (and_parts (not (nat_lt m 0)) (nat_lt m n) h).1
@@ -32,7 +34,7 @@ encoded-is s is within = record { items = ap (λ (q : Seen). q.items) is; within
 pub code-at : (s codes : Seen) (i : ℕ) (code : Item) → codes ≡ codes_of s → slice_get codes.items i ≡ Some code → slice_get s.codes i ≡ Some code
 code-at s codes i code is at = subst (λ (q : Seen). slice_get q.items i ≡ Some code) is at
 
-pub shifted-fits : (n before : ℕ) (code result : Option ℤ) → is_code n (item_of code) ≡ true → before + n ≤ 2147483647 → item_of result ≡ shifted before (item_of code) → ForSome result (IsOfType int32)
+pub shifted-fits : (n before : ℕ) (code result : Option ℤ) → is_code n (item_of code) ≡ true → before + n ≤ most_slots → item_of result ≡ shifted before (item_of code) → ForSome result (IsOfType int32)
 shifted-fits n before code None names few is x same = cc
 shifted-fits n before None (Some y) names few is x same = cc
 shifted-fits n before (Some (negsuc m)) (Some y) names few is x same = cc
@@ -41,7 +43,7 @@ shifted-fits n before (Some (pos m)) (Some y) names few is x same =
     let here : pos (m + before) ≡ x = one (sym is) ∙ other same in
     subst (IsOfType int32) here fits
   where
-    small : (k : ℕ) → k ≤ 2147483647 → IsOfType int32 (pos k)
+    small : (k : ℕ) → k ≤ most_slots → IsOfType int32 (pos k)
     small k h = omega (arith, ints)
 
     one : {a b : ℤ} → int a ≡ int b → a ≡ b

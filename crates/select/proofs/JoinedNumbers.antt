@@ -26,7 +26,8 @@ use Rattle.arrays.specs.Values.{HasNumbers}
 use Rattle.arrays.proofs.FinishedLemmas.{slot, slots_shown}
 use Rattle.arrays.proofs.PartLemmas.{item_slot}
 use Rattle.arrays.proofs.ValidityLemmas.{kept-ones}
-use Rattle.select.specs.Joined.{AreNumbersOf, AreStarts, IsPlace, TellsNulls, joined_items, joined_valid}
+use Rattle.select.specs.Joined.{AreNumbersOf, IsPlace, TellsNulls, joined_valid}
+use Rattle.arrays.specs.Lengths.{joined_items}
 use Rattle.select.proofs.JoinLemmas.{room-for}
 use Rattle.select.proofs.PickLemmas.{by_place}
 
@@ -183,15 +184,6 @@ pub kept-joined-none : (columns : List Seen) → list_all (λ (s : Seen). not (i
 kept-joined-none columns all = kept-ones (joined_valid columns) (ones-joined columns (AllPass-from_list_all (λ (s : Seen). not (is_some s.validity)) columns all))
 
 -- ---- places
-
-pub AreStarts-more : (columns : List Seen) (k : ℕ) (starts longer : List ℕ) (n : ℕ) → AreStarts columns k starts → n ≡ length (joined_items (take k columns)) → longer ≡ starts ++ n ∷ [] → AreStarts columns (k + 1) longer
-AreStarts-more columns k starts longer n are is grows = record {
-  count = omega (arith, ap length grows, length-append starts (n ∷ []), are.count);
-  each =
-      borrow.Author.Count.below_more (λ i. get_or longer i 0 ≡ length (joined_items (take i columns))) k
-      (λ i below. ap (λ l. get_or l i 0) grows ∙ get_or_append_left starts (n ∷ []) 0 i (omega (arith, below, are.count)) ∙ are.each i below)
-      (ap (λ l. get_or l k 0) grows ∙ ap (λ i. get_or (starts ++ n ∷ []) i 0) (sym are.count) ∙ Rattle.std.proofs.Math.Seq.get_or-append_seam starts n [] 0 ∙ is);
-}
 
 -- a place lies within its column
 pub place-within : (columns : List Seen) (i k j : ℕ) (s : Seen) → IsPlace columns i k j → s ≡ get_or columns k s → j < length s.items

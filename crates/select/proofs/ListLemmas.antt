@@ -12,35 +12,20 @@ use Rattle.std.proofs.lemmas.Option.{get_or_from_slice_get}
 use Rattle.colbits.specs.Slice.{slice}
 use Rattle.arrays.specs.Item.{Item, Items, null, int, boolean, text, list, list_of, items_of}
 use Rattle.arrays.specs.Lengths.{cut, inner_items, is_past, items_in, list_length, total}
-use Rattle.arrays.specs.Offsets.{length_of, of_slot, start_of}
+use Rattle.arrays.specs.Offsets.{of_slot}
 use Rattle.arrays.specs.Seen.{Seen, valid_in}
-use Rattle.arrays.specs.Values.{HasLists}
-use Rattle.arrays.proofs.PartLemmas.{item_slot, null_slot, valid_slot}
+use Rattle.arrays.specs.Values.{HasLists, IsRange, item_of_range}
+use Rattle.arrays.proofs.ListLemmas.{items_of-list_of}
+use Rattle.arrays.proofs.PartLemmas.{item_slot}
 use Rattle.select.specs.declared.fault.SelectFault.{SelectFault}
 use Rattle.select.specs.Children.{IsList}
 use Rattle.select.specs.Fault.{IsFull}
 use Rattle.select.specs.Picked.{picked, picked_at, IsPick}
-use Rattle.select.specs.Ranges.{IsRange, ranged, rows_of}
+use Rattle.select.specs.Ranges.{rows_of}
 use Rattle.select.proofs.PickLemmas.{picked-more}
 use Rattle.select.proofs.BigLemmas.{past-more}
 
--- ---- one list
-
-pub range-item : (offsets : List ℕ) (child s : Seen) (i start count : ℕ) → HasLists offsets child s → i < length s.items → valid_in s.validity i ≡ true
-    → start ≡ start_of offsets i → count ≡ length_of offsets i → list (list_of (slice child.items start count)) ≡ picked_at s.items (Some i)
-range-item offsets child s i start count has below valid start_is count_is =
-    ap (λ a. list (list_of (slice child.items a count))) start_is
-    ∙ ap (λ n. list (list_of (slice child.items (start_of offsets i) n))) count_is
-    ∙ sym (get_or_from_slice_get s.items i (list (list_of (of_slot offsets child.items i))) null (valid_slot _ s i has.lists below valid))
-
-pub range-none : (offsets : List ℕ) (child s : Seen) (i : ℕ) → HasLists offsets child s → i < length s.items → valid_in s.validity i ≡ false → null ≡ picked_at s.items (Some i)
-range-none offsets child s i has below invalid = sym (get_or_from_slice_get s.items i null null (null_slot _ s i has.lists below invalid))
-
 -- ---- the items of a list
-
-pub items_of-list_of : (xs : List Item) → items_of (list_of xs) ≡ xs
-items_of-list_of [] = refl
-items_of-list_of (x ∷ xs) = ap (λ l. x ∷ l) (items_of-list_of xs)
 
 pub list_of-items_of : (xs : Items) → list_of (items_of xs) ≡ xs
 list_of-items_of Items.none = refl
@@ -60,13 +45,13 @@ picked-run items start (suc n) within =
     ∙ ap (slice items start) (sym one)
 
 -- the rows of a range are the items of its list
-pub picked-rows : (items : List Item) (range : Option (ℕ × ℕ)) → IsRange (length items) range → picked items (rows_of range) ≡ items_in (ranged items range)
+pub picked-rows : (items : List Item) (range : Option (ℕ × ℕ)) → IsRange (length items) range → picked items (rows_of range) ≡ items_in (item_of_range items range)
 picked-rows items None within = refl
 picked-rows items (Some r) within = picked-run items r.0 r.1 within ∙ sym (items_of-list_of (slice items r.0 r.1))
 
-pub length-ranged : (items : List Item) (range : Option (ℕ × ℕ)) → IsRange (length items) range → option_map (λ r. r.1) range ≡ list_length (ranged items range)
-length-ranged items None within = refl
-length-ranged items (Some r) within =
+pub length-range : (items : List Item) (range : Option (ℕ × ℕ)) → IsRange (length items) range → option_map (λ r. r.1) range ≡ list_length (item_of_range items range)
+length-range items None within = refl
+length-range items (Some r) within =
     ap Some (sym (ap length (sym (picked-rows items (Some r) within)) ∙ length-map (map (λ i. Some i) (range_with_len r.0 r.1)) (picked_at items) ∙ length-map-range_with_len (λ i. Some i) r.0 r.1))
 
 pub rows-within : (n : ℕ) (range : Option (ℕ × ℕ)) → IsRange n range → All (IsPick n) (rows_of range)
@@ -86,15 +71,8 @@ pub record Spreading (child items : List Item) (picks : List (Option ℕ)) (j : 
   pub rows_are : picked child rows ≡ inner_items (picked items (take j picks))
   pub within : All (IsPick (length child)) rows
 
-pub Spreading-none : (child items : List Item) (picks lengths rows : List (Option ℕ)) → lengths ≡ [] → rows ≡ [] → Spreading child items picks 0 lengths rows
-Spreading-none child items picks lengths rows none no_rows = record {
-  lengths_are = none;
-  rows_are = ap (picked child) no_rows;
-  within = subst (All (IsPick (length child))) (sym no_rows) (λ k d below. absurd (omega (arith, below)));
-}
-
 pub Spreading-more : (child items : List Item) (picks : List (Option ℕ)) (j : ℕ) (pick : Option ℕ) (range : Option (ℕ × ℕ)) (lengths more rows wider : List (Option ℕ))
-    → Spreading child items picks j lengths rows → slice_get picks j ≡ Some pick → ranged child range ≡ picked_at items pick → IsRange (length child) range
+    → Spreading child items picks j lengths rows → slice_get picks j ≡ Some pick → item_of_range child range ≡ picked_at items pick → IsRange (length child) range
     → more ≡ lengths ++ option_map (λ r. r.1) range ∷ [] → wider ≡ rows ++ rows_of range → Spreading child items picks (j + 1) more wider
 Spreading-more child items picks j pick range lengths more rows wider is at item within more_is wider_is =
     let old = picked items (take j picks) in
@@ -104,7 +82,7 @@ Spreading-more child items picks j pick range lengths more rows wider is at item
       lengths_are =
           more_is
           ∙ ap (λ l. l ++ option_map (λ r. r.1) range ∷ []) is.lengths_are
-          ∙ ap (λ y. map list_length old ++ y ∷ []) (length-ranged child range within ∙ ap list_length item)
+          ∙ ap (λ y. map list_length old ++ y ∷ []) (length-range child range within ∙ ap list_length item)
           ∙ sym (map-append list_length old (x ∷ []))
           ∙ ap (map list_length) (sym next);
       rows_are =
@@ -140,7 +118,7 @@ inner-front items picks j =
 
 -- items that are too many with one list more are so among all
 pub past-spread : (child items : List Item) (picks : List (Option ℕ)) (j : ℕ) (pick : Option ℕ) (range : Option (ℕ × ℕ)) (lengths rows : List (Option ℕ))
-    → Spreading child items picks j lengths rows → slice_get picks j ≡ Some pick → ranged child range ≡ picked_at items pick → IsRange (length child) range
+    → Spreading child items picks j lengths rows → slice_get picks j ≡ Some pick → item_of_range child range ≡ picked_at items pick → IsRange (length child) range
     → (is_past (length rows + length (rows_of range)) || is_past (total (lengths ++ option_map (λ r. r.1) range ∷ []))) ≡ true
     → is_past (length (inner_items (picked items picks))) ≡ true
 past-spread child items picks j pick range lengths rows is at item within past =

@@ -20,6 +20,7 @@ use Rattle.arrays.specs.Values.{number_in}
 use Rattle.select.proofs.PickLemmas.{number-row}
 use Rattle.select.proofs.RestLemmas.{below_all}
 use Rattle.select.proofs.SelectionLemmas.{Taken, Taken-more, Taken-none}
+use Rattle.types.specs.Limits.{most_slots}
 
 code_row : (n : ℕ) (z : ℤ) → is_code n (int z) ≡ true → natural z < n
 code_row n (pos m) h = grind (arith, nat_tests, h)
@@ -89,8 +90,8 @@ rows_named-row t bytes validity n j none below =
     ap is_row (get_or-map-range_with_len (row_named t bytes validity) 0 n j j None within (zero-add j)) ∙ row_there t bytes validity j none
 
 -- an index that names a row, as a place
-pub cast_fits : (z : ℤ) → is_code 2147483647 (int z) ≡ true → T (non_neg z) × Fits w64 (nat_abs z)
-cast_fits (pos m) h = let below : m < 2147483647 = code_row 2147483647 (pos m) h in (tt, omega (arith, below))
+pub cast_fits : (z : ℤ) → is_code most_slots (int z) ≡ true → T (non_neg z) × Fits w64 (nat_abs z)
+cast_fits (pos m) h = let below : m < most_slots = code_row most_slots (pos m) h in (tt, omega (arith, below))
 cast_fits (negsuc m) h = cc
 
 pub cast_is : (n : ℕ) (z : ℤ) → is_code n (int z) ≡ true → nat_abs z ≡ natural z

@@ -1,10 +1,10 @@
 -- Picked rows.
-use Rattle.std.proofs.Common.{◌≡◌, ◌∙◌, ℕ, ◌+◌, ◌<◌, ◌≤◌, ℤ, List, [], ◌∷◌, ◌++◌, length, take, map, Bool, true, false, cond, Option, None, Some, ap, sym, refl, arith, get_or, zero-add}
+use Rattle.std.proofs.Common.{◌≡◌, ◌∙◌, ℕ, ◌+◌, ◌<◌, ◌≤◌, ℤ, List, [], ◌∷◌, ◌++◌, length, take, map, Bool, Option, None, Some, ap, sym, refl, get_or, zero-add}
 use Rattle.std.specs.Prelude.{slice_get, All}
 use Rattle.std.proofs.lemmas.List.{map-append, take_more, take_all}
 use Rattle.std.specs.List.{range_with_len}
 use Rattle.std.proofs.lemmas.Simd.{map-map}
-use Rattle.arrays.proofs.ListLemmas.{map-range-below}
+use Rattle.layout.proofs.ListLemmas.{map-range-below}
 use Rattle.std.proofs.lemmas.List.FromFn.{fill_by_all}
 use Rattle.std.proofs.lemmas.Option.{slice_get_within, get_or_from_slice_get}
 use Rattle.types.specs.declared.int_type.IntType.{IntType}

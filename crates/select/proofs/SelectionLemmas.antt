@@ -1,7 +1,7 @@
 -- Rows that a mask or indices pick.
 use Rattle.std.proofs.Common.{◌≡◌, ◌∙◌, ℕ, zero, suc, ◌+◌, ◌<◌, ◌≤◌, ◌&&◌, ◌⊎◌, inl, inr, List, [], ◌∷◌, ◌++◌, length, take, map, filter, zip, position, Bool, true, false, not, cond, Option, None, Some, option_map, ap, sym, refl, arith, subst, get_or, append-nil, zero-add}
 use Rattle.std.specs.Prelude.{slice_get, All}
-use Rattle.std.specs.List.{position_or_len, range_with_len}
+use Rattle.std.specs.List.{range_with_len}
 use Rattle.std.specs.Prelude.{◌==◌}
 use Rattle.std.proofs.lemmas.Bool.{cases_lt, lt-ltb, le-ltb}
 use Rattle.std.proofs.lemmas.List.{map-append, take_all, length-take-le, get_or_past}
@@ -21,7 +21,8 @@ use Rattle.arrays.specs.Values.{HasBits}
 use Rattle.arrays.proofs.PartLemmas.{item_slot}
 use Rattle.select.specs.Masked.{AreTrue}
 use Rattle.select.specs.Picked.{picked, picked_at, rows_of_ones, rows_where, IsPick}
-use Rattle.select.specs.Selection.{filter_fault, indices_fault, is_int, is_true, kept, outside, take_fault, taken}
+use Rattle.select.specs.Selection.{filter_fault, indices_fault, is_true, kept, outside, take_fault, taken}
+use Rattle.arrays.specs.Slot.{is_int}
 use Rattle.select.specs.declared.fault.SelectFault.TheVariants.{IndexOutOfRange, LengthsDiffer, WrongKind}
 use Rattle.select.proofs.PickLemmas.{take-one}
 use Rattle.select.proofs.OnesLemmas.{rows_where-more, rows_where-nothing}

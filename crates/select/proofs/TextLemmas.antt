@@ -14,7 +14,7 @@ use Rattle.arrays.specs.Growing.{AreLaid, AreTextsOf, IsText, cut_texts}
 use Rattle.arrays.specs.Item.{Item, null, int, boolean, text, list}
 use Rattle.arrays.specs.Kind as kind
 use Rattle.arrays.specs.Lengths.{is_past, text_bytes, text_length, total}
-use Rattle.arrays.specs.Offsets.{AreOffsets, of_slot}
+use Rattle.arrays.specs.Offsets.{AreOffsetBytes, of_slot}
 use Rattle.arrays.specs.Packed.{IsBufferOf}
 use Rattle.arrays.specs.Seen.{Seen, valid_in}
 use Rattle.arrays.specs.Shown.{kept, shown}
@@ -29,6 +29,7 @@ use Rattle.select.specs.Texts.{AreOffsetsOf, all_bytes, bytes_in, is_held, text_
 use Rattle.select.proofs.BigLemmas.{past-picked}
 use Rattle.select.proofs.ListLemmas.{drop-front, get_or-map-any, take-front}
 use Rattle.select.proofs.PickLemmas.{by_place}
+use Rattle.types.specs.Limits.{most_slots}
 
 -- ---- one text more
 
@@ -44,7 +45,7 @@ pub offsets-none : (offsets : List ℕ) → offsets ≡ 0 ∷ 0 ∷ 0 ∷ 0 ∷ 
 offsets-none offsets is = record { fresh = fresh-none [] offsets refl is; sizes = lengths-none [] offsets refl }
 
 pub offsets-more : (items longer : List Item) (offsets more : List ℕ) (end size : ℕ) (o : Option (List ℕ)) (x : Item) → AreOffsetsOf items offsets end → x ≡ item_of_text o → longer ≡ items ++ x ∷ []
-    → size ≡ text_length x → end + size ≤ 2147483647 → more ≡ offsets ++ bytes_of_number int32 (pos (end + size)) → AreOffsetsOf longer more (end + size)
+    → size ≡ text_length x → end + size ≤ most_slots → more ≡ offsets ++ bytes_of_number int32 (pos (end + size)) → AreOffsetsOf longer more (end + size)
 offsets-more items longer offsets more end size o x are is longer_is size_is short more_is =
     let slot = text_size (item_of_text o) in
     let flags : map is_held longer ≡ map is_held items ++ is_held (item_of_text o) ∷ [] =
@@ -154,11 +155,11 @@ end-bytes items offsets end are = sizes_bytes items ∙ ap total (sym are.sizes)
 
 -- texts that are too many with one more are so among all
 pub past-offsets : (items : List Item) (picks : List (Option ℕ)) (j : ℕ) (pick : Option ℕ) (offsets : List ℕ) (end size : ℕ) (x : Item) → slice_get picks j ≡ Some pick
-    → AreOffsetsOf (picked items (take j picks)) offsets end → x ≡ picked_at items pick → size ≡ text_length x → 2147483647 < end + size → is_past (text_bytes (picked items picks)) ≡ true
+    → AreOffsetsOf (picked items (take j picks)) offsets end → x ≡ picked_at items pick → size ≡ text_length x → most_slots < end + size → is_past (text_bytes (picked items picks)) ≡ true
 past-offsets items picks j pick offsets end size x at are is size_is past =
     let old = picked items (take j picks) in
     past-picked items picks j pick old x at refl is
-    (lt-ltb 2147483647 (text_bytes (old ++ x ∷ [])) (omega (arith, past, size_is, end-bytes old offsets end are, sum_by_push text_length old x)))
+    (lt-ltb most_slots (text_bytes (old ++ x ∷ [])) (omega (arith, past, size_is, end-bytes old offsets end are, sum_by_push text_length old x)))
 
 -- ---- the finished column
 
@@ -170,13 +171,13 @@ plain_text (text t) h = h
 plain_text (list xs) h = tt
 
 pub record AreFinished (items : List Item) (n : ℕ) (validity : Option (List ℕ)) (offsets bytes : List ℕ) : Type 0 where
-  pub bounds : AreOffsets n offsets (length bytes)
+  pub bounds : AreOffsetBytes n offsets (length bytes)
   pub texts : AreTexts n validity offsets bytes
   pub long : is_validity_short n validity ≡ false
   pub shows : show_texts n validity offsets bytes ≡ shown kind.utf8 items
 
 pub texts_finished : (items : List Item) (n end : ℕ) (offsets laid_offsets bytes laid_bytes : List ℕ) (validity : Option (List ℕ)) → AreOffsetsOf items offsets end → All IsTextItem items
-    → n ≡ length items → n ≤ 2147483647 → IsBufferOf validity (kept (map is_held items)) → laid_offsets ≡ offsets → bytes ≡ all_bytes items → laid_bytes ≡ bytes
+    → n ≡ length items → n ≤ most_slots → IsBufferOf validity (kept (map is_held items)) → laid_offsets ≡ offsets → bytes ≡ all_bytes items → laid_bytes ≡ bytes
     → AreFinished items n validity laid_offsets laid_bytes
 texts_finished items n end offsets laid_offsets bytes laid_bytes validity are all count short holds offsets_are bytes_are laid_are =
     let sizes = map text_size items in
@@ -187,14 +188,14 @@ texts_finished items n end offsets laid_offsets bytes laid_bytes validity are al
     let whole : total sizes ≡ length laid_bytes = total-sizes items ∙ ap length (sym held) in
     let texts : AreTextsOf sizes laid_bytes = record { whole = whole; utf8 = subst (λ (l : List Item). All IsText l) (sym again) (λ k d below. plain_text (get_or items k d) (all k d below)) } in
     record {
-      bounds = subst (AreOffsets n laid_offsets) whole lay.bounds;
+      bounds = subst (AreOffsetBytes n laid_offsets) whole lay.bounds;
       texts = texts-laid sizes n validity laid_offsets laid_bytes lay texts;
       long = lay.long;
       shows = shown-texts sizes n validity laid_offsets laid_bytes lay ∙ ap (shown kind.utf8) again;
     }
 
 pub texts_done : (starts content : List ℕ) (s : Seen) (picks : List (Option ℕ)) (n end : ℕ) (offsets laid_offsets bytes laid_bytes : List ℕ) (seen : Option (List Bool)) (validity : Option (List ℕ))
-    → HasTexts starts content s → All (IsPick (length s.items)) picks → AreOffsetsOf (picked s.items picks) offsets end → n ≡ length picks → n ≤ 2147483647 → seen ≡ s.validity
+    → HasTexts starts content s → All (IsPick (length s.items)) picks → AreOffsetsOf (picked s.items picks) offsets end → n ≡ length picks → n ≤ most_slots → seen ≡ s.validity
     → IsBufferOf validity (kept (map (λ j. is_stored seen (get_or picks j None)) (range_with_len 0 (length picks)))) → laid_offsets ≡ offsets → bytes ≡ all_bytes (picked s.items picks) → laid_bytes ≡ bytes
     → AreFinished (picked s.items picks) n validity laid_offsets laid_bytes
 texts_done starts content s picks n end offsets laid_offsets bytes laid_bytes seen validity has within are count short same holds offsets_are bytes_are laid_are =

@@ -4,9 +4,8 @@ use Rattle.std.specs.List.{All}
 use Rattle.arrays.specs.Item.{Item, null, list}
 use Rattle.arrays.specs.Kind as kind
 use Rattle.arrays.specs.Kind.{Kind, dict, depth, same_kind}
-use Rattle.arrays.specs.Lengths.{inner_items}
+use Rattle.arrays.specs.Lengths.{inner_items, joined_items}
 use Rattle.arrays.specs.Seen.{Seen}
-use Rattle.select.specs.Joined.{joined_items}
 
 -- A list, or null.
 abbrev pub IsList : Item → Type 0

@@ -5,17 +5,12 @@ use Rattle.types.specs.declared.int_type.IntType.{IntType}
 use Rattle.arrays.specs.Dictionary.{entries_shown, is_code, looked_up}
 use Rattle.arrays.specs.Item.{Item, int, is_null, null}
 use Rattle.arrays.specs.Kind.{Kind, bytes_of, dict, same_kind, utf8}
-use Rattle.arrays.specs.Lengths.{is_past}
+use Rattle.arrays.specs.Lengths.{is_past, is_too_big, joined_items}
 use Rattle.arrays.specs.Number.{number_at}
 use Rattle.arrays.specs.Seen.{Seen, valid_at}
 use Rattle.arrays.specs.Shown.{shown, validity_of}
-use Rattle.select.specs.Big.{is_too_big}
 use Rattle.select.specs.declared.fault.SelectFault.{SelectFault}
 use Rattle.select.specs.declared.fault.SelectFault.TheVariants.{TypesDiffer}
-
--- The items of all columns.
-abbrev pub joined_items : List Seen → List Item
-joined_items columns = flat_map (λ s. s.items) columns
 
 -- Which slots of all columns are valid, by their validity alone.
 abbrev pub joined_valid : List Seen → List Bool

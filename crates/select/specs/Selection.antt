@@ -1,11 +1,12 @@
 -- Selection: the items at indices, and those where a mask is true.
-use Rattle.std.specs.Prelude.{ℕ, ◌==◌, List, map, filter, zip, length, position, Bool, true, false, not, Option, Some, None, option_map, if◌then◌else◌}
+use Rattle.std.specs.Prelude.{ℕ, ◌==◌, List, map, filter, zip, length, position, Bool, false, not, Option, Some, None, option_map, if◌then◌else◌}
 use Rattle.arrays.specs.Item as item
 use Rattle.arrays.specs.Item.{Item}
 use Rattle.arrays.specs.Kind as kind
-use Rattle.arrays.specs.Kind.{Kind, same_kind}
+use Rattle.arrays.specs.Kind.{same_kind}
 use Rattle.arrays.specs.Dictionary.{is_code, looked_up}
 use Rattle.arrays.specs.Seen.{Seen}
+use Rattle.arrays.specs.Slot.{is_int}
 use Rattle.select.specs.declared.fault.SelectFault.{SelectFault}
 use Rattle.select.specs.declared.fault.SelectFault.TheVariants.{WrongKind, LengthsDiffer, IndexOutOfRange}
 
@@ -22,10 +23,6 @@ abbrev pub kept : List Item → List Item → List Item
 kept items mask = map (λ p. p.0) (filter (λ p. is_true p.1) (zip items mask))
 
 -- ---- what is refused
-
-abbrev pub is_int : Kind → Bool
-is_int (kind.int t) = true
-is_int k = false
 
 -- The indices are no integers.
 abbrev pub indices_fault : Seen → Option SelectFault

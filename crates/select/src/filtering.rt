@@ -1,9 +1,9 @@
 //! The rows of a view where a mask is true.
 
-ghost use Rattle.std.specs.Prelude.{◌≡◌, ◌<◌, ◌&&◌, None, true, length, IfErr, IfOk};
+ghost use Rattle.std.specs.Prelude.{◌≡◌, ◌<◌, ◌&&◌, None, length, IfErr, IfOk};
 ghost use Rattle.colbits.specs.Bitmap.{bit_of};
 ghost use Rattle.arrays.specs.Kind as kind;
-ghost use Rattle.select.specs.Big.{is_too_big};
+ghost use Rattle.arrays.specs.Lengths.{is_too_big};
 ghost use Rattle.select.specs.Chosen.{chosen};
 ghost use Rattle.select.specs.Fault.{IsFull, IsSelectFault};
 ghost use Rattle.select.specs.Masked.{AreTrue};

@@ -5,7 +5,7 @@ ghost use Rattle.std.specs.List.{All};
 ghost use Rattle.arrays.specs.Kind as kind;
 ghost use Rattle.arrays.specs.Kind.{same_kind};
 ghost use Rattle.arrays.specs.Slot.{is_list};
-ghost use Rattle.select.specs.Big.{is_too_big};
+ghost use Rattle.arrays.specs.Lengths.{is_too_big};
 ghost use Rattle.select.specs.Chosen.{chosen};
 ghost use Rattle.select.specs.Fault.{IsFull};
 ghost use Rattle.select.specs.Picked.{IsPick, picked};
@@ -37,7 +37,7 @@ pub(crate) fn gather<R: Rows>(
     match view.ty() {
         ViewType::List(item) => {
             let lists = view.lists();
-            let spread = spread_out(alloc, view, &lists, rows)?;
+            let spread = spread_out(alloc, &lists, rows)?;
             let child = gather_picks(alloc, &lists.child, &spread.rows)?;
             Ok(spread.lengths.finish(item.copy(alloc)?, child)?)
         }
@@ -60,7 +60,7 @@ pub(crate) fn gather_picks(
     match view.ty() {
         ViewType::List(item) => {
             let lists = view.lists();
-            let spread = spread_out(alloc, view, &lists, picks)?;
+            let spread = spread_out(alloc, &lists, picks)?;
             let child = gather_picks(alloc, &lists.child, &spread.rows)?;
             Ok(spread.lengths.finish(item.copy(alloc)?, child)?)
         }

@@ -9,6 +9,7 @@ ghost use Rattle.arrays.specs.Slot.{item_of};
 ghost use Rattle.select.specs.Named.{IsLeastOutside, NameRows, rows_named};
 ghost use Rattle.select.specs.Picked.{IsPick, picked};
 ghost use Rattle.select.specs.Selection.{outside, taken};
+ghost use Rattle.types.specs.Limits.{most_slots};
 
 use crate::fault::SelectFault;
 use crate::rows::{Place, Rows};
@@ -22,6 +23,7 @@ pub(crate) struct Indices<'a, T: Integer> {
 }
 
 impl<'a, T: Integer> Model for Indices<'a, T> {
+    ghost use Rattle.types.specs.Limits.{most_slots};
     ghost use Rattle.std.specs.Prelude.{ℕ, List, Option};
     ghost use Rattle.select.specs.Named.{NameRows, rows_named};
 
@@ -29,14 +31,14 @@ impl<'a, T: Integer> Model for Indices<'a, T> {
 
     ghost view = { λ r. rows_named T.ty r.numbers.values.now r.numbers.validity r.numbers.slots };
 
-    ghost invariant = { λ r. NameRows T.ty r.numbers.values.now r.numbers.validity 2147483647 r.numbers.slots };
+    ghost invariant = { λ r. NameRows T.ty r.numbers.values.now r.numbers.validity most_slots r.numbers.slots };
 }
 
 impl<'a, T: Integer> Indices<'a, T> {
     /// Those of a view, each of which is null or names one of `len` rows.
     pub(crate) fn of(indices: &View<'a>, len: usize) -> Result<Indices<'a, T>, SelectFault>
         requires kind { indices.now.kind ≡ kind.int T.ty }
-        requires short { len ≤ 2147483647 }
+        requires short { len ≤ most_slots }
         ensures inside { IfOk result (λ r. outside len indices.now.items ≡ None) }
         ensures rows { IfOk result (λ r. (items : List Item) → picked items r ≡ taken items indices.now.items) }
         ensures within { IfOk result (λ r. All (IsPick len) r) }
@@ -51,7 +53,7 @@ impl<'a, T: Integer> Indices<'a, T> {
 
     /// The rows that numbers name.
     fn new(numbers: Ints<'a, T>) -> Indices<'a, T>
-        requires { NameRows T.ty numbers.values.now numbers.validity 2147483647 numbers.slots }
+        requires { NameRows T.ty numbers.values.now numbers.validity most_slots numbers.slots }
         ensures { result ≡ rows_named T.ty numbers.entry.values.now numbers.entry.validity numbers.entry.slots }
     {
         Indices { numbers }

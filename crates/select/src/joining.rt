@@ -3,11 +3,12 @@
 ghost use Rattle.std.specs.Prelude.{◌≡◌, ◌≤◌, None, length, true, IfErr, IfNone, IfOk, IfSome};
 ghost use Rattle.std.specs.List.{All, list_all};
 ghost use Rattle.arrays.specs.Kind.{same_kind};
-ghost use Rattle.arrays.specs.Lengths.{is_past};
+ghost use Rattle.arrays.specs.Lengths.{is_past, joined_items};
 ghost use Rattle.arrays.specs.Seen.{Seen};
 ghost use Rattle.arrays.specs.ViewType.{view_kind};
 ghost use Rattle.select.specs.Fault.{IsFull, IsSelectFault};
-ghost use Rattle.select.specs.Joined.{concat_fault, is_content_too_big, is_joined_too_big, joined, joined_items, kind_of_first};
+ghost use Rattle.select.specs.Joined.{concat_fault, is_content_too_big, is_joined_too_big, joined, kind_of_first};
+ghost use Rattle.types.specs.Limits.{most_slots};
 
 mod bools;
 mod dicts;
@@ -19,9 +20,7 @@ mod valid;
 use crate::fault::SelectFault;
 use arrays::{Array, View, ViewType};
 use std::alloc::Global;
-
-/// The most slots that an array may have.
-const MOST: usize = 2147483647;
+use types::MOST_SLOTS;
 
 /// The items of all views, one view after the other. Dictionaries come one after the other too, and codes name their
 /// entries there, so that doubles may stand among them. `TypesDiffer` unless all views are of one type. `OffsetsFull`
@@ -52,13 +51,13 @@ fn are_of(ty: ViewType<'_>, views: &[View<'_>]) -> bool
 
 /// How many slots views have together, none where it is more than an array may have.
 fn slots_of(views: &[View<'_>]) -> Option<usize>
-    ensures some { IfSome result (λ n. (n ≡ length (joined_items views.now)) × (n ≤ 2147483647)) }
+    ensures some { IfSome result (λ n. (n ≡ length (joined_items views.now)) × (n ≤ most_slots)) }
     ensures none { IfNone result (is_past (length (joined_items views.now)) ≡ true) }
 {
     let mut slots = 0;
     for view in views {
         slots += view.slots() as usize;
-        if slots > MOST {
+        if slots > MOST_SLOTS {
             return None;
         }
     }
@@ -75,7 +74,7 @@ fn join(
     requires some { 1 ≤ length views.now }
     requires kinds { All (λ (s : Seen). s.kind ≡ view_kind ty) views.now }
     requires slots { slots ≡ length (joined_items views.now) }
-    requires short { slots ≤ 2147483647 }
+    requires short { slots ≤ most_slots }
     ensures ok { IfOk result (λ r. r ≡ joined (view_kind ty.entry) views.now) }
     ensures err { IfErr result (IsFull (is_content_too_big (view_kind ty.entry) views.now)) }
 {

@@ -4,15 +4,14 @@ ghost use Rattle.std.specs.Prelude.{◌≡◌, ℕ, ◌+◌, ◌<◌, ◌≤◌,
 ghost use Rattle.std.specs.List.{range_with_len};
 ghost use Rattle.arrays.specs.Lengths.{is_past};
 ghost use Rattle.select.specs.Fault.{IsFull};
+ghost use Rattle.types.specs.Limits.{most_slots};
 
 use crate::fault::SelectFault;
 use crate::rows::{Place, Rows};
 use colbits::NoMemory;
 use std::alloc::Global;
 use std::marker::Model;
-
-/// The most slots that an array may have.
-const MOST: usize = 2147483647;
+use types::MOST_SLOTS;
 
 /// What is kept for no row.
 const NONE: u32 = u32::MAX;
@@ -24,6 +23,7 @@ pub(crate) struct Picks {
 }
 
 impl Model for Picks {
+    ghost use Rattle.types.specs.Limits.{most_slots};
     ghost use Rattle.std.specs.Prelude.{ℕ, ◌≤◌, List, Option, map, length};
     ghost use Rattle.select.specs.Picked.{pick_of};
 
@@ -31,7 +31,7 @@ impl Model for Picks {
 
     ghost view = { λ p. map pick_of p.rows.items };
 
-    ghost invariant = { λ p. length p.rows.items ≤ 2147483647 };
+    ghost invariant = { λ p. length p.rows.items ≤ most_slots };
 }
 
 impl Picks {
@@ -47,7 +47,7 @@ impl Picks {
     /// How many slots there are.
     fn len(&self) -> usize
         ensures count { result ≡ length self.now }
-        ensures short { result ≤ 2147483647 }
+        ensures short { result ≤ most_slots }
     {
         self.rows.len()
     }
@@ -57,7 +57,7 @@ impl Picks {
     fn get(&self, j: usize) -> Option<usize>
         requires { j < length self.now }
         ensures row { slice_get self.now j ≡ Some result }
-        ensures short { j < 2147483647 }
+        ensures short { j < most_slots }
     {
         let row = self.rows[j];
         if row == NONE {
@@ -70,8 +70,8 @@ impl Picks {
     /// Adds a slot at the end.
     #[inline(always)]
     fn push(&mut self, pick: Option<usize>) -> Result<(), NoMemory>
-        requires room { length self.old < 2147483647 }
-        requires small { IfSome pick (λ i. i < 2147483647) }
+        requires room { length self.old < most_slots }
+        requires small { IfSome pick (λ i. i < most_slots) }
         ensures ok { OnOk result (self.new ≡ self.old ++ pick ∷ []) }
         ensures err { OnErr result (self.new ≡ self.old) }
     {
@@ -85,11 +85,11 @@ impl Picks {
 
     /// Adds a slot for each of so many neighbouring rows.
     pub(crate) fn push_run(&mut self, start: usize, count: usize) -> Result<(), SelectFault>
-        requires { start + count ≤ 2147483647 }
+        requires { start + count ≤ most_slots }
         ensures ok { OnOk result (self.new ≡ self.old ++ map (λ i. Some i) (range_with_len start count)) }
         ensures err { IfErr result (IsFull (is_past (length self.old + count))) }
     {
-        if count > MOST - self.len() {
+        if count > MOST_SLOTS - self.len() {
             return Err(SelectFault::OffsetsFull);
         }
         for i in start..start + count {

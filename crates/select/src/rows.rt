@@ -2,6 +2,7 @@
 
 ghost use Rattle.std.specs.Prelude.{◌≡◌, ℕ, ◌<◌, ◌≤◌, ◌∷◌, None, true, drop, length, slice_index_or, Some, IsTrue};
 ghost use Rattle.select.specs.Picked.{first_rows, is_row};
+ghost use Rattle.types.specs.Limits.{most_slots};
 
 /// How far rows are told.
 #[derive(Clone, Copy)]
@@ -26,7 +27,7 @@ pub(crate) trait Rows {
     /// How many slots there are.
     fn slots(&self) -> u32
         ensures count { result ≡ length (picks self.now) }
-        ensures short { result ≤ 2147483647 };
+        ensures short { result ≤ most_slots };
 
     /// Whether there is a row for each slot.
     fn are_rows(&self) -> bool
@@ -46,13 +47,13 @@ pub(crate) trait Rows {
 #[derive(Drop)]
 pub(crate) struct FirstRows {
     count: u32,
-    ghost short: { count ≤ 2147483647 },
+    ghost short: { count ≤ most_slots },
 }
 
 impl FirstRows {
     /// So many.
     pub(crate) fn new(count: u32) -> FirstRows
-        requires { count ≤ 2147483647 }
+        requires { count ≤ most_slots }
         ensures { result.count ≡ count }
     {
         FirstRows { count }

@@ -2,7 +2,7 @@
 
 ghost use Rattle.std.specs.Prelude.{◌≡◌, None, IfErr, IfOk};
 ghost use Rattle.arrays.specs.Kind as kind;
-ghost use Rattle.select.specs.Big.{is_too_big};
+ghost use Rattle.arrays.specs.Lengths.{is_too_big};
 ghost use Rattle.select.specs.Chosen.{chosen};
 ghost use Rattle.select.specs.Fault.{IsSelectFault};
 ghost use Rattle.select.specs.Selection.{indices_fault, take_fault, taken};

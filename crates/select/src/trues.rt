@@ -2,6 +2,7 @@
 
 ghost use Rattle.std.specs.Prelude.{◌≡◌, ◌<◌, ◌≤◌, true, count_by, length};
 ghost use Rattle.select.specs.Picked.{ones_left, rows_of_ones};
+ghost use Rattle.types.specs.Limits.{most_slots};
 
 use crate::rows::{Place, Rows};
 use colbits::Bits;
@@ -12,13 +13,13 @@ pub(crate) struct Trues<'a> {
     bits: Bits<'a>,
     ones: u32,
     ghost counted: { ones ≡ count_by (λ b. b) bits },
-    ghost short: { length bits ≤ 2147483647 },
+    ghost short: { length bits ≤ most_slots },
 }
 
 impl<'a> Trues<'a> {
     /// Those of the bits, which are counted.
     pub(crate) fn of(bits: Bits<'a>) -> Trues<'a>
-        requires { length bits ≤ 2147483647 }
+        requires { length bits ≤ most_slots }
         ensures { result.bits ≡ bits.entry }
     {
         let ones = bits.count_ones();

@@ -6,7 +6,7 @@ ghost use Rattle.arrays.specs.Batch.{rows_of};
 ghost use Rattle.std.specs.Arc.{arc_value};
 ghost use Rattle.shared.specs.Missing.{AllThere};
 ghost use Rattle.shared.specs.Balance.{IsOfWorkers};
-ghost use Rattle.shared.specs.Hand.{HasAdded, HasSeen, IsPartOf, IsWhole, calls_of_hand, having_seen, rows_of_hand};
+ghost use Rattle.shared.specs.Hand.{HasAdded, HasSeen, IsPartOf, IsWhole, calls_of_hand, rows_of_hand};
 ghost use Rattle.table.specs.Cause.{IsLegal, batch_cause, early_cause};
 ghost use Rattle.table.specs.Compacted.{IsCompacted};
 ghost use Rattle.table.specs.Contents.{Contents, admitted};

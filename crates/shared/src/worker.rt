@@ -1,9 +1,9 @@
 //! Those who append to a table.
 
-ghost use Rattle.std.specs.Prelude.{◌≡◌, ◌+◌, ◌-◌, ◌<◌, ◌^◌, ◌++◌, ◌∷◌, [], IfOk, None, OnOk, Some, length, MatchBool};
+ghost use Rattle.std.specs.Prelude.{◌≡◌, ◌+◌, ◌-◌, ◌<◌, ◌^◌, ◌++◌, ◌∷◌, [], IfOk, None, OnOk, Some, length};
 ghost use mathlib.Core.List.{IsPrefix};
 ghost use Rattle.arrays.specs.Batch.{rows_of};
-ghost use Rattle.shared.specs.Hand.{AreNew, Hand, IsLeft, IsNew, IsPartOf, IsRaised, calls_of_hand, having_added, having_seen, rows_of_hand};
+ghost use Rattle.shared.specs.Hand.{AreNew, Hand, IsLeft, IsNew, IsPartOf, calls_of_hand, having_added, having_seen, rows_of_hand};
 ghost use Rattle.table.specs.Cause.{IsLegal};
 
 use crate::naming::{Accepted, Event, Naming};

@@ -15,6 +15,7 @@ use Rattle.pool.proofs.PlaceLemmas.{among_found, among_missing}
 use Rattle.std.proofs.lemmas.Simd.{map-map}
 use Rattle.std.specs.Option.{option_or}
 use Rattle.table.specs.Columns.{HasColumns}
+use Rattle.types.specs.Limits.{most_slots}
 
 pub map-same : {A B : Type 0} (f g : A → B) → ((x : A) → f x ≡ g x) → (xs : List A) → map f xs ≡ map g xs
 map-same f g h [] = refl
@@ -78,13 +79,13 @@ right-length false l h = (refl, h)
 pub record Whole (fields : List FieldShape) (n : ℕ) (columns : List Seen) : Type 0 where
   pub count : length columns ≡ length fields
   pub kinds : list_any wrong_kind (zip columns fields) ≡ false
-  pub small : nat_lt 2147483647 n ≡ false
+  pub small : nat_lt most_slots n ≡ false
   pub long : list_any (λ (c : Seen). not (eqb (length c.items) n)) columns ≡ false
 
 pub whole : (fields : List FieldShape) (n : ℕ) (columns : List Seen) → batch_fault fields n columns ≡ None → Whole fields n columns
 whole fields n columns lawful =
     let parts = no-fault (eqb (length columns) (length fields)) (differing_type fields columns) (bad_length n columns) lawful in
-    let lengths = right-length (nat_lt 2147483647 n) (differing_length n columns) parts.2 in
+    let lengths = right-length (nat_lt most_slots n) (differing_length n columns) parts.2 in
     record {
       count = eqb-true (length columns) (length fields) parts.0;
       kinds = among_missing wrong_kind (zip columns fields) parts.1;

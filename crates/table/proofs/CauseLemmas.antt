@@ -3,7 +3,7 @@ use Rattle.std.proofs.Common.{◌≡◌, ◌∙◌, ◌||◌, ℕ, ◌+◌, ◌-
 use Rattle.std.specs.Prelude.{string_bytes}
 use Rattle.std.specs.List.{zip}
 use Rattle.std.specs.Str.{bytes_eq}
-use Rattle.std.proofs.lemmas.Bool.{eqb-true, ne_eqb}
+use Rattle.std.proofs.lemmas.Bool.{ne_eqb}
 use Rattle.arrays.specs.Batch.{Batch, batch_fault, rows_of, Table}
 use Rattle.arrays.specs.Kind.{kind_of, same_kind}
 use Rattle.arrays.specs.Seen.{Seen}
@@ -66,14 +66,6 @@ difference-many stored handed k none other size =
     ap (λ o. first (o ∷ (cond (eqb (length stored) (length handed)) None (Some (length (zip stored handed)))) ∷ [])) none
     ∙ ap (λ b. first (None ∷ cond b None (Some (length (zip stored handed))) ∷ [])) (ne_eqb (length stored) (length handed) other)
     ∙ ap (λ n. Some n) size
-
--- where nothing differs there are as many fields
-pub same_count : (stored handed : List FieldShape) → difference stored handed ≡ None → length stored ≡ length handed
-same_count stored handed none = go (position differs (zip stored handed)) (eqb (length stored) (length handed)) refl none where
-  go : (o : Option ℕ) (b : Bool) → eqb (length stored) (length handed) ≡ b → first (o ∷ cond b None (Some (length (zip stored handed))) ∷ []) ≡ None → length stored ≡ length handed
-  go (Some c) b is h = absurd cc
-  go None false is h = absurd cc
-  go None true is h = eqb-true (length stored) (length handed) is
 
 -- ---- one refusal after the other
 

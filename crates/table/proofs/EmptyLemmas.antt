@@ -19,7 +19,8 @@ use Rattle.table.specs.Cause.{IsLegal}
 use Rattle.table.specs.Contents.{Contents}
 use Rattle.table.specs.Held.{IsHeld, batches_of, book_of, dictionaries_in, pair_of, pieces_in, show}
 use Rattle.table.specs.History.{History, cut}
-use Rattle.table.specs.Lawful.{AreStatsOf, LawfulTable, counted, dictionaries_of, dictionary_in, table_of, texts_in}
+use Rattle.table.specs.Lawful.{LawfulTable, counted, dictionaries_of, dictionary_in, table_of, texts_in}
+use Rattle.compaction.specs.Statistics.{AreStatsOf}
 use Rattle.table.specs.Ready.{AreTexts}
 use Rattle.table.specs.Stored.{is_text_field, stored_field, stored_fields}
 use Rattle.table.specs.declared.held.Held.{Held}

@@ -32,6 +32,7 @@ use Rattle.table.specs.declared.held.Held.{Held}
 use Rattle.table.proofs.BatchLemmas.{faultless, length-rows_of, map-same, neither, not-false, sizes, whole, wrong_kind}
 use Rattle.table.proofs.HeldLemmas.{length-book}
 use Rattle.table.proofs.TableLemmas.{counted-push, table_of-push}
+use Rattle.types.specs.Limits.{most_slots}
 
 abbrev pub Shared : Type 0
 Shared = Arc Batch Global
@@ -79,10 +80,6 @@ rows_before-next batches i b below =
     ∙ ap (λ (t : Table). length t) (table_of-push (take i batches) one)
     ∙ length-append (table_of (take i batches)) (rows_of one)
     ∙ ap (λ n. rows_before batches i + n) (length-rows_of one)
-
--- all batches have the rows of the table
-pub rows_before-all : (batches : List Batch) (i : ℕ) → length batches ≤ i → rows_before batches i ≡ length (table_of batches)
-rows_before-all batches i over = ap (λ (l : List Batch). length (table_of l)) (take_all i batches over)
 
 -- the same of shared batches
 pub rows_before-shared : (batches : List Shared) (i : ℕ) (x : Shared) (n : ℕ) → i < length batches → x ≡ get_or batches i x → n ≡ (arc_value x).rows
@@ -187,7 +184,7 @@ part-lawful b start n within lawful =
       long = lengths-copied start n b.rows b.columns within is.long;
     })
   where
-    smaller : (rows : ℕ) → nat_lt 2147483647 rows ≡ false → n ≤ rows → nat_lt 2147483647 n ≡ false
+    smaller : (rows : ℕ) → nat_lt most_slots rows ≡ false → n ≤ rows → nat_lt most_slots n ≡ false
     smaller rows small le = grind (arith, nat_tests)
 
 -- A part of a batch fits the fields that the batch has.
@@ -264,7 +261,7 @@ entry-table h k e p d t at fits is =
 pub record Lies (h : Held) (k : ℕ) (e : ℕ × ℕ) (p : Place) (b : Batch) : Type 0 where
   pub within : p.batch < length h.batches.items
   pub fits : p.used + e.1 ≤ b.rows
-  pub small : b.rows ≤ 2147483647
+  pub small : b.rows ≤ most_slots
   pub under : IsUnder (arc_value h.schema) b
   pub place : rows_before (batches_of h) p.batch + (p.used + e.1) ≤ rows_before (batches_of h) (p.batch + 1)
   pub behind : rows_before (batches_of h) p.batch + (p.used + e.1) ≡ counted (take (k + 1) (book_of h))
@@ -288,7 +285,7 @@ lies-there h is k e p x at there =
       table = λ t rows. entry-table h k e p (arc_value x) t at fits rows;
     })
   where
-    few : (n : ℕ) → nat_lt 2147483647 n ≡ false → n ≤ 2147483647
+    few : (n : ℕ) → nat_lt most_slots n ≡ false → n ≤ most_slots
     few n small = grind (arith, nat_tests)
 
 -- the batch that is found for an entry is such a one

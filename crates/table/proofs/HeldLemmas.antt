@@ -1,5 +1,5 @@
 -- What a table shows of itself.
-use Rattle.std.proofs.Common.{◌≡◌, ◌∙◌, ℕ, zero, suc, ◌+◌, ◌<◌, ◌^◌, List, [], ◌∷◌, length, map, All, Option, None, Some, option_map, get_or, ap, sym, subst, arith}
+use Rattle.std.proofs.Common.{◌≡◌, ◌∙◌, ℕ, zero, suc, ◌+◌, List, [], ◌∷◌, length, map, All, Option, Some, option_map, ap, sym, subst, arith}
 use Rattle.std.specs.Prelude.{slice_get}
 use Rattle.std.specs.List.{AllZip, enumerate_from}
 use Rattle.std.specs.Arc.{arc_value}
@@ -15,7 +15,8 @@ use Rattle.group.specs.declared.stats.ColumnStats.{ColumnStats}
 use Rattle.std.proofs.lemmas.List.{get_or-map, length-map}
 use Rattle.table.specs.Held.{IsHeld, batches_of, book_of, pair_of, pieces_in, show}
 use Rattle.table.specs.History.{book, rows}
-use Rattle.table.specs.Lawful.{AreStatsOf, dictionaries_of, table_of}
+use Rattle.table.specs.Lawful.{dictionaries_of, table_of}
+use Rattle.compaction.specs.Statistics.{AreStatsOf}
 use Rattle.table.specs.declared.held.Held.{Held}
 use Rattle.table.proofs.HistoryLemmas.{book-cut, length-cut, rows-cut}
 
@@ -28,9 +29,6 @@ count-shown h is = is.rows ∙ is.lawful.counts ∙ ap (λ (t : Table). length t
 
 pub length-book : (h : Held) → length (show h).history ≡ length h.book.items
 length-book h = length-cut (book_of h) (table_of (batches_of h)) ∙ length-map h.book.items pair_of
-
-pub short-book : (h : Held) → IsHeld h → length h.book.items < 2 ^ 32
-short-book h is = omega (arith, is.lawful.short, length-map h.book.items pair_of)
 
 pub book-shown : (h : Held) → IsHeld h → book (show h).history ≡ book_of h
 book-shown h is = book-cut (book_of h) (table_of (batches_of h)) is.lawful.counts
@@ -70,9 +68,6 @@ stats-at fields t stats k f s are at there =
 pub length-stats : (fields : List FieldShape) (t : Table) (stats : List ColumnStats) → AreStatsOf fields t stats → length stats ≡ length fields
 length-stats fields t stats are =
     sym (length-all_zip (λ (e : ℕ × FieldShape) (q : ColumnStats). AreStats q (kind_of_field e.1) (column t e.0)) (enumerate_from 0 fields) stats are) ∙ length-enumerated 0 fields
-
-pub length-batches : (h : Held) → length (show h).batches ≡ length h.batches.items
-length-batches h = length-map (batches_of h) rows_of ∙ length-map h.batches.items (λ (b : Arc Batch Global). arc_value b)
 
 pub length-pieces : (h : Held) → IsHeld h → length h.batch_stats.items ≡ length (show h).batches
 length-pieces h is =

@@ -25,18 +25,18 @@ use Rattle.layout.proofs.ChildLemmas.{same_kinds}
 use Rattle.group.specs.Columns.{AreTheirs}
 use Rattle.group.specs.Summary.{AreStats}
 use Rattle.group.specs.declared.stats.ColumnStats.{ColumnStats}
-use Rattle.compaction.specs.Groups.{AreGroups, IsGroup, together}
+use Rattle.compaction.specs.Groups.{AreGroups, together}
 use Rattle.compaction.specs.Under.{HaveStats, IsDictionary, IsUnder, pieces_of}
 use Rattle.compaction.proofs.GroupLemmas.{groups-few, groups-some, groups-together}
 use Rattle.table.specs.Cause.{IsLegal, null_cause, null_in, null_row}
 use Rattle.table.specs.Compacted.{IsCompacted}
 use Rattle.table.specs.Held.{IsHeld, IsSame, IsWith, batches_of, book_of, dictionaries_in, pieces_in, show}
-use Rattle.table.specs.History.{History, cut}
-use Rattle.table.specs.Lawful.{AreStatsOf, EndsWithEntry, IsStored, LawfulTable, counted, dictionaries_of, dictionary_in, table_of, texts_in}
+use Rattle.table.specs.History.{cut}
+use Rattle.table.specs.Lawful.{EndsWithEntry, IsStored, LawfulTable, counted, dictionaries_of, dictionary_in, table_of, texts_in}
+use Rattle.compaction.specs.Statistics.{AreStatsOf}
 use Rattle.table.specs.Ready.{AreTexts, BeginWithTexts, all_texts}
 use Rattle.table.specs.Stored.{is_text_field}
 use Rattle.table.specs.declared.held.Held.{Held}
-use Rattle.table.specs.declared.refusal.Refusal.{Refusal}
 use Rattle.table.specs.declared.refusal.Refusal.TheVariants.{NullInNonNullable}
 use Rattle.pool.proofs.PlaceLemmas.{among_missing}
 use Rattle.table.proofs.BatchLemmas.{HasColumns-rows_of, missing, neither, not-false, whole, wrong_kind}

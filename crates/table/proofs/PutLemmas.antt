@@ -1,5 +1,5 @@
 -- A table with what is new put in.
-use Rattle.std.proofs.Common.{◌≡◌, ◌∙◌, ℕ, ◌+◌, ◌-◌, ◌<◌, ◌≤◌, ◌^◌, List, [], ◌∷◌, ◌++◌, length, map, Bool, true, false, Option, None, Some, cond, ap, sym, refl, subst, arith, length-append}
+use Rattle.std.proofs.Common.{◌≡◌, ◌∙◌, ℕ, ◌+◌, ◌-◌, ◌<◌, ◌≤◌, ◌^◌, List, [], ◌∷◌, ◌++◌, length, map, Option, None, ap, sym, subst, arith}
 use Rattle.std.specs.Prelude.{Err, IfOk, Ok, Result, option_map}
 use Rattle.std.specs.Arc.{arc_value}
 use Rattle.std.specs.declared.alloc.Global.{Global}
@@ -168,8 +168,8 @@ module _ (h g : Held) (b : Batch) (worker : ℕ) (p : Addition) (is : IsHeld h) 
       Lawful-push (arc_value h.schema) (batches_of h) (pieces_in h) (arc_value h.stats).items (dictionaries_in h) (book_of h) is.lawful
       (arc_value p.batch) (arc_value p.batch_stats).items (arc_value p.stats).items (map (option_map arc_value) p.dictionaries.items) worker (arc_value p.batch).rows
       ready.stored
-      (subst (λ (u : Table). Rattle.table.specs.Lawful.AreStatsOf (arc_value h.schema) u (arc_value p.batch_stats).items) (sym ready.rows) ready.piece)
-      (subst (λ (u : Table). Rattle.table.specs.Lawful.AreStatsOf (arc_value h.schema) (t ++ u) (arc_value p.stats).items) (sym ready.rows) ready.statistics)
+      (subst (λ (u : Table). Rattle.compaction.specs.Statistics.AreStatsOf (arc_value h.schema) u (arc_value p.batch_stats).items) (sym ready.rows) ready.piece)
+      (subst (λ (u : Table). Rattle.compaction.specs.Statistics.AreStatsOf (arc_value h.schema) (t ++ u) (arc_value p.stats).items) (sym ready.rows) ready.statistics)
       (ready.texts ∙ ap (λ (u : Table). dictionaries_of (arc_value h.schema) (t ++ u)) (sym ready.rows))
       ready.front size few short
 
@@ -200,9 +200,6 @@ module _ (h g : Held) (b : Batch) (worker : ℕ) (p : Addition) (is : IsHeld h) 
         (subst (λ (s : Contents). IsLegal (arc_value h.schema) s.history) (sym put-shows)
         (IsLegal-push (arc_value h.schema) (show h).history (worker, rows_of b) is.legal ready.typed same_cause));
   }
-
-  pub put-few : h.rows + (arc_value p.batch).rows ≤ 2 ^ 40
-  put-few = omega (arith, few, is.rows)
 
   pub put-texts : (pools : List (List (List ℕ))) → AreTexts h (table_of (batches_of h) ++ rows_of b) pools → AreTexts g (table_of (batches_of g)) pools
   put-texts pools are =

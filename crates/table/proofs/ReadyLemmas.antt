@@ -11,7 +11,8 @@ use Rattle.table.specs.Cause.{batch_cause, difference, early_cause, null_cause}
 use Rattle.group.specs.Columns.{AreJoined, AreTheirs}
 use Rattle.table.specs.Held.{IsHeld, batches_of, show}
 use Rattle.compaction.specs.Under.{NamesFront}
-use Rattle.table.specs.Lawful.{AreStatsOf, dictionaries_of, table_of, texts_in}
+use Rattle.table.specs.Lawful.{dictionaries_of, table_of, texts_in}
+use Rattle.compaction.specs.Statistics.{AreStatsOf}
 use Rattle.table.specs.Ready.{AreTexts, IsReady}
 use Rattle.table.specs.Recoded.{dictionary_for, full_cause, grown, stored_seen}
 use Rattle.table.specs.declared.change.Addition.{Addition}

@@ -4,7 +4,7 @@ use Rattle.std.proofs.Crossing.{crosses}
 use Rattle.types.proofs.SendingLemmas.{schema-send, schema-sync}
 use Rattle.arrays.proofs.SendingLemmas.{batch-send, batch-sync, words-send, words-sync}
 use Rattle.group.proofs.SendingLemmas.{stats-send, stats-sync}
-use Rattle.pool.proofs.SendingLemmas.{pool-send, pool-sync}
+use Rattle.pool.proofs.SendingLemmas.{pool-send}
 use Rattle.table.specs.contracts.held.Held as held
 use Rattle.table.specs.contracts.state.TableState as state
 use Rattle.table.specs.contracts.version.Version as version
@@ -17,9 +17,6 @@ held-sync = search (schema-send, schema-sync, words-send, words-sync, batch-send
 
 pub state-send : IsSend state.the_row
 state-send = search (held-send, pool-send, crosses, sendable) depth 40
-
-pub state-sync : IsSync state.the_row
-state-sync = search (held-sync, pool-sync, crosses, sendable) depth 40
 
 pub version-send : IsSend version.the_row
 version-send = search (held-send, held-sync, crosses, sendable) depth 20

@@ -19,7 +19,8 @@ use Rattle.group.specs.declared.stats.ColumnStats.{ColumnStats}
 use Rattle.pool.specs.Texts.{firsts, texts_of}
 use Rattle.pool.proofs.TextLemmas.{beyond, firsts-append}
 use Rattle.compaction.specs.Under.{NamesFront}
-use Rattle.table.specs.Lawful.{AreStatsOf, EndsWithEntry, IsStored, LawfulTable, counted, dictionaries_of, dictionary_in, table_of, texts_in}
+use Rattle.table.specs.Lawful.{EndsWithEntry, IsStored, LawfulTable, counted, dictionaries_of, dictionary_in, table_of, texts_in}
+use Rattle.compaction.specs.Statistics.{AreStatsOf}
 use Rattle.table.specs.Stored.{is_text_field}
 use Rattle.table.proofs.FrontLemmas.{prefix_trans}
 

@@ -1,8 +1,6 @@
 -- A change of what a table holds.
-use Rattle.std.specs.Prelude.{◌≡◌, ◌≤◌, ◌^◌, ◌+◌, ℕ, ⊤}
+use Rattle.std.specs.Prelude.{◌≤◌, ◌^◌, ◌+◌, ⊤}
 use Rattle.std.specs.Arc.{arc_value}
-use Rattle.compaction.specs.Groups.{AreGroups}
-use Rattle.table.specs.Contents.{Contents}
 use Rattle.table.specs.Held.{HasRoom, IsPut, IsSame}
 use Rattle.table.specs.declared.change.Change.{Change}
 use Rattle.table.specs.declared.change.Change.TheVariants.{Batch, Whole}

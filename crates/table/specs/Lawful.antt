@@ -5,10 +5,10 @@ use Rattle.arrays.specs.Batch.{Batch, batch_fault, rows_of, Table, column}
 use Rattle.arrays.specs.Item.{text}
 use Rattle.arrays.specs.Kind as kind
 use Rattle.arrays.specs.Seen.{Seen}
-use Rattle.arrays.specs.Shape.{FieldShape, kind_of_field}
+use Rattle.arrays.specs.Shape.{FieldShape}
 use Rattle.arrays.specs.Shown.{shown}
 use Rattle.compaction.specs.Under.{NamesFront}
-use Rattle.group.specs.Summary.{AreStats}
+use Rattle.compaction.specs.Statistics.{AreStatsOf}
 use Rattle.group.specs.declared.stats.ColumnStats.{ColumnStats}
 use Rattle.pool.specs.Texts.{firsts, texts_of}
 use Rattle.table.specs.Cause.{null_cause}
@@ -39,10 +39,6 @@ dictionary_in t field = if is_text_field field.1 then Some (shown kind.utf8 (map
 -- The dictionary of each column of texts.
 unfoldable pub dictionaries_of : List FieldShape → Table → List (Option Seen)
 dictionaries_of fields t = map (dictionary_in t) (enumerate_from 0 fields)
-
--- These are the statistics of the table's columns.
-abbrev pub AreStatsOf : List FieldShape → Table → List ColumnStats → Type 0
-AreStatsOf fields t stats = AllZip (λ e s. AreStats s (kind_of_field e.1) (column t e.0)) (enumerate_from 0 fields) stats
 
 -- Each dictionary that a column of the batch names begins that of the table.
 abbrev pub NamesFronts : List FieldShape → Table → Batch → Type 0

@@ -7,7 +7,8 @@ use Rattle.arrays.specs.Batch.{Batch, rows_of, Table}
 use Rattle.table.specs.Cause.{IsTableOf, batch_cause}
 use Rattle.table.specs.Held.{batches_of, show}
 use Rattle.compaction.specs.Under.{NamesFront}
-use Rattle.table.specs.Lawful.{AreStatsOf, IsStored, dictionaries_of, table_of, texts_in}
+use Rattle.table.specs.Lawful.{IsStored, dictionaries_of, table_of, texts_in}
+use Rattle.compaction.specs.Statistics.{AreStatsOf}
 use Rattle.table.specs.declared.change.Addition.{Addition}
 use Rattle.table.specs.declared.held.Held.{Held}
 

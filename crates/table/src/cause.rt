@@ -1,9 +1,9 @@
 //! Why a batch isn't admitted, as far as can be told before its texts are looked at.
 
-ghost use Rattle.std.specs.Prelude.{◌≡◌, length, not, position, ◌||◌};
+ghost use Rattle.std.specs.Prelude.{◌≡◌, position, ◌||◌};
 ghost use Rattle.std.specs.Arc.{arc_value};
 ghost use Rattle.std.specs.List.{zip};
-ghost use Rattle.arrays.specs.Shape.{field_of, fields_of};
+ghost use Rattle.arrays.specs.Shape.{field_of};
 ghost use Rattle.table.specs.Cause.{difference, differs, early_cause};
 ghost use Rattle.table.specs.Held.{IsHeld, show};
 ghost use Rattle.table.specs.Stored.{is_stored_as};

@@ -1,6 +1,6 @@
 //! The columns of a batch as a table stores them: texts are recoded into the table's dictionaries.
 
-ghost use Rattle.std.specs.Prelude.{◌≡◌, ◌≤◌, ◌⊎◌, false, None, IfErr, IfOk, OnOk, Some, length, map, option_map, take, true};
+ghost use Rattle.std.specs.Prelude.{◌≡◌, ◌≤◌, ◌⊎◌, false, None, IfErr, IfOk, OnOk, Some, length, map, option_map, true};
 ghost use Rattle.std.specs.Arc.{arc_value};
 ghost use Rattle.std.specs.List.{AllZip, zip};
 ghost use mathlib.Core.List.{IsPrefix};
@@ -8,7 +8,6 @@ ghost use Rattle.arrays.specs.Kind as kind;
 ghost use Rattle.arrays.specs.Item.{text};
 ghost use Rattle.arrays.specs.Shown.{shown};
 ghost use Rattle.arrays.specs.Slot.{is_text};
-ghost use Rattle.pool.specs.Texts.{is_too_full};
 ghost use Rattle.table.specs.Recoded.{coded, dictionary_for, entry_count, full_cause, grown, is_full, shortened, stored_seen};
 
 use crate::refusal::Refusal;

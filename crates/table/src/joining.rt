@@ -1,6 +1,6 @@
 //! Neighbouring batches joined, before anything of the table changes.
 
-ghost use Rattle.std.specs.Prelude.{◌≡◌, IfOk};
+ghost use Rattle.std.specs.Prelude.{IfOk};
 ghost use Rattle.table.specs.Compacted.{IsCompacted};
 ghost use Rattle.table.specs.Held.{IsHeld, show};
 

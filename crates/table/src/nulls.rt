@@ -2,7 +2,6 @@
 
 ghost use Rattle.std.specs.Prelude.{◌≡◌, length, position};
 ghost use Rattle.arrays.specs.Item.{is_null};
-ghost use Rattle.arrays.specs.Seen.{Seen};
 ghost use Rattle.arrays.specs.Shape.{field_of, fields_of};
 ghost use Rattle.table.specs.Cause.{null_cause, null_row};
 ghost use Rattle.table.specs.Columns.{HasColumns};

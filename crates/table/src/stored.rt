@@ -1,6 +1,6 @@
 //! How a table keeps its columns.
 
-ghost use Rattle.std.specs.Prelude.{◌≡◌, IfOk, map};
+ghost use Rattle.std.specs.Prelude.{◌≡◌, IfOk};
 ghost use Rattle.arrays.specs.Shape.{field_of, fields_of, shape_of};
 ghost use Rattle.table.specs.Stored.{stored_field, stored_fields, stored_shape};
 

@@ -162,6 +162,25 @@ impl Version {
         answers::answer(threads, alloc, self.batches(), query, pieces, gate)
     }
 
+    /// The same in one piece, for whoever may start no thread.
+    ///
+    /// # Errors
+    /// As `answer`.
+    pub fn answer_alone<G: Gate>(
+        &self,
+        alloc: Global,
+        query: &Query,
+        gate: &G,
+    ) -> Result<Answer, QueryFault>
+        requires fits { fits self.now.fields (asked query.now) ≡ true }
+        ensures ok { IfOk result (IsAnswer self.now.fields (asked query.now) (rows self.now.history)) }
+        ensures err { IfErr result (IsRefusal self.now.fields (asked query.now) (rows self.now.history)) }
+    {
+        // They are few enough, as is said with their number.
+        let _rows = self.rows();
+        answers::answer_alone(alloc, self.batches(), query, gate)
+    }
+
     /// The stored schema, and one batch for each entry of the book: what each call added, in its order. A batch that one
     /// call added whole is shared; the rows of an entry that are a part of one are copied, save that dictionaries are shared.
     /// `NoMemory` where a growth was refused.

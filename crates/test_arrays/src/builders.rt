@@ -240,7 +240,7 @@ fn builds_texts(rt: HostRuntime) -> Result<(), Fail> {
             Shown::Texts(&[Some("a"), None, Some("b\u{e9}"), Some("")])
         )
     );
-    assert!(rt; has_offsets(&view, b"\0\0\0\0\x01\0\0\0\x01\0\0\0\x04\0\0\0\x04\0\0\0"));
+    assert!(rt; has_offsets(&view, &[0, 1, 1, 4, 4]));
     let ViewType::Utf8 = view.ty() else {
         panic!(rt; "these are no texts");
     };
@@ -260,7 +260,7 @@ fn builds_texts_without_a_null(rt: HostRuntime) -> Result<(), Fail> {
 #[test]
 fn builds_no_texts(rt: HostRuntime) -> Result<(), Fail> {
     let array = TextBuilder::with_capacity(rt.alloc(), 0, 0)?.finish()?;
-    assert!(rt; shows(&array.view(), Shown::Texts(&[])) && has_offsets(&array.view(), &[0; 4]));
+    assert!(rt; shows(&array.view(), Shown::Texts(&[])) && has_offsets(&array.view(), &[0]));
     Ok(())
 }
 
@@ -287,7 +287,7 @@ fn lists(alloc: Global, name: &str, nullable: bool) -> Result<Array, Fail> {
 
 const BUILT: Shown = Shown::Lists(&[Some(&[Some(1)]), None, Some(&[]), Some(&[Some(2), Some(3)])]);
 
-const BUILT_OFFSETS: &[u8] = &[0, 0, 0, 0, 1, 0, 0, 0, 1, 0, 0, 0, 1, 0, 0, 0, 3, 0, 0, 0];
+const BUILT_OFFSETS: &[usize] = &[0, 1, 1, 1, 3];
 
 #[test]
 fn builds_lists_with_their_items_field(rt: HostRuntime) -> Result<(), Fail> {

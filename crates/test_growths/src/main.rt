@@ -1,5 +1,5 @@
-//! `test_growths` goes over each call of the library that may want memory and starts no thread, and has each request that the call makes refused, one in each run,
-//! and then all from one on. A call that tells want of memory has changed nothing, and comes to its answer when it is made again; no
+//! `test_growths` goes over each call of the library that may want memory, and has each request that the call makes refused, one in each run, and then all
+//! from one on. A call that tells want of memory has changed nothing, and comes to its answer when it is made again; no
 //! other comes to another answer than with ample memory, and none keeps a block.
 //!
 //! What refuses requests is a library that is loaded into the program (`tools/refused_calls.py`). Without it the program says so and fails.
@@ -9,7 +9,9 @@ mod bits;
 mod fault;
 mod gathering;
 mod kernels_of;
+mod loading;
 mod opening;
+mod permit;
 mod pools;
 mod queries;
 mod refusals;
@@ -32,6 +34,7 @@ use std::io::Print;
 use std::process::ExitCode;
 use std::sync::Wait;
 use std::test::Fail;
+use std::thread::Threads;
 use sweep::sweep_all;
 use tally::Tally;
 
@@ -58,9 +61,14 @@ fn sweep_columns<R: Print>(rt: &R, alloc: Global, tally: &mut Tally) -> Result<(
 }
 
 /// Has each request of the calls on batches and tables refused.
-fn sweep_tables<R: Print + Wait>(rt: &R, alloc: Global, tally: &mut Tally) -> Result<(), Fail> {
+fn sweep_tables<R: Print + Threads + Wait + Sync>(
+    rt: &R,
+    alloc: Global,
+    tally: &mut Tally,
+) -> Result<(), Fail> {
     sweep_all(rt, alloc, &tables::CASES, tally)?;
     sweep_all(rt, alloc, &queries::CASES, tally)?;
     sweep_all(rt, alloc, &opening::CASES, tally)?;
-    sweep_all(rt, alloc, &shared_tables::CASES, tally)
+    sweep_all(rt, alloc, &shared_tables::CASES, tally)?;
+    sweep_all(rt, alloc, &loading::CASES, tally)
 }

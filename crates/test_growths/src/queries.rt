@@ -1,5 +1,11 @@
 //! Queries of a table, and the table as a file.
 
+ghost use Rattle.std.specs.Prelude.{◌≡◌, true};
+ghost use Rattle.std.specs.Arc.{arc_value};
+ghost use Rattle.query.specs.Asked.{asked};
+ghost use Rattle.query.specs.Fault.{fits};
+
+use crate::permit::Permit;
 use crate::refusals::Refused;
 use crate::run::{Ran, run};
 use crate::samples::{BY_TEXT, BY_TWO, ONE_MORE, first_batch, query_text, table};
@@ -7,23 +13,33 @@ use crate::scene::Scene;
 use crate::stop::Stop;
 use crate::sweep::Trial;
 use crate::tell::{tell_file, tell_version};
+use answers::{Answer, OpenGate};
 use arrays::File;
-use query::{Query, QueryText, resolve};
+use query::{Query, QueryFault, QueryText, resolve};
 use std::alloc::Global;
 use std::sync::Arc;
 use std::test::Fail;
+use std::thread::Threads;
 use table::Version;
 
 /// A call of a version.
 #[derive(Clone, Copy)]
 enum Call {
     Resolve,
+    /// The query is answered in so many pieces.
+    Answer(u32),
     Export,
 }
 
-pub(crate) const CASES: [(&str, Case); 3] = [
+pub(crate) const CASES: [(&str, Case); 9] = [
     ("resolve, by texts", Case(Call::Resolve, BY_TEXT)),
     ("resolve, by two", Case(Call::Resolve, BY_TWO)),
+    ("answer, by texts, 1 piece", Case(Call::Answer(1), BY_TEXT)),
+    ("answer, by texts, 2 pieces", Case(Call::Answer(2), BY_TEXT)),
+    ("answer, by texts, 4 pieces", Case(Call::Answer(4), BY_TEXT)),
+    ("answer, by two, 1 piece", Case(Call::Answer(1), BY_TWO)),
+    ("answer, by two, 2 pieces", Case(Call::Answer(2), BY_TWO)),
+    ("answer, by two, 4 pieces", Case(Call::Answer(4), BY_TWO)),
     ("export", Case(Call::Export, BY_TWO)),
 ];
 
@@ -31,7 +47,7 @@ pub(crate) const CASES: [(&str, Case); 3] = [
 #[derive(Clone, Copy)]
 pub(crate) struct Case(Call, &'static str);
 
-impl<R> Trial<R> for Case {
+impl<R: Threads + Sync> Trial<R> for Case {
     fn run(&self, rt: &R, alloc: Global, refused: Option<Refused>) -> Result<Ran, Fail> {
         let Case(call, text) = *self;
         let mut table = table(alloc)?;
@@ -40,13 +56,7 @@ impl<R> Trial<R> for Case {
         table.admit(2, &batch)?;
         let version = table.version()?;
         let text = query_text(alloc, text)?;
-        let query = resolve(alloc, &text, version.schema())?;
-        let scene = Asking {
-            call,
-            version,
-            text,
-            query,
-        };
+        let scene = Asking::new(alloc, call, version, text)?;
         run(rt, alloc, scene, refused)
     }
 }
@@ -58,24 +68,50 @@ struct Asking {
     version: Arc<Version>,
     text: QueryText,
     query: Query,
+    ghost fits: { fits (arc_value version).fields (asked query) ≡ true },
+}
+
+impl Asking {
+    /// A call with a version, and with the query of a text placed under its fields.
+    fn new(
+        alloc: Global,
+        call: Call,
+        version: Arc<Version>,
+        text: QueryText,
+    ) -> Result<Asking, QueryFault> {
+        let query = resolve(alloc, &text, version.schema())?;
+        Ok(Asking {
+            call,
+            version,
+            text,
+            query,
+        })
+    }
 }
 
 /// What a call gave.
 #[derive(Drop)]
 enum Given {
     Query(Query),
+    Answer(Answer),
     File(File),
 }
 
-impl<R> Scene<R> for Asking {
+impl<R: Threads + Sync> Scene<R> for Asking {
     type Answer = Given;
 
-    fn call(&mut self, _rt: &R, alloc: Global) -> Result<Given, Stop> {
+    fn call(&mut self, rt: &R, alloc: Global) -> Result<Given, Stop> {
         match self.call {
             Call::Resolve => {
                 let query = resolve(alloc, &self.text, self.version.schema())?;
                 Ok(Given::Query(query))
             }
+            Call::Answer(pieces @ 1..=64) => {
+                let (version, query, rt) = (&self.version, &self.query, Permit::of(rt));
+                let answer = version.answer(&rt, alloc, query, pieces, &OpenGate)?;
+                Ok(Given::Answer(answer))
+            }
+            Call::Answer(_) => Err(Stop::Other),
             Call::Export => Ok(Given::File(self.version.export(alloc)?)),
         }
     }
@@ -89,6 +125,7 @@ impl<R> Scene<R> for Asking {
     fn tell_answer(told: &mut String, answer: &Given) -> Result<(), Fail> {
         match answer {
             Given::Query(query) => write!(told, "{query:?}")?,
+            Given::Answer(answer) => write!(told, "{answer:?}")?,
             Given::File(file) => tell_file(told, file)?,
         }
         Ok(())

@@ -6,6 +6,7 @@ use ends::SourceFault;
 use job::JobFault;
 use kernels::KernelFault;
 use layout::LayoutFault;
+use loads::LoadFault;
 use pool::PoolFault;
 use query::QueryFault;
 use select::SelectFault;
@@ -89,6 +90,12 @@ impl From<SourceFault> for Stop {
 impl From<OpenFault> for Stop {
     fn from(fault: OpenFault) -> Stop {
         Stop::of(fault == OpenFault::NoMemory || fault == OpenFault::NoPlace)
+    }
+}
+
+impl From<LoadFault> for Stop {
+    fn from(fault: LoadFault) -> Stop {
+        Stop::of(fault == LoadFault::NoMemory)
     }
 }
 

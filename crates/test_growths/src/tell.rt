@@ -69,11 +69,11 @@ fn tell_bools(told: &mut String, view: &View<'_>) -> Result<(), Fail> {
 }
 
 fn tell_texts(told: &mut String, view: &View<'_>) -> Result<(), Fail> {
-    let ViewType::Utf8 = view.ty() else {
+    let (ViewType::Utf8 | ViewType::Dict) = view.ty() else {
         return Ok(());
     };
     for i in 0..view.len() {
-        let text = view.utf8_at(i);
+        let text = view.text_at(i);
         write!(told, "{text:?} ")?;
     }
     Ok(())
@@ -107,6 +107,20 @@ pub(crate) fn tell_batch(told: &mut String, batch: &RecordBatch) -> Result<(), F
     let fields = batch.schema().fields();
     write!(told, "{rows} rows of {fields:?}: ")?;
     tell_arrays(told, batch.columns())
+}
+
+/// Tells the rows of a batch, whatever codes its texts have.
+pub(crate) fn tell_rows(told: &mut String, batch: &RecordBatch) -> Result<(), Fail> {
+    let rows = batch.rows();
+    write!(told, "{rows} rows: ")?;
+    for column in batch.columns() {
+        let view = column.view();
+        match view.ty() {
+            ViewType::Dict => tell_texts(told, &view)?,
+            _ => tell_view(told, &view)?,
+        }
+    }
+    Ok(())
 }
 
 /// Tells batches, one after the other.

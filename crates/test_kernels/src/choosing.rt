@@ -164,23 +164,20 @@ static TAKEN_LISTS: [Chosen; 3] = [
         Choice::Take(All(Of((INT8S, 3, &[None, Some(&[3, 0, 1])])))),
         Selected::Lists(
             Shown::Lists(&[Some(&[]), Some(FIRST), None]),
-            &[(b"\0\0\0\0\0\0\0\0\x03\0\0\0\x03\0\0\0", 3)],
+            &[(&[0, 0, 3, 3], 3)],
         ),
     ),
     (
         Part(Lists, 1, 3),
         Choice::Take(All(Of((INT8S, 1, &[None, Some(&[1])])))),
-        Selected::Lists(Shown::Lists(&[Some(THIRD)]), &[(b"\0\0\0\0\x04\0\0\0", 4)]),
+        Selected::Lists(Shown::Lists(&[Some(THIRD)]), &[(&[0, 4], 4)]),
     ),
     (
         All(ListsOfLists),
         Choice::Take(All(Of((INT8S, 2, &[None, Some(&[1, 0])])))),
         Selected::Lists(
             Shown::ListsOfLists(&[None, Some(&[Some(FIRST), None])]),
-            &[
-                (b"\0\0\0\0\0\0\0\0\x02\0\0\0", 2),
-                (b"\0\0\0\0\x03\0\0\0\x03\0\0\0", 3),
-            ],
+            &[(&[0, 0, 2], 2), (&[0, 3, 3], 3)],
         ),
     ),
 ];
@@ -258,7 +255,7 @@ static KEPT_OTHERS: [Chosen; 3] = [
         Choice::Filter(MASK),
         Selected::Lists(
             Shown::Lists(&[Some(FIRST), None, Some(&[])]),
-            &[(b"\0\0\0\0\x03\0\0\0\x03\0\0\0\x03\0\0\0", 3)],
+            &[(&[0, 3, 3, 3], 3)],
         ),
     ),
     (
@@ -292,10 +289,7 @@ static COPIED: [Chosen; 6] = [
     (
         Part(Lists, 1, 2),
         Choice::Copy,
-        Selected::Lists(
-            Shown::Lists(&[None, Some(THIRD)]),
-            &[(b"\0\0\0\0\0\0\0\0\x04\0\0\0", 4)],
-        ),
+        Selected::Lists(Shown::Lists(&[None, Some(THIRD)]), &[(&[0, 0, 4], 4)]),
     ),
     // Codes, with the whole dictionary.
     (

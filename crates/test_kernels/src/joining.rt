@@ -135,22 +135,13 @@ static OTHERS: [Joined; 7] = [
                 Some(THIRD),
                 Some(&[]),
             ]),
-            &[(
-                &[
-                    0, 0, 0, 0, 4, 0, 0, 0, 4, 0, 0, 0, 7, 0, 0, 0, 7, 0, 0, 0, 11, 0, 0, 0, 11, 0,
-                    0, 0,
-                ],
-                11,
-            )],
+            &[(&[0, 4, 4, 7, 7, 11, 11], 11)],
         ),
     ),
     // A view alone is copied.
     (
         &[Part(Lists, 1, 2)],
-        Selected::Lists(
-            Shown::Lists(&[None, Some(THIRD)]),
-            &[(b"\0\0\0\0\0\0\0\0\x04\0\0\0", 4)],
-        ),
+        Selected::Lists(Shown::Lists(&[None, Some(THIRD)]), &[(&[0, 0, 4], 4)]),
     ),
     (
         &[Part(ListsOfLists, 2, 1), Part(ListsOfLists, 0, 2)],
@@ -160,10 +151,7 @@ static OTHERS: [Joined; 7] = [
                 Some(&[Some(FIRST), None]),
                 None,
             ]),
-            &[
-                (b"\0\0\0\0\x02\0\0\0\x04\0\0\0\x04\0\0\0", 4),
-                (b"\0\0\0\0\x04\0\0\0\x04\0\0\0\x07\0\0\0\x07\0\0\0", 7),
-            ],
+            &[(&[0, 2, 4, 4], 4), (&[0, 4, 4, 7, 7], 7)],
         ),
     ),
     // Codes, with both dictionaries.

@@ -38,7 +38,7 @@ fn one_list_of_a_large_column_has_its_own_items_alone(rt: HostRuntime) -> Result
     let column = thousands(rt.alloc(), 1000)?;
     let index = built(rt.alloc(), (Flat::Int(INT16), 1, &[None, Some(&[231, 3])]))?;
     let row = take(rt.alloc(), &column.view(), &index.view())?;
-    assert!(rt; has_layers(&row.view(), &[(&[0, 0, 0, 0, 232, 3, 0, 0], 1000)]));
+    assert!(rt; has_layers(&row.view(), &[(&[0, 1000], 1000)]));
     Ok(())
 }
 

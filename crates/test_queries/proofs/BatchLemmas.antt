@@ -5,10 +5,10 @@ use Rattle.std.proofs.lemmas.List.{append-nil, get_or-map, length-map, take_more
 use Rattle.std.proofs.lemmas.List.Elements.{All-from_recursion, All-weaker}
 use Rattle.std.proofs.lemmas.List.FromFn.{length-map-range_with_len}
 use Rattle.arrays.specs.Batch.{Batch, row_of, rows_of}
-use Rattle.types.specs.Shape.{FieldShape}
+use Rattle.types.specs.Shape.{FieldShape, kind_of_field}
 use Rattle.query.specs.Asked.{Asked}
 use Rattle.query.specs.Fault.{fits}
-use Rattle.answers.specs.Answers.{all_rows}
+use Rattle.answers.specs.Answers.{all_rows, first_fields}
 use Rattle.arrow_json.specs.JsonFile.{AreUnder}
 
 pub more_rows : {A : Type 0} (f : A → Batch) (xs : List A) (i : ℕ) (x : A) → i < length xs → x ≡ get_or xs i x
@@ -25,3 +25,9 @@ pub fits_each : (fields : List FieldShape) (q : Asked ℕ) (bs : List Batch) →
 fits_each fields q bs fit under =
     All-weaker (λ (b : Batch). b.fields ≡ fields) (λ (b : Batch). fits b.fields q ≡ true) (λ b is. ap (λ fs. fits fs q) is ∙ fit) bs
     (All-from_recursion (λ (b : Batch). b.fields ≡ fields) bs under)
+
+pub types_same : (fields : List FieldShape) (bs : List Batch) → AreUnder fields bs → All (λ (b : Batch). map kind_of_field b.fields ≡ map kind_of_field (first_fields bs)) bs
+types_same fields [] under = λ i d below. absurd (omega (arith, below))
+types_same fields (b ∷ bs) under =
+    let all = All-from_recursion (λ (c : Batch). c.fields ≡ fields) (b ∷ bs) under in
+    All-weaker (λ (c : Batch). c.fields ≡ fields) (λ (c : Batch). map kind_of_field c.fields ≡ map kind_of_field b.fields) (λ c is. ap (map kind_of_field) (is ∙ sym (all 0 b (omega arith)))) (b ∷ bs) all

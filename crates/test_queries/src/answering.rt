@@ -1,14 +1,18 @@
 //! What is answered to a query over the batches of a file, as text.
 
-ghost use Rattle.std.specs.Prelude.{◌≡◌, IfSome, length, map};
+ghost use Rattle.std.specs.Prelude.{◌≡◌, All, IfOk, IfSome, length, map, true};
 ghost use Rattle.std.specs.Arc.{arc_value};
-ghost use Rattle.answers.specs.Answers.{all_rows};
+ghost use Rattle.types.specs.Shape.{kind_of_field};
+ghost use Rattle.arrays.specs.Batch.{Batch};
+ghost use Rattle.query.specs.Asked.{asked};
+ghost use Rattle.query.specs.Fault.{fits};
+ghost use Rattle.answers.specs.Answers.{all_rows, first_fields};
 
-use answers::{Answer, Gate, answer};
+use answers::{Answer, Gate, answer, answer_alone};
 use arrays::RecordBatch;
 use arrow_json::read_file;
 use group::Scalar;
-use query::resolve;
+use query::{Query, QueryFault, resolve};
 use query_json::read_query;
 use std::alloc::{AllocError, Global};
 use std::process::Abort;
@@ -38,13 +42,40 @@ pub(crate) fn answered(
     pieces: u32,
     gate: &impl Gate,
 ) -> Result<String, Fail> {
-    let (file, query) = texts;
-    let (schema, batches) = read_file(alloc, file.as_bytes())?.into_parts();
-    let query = resolve(alloc, &read_query(alloc, query.as_bytes())?, &schema)?;
+    let (batches, query) = read_both(alloc, texts)?;
     let rows = rows_in(&batches).expect(rt, "few rows");
     assert!(rt; rows <= MOST_ROWS);
     assert!(rt; 1 <= pieces && pieces <= 64);
-    match answer(rt, alloc, &batches, &query, pieces, gate) {
+    told(alloc, answer(rt, alloc, &batches, &query, pieces, gate))
+}
+
+/// The same in one piece, without threads.
+pub(crate) fn answered_alone(
+    rt: &impl Abort,
+    alloc: Global,
+    texts: (&str, &str),
+    gate: &impl Gate,
+) -> Result<String, Fail> {
+    let (batches, query) = read_both(alloc, texts)?;
+    let rows = rows_in(&batches).expect(rt, "few rows");
+    assert!(rt; rows <= MOST_ROWS);
+    told(alloc, answer_alone(alloc, &batches, &query, gate))
+}
+
+/// The batches of a file, and a query over them.
+fn read_both(alloc: Global, texts: (&str, &str)) -> Result<(Vec<Arc<RecordBatch>>, Query), Fail>
+    ensures types { IfOk result (λ r. All (λ (b : Batch). map kind_of_field b.fields ≡ map kind_of_field (first_fields (map arc_value r.0.items))) (map arc_value r.0.items)) }
+    ensures fits { IfOk result (λ r. All (λ (b : Batch). fits b.fields (asked r.1) ≡ true) (map arc_value r.0.items)) }
+{
+    let (file, query) = texts;
+    let (schema, batches) = read_file(alloc, file.as_bytes())?.into_parts();
+    let query = resolve(alloc, &read_query(alloc, query.as_bytes())?, &schema)?;
+    Ok((batches, query))
+}
+
+/// The lines of an answer, or that of its fault.
+fn told(alloc: Global, answered: Result<Answer, QueryFault>) -> Result<String, Fail> {
+    match answered {
         Ok(answer) => Ok(lines(alloc, &answer)?),
         Err(fault) => Ok(format!(in alloc; "{fault}")?),
     }

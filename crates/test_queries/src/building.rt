@@ -4,12 +4,7 @@ use arrayvec::ArrayVec;
 use query::{Agg, Expr, Op, QueryText};
 use std::alloc::{AllocError, Global};
 use std::test::Fail;
-use types::{DataType, Field, IntType, Schema, Width};
-
-const INT32: IntType = IntType {
-    bits: Width::W32,
-    signed: true,
-};
+use types::{DataType, Field, INT32, IntType, Schema, Width};
 
 const UINT64: IntType = IntType {
     bits: Width::W64,

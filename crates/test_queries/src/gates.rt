@@ -1,4 +1,4 @@
-//! A gate that tells which pieces passed it, and one at which one of two pieces waits for the other.
+//! A gate that tells which pieces passed it, and one at which a piece waits for another.
 
 use answers::Gate;
 use std::hint::spin_loop;
@@ -41,11 +41,12 @@ impl Gate for Counting {
     }
 }
 
-/// A gate at which one of two pieces waits for the other.
+/// A gate at which one piece waits for another.
 #[derive(Drop)]
 pub(crate) struct Holding {
-    /// The place of the one that waits.
+    /// The place of the one that waits, and of the one that it waits for.
     held: u32,
+    awaited: u32,
     /// The other has passed.
     is_open: AtomicBool,
     /// The one that waits has waited for long, and went on alone.
@@ -56,9 +57,10 @@ pub(crate) struct Holding {
 const TURNS: u32 = 100_000_000;
 
 impl Holding {
-    pub(crate) fn new(held: u32) -> Holding {
+    pub(crate) fn new(held: u32, awaited: u32) -> Holding {
         Holding {
             held,
+            awaited,
             is_open: AtomicBool::new(false),
             is_late: AtomicBool::new(false),
         }
@@ -84,7 +86,7 @@ impl Gate for Holding {
     fn pass(&self, place: u32, _call: u32) {
         if place == self.held {
             self.wait();
-        } else {
+        } else if place == self.awaited {
             self.is_open.store(true, Ordering::SeqCst);
         }
     }

@@ -67,7 +67,7 @@ pub fn is_result(column: &Array, shown: Shown) -> bool {
 }
 
 /// The offsets of lists, and how many items their child has: of the outermost first, and then of their items.
-pub type Layers = &'static [(&'static [u8], usize)];
+pub type Layers = &'static [(&'static [usize], usize)];
 
 /// Whether the lists of a view begin and end there, from the outermost on.
 pub fn has_layers(view: &View<'_>, layers: Layers) -> bool {

@@ -1,6 +1,8 @@
 //! Slots of views, and what they show.
 
-use arrays::{Array, View, ViewType};
+ghost use Rattle.std.specs.Prelude.{◌≡◌, ◌+◌, length};
+
+use arrays::{Array, Offsets, View, ViewType};
 
 /// So many slots of an array, from one on, as far as they are there.
 pub fn slots_of(array: &Array, start: usize, len: usize) -> View<'_> {
@@ -108,12 +110,33 @@ pub fn shows_lists(view: &View<'_>, lists: &[Numbers<'_>]) -> bool {
 }
 
 /// Whether these are the offsets of a view of texts or lists.
-pub fn has_offsets(view: &View<'_>, offsets: &[u8]) -> bool {
+pub fn has_offsets(view: &View<'_>, offsets: &[usize]) -> bool {
     match view.ty() {
-        ViewType::Utf8 => *view.texts().offsets == *offsets,
-        ViewType::List(_) => *view.lists().offsets == *offsets,
+        ViewType::Utf8 => {
+            let texts = view.texts();
+            are_same(&texts.offsets, texts.slots, offsets)
+        }
+        ViewType::List(_) => {
+            let lists = view.lists();
+            are_same(&lists.offsets, lists.slots, offsets)
+        }
         _ => false,
     }
+}
+
+/// Whether the offsets of so many slots are these.
+fn are_same(offsets: &Offsets<'_>, slots: u32, others: &[usize]) -> bool
+    requires { length offsets.now ≡ slots + 1 }
+{
+    if others.len() != slots as usize + 1 {
+        return false;
+    }
+    for (i, other) in others.iter().enumerate() {
+        if offsets.get(i) != *other {
+            return false;
+        }
+    }
+    true
 }
 
 /// Whether the items of lists have this name, and are nullable or not.

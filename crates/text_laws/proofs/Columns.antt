@@ -1,5 +1,5 @@
 -- What is known of the items of a column and of its lists.
-use Rattle.std.proofs.Common.{◌≡◌, ◌∙◌, ◌+◌, List, [], ◌∷◌, ◌++◌, length, refl, sym, ap₂, length-append}
+use Rattle.std.proofs.Common.{◌≡◌, ◌∙◌, ◌+◌, ◌<◌, ◌^◌, List, [], ◌∷◌, ◌++◌, length, false, refl, sym, ap₂, length-append, arith}
 use Rattle.std.specs.Prelude.{sum_by}
 use Rattle.std.specs.List.{AllByRecursion}
 use Rattle.std.proofs.lemmas.List.Sums.{sum_by-cons}
@@ -7,8 +7,9 @@ use Rattle.arrays.specs.Item as column
 use Rattle.arrays.specs.Item.{Item, Items, items_of}
 use Rattle.arrays.specs.Kind as kind
 use Rattle.arrays.specs.Kind.{Kind}
-use Rattle.arrays.specs.Lengths.{inner_items, items_in, text_bytes, text_length}
+use Rattle.arrays.specs.Lengths.{inner_items, is_past, is_too_big, items_in, text_bytes, text_length}
 use Rattle.arrays.specs.Typed.{IsItemOf, AreItemsOf}
+use Rattle.arrays.proofs.SizeLemmas.{neither, small}
 use Rattle.arrow_text.specs.ColumnData.{item_length}
 
 -- ---- lengths
@@ -58,3 +59,11 @@ list_typed k (column.list l) h = items_typed k l h
 pub inner_typed : (k : Kind) (items : List Item) → AllByRecursion (IsItemOf (kind.list k)) items → AllByRecursion (IsItemOf k) (inner_items items)
 inner_typed k [] h = tt
 inner_typed k (x ∷ xs) h = joined (IsItemOf k) (items_in x) (inner_items xs) (list_typed k x h.0) (inner_typed k xs h.1)
+
+-- ---- what offsets count
+
+-- The items of lists are few where the lists are, and so are those inside.
+pub inner_few : (k : Kind) (items : List Item) → is_too_big (kind.list k) items ≡ false → (length (inner_items items) < 2 ^ 31) × (is_too_big k (inner_items items) ≡ false)
+inner_few k items few =
+    let parts = neither (is_past (length (inner_items items))) (is_too_big k (inner_items items)) few in
+    (omega (arith, small (length (inner_items items)) parts.0), parts.1)

@@ -1,28 +1,30 @@
 -- A file whose dictionaries are short fits.
-use Rattle.std.proofs.Common.{ℕ, ◌<◌, ◌^◌, List, [], ◌∷◌, length, arith}
+use Rattle.std.proofs.Common.{◌≡◌, ℕ, ◌<◌, ◌^◌, List, [], ◌∷◌, length, false, arith}
 use Rattle.std.specs.List.{AllByRecursion}
 use Rattle.std.proofs.lemmas.Bool.{ltb-false}
 use Rattle.arrays.specs.Item.{Item}
 use Rattle.arrays.specs.Kind.{depth}
-use Rattle.arrays.specs.Lengths.{inner_items}
+use Rattle.arrays.specs.Lengths.{inner_items, is_too_big, text_bytes}
 use Rattle.arrays.specs.Shape.{Shape, FieldShape, int, boolean, utf8, list, dict, field, kind_of_field, kind_of_shape}
 use Rattle.arrays.specs.Typed.{IsItemOf}
 use Rattle.json_places.specs.JsonTable.{Table}
 use Rattle.arrow_text.specs.Dictionaries.{dictionaries_from}
-use Rattle.text_laws.specs.IsFile.{AreColumns, AreShort, IsCounted, IsField, IsFile, IsTable}
+use Rattle.text_laws.specs.IsFile.{AreColumns, AreShort, IsField, IsFile, IsTable}
 use Rattle.text_laws.specs.Fits.{AreShallow, FitColumns, FitDictionaries, FitTables, FitsField, FitsFile, FitsShape}
-use Rattle.text_laws.proofs.Columns.{inner_typed, list_sizes, text_sizes}
+use Rattle.arrays.proofs.SizeLemmas.{small}
+use Rattle.text_laws.proofs.Columns.{inner_few, inner_typed, list_sizes, text_sizes}
 
 mutual
-  field_fits : (f : FieldShape) (items : List Item) → length items < 2 ^ 31 → AllByRecursion (IsItemOf (kind_of_field f)) items → IsCounted (kind_of_field f) items → FitsField f items
+  field_fits : (f : FieldShape) (items : List Item) → length items < 2 ^ 31 → AllByRecursion (IsItemOf (kind_of_field f)) items → is_too_big (kind_of_field f) items ≡ false → FitsField f items
   field_fits (field name nullable ty) items few typed counted = (omega (arith, few), shape_fits ty items typed counted)
 
-  shape_fits : (ty : Shape) (items : List Item) → AllByRecursion (IsItemOf (kind_of_shape ty)) items → IsCounted (kind_of_shape ty) items → FitsShape ty items
+  shape_fits : (ty : Shape) (items : List Item) → AllByRecursion (IsItemOf (kind_of_shape ty)) items → is_too_big (kind_of_shape ty) items ≡ false → FitsShape ty items
   shape_fits (int t) items typed counted = typed
   shape_fits boolean items typed counted = tt
-  shape_fits utf8 items typed counted = omega (arith, text_sizes items typed, counted)
+  shape_fits utf8 items typed counted = omega (arith, text_sizes items typed, small (text_bytes items) counted)
   shape_fits (list f) items typed counted =
-      (omega (arith, list_sizes (kind_of_field f) items typed, counted.0), field_fits f (inner_items items) counted.0 (inner_typed (kind_of_field f) items typed) counted.1)
+      let inside = inner_few (kind_of_field f) items counted in
+      (omega (arith, list_sizes (kind_of_field f) items typed, inside.0), field_fits f (inner_items items) inside.0 (inner_typed (kind_of_field f) items typed) inside.1)
   shape_fits dict items typed counted = tt
 
 columns_fit : (fields : List FieldShape) (rows : ℕ) (columns : List (List Item)) → rows < 2 ^ 31 → AreColumns fields rows columns → FitColumns fields columns

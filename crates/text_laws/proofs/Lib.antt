@@ -15,9 +15,8 @@ pub mod ReadEach
 pub mod ReadSchema
 pub mod Utf8
 pub mod ReadCodes
-pub mod ReadBook
+pub mod ReadCatalog
 pub mod Utf8Documents
 pub mod ReadFile
 pub mod WholeFields
-pub mod WholeCounts
 pub mod WholeTables

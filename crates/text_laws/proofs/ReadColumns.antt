@@ -1,13 +1,13 @@
 -- The columns that aren't dictionary-encoded read back as they are printed.
 use Rattle.std.proofs.Common.{◌≡◌, ℕ, ◌<◌, ◌≤◌, ◌^◌, List, [], ◌∷◌, length, false, Some, option_map, refl, ap, subst, arith}
 use Rattle.std.specs.List.{AllByRecursion}
-use Rattle.std.proofs.lemmas.Bool.{le-ltb, ltb-false}
+use Rattle.std.proofs.lemmas.Bool.{ltb-false}
 use Rattle.types.specs.declared.int_type.IntType.{IntType}
 use Rattle.arrays.specs.Item as column
 use Rattle.arrays.specs.Item.{Item}
 use Rattle.arrays.specs.Kind as kind
 use Rattle.arrays.specs.Kind.{Kind, depth, ends_in_dict, has_dict_in_list}
-use Rattle.arrays.specs.Lengths.{inner_items, text_bytes}
+use Rattle.arrays.specs.Lengths.{inner_items, is_too_big}
 use Rattle.arrays.specs.Shape.{Shape, FieldShape, int, boolean, utf8, list, dict, field, kind_of_field, kind_of_shape}
 use Rattle.arrays.specs.Typed.{IsItemOf}
 use Rattle.serde_json.specs.Data.{Data}
@@ -17,8 +17,8 @@ use Rattle.arrow_json.proofs.JsonLists.{column_plain}
 use Rattle.arrow_json.proofs.JsonSlots.{never_full}
 use Rattle.arrow_text.specs.ColumnData.{column_data, each, number_data, shaped_column, text_column, text_data, truth_data, valid_data}
 use Rattle.arrow_text.specs.Text.{is_encoded}
-use Rattle.text_laws.specs.IsFile.{IsColumn, IsCounted, IsField}
-use Rattle.text_laws.proofs.Columns.{inner_typed}
+use Rattle.text_laws.specs.IsFile.{IsColumn, IsField}
+use Rattle.text_laws.proofs.Columns.{inner_few, inner_typed}
 use Rattle.text_laws.proofs.ReadLists.{list_column_read}
 use Rattle.text_laws.proofs.ReadNumbers.{count_read, flag_read, number_read}
 use Rattle.text_laws.proofs.ReadSlots.{IsSpelled, length-each, plain_read, slots_spelled}
@@ -54,7 +54,7 @@ all_spelled k s value one (x ∷ xs) h = (one x h.0, all_spelled k s value one x
 -- ---- columns
 
 -- Texts: the offsets say no more than the texts.
-pub text_column_read : (name : List ℕ) (items : List Item) → length items < 2 ^ 31 → AllByRecursion (IsItemOf kind.utf8) items → text_bytes items < 2 ^ 31
+pub text_column_read : (name : List ℕ) (items : List Item) → length items < 2 ^ 31 → AllByRecursion (IsItemOf kind.utf8) items → is_too_big kind.utf8 items ≡ false
     → ReadsPlain texts (length items) (text_column name items) items
 text_column_read name items few typed short = record {
   flags = Some (each valid_data items);
@@ -67,16 +67,16 @@ text_column_read name items few typed short = record {
     whole = length-each text_data items;
   };
   slots = slots_spelled texts text_data items (all_spelled kind.utf8 texts text_data text_spelled items typed);
-  fits = le-ltb 2147483647 (text_bytes items) (omega (arith, short));
+  fits = short;
 }
 
 mutual
   pub column_read : (code : List ℕ → ℕ) (f : FieldShape) (items : List Item) → length items < 2 ^ 31 → depth (kind_of_field f) ≤ 8 → ends_in_dict (kind_of_field f) ≡ false
-      → AllByRecursion (IsItemOf (kind_of_field f)) items → IsCounted (kind_of_field f) items → ReadsColumn (kind_of_field f) (length items) (column_data code f items) items
+      → AllByRecursion (IsItemOf (kind_of_field f)) items → is_too_big (kind_of_field f) items ≡ false → ReadsColumn (kind_of_field f) (length items) (column_data code f items) items
   column_read code (field name nullable ty) items few shallow plain typed counted = shape_read code ty name items few shallow plain typed counted
 
   shape_read : (code : List ℕ → ℕ) (ty : Shape) (name : List ℕ) (items : List Item) → length items < 2 ^ 31 → depth (kind_of_shape ty) ≤ 8 → ends_in_dict (kind_of_shape ty) ≡ false
-      → AllByRecursion (IsItemOf (kind_of_shape ty)) items → IsCounted (kind_of_shape ty) items → ReadsColumn (kind_of_shape ty) (length items) (shaped_column code ty name items) items
+      → AllByRecursion (IsItemOf (kind_of_shape ty)) items → is_too_big (kind_of_shape ty) items ≡ false → ReadsColumn (kind_of_shape ty) (length items) (shaped_column code ty name items) items
   shape_read code (int t) name items few shallow plain typed counted =
       plain_read (numbers t) (number_data t) name items few (all_spelled (kind.int t) (numbers t) (number_data t) (number_spelled t) items typed) (never_full items)
   shape_read code boolean name items few shallow plain typed counted =
@@ -84,8 +84,9 @@ mutual
   shape_read code utf8 name items few shallow plain typed counted = text_column_read name items few typed counted
   shape_read code (list f) name items few shallow plain typed counted =
       let k = kind_of_field f in
-      let inner = column_read code f (inner_items items) counted.0 (omega (arith, shallow)) plain (inner_typed k items typed) counted.1 in
-      list_column_read (ReadsColumn k) k (column_data code f (inner_items items)) name items few counted.0 typed (column_plain k _ _ _ inner) (omega (arith, shallow)) inner
+      let inside = inner_few k items counted in
+      let inner = column_read code f (inner_items items) inside.0 (omega (arith, shallow)) plain (inner_typed k items typed) inside.1 in
+      list_column_read (ReadsColumn k) k (column_data code f (inner_items items)) name items few inside.0 typed (column_plain k _ _ _ inner) (omega (arith, shallow)) inner
   shape_read code dict name items few shallow plain typed counted = absurd cc
 
 -- ---- a column of a field

@@ -15,7 +15,7 @@ use Rattle.serde_json.specs.Find.{as_array, get_item}
 use Rattle.json_places.specs.JsonTable.{Table, tables_of}
 use Rattle.json_places.specs.declared.path.Member.TheVariants as at_member
 use Rattle.arrow_json.specs.JsonBatch.{ReadsBatch, ReadsTop}
-use Rattle.arrow_json.specs.JsonBook.{Coding, listed_fields}
+use Rattle.arrow_json.specs.JsonCatalog.{Coding, listed_fields}
 use Rattle.arrow_json.specs.JsonCodes.{ReadsCodes}
 use Rattle.arrow_json.specs.JsonFile.{Reads, ReadsFile, file_of}
 use Rattle.json_places.specs.JsonMember.{member_of}
@@ -32,7 +32,7 @@ use Rattle.arrow_text.proofs.Texts.{length-dictionaries_from}
 use Rattle.text_laws.specs.IsFile.{AreColumns, AreShort, IsColumn, IsField, IsFile, IsTable}
 use Rattle.text_laws.proofs.FileFits.{file_fits}
 use Rattle.text_laws.proofs.PlainDocuments.{document_plain, text_read_back}
-use Rattle.text_laws.proofs.ReadBook.{IsGood, all_there, book_of, book_read, coding_of, schema_at}
+use Rattle.text_laws.proofs.ReadCatalog.{IsGood, all_there, catalog_of, catalog_read, coding_of, schema_at}
 use Rattle.text_laws.proofs.ReadCodes.{IsAmong, codes_read, texts_among}
 use Rattle.text_laws.proofs.ReadColumns.{plain_column_read}
 use Rattle.text_laws.proofs.ReadEach.{AreRead, each_read}
@@ -64,7 +64,7 @@ dictionary_at place (g ∷ fields) tables (suc i) f texts at_field at_texts =
     dictionary_at (suc place) fields tables i f texts at_field at_texts ∙ ap (λ p. dictionary_of (kind_of_field f) (column_items p tables)) (omega arith)
 
 coding_at : (dictionaries : List (List (List ℕ))) (fields : List FieldShape) (i : ℕ) (f : FieldShape) (texts : List (List ℕ)) (c : Option Coding) → slice_get fields i ≡ Some f
-    → slice_get dictionaries i ≡ Some texts → slice_get (book_of dictionaries fields) i ≡ Some c → coding_of (kind_of_field f) texts ≡ c
+    → slice_get dictionaries i ≡ Some texts → slice_get (catalog_of dictionaries fields) i ≡ Some c → coding_of (kind_of_field f) texts ≡ c
 coding_at [] fields i f texts c at_field at_texts at = absurd cc
 coding_at (ts ∷ dictionaries) [] i f texts c at_field at_texts at = absurd cc
 coding_at (ts ∷ dictionaries) (g ∷ fields) zero f texts c at_field at_texts at =
@@ -133,7 +133,7 @@ column_coded fields tables k t i f texts items at at_field at_texts at_items is 
 
 batch_read : (fields : List FieldShape) (tables : List Table) (k : ℕ) (t : Table) → slice_get tables k ≡ Some t → AllByRecursion IsField fields → IsTable fields t
     → AreShort (dictionaries_from 0 fields tables)
-    → ReadsBatch fields (book_of (dictionaries_from 0 fields tables) fields) (batch_data (dictionaries_from 0 fields tables) fields t) t
+    → ReadsBatch fields (catalog_of (dictionaries_from 0 fields tables) fields) (batch_data (dictionaries_from 0 fields tables) fields t) t
 batch_read fields tables k t at lawful h short =
     let dictionaries = dictionaries_from 0 fields tables in
     let as_many = length-dictionaries_from 0 fields tables in
@@ -184,19 +184,19 @@ document_read fields tables h short =
     let dictionaries = dictionaries_from 0 fields tables in
     let batches = batches_data dictionaries fields tables in
     let as_many = length-dictionaries_from 0 fields tables in
-    let book = book_of dictionaries fields in
+    let catalog = catalog_of dictionaries fields in
     let schema = schema_at batches (has_dictionary fields) dictionaries fields in
     record {
       schema = record { schema = schema_data fields; at_schema = schema; reads = schema_read fields h.few h.lawful };
-      book = book;
+      catalog = catalog;
       coded =
-          book_read (document fields tables) dictionaries fields (listed fields tables) as_many h.few
+          catalog_read (document fields tables) dictionaries fields (listed fields tables) as_many h.few
           (all_there batches dictionaries fields as_many h.few (all_good dictionaries short (dictionaries_utf8 fields tables h.held)));
       batches = batches;
       at_batches = refl;
       tables =
-          each_read (ReadsBatch fields book) batches tables
-          (batches_read (ReadsBatch fields book) dictionaries fields tables (λ k t at. batch_read fields tables k t at h.lawful (table_at fields tables k t h.held at) short));
+          each_read (ReadsBatch fields catalog) batches tables
+          (batches_read (ReadsBatch fields catalog) dictionaries fields tables (λ k t at. batch_read fields tables k t at h.lawful (table_at fields tables k t h.held at) short));
     }
 
 pub text_is_utf8 : (f : File) → IsFile f.fields (tables_of f.batches) → AreShort (dictionaries_from 0 f.fields (tables_of f.batches)) → IsUtf8 (printed.text f)

@@ -12,7 +12,7 @@ use Rattle.arrays.specs.Item.{Item, Items, is_null, items_of, list_of}
 use Rattle.arrays.specs.Kind as kind
 use Rattle.arrays.specs.Kind.{Kind, depth, same_kind}
 use Rattle.arrays.specs.Lengths.{inner_items, items_in}
-use Rattle.arrays.specs.Offsets.{length_of, of_slot}
+use Rattle.arrays.specs.Offsets.{length_at, slot_at}
 use Rattle.arrays.specs.Typed.{IsItemOf}
 use Rattle.arrays.proofs.ListArrays.{read_lists}
 use Rattle.serde_json.specs.Data.{Data}
@@ -42,10 +42,10 @@ cut_out k (y ∷ ys) h (suc j) x at =
     ∙ cut_out k ys h.1 j x at
 
 slot_items : (k : Kind) (items : List Item) → sum_by item_length items < 2 ^ 31 → AllByRecursion (IsItemOf (kind.list k)) items → (j : ℕ) (x : Item) → slice_get items j ≡ Some x → j < length items
-    → of_slot (offset_bytes (starts 0 items)) (inner_items items) j ≡ items_in x
+    → slot_at (offset_bytes (starts 0 items)) (inner_items items) j ≡ items_in x
 slot_items k items small h j x at within =
     let bytes = offset_bytes (starts 0 items) in
-    ap (λ n. slice (inner_items items) n (length_of bytes j)) (begins items small j (omega (arith, within)))
+    ap (λ n. slice (inner_items items) n (length_at bytes j)) (begins items small j (omega (arith, within)))
     ∙ ap (slice (inner_items items) (sum_by item_length (take j items))) (lengths items small j x at)
     ∙ cut_out k items h j x at
 
@@ -81,7 +81,7 @@ slots_read k items small h = record {
       x.1
       ∙ list_read k x.0 (typed_at (kind.list k) items j x.0 h x.1)
       ∙ ap (list_slot (Some (not (is_null x.0)))) (sym (slot_items k items small h j x.0 x.1 within))
-      ∙ ap (λ o. list_slot o (of_slot (offset_bytes (starts 0 items)) (inner_items items) j)) (sym (valid_read items j ∙ ap (option_map (λ y. not (is_null y))) x.1));
+      ∙ ap (λ o. list_slot o (slot_at (offset_bytes (starts 0 items)) (inner_items items) j)) (sym (valid_read items j ∙ ap (option_map (λ y. not (is_null y))) x.1));
 }
 
 -- ---- the column

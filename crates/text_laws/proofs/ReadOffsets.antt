@@ -11,7 +11,7 @@ use Rattle.types.specs.Number.{IsOfType, bytes_of_number, is_negative, natural a
 use Rattle.types.proofs.EncodingLemmas.{length-bytes_of_number, number_at-append-end, number_at-append-front, number_at-append-past}
 use Rattle.arrays.specs.Item as column
 use Rattle.arrays.specs.Item.{Item}
-use Rattle.arrays.specs.Offsets.{AreOffsets, length_of, start_of}
+use Rattle.arrays.specs.Offsets.{AreOffsetBytes, length_at, start_at}
 use Rattle.serde_json.specs.Data.{Data}
 use Rattle.serde_json.specs.Events.{items_len}
 use Rattle.serde_json.specs.Find.{get_item}
@@ -71,25 +71,25 @@ next_number z bytes j =
 in_range : (n : ℕ) → n < 2 ^ 31 → IsOfType int32 (pos n)
 in_range n small = omega (arith, ints)
 
-start_at : (start : ℕ) (items : List Item) → start + sum_by item_length items < 2 ^ 31 → (j : ℕ) → j ≤ length items
+offset_number : (start : ℕ) (items : List Item) → start + sum_by item_length items < 2 ^ 31 → (j : ℕ) → j ≤ length items
     → number_at int32 (offset_bytes (starts start items)) j ≡ pos (start + sum_by item_length (take j items))
-start_at start [] small zero within = first_number (pos start) [] (in_range start (omega (arith, small))) ∙ ap pos (omega arith)
-start_at start [] small (suc j) within = absurd (omega arith)
-start_at start (x ∷ xs) small zero within =
+offset_number start [] small zero within = first_number (pos start) [] (in_range start (omega (arith, small))) ∙ ap pos (omega arith)
+offset_number start [] small (suc j) within = absurd (omega arith)
+offset_number start (x ∷ xs) small zero within =
     first_number (pos start) (offset_bytes (starts (start + item_length x) xs)) (in_range start (omega (arith, small))) ∙ ap pos (omega arith)
-start_at start (x ∷ xs) small (suc j) within =
+offset_number start (x ∷ xs) small (suc j) within =
     next_number (pos start) (offset_bytes (starts (start + item_length x) xs)) j
-    ∙ start_at (start + item_length x) xs (omega (arith, small, sum_by-cons item_length x xs)) j (omega arith)
+    ∙ offset_number (start + item_length x) xs (omega (arith, small, sum_by-cons item_length x xs)) j (omega arith)
     ∙ ap pos (omega (arith, sum_by-cons item_length x (take j xs)))
 
 -- ---- offsets that rise
 
 -- Where a slot begins.
-pub begins : (items : List Item) → sum_by item_length items < 2 ^ 31 → (j : ℕ) → j ≤ length items → start_of (offset_bytes (starts 0 items)) j ≡ sum_by item_length (take j items)
-begins items small j within = ap natural_of (start_at 0 items (omega (arith, small)) j within) ∙ omega arith
+pub begins : (items : List Item) → sum_by item_length items < 2 ^ 31 → (j : ℕ) → j ≤ length items → start_at (offset_bytes (starts 0 items)) j ≡ sum_by item_length (take j items)
+begins items small j within = ap natural_of (offset_number 0 items (omega (arith, small)) j within) ∙ omega arith
 
 -- How long it is.
-pub lengths : (items : List Item) → sum_by item_length items < 2 ^ 31 → (j : ℕ) (x : Item) → slice_get items j ≡ Some x → length_of (offset_bytes (starts 0 items)) j ≡ item_length x
+pub lengths : (items : List Item) → sum_by item_length items < 2 ^ 31 → (j : ℕ) (x : Item) → slice_get items j ≡ Some x → length_at (offset_bytes (starts 0 items)) j ≡ item_length x
 lengths items small j x at =
     let within : j < length items = slice_get_within items j x at in
     let here = begins items small j (omega (arith, within)) in
@@ -98,10 +98,10 @@ lengths items small j x at =
     let same : item_length (get_or items j x) ≡ item_length x = ap item_length (get_or_from_slice_get items j x x at) in
     omega (arith, here, next, more, same)
 
-pub offsets_lawful : (items : List Item) (most : ℕ) → sum_by item_length items < 2 ^ 31 → sum_by item_length items ≤ most → AreOffsets (length items) (offset_bytes (starts 0 items)) most
+pub offsets_lawful : (items : List Item) (most : ℕ) → sum_by item_length items < 2 ^ 31 → sum_by item_length items ≤ most → AreOffsetBytes (length items) (offset_bytes (starts 0 items)) most
 offsets_lawful items most small within = record {
   size = omega (arith, length-bytes (starts 0 items), length-starts 0 items);
-  counted = λ j below. ap is_negative (start_at 0 items (omega (arith, small)) j below) ∙ le-ltb (0 + sum_by item_length (take j items)) 0 (omega arith);
+  counted = λ j below. ap is_negative (offset_number 0 items (omega (arith, small)) j below) ∙ le-ltb (0 + sum_by item_length (take j items)) 0 (omega arith);
   rising = λ j below.
       omega (arith, begins items small j (omega (arith, below)), begins items small (j + 1) (omega (arith, below)), sum_by_more item_length items j column.null below);
   last = omega (arith, begins items small (length items) (omega arith), ap (sum_by item_length) (take-length items), within);

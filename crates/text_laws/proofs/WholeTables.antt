@@ -6,9 +6,10 @@ use Rattle.std.specs.Option.{option_or}
 use Rattle.std.proofs.lemmas.Bool.{eqb-true}
 use Rattle.std.proofs.lemmas.Bool.Decides.{nat_tests}
 use Rattle.std.proofs.lemmas.List.{get_or-map, length-map, take_all, take_more}
-use Rattle.std.proofs.lemmas.List.Elements.{All-append}
+use Rattle.std.proofs.lemmas.List.Elements.{All-append, recursion_from_All}
 use Rattle.std.proofs.lemmas.Option.{slice_get-get_or}
 use Rattle.pool.proofs.PlaceLemmas.{among_missing}
+use Rattle.arrays.specs.Lengths.{is_too_big}
 use Rattle.arrays.specs.Batch.{Batch, bad_length, batch_fault, differing_length, differing_type}
 use Rattle.arrays.specs.declared.batch.BatchFault.TheVariants.{ColumnCount, LengthsDiffer, TypeDiffers}
 use Rattle.arrays.specs.File.{AreBatchesOf, kinds_of}
@@ -18,7 +19,8 @@ use Rattle.arrays.specs.Shape.{FieldShape, kind_of_field}
 use Rattle.arrays.specs.Typed.{IsItemOf}
 use Rattle.json_places.specs.JsonTable.{Table, items_of, table_of, tables_of}
 use Rattle.arrow_text.proofs.Batches.{lawful_kinds}
-use Rattle.text_laws.specs.IsFile.{AreColumns, IsBatch, IsColumn, IsCounted, IsHeld, IsTable}
+use Rattle.text_laws.specs.IsFile.{AreColumns, IsBatch, IsColumn, IsHeld, IsTable}
+use Rattle.types.specs.Limits.{most_slots}
 
 -- ---- loops
 
@@ -35,6 +37,9 @@ pub all_told : {A : Type 0} (P : A → Type 0) (xs : List A) (k : ℕ) → lengt
 all_told P xs k past all = subst (All P) (take_all k xs past) all
 
 -- ---- columns
+
+pub held_by : (c : Seen) → All (IsItemOf c.kind) c.items → is_too_big c.kind c.items ≡ false → IsHeld c
+held_by c typed few = record { len = refl; typed = recursion_from_All (IsItemOf c.kind) c.items typed; counted = few }
 
 abbrev is_short : ℕ → Seen → Bool
 is_short rows c = not (eqb (length c.items) rows)
@@ -56,7 +61,7 @@ columns_held (f ∷ fields) rows (c ∷ columns) same long held =
       record {
         len = eqb-true (length c.items) rows lengths.0;
         typed = subst (λ k. AllByRecursion (IsItemOf k) c.items) one here.typed;
-        counted = subst (λ k. IsCounted k c.items) one here.counted;
+        counted = subst (λ k. is_too_big k c.items ≡ false) one here.counted;
       },
       columns_held fields rows columns others lengths.1 (λ i d below. held (suc i) d (omega (arith, below))),
     )
@@ -73,13 +78,13 @@ right_length : (b : Bool) (l : Option ℕ) → cond b (Some 0) l ≡ None → (b
 right_length true l h = absurd cc
 right_length false l h = (refl, h)
 
-few_rows : (rows : ℕ) → nat_lt 2147483647 rows ≡ false → rows < 2 ^ 31
+few_rows : (rows : ℕ) → nat_lt most_slots rows ≡ false → rows < 2 ^ 31
 few_rows rows h = grind (arith, nat_tests)
 
 -- A lawful batch holds a table under its own fields.
 pub table_held : (b : Batch) → batch_fault b.fields b.rows b.columns ≡ None → All IsHeld b.columns → IsBatch b
 table_held b lawful held =
-    let lengths = right_length (nat_lt 2147483647 b.rows) (differing_length b.rows b.columns)
+    let lengths = right_length (nat_lt most_slots b.rows) (differing_length b.rows b.columns)
     (no_fault (eqb (length b.columns) (length b.fields)) (differing_type b.fields b.columns) (bad_length b.rows b.columns) lawful) in
     record {
       few = few_rows b.rows lengths.0;

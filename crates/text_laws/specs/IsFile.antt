@@ -3,9 +3,8 @@ use Rattle.std.specs.Prelude.{◌≡◌, ℕ, ◌<◌, ◌^◌, List, [], ◌∷
 use Rattle.std.specs.List.{AllByRecursion}
 use Rattle.arrays.specs.Batch.{Batch}
 use Rattle.arrays.specs.Item.{Item}
-use Rattle.arrays.specs.Kind as kind
 use Rattle.arrays.specs.Kind.{Kind}
-use Rattle.arrays.specs.Lengths.{inner_items, text_bytes}
+use Rattle.arrays.specs.Lengths.{is_too_big}
 use Rattle.arrays.specs.Schema.{holds_dict, is_deep}
 use Rattle.arrays.specs.Seen.{Seen}
 use Rattle.arrays.specs.Shape.{Shape, FieldShape, int, boolean, utf8, list, dict, field, kind_of_field}
@@ -35,19 +34,11 @@ pub record IsField (f : FieldShape) : Type 0 where
 
 -- ---- columns
 
--- Offsets are signed and of 32 bits: they count the bytes of all texts of a column, and the items of all its lists, which are a column again.
-abbrev pub IsCounted : Kind → List Item → Type 0
-IsCounted (kind.int t) items = ⊤
-IsCounted kind.boolean items = ⊤
-IsCounted kind.utf8 items = text_bytes items < 2 ^ 31
-IsCounted (kind.list k) items = (length (inner_items items) < 2 ^ 31) × IsCounted k (inner_items items)
-IsCounted kind.dict items = ⊤
-
 -- A column of the kind: an item for each row.
 pub record IsColumn (k : Kind) (rows : ℕ) (items : List Item) : Type 0 where
   pub len : length items ≡ rows
   pub typed : AllByRecursion (IsItemOf k) items
-  pub counted : IsCounted k items
+  pub counted : is_too_big k items ≡ false
 
 -- A column of its own kind, in rows as many as its items.
 abbrev pub IsHeld : Seen → Type 0

@@ -1,13 +1,12 @@
 //! Every file in memory is what the laws ask of one.
 
-ghost use Rattle.std.specs.Prelude.{All, ℕ, ◌<◌, ◌≤◌, ◌^◌, length};
+ghost use Rattle.std.specs.Prelude.{All, ◌<◌, ◌^◌, length};
 ghost use Rattle.std.specs.Arc.{arc_value};
 ghost use Rattle.std.specs.List.{AllByRecursion};
-ghost use Rattle.arrays.specs.Offsets.{start_of};
 ghost use Rattle.json_places.specs.JsonTable.{tables_of};
-ghost use Rattle.text_laws.specs.IsFile.{IsBatch, IsCounted, IsField, IsFile, IsHeld};
+ghost use Rattle.text_laws.specs.IsFile.{IsBatch, IsField, IsFile, IsHeld};
 
-use arrays::{Array, Field, File, RecordBatch, Schema, View, ViewType};
+use arrays::{Array, Field, File, RecordBatch, Schema};
 use std::sync::Arc;
 
 /// Says that a file is what the laws ask of one. Nothing is looked at that a proof doesn't need, and nothing changes.
@@ -54,32 +53,6 @@ fn tell_columns(columns: &[Array])
     ensures { All IsHeld columns.now }
 {
     for column in columns {
-        tell_column(&column.view());
+        column.view().tell_items();
     }
-}
-
-/// The same of one column.
-fn tell_column(view: &View<'_>)
-    ensures { IsHeld view.now }
-{
-    view.tell_items();
-    tell_counts(view);
-}
-
-/// Says that offsets count the bytes of texts and the items of lists.
-fn tell_counts(view: &View<'_>)
-    ensures { IsCounted view.now.kind view.now.items }
-{
-    match view.ty() {
-        ViewType::Utf8 => tell_offsets(view.texts().offsets),
-        ViewType::List(_) => tell_counts(&view.lists().child),
-        ViewType::Int(_) | ViewType::Bool | ViewType::Dict => {}
-    }
-}
-
-/// Says that offsets are 32-bit numbers.
-fn tell_offsets(offsets: &[u8])
-    ensures { (j : ℕ) → start_of offsets.now j ≤ 2147483647 }
-{
-    let _ = offsets.is_empty();
 }

@@ -6,6 +6,7 @@ ghost use Rattle.colbits.specs.Bit.{bit, bit_in};
 ghost use Rattle.arrays.specs.Kind as kind;
 ghost use Rattle.arrays.specs.Shown.{kept, shown};
 ghost use Rattle.truths.specs.Truth.{truths_of};
+ghost use Rattle.types.specs.Limits.{most_slots};
 
 use arrays::Array;
 use arrays::validity::{buffer_of, validity_of};
@@ -25,7 +26,7 @@ pub trait Truths {
     /// How many places there are.
     fn slots(&self) -> u32
         ensures count { result ≡ count self.now }
-        ensures short { result ≤ 2147483647 };
+        ensures short { result ≤ most_slots };
 
     /// Whether there is a value at each place, as far as can be told without a look at each.
     fn are_known(&self) -> bool

@@ -40,6 +40,10 @@ bytes_of w = byte_len (bits_of w)
 abbrev pub int32 : IntType
 int32 = record { bits = W32; signed = true }
 
+-- Signed, of 64 bits.
+abbrev pub int64 : IntType
+int64 = record { bits = W64; signed = true }
+
 -- How many lists stand in one another.
 abbrev pub depth : Kind → ℕ
 depth (list k) = suc (depth k)

@@ -4,3 +4,4 @@ pub mod First
 pub mod Schema
 pub mod Number
 pub mod Code
+pub mod Limits

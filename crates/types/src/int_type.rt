@@ -55,3 +55,15 @@ impl IntType {
         }
     }
 }
+
+/// Signed numbers of 32 bits: the type of a dictionary's codes.
+pub const INT32: IntType = IntType {
+    bits: Width::W32,
+    signed: true,
+};
+
+/// Signed numbers of 64 bits: what a literal is unless what stands beside it is of another integer type.
+pub const INT64: IntType = IntType {
+    bits: Width::W64,
+    signed: true,
+};

@@ -7,12 +7,14 @@ pub mod depth;
 pub mod dispatch;
 pub mod int_type;
 pub mod integer;
+pub mod limits;
 pub mod numbers;
 pub mod schema;
 
 pub use data_type::{DataType, Field, is_same};
 pub use depth::{has_dict_in_list, is_too_deep};
-pub use int_type::{IntType, Width};
+pub use int_type::{INT32, INT64, IntType, Width};
 pub use integer::{Integer, Packed};
+pub use limits::MOST_SLOTS;
 pub use numbers::{int32_at, natural_at, number_at, push_number};
 pub use schema::{Schema, SchemaFault};

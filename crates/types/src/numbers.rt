@@ -2,6 +2,7 @@
 
 ghost use Rattle.std.specs.Prelude.{◌≡◌, ◌+◌, ◌*◌, ◌≤◌, ◌++◌, false, length, OnOk, OnErr};
 ghost use Rattle.types.specs.Kind.{bytes_of, int32};
+ghost use Rattle.types.specs.Limits.{most_slots};
 ghost use Rattle.types.specs.Number.{is_negative, natural, number_at, IsOfType, bytes_of_number};
 
 use crate::int_type::IntType;
@@ -23,7 +24,8 @@ pub fn int32_at(bytes: &[u8], j: usize) -> i32
 pub fn natural_at(bytes: &[u8], j: usize) -> usize
     requires there { 4 * j + 4 ≤ length bytes.now }
     requires counted { is_negative (number_at int32 bytes.now j) ≡ false }
-    ensures { result ≡ natural (number_at int32 bytes.now j) }
+    ensures number { result ≡ natural (number_at int32 bytes.now j) }
+    ensures short { result ≤ most_slots }
 {
     int32_at(bytes, j) as usize
 }

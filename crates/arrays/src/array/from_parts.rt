@@ -2,9 +2,10 @@ ghost use Rattle.std.specs.Prelude.{◌≡◌, ◌*◌, ◌<◌, ◌≤◌, leng
 ghost use Rattle.types.specs.Kind.{bytes_of, depth, dict, kind_of, same_kind};
 ghost use Rattle.layout.specs.Fault.{is_validity_short};
 ghost use Rattle.arrays.specs.FromParts.{AreTexts, show_bits, show_lists, show_numbers, show_texts};
-ghost use Rattle.layout.specs.Offsets.{AreOffsets};
+ghost use Rattle.layout.specs.Offsets.{AreOffsetBytes};
 ghost use Rattle.layout.specs.Reading.{reading};
 ghost use Rattle.layout.specs.Checked.{checked};
+ghost use Rattle.types.specs.Limits.{most_slots};
 
 use super::Array;
 use super::parts::{Parts, into_raw};
@@ -24,7 +25,7 @@ impl Array {
         validity: Option<Buffer>,
         values: Buffer,
     ) -> Result<Array, NoMemory>
-        requires short { len ≤ 2147483647 }
+        requires short { len ≤ most_slots }
         requires numbers { len * bytes_of ty.bits ≤ length values }
         requires bits { is_validity_short len validity ≡ false }
         ensures { IfOk result (λ a. a ≡ show_numbers ty len validity values) }
@@ -46,7 +47,7 @@ impl Array {
         validity: Option<Buffer>,
         bits: Buffer,
     ) -> Result<Array, NoMemory>
-        requires short { len ≤ 2147483647 }
+        requires short { len ≤ most_slots }
         requires bits { is_validity_short len (Some bits) ≡ false }
         requires validity { is_validity_short len validity ≡ false }
         ensures { IfOk result (λ a. a ≡ show_bits len validity bits) }
@@ -70,9 +71,9 @@ impl Array {
         offsets: Buffer,
         bytes: Buffer,
     ) -> Result<Array, NoMemory>
-        requires short { len ≤ 2147483647 }
+        requires short { len ≤ most_slots }
         requires validity { is_validity_short len validity ≡ false }
-        requires offsets { AreOffsets len offsets (length bytes) }
+        requires offsets { AreOffsetBytes len offsets (length bytes) }
         requires texts { AreTexts len validity offsets bytes }
         ensures { IfOk result (λ a. a ≡ show_texts len validity offsets bytes) }
     {
@@ -96,9 +97,9 @@ impl Array {
         offsets: Buffer,
         child: Array,
     ) -> Result<Array, NoMemory>
-        requires short { len ≤ 2147483647 }
+        requires short { len ≤ most_slots }
         requires validity { is_validity_short len validity ≡ false }
-        requires offsets { AreOffsets len offsets (length child.items) }
+        requires offsets { AreOffsetBytes len offsets (length child.items) }
         requires kind { kind_of item.ty ≡ child.kind }
         requires no_dict { same_kind child.kind dict ≡ false }
         requires depth { depth child.kind < 8 }

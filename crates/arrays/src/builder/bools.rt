@@ -4,6 +4,7 @@ ghost use Rattle.std.specs.Prelude.{◌≡◌, ◌<◌, [], ◌∷◌, ◌++◌,
 ghost use Rattle.types.specs.Kind as kind;
 ghost use Rattle.arrays.specs.Shown.{shown};
 ghost use Rattle.arrays.specs.Slot.{item_of_bool};
+ghost use Rattle.types.specs.Limits.{most_slots};
 
 use super::validity::ValidityBuilder;
 use crate::array::Array;
@@ -49,7 +50,7 @@ impl BoolBuilder {
 
     /// Adds a slot at the end: the value, or null.
     pub fn push(&mut self, value: Option<bool>) -> Result<(), NoMemory>
-        requires room { length self.old < 2147483647 }
+        requires room { length self.old < most_slots }
         ensures ok { OnOk result (self.new ≡ self.old ++ item_of_bool value ∷ []) }
         ensures err { OnErr result (self.new ≡ self.old) }
     {

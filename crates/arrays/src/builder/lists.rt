@@ -5,6 +5,7 @@ ghost use Rattle.types.specs.Kind as kind;
 ghost use Rattle.types.specs.Kind.{depth, dict, kind_of, same_kind};
 ghost use Rattle.arrays.specs.Lengths.{IsBuildFault, cut, is_past, total};
 ghost use Rattle.arrays.specs.Shown.{shown};
+ghost use Rattle.types.specs.Limits.{most_slots};
 
 use super::fault::BuildFault;
 use super::offsets::OffsetsBuilder;
@@ -33,7 +34,7 @@ impl Model for ListBuilder {
 impl ListBuilder {
     /// An empty column, with room for so many slots.
     pub fn with_capacity(alloc: Global, slots: usize) -> Result<ListBuilder, NoMemory>
-        requires { slots ≤ 2147483647 }
+        requires { slots ≤ most_slots }
         ensures { IfOk result (λ b. b ≡ []) }
     {
         Ok(ListBuilder {
@@ -44,7 +45,7 @@ impl ListBuilder {
 
     /// Adds a slot at the end: a list of so many items, or null.
     pub fn push(&mut self, items: Option<usize>) -> Result<(), BuildFault>
-        requires room { length self.old < 2147483647 }
+        requires room { length self.old < most_slots }
         ensures ok { OnOk result (self.new ≡ self.old ++ items ∷ []) }
         ensures err { OnErr result (self.new ≡ self.old) }
         ensures fault { IfErr result (IsBuildFault (is_past (total (self.old ++ items ∷ [])))) }

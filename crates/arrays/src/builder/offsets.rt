@@ -3,6 +3,7 @@
 ghost use Rattle.std.specs.Prelude.{◌≡◌, ◌<◌, ◌≤◌, false, Some, [], ◌∷◌, ◌++◌, length, IfErr, IfOk, OnErr, OnOk};
 ghost use Rattle.arrays.specs.Growing.{AreLaid};
 ghost use Rattle.arrays.specs.Lengths.{IsBuildFault, is_past, total};
+ghost use Rattle.types.specs.Limits.{most_slots};
 
 use super::fault::BuildFault;
 use super::validity::ValidityBuilder;
@@ -10,10 +11,7 @@ use crate::validity::buffer_of;
 use colbits::{Buffer, NoMemory};
 use std::alloc::Global;
 use std::marker::Model;
-use types::Integer;
-
-/// The most bytes or items that 32-bit offsets count.
-pub(crate) const MOST: usize = 2147483647;
+use types::{Integer, MOST_SLOTS};
 
 /// Offsets of which the lengths are told one by one: they begin at 0, and a null is empty.
 #[derive(Drop)]
@@ -38,7 +36,7 @@ impl Model for OffsetsBuilder {
 impl OffsetsBuilder {
     /// No slots, with room for so many.
     pub(crate) fn with_capacity(alloc: Global, slots: usize) -> Result<OffsetsBuilder, NoMemory>
-        requires { slots ≤ 2147483647 }
+        requires { slots ≤ most_slots }
         ensures { IfOk result (λ b. b ≡ []) }
     {
         let mut offsets = Vec::with_capacity(alloc, 4 * slots + 67)?;
@@ -54,19 +52,19 @@ impl OffsetsBuilder {
     pub(crate) fn is_full_for(&self, more: usize) -> bool
         ensures { result ≡ is_past (total (self.now ++ Some more ∷ [])) }
     {
-        more > MOST - self.total
+        more > MOST_SLOTS - self.total
     }
 
     /// Adds a slot at the end: its length, or null.
     pub(crate) fn push(&mut self, slot: Option<usize>) -> Result<(), BuildFault>
-        requires room { length self.old < 2147483647 }
+        requires room { length self.old < most_slots }
         ensures ok { OnOk result (self.new ≡ self.old ++ slot ∷ []) }
         ensures err { OnErr result (self.new ≡ self.old) }
         ensures fault { IfErr result (IsBuildFault (is_past (total (self.old ++ slot ∷ [])))) }
         ensures fits { OnOk result (is_past (total self.new) ≡ false) }
     {
         let more = slot.unwrap_or(0);
-        if more > MOST - self.total {
+        if more > MOST_SLOTS - self.total {
             return Err(BuildFault::OffsetsFull);
         }
         let end = self.total + more;

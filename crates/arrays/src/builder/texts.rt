@@ -7,6 +7,7 @@ ghost use Rattle.types.specs.Kind as kind;
 ghost use Rattle.arrays.specs.Lengths.{IsBuildFault, is_past, text_bytes};
 ghost use Rattle.arrays.specs.Shown.{shown};
 ghost use Rattle.arrays.specs.Slot.{item_of_text};
+ghost use Rattle.types.specs.Limits.{most_slots};
 
 use super::fault::BuildFault;
 use super::offsets::OffsetsBuilder;
@@ -41,7 +42,7 @@ impl Model for TextBuilder {
 impl TextBuilder {
     /// An empty column, with room for so many slots and bytes, and for the padding of the bytes.
     pub fn with_capacity(alloc: Global, slots: usize, bytes: usize) -> Result<TextBuilder, NoMemory>
-        requires { slots ≤ 2147483647 }
+        requires { slots ≤ most_slots }
         ensures { IfOk result (λ b. b ≡ []) }
     {
         Ok(TextBuilder {
@@ -53,7 +54,7 @@ impl TextBuilder {
 
     /// Adds a slot at the end: the text, or null.
     pub fn push(&mut self, text: Option<&str>) -> Result<(), BuildFault>
-        requires room { length self.old < 2147483647 }
+        requires room { length self.old < most_slots }
         ensures ok { OnOk result (self.new ≡ self.old ++ item_of_text (option_copied text.entry) ∷ []) }
         ensures err { OnErr result (self.new ≡ self.old) }
         ensures fault { IfErr result
@@ -72,7 +73,7 @@ impl TextBuilder {
 
     /// Adds a text at the end.
     fn push_text(&mut self, text: &str) -> Result<(), BuildFault>
-        requires room { length self.old < 2147483647 }
+        requires room { length self.old < most_slots }
         ensures ok { OnOk result (self.new ≡ self.old ++ item.text text.now ∷ []) }
         ensures err { OnErr result (self.new ≡ self.old) }
         ensures fault { IfErr result (IsBuildFault (is_past (text_bytes (self.old ++ item.text text.now ∷ [])))) }

@@ -1,10 +1,11 @@
 //! Which slots are valid, in the making.
 
-ghost use Rattle.std.specs.Prelude.{◌≡◌, ℕ, ◌+◌, ◌<◌, ◌≤◌, List, Bool, [], ◌∷◌, ◌++◌, true, map, length, replicate, IfOk, OnErr, OnOk};
+ghost use Rattle.std.specs.Prelude.{◌≡◌, ◌+◌, ◌<◌, ◌≤◌, List, Bool, [], ◌∷◌, ◌++◌, true, map, length, replicate, IfOk, OnErr, OnOk};
 ghost use Rattle.std.specs.List.{range_with_len};
 ghost use Rattle.colbits.specs.Bitmap.{bit_of};
 ghost use Rattle.layout.specs.Seen.{valid_in};
 ghost use Rattle.arrays.specs.Shown.{kept};
+ghost use Rattle.types.specs.Limits.{most_slots};
 
 use crate::validity::kept_of;
 use colbits::{BitmapBuf, BitmapBuilder, Bits, NoMemory, Places};
@@ -22,6 +23,7 @@ pub struct ValidityBuilder {
 }
 
 impl Model for ValidityBuilder {
+    ghost use Rattle.types.specs.Limits.{most_slots};
     ghost use Rattle.std.specs.Prelude.{List, Bool};
     ghost use Rattle.std.specs.Prelude.{◌+◌, ◌≤◌, length};
     ghost use Rattle.arrays.specs.Slots.{show_validity};
@@ -30,7 +32,7 @@ impl Model for ValidityBuilder {
 
     ghost view = { show_validity };
 
-    ghost invariant = { λ b. b.before + length b.after ≤ 2147483647 };
+    ghost invariant = { λ b. b.before + length b.after ≤ most_slots };
 }
 
 impl ValidityBuilder {
@@ -48,7 +50,7 @@ impl ValidityBuilder {
     /// How many slots there are.
     pub fn len(&self) -> usize
         ensures count { result ≡ length self.now }
-        ensures short { result ≤ 2147483647 }
+        ensures short { result ≤ most_slots }
     {
         self.before + self.after.len()
     }
@@ -56,7 +58,7 @@ impl ValidityBuilder {
     /// Adds a slot at the end.
     #[inline(always)]
     pub fn push(&mut self, valid: bool) -> Result<(), NoMemory>
-        requires room { length self.old < 2147483647 }
+        requires room { length self.old < most_slots }
         ensures ok { OnOk result (self.new ≡ self.old ++ valid ∷ []) }
         ensures err { OnErr result (self.new ≡ self.old) }
     {
@@ -70,7 +72,7 @@ impl ValidityBuilder {
 
     /// Adds so many valid slots at the end.
     pub fn push_valid(&mut self, count: usize) -> Result<(), NoMemory>
-        requires room { length self.old + count ≤ 2147483647 }
+        requires room { length self.old + count ≤ most_slots }
         ensures ok { OnOk result (self.new ≡ self.old ++ replicate count true) }
         ensures err { OnErr result (self.new ≡ self.old) }
     {
@@ -84,7 +86,7 @@ impl ValidityBuilder {
 
     /// Adds so many slots at the end, valid where the validity says so: 64 of them at a time.
     pub fn push_slots(&mut self, validity: &Option<Bits<'_>>, count: usize) -> Result<(), NoMemory>
-        requires room { length self.old + count ≤ 2147483647 }
+        requires room { length self.old + count ≤ most_slots }
         ensures ok { OnOk result (self.new ≡ self.old ++ map (valid_in validity.now) (range_with_len 0 count)) }
         ensures err { OnErr result (self.new ≡ self.old) }
     {

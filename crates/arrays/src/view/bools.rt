@@ -6,6 +6,7 @@ ghost use Rattle.types.specs.Kind as kind;
 ghost use Rattle.arrays.specs.Slot.{item_at, item_of_bool};
 ghost use Rattle.arrays.specs.Truth.{knows_false, knows_true};
 ghost use Rattle.arrays.specs.Values.{HasBits, bool_in, bool_items};
+ghost use Rattle.types.specs.Limits.{most_slots};
 
 use crate::validity::{is_valid, valid_lanes, valid_word};
 use crate::view::View;
@@ -23,7 +24,7 @@ pub struct Bools<'a> {
     /// How many slots there are.
     pub slots: u32,
     ghost size: { length values ≡ slots },
-    ghost short: { slots ≤ 2147483647 },
+    ghost short: { slots ≤ most_slots },
 }
 
 impl<'a> Bools<'a> {

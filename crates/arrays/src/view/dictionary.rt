@@ -9,13 +9,7 @@ ghost use Rattle.types.specs.Kind as kind;
 use crate::view::{View, ViewType};
 use crate::words::Words;
 use std::sync::Arc;
-use types::{IntType, Width, natural_at};
-
-/// The type of codes.
-const INT32: IntType = IntType {
-    bits: Width::W32,
-    signed: true,
-};
+use types::{INT32, natural_at};
 
 impl<'a> View<'a> {
     /// The codes of a dictionary-encoded view: numbers of 32 bits, null where the slot isn't valid.

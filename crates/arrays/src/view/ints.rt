@@ -7,6 +7,7 @@ ghost use Rattle.types.specs.Kind.{bytes_of};
 ghost use Rattle.types.specs.Number.{IsOfType, number_at};
 ghost use Rattle.arrays.specs.Slot.{item_at, item_of};
 ghost use Rattle.arrays.specs.Values.{HasNumbers, number_in, number_items};
+ghost use Rattle.types.specs.Limits.{most_slots};
 
 use crate::validity::is_valid;
 use crate::view::View;
@@ -25,7 +26,7 @@ pub struct Ints<'a, T: Integer> {
     pub slots: u32,
     of: PhantomData<T>,
     ghost whole: { slots * bytes_of T.ty.bits ≤ length values.now },
-    ghost short: { slots ≤ 2147483647 },
+    ghost short: { slots ≤ most_slots },
 }
 
 impl<'a, T: Integer> Ints<'a, T> {

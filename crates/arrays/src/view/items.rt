@@ -6,7 +6,6 @@ ghost use Rattle.arrays.specs.Slot.{item_of, holds_at, is_int, is_list, is_text,
 ghost use Rattle.types.specs.Kind as kind;
 
 use crate::view::{View, ViewType};
-use std::str::from_utf8_unchecked;
 use types::{IntType, number_at};
 
 impl<'a> View<'a> {
@@ -57,12 +56,7 @@ impl<'a> View<'a> {
         requires within { i < length self.now.items }
         ensures { slice_get self.now.items i ≡ Some (item_of_text (option_copied result)) }
     {
-        let texts = self.texts();
-        if !self.is_valid(i) {
-            return None;
-        }
-        let text = texts.get(i);
-        Some(unsafe { from_utf8_unchecked(text) })
+        self.texts().get(i)
     }
 
     /// Text `i` of a view of texts, dictionary-encoded or not, none where there is no item.
@@ -111,10 +105,9 @@ impl<'a> View<'a> {
         ensures kind { IfSome result (λ v. kind.list v.kind ≡ self.now.kind) }
     {
         let lists = self.lists();
-        if !self.is_valid(i) {
-            return None;
+        match lists.get(i) {
+            Some((start, len)) => Some(lists.child.slice(start, len)),
+            None => None,
         }
-        let (start, len) = lists.range(i);
-        Some(lists.child.slice(start, len))
     }
 }

@@ -1,38 +1,34 @@
 //! What every view knows of its items.
 
-ghost use Rattle.std.specs.Prelude.{All, ◌≡◌, ℕ};
-ghost use Rattle.types.specs.Kind as kind;
+ghost use Rattle.std.specs.Prelude.{All, ◌≡◌, false, ℕ};
 ghost use Rattle.types.specs.Number.{number_at, IsOfType};
+ghost use Rattle.arrays.specs.Lengths.{is_too_big};
 ghost use Rattle.arrays.specs.Typed.{IsItemOf};
 
 use crate::view::{View, ViewType};
 use types::IntType;
 
 impl<'a> View<'a> {
-    /// Says that each item is null or of the view's kind, a text in UTF-8. Nothing is looked at, and nothing changes.
+    /// Says that each item is null or of the view's kind, a text in UTF-8, and that the bytes of texts and the items of
+    /// lists are no more than offsets count. Nothing is looked at, and nothing changes.
     pub fn tell_items(&self)
-        ensures { All (IsItemOf self.now.kind) self.now.items }
+        ensures typed { All (IsItemOf self.now.kind) self.now.items }
+        ensures few { is_too_big self.now.kind self.now.items ≡ false }
     {
         match self.ty() {
             ViewType::Int(ty) => tell_range(ty, self.numbers(ty)),
             ViewType::Bool => {
                 let _ = self.bool_bits();
             }
-            ViewType::Utf8 => self.tell_texts(),
+            ViewType::Utf8 => {
+                let _ = self.texts();
+            }
             ViewType::List(_) => self.lists().child.tell_items(),
             ViewType::Dict => {
                 let _ = self.codes();
-                self.entries().tell_texts();
+                let _ = self.entries().texts();
             }
         }
-    }
-
-    /// Says that each item of a view of texts is null or a text.
-    fn tell_texts(&self)
-        requires { self.now.kind ≡ kind.utf8 }
-        ensures { All (IsItemOf kind.utf8) self.now.items }
-    {
-        let _ = self.texts();
     }
 }
 

@@ -1,7 +1,7 @@
 //! The loads that are measured.
 
-ghost use Rattle.std.specs.Prelude.{◌≡◌, ◌<◌, ◌≤◌, length};
-ghost use Rattle.bench.specs.Fields.{fields_for};
+ghost use Rattle.std.specs.Prelude.{◌≡◌, ◌<◌, length};
+ghost use Rattle.loads.specs.Loaded.{fields_for};
 
 use answers::OpenGate;
 use arrays::File;

@@ -1,6 +1,6 @@
 //! The table that is measured.
 
-ghost use Rattle.std.specs.Prelude.{◌≡◌, ◌<◌, length};
+ghost use Rattle.std.specs.Prelude.{◌≡◌, ◌<◌};
 ghost use Rattle.table.specs.Stored.{stored_fields};
 
 use super::hands::Hand;

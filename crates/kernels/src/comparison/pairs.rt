@@ -10,6 +10,7 @@ ghost use Rattle.arrays.specs.Seen.{valid_in};
 ghost use Rattle.arrays.specs.Slot.{holds_at, is_text, item_at};
 ghost use Rattle.arrays.specs.Order.{order};
 ghost use Rattle.kernels.specs.Wanted.{wants};
+ghost use Rattle.types.specs.Limits.{most_slots};
 
 use super::packed::{are_equal, are_less, chosen};
 use super::wanted::Wanted;
@@ -31,7 +32,7 @@ pub(crate) trait Pairs {
     /// How many places there are.
     fn slots(&self) -> u32
         ensures count { result ≡ count self.now }
-        ensures short { result ≤ 2147483647 };
+        ensures short { result ≤ most_slots };
 
     /// Whether both items are there at each place, as far as can be told without a look at each.
     fn are_there(&self) -> bool
@@ -106,7 +107,7 @@ pub(crate) struct Numbers<'a, 'b, A: Side + Drop, B: Side + Drop> {
     pub(crate) slots: u32,
     ghost a_has: { slots ≤ A.count a },
     ghost b_has: { slots ≤ B.count b },
-    ghost short: { slots ≤ 2147483647 },
+    ghost short: { slots ≤ most_slots },
 }
 
 impl<'a, 'b, A: Side + Drop, B: Side + Drop> Pairs for Numbers<'a, 'b, A, B> {
@@ -161,7 +162,7 @@ pub(crate) struct Bools<'a, 'b> {
     pub(crate) slots: u32,
     ghost a_has: { slots ≤ length a },
     ghost b_has: { slots ≤ length b },
-    ghost short: { slots ≤ 2147483647 },
+    ghost short: { slots ≤ most_slots },
 }
 
 impl<'a, 'b> Pairs for Bools<'a, 'b> {
@@ -207,7 +208,7 @@ impl<'a, 'b> Pairs for Utf8s<'a, 'b> {
 
     ghost both = { λ p i. valid_in p.valid.a i && valid_in p.valid.b i };
 
-    ghost order = { λ p i. slice_cmp nat_cmp (of_slot p.a.offsets.now p.a.bytes.now i) (of_slot p.b.offsets.now p.b.bytes.now i) };
+    ghost order = { λ p i. slice_cmp nat_cmp (of_slot p.a.offsets p.a.bytes.now i) (of_slot p.b.offsets p.b.bytes.now i) };
 
     fn slots(&self) -> u32 {
         self.a.slots
@@ -222,8 +223,8 @@ impl<'a, 'b> Pairs for Utf8s<'a, 'b> {
     }
 
     fn meets(&self, wanted: Wanted, i: usize) -> bool {
-        let x = self.a.get(i);
-        let y = self.b.get(i);
+        let x = self.a.read(i);
+        let y = self.b.read(i);
         wanted.bytes(x, y)
     }
 

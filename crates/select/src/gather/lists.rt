@@ -3,17 +3,16 @@
 ghost use Rattle.std.specs.Prelude.{◌≡◌, ◌+◌, ◌<◌, ◌++◌, ◌||◌, ◌∷◌, [], map, length, option_map, IfErr, IfOk, OnOk};
 ghost use Rattle.std.specs.List.{All};
 ghost use Rattle.arrays.specs.Lengths.{inner_items, is_past, list_length, total};
-ghost use Rattle.arrays.specs.Values.{HasLists};
+ghost use Rattle.arrays.specs.Values.{IsRange, item_of_range, items_of_lists};
 ghost use Rattle.select.specs.Fault.{IsFull};
 ghost use Rattle.select.specs.Picked.{IsPick, picked, picked_at};
-ghost use Rattle.select.specs.Ranges.{IsRange, ranged, rows_of};
+ghost use Rattle.select.specs.Ranges.{rows_of};
+ghost use Rattle.types.specs.Limits.{most_slots};
 
 use crate::fault::SelectFault;
 use crate::picks::Picks;
 use crate::rows::Rows;
-use arrays::validity::is_valid;
-use arrays::{ListBuilder, Lists, View};
-use colbits::Bits;
+use arrays::{ListBuilder, Lists};
 use std::alloc::Global;
 
 /// Lists in the making, and the rows of the child that they hold, one list after the other.
@@ -23,31 +22,27 @@ pub(crate) struct Spread {
     pub(crate) rows: Picks,
 }
 
-/// The picked rows of a view of lists.
+/// The picked rows of a column of lists.
 pub(crate) fn spread_out<R: Rows>(
     alloc: Global,
-    view: &View<'_>,
     lists: &Lists<'_>,
     rows: &R,
 ) -> Result<Spread, SelectFault>
-    requires lists { HasLists lists.now.offsets.now lists.now.child view.now }
-    requires slots { lists.now.slots ≡ length view.now.items }
-    requires within { All (IsPick (length view.now.items)) (R.picks rows.now) }
-    ensures lengths { IfOk result (λ s. s.lengths ≡ map list_length (picked view.now.items (R.picks rows.now))) }
-    ensures rows { IfOk result (λ s. picked lists.now.child.items s.rows ≡ inner_items (picked view.now.items (R.picks rows.now))) }
+    requires { All (IsPick lists.now.slots) (R.picks rows.now) }
+    ensures lengths { IfOk result (λ s. s.lengths ≡ map list_length (picked (items_of_lists lists.now) (R.picks rows.now))) }
+    ensures rows { IfOk result (λ s. picked lists.now.child.items s.rows ≡ inner_items (picked (items_of_lists lists.now) (R.picks rows.now))) }
     ensures within { IfOk result (λ s. All (IsPick (length lists.now.child.items)) s.rows) }
-    ensures err { IfErr result (IsFull (is_past (length (inner_items (picked view.now.items (R.picks rows.now)))))) }
+    ensures err { IfErr result (IsFull (is_past (length (inner_items (picked (items_of_lists lists.now) (R.picks rows.now)))))) }
 {
     let count = rows.slots() as usize;
     let mut spread = Spread {
         lengths: ListBuilder::with_capacity(alloc, count)?,
         rows: Picks::new(alloc),
     };
-    let validity = view.validity();
     let mut place = rows.first();
     for _slot in 0..count {
         let row = rows.next(&mut place);
-        spread.push(range_at(view, lists, &validity, row))?;
+        spread.push(range_at(lists, row))?;
     }
     Ok(spread)
 }
@@ -55,8 +50,8 @@ pub(crate) fn spread_out<R: Rows>(
 impl Spread {
     /// Adds a list at the end that holds neighbouring rows of the child, or null.
     fn push(&mut self, range: Option<(usize, usize)>) -> Result<(), SelectFault>
-        requires room { length self.old.lengths < 2147483647 }
-        requires range { IsRange 2147483647 range }
+        requires room { length self.old.lengths < most_slots }
+        requires range { IsRange most_slots range }
         ensures lengths { OnOk result (self.new.lengths ≡ self.old.lengths ++ option_map (λ r. r.1) range ∷ []) }
         ensures rows { OnOk result (self.new.rows ≡ self.old.rows ++ rows_of range) }
         ensures err { IfErr result (IsFull (is_past (length self.old.rows + length (rows_of range))
@@ -74,22 +69,14 @@ impl Spread {
 }
 
 /// The rows of the child that the picked list holds: the first one, and how many. None where there is no list.
-fn range_at(
-    view: &View<'_>,
-    lists: &Lists<'_>,
-    validity: &Option<Bits<'_>>,
-    pick: Option<usize>,
-) -> Option<(usize, usize)>
-    requires lists { HasLists lists.now.offsets.now lists.now.child view.now }
-    requires slots { lists.now.slots ≡ length view.now.items }
-    requires valid { validity.now ≡ view.now.validity }
-    requires pick { IsPick (length view.now.items) pick }
-    ensures item { ranged lists.now.child.items result ≡ picked_at view.now.items pick }
+fn range_at(lists: &Lists<'_>, pick: Option<usize>) -> Option<(usize, usize)>
+    requires { IsPick lists.now.slots pick }
+    ensures item { item_of_range lists.now.child.items result ≡ picked_at (items_of_lists lists.now) pick }
     ensures within { IsRange (length lists.now.child.items) result }
-    ensures small { IsRange 2147483647 result }
+    ensures small { IsRange most_slots result }
 {
     match pick {
-        Some(i) if is_valid(validity, i) => Some(lists.range(i)),
-        _ => None,
+        Some(i) => lists.get(i),
+        None => None,
     }
 }

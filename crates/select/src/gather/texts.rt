@@ -7,22 +7,19 @@ ghost use Rattle.arrays.specs.Kind as kind;
 ghost use Rattle.arrays.specs.Lengths.{is_past, text_bytes, text_length};
 ghost use Rattle.arrays.specs.Shown.{shown};
 ghost use Rattle.arrays.specs.Slot.{item_of_text};
-ghost use Rattle.arrays.specs.Values.{HasTexts};
+ghost use Rattle.arrays.specs.Values.{items_of_texts};
 ghost use Rattle.select.specs.Fault.{IsFull};
 ghost use Rattle.select.specs.Picked.{IsPick, picked, picked_at};
 ghost use Rattle.select.specs.Texts.{AreOffsetsOf, all_bytes, bytes_in};
+ghost use Rattle.types.specs.Limits.{most_slots};
 
 use super::bits::picked_validity;
 use crate::fault::SelectFault;
 use crate::rows::Rows;
-use arrays::validity::is_valid;
 use arrays::{Array, Integer, Texts, View};
-use colbits::{Bits, Buffer, NoMemory};
+use colbits::{Buffer, NoMemory};
 use std::alloc::Global;
-use std::str::from_utf8_unchecked;
-
-/// The most bytes that texts may have together.
-const MOST: usize = 2147483647;
+use types::MOST_SLOTS;
 
 /// The picked rows of a view of texts without a dictionary.
 pub(super) fn gather<R: Rows>(
@@ -36,10 +33,9 @@ pub(super) fn gather<R: Rows>(
     ensures err { IfErr result (IsFull (is_past (text_bytes (picked view.now.items (R.picks rows.now))))) }
 {
     let texts = view.texts();
-    let valid = view.validity();
-    let laid = picked_offsets(alloc, view, &texts, &valid, rows)?;
-    let filled = picked_bytes(alloc, view, &texts, &valid, rows, laid.end)?;
-    let validity = picked_validity(alloc, &valid, rows)?;
+    let laid = picked_offsets(alloc, &texts, rows)?;
+    let filled = picked_bytes(alloc, &texts, rows, laid.end)?;
+    let validity = picked_validity(alloc, &texts.validity, rows)?;
     let offsets = Buffer::from_vec(laid.offsets)?;
     let bytes = Buffer::from_vec(filled)?;
     Ok(Array::from_texts(alloc, rows.slots(), validity, offsets, bytes)?)
@@ -53,19 +49,10 @@ struct Laid {
 }
 
 /// The offsets of the picked texts.
-fn picked_offsets<R: Rows>(
-    alloc: Global,
-    view: &View<'_>,
-    texts: &Texts<'_>,
-    validity: &Option<Bits<'_>>,
-    rows: &R,
-) -> Result<Laid, SelectFault>
-    requires texts { HasTexts texts.now.offsets.now texts.now.bytes.now view.now }
-    requires slots { texts.now.slots ≡ length view.now.items }
-    requires valid { validity.now ≡ view.now.validity }
-    requires within { All (IsPick (length view.now.items)) (R.picks rows.now) }
-    ensures ok { IfOk result (λ o. AreOffsetsOf (picked view.now.items (R.picks rows.now)) o.offsets.items o.end) }
-    ensures err { IfErr result (IsFull (is_past (text_bytes (picked view.now.items (R.picks rows.now))))) }
+fn picked_offsets<R: Rows>(alloc: Global, texts: &Texts<'_>, rows: &R) -> Result<Laid, SelectFault>
+    requires within { All (IsPick texts.now.slots) (R.picks rows.now) }
+    ensures ok { IfOk result (λ o. AreOffsetsOf (picked (items_of_texts texts.now) (R.picks rows.now)) o.offsets.items o.end) }
+    ensures err { IfErr result (IsFull (is_past (text_bytes (picked (items_of_texts texts.now) (R.picks rows.now))))) }
 {
     let count = rows.slots() as usize;
 
@@ -76,8 +63,8 @@ fn picked_offsets<R: Rows>(
     let mut place = rows.first();
     for _slot in 0..count {
         let row = rows.next(&mut place);
-        let size = size_of(text_at(view, texts, validity, row));
-        if size > MOST - end {
+        let size = size_of(text_at(texts, row));
+        if size > MOST_SLOTS - end {
             return Err(SelectFault::OffsetsFull);
         }
         end += size;
@@ -89,25 +76,20 @@ fn picked_offsets<R: Rows>(
 /// The bytes of the picked texts, of which there are so many.
 fn picked_bytes<R: Rows>(
     alloc: Global,
-    view: &View<'_>,
     texts: &Texts<'_>,
-    validity: &Option<Bits<'_>>,
     rows: &R,
     size: usize,
 ) -> Result<Vec<u8>, NoMemory>
-    requires texts { HasTexts texts.now.offsets.now texts.now.bytes.now view.now }
-    requires slots { texts.now.slots ≡ length view.now.items }
-    requires valid { validity.now ≡ view.now.validity }
-    requires within { All (IsPick (length view.now.items)) (R.picks rows.now) }
-    requires size { size ≤ 2147483647 }
-    ensures { IfOk result (λ b. b.items ≡ all_bytes (picked view.now.items (R.picks rows.now))) }
+    requires within { All (IsPick texts.now.slots) (R.picks rows.now) }
+    requires size { size ≤ most_slots }
+    ensures { IfOk result (λ b. b.items ≡ all_bytes (picked (items_of_texts texts.now) (R.picks rows.now))) }
 {
     let count = rows.slots() as usize;
     let mut bytes = Vec::with_capacity(alloc, size + 63)?;
     let mut place = rows.first();
     for _slot in 0..count {
         let row = rows.next(&mut place);
-        push_text(&mut bytes, text_at(view, texts, validity, row))?;
+        push_text(&mut bytes, text_at(texts, row))?;
     }
     Ok(bytes)
 }
@@ -136,23 +118,12 @@ fn push_text(bytes: &mut Vec<u8>, text: Option<&str>) -> Result<(), NoMemory>
 
 /// The text of the picked row, none where there is none.
 #[inline(always)]
-fn text_at<'a>(
-    view: &View<'_>,
-    texts: &Texts<'a>,
-    validity: &Option<Bits<'_>>,
-    pick: Option<usize>,
-) -> Option<&'a str>
-    requires texts { HasTexts texts.now.offsets.now texts.now.bytes.now view.now }
-    requires slots { texts.now.slots ≡ length view.now.items }
-    requires valid { validity.now ≡ view.now.validity }
-    requires within { IsPick (length view.now.items) pick }
-    ensures { item_of_text (option_copied result) ≡ picked_at view.now.items pick }
+fn text_at<'a>(texts: &Texts<'a>, pick: Option<usize>) -> Option<&'a str>
+    requires { IsPick texts.now.slots pick }
+    ensures { item_of_text (option_copied result) ≡ picked_at (items_of_texts texts.now) pick }
 {
     match pick {
-        Some(i) if is_valid(validity, i) => {
-            let text = texts.get(i);
-            Some(unsafe { from_utf8_unchecked(text) })
-        }
-        _ => None,
+        Some(i) => texts.get(i),
+        None => None,
     }
 }

@@ -5,7 +5,8 @@ ghost use Rattle.std.specs.List.{All};
 ghost use Rattle.arrays.specs.Kind as kind;
 ghost use Rattle.arrays.specs.Seen.{Seen};
 ghost use Rattle.arrays.specs.Shown.{shown};
-ghost use Rattle.select.specs.Joined.{joined_items};
+ghost use Rattle.arrays.specs.Lengths.{joined_items};
+ghost use Rattle.types.specs.Limits.{most_slots};
 
 use arrays::{Array, BoolBuilder, View};
 use colbits::NoMemory;
@@ -15,7 +16,7 @@ use std::alloc::Global;
 pub(super) fn join(alloc: Global, views: &[View<'_>], slots: usize) -> Result<Array, NoMemory>
     requires kinds { All (λ (s : Seen). s.kind ≡ kind.boolean) views.now }
     requires slots { slots ≡ length (joined_items views.now) }
-    requires short { slots ≤ 2147483647 }
+    requires short { slots ≤ most_slots }
     ensures { IfOk result (λ r. r ≡ shown kind.boolean (joined_items views.now)) }
 {
     let mut builder = BoolBuilder::with_capacity(alloc, slots)?;
@@ -28,7 +29,7 @@ pub(super) fn join(alloc: Global, views: &[View<'_>], slots: usize) -> Result<Ar
 /// Adds all slots of a view at the end.
 fn push_all(builder: &mut BoolBuilder, view: &View<'_>) -> Result<(), NoMemory>
     requires kind { view.now.kind ≡ kind.boolean }
-    requires room { length builder.old + length view.now.items ≤ 2147483647 }
+    requires room { length builder.old + length view.now.items ≤ most_slots }
     ensures { OnOk result (builder.new ≡ builder.old ++ view.now.items) }
 {
     for i in 0..view.len() {

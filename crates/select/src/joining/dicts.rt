@@ -1,21 +1,22 @@
 //! Dictionary-encoded views one after the other: their dictionaries too, and their codes shifted.
 
-ghost use Rattle.std.specs.Prelude.{◌≡◌, ◌+◌, ◌++◌, ◌<◌, ◌≤◌, ◌||◌, IfErr, IfOk, OnOk, length, map, slice_index_or, true};
+ghost use Rattle.std.specs.Prelude.{◌≡◌, ◌+◌, ◌++◌, ◌<◌, ◌≤◌, IfErr, IfOk, OnOk, length, map};
 ghost use Rattle.std.specs.List.{All};
 ghost use Rattle.std.specs.Option.{ForSome};
 ghost use Rattle.arrays.specs.Slot.{item_of};
-ghost use Rattle.arrays.specs.Item.{null};
 ghost use Rattle.arrays.specs.Kind as kind;
 ghost use Rattle.arrays.specs.Kind.{int32};
 ghost use Rattle.arrays.specs.Number.{IsOfType};
 ghost use Rattle.arrays.specs.Seen.{Seen};
 ghost use Rattle.arrays.specs.Shown.{shown};
 ghost use Rattle.select.specs.Fault.{IsFull};
-ghost use Rattle.select.specs.Joined.{IsEncoded, is_content_too_big, joined, joined_codes, joined_entries, joined_items, shifted};
+ghost use Rattle.select.specs.Joined.{IsEncoded, is_content_too_big, joined, joined_codes, joined_entries, shifted};
+ghost use Rattle.arrays.specs.Lengths.{joined_items};
+ghost use Rattle.types.specs.Limits.{most_slots};
 
 use super::{slots_of, texts};
 use crate::fault::SelectFault;
-use arrays::{Array, IntBuilder, IntType, View, Width, Words};
+use arrays::{Array, INT32, IntBuilder, View, Words};
 use colbits::NoMemory;
 use std::alloc::Global;
 use std::sync::Arc;
@@ -24,7 +25,7 @@ use std::sync::Arc;
 pub(super) fn join(alloc: Global, views: &[View<'_>], slots: usize) -> Result<Array, SelectFault>
     requires kinds { All (λ (s : Seen). s.kind ≡ kind.dict) views.now }
     requires slots { slots ≡ length (joined_items views.now) }
-    requires short { slots ≤ 2147483647 }
+    requires short { slots ≤ most_slots }
     ensures ok { IfOk result (λ r. r ≡ joined kind.dict views.now) }
     ensures err { IfErr result (IsFull (is_content_too_big kind.dict views.now)) }
 {
@@ -50,18 +51,12 @@ fn entries_of<'a>(alloc: Global, views: &[View<'a>]) -> Result<Vec<View<'a>>, No
     Ok(entries)
 }
 
-/// The type of codes.
-const INT32: IntType = IntType {
-    bits: Width::W32,
-    signed: true,
-};
-
 /// The codes of all views, as codes of their dictionaries one after the other.
 fn codes_of(alloc: Global, views: &[View<'_>], slots: usize) -> Result<Array, NoMemory>
     requires kinds { All (λ (s : Seen). s.kind ≡ kind.dict) views.now }
     requires slots { slots ≡ length (joined_items views.now) }
-    requires short { slots ≤ 2147483647 }
-    requires few { length (joined_entries views.now) ≤ 2147483647 }
+    requires short { slots ≤ most_slots }
+    requires few { length (joined_entries views.now) ≤ most_slots }
     ensures encoded { IfOk result (λ r. All IsEncoded views.now) }
     ensures codes { IfOk result (λ r. r ≡ shown (kind.int int32) (joined_codes 0 views.now)) }
 {
@@ -78,8 +73,8 @@ fn codes_of(alloc: Global, views: &[View<'_>], slots: usize) -> Result<Array, No
 fn push_shifted(builder: &mut IntBuilder, view: &View<'_>, before: usize) -> Result<(), NoMemory>
     requires kind { view.now.kind ≡ kind.dict }
     requires ty { builder.old.ty ≡ int32 }
-    requires room { length builder.old.items + length view.now.items ≤ 2147483647 }
-    requires few { before + length view.now.entries.items ≤ 2147483647 }
+    requires room { length builder.old.items + length view.now.items ≤ most_slots }
+    requires few { before + length view.now.entries.items ≤ most_slots }
     ensures encoded { IsEncoded view.now }
     ensures ty { builder.new.ty ≡ int32 }
     ensures items { OnOk result (builder.new.items ≡ builder.old.items ++ map (shifted before) view.now.codes) }
@@ -96,7 +91,7 @@ fn push_shifted(builder: &mut IntBuilder, view: &View<'_>, before: usize) -> Res
 #[inline(always)]
 fn shift(code: Option<i128>, before: usize) -> Option<i128>
     requires of_type { ForSome code (IsOfType int32) }
-    requires small { before ≤ 2147483647 }
+    requires small { before ≤ most_slots }
     ensures { item_of result ≡ shifted before (item_of code) }
 {
     match code {

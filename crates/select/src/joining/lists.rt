@@ -4,15 +4,14 @@ ghost use Rattle.std.specs.Prelude.{◌≡◌, ◌+◌, ◌++◌, ◌<◌, ◌�
 ghost use Rattle.std.specs.List.{All};
 ghost use Rattle.arrays.specs.Kind as kind;
 ghost use Rattle.arrays.specs.Kind.{kind_of};
-ghost use Rattle.arrays.specs.Lengths.{inner_items, is_past, list_length, total};
+ghost use Rattle.arrays.specs.Lengths.{inner_items, is_past, is_too_big, joined_items, list_length, total};
 ghost use Rattle.arrays.specs.Item.{null};
 ghost use Rattle.arrays.specs.Seen.{Seen};
 ghost use Rattle.arrays.specs.Slot.{is_list};
 ghost use Rattle.types.specs.declared.data_type.Field.{out-Field};
-ghost use Rattle.select.specs.Big.{is_too_big};
 ghost use Rattle.select.specs.Children.{AreChildren, IsChild};
 ghost use Rattle.select.specs.Fault.{IsFull};
-ghost use Rattle.select.specs.Joined.{joined_items};
+ghost use Rattle.types.specs.Limits.{most_slots};
 
 use crate::fault::SelectFault;
 use crate::gather::{gather_picks, spread_out};
@@ -29,7 +28,7 @@ pub(super) fn lengths(
 ) -> Result<ListBuilder, SelectFault>
     requires kinds { All (λ (s : Seen). is_list s.kind ≡ true) views.now }
     requires slots { slots ≡ length (joined_items views.now) }
-    requires short { slots ≤ 2147483647 }
+    requires short { slots ≤ most_slots }
     ensures ok { IfOk result (λ b. b ≡ map list_length (joined_items views.now)) }
     ensures err { IfErr result (IsFull (is_past (length (inner_items (joined_items views.now))))) }
 {
@@ -43,7 +42,7 @@ pub(super) fn lengths(
 /// Adds the lengths of all slots of a view at the end.
 fn push_all(builder: &mut ListBuilder, view: &View<'_>) -> Result<(), SelectFault>
     requires kind { is_list view.now.kind ≡ true }
-    requires room { length builder.old + length view.now.items ≤ 2147483647 }
+    requires room { length builder.old + length view.now.items ≤ most_slots }
     ensures ok { OnOk result (builder.new ≡ builder.old ++ map list_length view.now.items) }
     ensures err { IfErr result (IsFull (is_past (total (builder.old ++ map list_length view.now.items)))) }
 {
@@ -90,7 +89,7 @@ fn child_of(alloc: Global, view: &View<'_>) -> Result<Array, SelectFault>
 {
     let lists = view.lists();
     let all = FirstRows::new(view.slots());
-    let spread = spread_out(alloc, view, &lists, &all)?;
+    let spread = spread_out(alloc, &lists, &all)?;
     gather_picks(alloc, &lists.child, &spread.rows)
 }
 

@@ -5,7 +5,9 @@ ghost use Rattle.std.specs.List.{All};
 ghost use Rattle.arrays.specs.Kind as kind;
 ghost use Rattle.arrays.specs.Seen.{Seen};
 ghost use Rattle.arrays.specs.Shown.{shown};
-ghost use Rattle.select.specs.Joined.{AreNumbersOf, TellsNulls, joined_items};
+ghost use Rattle.select.specs.Joined.{AreNumbersOf, TellsNulls};
+ghost use Rattle.arrays.specs.Lengths.{joined_items};
+ghost use Rattle.types.specs.Limits.{most_slots};
 
 use super::valid::joined_validity;
 use arrays::validity::buffer_of;
@@ -22,7 +24,7 @@ pub(super) fn join(
 ) -> Result<Array, NoMemory>
     requires kinds { All (λ (s : Seen). s.kind ≡ kind.int ty) views.now }
     requires slots { slots ≡ length (joined_items views.now) }
-    requires short { slots ≤ 2147483647 }
+    requires short { slots ≤ most_slots }
     ensures { IfOk result (λ r. r ≡ shown (kind.int ty) (joined_items views.now)) }
 {
     let values = Buffer::from_vec(joined_numbers(alloc, ty, views, slots)?)?;
@@ -38,7 +40,7 @@ fn joined_numbers(
     slots: usize,
 ) -> Result<Vec<u8>, NoMemory>
     requires kinds { All (λ (s : Seen). s.kind ≡ kind.int ty) views.now }
-    requires short { slots ≤ 2147483647 }
+    requires short { slots ≤ most_slots }
     ensures numbers { IfOk result (λ v. AreNumbersOf ty (joined_items views.now) v.items) }
     ensures told { IfOk result (λ v. All TellsNulls views.now) }
 {

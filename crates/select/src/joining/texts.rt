@@ -1,13 +1,13 @@
 //! Texts one after the other.
 
-ghost use Rattle.std.specs.Prelude.{◌≡◌, ◌+◌, ◌++◌, ◌≤◌, ◌⊎◌, IfErr, IfOk, OnOk, length, true};
+ghost use Rattle.std.specs.Prelude.{◌≡◌, ◌+◌, ◌++◌, ◌≤◌, IfErr, IfOk, OnOk, length};
 ghost use Rattle.std.specs.List.{All};
 ghost use Rattle.arrays.specs.Kind as kind;
-ghost use Rattle.arrays.specs.Lengths.{is_past, text_bytes};
+ghost use Rattle.arrays.specs.Lengths.{is_past, joined_items, text_bytes};
 ghost use Rattle.arrays.specs.Seen.{Seen};
 ghost use Rattle.arrays.specs.Shown.{shown};
 ghost use Rattle.select.specs.Fault.{IsFull};
-ghost use Rattle.select.specs.Joined.{joined_items};
+ghost use Rattle.types.specs.Limits.{most_slots};
 
 use crate::fault::SelectFault;
 use arrays::{Array, TextBuilder, View};
@@ -17,7 +17,7 @@ use std::alloc::Global;
 pub(super) fn join(alloc: Global, views: &[View<'_>], slots: usize) -> Result<Array, SelectFault>
     requires kinds { All (λ (s : Seen). s.kind ≡ kind.utf8) views.now }
     requires slots { slots ≡ length (joined_items views.now) }
-    requires short { slots ≤ 2147483647 }
+    requires short { slots ≤ most_slots }
     ensures ok { IfOk result (λ r. r ≡ shown kind.utf8 (joined_items views.now)) }
     ensures err { IfErr result (IsFull (is_past (text_bytes (joined_items views.now)))) }
 {
@@ -31,7 +31,7 @@ pub(super) fn join(alloc: Global, views: &[View<'_>], slots: usize) -> Result<Ar
 /// Adds all slots of a view at the end.
 fn push_all(builder: &mut TextBuilder, view: &View<'_>) -> Result<(), SelectFault>
     requires kind { view.now.kind ≡ kind.utf8 }
-    requires room { length builder.old + length view.now.items ≤ 2147483647 }
+    requires room { length builder.old + length view.now.items ≤ most_slots }
     ensures ok { OnOk result (builder.new ≡ builder.old ++ view.now.items) }
     ensures err { IfErr result (IsFull (is_past (text_bytes (builder.old ++ view.now.items)))) }
 {

@@ -5,7 +5,9 @@ ghost use Rattle.std.specs.List.{list_all};
 ghost use Rattle.colbits.specs.Bit.{bit_in};
 ghost use Rattle.arrays.specs.Seen.{Seen};
 ghost use Rattle.arrays.specs.Shown.{kept};
-ghost use Rattle.select.specs.Joined.{AreStarts, IsPlace, joined_items, joined_valid};
+ghost use Rattle.select.specs.Joined.{AreStarts, IsPlace, joined_valid};
+ghost use Rattle.arrays.specs.Lengths.{joined_items};
+ghost use Rattle.types.specs.Limits.{most_slots};
 
 use arrays::View;
 use arrays::validity::{valid_word, validity_of};
@@ -19,7 +21,7 @@ pub(super) fn joined_validity(
     slots: usize,
 ) -> Result<Option<BitmapBuf>, NoMemory>
     requires slots { slots ≡ length (joined_items views.now) }
-    requires short { slots ≤ 2147483647 }
+    requires short { slots ≤ most_slots }
     ensures { IfOk result (λ v. v ≡ kept (joined_valid views.now)) }
 {
     if have_no_validity(views) {
@@ -43,7 +45,7 @@ fn have_no_validity(views: &[View<'_>]) -> bool
 
 /// How many slots come before each view's.
 fn starts_of(alloc: Global, views: &[View<'_>]) -> Result<Vec<usize>, NoMemory>
-    requires { length (joined_items views.now) ≤ 2147483647 }
+    requires { length (joined_items views.now) ≤ most_slots }
     ensures { IfOk result (λ v. AreStarts views.now (length views.now) v.items) }
 {
     let mut starts = Vec::with_capacity(alloc, views.len())?;
@@ -64,7 +66,7 @@ struct JoinedSlots<'a, 'b> {
     slots: usize,
     ghost begun: { AreStarts views.now (length views.now) starts.items },
     ghost count: { slots ≡ length (joined_items views.now) },
-    ghost short: { slots ≤ 2147483647 },
+    ghost short: { slots ≤ most_slots },
 }
 
 impl<'a, 'b> JoinedSlots<'a, 'b> {

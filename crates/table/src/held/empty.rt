@@ -1,13 +1,13 @@
 //! A table before its first batch.
 
-ghost use Rattle.std.specs.Prelude.{◌≡◌, [], IfOk, List, map, option_map};
+ghost use Rattle.std.specs.Prelude.{◌≡◌, [], IfOk, map, option_map};
 ghost use Rattle.std.specs.Arc.{arc_value};
-ghost use Rattle.std.specs.List.{enumerate_from};
 ghost use Rattle.arrays.specs.Kind as kind;
 ghost use Rattle.arrays.specs.Shape.{fields_of};
 ghost use Rattle.arrays.specs.Shown.{shown};
 ghost use Rattle.table.specs.Held.{IsHeld, show};
-ghost use Rattle.table.specs.Lawful.{AreStatsOf, dictionaries_of};
+ghost use Rattle.table.specs.Lawful.{dictionaries_of};
+ghost use Rattle.compaction.specs.Statistics.{AreStatsOf};
 ghost use Rattle.table.specs.Stored.{stored_fields};
 
 use super::Held;

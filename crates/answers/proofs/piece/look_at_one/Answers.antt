@@ -6,16 +6,21 @@ use Rattle.answers.specs.Pieces.{cut_at}
 use Rattle.answers.proofs.PieceLemmas.{are_looked, cuts_rise}
 use Rattle.answers.proofs.piece.look_at_one.Goals as goal
 
-pub look_at_piece-requires : goal.look_at_piece-requires
-look_at_piece-requires g c =
-    let a = c.requires.asked in
-    record {
-      types = a.types;
-      fits = a.fits;
-      few = a.few;
-      order = subst (λ n. n ≤ c.at-last.result) (sym c.at-first.ensures)
-          (subst (λ n. cut_at c.args.cuts.rows c.args.cuts.pieces c.args.place ≤ n) (sym c.at-last.ensures) (cuts_rise c.args.cuts.rows c.args.cuts.pieces c.args.place (c.args.place + 1) a.one (omega arith)));
-    }
+pub look_at_piece-requires-clause-types : goal.look_at_piece-requires-clause-types
+look_at_piece-requires-clause-types g c κs within = c.requires.asked.types
+
+pub look_at_piece-requires-clause-fits : goal.look_at_piece-requires-clause-fits
+look_at_piece-requires-clause-fits g c κs within = c.requires.asked.fits
+
+pub look_at_piece-requires-clause-few : goal.look_at_piece-requires-clause-few
+look_at_piece-requires-clause-few g c κs within = c.requires.asked.few
+
+pub look_at_piece-requires-clause-order : goal.look_at_piece-requires-clause-order
+look_at_piece-requires-clause-order g c κs within =
+    let pieces = c.args.cuts.pieces in
+    let place = c.args.place in
+    subst (λ n. n ≤ c.at-last.result) (sym c.at-first.ensures)
+    (subst (λ n. cut_at c.args.cuts.rows pieces place ≤ n) (sym c.at-last.ensures) (cuts_rise c.args.cuts.rows pieces place (place + 1) c.requires.asked.one (omega arith)))
 
 pub returns : goal.returns
 returns g c =

@@ -17,7 +17,7 @@ use Rattle.answers.proofs.RunLemmas.{length-rows}
 use Rattle.answers.proofs.piece.look_at_piece.Goals as goal
 
 pub loop-batch-init : goal.loop-batch-init
-loop-batch-init c =
+loop-batch-init g c =
     let fields = first_fields (map arc_value c.args.batches.now) in
     let q = c.args.query.now in
     let none = none_between c.args.from c.args.to in (
@@ -26,7 +26,7 @@ loop-batch-init c =
     )
 
 pub add_part-requires-clause-fits : goal.add_part-requires-clause-fits
-add_part-requires-clause-fits c =
+add_part-requires-clause-fits g c κs within =
     let batches : List Batch = map arc_value c.args.batches.now in
     let place : ℕ = c.loop-batch.batch-index in
     let batch : Batch = c.deref-in-loop-batch.result.now in
@@ -35,7 +35,7 @@ add_part-requires-clause-fits c =
     at_next (λ (b : Batch). fits b.fields (asked c.args.query.now) ≡ true) batches place batch c.requires.fits below here
 
 pub add_part-requires-clause-room : goal.add_part-requires-clause-room
-add_part-requires-clause-room c =
+add_part-requires-clause-room g c κs within =
     let batches : List Batch = map arc_value c.args.batches.now in
     let place : ℕ = c.loop-batch.batch-index in
     let batch : Batch = c.deref-in-loop-batch.result.now in
@@ -56,7 +56,7 @@ add_part-requires-clause-room c =
     )
 
 pub overflow_add-before : goal.overflow_add-before
-overflow_add-before c =
+overflow_add-before g c =
     let batches : List Batch = map arc_value c.args.batches.now in
     let place : ℕ = c.loop-batch.batch-index in
     let batch : Batch = c.deref-in-loop-batch.result.now in
@@ -66,7 +66,7 @@ overflow_add-before c =
     record { fits = omega (arith, c.loop-batch.invariant.0, rows, few_next batches place batch below here (2 ^ 40) c.requires.few) }
 
 pub returns-in-Err-Bad-clause-err : goal.returns-in-Err-Bad-clause-err
-returns-in-Err-Bad-clause-err c =
+returns-in-Err-Bad-clause-err g c =
     let batches : List Batch = map arc_value c.args.batches.now in
     let place : ℕ = c.loop-batch.batch-index in
     let batch : Batch = c.deref-in-loop-batch.result.now in
@@ -94,7 +94,7 @@ returns-in-Err-Bad-clause-err c =
     )
 
 pub loop-batch-preserved : goal.loop-batch-preserved
-loop-batch-preserved c =
+loop-batch-preserved g c =
     let batches : List Batch = map arc_value c.args.batches.now in
     let place : ℕ = c.loop-batch.batch-index in
     let batch : Batch = c.deref-in-loop-batch.result.now in
@@ -116,7 +116,7 @@ loop-batch-preserved c =
     )
 
 pub returns-clause-ok : goal.returns-clause-ok
-returns-clause-ok c =
+returns-clause-ok g c =
     let batches : List Batch = map arc_value c.args.batches.now in
     piece_whole batches c.loop-batch.batch-index c.args.from c.args.to (first_fields batches) c.args.query.now c.loop-batch.grouping
     (omega (arith, length-map c.args.batches.now arc_value)) c.loop-batch.invariant.1

@@ -6,7 +6,7 @@ use Rattle.answers.proofs.piece.look_at_piece.Given as goal
 
 -- The rows of the piece in the batches so far.
 abbrev pub invariant-loop-batch : goal.invariant-loop-batch
-invariant-loop-batch l =
+invariant-loop-batch g l =
     let batches = map arc_value l.batches in
     let front = all_rows (take l.batch-index batches) in
     (l.before ≡ length front) × HasRun (first_fields batches) l.query (between l.from l.to front) l.grouping

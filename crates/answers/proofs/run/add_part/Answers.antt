@@ -11,7 +11,7 @@ use Rattle.answers.proofs.RunLemmas.{bad_row, length-rows_in, rows_split, sound_
 use Rattle.answers.proofs.run.add_part.Goals as goal
 
 pub loop-at-init : goal.loop-at-init
-loop-at-init c =
+loop-at-init g c =
     let b = c.args.batch.now in
     let q = c.args.query.now in (
       omega arith,
@@ -21,7 +21,7 @@ loop-at-init c =
     )
 
 pub add_slice-requires-clause-room : goal.add_slice-requires-clause-room
-add_slice-requires-clause-room c =
+add_slice-requires-clause-room g c =
     let b = c.args.batch.now in
     let at = c.loop-at.at in
     let start = c.args.start in
@@ -32,7 +32,7 @@ add_slice-requires-clause-room c =
     )
 
 pub loop-at-preserved : goal.loop-at-preserved
-loop-at-preserved c =
+loop-at-preserved g c =
     let b = c.args.batch.now in
     let q = c.args.query.now in
     let start = c.args.start in
@@ -49,7 +49,7 @@ loop-at-preserved c =
     )
 
 pub returns-in-Err-Bad-clause-err : goal.returns-in-Err-Bad-clause-err
-returns-in-Err-Bad-clause-err c =
+returns-in-Err-Bad-clause-err g c =
     let b = c.args.batch.now in
     let f = (asked c.args.query.now).filter in
     let start = c.args.start in
@@ -60,16 +60,16 @@ returns-in-Err-Bad-clause-err c =
     subst (λ n. IsBadRow b start c.args.rows f (at + n)) (sym c.in-Err-Bad.row-is) (bad_row b f start at len c.args.rows c.in-Err-Bad.row c.loop-at.invariant.2 within bad)
 
 pub returns-clause-ok : goal.returns-clause-ok
-returns-clause-ok c = λ before has.
+returns-clause-ok g c = λ before has.
     let b = c.args.batch.now in
     let whole : c.loop-at.at ≡ c.args.rows = omega (arith, c.loop-at.invariant.0, c.loop-at-test.false) in
     subst (λ (l : Table). HasKept b.fields c.args.query.now (before ++ l) c.loop-at.grouping) (ap (rows_in b c.args.start) whole) (c.loop-at.invariant.1 before has)
 
 pub returns-clause-sound : goal.returns-clause-sound
-returns-clause-sound c = record { each = λ i below. c.loop-at.invariant.2 i (omega (arith, below, c.loop-at-test.false)) }
+returns-clause-sound g c = record { each = λ i below. c.loop-at.invariant.2 i (omega (arith, below, c.loop-at-test.false)) }
 
 pub add_count-requires-clause-room : goal.add_count-requires-clause-room
-add_count-requires-clause-room c =
+add_count-requires-clause-room g c =
     let b = c.args.batch.now in
     let f = (asked c.args.query.now).filter in
     let r = c.requires.room in
@@ -77,7 +77,7 @@ add_count-requires-clause-room c =
     (filter (is_kept b.fields f) r.0, omega (arith, r.1, ap length all), r.2)
 
 pub returns-then-counts_all-clause-ok : goal.returns-then-counts_all-clause-ok
-returns-then-counts_all-clause-ok c = λ before has.
+returns-then-counts_all-clause-ok g c = λ before has.
     let b = c.args.batch.now in
     let q = c.args.query.now in
     let f = (asked q).filter in
@@ -89,7 +89,7 @@ returns-then-counts_all-clause-ok c = λ before has.
     subst (λ (l : Table). HasGroups q l c.add_count.new.self) e (c.add_count.ensures.groups (filter p before) more (length-rows_in b c.args.start c.args.rows) has)
 
 pub returns-then-rows-eq0-clause-ok : goal.returns-then-rows-eq0-clause-ok
-returns-then-rows-eq0-clause-ok c = λ before has.
+returns-then-rows-eq0-clause-ok g c = λ before has.
     let b = c.args.batch.now in
     subst (λ (l : Table). HasKept b.fields c.args.query.now l c.args.grouping.now)
     (sym (append-nil before) ∙ ap (λ n. before ++ rows_in b c.args.start n) (sym c.if-rows-eq0.true)) has

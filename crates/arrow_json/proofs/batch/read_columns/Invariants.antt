@@ -1,5 +1,5 @@
 use Rattle.std.proofs.Common.{map, option_map}
-use Rattle.arrow_json.specs.BookParts.{coding_of}
+use Rattle.arrow_json.specs.CatalogParts.{coding_of}
 use Rattle.serde_json.specs.View.{items_view}
 use Rattle.arrays.specs.Shape.{fields_of}
 use Rattle.arrow_json.specs.JsonBatch.{HoldsColumns}
@@ -7,4 +7,4 @@ use Rattle.arrow_json.proofs.batch.read_columns.Given as goal
 
 -- the columns so far are read
 abbrev pub invariant-loop-index : goal.invariant-loop-index
-invariant-loop-index l = HoldsColumns (fields_of l.fields) (map (option_map coding_of) l.book) l.rows (items_view l.values) l.index-counter l.columns.items
+invariant-loop-index l = HoldsColumns (fields_of l.fields) (map (option_map coding_of) l.catalog) l.rows (items_view l.values) l.index-counter l.columns.items

@@ -1,6 +1,6 @@
 use Rattle.std.proofs.Common.{map, option_map}
 use Rattle.std.specs.Arc.{arc_value}
-use Rattle.arrow_json.specs.BookParts.{coding_of}
+use Rattle.arrow_json.specs.CatalogParts.{coding_of}
 use Rattle.serde_json.specs.View.{items_view}
 use Rattle.json_places.specs.JsonMember.{ReadsFirst}
 use Rattle.arrow_json.specs.JsonFile.{AreUnder}
@@ -11,5 +11,5 @@ use Rattle.arrow_json.proofs.file.read_batches.Given as goal
 -- the batches so far are read
 abbrev pub invariant-loop-index : goal.invariant-loop-index
 invariant-loop-index l =
-    ReadsFirst (ReadsBatch (arc_value l.schema) (map (option_map coding_of) l.book)) (items_view l.values) l.index-counter (map table_of (map arc_value l.batches.items))
+    ReadsFirst (ReadsBatch (arc_value l.schema) (map (option_map coding_of) l.catalog)) (items_view l.values) l.index-counter (map table_of (map arc_value l.batches.items))
     × AreUnder (arc_value l.schema) (map arc_value l.batches.items)

@@ -1,11 +1,11 @@
 use Rattle.std.specs.Arc.{arc_value}
 use Rattle.serde_json.specs.View.{view}
-use Rattle.arrow_json.proofs.JsonFiles.{book_of, kinds_under}
+use Rattle.arrow_json.proofs.JsonFiles.{catalog_of, kinds_under}
 use Rattle.json_places.proofs.JsonResults.{value_kept}
 use Rattle.arrow_json.proofs.file.read_under.Goals as goal
 
 pub read_batches-read-requires : goal.read_batches-read-requires
-read_batches-read-requires c = book_of (view c.args.document.now) (arc_value c.args.schema) _ c.requires.schema c.requires.book
+read_batches-read-requires c = catalog_of (view c.args.document.now) (arc_value c.args.schema) _ c.requires.schema c.requires.catalog
 
 pub new-requires : goal.new-requires
 new-requires c =

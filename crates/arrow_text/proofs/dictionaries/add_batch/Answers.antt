@@ -1,7 +1,6 @@
-use Rattle.std.proofs.Common.{◌≡◌, ◌∙◌, List, map, true, sym, ap, arith}
+use Rattle.std.proofs.Common.{◌≡◌, ◌∙◌, List, map, ap}
 use Rattle.std.proofs.lemmas.Result.{IfOk-equal}
 use Rattle.arrays.specs.File.{kinds_of}
-use Rattle.arrays.specs.Kind.{Kind, dict}
 use Rattle.arrays.specs.Seen.{Seen}
 use Rattle.arrays.specs.Slot.{is_text}
 use Rattle.arrow_text.specs.Dictionaries.{with_items}

@@ -1,4 +1,4 @@
-use Rattle.std.proofs.Common.{◌≡◌, ◌∙◌, ◌+◌, ◌∷◌, ◌++◌, [], List, map, sym, ap, ap₂, add-one, arith}
+use Rattle.std.proofs.Common.{◌∙◌, ◌+◌, ◌∷◌, [], List, map, sym, ap, ap₂, add-one, arith}
 use Rattle.std.specs.Arc.{arc_value}
 use Rattle.arrays.specs.Shape.{fields_of}
 use Rattle.types.proofs.ShapeLemmas.{kind_of_field-field_of}

@@ -1,7 +1,6 @@
 use Rattle.std.proofs.Common.{◌≡◌, ◌∙◌, List, length, map, sym, ap, subst}
 use Rattle.std.proofs.lemmas.List.{length-map}
 use Rattle.std.specs.Arc.{arc_value}
-use Rattle.types.specs.declared.data_type.Field.{Field}
 use Rattle.arrays.specs.File.{AreBatchesOf}
 use Rattle.arrays.specs.Shape.{FieldShape, field_of, fields_of}
 use Rattle.json_places.specs.JsonTable.{tables_of}

@@ -1,19 +1,18 @@
 use Rattle.std.proofs.Common.{◌≡◌, List, arith}
 use Rattle.std.proofs.lemmas.List.Concat.{flat_map-append}
 use Rattle.arrays.specs.Kind as kind
-use Rattle.arrays.specs.Lengths.{inner_items, items_in}
+use Rattle.arrays.specs.Lengths.{inner_items, items_in, joined_items}
 use Rattle.arrays.specs.Seen.{Seen}
-use Rattle.arrow_text.specs.Slots.{joined}
 use Rattle.arrow_text.proofs.Steps.{All-read, step}
 use Rattle.arrow_text.proofs.lists.lists_of.Goals as goal
 
 pub loop-column-preserved : goal.loop-column-preserved
 loop-column-preserved c =
     let column : Seen = c.column-item.result in
-    let rest = λ (cs : List Seen). inner_items (joined cs) in
+    let rest = λ (cs : List Seen). inner_items (joined_items cs) in
     record {
       items =
-          step rest rest c.args.columns.now c.loop-column.column-index column _ (joined c.loop-column.lists.items) _ _
-          (λ cs. flat_map-append items_in column.items (joined cs)) (omega arith) c.column-item.is c.in_ok-push_lists.ensures.items c.loop-column.invariant.items;
+          step rest rest c.args.columns.now c.loop-column.column-index column _ (joined_items c.loop-column.lists.items) _ _
+          (λ cs. flat_map-append items_in column.items (joined_items cs)) (omega arith) c.column-item.is c.in_ok-push_lists.ensures.items c.loop-column.invariant.items;
       kinds = λ k all. c.in_ok-push_lists.ensures.kinds k (All-read (λ s. s.kind ≡ kind.list k) c.args.columns.now _ column all (omega arith) c.column-item.is) (c.loop-column.invariant.kinds k all);
     }

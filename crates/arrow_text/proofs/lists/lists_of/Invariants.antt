@@ -1,13 +1,13 @@
 use Rattle.std.proofs.Common.{◌≡◌, ◌++◌, drop}
 use Rattle.arrays.specs.Kind as kind
 use Rattle.arrays.specs.Kind.{Kind}
-use Rattle.arrays.specs.Lengths.{inner_items}
-use Rattle.arrow_text.specs.Slots.{AreOf, joined}
+use Rattle.arrays.specs.Lengths.{inner_items, joined_items}
+use Rattle.arrow_text.specs.Slots.{AreOf}
 use Rattle.arrow_text.proofs.lists.lists_of.Given as goal
 
 -- with the columns that are left all lists are there
 abbrev pub invariant-loop-column : goal.invariant-loop-column
 invariant-loop-column l = record {
-  items : joined l.lists.items ++ inner_items (joined (drop l.column-index l.columns)) ≡ inner_items (joined l.columns);
+  items : joined_items l.lists.items ++ inner_items (joined_items (drop l.column-index l.columns)) ≡ inner_items (joined_items l.columns);
   kinds : (k : Kind) → AreOf (kind.list k) l.columns → AreOf k l.lists.items;
 }

@@ -3,7 +3,8 @@ use Rattle.arrays.specs.Seen.{Seen}
 use Rattle.json.specs.Tree.{items_tokens}
 use Rattle.serde_json.specs.Written.{items_outline}
 use Rattle.arrow_text.specs.ColumnData.{each}
-use Rattle.arrow_text.specs.Slots.{IsPartOf, joined, part_data}
+use Rattle.arrow_text.specs.Slots.{IsPartOf, part_data}
+use Rattle.arrays.specs.Lengths.{joined_items}
 use Rattle.arrow_text.proofs.Steps.{All-read, each_append, step}
 use Rattle.arrow_text.proofs.slots.write_items.Goals as goal
 
@@ -14,6 +15,6 @@ pub loop-column-preserved : goal.loop-column-preserved
 loop-column-preserved c =
     let value = part_data c.args.part in
     let column : Seen = c.column-item.result in
-    let rest = λ (cs : List Seen). items_tokens (items_outline (each value (joined cs))) in
+    let rest = λ (cs : List Seen). items_tokens (items_outline (each value (joined_items cs))) in
     step rest rest c.args.columns.now c.loop-column.column-index column _ c.loop-column.out _ _
-    (λ cs. each_append value column.items (joined cs)) (omega arith) c.column-item.is c.in_ok-write_slots.ensures c.loop-column.invariant
+    (λ cs. each_append value column.items (joined_items cs)) (omega arith) c.column-item.is c.in_ok-write_slots.ensures c.loop-column.invariant

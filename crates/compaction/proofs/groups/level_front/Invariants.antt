@@ -7,9 +7,10 @@ use Rattle.compaction.specs.Groups.{together}
 use Rattle.compaction.specs.Sizes.{size_at}
 use Rattle.compaction.proofs.FrontLemmas.{tables_of}
 use Rattle.compaction.proofs.groups.level_front.Given as goal
+use Rattle.types.specs.Limits.{most_slots}
 
 abbrev pub invariant-loop-n : goal.invariant-loop-n
 invariant-loop-n l = record {
   size : (k : Kind) → All (IsOfKind k l.column) (map arc_value l.batches) → l.size ≡ size_at k l.level (column (together (take l.n (tables_of l.batches))) l.column);
-  few : l.size ≤ 2147483647;
+  few : l.size ≤ most_slots;
 }

@@ -1,9 +1,10 @@
 use Rattle.std.proofs.Common.{◌≡◌, ◌+◌, ◌≤◌, drop}
 use Rattle.compaction.specs.Sizes.{size_at}
 use Rattle.compaction.proofs.sizes.+with_size.Given as goal
+use Rattle.types.specs.Limits.{most_slots}
 
 abbrev pub decreases-with_size : goal.decreases-with_size
 decreases-with_size l = l.level
 
 abbrev pub invariant-loop-i : goal.invariant-loop-i
-invariant-loop-i l = (l.size + size_at l.view.kind l.level (drop l.i l.view.items) ≡ l.before + size_at l.view.kind l.level l.view.items) × (l.size ≤ 2147483647)
+invariant-loop-i l = (l.size + size_at l.view.kind l.level (drop l.i l.view.items) ≡ l.before + size_at l.view.kind l.level l.view.items) × (l.size ≤ most_slots)

@@ -1,6 +1,7 @@
 use Rattle.std.proofs.Common.{◌≡◌, ◌+◌, ◌≤◌, drop}
 use Rattle.arrays.specs.Lengths.{text_bytes}
 use Rattle.compaction.proofs.sizes.with_bytes.Given as goal
+use Rattle.types.specs.Limits.{most_slots}
 
 abbrev pub invariant-loop-i : goal.invariant-loop-i
-invariant-loop-i l = (l.bytes + text_bytes (drop l.i l.view.items) ≡ l.before + text_bytes l.view.items) × (l.bytes ≤ 2147483647)
+invariant-loop-i l = (l.bytes + text_bytes (drop l.i l.view.items) ≡ l.before + text_bytes l.view.items) × (l.bytes ≤ most_slots)

@@ -12,8 +12,8 @@ pub returns-in-Bool : goal.returns-in-Bool
 returns-in-Bool c = λ h. holds_valid (λ j. boolean (slice_index_or c.bool_bits.result j false)) c.args.view.now c.bool_bits.ensures.values (λ j. refl)
 
 pub returns-in-Utf8 : goal.returns-in-Utf8
-returns-in-Utf8 c = λ h. holds_valid (λ j. text (of_slot c.texts.result.offsets.now c.texts.result.bytes.now j)) c.args.view.now c.texts.ensures.texts.texts (λ j. refl)
+returns-in-Utf8 c = λ h. holds_valid (λ j. text (of_slot c.texts.result.offsets c.texts.result.bytes.now j)) c.args.view.now c.texts.ensures.texts.texts (λ j. refl)
 
 pub returns-in-List : goal.returns-in-List
 returns-in-List c = λ h.
-    holds_valid (λ j. list (list_of (of_slot c.lists.result.offsets.now c.lists.result.child.items j))) c.args.view.now c.lists.ensures.value.lists (λ j. refl)
+    holds_valid (λ j. list (list_of (of_slot c.lists.result.offsets c.lists.result.child.items j))) c.args.view.now c.lists.ensures.value.lists (λ j. refl)

@@ -1,7 +1,7 @@
 use Rattle.std.proofs.Common.{◌≡◌, ◌∙◌, ℕ, ◌<◌, true, ap, sym, arith}
 use Rattle.std.specs.Str.{is_utf8}
 use Rattle.layout.specs.Layout.{bytes_at}
-use Rattle.layout.specs.Offsets.{of_slot}
+use Rattle.layout.specs.Offsets.{slot_at}
 use Rattle.layout.specs.Fault.{is_no_text}
 use Rattle.layout.proofs.RowLemmas.{least_found, least_none, no_text-of_text}
 use Rattle.layout.proofs.contents.least_no_text.Goals as goal
@@ -18,6 +18,6 @@ returns c =
 pub returns-then-are_texts : goal.returns-then-are_texts
 returns-then-are_texts c =
     let buffers = c.args.buffers.now in
-    let same : (j : ℕ) → j < c.args.n → is_utf8 (of_slot (bytes_at buffers 1) (bytes_at buffers 2) j) ≡ true =
-    λ j below. ap is_utf8 (λ k. of_slot (sym c.bytes_at.ensures k) (sym c.bytes_at-2.ensures k) j) ∙ c.are_texts.ensures c.if-are_texts.true j below in
+    let same : (j : ℕ) → j < c.args.n → is_utf8 (slot_at (bytes_at buffers 1) (bytes_at buffers 2) j) ≡ true =
+    λ j below. ap is_utf8 (λ k. slot_at (sym c.bytes_at.ensures k) (sym c.bytes_at-2.ensures k) j) ∙ c.are_texts.ensures c.if-are_texts.true j below in
     sym (least_none (is_no_text buffers) c.args.n (λ j below. no_text-of_text buffers j (same j below)))

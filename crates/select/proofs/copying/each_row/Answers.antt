@@ -1,5 +1,5 @@
 use Rattle.std.proofs.Common.{◌∙◌, ap, refl}
-use Rattle.select.specs.Big.{is_too_big}
+use Rattle.arrays.specs.Lengths.{is_too_big}
 use Rattle.select.specs.Picked.{first_rows, picked}
 use Rattle.select.proofs.ListLemmas.{each-within, picked-each}
 use Rattle.select.proofs.SizeLemmas.{each-chosen, memory-alone}
@@ -20,5 +20,5 @@ returns-clause-err c =
     let s = c.args.view.now in
     let n = c.new.result.count in
     memory-alone c.gather.result (is_too_big s.kind (picked s.items (first_rows n)))
-    (ap (is_too_big s.kind) (picked-each s.items (first_rows n) n refl (c.new.ensures ∙ c.slots.ensures.count)) ∙ c.tell_size.ensures)
+    (ap (is_too_big s.kind) (picked-each s.items (first_rows n) n refl (c.new.ensures ∙ c.slots.ensures.count)) ∙ c.tell_items.ensures.few)
     c.gather.ensures.err

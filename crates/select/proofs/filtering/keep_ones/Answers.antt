@@ -1,7 +1,7 @@
 use Rattle.std.proofs.Common.{◌∙◌, List, IfErr, ap, length, subst, sym}
 use Rattle.std.specs.List.{All}
 use Rattle.arrays.specs.Item.{Item}
-use Rattle.select.specs.Big.{is_too_big}
+use Rattle.arrays.specs.Lengths.{is_too_big}
 use Rattle.select.specs.Fault.{IsFull}
 use Rattle.select.specs.Picked.{IsPick, picked, rows_of_ones}
 use Rattle.select.proofs.ChosenLemmas.{chosen-kept}

@@ -1,6 +1,6 @@
 use Rattle.std.proofs.Common.{◌∙◌, inl, inr, option_map, ap, sym}
 use Rattle.std.proofs.lemmas.Result.{IfErr-weaker, IfOk-weaker}
-use Rattle.select.specs.Big.{is_too_big}
+use Rattle.arrays.specs.Lengths.{is_too_big}
 use Rattle.select.specs.Selection.{outside}
 use Rattle.select.specs.declared.fault.SelectFault.TheVariants.{IndexOutOfRange}
 use Rattle.select.proofs.ChosenLemmas.{chosen-same}

@@ -1,4 +1,4 @@
-use Rattle.std.proofs.Common.{◌∙◌, inl, inr, ℕ, ◌+◌, ◌++◌, ◌∷◌, List, [], Option, ap, arith, length, map, option_map, refl, set, subst, sym}
+use Rattle.std.proofs.Common.{◌∙◌, inl, inr, ℕ, ◌+◌, ◌++◌, ◌∷◌, List, [], Option, ap, arith, length, map, option_map, set, subst, sym}
 use Rattle.std.specs.Arc.{arc_value}
 use Rattle.std.specs.List.{zip}
 use Rattle.std.proofs.lemmas.List.{length-map, map_push}

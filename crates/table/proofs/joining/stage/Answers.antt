@@ -9,8 +9,7 @@ use Rattle.arrays.specs.Seen.{Seen}
 use Rattle.group.specs.declared.stats.ColumnStats.{ColumnStats}
 use Rattle.compaction.specs.Groups.{AreGroups}
 use Rattle.compaction.specs.Under.{HaveStats, IsDictionary, IsUnder, pieces_of}
-use Rattle.table.specs.Compacted.{IsCompacted}
-use Rattle.table.specs.Held.{IsHeld, IsWith, batches_of, dictionaries_in, show}
+use Rattle.table.specs.Held.{batches_of, dictionaries_in}
 use Rattle.table.specs.declared.held.Held.{Held}
 use Rattle.table.proofs.JoinedLemmas.{held-dictionaries, held-stats, held-under, joined-held, joined-shows}
 use Rattle.table.proofs.PutLemmas.{if-ok}

@@ -1,7 +1,7 @@
 -- What the threads of workers and readers see of their table, field by field, since the search doesn't find it whole.
 use denote.Enum.Declared.{shape as variants}
 use denote.Enum.Enum.{Enum}
-use denote.Param.Send.{IsSend, IsSync, enum_send, param_send, recorded_send, recorded_sync, sendable, shr_sync, struct_send, struct_sync}
+use denote.Param.Send.{IsSend, IsSync, enum_send, param_send, recorded_send, recorded_sync, sendable, shr_sync, struct_sync}
 use denote.Struct.Declared.{shape}
 use denote.Struct.Struct.{Struct}
 use denote.Ref.{NamedLft}

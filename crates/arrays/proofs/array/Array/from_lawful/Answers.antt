@@ -1,7 +1,6 @@
 use Rattle.std.proofs.Common.{◌≡◌, ◌∙◌, IfOk, None, Some, ap, map, option_map, subst, sym}
 use Rattle.std.specs.Arc.{arc_value}
-use Rattle.types.specs.Kind as kind
-use Rattle.types.specs.Kind.{Kind, kind_of}
+use Rattle.types.specs.Kind.{kind_of}
 use Rattle.layout.specs.Checked.{checked_texts, read_checked}
 use Rattle.layout.specs.Reading.{reading}
 use Rattle.layout.specs.Seen.{Seen}

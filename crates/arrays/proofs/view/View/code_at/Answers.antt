@@ -25,7 +25,7 @@ returns-clause-item c =
     let valid : valid_at codes c.args.i ≡ true = search rules in
     let code =
     (valid_code s codes c.numbers-numbers.result.now c.args.i c.codes-codes.ensures.value c.numbers-numbers.ensures c.codes-codes.ensures.within (codes_slots s codes c.args.i c.codes-codes.ensures.value c.codes-codes.ensures.items c.requires.within) valid).code
-    ∙ ap (λ n. Some (int (pos n))) (sym c.natural_at.ensures) in
+    ∙ ap (λ n. Some (int (pos n))) (sym c.natural_at.ensures.number) in
     named_item s c.args.i _ c.codes-codes.ensures.items code
 
 pub returns-clause-entry : goal.returns-clause-entry
@@ -33,5 +33,5 @@ returns-clause-entry c =
     let s = c.args.self.now in
     let codes = c.codes-codes.result in
     let valid : valid_at codes c.args.i ≡ true = search rules in
-    subst (λ n. n < length s.entries.items) (sym c.natural_at.ensures)
+    subst (λ n. n < length s.entries.items) (sym c.natural_at.ensures.number)
     (valid_code s codes c.numbers-numbers.result.now c.args.i c.codes-codes.ensures.value c.numbers-numbers.ensures c.codes-codes.ensures.within (codes_slots s codes c.args.i c.codes-codes.ensures.value c.codes-codes.ensures.items c.requires.within) valid).below

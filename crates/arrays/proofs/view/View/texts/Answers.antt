@@ -1,33 +1,56 @@
-use Rattle.std.proofs.Common.{◌+◌, length, sym, subst}
-use Rattle.layout.specs.Inner.{HasOffsets}
-use Rattle.layout.specs.Offsets.{AreOffsets}
-use Rattle.arrays.proofs.OffsetParts.{ends_within}
-use Rattle.arrays.proofs.PartLemmas.{texts_of_view, texts_read}
+use Rattle.std.proofs.Common.{◌∙◌, ◌<◌, ap, length, subst, sym}
+use Rattle.std.proofs.lemmas.Str.{is_utf8-from_IsUtf8}
+use Rattle.layout.specs.Item.{text}
+use Rattle.layout.specs.Offsets.{AreOffsets, of_slot}
+use Rattle.layout.specs.Seen.{valid_in}
+use Rattle.layout.proofs.OffsetParts.{ends_within}
+use Rattle.arrays.specs.Values.{HasTexts}
+use Rattle.arrays.proofs.PartLemmas.{texts_of_view}
+use Rattle.arrays.proofs.SlotLemmas.{items-seen}
 use Rattle.arrays.proofs.view.View.texts.Goals as goal
 
-pub offsets_from-requires-clause-enough : goal.offsets_from-requires-clause-enough
-offsets_from-requires-clause-enough c =
-    let v = c.self.inside in
-    let there = texts_of_view v c.args.self.now c.self.view_is c.requires c.self.invariant.0 c.self.invariant.1 in
-    subst (HasOffsets (v.start + v.len)) (sym c.bytes_at-offsets.ensures) there.enough
+pub new-requires-clause-enough : goal.new-requires-clause-enough
+new-requires-clause-enough c =
+    (texts_of_view c.self.inside c.args.self.now c.bytes_at-first.result.now c.bytes_at-bytes.result.now c.slots-slots.result c.self.view_is c.requires c.self.invariant.0 c.self.invariant.1
+    c.bytes_at-first.ensures c.bytes_at-bytes.ensures c.slots-slots.ensures.count).there.enough
+
+pub new-requires-clause-counted : goal.new-requires-clause-counted
+new-requires-clause-counted c =
+    (texts_of_view c.self.inside c.args.self.now c.bytes_at-first.result.now c.bytes_at-bytes.result.now c.slots-slots.result c.self.view_is c.requires c.self.invariant.0 c.self.invariant.1
+    c.bytes_at-first.ensures c.bytes_at-bytes.ensures c.slots-slots.ensures.count).there.counted
 
 pub invariant_of-result : goal.invariant_of-result
 invariant_of-result c =
-    let offsets = c.offsets_from.result.now in
-    let bytes = c.bytes_at.result.now in
-    let texts =
-    texts_read c.self.inside c.args.self.now c.bytes_at-offsets.result.now offsets bytes c.self.view_is c.requires c.self.invariant.0 c.self.invariant.1
-    c.bytes_at-offsets.ensures c.offsets_from.ensures c.bytes_at.ensures in
-    let bounds = subst (λ n. AreOffsets n offsets (length bytes)) (sym c.slots.ensures.count) texts.bounds in
+    let n = c.slots-slots.result in
+    let s = c.args.self.now in
+    let bytes = c.bytes_at-bytes.result.now in
+    let has : HasTexts c.new.result bytes s =
+    subst (λ o. HasTexts o c.bytes_at-bytes.result.now c.args.self.now) (sym c.new.ensures.offsets)
+    (texts_of_view c.self.inside c.args.self.now c.bytes_at-first.result.now c.bytes_at-bytes.result.now c.slots-slots.result c.self.view_is c.requires c.self.invariant.0 c.self.invariant.1
+    c.bytes_at-first.ensures c.bytes_at-bytes.ensures c.slots-slots.ensures.count).texts in
+    let bounds : AreOffsets n c.new.result (length bytes) = subst (λ m. AreOffsets m c.new.result (length bytes)) (sym c.slots-slots.ensures.count) has.bounds in
     record {
-      size = bounds.size;
-      counted = bounds.counted;
-      rising = bounds.rising;
-      ends = ends_within c.slots.result offsets (length bytes) bounds;
-      short = c.slots.ensures.short;
+      bounds = bounds;
+      ends = ends_within n c.new.result (length bytes) bounds;
+      utf8 =
+          λ j below valid.
+          is_utf8-from_IsUtf8 (of_slot c.new.result bytes j)
+          (has.utf8 j (subst (λ m. j < m) c.slots-slots.ensures.count below) (ap (λ v. valid_in v j) (sym c.validity-validity.ensures) ∙ valid));
+      few = c.new.ensures.short;
+      short = c.slots-slots.ensures.short;
     }
 
 pub returns-clause-texts : goal.returns-clause-texts
 returns-clause-texts c =
-    texts_read c.self.inside c.args.self.now c.bytes_at-offsets.result.now c.offsets_from.result.now c.bytes_at.result.now c.self.view_is c.requires c.self.invariant.0 c.self.invariant.1
-    c.bytes_at-offsets.ensures c.offsets_from.ensures c.bytes_at.ensures
+    subst (λ o. HasTexts o c.bytes_at-bytes.result.now c.args.self.now) (sym c.new.ensures.offsets)
+    (texts_of_view c.self.inside c.args.self.now c.bytes_at-first.result.now c.bytes_at-bytes.result.now c.slots-slots.result c.self.view_is c.requires c.self.invariant.0 c.self.invariant.1
+    c.bytes_at-first.ensures c.bytes_at-bytes.ensures c.slots-slots.ensures.count).texts
+
+pub returns-clause-items : goal.returns-clause-items
+returns-clause-items c =
+    let bytes = c.bytes_at-bytes.result.now in
+    let has : HasTexts c.new.result bytes c.args.self.now =
+    subst (λ o. HasTexts o c.bytes_at-bytes.result.now c.args.self.now) (sym c.new.ensures.offsets)
+    (texts_of_view c.self.inside c.args.self.now c.bytes_at-first.result.now c.bytes_at-bytes.result.now c.slots-slots.result c.self.view_is c.requires c.self.invariant.0 c.self.invariant.1
+    c.bytes_at-first.ensures c.bytes_at-bytes.ensures c.slots-slots.ensures.count).texts in
+    items-seen (λ j. text (of_slot c.new.result bytes j)) c.validity-validity.result c.slots-slots.result c.args.self.now has.texts c.validity-validity.ensures c.slots-slots.ensures.count

@@ -1,4 +1,4 @@
-use Rattle.arrays.proofs.TypedLemmas.{number_at-of_type}
+use Rattle.types.proofs.RangeLemmas.{number_at-of_type}
 use Rattle.arrays.proofs.view.typed.tell_range.Goals as goal
 
 pub returns : goal.returns

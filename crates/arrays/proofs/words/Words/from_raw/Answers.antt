@@ -1,8 +1,6 @@
 use Rattle.std.proofs.Common.{◌∙◌, ap}
-use Rattle.layout.specs.Reading.{Reading}
 use Rattle.arrays.specs.declared.array.parts.Parts.{Parts}
 use Rattle.arrays.specs.Words.{read_texts}
-use Rattle.std.specs.Arc.{arc_value}
 use Rattle.layout.proofs.LawfulLemmas.{AreTexts-raw}
 use Rattle.arrays.proofs.words.Words.from_raw.Goals as goal
 

@@ -27,6 +27,6 @@ returns c =
     let has = subst (HasCodes bytes validity) c.self.view_is c.self.invariant in
     let valid = sym c.is_valid.ensures ∙ c.if-not-is_valid.false in
     record {
-      item = named_slot bytes validity s c.args.i has c.requires valid ∙ ap (λ n. Some (looked_up s.entries.items (int (pos n)))) (sym c.natural_at.ensures);
-      entry = subst (λ n. n < length s.entries.items) (sym c.natural_at.ensures) (coded_slot bytes validity s c.args.i has c.requires valid).below;
+      item = named_slot bytes validity s c.args.i has c.requires valid ∙ ap (λ n. Some (looked_up s.entries.items (int (pos n)))) (sym c.natural_at.ensures.number);
+      entry = subst (λ n. n < length s.entries.items) (sym c.natural_at.ensures.number) (coded_slot bytes validity s c.args.i has c.requires valid).below;
     }

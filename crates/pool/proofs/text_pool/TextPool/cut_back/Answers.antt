@@ -4,10 +4,11 @@ use Rattle.std.specs.String.{string_bytes}
 use Rattle.pool.specs.Pool.{IsPool}
 use Rattle.pool.proofs.PoolLemmas.{cut_bounded, cut_within, IsPool-take, map-take}
 use Rattle.pool.proofs.text_pool.TextPool.cut_back.Goals as goal
+use Rattle.types.specs.Limits.{most_slots}
 
 pub byte_count-cut-requires : goal.byte_count-cut-requires
 byte_count-cut-requires c =
-    subst (λ ks. sum_by (λ t. length (string_bytes t)) (take (length ks - c.args.len) (drop c.args.len ks)) ≤ 2147483647) (sym c.as_slice.ensures.keys)
+    subst (λ ks. sum_by (λ t. length (string_bytes t)) (take (length ks - c.args.len) (drop c.args.len ks)) ≤ most_slots) (sym c.as_slice.ensures.keys)
     (cut_bounded string_bytes c.self.inside.texts.keys c.self.inside.bytes c.args.len c.self.invariant)
 
 pub overflow_sub-self : goal.overflow_sub-self

@@ -1,4 +1,5 @@
-use Rattle.std.proofs.Common.{arith, length}
+use Rattle.std.proofs.Common.{arith}
+use Rattle.arrays.specs.Values.{items_of_lists}
 use Rattle.select.specs.Picked.{IsPick}
 use Rattle.select.proofs.ListLemmas.{Spreading-more, full_of_all, past-spread}
 use Rattle.select.proofs.PickLemmas.{all-at}
@@ -9,18 +10,18 @@ pub next-row-requires : goal.next-row-requires
 next-row-requires g c =
     some_left _ (g.R.Rows.picks c.args.rows.now) c.loop-slot._slot c.loop-slot.invariant.told (omega (arith, c.slots-count.ensures.count, c.loop-slot-test.true))
 
-pub range_at-requires-clause-pick : goal.range_at-requires-clause-pick
-range_at-requires-clause-pick g c =
+pub range_at-requires : goal.range_at-requires
+range_at-requires g c =
     let picks = g.R.Rows.picks c.args.rows.now in
     let next = is_next picks c.loop-slot._slot c.next-row.result _ _ c.loop-slot.invariant.told c.next-row.ensures in
-    all-at (IsPick (length c.args.view.now.items)) picks c.loop-slot._slot c.next-row.result c.requires.within next.here
+    all-at (IsPick c.args.lists.now.slots) picks c.loop-slot._slot c.next-row.result c.requires next.here
 
 pub returns-in_err-push-clause-err : goal.returns-in_err-push-clause-err
 returns-in_err-push-clause-err g c =
     let picks = g.R.Rows.picks c.args.rows.now in
     let next = is_next picks c.loop-slot._slot c.next-row.result _ _ c.loop-slot.invariant.told c.next-row.ensures in
     full_of_all c.from_residual-in_err-push.result c.in_err-push.field-0.0 _ _ c.from_residual-in_err-push.ensures.1 c.in_err-push.ensures.err
-    (past-spread c.args.lists.now.child.items c.args.view.now.items picks c.loop-slot._slot c.next-row.result c.range_at.result c.loop-slot.spread.lengths c.loop-slot.spread.rows
+    (past-spread c.args.lists.now.child.items (items_of_lists c.args.lists.now) picks c.loop-slot._slot c.next-row.result c.range_at.result c.loop-slot.spread.lengths c.loop-slot.spread.rows
     c.loop-slot.invariant.spread next.here c.range_at.ensures.item c.range_at.ensures.within)
 
 pub loop-slot-preserved : goal.loop-slot-preserved
@@ -30,6 +31,6 @@ loop-slot-preserved g c =
     record {
       told = next.rest;
       spread =
-          Spreading-more c.args.lists.now.child.items c.args.view.now.items picks c.loop-slot._slot c.next-row.result c.range_at.result c.loop-slot.spread.lengths c.push.new.self.lengths c.loop-slot.spread.rows c.push.new.self.rows
+          Spreading-more c.args.lists.now.child.items (items_of_lists c.args.lists.now) picks c.loop-slot._slot c.next-row.result c.range_at.result c.loop-slot.spread.lengths c.push.new.self.lengths c.loop-slot.spread.rows c.push.new.self.rows
           c.loop-slot.invariant.spread next.here c.range_at.ensures.item c.range_at.ensures.within c.in_ok-push.ensures.lengths c.in_ok-push.ensures.rows;
     }

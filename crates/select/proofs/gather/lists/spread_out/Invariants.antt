@@ -1,9 +1,10 @@
 use Rattle.std.proofs.Common.{◌≡◌, drop}
+use Rattle.arrays.specs.Values.{items_of_lists}
 use Rattle.select.proofs.ListLemmas.{Spreading}
 use Rattle.select.proofs.gather.lists.spread_out.Given as goal
 
 abbrev pub invariant-loop-slot : goal.invariant-loop-slot
 invariant-loop-slot g l = record {
   told : g.R.Rows.rest l.rows l.place ≡ drop l._slot (g.R.Rows.picks l.rows);
-  spread : Spreading l.lists.child.items l.view.items (g.R.Rows.picks l.rows) l._slot l.spread.lengths l.spread.rows;
+  spread : Spreading l.lists.child.items (items_of_lists l.lists) (g.R.Rows.picks l.rows) l._slot l.spread.lengths l.spread.rows;
 }

@@ -1,6 +1,7 @@
-use Rattle.std.proofs.Common.{◌∙◌, ◌+◌, ◌++◌, ◌∷◌, [], take, ap, sym, arith, length}
+use Rattle.std.proofs.Common.{◌∙◌, ◌+◌, ◌++◌, ◌∷◌, [], take, ap, sym, arith}
 use Rattle.std.specs.Option.{option_copied}
 use Rattle.arrays.specs.Slot.{item_of_text}
+use Rattle.arrays.specs.Values.{items_of_texts}
 use Rattle.select.specs.Picked.{IsPick, picked}
 use Rattle.select.specs.Texts.{all_bytes}
 use Rattle.select.proofs.PickLemmas.{all-at, picked-all, picked-more}
@@ -12,16 +13,16 @@ pub next-row-requires : goal.next-row-requires
 next-row-requires g c =
     some_left _ (g.R.Rows.picks c.args.rows.now) c.loop-slot._slot c.loop-slot.invariant.told (omega (arith, c.slots-count.ensures.count, c.loop-slot-test.true))
 
-pub text_at-requires-clause-within : goal.text_at-requires-clause-within
-text_at-requires-clause-within g c =
+pub text_at-requires : goal.text_at-requires
+text_at-requires g c =
     let picks = g.R.Rows.picks c.args.rows.now in
     let next = is_next picks c.loop-slot._slot c.next-row.result _ _ c.loop-slot.invariant.told c.next-row.ensures in
-    all-at (IsPick (length c.args.view.now.items)) picks c.loop-slot._slot c.next-row.result c.requires.within next.here
+    all-at (IsPick c.args.texts.now.slots) picks c.loop-slot._slot c.next-row.result c.requires.within next.here
 
 pub loop-slot-preserved : goal.loop-slot-preserved
 loop-slot-preserved g c =
     let picks = g.R.Rows.picks c.args.rows.now in
-    let items = c.args.view.now.items in
+    let items = items_of_texts c.args.texts.now in
     let j = c.loop-slot._slot in
     let old = picked items (take j picks) in
     let next = is_next picks j c.next-row.result _ _ c.loop-slot.invariant.told c.next-row.ensures in
@@ -35,4 +36,4 @@ loop-slot-preserved g c =
 pub returns : goal.returns
 returns g c =
     c.loop-slot.invariant.filled
-    ∙ ap all_bytes (picked-all c.args.view.now.items (g.R.Rows.picks c.args.rows.now) c.loop-slot._slot (omega (arith, c.slots-count.ensures.count, c.loop-slot-test.false)))
+    ∙ ap all_bytes (picked-all (items_of_texts c.args.texts.now) (g.R.Rows.picks c.args.rows.now) c.loop-slot._slot (omega (arith, c.slots-count.ensures.count, c.loop-slot-test.false)))

@@ -6,6 +6,7 @@ use Rattle.select.specs.declared.fault.SelectFault.TheVariants.{IndexOutOfRange}
 use Rattle.select.proofs.NamedLemmas.{Taken-named, index_there, names-more}
 use Rattle.select.proofs.SelectionLemmas.{Taken-all, Taken-inside, Taken-outside}
 use Rattle.select.proofs.indices.Indices.of.Goals as goal
+use Rattle.types.specs.Limits.{most_slots}
 
 pub returns-in-Some-clause-err : goal.returns-in-Some-clause-err
 returns-in-Some-clause-err g c =
@@ -23,7 +24,7 @@ returns-in-Some-clause-err g c =
 pub new-requires : goal.new-requires
 new-requires g c =
     let numbers = c.ints-numbers.result in
-    names-more g.T.Integer.ty numbers.values.now numbers.validity c.args.len 2147483647 numbers.slots c.requires.short c.in-None.ensures.none
+    names-more g.T.Integer.ty numbers.values.now numbers.validity c.args.len most_slots numbers.slots c.requires.short c.in-None.ensures.none
 
 pub returns-in-None-clause-inside : goal.returns-in-None-clause-inside
 returns-in-None-clause-inside g c =

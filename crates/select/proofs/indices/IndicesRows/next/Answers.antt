@@ -11,6 +11,7 @@ use Rattle.select.proofs.NamedLemmas.{cast_fits, cast_is, index_below, row_at}
 use Rattle.select.proofs.RestLemmas.{told_next}
 use Rattle.select.proofs.StoredLemmas.{FitsSigned-from_type}
 use Rattle.select.proofs.indices.IndicesRows.next.Goals as goal
+use Rattle.types.specs.Limits.{most_slots}
 
 pub get-index-requires : goal.get-index-requires
 get-index-requires g c =
@@ -29,7 +30,7 @@ overflow_cast-result g c =
     let z = c.in-Some.row in
     let at = c.args.place.now.at in
     let below = index_below t r.values.now r.validity r.slots at c.args.self.now c.self.view_is c.requires in
-    let code = subst (λ o. is_code 2147483647 (item_of o) ≡ true) (sym c.in-Some.ensures.value) (c.self.invariant.each at below) in
+    let code = subst (λ o. is_code most_slots (item_of o) ≡ true) (sym c.in-Some.ensures.value) (c.self.invariant.each at below) in
     subst (λ z. T (non_neg z) × Fits w64 (nat_abs z)) (sym (to_z-of_z w128 z (FitsSigned-from_type t z (c.in-Some.ensures.of_type z refl)))) (cast_fits z code)
 
 pub returns-in-Some : goal.returns-in-Some
@@ -39,12 +40,12 @@ returns-in-Some g c =
     let z = c.in-Some.row in
     let at = c.args.place.now.at in
     let below = index_below t r.values.now r.validity r.slots at c.args.self.now c.self.view_is c.requires in
-    let code = subst (λ o. is_code 2147483647 (item_of o) ≡ true) (sym c.in-Some.ensures.value) (c.self.invariant.each at below) in
+    let code = subst (λ o. is_code most_slots (item_of o) ≡ true) (sym c.in-Some.ensures.value) (c.self.invariant.each at below) in
     told_next c.args.self.now at _
     (ap (λ picks. slice_get picks at) (sym c.self.view_is)
     ∙ row_at t r.values.now r.validity r.slots at below
     ∙ ap (λ o. Some (option_map natural o)) (sym c.in-Some.ensures.value)
-    ∙ ap (λ n. Some (Some n)) (sym (cast_is 2147483647 z code))
+    ∙ ap (λ n. Some (Some n)) (sym (cast_is most_slots z code))
     ∙ ap (λ z. Some (Some (nat_abs z))) (sym (to_z-of_z w128 z (FitsSigned-from_type t z (c.in-Some.ensures.of_type z refl)))))
 
 pub returns-in-None : goal.returns-in-None

@@ -5,7 +5,8 @@ use Rattle.arrays.specs.Dictionary.{is_code}
 use Rattle.arrays.specs.Kind as kind
 use Rattle.arrays.specs.Seen.{Seen}
 use Rattle.arrays.specs.Shown.{shown}
-use Rattle.select.specs.Joined.{joined_entries, joined_items}
+use Rattle.select.specs.Joined.{joined_entries}
+use Rattle.arrays.specs.Lengths.{joined_items}
 use Rattle.select.proofs.JoinedCodes.{codes-within, joined-encoded}
 use Rattle.select.proofs.joining.dicts.join.Goals as goal
 

@@ -2,7 +2,7 @@ use Rattle.std.proofs.Common.{◌∙◌, ap, sym}
 use Rattle.arrays.specs.Kind as kind
 use Rattle.arrays.specs.Kind.{kind_of}
 use Rattle.types.specs.declared.data_type.Field.{out-Field}
-use Rattle.select.specs.Big.{is_too_big}
+use Rattle.arrays.specs.Lengths.{is_too_big}
 use Rattle.select.proofs.ChosenLemmas.{list-injective}
 use Rattle.select.proofs.JoinLemmas.{AreChildren-more, kind-here, too_big-of_all}
 use Rattle.select.proofs.ListLemmas.{full_of_all}

@@ -1,8 +1,7 @@
 use Rattle.std.proofs.Common.{◌≡◌, ◌++◌, drop, map}
 use Rattle.std.specs.Prelude.{flat_map}
-use Rattle.arrays.specs.Lengths.{list_length}
+use Rattle.arrays.specs.Lengths.{joined_items, list_length}
 use Rattle.arrays.specs.Seen.{Seen}
-use Rattle.select.specs.Joined.{joined_items}
 use Rattle.select.proofs.joining.lists.lengths.Given as goal
 
 abbrev pub invariant-loop-view : goal.invariant-loop-view

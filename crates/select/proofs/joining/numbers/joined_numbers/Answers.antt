@@ -1,5 +1,6 @@
 use Rattle.std.proofs.Common.{subst, sym}
-use Rattle.select.specs.Joined.{AreNumbersOf, TellsNulls, joined_items}
+use Rattle.select.specs.Joined.{AreNumbersOf, TellsNulls}
+use Rattle.arrays.specs.Lengths.{joined_items}
 use Rattle.std.proofs.Common.{take}
 use Rattle.select.proofs.JoinLemmas.{All-more}
 use Rattle.select.proofs.JoinedNumbers.{AreNumbersOf-more, TellsNulls-numbers, joined-more}

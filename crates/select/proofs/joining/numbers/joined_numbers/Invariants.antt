@@ -1,6 +1,7 @@
 use Rattle.std.proofs.Common.{take}
 use Rattle.std.specs.Prelude.{All}
-use Rattle.select.specs.Joined.{AreNumbersOf, TellsNulls, joined_items}
+use Rattle.select.specs.Joined.{AreNumbersOf, TellsNulls}
+use Rattle.arrays.specs.Lengths.{joined_items}
 use Rattle.select.proofs.joining.numbers.joined_numbers.Given as goal
 
 abbrev pub invariant-loop-view : goal.invariant-loop-view

@@ -1,5 +1,5 @@
 use Rattle.std.proofs.Common.{◌≡◌, ◌++◌, drop}
-use Rattle.select.specs.Joined.{joined_items}
+use Rattle.arrays.specs.Lengths.{joined_items}
 use Rattle.select.proofs.joining.texts.join.Given as goal
 
 abbrev pub invariant-loop-view : goal.invariant-loop-view

@@ -1,5 +1,6 @@
 use Rattle.std.proofs.Common.{◌≡◌, length, take}
-use Rattle.select.specs.Joined.{AreStarts, joined_items}
+use Rattle.select.specs.Joined.{AreStarts}
+use Rattle.arrays.specs.Lengths.{joined_items}
 use Rattle.select.proofs.joining.valid.starts_of.Given as goal
 
 abbrev pub invariant-loop-view : goal.invariant-loop-view

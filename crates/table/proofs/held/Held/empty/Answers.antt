@@ -4,7 +4,8 @@ use Rattle.std.specs.declared.alloc.Global.{Global}
 use Rattle.std.specs.declared.vec.Vec.{Vec}
 use Rattle.arrays.specs.Shape.{FieldShape}
 use Rattle.group.specs.declared.stats.ColumnStats.{ColumnStats}
-use Rattle.table.specs.Lawful.{AreStatsOf, dictionaries_of}
+use Rattle.table.specs.Lawful.{dictionaries_of}
+use Rattle.compaction.specs.Statistics.{AreStatsOf}
 use Rattle.table.proofs.EmptyLemmas.{held-empty}
 use Rattle.table.proofs.held.Held.empty.Goals as goal
 

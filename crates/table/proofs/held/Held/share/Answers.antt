@@ -1,6 +1,5 @@
 use Rattle.std.proofs.Common.{◌∙◌, ap, map, sym}
 use Rattle.std.specs.Arc.{arc_value}
-use Rattle.compaction.specs.Under.{pieces_of}
 use Rattle.table.proofs.PutLemmas.{if-ok, with-same}
 use Rattle.table.specs.declared.held.Held.{Held}
 use Rattle.std.specs.declared.alloc.Global.{Global}

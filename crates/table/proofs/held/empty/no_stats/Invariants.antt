@@ -1,6 +1,6 @@
 use Rattle.std.proofs.Common.{[], take}
 use Rattle.arrays.specs.Shape.{fields_of}
-use Rattle.table.specs.Lawful.{AreStatsOf}
+use Rattle.compaction.specs.Statistics.{AreStatsOf}
 use Rattle.table.proofs.held.empty.no_stats.Given as goal
 
 abbrev pub invariant-loop-field : goal.invariant-loop-field

@@ -1,5 +1,3 @@
-use Rattle.std.proofs.Common.{◌≡◌, ◌∙◌, ap, subst, sym}
-use Rattle.table.specs.Cause.{IsLegal}
 use Rattle.table.specs.Held.{batches_of}
 use Rattle.table.specs.Lawful.{table_of}
 use Rattle.table.proofs.JoinedLemmas.{after-commit, compacted-table, texts-begin}

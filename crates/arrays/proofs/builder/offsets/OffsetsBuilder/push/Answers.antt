@@ -5,6 +5,7 @@ use Rattle.types.specs.Kind.{int32}
 use Rattle.types.specs.Number.{bytes_of_number}
 use Rattle.arrays.proofs.LaidLemmas.{grown, past_by, within_by, length-lengths_where, wide}
 use Rattle.arrays.proofs.builder.offsets.OffsetsBuilder.push.Goals as goal
+use Rattle.types.specs.Limits.{most_slots}
 
 pub returns-then-more-self-clause-fault : goal.returns-then-more-self-clause-fault
 returns-then-more-self-clause-fault c =
@@ -19,21 +20,21 @@ push-requires-2 c =
 pub invariant_of-self-in-Ok : goal.invariant_of-self-in-Ok
 invariant_of-self-in-Ok c =
     let s = c.self.inside in
-    let short : s.total + c.unwrap_or-more.result ≤ 2147483647 = omega (arith, c.self.invariant.short) in
+    let short : s.total + c.unwrap_or-more.result ≤ most_slots = omega (arith, c.self.invariant.short) in
     (grown s.valid c.push-2.new.self s.offsets.items c.push.new.numbers.items s.total c.unwrap_or-more.result c.is_some.result c.args.self.now c.args.slot
     c.self.view_is c.self.invariant c.is_some.ensures c.unwrap_or-more.ensures short (c.in_ok-push.ensures.ok ∙ ap (λ z. s.offsets.items ++ bytes_of_number int32 z) (wide (s.total + c.unwrap_or-more.result) short)) c.in-Ok.ensures.ok).fresh_still
 
 pub returns-in-Ok-clause-ok : goal.returns-in-Ok-clause-ok
 returns-in-Ok-clause-ok c =
     let s = c.self.inside in
-    let short : s.total + c.unwrap_or-more.result ≤ 2147483647 = omega (arith, c.self.invariant.short) in
+    let short : s.total + c.unwrap_or-more.result ≤ most_slots = omega (arith, c.self.invariant.short) in
     (grown s.valid c.push-2.new.self s.offsets.items c.push.new.numbers.items s.total c.unwrap_or-more.result c.is_some.result c.args.self.now c.args.slot
     c.self.view_is c.self.invariant c.is_some.ensures c.unwrap_or-more.ensures short (c.in_ok-push.ensures.ok ∙ ap (λ z. s.offsets.items ++ bytes_of_number int32 z) (wide (s.total + c.unwrap_or-more.result) short)) c.in-Ok.ensures.ok).one_more
 
 pub returns-in-Ok-clause-fits : goal.returns-in-Ok-clause-fits
 returns-in-Ok-clause-fits c =
     let s = c.self.inside in
-    let short : s.total + c.unwrap_or-more.result ≤ 2147483647 = omega (arith, c.self.invariant.short) in
+    let short : s.total + c.unwrap_or-more.result ≤ most_slots = omega (arith, c.self.invariant.short) in
     ap (λ l. is_past (total l)) (grown s.valid c.push-2.new.self s.offsets.items c.push.new.numbers.items s.total c.unwrap_or-more.result c.is_some.result c.args.self.now c.args.slot
     c.self.view_is c.self.invariant c.is_some.ensures c.unwrap_or-more.ensures short (c.in_ok-push.ensures.ok ∙ ap (λ z. s.offsets.items ++ bytes_of_number int32 z) (wide (s.total + c.unwrap_or-more.result) short)) c.in-Ok.ensures.ok).one_more
     ∙ within_by s.valid s.offsets.items s.total c.args.self.now c.args.slot c.self.view_is c.self.invariant (omega (arith, c.self.invariant.short, c.unwrap_or-more.ensures))

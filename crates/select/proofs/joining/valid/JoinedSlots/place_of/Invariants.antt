@@ -1,5 +1,5 @@
 use Rattle.std.proofs.Common.{◌<◌, ◌≤◌, ◌-◌, length, take}
-use Rattle.select.specs.Joined.{joined_items}
+use Rattle.arrays.specs.Lengths.{joined_items}
 use Rattle.select.proofs.joining.valid.JoinedSlots.place_of.Given as goal
 
 -- the slot lies in a view from the lower one up to the higher one

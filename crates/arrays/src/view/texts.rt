@@ -1,0 +1,88 @@
+//! The texts of a column without a dictionary, one by one.
+
+ghost use Rattle.std.specs.Prelude.{◌≡◌, ◌+◌, ◌<◌, ◌≤◌, ℕ, length, true};
+ghost use Rattle.std.specs.Option.{option_copied};
+ghost use Rattle.std.specs.Str.{is_utf8};
+ghost use Rattle.types.specs.Kind as kind;
+ghost use Rattle.types.specs.Limits.{most_slots};
+ghost use Rattle.layout.specs.Offsets.{AreOffsets, of_slot, start_of};
+ghost use Rattle.layout.specs.Seen.{valid_in};
+ghost use Rattle.arrays.specs.Slot.{item_at, item_of_text};
+
+use crate::validity::is_valid;
+use crate::view::View;
+use colbits::Bits;
+use layout::{Offsets, buffers};
+use std::str::from_utf8_unchecked;
+
+/// The texts of a column, one for each slot.
+#[derive(Drop)]
+pub struct Texts<'a> {
+    /// Where each text begins and the last one ends.
+    pub offsets: Offsets<'a>,
+    /// The bytes that the offsets count in. There may be more than those of the texts, and any bytes under a null.
+    pub bytes: &'a [u8],
+    /// Which slots are valid, none where all of them are.
+    pub validity: Option<Bits<'a>>,
+    /// How many slots there are.
+    pub slots: u32,
+    ghost bounds: { AreOffsets slots offsets (length bytes.now) },
+    ghost ends: { (j : ℕ) → j ≤ slots → start_of offsets j ≤ length bytes.now },
+    ghost utf8: { (j : ℕ) → j < slots → valid_in validity j ≡ true → is_utf8 (of_slot offsets bytes.now j) ≡ true },
+    ghost few: { (j : ℕ) → j ≤ slots → start_of offsets j ≤ most_slots },
+    ghost short: { slots ≤ most_slots },
+}
+
+impl<'a> Texts<'a> {
+    ghost use Rattle.arrays.specs.Values.{items_of_texts, text_in};
+
+    /// The bytes that lie in slot `i`, whether the slot is valid or not.
+    #[inline(always)]
+    pub fn read(&self, i: usize) -> &'a [u8]
+        requires { i < self.now.slots }
+        ensures { result.now ≡ of_slot self.now.offsets self.now.bytes.now i }
+    {
+        let start = self.offsets.get(i);
+        let end = self.offsets.get(i + 1);
+        &self.bytes[start..end]
+    }
+
+    /// The text of slot `i`, none where it is null.
+    #[inline(always)]
+    pub fn get(&self, i: usize) -> Option<&'a str>
+        requires { i < self.now.slots }
+        ensures value { option_copied result ≡ text_in self.now.offsets self.now.bytes.now self.now.validity i }
+        ensures item { item_at (items_of_texts self.now) i ≡ item_of_text (option_copied result) }
+    {
+        if is_valid(&self.validity, i) {
+            let text = self.read(i);
+            Some(unsafe { from_utf8_unchecked(text) })
+        } else {
+            None
+        }
+    }
+}
+
+impl<'a> View<'a> {
+    ghost use Rattle.arrays.specs.Values.{HasTexts, items_of_texts};
+
+    /// The texts of a view of such.
+    pub fn texts(&self) -> Texts<'a>
+        requires { self.now.kind ≡ kind.utf8 }
+        ensures texts { HasTexts result.offsets result.bytes.now self.now }
+        ensures validity { result.validity ≡ self.now.validity }
+        ensures slots { result.slots ≡ length self.now.items }
+        ensures items { items_of_texts result ≡ self.now.items }
+    {
+        let first = buffers::bytes_at(self.buffers, 1);
+        let bytes = buffers::bytes_at(self.buffers, 2);
+        let validity = self.validity();
+        let slots = self.slots();
+        Texts {
+            offsets: Offsets::new(first, self.start, slots),
+            bytes,
+            validity,
+            slots,
+        }
+    }
+}

@@ -1,0 +1,198 @@
+-- The offsets of part of an array.
+use Rattle.std.proofs.Common.{◌≡◌, ◌∙◌, ℕ, ◌+◌, ◌-◌, ◌*◌, ◌<◌, ◌≤◌, pos, List, [], ◌∷◌, map, Bool, true, false, length, cond, Option, get_or, ap, sym, refl, subst, arith, zero-add}
+use Rattle.std.specs.List.{list_any, range_with_len}
+use Rattle.std.specs.Int.{cast_signed, from_le_bytes}
+use Rattle.std.proofs.lemmas.Bool.{false≢true}
+use Rattle.std.proofs.lemmas.Bool.Decides.{nat_tests}
+use Rattle.std.proofs.lemmas.List.FromFn.{get_or-map-range_with_len, length-map-range_with_len}
+use Rattle.std.proofs.lemmas.Nat.{row_fits}
+use Rattle.colbits.specs.Slice.{slice}
+use Rattle.colbits.proofs.BitLemmas.{map-range-same}
+use Rattle.types.specs.declared.int_type.IntType.{IntType}
+use Rattle.types.specs.Kind as kind
+use Rattle.types.specs.Kind.{Kind, bits_of, bytes_of, int32}
+use Rattle.types.specs.Limits.{most_slots}
+use Rattle.types.specs.Number.{number_at, natural, is_negative}
+use Rattle.types.proofs.ByteLemmas.{number_at-empty}
+use Rattle.types.proofs.RangeLemmas.{short_at}
+use Rattle.layout.specs.Layout.{Buffers, bytes_at, offset_at}
+use Rattle.layout.specs.Fault.{Inner, are_offsets_short, child_length}
+use Rattle.layout.specs.Offsets.{AreOffsets, length_at, length_of, of_slot, offsets_in, slot_at, start_at, start_of}
+use Rattle.layout.proofs.FirstFaultLemmas.{IsWhole}
+use Rattle.layout.proofs.ListLemmas.{map-range-below}
+use Rattle.layout.proofs.OffsetLemmas.{rises_by, start-rises, text_ends, list_ends}
+use Rattle.layout.proofs.RowLemmas.{any_found}
+use Rattle.layout.proofs.SeenLemmas.{length-slice, slice-slice}
+
+-- ---- numbers of part of the bytes
+
+pub number_at-slice : (t : IntType) (bytes : List ℕ) (start len j : ℕ) → j < len
+    → number_at t (slice bytes (start * bytes_of t.bits) (len * bytes_of t.bits)) j ≡ number_at t bytes (start + j)
+unfolding number_at
+number_at-slice t bytes start len j h =
+    let w = bytes_of t.bits in
+    let within : j * w + w ≤ len * w = row_fits j w len w h (omega arith) in
+    let place : start * w + j * w ≡ (start + j) * w = places start j w in
+    ap (λ b. cond t.signed (cast_signed (bits_of t.bits) (from_le_bytes (bits_of t.bits) b)) (pos (from_le_bytes (bits_of t.bits) b)))
+    (slice-slice bytes (start * w) (len * w) (j * w) w within ∙ ap (λ s. slice bytes s w) place)
+  where
+    places : (s j w : ℕ) → s * w + j * w ≡ (s + j) * w
+    places s j w = omega arith
+
+-- the same of offsets
+pub offset_at-slice : (bytes : List ℕ) (start n j : ℕ) → j ≤ n → number_at int32 (slice bytes (4 * start) (4 * (n + 1))) j ≡ number_at int32 bytes (start + j)
+offset_at-slice bytes start n j below =
+    let begin : 4 * start ≡ start * 4 = omega arith in
+    let size : 4 * (n + 1) ≡ (n + 1) * 4 = omega arith in
+    ap (λ k. number_at int32 (slice bytes k (4 * (n + 1))) j) begin
+    ∙ ap (λ k. number_at int32 (slice bytes (start * 4) k) j) size
+    ∙ number_at-slice int32 bytes start (n + 1) j (omega (arith, below))
+
+-- ---- offsets as numbers
+
+pub length-offsets_in : (bytes : List ℕ) (start n : ℕ) → length (offsets_in bytes start n) ≡ n + 1
+length-offsets_in bytes start n = length-map-range_with_len (start_at bytes) start (n + 1)
+
+-- number j of some offsets is where the slot of its place begins
+pub start_of-in : (bytes : List ℕ) (start n j : ℕ) → j ≤ n → start_of (offsets_in bytes start n) j ≡ start_at bytes (start + j)
+start_of-in bytes start n j below = get_or-map-range_with_len (start_at bytes) start (n + 1) j (start + j) 0 (omega (arith, below)) refl
+
+pub start_of-short : (bytes : List ℕ) (start n j : ℕ) → ((i : ℕ) → get_or bytes i 0 < 256) → j ≤ n → start_of (offsets_in bytes start n) j ≤ most_slots
+start_of-short bytes start n j small below = subst (λ m. m ≤ most_slots) (sym (start_of-in bytes start n j below)) (short_at bytes (start + j) small)
+
+pub length_of-in : (bytes : List ℕ) (start n j : ℕ) → j < n → length_of (offsets_in bytes start n) j ≡ length_at bytes (start + j)
+length_of-in bytes start n j below =
+    let next : start + (j + 1) ≡ start + j + 1 = omega arith in
+    ap (λ e. e - start_of (offsets_in bytes start n) j) (start_of-in bytes start n (j + 1) (omega (arith, below)) ∙ ap (start_at bytes) next)
+    ∙ ap (λ s. start_at bytes (start + j + 1) - s) (start_of-in bytes start n j (omega (arith, below)))
+
+pub of_slot-in : {A : Type 0} (bytes : List ℕ) (values : List A) (start n j : ℕ) → j < n → of_slot (offsets_in bytes start n) values j ≡ slot_at bytes values (start + j)
+of_slot-in bytes values start n j below =
+    ap (λ a. slice values a (length_of (offsets_in bytes start n) j)) (start_of-in bytes start n j (omega (arith, below)))
+    ∙ ap (slice values (start_at bytes (start + j))) (length_of-in bytes start n j below)
+
+-- the offsets that lie in part of the bytes
+pub offsets_in-slice : (bytes : List ℕ) (start n : ℕ) → offsets_in (slice bytes (4 * start) (4 * (n + 1))) 0 n ≡ offsets_in bytes start n
+offsets_in-slice bytes start n =
+    same_places (start_at (slice bytes (4 * start) (4 * (n + 1)))) (start_at bytes) start (n + 1)
+    (λ j below. ap natural (offset_at-slice bytes start n j (omega (arith, below))))
+  where
+    same_places : (f g : ℕ → ℕ) (start m : ℕ) → ((j : ℕ) → j < m → f j ≡ g (start + j)) → map f (range_with_len 0 m) ≡ map g (range_with_len start m)
+    same_places f g start m each =
+        map-range-below f (λ j. g (start + j)) 0 m (λ j below. ap f (zero-add j) ∙ each j below ∙ ap (λ k. g (start + k)) (sym (zero-add j)))
+        ∙ map-range-same (λ j. g (start + j)) g 0 start m (λ j. ap (λ k. g (start + k)) (zero-add j))
+
+zeros_number : number_at int32 (0 ∷ 0 ∷ 0 ∷ 0 ∷ []) 0 ≡ number_at int32 [] 0
+unfolding number_at
+zeros_number = refl
+
+-- no bytes, for no slots alone
+none_for_none : (n : ℕ) (bytes : List ℕ) → are_offsets_short n bytes ≡ false → length bytes ≡ 0 → n ≡ 0
+none_for_none n bytes h none = grind (arith, nat_tests)
+
+no_bytes : (bytes : List ℕ) → length bytes ≡ 0 → bytes ≡ []
+no_bytes [] h = refl
+no_bytes (x ∷ xs) h = absurd (omega (arith, h))
+
+enough_for_all : (n : ℕ) (bytes : List ℕ) → are_offsets_short n bytes ≡ false → (length bytes ≡ 0 → ⊥) → 4 * (n + 1) ≤ length bytes
+enough_for_all n bytes h some = grind (arith, nat_tests)
+
+-- The bytes are the offsets of n slots from slot `start` of others on.
+pub record ArePart (bytes others : List ℕ) (start n : ℕ) : Type 0 where
+  pub size : 4 * (n + 1) ≤ length bytes
+  pub counted : (j : ℕ) → j ≤ n → is_negative (number_at int32 bytes j) ≡ false
+  pub same : offsets_in bytes 0 n ≡ offsets_in others start n
+
+zero_counted : (j : ℕ) → j ≡ 0 → is_negative (number_at int32 (0 ∷ 0 ∷ 0 ∷ 0 ∷ []) j) ≡ false
+zero_counted j first =
+    ap (λ k. is_negative (number_at int32 (0 ∷ 0 ∷ 0 ∷ 0 ∷ []) k)) first ∙ ap is_negative (zeros_number ∙ number_at-empty [] 0 refl)
+
+-- the one offset 0 stands for no bytes
+pub absent-part : (bytes : List ℕ) (start n : ℕ) → are_offsets_short (start + n) bytes ≡ false → length bytes ≡ 0 → ArePart (0 ∷ 0 ∷ 0 ∷ 0 ∷ []) bytes start n
+absent-part bytes start n enough none =
+    let sum = none_for_none (start + n) bytes enough none in
+    let no_slots : n ≡ 0 = omega (arith, sum) in
+    let first : 0 ≡ start = omega (arith, sum) in
+    record {
+      size = omega (arith, no_slots);
+      counted = λ j below. zero_counted j (omega (arith, below, no_slots));
+      same =
+          ap (offsets_in (0 ∷ 0 ∷ 0 ∷ 0 ∷ []) 0) no_slots
+          ∙ ap (λ z. natural z ∷ []) zeros_number
+          ∙ ap (λ b. offsets_in b 0 0) (sym (no_bytes bytes none))
+          ∙ ap (λ s. offsets_in bytes s 0) first
+          ∙ ap (offsets_in bytes start) (sym no_slots);
+    }
+
+pub slice-part : (bytes : List ℕ) (start n : ℕ) → are_offsets_short (start + n) bytes ≡ false → (length bytes ≡ 0 → ⊥)
+    → ((j : ℕ) → j ≤ start + n → is_negative (number_at int32 bytes j) ≡ false) → ArePart (slice bytes (4 * start) (4 * (n + 1))) bytes start n
+slice-part bytes start n enough some counted =
+    let long = enough_for_all (start + n) bytes enough some in
+    record {
+      size = omega (arith, length-slice bytes (4 * start) (4 * (n + 1)) (omega (arith, long)));
+      counted = λ j below. ap is_negative (offset_at-slice bytes start n j below) ∙ counted (start + j) (omega (arith, below));
+      same = offsets_in-slice bytes start n;
+    }
+
+pub enough-part : (n m : ℕ) (bytes : List ℕ) → are_offsets_short n bytes ≡ false → m ≤ n → are_offsets_short m bytes ≡ false
+enough-part n m bytes h within = grind (arith, nat_tests)
+
+-- ---- the offsets of a lawful array
+
+-- Offsets of n slots, or no bytes for no slots.
+pub record Rising (n : ℕ) (bytes : List ℕ) (most : ℕ) : Type 0 where
+  pub enough : are_offsets_short n bytes ≡ false
+  pub counted : (j : ℕ) → j ≤ n → is_negative (number_at int32 bytes j) ≡ false
+  pub rising : (j : ℕ) → j < n → start_at bytes j ≤ start_at bytes (j + 1)
+  pub ends : (j : ℕ) → j ≤ n → start_at bytes j ≤ most
+
+not_found : (b : Bool) → (b ≡ true → ⊥) → b ≡ false
+not_found true h = absurd (h refl)
+not_found false h = refl
+
+-- where no row passes, each fails
+fails-any_none : (test : ℕ → Bool) (n : ℕ) → list_any test (range_with_len 0 n) ≡ false → (j : ℕ) → j < n → test j ≡ false
+fails-any_none test n h j below =
+    not_found (test j) (λ passes. false≢true (sym h ∙ any_found test n j below passes))
+
+pub rising-texts : (n : ℕ) (stated : Option ℕ) (buffers : Buffers) (children : List Inner) (dictionary : Option Inner)
+    → IsWhole kind.utf8 n stated buffers children dictionary → Rising n (bytes_at buffers 1) (length (bytes_at buffers 2))
+rising-texts n stated buffers children dictionary whole = record {
+  enough = whole.data_enough;
+  counted = λ j h. fails-any_none (λ i. is_negative (offset_at buffers i)) (n + 1) whole.none_negative j (omega (arith, h));
+  rising = start-rises kind.utf8 n buffers refl whole.none_decreases;
+  ends = text_ends n buffers children whole.none_decreases whole.within_end;
+}
+
+pub rising-lists : (k : Kind) (n : ℕ) (stated : Option ℕ) (buffers : Buffers) (children : List Inner) (dictionary : Option Inner)
+    → IsWhole (kind.list k) n stated buffers children dictionary → Rising n (bytes_at buffers 1) (child_length children)
+rising-lists k n stated buffers children dictionary whole = record {
+  enough = whole.data_enough;
+  counted = λ j h. fails-any_none (λ i. is_negative (offset_at buffers i)) (n + 1) whole.none_negative j (omega (arith, h));
+  rising = start-rises (kind.list k) n buffers refl whole.none_decreases;
+  ends = list_ends k n buffers children whole.none_decreases whole.within_end;
+}
+
+-- those of part of it
+pub AreOffsets-part : (n : ℕ) (bytes : List ℕ) (most : ℕ) → Rising n bytes most → (start len : ℕ) → start + len ≤ n → AreOffsets len (offsets_in bytes start len) most
+AreOffsets-part n bytes most rises start len within = record {
+  size = length-offsets_in bytes start len;
+  rising =
+      λ j h.
+      let here = start_of-in bytes start len j (omega (arith, h)) in
+      let next = start_of-in bytes start len (j + 1) (omega (arith, h)) in
+      let up = rises.rising (start + j) (omega (arith, within, h)) in
+      let same : start_at bytes (start + j + 1) ≡ start_at bytes (start + (j + 1)) = ap (start_at bytes) (omega arith) in
+      omega (arith, here, next, up, same);
+  last =
+      let end = start_of-in bytes start len len (omega arith) in
+      let there = rises.ends (start + len) within in
+      omega (arith, end, there);
+}
+
+-- each slot ends before the most that offsets may be
+pub ends_within : (n : ℕ) (offsets : List ℕ) (most : ℕ) → AreOffsets n offsets most → (j : ℕ) → j ≤ n → start_of offsets j ≤ most
+ends_within n offsets most are j below =
+    let rise = rises_by (start_of offsets) n are.rising (n - j) j (omega (arith, below)) in
+    let same : start_of offsets (j + (n - j)) ≡ start_of offsets n = ap (start_of offsets) (omega (arith, below)) in
+    omega (arith, rise, same, are.last)
