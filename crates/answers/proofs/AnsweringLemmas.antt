@@ -14,7 +14,7 @@ use Rattle.query.specs.Tree.{Tree}
 use Rattle.query.specs.declared.queries.Query.{Query}
 use Rattle.answers.specs.Answers.{all_rows}
 use Rattle.answers.specs.Groups.{is_bad, is_kept, verdict, verdict_of}
-use Rattle.answers.specs.Columns.{show_column}
+use Rattle.tallies.specs.Columns.{show_column}
 use Rattle.answers.specs.Grouping.{IsGrouped}
 use Rattle.answers.specs.Runs.{HasKept}
 use Rattle.answers.specs.declared.grouping.Grouping.{Grouping}

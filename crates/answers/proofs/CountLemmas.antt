@@ -7,14 +7,15 @@ use Rattle.types.specs.Shape.{FieldShape}
 use Rattle.query.specs.Tree.{Tree}
 use Rattle.query.specs.declared.expr.Agg.{Agg}
 use Rattle.query.specs.declared.expr.Agg.TheVariants.{Rows}
-use Rattle.answers.specs.Columns.{ColumnShape, column_of, rows_column, show_column}
-use Rattle.answers.specs.Groups.{is_kept, key_of, keys_of, rows_of_key}
-use Rattle.answers.specs.declared.column.TallyColumn.{TallyColumn}
+use Rattle.tallies.specs.Columns.{ColumnShape, column_of, rows_column, show_column}
+use Rattle.answers.specs.Groups.{is_kept, keys_of, rows_of_key}
+use Rattle.keys.specs.Keys.{key_of, with_keys}
+use Rattle.tallies.specs.declared.column.TallyColumn.{TallyColumn}
 use Rattle.answers.specs.Grouping.{IsGrouped, tables_of}
-use Rattle.answers.specs.Keys.{with_keys}
-use Rattle.answers.specs.Tallies.{counted, item_for}
-use Rattle.answers.proofs.GroupLemmas.{Keys, keys-more}
-use Rattle.answers.proofs.MemoLemmas.{alike}
+use Rattle.tallies.specs.Tallies.{counted, item_for}
+use Rattle.keys.proofs.KeyLemmas.{Keys}
+use Rattle.answers.proofs.GroupLemmas.{keys-more}
+use Rattle.keys.proofs.MemoLemmas.{alike}
 
 no_parts : (rows : Table) → map (key_of []) rows ≡ replicate (length rows) []
 no_parts [] = refl

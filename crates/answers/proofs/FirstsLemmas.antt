@@ -6,8 +6,8 @@ use Rattle.std.specs.Cmp.{decided}
 use Rattle.indexmap.specs.IndexSet.{insert_key}
 use Rattle.std.proofs.lemmas.List.{append-nil}
 use Rattle.std.proofs.lemmas.List.Elements.{filter-append}
-use Rattle.answers.specs.Same.{firsts}
-use Rattle.answers.proofs.SameLemmas.{either}
+use Rattle.keys.specs.Same.{firsts}
+use Rattle.keys.proofs.SameLemmas.{either}
 
 module _ {K : Type 0} (same : K → K → Bool) (decides : (x y : K) → Decides (same x y) (x ≡ y)) where
   abbrev among : List K → K → Bool

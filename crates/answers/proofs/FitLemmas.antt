@@ -9,7 +9,7 @@ use Rattle.query.specs.Asked.{Asked}
 use Rattle.query.specs.Columns.{sort_at}
 use Rattle.query.specs.Fault.{agg_fault, filter_fault, fits, is_too_deep, key_fault, query_fault}
 use Rattle.query.specs.declared.fault.QueryFault.{QueryFault}
-use Rattle.answers.proofs.SameLemmas.{both_true}
+use Rattle.keys.proofs.SameLemmas.{both_true}
 
 all_none : {X : Type 0} (f : X → Option QueryFault) (xs : List X) → first (map f xs) ≡ None → All (λ x. f x ≡ None) xs
 all_none f [] h = All-nil (λ x. f x ≡ None)

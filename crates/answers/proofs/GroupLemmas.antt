@@ -1,35 +1,31 @@
 -- The groups of rows, with rows more.
-use Rattle.std.proofs.Common.{◌≡◌, ◌∙◌, ℕ, zero, suc, ◌+◌, ◌-◌, ◌<◌, ◌≤◌, Bool, true, false, ◌||◌, cond, List, [], ◌∷◌, ◌++◌, length, map, take, get_or, replicate, Some, refl, sym, ap, subst, arith, append_assoc, length-append, true≢false}
+use Rattle.std.proofs.Common.{◌≡◌, ◌∙◌, ℕ, zero, suc, pos, ◌+◌, ◌≤◌, Bool, true, false, cond, List, [], ◌∷◌, ◌++◌, length, Some, refl, sym, ap, arith, length-append, ◌-◌, ◌<◌, ◌||◌, map, take, get_or, replicate, subst, append_assoc, true≢false}
+use Rattle.std.proofs.lemmas.List.{append-nil, map-append, length-map, get_or-map, take_more, take_all}
+use Rattle.std.proofs.lemmas.List.Sums.{length-filter, count_by-le-length}
+use Rattle.std.proofs.lemmas.List.Elements.{filter-append, All-nil, All-cons, All-head, All-tail}
+use Rattle.arrays.specs.Batch.{Table, Row}
+use Rattle.arrays.specs.Item.{Item, int}
+use Rattle.query.specs.declared.expr.Agg.{Agg}
+use Rattle.query.specs.declared.expr.Agg.TheVariants as agg
+use Rattle.answers.specs.Groups.{cell, GroupShape, first_keys, group_of, grouped, keys_of, rows_of_key}
+use Rattle.tallies.specs.Tallies.{items_for, tally_of, told, counted}
+use Rattle.keys.proofs.SameLemmas.{either, same_key-Decides, same_key_equiv}
 use Rattle.std.specs.Prelude.{All, slice_get, slice_index_or, slice_set}
 use Rattle.std.specs.Bool.{Decides}
 use Rattle.std.specs.Cmp.{decided}
-use Rattle.std.specs.List.{IsDistinct, AllByRecursion, list_any}
-use Rattle.std.proofs.lemmas.Grind.{common_steps}
-use Rattle.std.proofs.lemmas.List.{append-nil, map-append, length-map, get_or-map, take_more}
-use Rattle.std.proofs.lemmas.List.Elements.{filter-append, All-nil, All-cons, All-head, All-tail}
+use Rattle.std.specs.List.{IsDistinct, AllByRecursion}
 use Rattle.std.proofs.lemmas.List.Folds.{list_any-append}
-use Rattle.std.proofs.lemmas.List.Sums.{length-filter, count_by-le-length}
-use Rattle.std.proofs.lemmas.Map.Keys.{IsDistinct-head, IsDistinct-tail, IsDistinct-push, IsDistinct-from_apart}
+use Rattle.std.proofs.lemmas.Map.Keys.{IsDistinct-head, IsDistinct-tail, IsDistinct-from_apart}
 use Rattle.std.proofs.lemmas.Option.{slice_get_within, get_or_from_slice_get}
 use Rattle.indexmap.specs.IndexSet.{insert_key}
-use Rattle.arrays.specs.Batch.{Row, Table}
-use Rattle.arrays.specs.Item.{Item}
-use Rattle.query.specs.declared.expr.Agg.{Agg}
-use Rattle.answers.specs.Columns.{ColumnShape, column_of, show_column, told_at}
-use Rattle.answers.specs.Groups.{GroupShape, cell, first_keys, group_of, grouped, key_of, keys_of, rows_of_key}
-use Rattle.answers.specs.Grouping.{IsColumnOf, IsGrouped, tables_of}
-use Rattle.answers.specs.Keys.{AreNumbers, with_keys}
-use Rattle.answers.specs.Same.{firsts, same_key}
-use Rattle.answers.specs.Spread.{padded, put, spread}
-use Rattle.answers.specs.Tallies.{counted, items_for, tally_of, told}
-use Rattle.answers.specs.declared.column.TallyColumn.{TallyColumn}
+use Rattle.tallies.specs.Columns.{ColumnShape, column_of, show_column, told_at, IsColumnOf}
+use Rattle.keys.specs.Keys.{key_of, AreIds, with_keys}
+use Rattle.answers.specs.Grouping.{IsGrouped, tables_of}
+use Rattle.keys.specs.Same.{firsts, same_key}
+use Rattle.tallies.specs.Spread.{padded, put, spread}
+use Rattle.tallies.specs.declared.column.TallyColumn.{TallyColumn}
 use Rattle.answers.proofs.FirstsLemmas.{among-firsts, firsts-push}
-use Rattle.answers.proofs.SameLemmas.{either, same_key-Decides, same_key_equiv}
-use Rattle.answers.proofs.TallyLemmas.{told-tally_of}
-
-pub mapped : {A B C : Type 0} (g : B → C) (f : A → B) (xs : List A) → map g (map f xs) ≡ map (λ x. g (f x)) xs
-mapped g f [] = refl
-mapped g f (x ∷ xs) = ap (λ l. g (f x) ∷ l) (mapped g f xs)
+use Rattle.keys.proofs.KeyLemmas.{Keys, is_among, distinct-more, grown}
 
 -- ---- one place of a list that is shown of keys
 
@@ -63,27 +59,9 @@ module _ {K S : Type 0} (same : K → K → Bool) (decides : (x y : K) → Decid
 
 -- ---- keys
 
-pub slice_get-append : {K : Type 0} (xs ys : List K) (n : ℕ) → n < length xs → slice_get (xs ++ ys) n ≡ slice_get xs n
-slice_get-append [] ys n below = absurd (omega arith)
-slice_get-append (x ∷ xs) ys zero below = refl
-slice_get-append (x ∷ xs) ys (suc n) below = slice_get-append xs ys n (omega (arith, below))
-
 either_false : (a b : Bool) → (a || b) ≡ false → b ≡ false
 either_false false b h = h
 either_false true b h = absurd (true≢false h)
-
-first_false : (a b : Bool) → (a || b) ≡ false → a ≡ false
-first_false false b h = refl
-first_false true b h = absurd (true≢false h)
-
-abbrev pub Keys : Type 0
-Keys = List (List Item)
-
-abbrev pub is_among : Keys → List Item → Bool
-is_among keys k = list_any (same_key k) keys
-
-pub inserted : (keys : Keys) (k : List Item) (b : Bool) → is_among keys k ≡ b → insert_key same_key keys k ≡ cond b keys (keys ++ k ∷ [])
-inserted keys k b is = ap (λ b. cond b keys (keys ++ k ∷ [])) is
 
 keys-push : (by : List ℕ) (rows : Table) (row : Row) → keys_of by (rows ++ row ∷ []) ≡ insert_key same_key (keys_of by rows) (key_of by row)
 keys-push by rows row =
@@ -96,47 +74,6 @@ keys-more by rows [] = ap (keys_of by) (append-nil rows)
 keys-more by rows (row ∷ more) =
     ap (keys_of by) (sym (append_assoc rows (row ∷ []) more)) ∙ keys-more by (rows ++ row ∷ []) more
     ∙ ap (λ l. with_keys l (map (key_of by) more)) (keys-push by rows row)
-
-distinct-inserted : (keys : Keys) (k : List Item) → IsDistinct same_key keys → IsDistinct same_key (insert_key same_key keys k)
-distinct-inserted keys k h =
-    either (is_among keys k)
-    (λ there. subst (IsDistinct same_key) (sym (inserted keys k true there)) h)
-    (λ absent. subst (IsDistinct same_key) (sym (inserted keys k false absent)) (IsDistinct-push same_key_equiv keys k h absent))
-
-pub distinct-more : (keys more : Keys) → IsDistinct same_key keys → IsDistinct same_key (with_keys keys more)
-distinct-more keys [] h = h
-distinct-more keys (k ∷ more) h = distinct-more (insert_key same_key keys k) more (distinct-inserted keys k h)
-
--- The keys that came: none of them was there.
-pub record AreGrown (keys new : Keys) : Type 0 where
-  pub extra : Keys
-  pub is : new ≡ keys ++ extra
-  pub fresh : All (λ k. is_among keys k ≡ false) extra
-
-not_before : (keys extra : Keys) (k : List Item) → All (λ x. is_among (keys ++ k ∷ []) x ≡ false) extra → All (λ x. is_among keys x ≡ false) extra
-not_before keys [] k h = All-nil (λ x. is_among keys x ≡ false)
-not_before keys (x ∷ extra) k h =
-    All-cons (λ x. is_among keys x ≡ false) x extra
-    (first_false (is_among keys x) (is_among (k ∷ []) x)
-    (sym (list_any-append (same_key x) keys (k ∷ [])) ∙ All-head (λ x. is_among (keys ++ k ∷ []) x ≡ false) x extra h))
-    (not_before keys extra k (All-tail (λ x. is_among (keys ++ k ∷ []) x ≡ false) x extra h))
-
-pub grown : (keys more : Keys) → AreGrown keys (with_keys keys more)
-grown keys [] = record { extra = []; is = sym (append-nil keys); fresh = All-nil (λ k. is_among keys k ≡ false) }
-grown keys (k ∷ more) =
-    either (is_among keys k)
-    (λ there. subst (λ (l : Keys). AreGrown keys (with_keys l more)) (sym (inserted keys k true there)) (grown keys more))
-    (λ absent.
-    let g : AreGrown (keys ++ k ∷ []) (with_keys (keys ++ k ∷ []) more) = grown (keys ++ k ∷ []) more in
-    subst (λ (l : Keys). AreGrown keys (with_keys l more)) (sym (inserted keys k false absent))
-    (begun keys k more g absent)) where
-      begun : (keys : Keys) (k : List Item) (more : Keys) → AreGrown (keys ++ k ∷ []) (with_keys (keys ++ k ∷ []) more) → is_among keys k ≡ false
-          → AreGrown keys (with_keys (keys ++ k ∷ []) more)
-      begun keys k more g absent = record {
-        extra = k ∷ g.extra;
-        is = g.is ∙ append_assoc keys (k ∷ []) g.extra;
-        fresh = All-cons (λ x. is_among keys x ≡ false) k g.extra absent (not_before keys g.extra k g.fresh);
-      }
 
 -- ---- rows of a key
 
@@ -180,38 +117,6 @@ tables-padded by rows keys more are =
 
 -- ---- numbers of keys
 
-numbers-kept : (keys extra wanted : Keys) (numbers : List ℕ) → AreNumbers keys wanted numbers → AreNumbers (keys ++ extra) wanted numbers
-numbers-kept keys extra [] [] h = refl
-numbers-kept keys extra [] (n ∷ numbers) h = absurd cc
-numbers-kept keys extra (k ∷ wanted) [] h = absurd cc
-numbers-kept keys extra (k ∷ wanted) (n ∷ numbers) h =
-    let head : slice_get keys n ≡ Some k = cc in
-    let tail : AreNumbers keys wanted numbers = cc in
-    let a = slice_get-append keys extra n (slice_get_within keys n k head) ∙ head in
-    let b : AreNumbers (keys ++ extra) wanted numbers = numbers-kept keys extra wanted numbers tail in
-    cc (a, b)
-
-pub numbers-push : (keys new wanted : Keys) (k : List Item) (numbers : List ℕ) (n : ℕ) → new ≡ insert_key same_key keys k → AreNumbers keys wanted numbers
-    → slice_get new n ≡ Some k → AreNumbers new (wanted ++ k ∷ []) (numbers ++ n ∷ [])
-numbers-push keys new wanted k numbers n is h at =
-    map-append (slice_get new) numbers (n ∷ []) ∙ ap (λ o. map (slice_get new) numbers ++ o ∷ []) at
-    ∙ ap (λ l. l ++ Some k ∷ []) (either (is_among keys k)
-    (λ there. subst (λ (l : Keys). AreNumbers l wanted numbers) (sym (is ∙ inserted keys k true there)) h)
-    (λ absent. subst (λ (l : Keys). AreNumbers l wanted numbers) (sym (is ∙ inserted keys k false absent)) (numbers-kept keys (k ∷ []) wanted numbers h)))
-    ∙ sym (map-append (λ (x : List Item). Some x) wanted (k ∷ []))
-
-pub length-numbers : (keys wanted : Keys) (numbers : List ℕ) → AreNumbers keys wanted numbers → length numbers ≡ length wanted
-length-numbers keys wanted numbers h =
-    sym (length-map numbers (slice_get keys)) ∙ ap length h ∙ length-map wanted (λ (k : List Item). Some k)
-
-pub numbers-inside : (keys wanted : Keys) (numbers : List ℕ) → AreNumbers keys wanted numbers → All (λ n. n < length keys) numbers
-numbers-inside keys wanted [] h = All-nil (λ n. n < length keys)
-numbers-inside keys [] (n ∷ numbers) h = absurd cc
-numbers-inside keys (k ∷ wanted) (n ∷ numbers) h =
-    let head : slice_get keys n ≡ Some k = cc in
-    let tail : AreNumbers keys wanted numbers = cc in
-    All-cons (λ n. n < length keys) n numbers (slice_get_within keys n k head) (numbers-inside keys wanted numbers tail)
-
 put_row : (by : List ℕ) (rows : Table) (row : Row) (keys : Keys) (n : ℕ) → IsDistinct same_key keys → slice_get keys n ≡ Some (key_of by row)
     → put n row (tables_of by rows keys) ≡ tables_of by (rows ++ row ∷ []) keys
 put_row by rows row keys n apart at =
@@ -223,14 +128,14 @@ put_row by rows row keys n apart at =
     (rows-push by rows row key true (same_key_equiv.refl key) ∙ ap (λ (t : Table). t ++ row ∷ []) (sym here))
     keys n apart at
 
-pub spread_rows : (by : List ℕ) (rows more : Table) (keys : Keys) (numbers : List ℕ) → IsDistinct same_key keys → AreNumbers keys (map (key_of by) more) numbers
+pub spread_rows : (by : List ℕ) (rows more : Table) (keys : Keys) (numbers : List ℕ) → IsDistinct same_key keys → AreIds keys (map (key_of by) more) numbers
     → spread numbers more (tables_of by rows keys) ≡ tables_of by (rows ++ more) keys
 spread_rows by rows [] keys [] apart h = ap (λ (t : Table). tables_of by t keys) (sym (append-nil rows))
 spread_rows by rows [] keys (n ∷ numbers) apart h = absurd cc
 spread_rows by rows (row ∷ more) keys [] apart h = absurd cc
 spread_rows by rows (row ∷ more) keys (n ∷ numbers) apart h =
     let head : slice_get keys n ≡ Some (key_of by row) = cc in
-    let tail : AreNumbers keys (map (key_of by) more) numbers = cc in
+    let tail : AreIds keys (map (key_of by) more) numbers = cc in
     ap (spread numbers more) (put_row by rows row keys n apart head)
     ∙ spread_rows by (rows ++ row ∷ []) more keys numbers apart tail
     ∙ ap (λ (t : Table). tables_of by t keys) (append_assoc rows (row ∷ []) more)
@@ -275,7 +180,7 @@ tables_short by rows (k ∷ keys) n total h =
     All-cons (λ (t : Table). length t + n ≤ total) (rows_of_key by rows k) (tables_of by rows keys) (omega (arith, h, rows-le by rows k)) (tables_short by rows keys n total h)
 
 pub grouped_more : (by : List ℕ) (aggs : List (Agg ℕ)) (rows more : Table) (keys new : Keys) (columns changed : List ColumnShape) (numbers : List ℕ)
-    → IsGrouped by aggs rows keys columns → new ≡ with_keys keys (map (key_of by) more) → AreNumbers new (map (key_of by) more) numbers
+    → IsGrouped by aggs rows keys columns → new ≡ with_keys keys (map (key_of by) more) → AreIds new (map (key_of by) more) numbers
     → changed ≡ map (column_of (spread numbers more (padded (length new) [] (tables_of by rows keys)))) aggs → IsGrouped by aggs (rows ++ more) new changed
 grouped_more by aggs rows more keys new columns changed numbers h is at changes =
     let apart : IsDistinct same_key new = subst (IsDistinct same_key) (sym is) (distinct-more keys (map (key_of by) more) h.apart) in
@@ -289,6 +194,16 @@ grouped_more by aggs rows more keys new columns changed numbers h is at changes 
     }
 
 -- ---- what the groups tell
+
+pub told-tally_of : (rows : Table) (a : Agg ℕ) → told a (tally_of a (items_for a rows)) ≡ cell rows a
+told-tally_of rows agg.Rows = ap (λ n. int (pos n)) (length-nulls rows) where
+  length-nulls : (rows : Table) → length (items_for agg.Rows rows) ≡ length rows
+  length-nulls [] = refl
+  length-nulls (row ∷ rows) = ap suc (length-nulls rows)
+told-tally_of rows (agg.Count c) = refl
+told-tally_of rows (agg.Sum c) = refl
+told-tally_of rows (agg.Least c) = refl
+told-tally_of rows (agg.Greatest c) = refl
 
 told_of : (tables : List Table) (n : ℕ) (a : Agg ℕ) (t : Table) → n < length tables → t ≡ get_or tables n t → told_at n (column_of tables a) ≡ cell t a
 told_of tables n a t below at =
@@ -328,13 +243,10 @@ told_more by aggs rows keys columns n k cells front new h at are so more =
     ∙ ap (λ x. take n all ++ x ∷ []) (ap (make k) are ∙ told_group by aggs rows keys columns n k h at ∙ sym here)
     ∙ sym (take_more all n g inside)
 
-pub take_past : {X : Type 0} (xs : List X) (i : ℕ) → length xs ≤ i → take i xs ≡ xs
-take_past xs i past = grind (arith, common_steps)
-
 pub told_whole : (by : List ℕ) (aggs : List (Agg ℕ)) (rows : Table) (keys : Keys) (columns : List ColumnShape) (n : ℕ) → IsGrouped by aggs rows keys columns → length keys ≤ n
     → take n (grouped by aggs rows) ≡ grouped by aggs rows
 told_whole by aggs rows keys columns n h past =
-    take_past (grouped by aggs rows) n (omega (arith, past, length-map (keys_of by rows) (group_of by aggs rows), ap length h.keys_are))
+    take_all n (grouped by aggs rows) (omega (arith, past, length-map (keys_of by rows) (group_of by aggs rows), ap length h.keys_are))
 
 -- A column has a cell for each key.
 pub as_long : (by : List ℕ) (aggs : List (Agg ℕ)) (rows : Table) (keys : Keys) (cs : List TallyColumn) → IsGrouped by aggs rows keys (map show_column cs)

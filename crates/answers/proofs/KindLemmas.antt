@@ -17,11 +17,11 @@ use Rattle.query.specs.Sorts.{is_plain}
 use Rattle.query.specs.declared.expr.Agg.{Agg}
 use Rattle.query.specs.declared.expr.Agg.TheVariants.{Least, Greatest}
 use Rattle.answers.specs.Answers.{all_rows}
-use Rattle.answers.specs.Kinds.{AreComparable, IsComparable, kind_at}
-use Rattle.answers.specs.Rows.{IsColumn}
-use Rattle.answers.specs.Tallies.{item_for}
+use Rattle.tallies.specs.Kinds.{AreComparable, IsComparable}
+use Rattle.evaluate.specs.Rows.{kind_at, HasColumn}
+use Rattle.tallies.specs.Tallies.{item_for}
 use Rattle.answers.proofs.AnsweringLemmas.{rows_next}
-use Rattle.answers.proofs.RowLemmas.{plain_is_no_list, sort_passes}
+use Rattle.evaluate.proofs.RowLemmas.{plain_is_no_list, sort_passes}
 use Rattle.answers.proofs.RunLemmas.{length-rows}
 
 -- The item of a row in a column is null or of this kind, which isn't one of lists.
@@ -29,7 +29,7 @@ abbrev pub IsOneOf : ℕ → Kind → Row → Type 0
 IsOneOf c k row = (is_list k ≡ false) × IsItemOf k (slice_index_or row c null)
 
 -- The rows of a batch have at the column's place what the column's items are.
-pub items_in : (b : Batch) (c : ℕ) (v : Seen) → IsColumn b c v → v.kind ≡ kind_at b.fields c → is_list v.kind ≡ false → All (IsItemOf v.kind) v.items
+pub items_in : (b : Batch) (c : ℕ) (v : Seen) → HasColumn b c v → v.kind ≡ kind_at b.fields c → is_list v.kind ≡ false → All (IsItemOf v.kind) v.items
     → All (IsOneOf c (kind_at b.fields c)) (rows_of b)
 items_in b c v column is plain all =
     subst (λ k. All (IsOneOf c k) (rows_of b)) is
@@ -41,7 +41,7 @@ items_in b c v column is plain all =
 
 -- A column of which the least or the greatest is sought.
 pub seen_by : (b : Batch) (a : Agg ℕ) (c : ℕ) (v : Seen) → (a ≡ Least c) ⊎ (a ≡ Greatest c) → agg_fault (sort_at b.fields) a ≡ None
-    → IsColumn b c v → v.kind ≡ kind_at b.fields c → All (IsItemOf v.kind) v.items
+    → HasColumn b c v → v.kind ≡ kind_at b.fields c → All (IsItemOf v.kind) v.items
     → All (λ (row : Row). IsComparable (kind_at b.fields) a (item_for a row)) (rows_of b)
 seen_by b a c v (inl is) fits column kind all =
     let plain = sort_passes is_plain _ _ (ap (agg_fault (sort_at b.fields)) (sym is) ∙ fits) column.sort in

@@ -1,39 +1,29 @@
 -- The groups of rows and of rows behind them are those of both, put together.
-use Rattle.std.proofs.Common.{◌≡◌, ◌∙◌, ℕ, ℤ, ◌+◌, ◌+ℤ◌, true, false, not, ◌||◌, cond, List, [], ◌∷◌, ◌++◌, length, map, Some, None, Option, refl, sym, ap, subst, arith, length-append}
-use Rattle.std.specs.Prelude.{All, slice_get, slice_index_or}
-use Rattle.std.specs.List.{AllByRecursion, IsDistinct, fold, reduce}
+use Rattle.std.proofs.Common.{◌≡◌, ◌∙◌, ℕ, true, false, ◌||◌, cond, List, [], ◌∷◌, ◌++◌, length, map, Some, refl, sym, ap, subst}
+use Rattle.std.specs.Prelude.{slice_get, slice_index_or}
+use Rattle.std.specs.List.{AllByRecursion, IsDistinct}
 use Rattle.std.proofs.Math.Bool.{or-true}
-use Rattle.std.proofs.lemmas.Int.{ints}
 use Rattle.std.proofs.lemmas.List.{append-nil, get_or-map}
-use Rattle.std.proofs.lemmas.List.Elements.{All-head, All-tail, filter-append, filter_map-append}
+use Rattle.std.proofs.lemmas.List.Elements.{filter-append}
 use Rattle.std.proofs.lemmas.List.Folds.{list_any-append}
 use Rattle.std.proofs.lemmas.List.Sums.{fold-append}
 use Rattle.std.proofs.lemmas.Map.Keys.{IsDistinct-head, IsDistinct-tail}
 use Rattle.std.proofs.lemmas.Option.{get_or_from_slice_get, slice_get_within}
 use Rattle.indexmap.specs.IndexSet.{insert_key}
 use Rattle.arrays.specs.Batch.{Row, Table}
-use Rattle.arrays.specs.Item.{Item, null, int, boolean, text, list, is_null}
-use Rattle.arrays.specs.Kind as kind
-use Rattle.arrays.specs.Kind.{Kind}
-use Rattle.arrays.specs.Slot.{is_list}
-use Rattle.arrays.specs.Typed.{IsItemOf}
+use Rattle.arrays.specs.Item.{Item}
 use Rattle.query.specs.declared.expr.Agg.{Agg}
-use Rattle.query.specs.declared.expr.Agg.TheVariants as agg
-use Rattle.group.specs.Joined.{better}
-use Rattle.group.specs.Stats.{greater, greatest_of, is_ordered, least_of, lesser, number_of, numbers_of, ordered}
-use Rattle.group.proofs.JoinLemmas.{greatest-append, least-append}
-use Rattle.answers.specs.Columns.{ColumnShape, column_of}
+use Rattle.tallies.specs.Columns.{ColumnShape, column_of}
 use Rattle.answers.specs.Grouping.{IsGrouped, tables_of}
-use Rattle.answers.specs.Groups.{key_of, keys_of, rows_of_key}
-use Rattle.answers.specs.Keys.{AreNumbers, with_keys}
-use Rattle.answers.specs.Kinds.{IsComparable}
-use Rattle.answers.specs.Merging.{merged, put_all, spread_all}
-use Rattle.answers.specs.Same.{same_key}
-use Rattle.answers.specs.Spread.{padded}
-use Rattle.answers.specs.Tallies.{TallyShape, bettered, counted, held, summed, tally_of}
+use Rattle.keys.specs.Keys.{key_of, AreIds, with_keys}
+use Rattle.answers.specs.Groups.{keys_of, rows_of_key}
+use Rattle.tallies.specs.Merging.{put_all, spread_all}
+use Rattle.keys.specs.Same.{same_key}
+use Rattle.tallies.specs.Spread.{padded}
 use Rattle.answers.proofs.CountLemmas.{sole_key}
-use Rattle.answers.proofs.GroupLemmas.{Keys, distinct-more, grown, inserted, is_among, keys-more, none_yet, set_mapped, tables-padded}
-use Rattle.answers.proofs.SameLemmas.{either, same_key-Decides, same_key_equiv}
+use Rattle.keys.proofs.KeyLemmas.{Keys, distinct-more, grown, inserted, is_among}
+use Rattle.answers.proofs.GroupLemmas.{keys-more, none_yet, set_mapped, tables-padded}
+use Rattle.keys.proofs.SameLemmas.{either, same_key-Decides, same_key_equiv}
 
 -- ---- keys
 
@@ -107,14 +97,14 @@ joined_first g f k ks x once =
     ∙ ap (λ (t : Table). t ++ cond (is_among ks x) (g x) []) (append-nil (f x))
     ∙ sym (ap (λ b. f x ++ cond (b || is_among ks x) (g x) []) other))
 
-spread_mapped : (g f : List Item → Table) (new ks : Keys) (numbers : List ℕ) → IsDistinct same_key new → IsDistinct same_key ks → AreNumbers new ks numbers
+spread_mapped : (g f : List Item → Table) (new ks : Keys) (numbers : List ℕ) → IsDistinct same_key new → IsDistinct same_key ks → AreIds new ks numbers
     → spread_all numbers (map g ks) (map f new) ≡ map (joined g f ks) new
 spread_mapped g f new [] [] apart once h = mapped-same f (joined g f []) new (λ x. sym (append-nil (f x)))
 spread_mapped g f new [] (n ∷ numbers) apart once h = absurd cc
 spread_mapped g f new (k ∷ ks) [] apart once h = absurd cc
 spread_mapped g f new (k ∷ ks) (n ∷ numbers) apart once h =
     let head : slice_get new n ≡ Some k = cc in
-    let tail : AreNumbers new ks numbers = cc in
+    let tail : AreIds new ks numbers = cc in
     let next : List Item → Table = λ y. f y ++ cond (same_key y k) (g y) [] in
     let at : slice_index_or (map f new) n [] ≡ f k =
     get_or-map f new n k [] (slice_get_within new n k head) ∙ ap f (get_or_from_slice_get new n k k head) in
@@ -128,7 +118,7 @@ spread_mapped g f new (k ∷ ks) (n ∷ numbers) apart once h =
     ∙ mapped-same (joined g next ks) (joined g f (k ∷ ks)) new (λ x. joined_first g f k ks x (not_among k ks (IsDistinct-head same_key k ks once)))
 
 pub tables-merged : (by : List ℕ) (rows more : Table) (new ks : Keys) (numbers : List ℕ) → IsDistinct same_key new → IsDistinct same_key ks → ks ≡ keys_of by more
-    → AreNumbers new ks numbers → spread_all numbers (tables_of by more ks) (tables_of by rows new) ≡ tables_of by (rows ++ more) new
+    → AreIds new ks numbers → spread_all numbers (tables_of by more ks) (tables_of by rows new) ≡ tables_of by (rows ++ more) new
 tables-merged by rows more new ks numbers apart once are h =
     spread_mapped (rows_of_key by more) (rows_of_key by rows) new ks numbers apart once h
     ∙ mapped-same (joined (rows_of_key by more) (rows_of_key by rows) ks) (rows_of_key by (rows ++ more)) new (λ x.
@@ -140,7 +130,7 @@ tables-merged by rows more new ks numbers apart once are h =
     ∙ sym (filter-append (λ (r : Row). same_key x (key_of by r)) rows more))
 
 module _ (by : List ℕ) (aggs : List (Agg ℕ)) (rows more : Table) (keys ks new : Keys) (columns others : List ColumnShape) (numbers : List ℕ)
-    (a : IsGrouped by aggs rows keys columns) (b : IsGrouped by aggs more ks others) (is : new ≡ with_keys keys ks) (at : AreNumbers new ks numbers) where
+    (a : IsGrouped by aggs rows keys columns) (b : IsGrouped by aggs more ks others) (is : new ≡ with_keys keys ks) (at : AreIds new ks numbers) where
   new_apart : IsDistinct same_key new
   new_apart = subst (IsDistinct same_key) (sym is) (distinct-more keys ks a.apart)
 
@@ -158,80 +148,3 @@ module _ (by : List ℕ) (aggs : List (Agg ℕ)) (rows more : Table) (keys ks ne
     apart = new_apart;
     columns_are = changes ∙ ap (λ (l : List Table). map (column_of l) aggs) spread_tables;
   }
-
--- ---- what an aggregate knows of both
-
-held-append : (xs ys : List Item) → held (xs ++ ys) ≡ held xs ++ held ys
-held-append xs ys = filter-append (λ x. not (is_null x)) xs ys
-
-abbrev summed_as : ℕ → Option ℤ → TallyShape
-summed_as n z = record { count = n; sum = z; best = None }
-
-fold-sum : (x y : ℤ) (ys : List ℤ) → fold ◌+ℤ◌ (x +ℤ y) ys ≡ x +ℤ fold ◌+ℤ◌ y ys
-fold-sum x y [] = refl
-fold-sum x y (z ∷ ys) =
-    let turn : x +ℤ y +ℤ z ≡ x +ℤ (y +ℤ z) = omega (arith, ints) in
-    ap (λ w. fold ◌+ℤ◌ w ys) turn ∙ fold-sum x (y +ℤ z) ys
-
-sum-append : (xs ys : List ℤ) → reduce ◌+ℤ◌ (xs ++ ys) ≡ better ◌+ℤ◌ (reduce ◌+ℤ◌ xs) (reduce ◌+ℤ◌ ys)
-sum-append [] ys = refl
-sum-append (x ∷ xs) [] = ap (λ l. Some (fold ◌+ℤ◌ x l)) (append-nil xs)
-sum-append (x ∷ xs) (y ∷ ys) = ap Some (fold-append ◌+ℤ◌ x xs (y ∷ ys) ∙ fold-sum (fold ◌+ℤ◌ x xs) y ys)
-
-held-one : (k : Kind) (x : Item) → is_list k ≡ false → IsItemOf k x → not (is_null x) ≡ is_ordered k x
-held-one (kind.int t) null plain h = refl
-held-one (kind.int t) (int z) plain h = refl
-held-one (kind.int t) (boolean b) plain h = absurd h
-held-one (kind.int t) (text s) plain h = absurd h
-held-one (kind.int t) (list l) plain h = absurd h
-held-one kind.boolean null plain h = refl
-held-one kind.boolean (int z) plain h = absurd h
-held-one kind.boolean (boolean b) plain h = refl
-held-one kind.boolean (text s) plain h = absurd h
-held-one kind.boolean (list l) plain h = absurd h
-held-one kind.utf8 null plain h = refl
-held-one kind.utf8 (int z) plain h = absurd h
-held-one kind.utf8 (boolean b) plain h = absurd h
-held-one kind.utf8 (text s) plain h = refl
-held-one kind.utf8 (list l) plain h = absurd h
-held-one (kind.list k) x plain h = absurd cc
-held-one kind.dict null plain h = refl
-held-one kind.dict (int z) plain h = absurd h
-held-one kind.dict (boolean b) plain h = absurd h
-held-one kind.dict (text s) plain h = refl
-held-one kind.dict (list l) plain h = absurd h
-
-held-ordered : (k : Kind) (xs : List Item) → All (λ x. (is_list k ≡ false) × IsItemOf k x) xs → held xs ≡ ordered k xs
-held-ordered k [] h = refl
-held-ordered k (x ∷ xs) h =
-    let P : Item → Type 0 = λ y. (is_list k ≡ false) × IsItemOf k y in
-    let here = All-head P x xs h in
-    ap (λ b. cond b (x ∷ held xs) (held xs)) (held-one k x here.0 here.1)
-    ∙ ap (λ l. cond (is_ordered k x) (x ∷ l) l) (held-ordered k xs (All-tail P x xs h))
-
--- The least of items of several kinds would depend on the order in which they are compared.
-pub tally-merged : (kinds : ℕ → Kind) (a : Agg ℕ) (xs ys : List Item) → All (IsComparable kinds a) xs → All (IsComparable kinds a) ys → tally_of a (xs ++ ys) ≡ merged a (tally_of a xs) (tally_of a ys)
-tally-merged kinds agg.Rows xs ys are more = ap counted (length-append xs ys)
-tally-merged kinds (agg.Count c) xs ys are more = ap counted (ap (λ (l : List Item). length l) (held-append xs ys) ∙ length-append (held xs) (held ys))
-tally-merged kinds (agg.Sum c) xs ys are more =
-    ap summed (filter_map-append number_of xs ys)
-    ∙ ap (λ n. summed_as n (reduce ◌+ℤ◌ (numbers_of xs ++ numbers_of ys))) (length-append (numbers_of xs) (numbers_of ys))
-    ∙ ap (summed_as (length (numbers_of xs) + length (numbers_of ys))) (sum-append (numbers_of xs) (numbers_of ys))
-tally-merged kinds (agg.Least c) xs ys are more =
-    let k = kinds c in
-    ap (λ l. bettered (reduce lesser l)) (held-append xs ys)
-    ∙ ap (λ l. bettered (reduce lesser (l ++ held ys))) (held-ordered k xs are)
-    ∙ ap (λ l. bettered (reduce lesser (ordered k xs ++ l))) (held-ordered k ys more)
-    ∙ ap (λ l. bettered (reduce lesser l)) (sym (filter-append (is_ordered k) xs ys))
-    ∙ ap bettered (least-append k xs ys)
-    ∙ ap (λ l. bettered (better lesser (reduce lesser l) (least_of k ys))) (sym (held-ordered k xs are))
-    ∙ ap (λ l. bettered (better lesser (reduce lesser (held xs)) (reduce lesser l))) (sym (held-ordered k ys more))
-tally-merged kinds (agg.Greatest c) xs ys are more =
-    let k = kinds c in
-    ap (λ l. bettered (reduce greater l)) (held-append xs ys)
-    ∙ ap (λ l. bettered (reduce greater (l ++ held ys))) (held-ordered k xs are)
-    ∙ ap (λ l. bettered (reduce greater (ordered k xs ++ l))) (held-ordered k ys more)
-    ∙ ap (λ l. bettered (reduce greater l)) (sym (filter-append (is_ordered k) xs ys))
-    ∙ ap bettered (greatest-append k xs ys)
-    ∙ ap (λ l. bettered (better greater (reduce greater l) (greatest_of k ys))) (sym (held-ordered k xs are))
-    ∙ ap (λ l. bettered (better greater (reduce greater (held xs)) (reduce greater l))) (sym (held-ordered k ys more))

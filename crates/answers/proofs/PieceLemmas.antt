@@ -21,11 +21,9 @@ use Rattle.answers.specs.Pieces.{AreLooked, HasRun, IsGood, IsPieceRefusal, betw
 use Rattle.query.specs.declared.fault.QueryFault.{QueryFault}
 use Rattle.answers.specs.Runs.{AreSound, HasKept, IsBadRow, rows_in}
 use Rattle.answers.specs.declared.grouping.Grouping.{Grouping}
-use Rattle.answers.proofs.AnsweringLemmas.{bad_alike, few_next, first_at, has_kept_alike, rows_next}
-use Rattle.answers.proofs.AnsweringLemmas.{rows_split as rows_apart}
-use Rattle.answers.proofs.GroupLemmas.{take_past}
+use Rattle.answers.proofs.AnsweringLemmas.{bad_alike, few_next, first_at, has_kept_alike, rows_next, rows_split as rows_apart}
 use Rattle.answers.proofs.RunLemmas.{length-rows_in, rows_split}
-use Rattle.answers.proofs.SameLemmas.{either}
+use Rattle.keys.proofs.SameLemmas.{either}
 
 pub none_between : (from to : ℕ) → between from to [] ≡ []
 none_between zero zero = refl
@@ -153,7 +151,7 @@ module _ (bs : List Batch) (i : ℕ) (b : Batch) (below : i < length bs) (is : b
 
 pub piece_whole : (bs : List Batch) (i from to : ℕ) (fields : List FieldShape) (q : Query) (g : Grouping) → length bs ≤ i → HasRun fields q (between from to (all_rows (take i bs))) g
     → HasRun fields q (between from to (all_rows bs)) g
-piece_whole bs i from to fields q g past run = subst (λ (l : List Batch). HasRun fields q (between from to (all_rows l)) g) (take_past bs i past) run
+piece_whole bs i from to fields q g past run = subst (λ (l : List Batch). HasRun fields q (between from to (all_rows l)) g) (take_all i bs past) run
 
 pub piece_run : (bs : List Batch) (i : ℕ) (b : Batch) (below : i < length bs) (is : b ≡ get_or bs i b) (from to start n : ℕ)
     (first : start ≡ min (from - length (all_rows (take i bs))) b.rows) (count : n ≡ min (to - length (all_rows (take i bs))) b.rows - start)

@@ -16,7 +16,7 @@ use Rattle.evaluate.specs.declared.stop.Stop.{Stop}
 use Rattle.evaluate.specs.declared.stop.Stop.TheVariants.{Bad, NoMemory}
 use Rattle.evaluate.specs.declared.values.Values.{Values}
 use Rattle.answers.specs.Groups.{is_bad, is_kept, verdict, verdict_of}
-use Rattle.answers.proofs.SameLemmas.{either}
+use Rattle.keys.proofs.SameLemmas.{either}
 use Rattle.answers.specs.Runs.{AreVerdicts, IsBadRow, StopsAt, is_true, keeps, kept_in, rows_in}
 
 -- ---- the filter

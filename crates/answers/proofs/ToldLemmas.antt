@@ -8,7 +8,7 @@ use Rattle.std.proofs.lemmas.Option.{get_or_from_slice_get, slice_get-get_or}
 use Rattle.arrays.specs.Batch.{Table}
 use Rattle.arrays.specs.Item.{Item}
 use Rattle.query.specs.declared.expr.Agg.{Agg}
-use Rattle.answers.specs.Columns.{show_column, told_at}
+use Rattle.tallies.specs.Columns.{show_column, told_at}
 use Rattle.answers.specs.Grouping.{IsGrouped, told_from, told_of}
 use Rattle.answers.specs.Groups.{GroupShape, grouped}
 use Rattle.answers.specs.declared.grouping.Grouping.{Grouping}

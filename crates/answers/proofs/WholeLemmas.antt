@@ -12,7 +12,8 @@ use Rattle.query.specs.declared.queries.Query.{Query}
 use Rattle.answers.specs.Answers.{IsRefusal}
 use Rattle.answers.specs.Grouping.{HasGroups}
 use Rattle.answers.specs.Groups.{GroupShape, groups, grouped, is_bad, is_kept, unless_bad}
-use Rattle.answers.specs.Kinds.{AreComparable, kind_at}
+use Rattle.tallies.specs.Kinds.{AreComparable}
+use Rattle.evaluate.specs.Rows.{kind_at}
 use Rattle.answers.specs.Pieces.{HasRun, IsGood, IsPieceRefusal, between, cut_at, rows_between}
 use Rattle.answers.specs.Runs.{HasKept}
 use Rattle.answers.specs.declared.grouping.Grouping.{Grouping}

@@ -1,22 +1,17 @@
 -- What an answer says, as plain values.
-use Rattle.std.specs.Prelude.{◌≡◌, ◌⊎◌, ℕ, List, [], ◌∷◌, Option, map, option_map, flat_map, Ok, Err}
+use Rattle.std.specs.Prelude.{◌≡◌, ◌⊎◌, ℕ, List, [], ◌∷◌, map, flat_map, Ok, Err}
 use Rattle.arrays.specs.Batch.{Batch, Table, rows_of}
-use Rattle.arrays.specs.Item.{Item}
 use Rattle.types.specs.Shape.{FieldShape}
 use Rattle.query.specs.Asked.{Asked}
 use Rattle.query.specs.declared.fault.QueryFault.{QueryFault}
 use Rattle.query.specs.declared.fault.QueryFault.TheVariants.{Overflow, NoMemory}
-use Rattle.group.specs.Summary.{scalar_item}
-use Rattle.group.specs.declared.stats.Scalar.{Scalar}
-use Rattle.answers.specs.Groups.{GroupShape, groups, item_or_null}
+use Rattle.answers.specs.Groups.{GroupShape, groups}
 use Rattle.answers.specs.declared.groups.Answer.{Answer}
 use Rattle.answers.specs.declared.groups.Group.{Group}
-
-abbrev pub item_in : Option Scalar → Item
-item_in s = item_or_null (option_map scalar_item s)
+use Rattle.group.specs.Scalars.{item_of_scalar}
 
 abbrev pub shape_of : Group → GroupShape
-shape_of g = record { keys = map item_in g.keys.items; cells = map item_in g.cells.items }
+shape_of g = record { keys = map item_of_scalar g.keys.items; cells = map item_of_scalar g.cells.items }
 
 -- The rows of all batches, one batch after the other.
 abbrev pub all_rows : List Batch → Table

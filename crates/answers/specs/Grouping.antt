@@ -7,10 +7,9 @@ use Rattle.query.specs.declared.expr.Agg.{Agg}
 use Rattle.query.specs.declared.expr.Agg.TheVariants.{Rows}
 use Rattle.query.specs.declared.queries.Query.{Query}
 use Rattle.answers.specs.Groups.{GroupShape, keys_of, rows_of_key}
-use Rattle.answers.specs.Memo.{KnowsEntries, Remembers}
-use Rattle.answers.specs.Same.{same_key}
-use Rattle.answers.specs.Columns.{ColumnShape, column_of, show_column, told_at}
-use Rattle.answers.specs.declared.column.TallyColumn.{TallyColumn}
+use Rattle.keys.specs.Memo.{KnowsEntries, Remembers}
+use Rattle.keys.specs.Same.{same_key}
+use Rattle.tallies.specs.Columns.{ColumnShape, column_of, show_column, told_at}
 use Rattle.answers.specs.declared.grouping.Grouping.{Grouping}
 
 -- The rows of each key.
@@ -22,10 +21,6 @@ pub record IsGrouped (by : List ℕ) (aggs : List (Agg ℕ)) (rows : Table) (key
   pub keys_are : keys ≡ keys_of by rows
   pub apart : IsDistinct same_key keys
   pub columns_are : columns ≡ map (column_of (tables_of by rows keys)) aggs
-
--- The column is the one of its aggregate over these tables.
-abbrev pub IsColumnOf : List Table → TallyColumn → Type 0
-IsColumnOf tables c = show_column c ≡ column_of tables (show_column c).agg
 
 -- The groups of the rows, and what is remembered of their keys is true.
 abbrev pub HasGroups : Query → Table → Grouping → Type 0

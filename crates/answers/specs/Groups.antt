@@ -1,5 +1,5 @@
 -- The groups that a query asks for, over a list of rows.
-use Rattle.std.specs.Prelude.{ℕ, pos, ◌+ℤ◌, List, [], ◌∷◌, ◌++◌, Bool, true, false, not, Option, Some, None, is_none, unwrap_or, Result, Ok, Err, length, map, filter, position, slice_index_or}
+use Rattle.std.specs.Prelude.{ℕ, pos, ◌+ℤ◌, List, [], ◌∷◌, ◌++◌, Bool, true, false, not, Option, Some, None, is_none, unwrap_or, Result, Ok, Err, length, map, filter, position}
 use Rattle.std.specs.List.{reduce}
 use Rattle.arrays.specs.Batch.{Row, Table, column}
 use Rattle.arrays.specs.Item.{Item, null, int, boolean, text, list, is_null}
@@ -11,7 +11,9 @@ use Rattle.query.specs.declared.expr.Agg.{Agg}
 use Rattle.query.specs.declared.expr.Agg.TheVariants.{Rows, Count, Sum, Least, Greatest}
 use Rattle.evaluate.specs.Value.{value}
 use Rattle.group.specs.Stats.{numbers_of, lesser, greater}
-use Rattle.answers.specs.Same.{firsts, same_key}
+use Rattle.keys.specs.Same.{firsts, same_key}
+use Rattle.group.specs.Scalars.{item_or_null}
+use Rattle.keys.specs.Keys.{key_of}
 
 -- ---- which rows
 
@@ -41,11 +43,6 @@ is_kept fields filter row = unwrap_or (verdict fields filter row) false
 abbrev pub values : Table → ℕ → List Item
 values rows c = filter (λ x. not (is_null x)) (column rows c)
 
--- Null where there is none.
-abbrev pub item_or_null : Option Item → Item
-item_or_null None = null
-item_or_null (Some x) = x
-
 -- How many rows there are, how many items; the sum, the least and the greatest of these, null where there is none.
 abbrev pub cell : Table → Agg ℕ → Item
 cell rows Rows = int (pos (length rows))
@@ -55,10 +52,6 @@ cell rows (Least c) = item_or_null (reduce lesser (values rows c))
 cell rows (Greatest c) = item_or_null (reduce greater (values rows c))
 
 -- ---- groups
-
--- The items of a row in these columns.
-abbrev pub key_of : List ℕ → Row → List Item
-key_of by row = map (λ c. slice_index_or row c null) by
 
 abbrev pub rows_of_key : List ℕ → Table → List Item → Table
 rows_of_key by rows key = filter (λ row. same_key key (key_of by row)) rows

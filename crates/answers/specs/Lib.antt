@@ -1,22 +1,6 @@
 -- What the contracts of this crate speak of.
-pub mod Same
 pub mod Groups
-pub mod Values
-pub mod Rows
-pub mod Picked
-pub mod Spread
-pub mod Totals
-pub mod Tallies
-pub mod Ends
-pub mod Columns
-pub mod Parts
-pub mod SmallSets
-pub mod PartSets
-pub mod Keys
-pub mod Memo
 pub mod Grouping
-pub mod Kinds
-pub mod Merging
 pub mod Runs
 pub mod Masks
 pub mod Pieces

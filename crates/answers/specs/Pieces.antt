@@ -1,5 +1,6 @@
 -- Pieces of the rows of all batches.
 use Rattle.std.specs.Prelude.{◌≡◌, ◌⊎◌, ◌≤◌, ◌^◌, ℕ, ◌+◌, ◌*◌, ◌/◌, false, true, List, Option, Some, Result, Ok, Err, All, length, map, position, take, drop}
+use Rattle.std.specs.Arc.{arc_value}
 use Rattle.arrays.specs.Batch.{Batch, Row, Table}
 use Rattle.types.specs.Shape.{FieldShape, kind_of_field}
 use Rattle.query.specs.Asked.{asked}
@@ -10,10 +11,12 @@ use Rattle.query.specs.declared.fault.QueryFault.TheVariants.{Overflow, NoMemory
 use Rattle.query.specs.declared.queries.Query.{Query}
 use Rattle.answers.specs.Answers.{all_rows, first_fields}
 use Rattle.answers.specs.Groups.{is_bad}
-use Rattle.answers.specs.Kinds.{AreComparable, kind_at}
+use Rattle.tallies.specs.Kinds.{AreComparable}
+use Rattle.evaluate.specs.Rows.{kind_at}
 use Rattle.answers.specs.Runs.{HasKept}
 use Rattle.answers.specs.declared.grouping.Grouping.{Grouping}
 use Rattle.answers.specs.declared.neighbours.Neighbours.{Neighbours}
+use Rattle.answers.specs.declared.scan.Scan.{Scan}
 
 -- The rows from one place up to another.
 abbrev pub between : ℕ → ℕ → Table → Table
@@ -55,12 +58,28 @@ pub record AreNeighbours (fields : List FieldShape) (q : Query) (rows : Table) (
   pub front : AreLooked fields q rows pieces from middle both.early
   pub behind : AreLooked fields q rows pieces middle to both.late
 
--- The batches are of the same types, the query fits each of them, and their items can be compared. There are so many rows, no more than a table may have, and from 1 to 64 pieces.
-pub record IsAsked (bs : List Batch) (q : Query) (rows pieces : ℕ) : Type 0 where
-  pub types : All (λ (b : Batch). map kind_of_field b.fields ≡ map kind_of_field (first_fields bs)) bs
-  pub fits : All (λ (b : Batch). fits b.fields (asked q) ≡ true) bs
-  pub comparable : All (AreComparable (kind_at (first_fields bs)) q.aggs.items) (all_rows bs)
-  pub counted : rows ≡ length (all_rows bs)
-  pub few : length (all_rows bs) ≤ 2 ^ 40
-  pub one : 1 ≤ pieces
-  pub most : pieces ≤ 64
+-- ---- what is scanned
+
+abbrev pub batches_of : {G : Type 0} → Scan G → List Batch
+batches_of s = map arc_value s.batches.now
+
+abbrev pub fields_of : {G : Type 0} → Scan G → List FieldShape
+fields_of s = first_fields (batches_of s)
+
+abbrev pub rows_of : {G : Type 0} → Scan G → Table
+rows_of s = all_rows (batches_of s)
+
+-- The same of a scan's pieces.
+abbrev pub ArePieces : {G : Type 0} → Scan G → ℕ → ℕ → Result Grouping QueryFault → Type 0
+ArePieces s from to r = AreLooked (fields_of s) s.query.now (rows_of s) s.cuts.pieces from to r
+
+-- The batches are of the same types, the query fits each of them, and their items can be compared. There are so many rows as are cut, no
+-- more than a table may have, and from 1 to 64 pieces.
+pub record IsAsked {G : Type 0} (s : Scan G) : Type 0 where
+  pub types : All (λ (b : Batch). map kind_of_field b.fields ≡ map kind_of_field (fields_of s)) (batches_of s)
+  pub fits : All (λ (b : Batch). fits b.fields (asked s.query.now) ≡ true) (batches_of s)
+  pub comparable : All (AreComparable (kind_at (fields_of s)) s.query.now.aggs.items) (rows_of s)
+  pub counted : s.cuts.rows ≡ length (rows_of s)
+  pub few : length (rows_of s) ≤ 2 ^ 40
+  pub one : 1 ≤ s.cuts.pieces
+  pub most : s.cuts.pieces ≤ 64

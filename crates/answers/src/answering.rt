@@ -10,8 +10,10 @@ ghost use Rattle.answers.specs.Answers.{IsAnswer, IsRefusal, all_rows, first_fie
 
 use crate::common::common_texts;
 use crate::counting::count_all;
+use crate::cuts::Cuts;
 use crate::groups::Answer;
-use crate::piece::{Cuts, look_at_one, look_at_pieces};
+use crate::piece::{look_at_one, look_at_pieces};
+use crate::scan::Scan;
 use crate::telling::{tell_groups, tell_in_turn};
 use arrays::RecordBatch;
 use crews::{Alone, Gate};
@@ -39,13 +41,16 @@ pub fn answer<T: Threads + Sync, G: Gate>(
     pieces: u32,
     gate: &G,
 ) -> Result<Answer, QueryFault>
-    requires types { All (λ (b : Batch). map kind_of_field b.fields ≡ map kind_of_field (first_fields (map arc_value batches.now))) (map arc_value batches.now) }
+    requires types { All (λ (b : Batch). map kind_of_field b.fields ≡ map kind_of_field (first_fields (map arc_value batches.now)))
+        (map arc_value batches.now) }
     requires fits { All (λ (b : Batch). fits b.fields (asked query.now) ≡ true) (map arc_value batches.now) }
     requires few { length (all_rows (map arc_value batches.now)) ≤ 2 ^ 40 }
     requires one { 1 ≤ pieces }
     requires most { pieces ≤ 64 }
-    ensures ok { IfOk result (IsAnswer (first_fields (map arc_value batches.now)) (asked query.now) (all_rows (map arc_value batches.now))) }
-    ensures err { IfErr result (IsRefusal (first_fields (map arc_value batches.now)) (asked query.now) (all_rows (map arc_value batches.now))) }
+    ensures ok { IfOk result (IsAnswer (first_fields (map arc_value batches.now))
+        (asked query.now) (all_rows (map arc_value batches.now))) }
+    ensures err { IfErr result (IsRefusal (first_fields (map arc_value batches.now))
+        (asked query.now) (all_rows (map arc_value batches.now))) }
 {
     if pieces == 1 {
         return answer_alone(alloc, batches, query, gate);
@@ -53,11 +58,16 @@ pub fn answer<T: Threads + Sync, G: Gate>(
     let rows = count_all(batches, query);
     let common = common_texts(alloc, batches, query)?;
     let cuts = Cuts { rows, pieces };
-    let whole = look_at_pieces(
-        threads, alloc, batches, query, &common, cuts, 0, pieces, gate,
-    )?;
-    let count = whole.keys.len();
-    let groups = tell_groups(threads, alloc, &whole, 0, count, pieces, count)?;
+    let scan = Scan {
+        alloc,
+        batches,
+        query,
+        common: &common,
+        cuts,
+        gate,
+    };
+    let whole = look_at_pieces(threads, &scan, 0, pieces)?;
+    let groups = tell_groups(threads, alloc, &whole, 0, whole.keys.len(), pieces)?;
     Ok(Answer { groups })
 }
 
@@ -71,17 +81,28 @@ pub fn answer_alone<G: Gate>(
     query: &Query,
     gate: &G,
 ) -> Result<Answer, QueryFault>
-    requires types { All (λ (b : Batch). map kind_of_field b.fields ≡ map kind_of_field (first_fields (map arc_value batches.now))) (map arc_value batches.now) }
+    requires types { All (λ (b : Batch). map kind_of_field b.fields ≡ map kind_of_field (first_fields (map arc_value batches.now)))
+        (map arc_value batches.now) }
     requires fits { All (λ (b : Batch). fits b.fields (asked query.now) ≡ true) (map arc_value batches.now) }
     requires few { length (all_rows (map arc_value batches.now)) ≤ 2 ^ 40 }
-    ensures ok { IfOk result (IsAnswer (first_fields (map arc_value batches.now)) (asked query.now) (all_rows (map arc_value batches.now))) }
-    ensures err { IfErr result (IsRefusal (first_fields (map arc_value batches.now)) (asked query.now) (all_rows (map arc_value batches.now))) }
+    ensures ok { IfOk result (IsAnswer (first_fields (map arc_value batches.now))
+        (asked query.now) (all_rows (map arc_value batches.now))) }
+    ensures err { IfErr result (IsRefusal (first_fields (map arc_value batches.now))
+        (asked query.now) (all_rows (map arc_value batches.now))) }
 {
     let rows = count_all(batches, query);
     let common = common_texts(alloc, batches, query)?;
     let cuts = Cuts { rows, pieces: 1 };
-    let whole = look_at_one(alloc, batches, query, &common, cuts, 0, &Alone(gate))?;
-    let count = whole.keys.len();
-    let groups = tell_in_turn(alloc, &whole, 0, count, count)?;
+    let gate = Alone(gate);
+    let scan = Scan {
+        alloc,
+        batches,
+        query,
+        common: &common,
+        cuts,
+        gate: &gate,
+    };
+    let whole = look_at_one(&scan, 0)?;
+    let groups = tell_in_turn(alloc, &whole, 0, whole.keys.len())?;
     Ok(Answer { groups })
 }

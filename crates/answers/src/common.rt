@@ -1,8 +1,8 @@
 //! Texts that are likely to be among the keys of all pieces.
 
-use crate::text_set::TextSet;
 use arrays::{RecordBatch, View, ViewType};
 use colbits::NoMemory;
+use keys::TextSet;
 use query::Query;
 use std::alloc::Global;
 use std::sync::Arc;

@@ -8,18 +8,20 @@ ghost use Rattle.query.specs.Asked.{asked};
 ghost use Rattle.query.specs.Columns.{sort_at};
 ghost use Rattle.query.specs.Fault.{agg_fault, fits};
 ghost use Rattle.answers.specs.Answers.{all_rows, first_fields};
-ghost use Rattle.answers.specs.Kinds.{AreComparable, IsComparable, kind_at};
-ghost use Rattle.answers.specs.Tallies.{item_for};
+ghost use Rattle.tallies.specs.Kinds.{AreComparable, IsComparable};
+ghost use Rattle.evaluate.specs.Rows.{kind_at};
+ghost use Rattle.tallies.specs.Tallies.{item_for};
 
-use crate::value::column_at;
 use arrays::RecordBatch;
+use evaluate::column::column_at;
 use query::{Agg, Query};
 use std::sync::Arc;
 
 /// How many rows there are in all batches. The items of each column whose least or greatest is asked for are null or of one kind, which
 /// isn't one of lists.
 pub(crate) fn count_all(batches: &[Arc<RecordBatch>], query: &Query) -> u64
-    requires types { All (λ (b : Batch). map kind_of_field b.fields ≡ map kind_of_field (first_fields (map arc_value batches.now))) (map arc_value batches.now) }
+    requires types { All (λ (b : Batch). map kind_of_field b.fields ≡ map kind_of_field (first_fields (map arc_value batches.now)))
+        (map arc_value batches.now) }
     requires fits { All (λ (b : Batch). fits b.fields (asked query.now) ≡ true) (map arc_value batches.now) }
     requires few { length (all_rows (map arc_value batches.now)) ≤ 2 ^ 40 }
     ensures count { result ≡ length (all_rows (map arc_value batches.now)) }

@@ -6,23 +6,19 @@ ghost use Rattle.arrays.specs.Kind.{Kind};
 ghost use Rattle.query.specs.Asked.{asked};
 ghost use Rattle.query.specs.Columns.{sort_at};
 ghost use Rattle.query.specs.Fault.{agg_fault, fits};
-ghost use Rattle.answers.specs.Columns.{column_of, show_column};
-ghost use Rattle.answers.specs.Grouping.{CountsRows, HasGroups, HasRoom, IsColumnOf, IsReadyFor};
-ghost use Rattle.answers.specs.Kinds.{AreComparable};
-ghost use Rattle.answers.specs.Merging.{AreAlike, spread_all};
-ghost use Rattle.answers.specs.Spread.{padded, spread};
-ghost use Rattle.answers.specs.Tallies.{tally_of};
+ghost use Rattle.tallies.specs.Columns.{column_of, show_column, IsColumnOf};
+ghost use Rattle.answers.specs.Grouping.{CountsRows, HasGroups, HasRoom, IsReadyFor};
+ghost use Rattle.tallies.specs.Kinds.{AreComparable};
+ghost use Rattle.tallies.specs.Merging.{AreAlike, spread_all};
+ghost use Rattle.tallies.specs.Spread.{padded, spread};
+ghost use Rattle.tallies.specs.Tallies.{tally_of};
 
-use crate::column::TallyColumn;
-use crate::key_set::KeySet;
-use crate::memo::Memo;
-use crate::numbering::number_rows;
-use crate::other_keys::number_others;
-use crate::text_set::TextSet;
 use arrays::RecordBatch;
 use colbits::NoMemory;
+use keys::{KeyColumns, KeySet, Memo, TextSet, intern_keys, intern_rows};
 use query::{Agg, Query};
 use std::alloc::Global;
+use tallies::TallyColumn;
 
 /// The groups of the rows so far.
 #[derive(Drop)]
@@ -31,8 +27,8 @@ pub(crate) struct Grouping<'a> {
     pub(crate) memo: Memo<'a>,
     /// What each aggregate knows of the rows of each key.
     pub(crate) columns: Vec<TallyColumn>,
-    /// The numbers of the groups of the rows that are added, kept for the next ones.
-    numbers: Vec<usize>,
+    /// The ids of the groups of the rows that are added, kept for the next ones.
+    ids: Vec<usize>,
 }
 
 impl<'a> Grouping<'a> {
@@ -53,7 +49,7 @@ impl<'a> Grouping<'a> {
             keys,
             memo: Memo::new(alloc, common),
             columns,
-            numbers: Vec::new(alloc),
+            ids: Vec::new(alloc),
         })
     }
 
@@ -63,7 +59,8 @@ impl<'a> Grouping<'a> {
         ensures kept { (rows : Table) → HasGroups query.now rows self.old → OnOk result (HasGroups query.now rows self.new) }
         ensures ready { (rows : Table) → HasGroups query.now rows self.old → OnOk result (IsReadyFor batch.now query.now self.new) }
     {
-        self.memo.begin(batch, query.by.as_slice())
+        let by = query.by.as_slice();
+        self.memo.begin(&KeyColumns { batch, by })
     }
 
     /// Adds rows of the batch that came last.
@@ -82,23 +79,25 @@ impl<'a> Grouping<'a> {
         ensures groups { (rows_before : Table) → HasGroups query.now rows_before self.old
             → OnOk result (HasGroups query.now (rows_before ++ map (row_of batch.now.columns) rows.now) self.new) }
     {
-        number_rows(
+        let by = query.by.as_slice();
+        let columns = KeyColumns { batch, by };
+        intern_rows(
             &mut self.keys,
             &mut self.memo,
-            &mut self.numbers,
-            batch,
-            query.by.as_slice(),
+            &mut self.ids,
+            &columns,
             rows,
         )?;
         let groups = self.keys.len();
-        add_to_columns(alloc, &mut self.columns, groups, batch, rows, &self.numbers)
+        add_to_columns(alloc, &mut self.columns, groups, batch, rows, &self.ids)
     }
 
     /// Adds so many rows, where they are only counted, all together.
     pub(crate) fn add_count(&mut self, query: &Query, rows: u64)
         requires alone { CountsRows query.now }
         requires room { HasRoom query.now rows self.old }
-        ensures groups { (before more : Table) → length more ≡ rows → HasGroups query.now before self.old → HasGroups query.now (before ++ more) self.new }
+        ensures groups { (before more : Table) → length more ≡ rows → HasGroups query.now before self.old
+            → HasGroups query.now (before ++ more) self.new }
         ensures ready { (b : Batch) → IsReadyFor b query.now self.old → IsReadyFor b query.now self.new }
     {
         self.columns[0].add_count(rows)
@@ -117,14 +116,14 @@ impl<'a> Grouping<'a> {
             *self = other;
             return Ok(());
         }
-        number_others(&mut self.keys, &mut self.numbers, &other.keys)?;
+        intern_keys(&mut self.keys, &mut self.ids, &other.keys)?;
         let groups = self.keys.len();
         join_columns(
             alloc,
             &mut self.columns,
             groups,
             &other.columns,
-            &self.numbers,
+            &self.ids,
         )
     }
 }
@@ -135,7 +134,8 @@ fn new_columns(
     aggs: &[Agg<u32>],
     groups: usize,
 ) -> Result<Vec<TallyColumn>, NoMemory>
-    ensures { IfOk result (λ v. map show_column v.items ≡ map (λ a. record { agg = a; tallies = padded groups (tally_of a []) [] }) aggs.now) }
+    ensures { IfOk result (λ v. map show_column v.items
+        ≡ map (λ a. record { agg = a; tallies = padded groups (tally_of a []) [] }) aggs.now) }
 {
     let mut columns = Vec::with_capacity(alloc, aggs.len())?;
     for agg in aggs {
@@ -153,47 +153,48 @@ fn add_to_columns(
     groups: usize,
     batch: &RecordBatch,
     rows: &[usize],
-    numbers: &[usize],
+    ids: &[usize],
 ) -> Result<(), NoMemory>
     requires fits { All (λ c. agg_fault (sort_at batch.now.fields) (show_column c).agg ≡ None) columns.old }
-    requires lengths { length numbers.now ≡ length rows.now }
-    requires inside { All (λ n. n < groups) numbers.now }
+    requires lengths { length ids.now ≡ length rows.now }
+    requires inside { All (λ n. n < groups) ids.now }
     requires short { length rows.now ≤ 2 ^ 40 }
     requires within { All (λ r. r < batch.now.rows) rows.now }
     requires few { (tables : List Table) × All (IsColumnOf tables) columns.old × (length tables ≤ groups)
         × All (λ t. length t + length rows.now ≤ 2 ^ 40) tables }
     ensures { (tables : List Table) → All (IsColumnOf tables) columns.old → OnOk result (map show_column columns.new
-        ≡ map (λ c. column_of (spread numbers.now (map (row_of batch.now.columns) rows.now) (padded groups [] tables)) (show_column c).agg) columns.old) }
+        ≡ map (λ c. column_of (spread ids.now (map (row_of batch.now.columns) rows.now) (padded groups [] tables)) (show_column c).agg)
+            columns.old) }
 {
     for i in 0..columns.len() {
-        columns[i].extend(alloc, groups, batch, rows, numbers)?;
+        columns[i].extend(alloc, groups, batch, rows, ids)?;
     }
     Ok(())
 }
 
-/// Adds the columns of the rows behind, beside which the numbers of their groups stand. There are so many groups then.
+/// Adds the columns of the rows behind, beside which the ids of their groups stand. There are so many groups then.
 fn join_columns(
     alloc: Global,
     columns: &mut [TallyColumn],
     groups: usize,
     others: &[TallyColumn],
-    numbers: &[usize],
+    ids: &[usize],
 ) -> Result<(), NoMemory>
     requires same { map (λ c. (show_column c).agg) others.now ≡ map (λ c. (show_column c).agg) columns.old }
-    requires inside { All (λ n. n < groups) numbers.now }
+    requires inside { All (λ n. n < groups) ids.now }
     requires few { (kinds : ℕ → Kind) × (tables : List Table) × (more : List Table)
         × All (IsColumnOf tables) columns.old × All (IsColumnOf more) others.now
         × All (λ c. AreAlike kinds tables (show_column c).agg) columns.old × All (λ c. AreAlike kinds more (show_column c).agg) columns.old
-        × (length tables ≤ groups) × (length more ≡ length numbers.now)
-        × All (λ t. length t ≤ 2 ^ 40) (spread_all numbers.now more (padded groups [] tables)) }
+        × (length tables ≤ groups) × (length more ≡ length ids.now)
+        × All (λ t. length t ≤ 2 ^ 40) (spread_all ids.now more (padded groups [] tables)) }
     ensures { (kinds : ℕ → Kind) (tables more : List Table)
         → All (IsColumnOf tables) columns.old → All (IsColumnOf more) others.now
         → All (λ c. AreAlike kinds tables (show_column c).agg) columns.old → All (λ c. AreAlike kinds more (show_column c).agg) columns.old
         → OnOk result (map show_column columns.new
-        ≡ map (λ c. column_of (spread_all numbers.now more (padded groups [] tables)) (show_column c).agg) columns.old) }
+        ≡ map (λ c. column_of (spread_all ids.now more (padded groups [] tables)) (show_column c).agg) columns.old) }
 {
     for i in 0..columns.len() {
-        columns[i].join(alloc, groups, &others[i], numbers)?;
+        columns[i].join(alloc, groups, &others[i], ids)?;
     }
     Ok(())
 }

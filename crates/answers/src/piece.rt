@@ -1,63 +1,43 @@
 //! Pieces of the rows of all batches.
 
-ghost use Rattle.std.specs.Prelude.{◌≡◌, ◌+◌, ◌<◌, ◌≤◌, ◌-◌, ◌^◌, All, IfErr, IfOk, length, map, min, true};
-ghost use Rattle.std.specs.Arc.{arc_value};
+ghost use Rattle.std.specs.Prelude.{◌≡◌, ◌+◌, ◌<◌, ◌≤◌, ◌-◌, IfErr, IfOk, min};
 ghost use Rattle.std.specs.Thread.{IsSync};
-ghost use Rattle.arrays.specs.Batch.{Batch};
-ghost use Rattle.types.specs.Shape.{kind_of_field};
 ghost use Rattle.query.specs.Asked.{asked};
-ghost use Rattle.query.specs.Fault.{fits};
-ghost use Rattle.answers.specs.Answers.{all_rows, first_fields};
-ghost use Rattle.answers.specs.Pieces.{AreLooked, HasRun, IsAsked, IsPieceRefusal, between, cut_at};
+ghost use Rattle.answers.specs.Pieces.{ArePieces, HasRun, IsAsked, IsPieceRefusal, between, fields_of, rows_of};
 
 use crate::grouping::Grouping;
-use crate::neighbours::Neighbours;
+use crate::neighbours::{Looked, Neighbours};
 use crate::run::add_part;
+use crate::scan::Scan;
 use crate::shares::back_of;
-use crate::text_set::TextSet;
-use arrays::RecordBatch;
 use crews::Gate;
 use evaluate::stop::Stop;
-use query::{Query, QueryFault};
-use std::alloc::Global;
-use std::sync::Arc;
+use query::QueryFault;
 use std::thread::{Threads, join};
 
-/// The groups of the rows from one place up to another, over all batches, one batch after the other: `Overflow` with the least of
-/// these rows where the filter is bad, or `NoMemory` where a growth was refused.
-fn look_at_piece<'a, G: Gate>(
-    alloc: Global,
-    batches: &[Arc<RecordBatch>],
-    query: &Query,
-    common: &'a TextSet,
-    from: u64,
-    to: u64,
-    gate: &G,
-) -> Result<Grouping<'a>, QueryFault>
-    requires types { All (λ (b : Batch). map kind_of_field b.fields ≡ map kind_of_field (first_fields (map arc_value batches.now))) (map arc_value batches.now) }
-    requires fits { All (λ (b : Batch). fits b.fields (asked query.now) ≡ true) (map arc_value batches.now) }
-    requires few { length (all_rows (map arc_value batches.now)) ≤ 2 ^ 40 }
+/// The groups of the rows from one place up to another: `Overflow` with the least of these rows where the filter is bad, or `NoMemory`
+/// where a growth was refused.
+fn look_at_rows<'a, G: Gate>(scan: &Scan<'a, '_, G>, from: u64, to: u64) -> Looked<'a>
+    requires asked { IsAsked scan.now }
     requires order { from ≤ to }
-    ensures ok { IfOk result (HasRun (first_fields (map arc_value batches.now)) query.now (between from to (all_rows (map arc_value batches.now)))) }
-    ensures err { IfErr result (IsPieceRefusal (first_fields (map arc_value batches.now)) (asked query.now).filter from
-        (between from to (all_rows (map arc_value batches.now)))) }
+    ensures ok { IfOk result (HasRun (fields_of scan.now) scan.now.query.now (between from to (rows_of scan.now))) }
+    ensures err { IfErr result (IsPieceRefusal (fields_of scan.now) (asked scan.now.query.now).filter from
+        (between from to (rows_of scan.now))) }
 {
-    let mut grouping = Grouping::new(alloc, query, common)?;
-    let mut kept = Vec::new(alloc);
+    let mut grouping = Grouping::new(scan.alloc, scan.query, scan.common)?;
+    let mut kept = Vec::new(scan.alloc);
     let mut before: u64 = 0;
-    for batch in batches {
+    for batch in scan.batches {
         let rows = u64::from(batch.rows());
         let start = within(from, before, rows);
         let end = within(to, before, rows);
         match add_part(
-            alloc,
+            scan,
             &mut grouping,
-            query,
             batch,
             start as usize,
             (end - start) as usize,
             &mut kept,
-            gate,
         ) {
             Ok(()) => before += rows,
             Err(Stop::Bad(row)) => {
@@ -84,86 +64,41 @@ fn within(place: u64, before: u64, rows: u64) -> u64
 #[cycle(pieces)]
 pub(crate) fn look_at_pieces<'a, T: Threads + Sync, G: Gate>(
     threads: &T,
-    alloc: Global,
-    batches: &[Arc<RecordBatch>],
-    query: &Query,
-    common: &'a TextSet,
-    cuts: Cuts,
+    scan: &Scan<'a, '_, G>,
     from: u32,
     count: u32,
-    gate: &G,
-) -> Result<Grouping<'a>, QueryFault>
-    requires asked { IsAsked (map arc_value batches.now) query.now cuts.rows cuts.pieces }
+) -> Looked<'a>
+    requires asked { IsAsked scan.now }
     requires some { 0 < count }
-    requires within { from + count ≤ cuts.pieces }
-    ensures { let bs = map arc_value batches.now in
-        AreLooked (first_fields bs) query.now (all_rows bs) cuts.pieces from (from + count) result }
+    requires within { from + count ≤ scan.now.cuts.pieces }
+    ensures { ArePieces scan.now from (from + count) result }
 {
     if count == 1 {
-        return look_at_one(alloc, batches, query, common, cuts, from, gate);
+        return look_at_one(scan, from);
     }
     let high = back_of(count);
     let low = count - high;
     let middle = from + low;
-    let front = move || -> Result<Grouping, QueryFault>
-        requires { IsSync T.row × IsSync G.row × IsAsked (map arc_value batches.now) query.now cuts.rows cuts.pieces × (0 < low) × (from + low ≤ cuts.pieces) }
-        ensures { let bs = map arc_value batches.entry.now in
-            AreLooked (first_fields bs) query.entry.now (all_rows bs) cuts.pieces from (from + low) result }
-    {
-        look_at_pieces(
-            threads, alloc, batches, query, common, cuts, from, low, gate,
-        )
-    };
-    let back = move || -> Result<Grouping, QueryFault>
-        requires { IsSync T.row × IsSync G.row × IsAsked (map arc_value batches.now) query.now cuts.rows cuts.pieces × (0 < high) × (middle + high ≤ cuts.pieces) }
-        ensures { let bs = map arc_value batches.entry.now in
-            AreLooked (first_fields bs) query.entry.now (all_rows bs) cuts.pieces middle (middle + high) result }
-    {
-        look_at_pieces(
-            threads, alloc, batches, query, common, cuts, middle, high, gate,
-        )
-    };
+    let front = move || -> Looked<'_>
+        requires { IsSync T.row × IsSync G.row × IsAsked scan.now × (0 < low) × (from + low ≤ scan.now.cuts.pieces) }
+        ensures { ArePieces scan.entry.now from (from + low) result }
+    { look_at_pieces(threads, scan, from, low) };
+    let back = move || -> Looked<'_>
+        requires { IsSync T.row × IsSync G.row × IsAsked scan.now × (0 < high) × (middle + high ≤ scan.now.cuts.pieces) }
+        ensures { ArePieces scan.entry.now middle (middle + high) result }
+    { look_at_pieces(threads, scan, middle, high) };
     let (late, early) = join(threads, back, front);
-    Neighbours { early, late }.put_together(alloc)
+    Neighbours { early, late }.put_together(scan.alloc)
 }
 
 /// The groups of the rows of one piece, whose thread passes the gate before its first row.
-pub(crate) fn look_at_one<'a, G: Gate>(
-    alloc: Global,
-    batches: &[Arc<RecordBatch>],
-    query: &Query,
-    common: &'a TextSet,
-    cuts: Cuts,
-    place: u32,
-    gate: &G,
-) -> Result<Grouping<'a>, QueryFault>
-    requires asked { IsAsked (map arc_value batches.now) query.now cuts.rows cuts.pieces }
-    requires within { place + 1 ≤ cuts.pieces }
-    ensures { let bs = map arc_value batches.now in
-        AreLooked (first_fields bs) query.now (all_rows bs) cuts.pieces place (place + 1) result }
+pub(crate) fn look_at_one<'a, G: Gate>(scan: &Scan<'a, '_, G>, place: u32) -> Looked<'a>
+    requires asked { IsAsked scan.now }
+    requires within { place + 1 ≤ scan.now.cuts.pieces }
+    ensures { ArePieces scan.now place (place + 1) result }
 {
-    gate.pass(place, 0);
-    let first = cuts.at(place);
-    let last = cuts.at(place + 1);
-    look_at_piece(alloc, batches, query, common, first, last, gate)
-}
-
-/// Into how many neighbouring pieces so many rows are cut.
-#[derive(Clone, Copy, Debug)]
-pub(crate) struct Cuts {
-    pub(crate) rows: u64,
-    pub(crate) pieces: u32,
-}
-
-impl Cuts {
-    /// The first row of a piece; at the place behind the last piece, how many rows there are.
-    fn at(self, place: u32) -> u64
-        requires few { self.rows ≤ 2 ^ 40 }
-        requires most { place ≤ 64 }
-        requires one { 1 ≤ self.pieces }
-        ensures { result ≡ cut_at self.rows self.pieces place }
-    {
-        let scaled = self.rows * u64::from(place);
-        scaled / u64::from(self.pieces)
-    }
+    scan.gate.pass(place, 0);
+    let first = scan.cuts.at(place);
+    let last = scan.cuts.at(place + 1);
+    look_at_rows(scan, first, last)
 }

@@ -9,6 +9,7 @@ ghost use Rattle.answers.specs.Runs.{AreSound, HasKept, HasRoomFor, StopsAt, row
 
 use crate::filter::{count_rows, filter_values, keep_rows};
 use crate::grouping::Grouping;
+use crate::scan::Scan;
 use arrays::RecordBatch;
 use crews::Gate;
 use evaluate::slice::Slice;
@@ -28,23 +29,22 @@ const SLICE: usize = 2048;
 /// Adds those of so many rows of a batch from the start on that the query's filter keeps, or tells the least of them where the
 /// filter is bad, counted from the start.
 pub(crate) fn add_part<G: Gate>(
-    alloc: Global,
+    scan: &Scan<'_, '_, G>,
     grouping: &mut Grouping<'_>,
-    query: &Query,
     batch: &RecordBatch,
     start: usize,
     rows: usize,
     kept: &mut Vec<usize>,
-    gate: &G,
 ) -> Result<(), Stop>
-    requires fits { fits batch.now.fields (asked query.now) ≡ true }
+    requires fits { fits batch.now.fields (asked scan.now.query.now) ≡ true }
     requires within { start + rows ≤ batch.now.rows }
-    requires room { HasRoomFor batch.now.fields query.now rows grouping.old }
-    ensures ok { (before : Table) → HasKept batch.now.fields query.now before grouping.old
-        → OnOk result (HasKept batch.now.fields query.now (before ++ rows_in batch.now start rows) grouping.new) }
-    ensures sound { IfOk result (λ done. AreSound batch.now start rows (asked query.now).filter) }
-    ensures err { IfErr result (StopsAt batch.now start rows (asked query.now).filter) }
+    requires room { HasRoomFor batch.now.fields scan.now.query.now rows grouping.old }
+    ensures ok { (before : Table) → HasKept batch.now.fields scan.now.query.now before grouping.old
+        → OnOk result (HasKept batch.now.fields scan.now.query.now (before ++ rows_in batch.now start rows) grouping.new) }
+    ensures sound { IfOk result (λ done. AreSound batch.now start rows (asked scan.now.query.now).filter) }
+    ensures err { IfErr result (StopsAt batch.now start rows (asked scan.now.query.now).filter) }
 {
+    let query = scan.query;
     if rows == 0 {
         return Ok(());
     }
@@ -64,13 +64,13 @@ pub(crate) fn add_part<G: Gate>(
             start: start + at,
             len,
         };
-        match add_slice(alloc, grouping, query, slice, kept) {
+        match add_slice(scan.alloc, grouping, query, slice, kept) {
             Ok(()) => at += len,
             Err(Stop::Bad(row)) => return Err(Stop::Bad(at + row)),
             Err(Stop::NoMemory) => return Err(Stop::NoMemory),
         }
         let more = at < rows && at.is_multiple_of(TURN) && grouping.keys.len() <= FEW_GROUPS;
-        take_turns(gate, more);
+        take_turns(scan.gate, more);
     }
     Ok(())
 }

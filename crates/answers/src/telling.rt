@@ -2,11 +2,11 @@
 
 ghost use Rattle.std.specs.Prelude.{◌≡◌, ◌-◌, ◌<◌, ◌≤◌, All, IfOk, length, map};
 ghost use Rattle.std.specs.Thread.{IsSync};
-ghost use Rattle.answers.specs.Answers.{item_in, shape_of};
-ghost use Rattle.answers.specs.Columns.{show_column, told_at};
+ghost use Rattle.group.specs.Scalars.{item_of_scalar};
+ghost use Rattle.answers.specs.Answers.{shape_of};
+ghost use Rattle.tallies.specs.Columns.{show_column, told_at};
 ghost use Rattle.answers.specs.Grouping.{IsFull, told_from};
 
-use crate::column::TallyColumn;
 use crate::grouping::Grouping;
 use crate::groups::Group;
 use crate::shares::{back_of, share_of};
@@ -14,12 +14,12 @@ use colbits::NoMemory;
 use group::Scalar;
 use std::alloc::Global;
 use std::thread::{Threads, join};
+use tallies::TallyColumn;
 
 /// How many groups are told before others are told beside them.
 const FEW_GROUPS: usize = 4096;
 
 /// The groups from one up to another: of each its key, and what is told of its rows. Many are told in so many parts, side by side.
-/// There is room for `room` groups in the list.
 #[cycle(telling)]
 pub(crate) fn tell_groups<T: Threads + Sync>(
     threads: &T,
@@ -28,7 +28,6 @@ pub(crate) fn tell_groups<T: Threads + Sync>(
     from: usize,
     to: usize,
     parts: u32,
-    room: usize,
 ) -> Result<Vec<Group>, NoMemory>
     requires order { from ≤ to }
     requires within { to ≤ length grouping.now.keys }
@@ -37,7 +36,7 @@ pub(crate) fn tell_groups<T: Threads + Sync>(
 {
     let count = to - from;
     if count <= FEW_GROUPS || parts <= 1 {
-        return tell_in_turn(alloc, grouping, from, to, room);
+        return tell_in_turn(alloc, grouping, from, to);
     }
     let fewer = back_of(parts);
     let more = parts - fewer;
@@ -45,11 +44,11 @@ pub(crate) fn tell_groups<T: Threads + Sync>(
     let front = move || -> Result<Vec<Group>, NoMemory>
         requires { IsSync T.row × (from ≤ middle) × (middle ≤ length grouping.now.keys) × IsFull grouping.now }
         ensures { IfOk result (λ v. map shape_of v.items ≡ told_from grouping.entry.now from (middle - from)) }
-    { tell_groups(threads, alloc, grouping, from, middle, more, room) };
+    { tell_groups(threads, alloc, grouping, from, middle, more) };
     let back = move || -> Result<Vec<Group>, NoMemory>
         requires { IsSync T.row × (middle ≤ to) × (to ≤ length grouping.now.keys) × IsFull grouping.now }
         ensures { IfOk result (λ v. map shape_of v.items ≡ told_from grouping.entry.now middle (to - middle)) }
-    { tell_groups(threads, alloc, grouping, middle, to, fewer, to - middle) };
+    { tell_groups(threads, alloc, grouping, middle, to, fewer) };
     let (late, early) = join(threads, back, front);
     let mut groups = early?;
     groups.append(&mut late?)?;
@@ -62,17 +61,16 @@ pub(crate) fn tell_in_turn(
     grouping: &Grouping<'_>,
     from: usize,
     to: usize,
-    room: usize,
 ) -> Result<Vec<Group>, NoMemory>
     requires order { from ≤ to }
     requires within { to ≤ length grouping.now.keys }
     requires full { IsFull grouping.now }
     ensures { IfOk result (λ v. map shape_of v.items ≡ told_from grouping.now from (to - from)) }
 {
-    let mut groups = Vec::with_capacity(alloc, room)?;
-    for number in from..to {
-        let keys = grouping.keys.key_at(alloc, number)?;
-        let cells = tell_all(alloc, &grouping.columns, number)?;
+    let mut groups = Vec::with_capacity(alloc, to - from)?;
+    for id in from..to {
+        let keys = grouping.keys.key_at(alloc, id)?;
+        let cells = tell_all(alloc, &grouping.columns, id)?;
         groups.push(Group { keys, cells })?;
     }
     Ok(groups)
@@ -85,7 +83,7 @@ fn tell_all(
     group: usize,
 ) -> Result<Vec<Option<Scalar>>, NoMemory>
     requires { All (λ c. group < length (show_column c).tallies) columns.now }
-    ensures { IfOk result (λ v. map item_in v.items ≡ map (told_at group) (map show_column columns.now)) }
+    ensures { IfOk result (λ v. map item_of_scalar v.items ≡ map (told_at group) (map show_column columns.now)) }
 {
     let mut cells = Vec::with_capacity(alloc, columns.len())?;
     for column in columns {

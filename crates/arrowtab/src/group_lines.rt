@@ -1,7 +1,8 @@
 //! The lines of groups, as text.
 ghost use Rattle.std.specs.Prelude.{◌≡◌, ◌++◌, IfOk, OnOk, map, string_bytes};
 ghost use Rattle.std.specs.List.{join_with_byte};
-ghost use Rattle.answers.specs.Answers.{item_in, shape_of};
+ghost use Rattle.group.specs.Scalars.{item_of_scalar};
+ghost use Rattle.answers.specs.Answers.{shape_of};
 ghost use Rattle.arrowtab.specs.GroupLines.{group_line, group_lines};
 ghost use Rattle.arrowtab.specs.Shown.{cell};
 
@@ -38,7 +39,7 @@ fn push_group_line(alloc: Global, text: &mut String, group: &Group) -> Result<()
 /// Adds cells, with one space between.
 fn push_cells(alloc: Global, text: &mut String, cells: &[Option<Scalar>]) -> Result<(), NoMemory>
     ensures { OnOk result (string_bytes text.new
-        ≡ string_bytes text.old ++ join_with_byte 32 (map cell (map item_in cells.now))) }
+        ≡ string_bytes text.old ++ join_with_byte 32 (map cell (map item_of_scalar cells.now))) }
 {
     for i in 0..cells.len() {
         if i > 0 {
@@ -51,7 +52,7 @@ fn push_cells(alloc: Global, text: &mut String, cells: &[Option<Scalar>]) -> Res
 
 /// Adds a cell: none is null.
 fn push_cell(alloc: Global, text: &mut String, value: &Option<Scalar>) -> Result<(), NoMemory>
-    ensures { OnOk result (string_bytes text.new ≡ string_bytes text.old ++ cell (item_in value.now)) }
+    ensures { OnOk result (string_bytes text.new ≡ string_bytes text.old ++ cell (item_of_scalar value.now)) }
 {
     match value {
         None => text.push_str("null")?,

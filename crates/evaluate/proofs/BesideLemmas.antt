@@ -1,5 +1,5 @@
 -- A column and a number that stands beside it.
-use Rattle.std.proofs.Common.{◌≡◌, ◌∙◌, ℕ, ◌<◌, ◌&&◌, ℤ, List, length, Bool, true, false, cond, is_some, replicate, Option, Some, None, Result, Ok, Err, IfErr, IfOk, ap, ap₂, sym, refl, subst, true≢false, inl, inr}
+use Rattle.std.proofs.Common.{◌≡◌, ◌∙◌, ℕ, ◌<◌, ◌&&◌, ℤ, length, Bool, true, false, cond, is_some, replicate, Option, Some, None, Result, Ok, Err, IfErr, IfOk, ap, ap₂, sym, refl, subst, true≢false, inl, inr}
 use Rattle.std.specs.Prelude.{option_and_then}
 use Rattle.std.specs.Option.{option_or}
 use Rattle.std.specs.Ordering.{int_cmp, ordering_reverse}

@@ -6,3 +6,4 @@ pub mod ColumnLemmas
 pub mod FilterLemmas
 pub mod TreeLemmas
 pub mod BesideLemmas
+pub mod RowLemmas

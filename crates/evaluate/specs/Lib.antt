@@ -2,3 +2,4 @@
 pub mod Value
 pub mod Slices
 pub mod Making
+pub mod Rows

@@ -1,6 +1,7 @@
 //! The values of expressions, column by column.
 #![tactic(auto)]
 
+pub mod column;
 mod columns;
 mod constant;
 mod evaluation;

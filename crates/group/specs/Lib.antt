@@ -6,3 +6,4 @@ pub mod Summary
 pub mod Joined
 pub mod Bounds
 pub mod Columns
+pub mod Scalars

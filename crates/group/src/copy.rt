@@ -3,6 +3,7 @@
 ghost use Rattle.std.specs.Prelude.{◌≡◌, IfOk, option_map};
 ghost use Rattle.group.specs.Summary.{AreSame, scalar_item};
 
+use crate::scalar_ref::ScalarRef;
 use crate::stats::{ColumnStats, Scalar};
 use colbits::NoMemory;
 use std::alloc::Global;
@@ -22,14 +23,9 @@ impl ColumnStats {
     }
 }
 
-/// A copy of a value, if there is one.
-pub(crate) fn copied(alloc: Global, value: &Option<Scalar>) -> Result<Option<Scalar>, NoMemory>
+/// A copy of a scalar, if there is one.
+pub fn copied(alloc: Global, value: &Option<Scalar>) -> Result<Option<Scalar>, NoMemory>
     ensures { IfOk result (λ s. option_map scalar_item s ≡ option_map scalar_item value.now) }
 {
-    match value {
-        Some(Scalar::Int(number)) => Ok(Some(Scalar::Int(*number))),
-        Some(Scalar::Bool(truth)) => Ok(Some(Scalar::Bool(*truth))),
-        Some(Scalar::Text(text)) => Ok(Some(Scalar::Text(String::from_str(alloc, text)?))),
-        None => Ok(None),
-    }
+    ScalarRef::of(value).to_scalar(alloc)
 }

@@ -1,8 +1,8 @@
-//! A gate that tells which pieces passed it, and one at which a piece waits for another.
+//! A gate that tells which pieces passed it, one at which a piece waits for another, and one that tells which rows a piece has.
 
 use answers::Gate;
 use std::hint::spin_loop;
-use std::sync::atomic::{AtomicBool, AtomicU64, Ordering};
+use std::sync::atomic::{AtomicBool, AtomicU32, AtomicU64, Ordering};
 
 /// A gate that counts.
 #[derive(Drop)]
@@ -88,6 +88,66 @@ impl Gate for Holding {
             self.wait();
         } else if place == self.awaited {
             self.is_open.store(true, Ordering::SeqCst);
+        }
+    }
+}
+
+/// A gate that lets pieces in from the last on, each once the one behind it has let others go first as often as its number says. So
+/// it tells which rows the thread looks at that passes with a number, where these make it give so many turns.
+#[derive(Drop)]
+pub(crate) struct Ordered {
+    /// How many pieces are still outside.
+    outside: AtomicU32,
+    /// How many turns the piece has given that came in last.
+    given: AtomicU32,
+    /// A piece gave a turn that was not in, or more than its number says, or one waited for long and went on.
+    is_wrong: AtomicBool,
+}
+
+impl Ordered {
+    pub(crate) fn new(pieces: u32) -> Ordered {
+        Ordered {
+            outside: AtomicU32::new(pieces),
+            given: AtomicU32::new(pieces),
+            is_wrong: AtomicBool::new(false),
+        }
+    }
+
+    /// Whether all pieces came in, in order, and each gave as many turns as its number says.
+    pub(crate) fn was_kept(&self) -> bool {
+        self.outside.load(Ordering::SeqCst) == 0
+            && self.given.load(Ordering::SeqCst) == 0
+            && !self.is_wrong.load(Ordering::SeqCst)
+    }
+
+    /// Whether it is the turn of the piece to come in.
+    fn lets_in(&self, place: u32) -> bool {
+        let outside = self.outside.load(Ordering::SeqCst);
+        outside == place.wrapping_add(1) && self.given.load(Ordering::SeqCst) == outside
+    }
+
+    fn wait(&self, place: u32) {
+        for _turn in 0..TURNS {
+            if self.lets_in(place) {
+                return;
+            }
+            spin_loop();
+        }
+        self.is_wrong.store(true, Ordering::SeqCst);
+    }
+}
+
+impl Gate for Ordered {
+    fn pass(&self, place: u32, _call: u32) {
+        self.wait(place);
+        self.given.store(0, Ordering::SeqCst);
+        self.outside.store(place, Ordering::SeqCst);
+    }
+
+    fn turn(&self) {
+        let before = self.given.fetch_add(1, Ordering::SeqCst);
+        if before >= self.outside.load(Ordering::SeqCst) {
+            self.is_wrong.store(true, Ordering::SeqCst);
         }
     }
 }

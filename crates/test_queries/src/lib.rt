@@ -17,6 +17,8 @@ mod gates;
 #[cfg(test)]
 mod many;
 #[cfg(test)]
+mod numbered;
+#[cfg(test)]
 mod pieces;
 #[cfg(test)]
 mod reading;

@@ -1,6 +1,7 @@
 //! Answers of many groups, which are put together and told on threads.
 
 use crate::answering::answered;
+use crate::numbered::file_of;
 use answers::OpenGate;
 use std::alloc::{AllocError, Global};
 use std::test::Fail;
@@ -12,20 +13,13 @@ const GROUPS: u32 = 10_000;
 const QUERY: &str =
     r#"{"by":["v"],"aggs":[{"agg":"rows"},{"agg":"sum","column":"v"},{"agg":"least","column":"v"}]}"#;
 
-/// A file of the numbers of all groups, and then of the same once more.
-fn twice(alloc: Global) -> Result<String, AllocError> {
-    let mut ones = String::new(alloc);
-    let mut numbers = String::new(alloc);
+/// The numbers of all groups, and then the same once more.
+fn twice(alloc: Global) -> Result<Vec<u32>, AllocError> {
+    let mut numbers = Vec::new(alloc);
     for row in 0..2 * GROUPS {
-        let comma = if row == 0 { "" } else { "," };
-        let number = row % GROUPS;
-        ones.push_str(format!(in alloc; "{comma}1")?.as_str())?;
-        numbers.push_str(format!(in alloc; "{comma}{number}")?.as_str())?;
+        numbers.push(row % GROUPS)?;
     }
-    let rows = 2 * GROUPS;
-    format!(in alloc;
-        r#"{{"schema":{{"fields":[{{"name":"v","nullable":true,"type":{{"name":"int","bitWidth":32,"isSigned":true}},"children":[]}}]}},"batches":[{{"count":{rows},"columns":[{{"name":"v","count":{rows},"VALIDITY":[{ones}],"DATA":[{numbers}]}}]}}]}}"#
-    )
+    Ok(numbers)
 }
 
 /// The lines of all groups.
@@ -40,7 +34,7 @@ fn lines(alloc: Global) -> Result<String, AllocError> {
 
 #[test]
 fn many_groups_are_told_in_their_order(rt: HostRuntime) -> Result<(), Fail> {
-    let file = twice(rt.alloc())?;
+    let file = file_of(rt.alloc(), &twice(rt.alloc())?)?;
     let wanted = lines(rt.alloc())?;
     for pieces in [1, 2, 4, 64] {
         let told = answered(&rt, rt.alloc(), (file.as_str(), QUERY), pieces, &OpenGate)?;

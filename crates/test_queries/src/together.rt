@@ -1,9 +1,32 @@
 //! Pieces that are looked at beside one another.
 
 use crate::answering::{answered, answered_alone};
-use crate::gates::{Counting, Holding};
+use crate::gates::{Counting, Holding, Ordered};
+use crate::numbered::file_of;
 use crate::pieces::{PAIRS, PAIRS_SUMS, SUMS};
+use answers::OpenGate;
+use std::alloc::{AllocError, Global};
 use std::test::Fail;
+
+/// How many pieces there are whose rows tell how often they let others go first.
+const PIECES: u32 = 4;
+
+/// How many rows each of them has.
+const ROWS: u32 = 50_000;
+
+/// After so many rows a piece lets others go first, unless it has many groups.
+const TURN: u32 = 16_384;
+
+/// Numbers by which piece 0 has many groups from its first rows on, and each other piece after one turn more than the one before it.
+fn numbers(alloc: Global) -> Result<Vec<u32>, AllocError> {
+    let mut numbers = Vec::new(alloc);
+    for piece in 0..PIECES {
+        for row in 0..ROWS {
+            numbers.push(if row < piece * TURN { 0 } else { row })?;
+        }
+    }
+    Ok(numbers)
+}
 
 #[test]
 fn each_piece_passes_the_gate_once(rt: HostRuntime) -> Result<(), Fail> {
@@ -31,6 +54,23 @@ fn the_first_piece_and_the_last_are_at_work_together(rt: HostRuntime) -> Result<
             assert!(rt; gate.has_held(), "{held} of {pieces} waits");
         }
     }
+    Ok(())
+}
+
+// Each piece comes in alone, and lets others go first as often as the rows of its number say: so each thread passes with the number of
+// its rows, and before the first of them.
+#[test]
+fn each_piece_passes_with_its_own_number(rt: HostRuntime) -> Result<(), Fail> {
+    let file = file_of(rt.alloc(), &numbers(rt.alloc())?)?;
+    let texts = (
+        file.as_str(),
+        r#"{"by":["v"],"aggs":[{"agg":"rows"},{"agg":"least","column":"v"}]}"#,
+    );
+    let wanted = answered(&rt, rt.alloc(), texts, 1, &OpenGate)?;
+    let gate = Ordered::new(PIECES);
+    let told = answered(&rt, rt.alloc(), texts, PIECES, &gate)?;
+    assert!(rt; told.as_str() == wanted.as_str());
+    assert!(rt; gate.was_kept());
     Ok(())
 }
 

@@ -42,4 +42,4 @@ returns-clause-ok g c =
     let run = all_joined fields q (all_rows batches) 1 c.in_ok-whole.whole (omega arith) c.in_ok-whole.ensures in
     let rows = filter (is_kept fields (asked q).filter) (all_rows batches) in
     is_answer fields q (all_rows batches) c.in_ok-whole.whole (map shape_of c.in_ok-groups.groups.items) run
-    (c.in_ok-groups.ensures ∙ told_all q.by.items q.aggs.items rows c.in_ok-whole.whole c.len-count.result c.len-count.ensures run.kept.0)
+    (c.in_ok-groups.ensures ∙ told_all q.by.items q.aggs.items rows c.in_ok-whole.whole c.len.result c.len.ensures run.kept.0)

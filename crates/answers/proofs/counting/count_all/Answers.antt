@@ -1,6 +1,6 @@
 use Rattle.std.proofs.Common.{◌≡◌, ◌∙◌, ℕ, ◌<◌, ◌^◌, List, All, ap, sym, subst, arith, refl, length, map, take, get_or, length-append}
 use Rattle.std.specs.Prelude.{None, true}
-use Rattle.std.proofs.lemmas.List.{length-map}
+use Rattle.std.proofs.lemmas.List.{length-map, take_all}
 use Rattle.std.proofs.lemmas.List.Elements.{All-nil}
 use Rattle.std.specs.Arc.{arc_value}
 use Rattle.arrays.specs.Batch.{Batch, rows_of}
@@ -10,10 +10,10 @@ use Rattle.query.specs.Columns.{sort_at}
 use Rattle.query.specs.Fault.{agg_fault, fits}
 use Rattle.query.specs.declared.expr.Agg.{Agg}
 use Rattle.answers.specs.Answers.{all_rows, first_fields}
-use Rattle.answers.specs.Kinds.{AreComparable, kind_at}
+use Rattle.tallies.specs.Kinds.{AreComparable}
+use Rattle.evaluate.specs.Rows.{kind_at}
 use Rattle.answers.proofs.AnsweringLemmas.{at_next, few_next, mapped_at, rows_next}
 use Rattle.answers.proofs.FitLemmas.{what_fits}
-use Rattle.answers.proofs.GroupLemmas.{take_past}
 use Rattle.answers.proofs.KindLemmas.{comparable_next}
 use Rattle.answers.proofs.RunLemmas.{length-rows}
 use Rattle.answers.proofs.counting.count_all.Goals as goal
@@ -60,10 +60,10 @@ loop-batch-preserved c =
 pub returns-clause-count : goal.returns-clause-count
 returns-clause-count c =
     let batches : List Batch = map arc_value c.args.batches.now in
-    c.loop-batch.invariant.0 ∙ ap (λ (l : List Batch). length (all_rows l)) (take_past batches c.loop-batch.batch-index (omega (arith, length-map c.args.batches.now arc_value)))
+    c.loop-batch.invariant.0 ∙ ap (λ (l : List Batch). length (all_rows l)) (take_all c.loop-batch.batch-index batches (omega (arith, length-map c.args.batches.now arc_value)))
 
 pub returns-clause-comparable : goal.returns-clause-comparable
 returns-clause-comparable c =
     let batches : List Batch = map arc_value c.args.batches.now in
     subst (λ (l : List Batch). All (AreComparable (kind_at (first_fields batches)) c.args.query.now.aggs.items) (all_rows l))
-    (take_past batches c.loop-batch.batch-index (omega (arith, length-map c.args.batches.now arc_value))) c.loop-batch.invariant.1
+    (take_all c.loop-batch.batch-index batches (omega (arith, length-map c.args.batches.now arc_value))) c.loop-batch.invariant.1

@@ -1,7 +1,8 @@
 use Rattle.std.proofs.Common.{◌≡◌, All, length, map, take}
 use Rattle.std.specs.Arc.{arc_value}
 use Rattle.answers.specs.Answers.{all_rows, first_fields}
-use Rattle.answers.specs.Kinds.{AreComparable, kind_at}
+use Rattle.tallies.specs.Kinds.{AreComparable}
+use Rattle.evaluate.specs.Rows.{kind_at}
 use Rattle.answers.proofs.counting.count_all.Given as goal
 
 -- The rows of the batches so far.

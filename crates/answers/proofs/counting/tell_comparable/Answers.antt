@@ -1,10 +1,11 @@
 use Rattle.std.proofs.Common.{ℕ, List, All, subst, arith}
+use Rattle.std.proofs.lemmas.List.{take_all}
 use Rattle.std.proofs.lemmas.List.Elements.{All-more}
 use Rattle.arrays.specs.Batch.{Row, rows_of}
 use Rattle.query.specs.declared.expr.Agg.{Agg}
-use Rattle.answers.specs.Kinds.{IsComparable, kind_at}
-use Rattle.answers.specs.Tallies.{item_for}
-use Rattle.answers.proofs.GroupLemmas.{take_past}
+use Rattle.tallies.specs.Kinds.{IsComparable}
+use Rattle.evaluate.specs.Rows.{kind_at}
+use Rattle.tallies.specs.Tallies.{item_for}
 use Rattle.answers.proofs.KindLemmas.{all_turned}
 use Rattle.answers.proofs.counting.tell_comparable.Goals as goal
 
@@ -20,4 +21,4 @@ returns c =
     let aggs : List (Agg ℕ) = c.args.aggs.now in
     let P : Agg ℕ → Row → Type 0 = λ a row. IsComparable (kind_at b.fields) a (item_for a row) in
     all_turned P aggs (rows_of b)
-    (subst (All (λ (a : Agg ℕ). All (P a) (rows_of b))) (take_past aggs c.loop-agg.agg-index (omega arith)) c.loop-agg.invariant)
+    (subst (All (λ (a : Agg ℕ). All (P a) (rows_of b))) (take_all c.loop-agg.agg-index aggs (omega arith)) c.loop-agg.invariant)

@@ -4,7 +4,7 @@ use Rattle.std.proofs.lemmas.Bool.{eqb-false, eqb-true}
 use Rattle.std.proofs.lemmas.List.{get_or-set_other, get_or-set_same, same_lists}
 use Rattle.answers.specs.Runs.{kept_in}
 use Rattle.answers.proofs.RunLemmas.{counted_up, length-kept}
-use Rattle.answers.proofs.SameLemmas.{either}
+use Rattle.keys.proofs.SameLemmas.{either}
 use Rattle.answers.proofs.filter.count_up.Goals as goal
 
 pub loop-i-preserved : goal.loop-i-preserved

@@ -1,15 +1,15 @@
 use Rattle.std.proofs.Common.{◌∙◌, [], List, arith, map}
 use Rattle.arrays.specs.Batch.{Row, row_of}
-use Rattle.answers.specs.Columns.{ColumnShape, column_of, show_column}
-use Rattle.answers.specs.Spread.{padded, spread}
-use Rattle.answers.proofs.GroupLemmas.{mapped}
+use Rattle.tallies.specs.Columns.{ColumnShape, column_of, show_column}
+use Rattle.tallies.specs.Spread.{padded, spread}
+use Rattle.tallies.proofs.ColumnLemmas.{mapped}
 use Rattle.answers.proofs.ListLemmas.{changed_by_place}
 use Rattle.answers.proofs.grouping.add_to_columns.Goals as goal
 
 pub returns : goal.returns
 returns c = λ tables all.
     let more : List Row = map (row_of c.args.batch.now.columns) c.args.rows.now in
-    let spreads = spread c.args.numbers.now more (padded c.args.groups [] tables) in
+    let spreads = spread c.args.ids.now more (padded c.args.groups [] tables) in
     changed_by_place show_column (λ (s : ColumnShape). column_of spreads s.agg) c.args.columns.now c.loop-i.columns c.loop-i.invariant.0
     (λ k d below. c.loop-i.invariant.1 tables all k d (omega (arith, below, c.loop-i-test.false)))
     ∙ mapped (λ (s : ColumnShape). column_of spreads s.agg) show_column c.args.columns.now

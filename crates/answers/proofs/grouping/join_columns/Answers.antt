@@ -2,14 +2,15 @@ use Rattle.std.proofs.Common.{◌∙◌, ◌<◌, [], List, ap, arith, le_refl, 
 use Rattle.std.proofs.lemmas.List.{get_or_default, length-map, length-set}
 use Rattle.std.proofs.lemmas.List.Elements.{All-get_or}
 use Rattle.query.specs.declared.expr.Agg.{Agg}
-use Rattle.answers.specs.Columns.{ColumnShape, column_of, show_column}
-use Rattle.answers.specs.Grouping.{IsColumnOf}
-use Rattle.answers.specs.Merging.{AreAlike, spread_all}
-use Rattle.answers.specs.Spread.{padded}
-use Rattle.answers.specs.declared.column.TallyColumn.{TallyColumn}
-use Rattle.answers.proofs.GroupLemmas.{mapped}
+use Rattle.tallies.specs.Columns.{ColumnShape, column_of, show_column}
+use Rattle.tallies.specs.Columns.{IsColumnOf}
+use Rattle.tallies.specs.Merging.{AreAlike, spread_all}
+use Rattle.tallies.specs.Spread.{padded}
+use Rattle.tallies.specs.declared.column.TallyColumn.{TallyColumn}
+use Rattle.tallies.proofs.ColumnLemmas.{mapped}
 use Rattle.answers.proofs.ListLemmas.{changed_by_place, place_changed, place_kept}
-use Rattle.answers.proofs.MergedLemmas.{agg_there, tables_counted}
+use Rattle.answers.proofs.JoinLemmas.{agg_there}
+use Rattle.tallies.proofs.MergedLemmas.{tables_counted}
 use Rattle.answers.proofs.grouping.join_columns.Goals as goal
 
 pub join-requires-clause-same : goal.join-requires-clause-same
@@ -75,7 +76,7 @@ loop-i-preserved c =
     let here = sym (v.2 i x (le_refl i)) in (
       length-set ys i new ∙ v.0,
       λ kinds tables more are others_are alike others_alike.
-          let spreads = spread_all c.args.numbers.now more (padded c.args.groups [] tables) in
+          let spreads = spread_all c.args.ids.now more (padded c.args.groups [] tables) in
           place_changed show_column (λ (t : TallyColumn). column_of spreads (show_column t).agg) xs ys i new within (v.1 kinds tables more are others_are alike others_alike)
           (λ d. c.in_ok-join.ensures kinds tables more
           (subst (IsColumnOf tables) here (All-get_or (IsColumnOf tables) xs i x below are))
@@ -88,7 +89,7 @@ loop-i-preserved c =
 
 pub returns : goal.returns
 returns c = λ kinds tables more are others alike others_alike.
-    let spreads = spread_all c.args.numbers.now more (padded c.args.groups [] tables) in
+    let spreads = spread_all c.args.ids.now more (padded c.args.groups [] tables) in
     changed_by_place show_column (λ (s : ColumnShape). column_of spreads s.agg) c.args.columns.now c.loop-i.columns c.loop-i.invariant.0
     (λ k d below. c.loop-i.invariant.1 kinds tables more are others alike others_alike k d (omega (arith, below, c.loop-i-test.false)))
     ∙ mapped (λ (s : ColumnShape). column_of spreads s.agg) show_column c.args.columns.now

@@ -2,11 +2,11 @@ use Rattle.std.proofs.Common.{◌≡◌, ℕ, ◌<◌, ◌≤◌, List, [], leng
 use Rattle.std.specs.Prelude.{All}
 use Rattle.arrays.specs.Batch.{Table}
 use Rattle.arrays.specs.Kind.{Kind}
-use Rattle.answers.specs.Columns.{column_of, show_column}
-use Rattle.answers.specs.Grouping.{IsColumnOf}
-use Rattle.answers.specs.Merging.{AreAlike, spread_all}
-use Rattle.answers.specs.Spread.{padded}
-use Rattle.answers.specs.declared.column.TallyColumn.{TallyColumn}
+use Rattle.tallies.specs.Columns.{column_of, show_column}
+use Rattle.tallies.specs.Columns.{IsColumnOf}
+use Rattle.tallies.specs.Merging.{AreAlike, spread_all}
+use Rattle.tallies.specs.Spread.{padded}
+use Rattle.tallies.specs.declared.column.TallyColumn.{TallyColumn}
 use Rattle.answers.proofs.grouping.join_columns.Given as goal
 
 -- The others are added to the first columns, and the rest are as they were.
@@ -16,5 +16,5 @@ invariant-loop-i l =
     × ((kinds : ℕ → Kind) (tables more : List Table) → All (IsColumnOf tables) l.initial.columns → All (IsColumnOf more) l.others
     → All (λ c. AreAlike kinds tables (show_column c).agg) l.initial.columns → All (λ c. AreAlike kinds more (show_column c).agg) l.initial.columns
     → (k : ℕ) (d : TallyColumn) → k < l.i
-    → show_column (get_or l.columns k d) ≡ column_of (spread_all l.numbers more (padded l.groups [] tables)) (show_column (get_or l.initial.columns k d)).agg)
+    → show_column (get_or l.columns k d) ≡ column_of (spread_all l.ids more (padded l.groups [] tables)) (show_column (get_or l.initial.columns k d)).agg)
     × ((k : ℕ) (d : TallyColumn) → l.i ≤ k → get_or l.columns k d ≡ get_or l.initial.columns k d)

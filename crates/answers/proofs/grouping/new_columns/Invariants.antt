@@ -1,7 +1,7 @@
 use Rattle.std.proofs.Common.{◌≡◌, [], map, take}
-use Rattle.answers.specs.Columns.{show_column}
-use Rattle.answers.specs.Spread.{padded}
-use Rattle.answers.specs.Tallies.{tally_of}
+use Rattle.tallies.specs.Columns.{show_column}
+use Rattle.tallies.specs.Spread.{padded}
+use Rattle.tallies.specs.Tallies.{tally_of}
 use Rattle.answers.proofs.grouping.new_columns.Given as goal
 
 -- The columns so far.

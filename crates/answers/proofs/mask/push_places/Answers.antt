@@ -1,7 +1,7 @@
 use Rattle.std.proofs.Common.{◌≡◌, ◌∙◌, ◌+◌, ◌*◌, ◌/◌, ◌++◌, ap, append_assoc, arith, filter, length, map, sym}
 use Rattle.std.specs.List.{range_with_len}
 use Rattle.answers.specs.Masks.{is_set, ones_of}
-use Rattle.answers.proofs.ColumnLemmas.{on_ok}
+use Rattle.std.proofs.lemmas.Result.{on_ok_weaker}
 use Rattle.answers.proofs.MaskLemmas.{not_set, places-more, places-whole}
 use Rattle.answers.proofs.mask.push_places.Goals as goal
 
@@ -28,7 +28,7 @@ returns c =
     let at : 64 * c.loop-w.w ≡ n = omega arith in
     let front = map (λ i. first + i) (filter test (range_with_len 0 n)) in
     let more = map (λ j. first + n + j) (ones_of c.word-2.result) in
-    on_ok c.push_ones-2.result (λ e.
+    on_ok_weaker c.push_ones-2.result (λ e.
     e ∙ ap (λ l. l ++ more) (c.loop-w.invariant ∙ ap (λ m. before ++ map (λ i. first + i) (filter test (range_with_len 0 m))) at)
     ∙ append_assoc before front more
     ∙ ap (λ l. before ++ l) (sym (places-more test first n c.word-2.result c.word-2.ensures)

@@ -6,29 +6,20 @@ use Rattle.answers.specs.Pieces.{cut_at}
 use Rattle.answers.proofs.PieceLemmas.{are_looked, cuts_rise}
 use Rattle.answers.proofs.piece.look_at_one.Goals as goal
 
-pub look_at_piece-requires-clause-types : goal.look_at_piece-requires-clause-types
-look_at_piece-requires-clause-types g c κs within = c.requires.asked.types
-
-pub look_at_piece-requires-clause-fits : goal.look_at_piece-requires-clause-fits
-look_at_piece-requires-clause-fits g c κs within = c.requires.asked.fits
-
-pub look_at_piece-requires-clause-few : goal.look_at_piece-requires-clause-few
-look_at_piece-requires-clause-few g c κs within = c.requires.asked.few
-
-pub look_at_piece-requires-clause-order : goal.look_at_piece-requires-clause-order
-look_at_piece-requires-clause-order g c κs within =
-    let pieces = c.args.cuts.pieces in
+pub look_at_rows-requires-clause-order : goal.look_at_rows-requires-clause-order
+look_at_rows-requires-clause-order g c κs within =
+    let pieces = c.args.scan.now.cuts.pieces in
     let place = c.args.place in
     subst (λ n. n ≤ c.at-last.result) (sym c.at-first.ensures)
-    (subst (λ n. cut_at c.args.cuts.rows pieces place ≤ n) (sym c.at-last.ensures) (cuts_rise c.args.cuts.rows pieces place (place + 1) c.requires.asked.one (omega arith)))
+    (subst (λ n. cut_at c.args.scan.now.cuts.rows pieces place ≤ n) (sym c.at-last.ensures) (cuts_rise c.args.scan.now.cuts.rows pieces place (place + 1) c.requires.asked.one (omega arith)))
 
 pub returns : goal.returns
 returns g c =
-    let bs : List Batch = map arc_value c.args.batches.now in
+    let bs : List Batch = map arc_value c.args.scan.now.batches.now in
     let rows = all_rows bs in
-    let pieces = c.args.cuts.pieces in
+    let pieces = c.args.scan.now.cuts.pieces in
     let from = c.args.place in
     let counted = c.requires.asked.counted in
-    are_looked (first_fields bs) c.args.query.now rows pieces from (from + 1) c.at-first.result c.at-last.result c.look_at_piece.result
+    are_looked (first_fields bs) c.args.scan.now.query.now rows pieces from (from + 1) c.at-first.result c.at-last.result c.look_at_rows.result
     (c.at-first.ensures ∙ ap (λ n. cut_at n pieces from) counted) (c.at-last.ensures ∙ ap (λ n. cut_at n pieces (from + 1)) counted)
-    c.look_at_piece.ensures.ok c.look_at_piece.ensures.err
+    c.look_at_rows.ensures.ok c.look_at_rows.ensures.err

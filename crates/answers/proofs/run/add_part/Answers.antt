@@ -13,7 +13,7 @@ use Rattle.answers.proofs.run.add_part.Goals as goal
 pub loop-at-init : goal.loop-at-init
 loop-at-init g c =
     let b = c.args.batch.now in
-    let q = c.args.query.now in (
+    let q = c.args.scan.now.query.now in (
       omega arith,
       λ before has. subst (λ (l : Table). HasKept b.fields q l c.begin.new.self) (sym (append-nil before)) (c.in_ok-begin.ensures.kept (filter (is_kept b.fields (asked q).filter) before) has),
       λ i below. absurd (omega (arith, below)),
@@ -34,7 +34,7 @@ add_slice-requires-clause-room g c =
 pub loop-at-preserved : goal.loop-at-preserved
 loop-at-preserved g c =
     let b = c.args.batch.now in
-    let q = c.args.query.now in
+    let q = c.args.scan.now.query.now in
     let start = c.args.start in
     let at = c.loop-at.at in
     let len = c.min-len.result in
@@ -51,7 +51,7 @@ loop-at-preserved g c =
 pub returns-in-Err-Bad-clause-err : goal.returns-in-Err-Bad-clause-err
 returns-in-Err-Bad-clause-err g c =
     let b = c.args.batch.now in
-    let f = (asked c.args.query.now).filter in
+    let f = (asked c.args.scan.now.query.now).filter in
     let start = c.args.start in
     let at = c.loop-at.at in
     let len = c.min-len.result in
@@ -63,7 +63,7 @@ pub returns-clause-ok : goal.returns-clause-ok
 returns-clause-ok g c = λ before has.
     let b = c.args.batch.now in
     let whole : c.loop-at.at ≡ c.args.rows = omega (arith, c.loop-at.invariant.0, c.loop-at-test.false) in
-    subst (λ (l : Table). HasKept b.fields c.args.query.now (before ++ l) c.loop-at.grouping) (ap (rows_in b c.args.start) whole) (c.loop-at.invariant.1 before has)
+    subst (λ (l : Table). HasKept b.fields c.args.scan.now.query.now (before ++ l) c.loop-at.grouping) (ap (rows_in b c.args.start) whole) (c.loop-at.invariant.1 before has)
 
 pub returns-clause-sound : goal.returns-clause-sound
 returns-clause-sound g c = record { each = λ i below. c.loop-at.invariant.2 i (omega (arith, below, c.loop-at-test.false)) }
@@ -71,7 +71,7 @@ returns-clause-sound g c = record { each = λ i below. c.loop-at.invariant.2 i (
 pub add_count-requires-clause-room : goal.add_count-requires-clause-room
 add_count-requires-clause-room g c =
     let b = c.args.batch.now in
-    let f = (asked c.args.query.now).filter in
+    let f = (asked c.args.scan.now.query.now).filter in
     let r = c.requires.room in
     let all = all_kept b.fields f r.0 (c.counts_all.ensures c.if-counts_all.true).1 in
     (filter (is_kept b.fields f) r.0, omega (arith, r.1, ap length all), r.2)
@@ -79,7 +79,7 @@ add_count-requires-clause-room g c =
 pub returns-then-counts_all-clause-ok : goal.returns-then-counts_all-clause-ok
 returns-then-counts_all-clause-ok g c = λ before has.
     let b = c.args.batch.now in
-    let q = c.args.query.now in
+    let q = c.args.scan.now.query.now in
     let f = (asked q).filter in
     let p = is_kept b.fields f in
     let more = rows_in b c.args.start c.args.rows in
@@ -91,5 +91,5 @@ returns-then-counts_all-clause-ok g c = λ before has.
 pub returns-then-rows-eq0-clause-ok : goal.returns-then-rows-eq0-clause-ok
 returns-then-rows-eq0-clause-ok g c = λ before has.
     let b = c.args.batch.now in
-    subst (λ (l : Table). HasKept b.fields c.args.query.now l c.args.grouping.now)
+    subst (λ (l : Table). HasKept b.fields c.args.scan.now.query.now l c.args.grouping.now)
     (sym (append-nil before) ∙ ap (λ n. before ++ rows_in b c.args.start n) (sym c.if-rows-eq0.true)) has

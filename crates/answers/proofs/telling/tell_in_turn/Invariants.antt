@@ -4,5 +4,5 @@ use Rattle.answers.specs.Grouping.{told_from}
 use Rattle.answers.proofs.telling.tell_in_turn.Given as goal
 
 -- The groups so far.
-abbrev pub invariant-loop-number : goal.invariant-loop-number
-invariant-loop-number l = map shape_of l.groups.items ≡ told_from l.grouping l.from (l.number - l.from)
+abbrev pub invariant-loop-id : goal.invariant-loop-id
+invariant-loop-id l = map shape_of l.groups.items ≡ told_from l.grouping l.from (l.id - l.from)

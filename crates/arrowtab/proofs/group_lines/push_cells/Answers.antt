@@ -1,5 +1,5 @@
 use Rattle.std.proofs.Common.{◌∙◌, ◌++◌, ap, string_bytes}
-use Rattle.answers.specs.Answers.{item_in}
+use Rattle.group.specs.Scalars.{item_of_scalar}
 use Rattle.arrowtab.specs.Shown.{cell}
 use Rattle.arrowtab.proofs.GroupLineLemmas.{first_cell, later_cell}
 use Rattle.arrowtab.proofs.group_lines.push_cells.Goals as goal
@@ -11,8 +11,8 @@ loop-i-preserved c =
     elim c.if-i-gt0.branch [
       | then-i-gt0+in_ok-push_str w ↦
           later_cell c.args.cells.now c.loop-i.i x c.loop-i-test.true c.index-cells-i.is (string_bytes c.args.text.now) (string_bytes c.loop-i.text) (string_bytes c.push_cell.new.text) c.loop-i.invariant w.if-i-gt0.true
-          (c.in_ok-push_cell.ensures ∙ ap (λ t. string_bytes t ++ cell (item_in x)) w.text-is ∙ ap (λ t. t ++ cell (item_in x)) w.in_ok-push_str.ensures.bytes)
+          (c.in_ok-push_cell.ensures ∙ ap (λ t. string_bytes t ++ cell (item_of_scalar x)) w.text-is ∙ ap (λ t. t ++ cell (item_of_scalar x)) w.in_ok-push_str.ensures.bytes)
       | else-i-gt0 w ↦
           first_cell c.args.cells.now c.loop-i.i x c.loop-i-test.true c.index-cells-i.is (string_bytes c.args.text.now) (string_bytes c.loop-i.text) (string_bytes c.push_cell.new.text) c.loop-i.invariant w.if-i-gt0.false
-          (c.in_ok-push_cell.ensures ∙ ap (λ t. string_bytes t ++ cell (item_in x)) w.text-is)
+          (c.in_ok-push_cell.ensures ∙ ap (λ t. string_bytes t ++ cell (item_of_scalar x)) w.text-is)
     ]

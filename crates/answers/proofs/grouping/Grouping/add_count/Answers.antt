@@ -1,5 +1,5 @@
 use Rattle.std.proofs.Common.{◌∙◌, ◌+◌, ap, length, sym}
-use Rattle.answers.specs.Columns.{rows_column}
+use Rattle.tallies.specs.Columns.{rows_column}
 use Rattle.answers.proofs.CountLemmas.{one_column, one_counted}
 use Rattle.answers.proofs.grouping.Grouping.add_count.Goals as goal
 

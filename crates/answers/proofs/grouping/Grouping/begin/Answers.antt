@@ -3,21 +3,20 @@ use Rattle.std.specs.Prelude.{All, OnOk}
 use Rattle.query.specs.Asked.{asked}
 use Rattle.query.specs.Columns.{sort_at}
 use Rattle.query.specs.Fault.{key_fault}
-use Rattle.answers.specs.Memo.{KnowsEntries}
-use Rattle.answers.proofs.ColumnLemmas.{on_ok}
+use Rattle.keys.specs.Memo.{KnowsEntries}
+use Rattle.std.proofs.lemmas.Result.{on_ok_weaker}
 use Rattle.answers.proofs.FitLemmas.{what_fits}
 use Rattle.answers.proofs.grouping.Grouping.begin.Goals as goal
 
-pub begin-requires : goal.begin-requires
-begin-requires c = record {
-  plain = subst (All (λ p. key_fault (sort_at c.args.batch.now.fields) p ≡ None)) (sym c.as_slice.ensures.value)
-      (what_fits c.args.batch.now.fields (asked c.args.query.now) c.requires).by;
-}
+pub invariant_of-begin-clause-plain : goal.invariant_of-begin-clause-plain
+invariant_of-begin-clause-plain c =
+    subst (All (λ p. key_fault (sort_at c.args.batch.now.fields) p ≡ None)) (sym c.as_slice-by.ensures.value)
+    (what_fits c.args.batch.now.fields (asked c.args.query.now) c.requires).by
 
 pub returns-clause-kept : goal.returns-clause-kept
-returns-clause-kept c = λ rows h. on_ok c.begin.result (λ r. (h.0, r)) (c.begin.ensures.kept c.args.self.now.keys h.1)
+returns-clause-kept c = λ rows h. on_ok_weaker c.begin.result (λ r. (h.0, r)) (c.begin.ensures.kept c.args.self.now.keys h.1)
 
 pub returns-clause-ready : goal.returns-clause-ready
 returns-clause-ready c = λ rows h.
-    subst (λ by. OnOk c.begin.result (KnowsEntries c.args.self.now.keys c.args.batch.now by c.begin.new.self)) c.as_slice.ensures.value
+    subst (λ by. OnOk c.begin.result (KnowsEntries c.args.self.now.keys c.args.batch.now by c.begin.new.self)) c.as_slice-by.ensures.value
     (c.begin.ensures.entries c.args.self.now.keys h.1)

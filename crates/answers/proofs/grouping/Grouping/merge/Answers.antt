@@ -3,19 +3,22 @@ use Rattle.std.specs.Prelude.{All}
 use Rattle.std.proofs.lemmas.List.{length-map}
 use Rattle.std.proofs.lemmas.List.Elements.{All-weaker}
 use Rattle.arrays.specs.Batch.{Table}
-use Rattle.answers.specs.Columns.{column_of, show_column}
-use Rattle.answers.specs.Grouping.{IsColumnOf, tables_of}
+use Rattle.tallies.specs.Columns.{column_of, show_column}
+use Rattle.tallies.specs.Columns.{IsColumnOf}
+use Rattle.answers.specs.Grouping.{tables_of}
 use Rattle.answers.specs.Groups.{rows_of_key}
-use Rattle.answers.specs.Keys.{with_keys}
-use Rattle.answers.specs.Memo.{Remembers}
-use Rattle.answers.specs.Merging.{AreAlike, spread_all}
-use Rattle.answers.specs.Spread.{padded}
-use Rattle.answers.specs.declared.column.TallyColumn.{TallyColumn}
-use Rattle.answers.proofs.ColumnLemmas.{on_ok, refilled}
-use Rattle.answers.proofs.GroupLemmas.{are_columns, columns_fit, grown, length-numbers, numbers-inside, same_aggs, tables_short}
-use Rattle.answers.proofs.MemoLemmas.{remembers-more}
+use Rattle.keys.specs.Keys.{with_keys}
+use Rattle.keys.specs.Memo.{Remembers}
+use Rattle.tallies.specs.Merging.{AreAlike, spread_all}
+use Rattle.tallies.specs.Spread.{padded}
+use Rattle.tallies.specs.declared.column.TallyColumn.{TallyColumn}
+use Rattle.std.proofs.lemmas.Result.{on_ok_weaker}
+use Rattle.tallies.proofs.ColumnLemmas.{refilled}
+use Rattle.answers.proofs.GroupLemmas.{are_columns, columns_fit, same_aggs, tables_short}
+use Rattle.keys.proofs.KeyLemmas.{grown, length-ids, ids-inside}
+use Rattle.keys.proofs.MemoLemmas.{remembers-more}
 use Rattle.answers.proofs.MergeLemmas.{groups-merged, spread_tables}
-use Rattle.answers.proofs.MergedLemmas.{aggs_alike, merged_into_none, same_aggs_twice}
+use Rattle.answers.proofs.JoinLemmas.{aggs_alike, merged_into_none, same_aggs_twice}
 use Rattle.answers.proofs.grouping.Grouping.merge.Goals as goal
 
 pub join_columns-requires-clause-same : goal.join_columns-requires-clause-same
@@ -30,10 +33,10 @@ join_columns-requires-clause-same c =
 
 pub join_columns-requires-clause-inside : goal.join_columns-requires-clause-inside
 join_columns-requires-clause-inside c =
-    let new = c.number_others.new.keys in
-    let numbers = c.number_others.new.numbers.items in
+    let new = c.intern_keys.new.keys in
+    let ids = c.intern_keys.new.ids.items in
     subst (All (λ n. n < c.len-groups.result)) (sym c.deref-2.ensures.value)
-    (subst (λ m. All (λ n. n < m) numbers) (sym c.len-groups.ensures) (numbers-inside new c.args.other.keys numbers c.in_ok-number_others.ensures.numbers))
+    (subst (λ m. All (λ n. n < m) ids) (sym c.len-groups.ensures) (ids-inside new c.args.other.keys ids c.in_ok-intern_keys.ensures.ids))
 
 pub join_columns-requires-clause-few : goal.join_columns-requires-clause-few
 join_columns-requires-clause-few c =
@@ -46,19 +49,19 @@ join_columns-requires-clause-few c =
     let aggs = q.aggs.items in
     let g = c.args.self.now in
     let o = c.args.other in
-    let new = c.number_others.new.keys in
-    let numbers = c.number_others.new.numbers.items in
+    let new = c.intern_keys.new.keys in
+    let ids = c.intern_keys.new.ids.items in
     let tables = tables_of by rows g.keys in
     let others = tables_of by more o.keys in
     let grows = grown g.keys o.keys in
     let few : length tables ≤ c.len-groups.result =
-    omega (arith, c.len-groups.ensures, ap length c.in_ok-number_others.ensures.keys, ap length grows.is, length-append g.keys grows.extra, length-map g.keys (rows_of_key by rows)) in
+    omega (arith, c.len-groups.ensures, ap length c.in_ok-intern_keys.ensures.keys, ap length grows.is, length-append g.keys grows.extra, length-map g.keys (rows_of_key by rows)) in
     let count : length others ≡ length c.deref-2.result.now =
-    omega (arith, ap length c.deref-2.ensures.value, length-numbers new o.keys numbers c.in_ok-number_others.ensures.numbers, length-map o.keys (rows_of_key by more)) in
+    omega (arith, ap length c.deref-2.ensures.value, length-ids new o.keys ids c.in_ok-intern_keys.ensures.ids, length-map o.keys (rows_of_key by more)) in
     let spreads : spread_all c.deref-2.result.now others (padded c.len-groups.result [] tables) ≡ tables_of by (rows ++ more) new =
     ap (λ ns. spread_all ns others (padded c.len-groups.result [] tables)) c.deref-2.ensures.value
-    ∙ ap (λ m. spread_all numbers others (padded m [] tables)) c.len-groups.ensures
-    ∙ spread_tables by aggs rows more g.keys o.keys new _ _ numbers r.5.0 r.6.0 c.in_ok-number_others.ensures.keys c.in_ok-number_others.ensures.numbers in (
+    ∙ ap (λ m. spread_all ids others (padded m [] tables)) c.len-groups.ensures
+    ∙ spread_tables by aggs rows more g.keys o.keys new _ _ ids r.5.0 r.6.0 c.in_ok-intern_keys.ensures.keys c.in_ok-intern_keys.ensures.ids in (
       kinds,
       tables,
       others,
@@ -86,21 +89,21 @@ returns c = λ q kinds rows more h k are others_are.
     let g = c.args.self.now in
     let o = c.args.other in
     let cs = g.columns.items in
-    let new = c.number_others.new.keys in
-    let numbers = c.number_others.new.numbers.items in
+    let new = c.intern_keys.new.keys in
+    let ids = c.intern_keys.new.ids.items in
     let tables = tables_of by rows g.keys in
     let others = tables_of by more o.keys in
     let changed = c.join_columns.new.columns in
     let count = c.join_columns.auto.columns ∙ ap length c.deref_mut.ensures.value in
-    let is : new ≡ with_keys g.keys o.keys = c.in_ok-number_others.ensures.keys in
-    on_ok c.join_columns.result
+    let is : new ≡ with_keys g.keys o.keys = c.in_ok-intern_keys.ensures.keys in
+    on_ok_weaker c.join_columns.result
     (λ e. (
-      groups-merged by aggs rows more g.keys o.keys new (map show_column cs) (map show_column o.columns.items) numbers h.0 k.0 is c.in_ok-number_others.ensures.numbers _
+      groups-merged by aggs rows more g.keys o.keys new (map show_column cs) (map show_column o.columns.items) ids h.0 k.0 is c.in_ok-intern_keys.ensures.ids _
           (ap (map show_column) (refilled g.columns.len cs changed g.columns.ok.0 count) ∙ e
           ∙ ap (λ ns. map (λ (t : TallyColumn). column_of (spread_all ns others (padded c.len-groups.result [] tables)) (show_column t).agg) c.deref_mut.result.now) c.deref-2.ensures.value
-          ∙ ap (λ m. map (λ (t : TallyColumn). column_of (spread_all numbers others (padded m [] tables)) (show_column t).agg) c.deref_mut.result.now) c.len-groups.ensures
-          ∙ ap (map (λ (t : TallyColumn). column_of (spread_all numbers others (padded (length new) [] tables)) (show_column t).agg)) c.deref_mut.ensures.value
-          ∙ same_aggs tables (spread_all numbers others (padded (length new) [] tables)) aggs cs h.0.columns_are),
+          ∙ ap (λ m. map (λ (t : TallyColumn). column_of (spread_all ids others (padded m [] tables)) (show_column t).agg) c.deref_mut.result.now) c.len-groups.ensures
+          ∙ ap (map (λ (t : TallyColumn). column_of (spread_all ids others (padded (length new) [] tables)) (show_column t).agg)) c.deref_mut.ensures.value
+          ∙ same_aggs tables (spread_all ids others (padded (length new) [] tables)) aggs cs h.0.columns_are),
       subst (λ l. Remembers l g.memo) (sym is) (remembers-more g.keys o.keys g.memo h.1),
     ))
     (c.join_columns.ensures kinds tables others

@@ -1,0 +1,9 @@
+use Rattle.std.proofs.Common.{◌≡◌, take}
+use Rattle.keys.specs.Keys.{AreIds, keys_at, with_keys}
+use Rattle.keys.proofs.rows.intern_each.Given as goal
+
+-- The rows so far have their ids.
+abbrev pub invariant-loop-row : goal.invariant-loop-row
+invariant-loop-row l =
+    (l.keys ≡ with_keys l.initial.keys (keys_at l.columns.by.now l.columns.batch.now.columns (take l.row-index l.rows)))
+    × AreIds l.keys (keys_at l.columns.by.now l.columns.batch.now.columns (take l.row-index l.rows)) l.ids.items

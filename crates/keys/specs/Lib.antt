@@ -1,0 +1,7 @@
+-- What the contracts of this crate speak of.
+pub mod Same
+pub mod Keys
+pub mod Parts
+pub mod SmallSets
+pub mod PartSets
+pub mod Memo

@@ -1,0 +1,47 @@
+-- What is remembered of the ids of keys.
+use Rattle.std.specs.Prelude.{◌≡◌, ◌<◌, ℕ, List, [], ◌∷◌, Option, Some, None, length, map, slice_get, slice_index_or, true, ⊤}
+use Rattle.indexmap.specs.IndexSet.{insert_key}
+use Rattle.arrays.specs.Batch.{Batch, row_of}
+use Rattle.arrays.specs.Item.{Item, null, text}
+use Rattle.arrays.specs.Kind as kind
+use Rattle.arrays.specs.Seen.{Seen}
+use Rattle.keys.specs.Keys.{key_of}
+use Rattle.keys.specs.Same.{same_key}
+use Rattle.keys.specs.declared.memo.Memo.{Memo}
+
+-- The id, if there is one, is that of this key.
+abbrev pub IsRemembered : List (List Item) → List Item → Option ℕ → Type 0
+IsRemembered keys k None = ⊤
+IsRemembered keys k (Some n) = slice_get keys n ≡ Some k
+
+-- What is remembered of the entries of a dictionary is true, and there is room for each.
+pub record KnowsItems (keys : List (List Item)) (items : List Item) (known : List (Option ℕ)) : Type 0 where
+  pub room : length items ≡ length known
+  pub each : (c : ℕ) → IsRemembered keys (slice_index_or items c null ∷ []) (slice_index_or known c None)
+
+-- What is remembered of null is true, whatever batch it came in, and so is what is remembered of the common texts.
+pub record Remembers (keys : List (List Item)) (m : Memo) : Type 0 where
+  pub null : IsRemembered keys (null ∷ []) m.null
+  pub common : m.are_common ≡ true → KnowsItems keys (map text m.common.now) m.entries.items
+
+-- The entries are the common texts, where it is these of which something is remembered.
+abbrev pub AreCommon : List Item → Memo → Type 0
+AreCommon items m = m.are_common ≡ true → items ≡ map text m.common.now
+
+-- It is these entries of which something is remembered, and it is true.
+abbrev pub Knows : List (List Item) → List Item → Memo → Type 0
+Knows keys items m = KnowsItems keys items m.entries.items × AreCommon items m
+
+-- The same of the entries of a batch's dictionary, where its rows are put into groups by one dictionary-encoded column.
+pub record KnowsEntries (keys : List (List Item)) (b : Batch) (by : List ℕ) (m : Memo) : Type 0 where
+  pub each : (place : ℕ) (c : Seen) → by ≡ place ∷ [] → slice_get b.columns place ≡ Some c → c.kind ≡ kind.dict → Knows keys c.entries.items m
+
+-- Each row of the batch has the key of its item in this column alone.
+pub record AreKeys (items : List Item) (b : Batch) (by : List ℕ) : Type 0 where
+  pub len : length items ≡ b.rows
+  pub each : (r : ℕ) → r < b.rows → key_of by (row_of b.columns r) ≡ slice_index_or items r null ∷ []
+
+-- The key is one of them now, at the end where it is new, and this is its id.
+pub record IsInterned (keys new : List (List Item)) (k : List Item) (n : ℕ) : Type 0 where
+  pub keys_are : new ≡ insert_key same_key keys k
+  pub there : slice_get new n ≡ Some k

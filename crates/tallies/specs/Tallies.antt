@@ -1,0 +1,66 @@
+-- What is known of the items of a group, while they come.
+use Rattle.std.specs.Prelude.{◌≡◌, ◌≤◌, ◌^◌, ◌+◌, ℕ, ℤ, pos, ◌+ℤ◌, List, not, Option, None, length, map, filter, slice_index_or}
+use Rattle.std.specs.List.{All, reduce}
+use Rattle.arrays.specs.Batch.{Row, Table}
+use Rattle.arrays.specs.Item.{Item, null, int, is_null}
+use Rattle.arrays.specs.Slot.{item_of}
+use Rattle.query.specs.declared.expr.Agg.{Agg}
+use Rattle.query.specs.declared.expr.Agg.TheVariants.{Rows, Count, Sum, Least, Greatest}
+use Rattle.group.specs.Stats.{numbers_of, lesser, greater}
+use Rattle.group.specs.Scalars.{item_or_null}
+
+-- How many rows, items or numbers there were, the sum, and the least or the greatest.
+pub record TallyShape : Type 0 where
+  pub count : ℕ
+  pub sum : Option ℤ
+  pub best : Option Item
+
+abbrev pub counted : ℕ → TallyShape
+counted n = record { count = n; sum = None; best = None }
+
+abbrev pub summed : List ℤ → TallyShape
+summed zs = record { count = length zs; sum = reduce ◌+ℤ◌ zs; best = None }
+
+abbrev pub bettered : Option Item → TallyShape
+bettered x = record { count = 0; sum = None; best = x }
+
+-- The items that aren't null.
+abbrev pub held : List Item → List Item
+held xs = filter (λ x. not (is_null x)) xs
+
+-- What an aggregate knows of the items that it looked at.
+abbrev pub tally_of : Agg ℕ → List Item → TallyShape
+tally_of Rows xs = counted (length xs)
+tally_of (Count c) xs = counted (length (held xs))
+tally_of (Sum c) xs = summed (numbers_of xs)
+tally_of (Least c) xs = bettered (reduce lesser (held xs))
+tally_of (Greatest c) xs = bettered (reduce greater (held xs))
+
+-- What it looks at in a row: the column's item; where rows are counted, nothing.
+abbrev pub item_for : Agg ℕ → Row → Item
+item_for Rows row = null
+item_for (Count c) row = slice_index_or row c null
+item_for (Sum c) row = slice_index_or row c null
+item_for (Least c) row = slice_index_or row c null
+item_for (Greatest c) row = slice_index_or row c null
+
+abbrev pub items_for : Agg ℕ → Table → List Item
+items_for a rows = map (λ row. item_for a row) rows
+
+-- What it tells at the end.
+abbrev pub told : Agg ℕ → TallyShape → Item
+told Rows t = int (pos t.count)
+told (Count c) t = int (pos t.count)
+told (Sum c) t = item_of t.sum
+told (Least c) t = item_or_null t.best
+told (Greatest c) t = item_or_null t.best
+
+-- ---- the tallies of many groups
+
+-- Cells are the tallies of groups of items.
+abbrev pub AreTallies : {C : Type 0} → (C → TallyShape) → Agg ℕ → List C → List (List Item) → Type 0
+AreTallies show a cells groups = map show cells ≡ map (tally_of a) groups
+
+-- They are, and with n items more no group has more than a table may have.
+abbrev pub HasRoomFor : {C : Type 0} → (C → TallyShape) → Agg ℕ → List C → ℕ → Type 0
+HasRoomFor show a cells n = (groups : List (List Item)) × AreTallies show a cells groups × All (λ xs. length xs + n ≤ 2 ^ 40) groups
