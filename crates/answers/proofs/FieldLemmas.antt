@@ -20,9 +20,7 @@ by_kind (Some k) = Ok (sort_of_kind k)
 by_kind None = Err NoColumn
 
 sort_by_kind : (o : Option FieldShape) → sort_of_field o ≡ by_kind (option_map kind_of_field o)
-
 unfolding by_kind
-
 sort_by_kind (Some f) = refl
 sort_by_kind None = refl
 

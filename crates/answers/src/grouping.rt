@@ -118,13 +118,7 @@ impl<'a> Grouping<'a> {
         }
         intern_keys(&mut self.keys, &mut self.ids, &other.keys)?;
         let groups = self.keys.len();
-        join_columns(
-            alloc,
-            &mut self.columns,
-            groups,
-            &other.columns,
-            &self.ids,
-        )
+        join_columns(alloc, &mut self.columns, groups, &other.columns, &self.ids)
     }
 }
 
@@ -164,7 +158,7 @@ fn add_to_columns(
         × All (λ t. length t + length rows.now ≤ 2 ^ 40) tables }
     ensures { (tables : List Table) → All (IsColumnOf tables) columns.old → OnOk result (map show_column columns.new
         ≡ map (λ c. column_of (spread ids.now (map (row_of batch.now.columns) rows.now) (padded groups [] tables)) (show_column c).agg)
-            columns.old) }
+        columns.old) }
 {
     for i in 0..columns.len() {
         columns[i].extend(alloc, groups, batch, rows, ids)?;

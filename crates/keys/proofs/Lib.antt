@@ -2,7 +2,7 @@
 pub mod SameLemmas
 pub mod PartLemmas
 pub mod TextLemmas
-pub mod SmallSetLemmas
+pub mod CodeSetLemmas
 pub mod PartSetLemmas
 pub mod KeyLemmas
 pub mod MemoLemmas

@@ -1,17 +1,18 @@
 -- Keys in a set, and their parts.
 use lib.Pointwise.{pointwise, pointwise_decides}
-use Rattle.std.proofs.Common.{◌≡◌, ◌∙◌, ℕ, ℤ, pos, negsuc, ◌+ℤ◌, ◌-ℤ◌, ◌≤ℤ◌, arith, ◌+◌, ◌^◌, ◌<◌, ◌≤◌, Bool, true, false, ◌&&◌, ◌||◌, cond, ltb, List, [], ◌∷◌, ◌++◌, length, map, take, get_or, Some, refl, rules, sym, ap, true≢false}
-use Rattle.std.specs.Prelude.{IfOk, Option, Result, Ok, Err, option_map, slice_get, int_lt, if◌then◌else◌}
+use Rattle.std.proofs.Common.{◌≡◌, ◌∙◌, ℕ, pos, arith, ◌+◌, ◌-◌, ◌^◌, ◌<◌, ◌≤◌, Bool, true, false, ◌&&◌, ◌||◌, cond, ltb, List, [], ◌∷◌, ◌++◌, length, map, take, get_or, Some, refl, rules, sym, ap}
+use Rattle.std.specs.Prelude.{IfOk, Option, Result, Ok, Err, option_map, nat_eq, slice_get, if◌then◌else◌}
 use Rattle.std.specs.Bool.{Decides}
 use Rattle.std.specs.Option.{ForSome}
-use Rattle.std.specs.Cmp.{booleans_Decides, decided}
+use Rattle.std.specs.Cmp.{IsEquivalence, booleans_Decides, decided}
 use Rattle.std.specs.List.{IsDistinct, list_any}
-use Rattle.std.specs.Ordering.{int_eq}
-use Rattle.std.proofs.lemmas.Bool.{eqb-true, ltb-false}
+use Rattle.std.proofs.Math.Bool.{and-true}
+use Rattle.std.proofs.lemmas.Bool.{eqb-false, eqb-true, ltb-false}
 use Rattle.std.proofs.lemmas.Bool.Decides.{Decides-int_eq}
-use Rattle.std.proofs.lemmas.Int.{ints}
+use Rattle.std.proofs.lemmas.Cmp.{nat_eq_equiv}
 use Rattle.types.specs.Number.{natural}
-use Rattle.std.proofs.lemmas.List.{map-append, take_all}
+use Rattle.std.proofs.lemmas.List.{map-append, take_all, take_more}
+use Rattle.std.proofs.lemmas.List.Sums.{fold_push}
 use Rattle.std.proofs.lemmas.Map.Keys.{any_passes_from_place}
 use Rattle.std.proofs.lemmas.Option.{slice_get-map}
 use Rattle.indexmap.specs.IndexSet.{insert_all, insert_key}
@@ -20,9 +21,8 @@ use Rattle.keys.specs.declared.part.Part.{Part}
 use Rattle.keys.specs.declared.part.Part.TheVariants as part
 use Rattle.keys.specs.contracts.part.PartPartialEq as derived
 use Rattle.keys.specs.Parts.{same_part}
-use Rattle.keys.specs.PartSets.{part_of_number, parts_of_number, same_parts}
+use Rattle.keys.specs.PartSets.{one, part_of_code, parts_of_code, same_parts}
 use Rattle.keys.proofs.SameLemmas.{either}
-use Rattle.keys.proofs.SmallSetLemmas.{one_more}
 
 -- ---- the derived test
 
@@ -103,87 +103,76 @@ module _ {K : Type 0} (f : K → List Part) (eq : K → K → Bool) (alike : (x 
   place_shown ks n k l at is =
       slice_get-map f ks n ∙ ap (option_map f) at ∙ ap Some (sym ((same_parts-Decides (f k) (f l)).0 (sym (alike k l) ∙ is)))
 
--- ---- numbers that stand for parts
+-- ---- one more of a list, put into the set of those before it
 
-abbrev none : ℤ
-none = pos (2 ^ 100)
+module _ {K : Type 0} (f : K → List Part) (eq : K → K → Bool) (alike : (x y : K) → eq x y ≡ same_parts (f x) (f y)) (d : K) where
+  pub shown_more : (xs : List K) (i : ℕ) (shown new : List (List Part)) (ps : List Part) → i < length xs
+      → shown ≡ map f (insert_all eq [] (take i xs)) → ps ≡ f (get_or xs i d) → new ≡ insert_key same_parts shown ps
+      → new ≡ map f (insert_all eq [] (take (i + 1) xs))
+  shown_more xs i shown new ps below are here is =
+      let x = get_or xs i d in
+      let front = insert_all eq [] (take i xs) in
+      is ∙ ap (insert_key same_parts shown) here ∙ ap (λ l. insert_key same_parts l (f x)) are
+      ∙ sym (inserted_shown f eq alike front x)
+      ∙ ap (map f) (sym (ap (insert_all eq []) (take_more xs i d below) ∙ fold_push (insert_key eq) [] (take i xs) x))
 
-abbrev last : ℤ
-last = pos (2 ^ 100 + 2 ^ 64)
+  pub shown_all : (laws : IsEquivalence eq) (xs : List K) (n : ℕ) (shown : List (List Part)) → length xs ≤ n → IsDistinct eq xs
+      → shown ≡ map f (insert_all eq [] (take n xs)) → shown ≡ map f xs
+  shown_all laws xs n shown long apart are =
+      are ∙ ap (map f) (ap (insert_all eq []) (take_all n xs long) ∙ set_all_distinct laws [] xs apart)
 
--- That of the first text.
-abbrev first : ℤ
-first = pos (2 ^ 100 + 1)
+-- ---- keys of one part
 
--- The number that stands for a part.
-number_back : Part → ℤ
-number_back part.Null = none
-number_back (part.Int z) = z
-number_back (part.Bool b) = none
-number_back (part.Text n) = pos n +ℤ first
+pub ones_alike : (p q : Part) → part_eq p q ≡ same_parts (one p) (one q)
+ones_alike p q = is_same_part p q ∙ sym (and-true (same_part p q))
 
-natural_is : (d : ℤ) → pos 0 ≤ℤ d → pos (natural d) ≡ d
-natural_is (pos n) h = refl
-natural_is (negsuc n) h = absurd (omega (arith, ints, h))
+pub part_eq_equiv : IsEquivalence part_eq
+part_eq_equiv = decided part_eq (λ p q. ((λ h. parts_equal p q (sym (is_same_part p q) ∙ h)), (λ e. is_same_part p q ∙ (same_part-Decides p q).1 e)))
 
-behind : (z : ℤ) → first ≤ℤ z → pos (natural (z -ℤ first)) +ℤ first ≡ z
-behind z h = ap (λ d. d +ℤ first) (natural_is (z -ℤ first) (omega (arith, ints, h))) ∙ omega (arith, ints)
+-- ---- codes
 
-back_again : (z : ℤ) → number_back (part_of_number z) ≡ z
-unfolding number_back
-back_again (negsuc n) = refl
-back_again (pos n) = go (int_lt (pos n) none) (int_lt last (pos n)) (int_eq (pos n) none) refl refl where
-  go : (a b c : Bool) → ltb n (2 ^ 100) ≡ a → int_eq (pos n) none ≡ c
-      → number_back (if a || b then part.Int (pos n) else (if c then part.Null else part.Text (natural (pos n -ℤ first)))) ≡ pos n
-  go true b c p q = refl
-  go false true c p q = refl
-  go false false true p q = sym ((Decides-int_eq (pos n) none).0 q)
-  go false false false p q =
-      let least = ltb-false n (2 ^ 100) p in
-      let other : n ≡ 2 ^ 100 → ⊥ = λ e. true≢false (sym ((Decides-int_eq (pos n) none).1 (ap pos e)) ∙ q) in
-      behind (pos n) (omega (arith, ints, least, other))
+-- The code of a part.
+code_back : Part → ℕ
+code_back part.Null = 2 ^ 17
+code_back (part.Int z) = natural z
+code_back (part.Bool b) = 0
+code_back (part.Text n) = n + (2 ^ 17 + 1)
 
-pub numbers_alike : (x y : ℤ) → int_eq x y ≡ same_parts (parts_of_number x) (parts_of_number y)
-numbers_alike x y =
-    let decides = same_parts-Decides (parts_of_number x) (parts_of_number y) in
-    either (int_eq x y)
-    (λ yes. yes ∙ sym (decides.1 (ap parts_of_number ((Decides-int_eq x y).0 yes))))
-    (λ no. no ∙ sym (either (same_parts (parts_of_number x) (parts_of_number y))
-    (λ same. absurd (true≢false (sym ((Decides-int_eq x y).1 (back (decides.0 same))) ∙ no))) (λ other. other))) where
-      back : parts_of_number x ≡ parts_of_number y → x ≡ y
-      back e = sym (back_again x) ∙ ap (λ ps. number_back (get_or ps 0 part.Null)) e ∙ back_again y
+back_again : (c : ℕ) → code_back (part_of_code c) ≡ c
+unfolding code_back
+back_again c = go (ltb c (2 ^ 17)) (nat_eq c (2 ^ 17)) refl refl where
+  go : (a b : Bool) → ltb c (2 ^ 17) ≡ a → nat_eq c (2 ^ 17) ≡ b
+      → code_back (if a then part.Int (pos c) else (if b then part.Null else part.Text (c - (2 ^ 17 + 1)))) ≡ c
+  go true b p q = refl
+  go false true p q = sym (eqb-true c (2 ^ 17) q)
+  go false false p q = omega (arith, ltb-false c (2 ^ 17) p, eqb-false c (2 ^ 17) q)
 
--- A number that is there isn't put there again, and a new one comes to the end.
-pub number_again : (xs : List ℤ) (n : ℕ) (x : ℤ) → slice_get xs n ≡ Some x → map parts_of_number xs ≡ insert_key same_parts (map parts_of_number xs) (parts_of_number x)
-number_again xs n x at =
-    sym (ap (λ b. map parts_of_number (if b then xs else xs ++ x ∷ [])) (any_passes_from_place (int_eq x) xs n x at ((Decides-int_eq x x).1 refl))) ∙ inserted_shown parts_of_number int_eq numbers_alike xs x
+pub codes_alike : (x y : ℕ) → nat_eq x y ≡ same_parts (parts_of_code x) (parts_of_code y)
+codes_alike x y =
+    let decides = same_parts-Decides (parts_of_code x) (parts_of_code y) in
+    either (nat_eq x y)
+    (λ yes. yes ∙ sym (decides.1 (ap parts_of_code (eqb-true x y yes))))
+    (λ no. no ∙ sym (either (same_parts (parts_of_code x) (parts_of_code y))
+    (λ same. absurd (eqb-false x y no (back (decides.0 same)))) (λ other. other))) where
+      back : parts_of_code x ≡ parts_of_code y → x ≡ y
+      back e = sym (back_again x) ∙ ap (λ ps. code_back (get_or ps 0 part.Null)) e ∙ back_again y
 
-pub number_new : (xs new : List ℤ) (x : ℤ) → new ≡ xs ++ x ∷ [] → list_any (int_eq x) xs ≡ false
-    → map parts_of_number new ≡ insert_key same_parts (map parts_of_number xs) (parts_of_number x)
-number_new xs new x is absent =
-    ap (map parts_of_number) is ∙ sym (ap (λ b. map parts_of_number (if b then xs else xs ++ x ∷ [])) absent) ∙ inserted_shown parts_of_number int_eq numbers_alike xs x
+-- A code that is there isn't put there again, and a new one comes to the end.
+pub code_again : (xs : List ℕ) (n x : ℕ) → slice_get xs n ≡ Some x → map parts_of_code xs ≡ insert_key same_parts (map parts_of_code xs) (parts_of_code x)
+code_again xs n x at =
+    sym (ap (λ b. map parts_of_code (if b then xs else xs ++ x ∷ [])) (any_passes_from_place (nat_eq x) xs n x at (nat_eq_equiv.refl x)))
+    ∙ inserted_shown parts_of_code nat_eq codes_alike xs x
 
-pub number_shown : (xs : List ℤ) (n : ℕ) (x : ℤ) → slice_get xs n ≡ Some x → slice_get (map parts_of_number xs) n ≡ Some (parts_of_number x)
-number_shown xs n x at = slice_get-map parts_of_number xs n ∙ ap (option_map parts_of_number) at
+pub code_new : (xs new : List ℕ) (x : ℕ) → new ≡ xs ++ x ∷ [] → list_any (nat_eq x) xs ≡ false
+    → map parts_of_code new ≡ insert_key same_parts (map parts_of_code xs) (parts_of_code x)
+code_new xs new x is absent =
+    ap (map parts_of_code) is ∙ sym (ap (λ b. map parts_of_code (if b then xs else xs ++ x ∷ [])) absent)
+    ∙ inserted_shown parts_of_code nat_eq codes_alike xs x
+
+pub code_shown : (xs : List ℕ) (n x : ℕ) → slice_get xs n ≡ Some x → slice_get (map parts_of_code xs) n ≡ Some (parts_of_code x)
+code_shown xs n x at = slice_get-map parts_of_code xs n ∙ ap (option_map parts_of_code) at
 
 -- What holds of a place that is told, where there is one.
 pub if_place : {E : Type 0} (r : Result (Option ℕ) E) (P Q : ℕ → Type 0) → ((n : ℕ) → P n → Q n) → IfOk r (λ o. ForSome o P) → IfOk r (λ o. ForSome o Q)
 if_place (Ok o) P Q f h = λ n is. f n (h n is)
 if_place (Err e) P Q f h = tt
-
--- ---- numbers become lists
-
-pub listed_more : (xs : List ℤ) (i : ℕ) (lists new : List (List Part)) (ps : List Part) → i < length xs
-    → lists ≡ map parts_of_number (insert_all int_eq [] (take i xs)) → ps ≡ parts_of_number (get_or xs i (pos 0)) → new ≡ insert_key same_parts lists ps
-    → new ≡ map parts_of_number (insert_all int_eq [] (take (i + 1) xs))
-listed_more xs i lists new ps below are here is =
-    let x = get_or xs i (pos 0) in
-    let front = insert_all int_eq [] (take i xs) in
-    is ∙ ap (insert_key same_parts lists) here ∙ ap (λ l. insert_key same_parts l (parts_of_number x)) are
-    ∙ sym (inserted_shown parts_of_number int_eq numbers_alike front x)
-    ∙ ap (map parts_of_number) (sym (one_more xs i below))
-
-pub listed_all : (xs : List ℤ) (n : ℕ) (lists : List (List Part)) → length xs ≤ n → IsDistinct int_eq xs
-    → lists ≡ map parts_of_number (insert_all int_eq [] (take n xs)) → lists ≡ map parts_of_number xs
-listed_all xs n lists long apart are =
-    are ∙ ap (map parts_of_number) (ap (insert_all int_eq []) (take_all n xs long) ∙ set_all_distinct (decided int_eq Decides-int_eq) [] xs apart)

@@ -2,6 +2,6 @@
 pub mod Same
 pub mod Keys
 pub mod Parts
-pub mod SmallSets
+pub mod CodeSets
 pub mod PartSets
 pub mod Memo

@@ -1,6 +1,7 @@
 //! The keys of groups, each once: rows are given the ids of their groups.
 #![tactic(auto)]
 
+mod code_set;
 mod codes;
 pub mod columns;
 pub mod key_set;
@@ -11,7 +12,6 @@ pub mod others;
 mod part;
 mod part_set;
 pub mod rows;
-mod small_set;
 pub mod text_set;
 
 pub use columns::KeyColumns;

@@ -1,15 +1,12 @@
-//! The parts of keys, and the numbers that stand for them.
+//! The parts of keys, and the codes of most of them.
 
 ghost use Rattle.std.specs.Prelude.{◌≡◌, ◌^◌, false, int_lt, pos, true};
 ghost use Rattle.std.specs.Option.{ForSome};
 ghost use Rattle.arrays.specs.Number.{is_negative, natural};
-ghost use Rattle.keys.specs.PartSets.{part_of_number};
+ghost use Rattle.keys.specs.PartSets.{part_of_code};
 
-/// Stands for null among numbers: no integer type has it.
-pub(crate) const NULL: i128 = 1 << 100;
-
-/// The last of the numbers behind it, which stand for texts by their places.
-const LAST: i128 = NULL + (1 << 64);
+/// So many numbers from 0 on have codes, and so many texts, so that a table of places by them stays in a processor's cache.
+pub(crate) const NEAR: u32 = 1 << 17;
 
 /// An item of a key.
 #[derive(Clone, Copy, Debug, PartialEq, Eq, Hash)]
@@ -27,34 +24,34 @@ impl Default for Part {
     }
 }
 
-/// The part that a number among numbers stands for.
+/// The code of a part, none where it has none: that of a number is the number, null comes behind these, and then texts.
 #[inline(always)]
-pub(crate) fn part_of_number(number: i128) -> Part
-    ensures { result ≡ part_of_number number }
-{
-    if number < NULL || LAST < number {
-        Part::Int(number)
-    } else if number == NULL {
-        Part::Null
-    } else {
-        Part::Text(place_of(number - NULL - 1))
-    }
-}
-
-/// What the part is among numbers; none where no number stands for it.
-#[inline(always)]
-pub(crate) fn number_of_part(part: Part) -> Option<i128>
-    ensures { ForSome result (λ z. part ≡ part_of_number z) }
+pub(crate) fn code_of(part: Part) -> Option<u32>
+    ensures { ForSome result (λ c. part_of_code c ≡ part) }
 {
     match part {
-        Part::Null => Some(NULL),
-        Part::Int(number) if number < NULL => Some(number),
-        Part::Text(place) => Some(NULL + 1 + place as i128),
+        Part::Int(number) if 0 <= number && number < i128::from(NEAR) => Some(number as u32),
+        Part::Null => Some(NEAR),
+        Part::Text(place) if place < NEAR as usize => Some(NEAR + 1 + place as u32),
         _ => None,
     }
 }
 
-/// The place that a code names.
+/// The part of which this is the code.
+#[inline(always)]
+pub(crate) fn part_of_code(code: u32) -> Part
+    ensures { result ≡ part_of_code code }
+{
+    if code < NEAR {
+        Part::Int(i128::from(code))
+    } else if code == NEAR {
+        Part::Null
+    } else {
+        Part::Text((code - NEAR - 1) as usize)
+    }
+}
+
+/// The place that a code of a dictionary names.
 #[inline(always)]
 pub(crate) fn place_of(code: i128) -> usize
     requires counted { is_negative code ≡ false }

@@ -3,12 +3,12 @@
 ghost use Rattle.std.specs.Prelude.{◌≡◌, ◌∷◌, ◌<◌, ◌≤◌, [], IfOk, None, OnErr, OnOk, Some, length, map, slice_get};
 ghost use Rattle.std.specs.Option.{ForSome};
 ghost use Rattle.std.specs.List.{IsDistinct};
-ghost use Rattle.std.specs.Ordering.{int_eq};
 ghost use Rattle.indexmap.specs.IndexSet.{insert_key};
-ghost use Rattle.keys.specs.PartSets.{part_of_number, parts_listed, parts_of_number, parts_shown, parts_stored, same_parts};
+ghost use Rattle.keys.specs.Parts.{same_part};
+ghost use Rattle.keys.specs.PartSets.{one, parts_listed, parts_of_code, parts_shown, parts_stored, same_parts};
 
-use crate::part::{Part, number_of_part, part_of_number};
-use crate::small_set::SmallSet;
+use crate::code_set::CodeSet;
+use crate::part::{Part, code_of, part_of_code};
 use arrayvec::ArrayVec;
 use colbits::NoMemory;
 use indexmap::IndexSet;
@@ -17,10 +17,10 @@ use std::alloc::Global;
 /// The parts of keys in order of coming, each key once.
 #[derive(Drop)]
 pub(crate) enum PartSet {
-    /// Keys that are a small number, null or a text each.
-    Small(SmallSet),
-    /// Keys that are a number, null or a text each. They take a fifth of the memory, so that more of them stay in the processor's caches.
-    Numbers(IndexSet<i128>),
+    /// Keys of one part each, which has a code.
+    Coded(CodeSet),
+    /// Keys of one part each. They take a fourth of the memory, so that more of them stay in the processor's caches.
+    Alone(IndexSet<Part>),
     /// Any keys.
     Lists(IndexSet<ArrayVec<Part, 4>>),
 }
@@ -36,7 +36,7 @@ impl PartSet {
     pub(crate) fn new(alloc: Global) -> PartSet
         ensures { parts_shown result ≡ [] }
     {
-        PartSet::Small(SmallSet::new(alloc))
+        PartSet::Coded(CodeSet::new(alloc))
     }
 
     /// How many keys there are.
@@ -44,8 +44,8 @@ impl PartSet {
         ensures { result ≡ length (parts_shown self.now) }
     {
         match self {
-            PartSet::Small(small) => small.len(),
-            PartSet::Numbers(numbers) => numbers.len(),
+            PartSet::Coded(codes) => codes.len(),
+            PartSet::Alone(parts) => parts.len(),
             PartSet::Lists(lists) => lists.len(),
         }
     }
@@ -58,8 +58,8 @@ impl PartSet {
         ensures few { length (parts_stored result) ≤ 4 }
     {
         match self {
-            PartSet::Small(small) => Stored::Alone(part_of_number(small.number_at(place))),
-            PartSet::Numbers(numbers) => Stored::Alone(part_of_number(numbers.as_slice()[place])),
+            PartSet::Coded(codes) => Stored::Alone(part_of_code(codes.code_at(place))),
+            PartSet::Alone(parts) => Stored::Alone(parts.as_slice()[place]),
             PartSet::Lists(lists) => Stored::Parts(lists.as_slice()[place].as_slice()),
         }
     }
@@ -71,53 +71,30 @@ impl PartSet {
         ensures place { IfOk result (λ n. slice_get (parts_shown self.new) n ≡ Some (part ∷ [])) }
         ensures err { OnErr result (parts_shown self.new ≡ parts_shown self.old) }
     {
-        match number_of_part(part) {
-            Some(number) => self.place_of_number(number),
-            None => self.place_alone(part),
+        match self {
+            PartSet::Coded(codes) => match place_in_codes(codes, part)? {
+                Some(place) => Ok(place),
+                None => self.place_hashed(part),
+            },
+            PartSet::Alone(parts) => place_in_parts(parts, part),
+            PartSet::Lists(lists) => place_in_lists(lists, alone(part)),
         }
     }
 
-    /// The same, once all keys are lists.
+    /// The same, once parts that have codes are hashed too.
     #[inline(never)]
-    fn place_alone(&mut self, part: Part) -> Result<usize, NoMemory>
+    fn place_hashed(&mut self, part: Part) -> Result<usize, NoMemory>
         ensures keys { OnOk result (parts_shown self.new ≡ insert_key same_parts (parts_shown self.old) (part ∷ [])) }
         ensures place { IfOk result (λ n. slice_get (parts_shown self.new) n ≡ Some (part ∷ [])) }
         ensures err { OnErr result (parts_shown self.new ≡ parts_shown self.old) }
     {
-        self.place_listed(alone(part))
-    }
-
-    /// The place of the key of the part alone for which this number stands. The key is put at the end where it is new.
-    #[inline(always)]
-    fn place_of_number(&mut self, number: i128) -> Result<usize, NoMemory>
-        ensures keys { OnOk result (parts_shown self.new ≡ insert_key same_parts (parts_shown self.old) (parts_of_number number)) }
-        ensures place { IfOk result (λ n. slice_get (parts_shown self.new) n ≡ Some (parts_of_number number)) }
-        ensures err { OnErr result (parts_shown self.new ≡ parts_shown self.old) }
-    {
-        match self {
-            PartSet::Small(small) => match place_in_small(small, number)? {
-                Some(place) => Ok(place),
-                None => self.place_hashed(number),
-            },
-            PartSet::Numbers(numbers) => place_in_numbers(numbers, number),
-            PartSet::Lists(_lists) => self.place_alone(part_of_number(number)),
-        }
-    }
-
-    /// The same, once small numbers are hashed too.
-    #[inline(never)]
-    fn place_hashed(&mut self, number: i128) -> Result<usize, NoMemory>
-        ensures keys { OnOk result (parts_shown self.new ≡ insert_key same_parts (parts_shown self.old) (parts_of_number number)) }
-        ensures place { IfOk result (λ n. slice_get (parts_shown self.new) n ≡ Some (parts_of_number number)) }
-        ensures err { OnErr result (parts_shown self.new ≡ parts_shown self.old) }
-    {
-        if let PartSet::Small(small) = self {
-            let mut numbers = small.hashed()?;
-            let place = place_in_numbers(&mut numbers, number)?;
-            *self = PartSet::Numbers(numbers);
+        if let PartSet::Coded(codes) = self {
+            let mut parts = parts_of(codes)?;
+            let place = place_in_parts(&mut parts, part)?;
+            *self = PartSet::Alone(parts);
             return Ok(place);
         }
-        self.place_alone(part_of_number(number))
+        self.place_listed(alone(part))
     }
 
     /// The place of the key of these parts, which is put at the end where it is new.
@@ -126,9 +103,9 @@ impl PartSet {
         ensures place { IfOk result (λ n. slice_get (parts_shown self.new) n ≡ Some parts.items) }
         ensures err { OnErr result (parts_shown self.new ≡ parts_shown self.old) }
     {
-        match number_alone(parts.as_slice()) {
-            Some(number) => self.place_of_number(number),
-            None => self.place_listed(parts),
+        match parts.as_slice() {
+            [part] => self.place_of_part(*part),
+            _ => self.place_listed(parts),
         }
     }
 
@@ -138,49 +115,43 @@ impl PartSet {
         ensures place { IfOk result (λ n. slice_get (parts_shown self.new) n ≡ Some parts.items) }
         ensures err { OnErr result (parts_shown self.new ≡ parts_shown self.old) }
     {
-        match self {
-            PartSet::Small(small) => {
-                let numbers = small.hashed()?;
-                let mut lists = lists_of(*numbers.allocator(), numbers.as_slice())?;
-                let place = place_in_lists(&mut lists, parts)?;
-                *self = PartSet::Lists(lists);
-                Ok(place)
-            }
-            PartSet::Numbers(numbers) => {
-                let mut lists = lists_of(*numbers.allocator(), numbers.as_slice())?;
-                let place = place_in_lists(&mut lists, parts)?;
-                *self = PartSet::Lists(lists);
-                Ok(place)
-            }
-            PartSet::Lists(lists) => place_in_lists(lists, parts),
-        }
+        let mut lists = match self {
+            PartSet::Coded(codes) => lists_of(&parts_of(codes)?)?,
+            PartSet::Alone(parts) => lists_of(parts)?,
+            PartSet::Lists(lists) => return place_in_lists(lists, parts),
+        };
+        let place = place_in_lists(&mut lists, parts)?;
+        *self = PartSet::Lists(lists);
+        Ok(place)
     }
 }
 
-/// The place of a number in a set, where it is put at the end where it is new; none where the set takes no such number.
+/// The place of a part that has a code, which is put at the end where it is new; none where it has no code, or there are too many.
 #[inline(always)]
-fn place_in_small(small: &mut SmallSet, number: i128) -> Result<Option<usize>, NoMemory>
-    ensures keys { IfOk result (λ o. ForSome o (λ n. map parts_of_number small.new
-        ≡ insert_key same_parts (map parts_of_number small.old) (parts_of_number number))) }
-    ensures place { IfOk result (λ o. ForSome o (λ n. slice_get (map parts_of_number small.new) n ≡ Some (parts_of_number number))) }
-    ensures large { IfOk result (λ o. o ≡ None → small.new ≡ small.old) }
-    ensures err { OnErr result (small.new ≡ small.old) }
+fn place_in_codes(codes: &mut CodeSet, part: Part) -> Result<Option<usize>, NoMemory>
+    ensures keys { IfOk result (λ o. ForSome o (λ n. map parts_of_code codes.new
+        ≡ insert_key same_parts (map parts_of_code codes.old) (part ∷ []))) }
+    ensures place { IfOk result (λ o. ForSome o (λ n. slice_get (map parts_of_code codes.new) n ≡ Some (part ∷ []))) }
+    ensures none { IfOk result (λ o. o ≡ None → codes.new ≡ codes.old) }
+    ensures err { OnErr result (codes.new ≡ codes.old) }
 {
-    if let Some(place) = small.place_of(number) {
+    let Some(code) = code_of(part) else {
+        return Ok(None);
+    };
+    if let Some(place) = codes.place_of(code) {
         return Ok(Some(place));
     }
-    small.add_new(number)
+    codes.add_new(code)
 }
 
-/// The place of a number in a set, where it is put at the end where it is new.
+/// The place of a part in a set, where it is put at the end where it is new.
 #[inline(always)]
-fn place_in_numbers(numbers: &mut IndexSet<i128>, number: i128) -> Result<usize, NoMemory>
-    ensures keys { OnOk result (map parts_of_number numbers.new.keys
-        ≡ insert_key same_parts (map parts_of_number numbers.old.keys) (parts_of_number number)) }
-    ensures place { IfOk result (λ n. slice_get (map parts_of_number numbers.new.keys) n ≡ Some (parts_of_number number)) }
-    ensures err { OnErr result (map parts_of_number numbers.new.keys ≡ map parts_of_number numbers.old.keys) }
+fn place_in_parts(parts: &mut IndexSet<Part>, part: Part) -> Result<usize, NoMemory>
+    ensures keys { OnOk result (map one parts.new.keys ≡ insert_key same_parts (map one parts.old.keys) (part ∷ [])) }
+    ensures place { IfOk result (λ n. slice_get (map one parts.new.keys) n ≡ Some (part ∷ [])) }
+    ensures err { OnErr result (map one parts.new.keys ≡ map one parts.old.keys) }
 {
-    let (place, _is_new) = numbers.insert_full(number)?;
+    let (place, _is_new) = parts.insert_full(part)?;
     Ok(place)
 }
 
@@ -197,14 +168,24 @@ fn place_in_lists(
     Ok(place)
 }
 
-/// The keys of numbers, as lists of parts.
-fn lists_of(alloc: Global, numbers: &[i128]) -> Result<IndexSet<ArrayVec<Part, 4>>, NoMemory>
-    requires { IsDistinct int_eq numbers.now }
-    ensures { IfOk result (λ s. parts_listed s.keys ≡ map parts_of_number numbers.now) }
+/// The parts of these codes, hashed.
+fn parts_of(codes: &CodeSet) -> Result<IndexSet<Part>, NoMemory>
+    ensures { IfOk result (λ s. map one s.keys ≡ map parts_of_code codes.now) }
 {
-    let mut lists = IndexSet::new(alloc);
-    for number in numbers {
-        place_in_lists(&mut lists, alone(part_of_number(*number)))?;
+    let mut parts = IndexSet::new(codes.allocator());
+    for place in 0..codes.len() {
+        place_in_parts(&mut parts, part_of_code(codes.code_at(place)))?;
+    }
+    Ok(parts)
+}
+
+/// The keys of parts, as lists of parts.
+fn lists_of(parts: &IndexSet<Part>) -> Result<IndexSet<ArrayVec<Part, 4>>, NoMemory>
+    ensures { IfOk result (λ s. parts_listed s.keys ≡ map one parts.now.keys) }
+{
+    let mut lists = IndexSet::new(*parts.allocator());
+    for part in parts.as_slice() {
+        place_in_lists(&mut lists, alone(*part))?;
     }
     Ok(lists)
 }
@@ -216,14 +197,4 @@ fn alone(part: Part) -> ArrayVec<Part, 4>
     let mut parts = ArrayVec::new();
     parts.push(part);
     parts
-}
-
-/// What the one part is among numbers; none where there are more parts, or no number stands for it.
-fn number_alone(parts: &[Part]) -> Option<i128>
-    ensures { ForSome result (λ z. parts.now ≡ parts_of_number z) }
-{
-    if parts.len() != 1 {
-        return None;
-    }
-    number_of_part(parts[0])
 }

@@ -43,12 +43,7 @@ impl TallyColumn {
     }
 
     /// Adds the tallies of the rows behind to those of their groups, whose ids stand beside.
-    fn merge(
-        &mut self,
-        alloc: Global,
-        other: &TallyColumn,
-        ids: &[usize],
-    ) -> Result<(), NoMemory>
+    fn merge(&mut self, alloc: Global, other: &TallyColumn, ids: &[usize]) -> Result<(), NoMemory>
         requires same { (show_column other.now).agg ≡ (show_column self.old).agg }
         requires lengths { length ids.now ≡ length (show_column other.now).tallies }
         requires inside { All (λ n. n < length (show_column self.old).tallies) ids.now }

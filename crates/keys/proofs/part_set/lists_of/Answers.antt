@@ -1,19 +1,18 @@
-use Rattle.std.proofs.Common.{◌∙◌, ◌∷◌, [], ap, arith, get_or, pos, rules}
-use Rattle.std.proofs.lemmas.Int.{to_z-of_z}
-use Rattle.std.specs.Int.{w128}
-use Rattle.std.specs.Prelude.{FitsSigned}
-use Rattle.keys.specs.PartSets.{parts_listed}
-use Rattle.keys.proofs.PartSetLemmas.{listed_all, listed_more}
+use Rattle.std.proofs.Common.{◌∙◌, ap, arith, map, subst, sym}
+use Rattle.std.specs.List.{IsDistinct}
+use Rattle.keys.specs.PartSets.{one, parts_listed}
+use Rattle.keys.specs.declared.part.Part.TheVariants as part
+use Rattle.keys.proofs.PartSetLemmas.{ones_alike, part_eq, part_eq_equiv, shown_all, shown_more}
 use Rattle.keys.proofs.part_set.lists_of.Goals as goal
 
-pub loop-number-preserved : goal.loop-number-preserved
-loop-number-preserved c =
-    let xs = c.args.numbers.now in
-    let i = c.loop-number.number-index in
-    let fits : FitsSigned w128 (get_or xs i (pos 0)) = search rules in
-    listed_more xs i (parts_listed c.loop-number.lists.keys) (parts_listed c.place_in_lists.new.lists.keys) c.alone.result.items c.loop-number-test.true c.loop-number.invariant
-    (c.alone.ensures ∙ ap (λ p. p ∷ []) (rw to_z-of_z at c.part_of_number.ensures)) c.in_ok-place_in_lists.ensures.keys
+pub loop-part-preserved : goal.loop-part-preserved
+loop-part-preserved c =
+    shown_more one part_eq ones_alike part.Null _ c.loop-part.part-index (parts_listed c.loop-part.lists.keys) (parts_listed c.place_in_lists.new.lists.keys) c.alone.result.items
+    c.loop-part-test.true c.loop-part.invariant c.alone.ensures c.in_ok-place_in_lists.ensures.keys
 
 pub returns : goal.returns
 returns c =
-    listed_all c.args.numbers.now c.loop-number.number-index (parts_listed c.loop-number.lists.keys) (omega (arith, c.loop-number-test.false)) c.requires c.loop-number.invariant
+    let xs = c.as_slice-part-items.result.now in
+    shown_all one part_eq ones_alike part.Null part_eq_equiv xs c.loop-part.part-index (parts_listed c.loop-part.lists.keys) (omega (arith, c.loop-part-test.false))
+    (subst (IsDistinct part_eq) (sym c.as_slice-part-items.ensures.keys) c.as_slice-part-items.ensures.unique) c.loop-part.invariant
+    ∙ ap (map one) c.as_slice-part-items.ensures.keys
