@@ -24,7 +24,7 @@ use tallies::TallyColumn;
 #[derive(Drop)]
 pub(crate) struct Grouping<'a> {
     pub(crate) keys: KeySet<'a>,
-    pub(crate) memo: Memo<'a>,
+    pub(crate) memo: Memo,
     /// What each aggregate knows of the rows of each key.
     pub(crate) columns: Vec<TallyColumn>,
     /// The ids of the groups of the rows that are added, kept for the next ones.
@@ -47,7 +47,7 @@ impl<'a> Grouping<'a> {
         let columns = new_columns(alloc, query.aggs.as_slice(), keys.len())?;
         Ok(Grouping {
             keys,
-            memo: Memo::new(alloc, common),
+            memo: Memo::new(alloc),
             columns,
             ids: Vec::new(alloc),
         })

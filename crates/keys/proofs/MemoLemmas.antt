@@ -1,7 +1,7 @@
 -- What is remembered of keys stays true while keys come.
 use Rattle.std.proofs.Common.{◌≡◌, ◌∙◌, ℕ, zero, suc, ◌<◌, true, false, List, [], ◌∷◌, ◌++◌, ◌+◌, ◌-◌, take, length, map, get_or, replicate, Option, Some, None, Result, Ok, Err, IfOk, ℤ, pos, negsuc, refl, sym, ap, subst, arith}
-use Rattle.std.specs.Prelude.{All, OnOk, slice_get, slice_index_or, slice_set, unwrap_or}
-use Rattle.std.proofs.lemmas.List.{get_or-map, length-map, length-replicate, map-append, take_more, get_or-set_same, get_or-set_other, length-set}
+use Rattle.std.specs.Prelude.{All, OnOk, slice_get, slice_index_or, slice_set}
+use Rattle.std.proofs.lemmas.List.{get_or-map, length-map, map-append, take_more, get_or-set_same, get_or-set_other, length-set}
 use Rattle.std.proofs.lemmas.List.Elements.{All-get_or}
 use Rattle.std.proofs.lemmas.Bool.Decides.{nat_tests}
 use Rattle.std.proofs.lemmas.List.Sums.{fold_push}
@@ -12,13 +12,13 @@ use Rattle.std.proofs.lemmas.Option.{slice_get_within}
 use Rattle.indexmap.specs.IndexSet.{insert_key}
 use Rattle.arrays.specs.Batch.{Batch, row_of}
 use Rattle.arrays.specs.Dictionary.{codes_of, dictionary_of, encoded, is_code, looked_up}
-use Rattle.arrays.specs.Item.{Item, null, int, text}
+use Rattle.arrays.specs.Item.{Item, null, int}
 use Rattle.arrays.specs.Kind as kind
 use Rattle.arrays.specs.Number.{natural}
 use Rattle.arrays.specs.Seen.{Seen}
 use Rattle.arrays.specs.Slot.{item_of}
 use Rattle.keys.specs.Keys.{key_of, AreIds, keys_at, with_keys}
-use Rattle.keys.specs.Memo.{AreCommon, AreKeys, IsInterned, IsRemembered, Knows, KnowsEntries, KnowsItems, Remembers}
+use Rattle.keys.specs.Memo.{AreKeys, IsInterned, IsRemembered, Knows, KnowsEntries, KnowsItems, Remembers}
 use Rattle.keys.specs.Same.{same_key}
 use Rattle.keys.specs.declared.memo.Memo.{Memo}
 use Rattle.keys.proofs.KeyLemmas.{Keys, inserted, is_among, ids-push, slice_get-append}
@@ -52,63 +52,14 @@ items-kept keys k items known h = record {
   each = λ c. remembered-kept keys k (slice_index_or items c null ∷ []) (slice_index_or known c None) (h.each c);
 }
 
-pub items-more : (keys more : Keys) (items : List Item) (known : List (Option ℕ)) → KnowsItems keys items known → KnowsItems (with_keys keys more) items known
-items-more keys more items known h = record {
-  room = h.room;
-  each = λ c. remembered-more keys more (slice_index_or items c null ∷ []) (slice_index_or known c None) (h.each c);
-}
-
 pub remembers-kept : (keys : Keys) (k : List Item) (m : Memo) → Remembers keys m → Remembers (insert_key same_key keys k) m
 remembers-kept keys k m h = record {
   null = remembered-kept keys k (null ∷ []) m.null h.null;
-  common = λ are. items-kept keys k (map text m.common.now) m.entries.items (h.common are);
 }
 
 pub remembers-more : (keys more : Keys) (m : Memo) → Remembers keys m → Remembers (with_keys keys more) m
 remembers-more keys more m h = record {
   null = remembered-more keys more (null ∷ []) m.null h.null;
-  common = λ are. items-more keys more (map text m.common.now) m.entries.items (h.common are);
-}
-
--- ---- another dictionary
-
-abbrev nothing : Option ℕ
-nothing = None
-
-blank : (n c : ℕ) → slice_index_or (replicate n nothing) c nothing ≡ nothing
-blank zero c = refl
-blank (suc n) zero = refl
-blank (suc n) (suc c) = blank n c
-
-none_known : (keys : Keys) (items : List Item) → KnowsItems keys items (replicate (length items) None)
-none_known keys items = record {
-  room = sym (length-replicate (length items) None);
-  each = λ c. subst (IsRemembered keys (slice_index_or items c null ∷ [])) (sym (blank (length items) c)) tt;
-}
-
--- The memo n remembers what m does of null, and nothing of these entries.
-pub record IsBegun (m n : Memo) (items : List Item) : Type 0 where
-  pub null : n.null ≡ m.null
-  pub entries : n.entries.items ≡ replicate (length items) None
-  pub are : AreCommon items n
-
-pub begun : (keys : Keys) (m n : Memo) (items : List Item) → IsBegun m n items → Remembers keys m → Remembers keys n × Knows keys items n
-begun keys m n items is h =
-    let knows = subst (KnowsItems keys items) (sym is.entries) (none_known keys items) in (
-      record {
-        null = subst (IsRemembered keys (null ∷ [])) (sym is.null) h.null;
-        common = λ are. subst (λ l. KnowsItems keys l n.entries.items) (is.are are) knows;
-      },
-      (knows, is.are),
-    )
-
--- The entries of the one column for keys are these.
-pub entries_of : (keys : Keys) (b : Batch) (by : List ℕ) (view : Seen) (m : Memo) → length by ≡ 1 → slice_get b.columns (get_or by 0 0) ≡ Some view
-    → Knows keys view.entries.items m → KnowsEntries keys b by m
-entries_of keys b by view m one at knows = record {
-  each = λ place c is there dict.
-      let same : Some view ≡ Some c = sym at ∙ ap (λ (l : List ℕ). slice_get b.columns (get_or l 0 0)) is ∙ there in
-      subst (λ (s : Seen). Knows keys s.entries.items m) (ap (λ o. unwrap_or o view) same) knows;
 }
 
 -- What is known of the entries of a batch is known of those of its one column for keys.
@@ -163,7 +114,6 @@ step_null r keys new m now key is h f = go r (f (subst (λ k. IsRemembered keys 
     k.0,
     record {
       null = subst (λ k. IsRemembered new k now) is k.1;
-      common = λ are. (subst (λ (l : Keys). Remembers l m) (sym k.0.keys_are) (remembers-kept keys key m h)).common are;
     },
   )
   go (Err e) k = tt
@@ -178,31 +128,27 @@ step_no_entry r keys new m now key items is h knows f = go r (step_null r keys n
   go (Ok x) k = (
     k.0,
     k.1,
-    (subst (λ (l : Keys). KnowsItems l items m.entries.items) (sym k.0.keys_are) (items-kept keys key items m.entries.items knows.0), knows.1),
+    subst (λ (l : Keys). KnowsItems l items m.entries.items) (sym k.0.keys_are) (items-kept keys key items m.entries.items knows),
   )
   go (Err e) k = tt
 
 -- A memo that differs from another in the id of one entry alone.
 pub record IsSet (m n : Memo) (place : ℕ) (now : Option ℕ) : Type 0 where
   pub null : n.null ≡ m.null
-  pub are : n.are_common ≡ m.are_common
-  pub common : n.common.now ≡ m.common.now
   pub entries : n.entries.items ≡ slice_set m.entries.items place now
 
 set_known : (keys new : Keys) (m n : Memo) (key items : List Item) (place : ℕ) (now : Option ℕ) → IsSet m n place now → key ≡ slice_index_or items place null ∷ []
     → Knows keys items m → place < length m.entries.items → new ≡ insert_key same_key keys key → IsRemembered new key now → Knows new items n
 set_known keys new m n key items place now set is knows within more known =
-    let kept = subst (λ (l : Keys). KnowsItems l items m.entries.items) (sym more) (items-kept keys key items m.entries.items knows.0) in (
-      subst (KnowsItems new items) (sym set.entries) (items-set new items m.entries.items place now kept within (subst (λ k. IsRemembered new k now) is known)),
-      λ are. knows.1 (sym set.are ∙ are) ∙ ap (map text) (sym set.common),
-    )
+    let kept = subst (λ (l : Keys). KnowsItems l items m.entries.items) (sym more) (items-kept keys key items m.entries.items knows) in
+    subst (KnowsItems new items) (sym set.entries) (items-set new items m.entries.items place now kept within (subst (λ k. IsRemembered new k now) is known))
 
 pub step_entry : {E : Type 0} (r : Result ℕ E) (keys new : Keys) (m n : Memo) (key items : List Item) (place : ℕ) (old now : Option ℕ) → key ≡ slice_index_or items place null ∷ []
     → Remembers keys m → Knows keys items m → place < length m.entries.items → old ≡ slice_index_or m.entries.items place None
     → IsSet m n place now → (IsRemembered keys key old → IfOk r (λ x. IsInterned keys new key x × IsRemembered new key now))
     → IfOk r (λ x. IsInterned keys new key x × Remembers new n × Knows new items n)
 step_entry r keys new m n key items place old now is h knows within at set f =
-    go r (f (subst (λ k. IsRemembered keys k old) (sym is) (subst (IsRemembered keys (slice_index_or items place null ∷ [])) (sym at) (knows.0.each place)))) where
+    go r (f (subst (λ k. IsRemembered keys k old) (sym is) (subst (IsRemembered keys (slice_index_or items place null ∷ [])) (sym at) (knows.each place)))) where
       go : {E : Type 0} (r : Result ℕ E) → IfOk r (λ x. IsInterned keys new key x × IsRemembered new key now)
           → IfOk r (λ x. IsInterned keys new key x × Remembers new n × Knows new items n)
       go (Ok x) k =
@@ -211,7 +157,6 @@ step_entry r keys new m n key items place old now is h knows within at set f =
             k.0,
             record {
               null = subst (IsRemembered new (null ∷ [])) (sym set.null) kept.null;
-              common = λ are. subst (λ l. KnowsItems new l n.entries.items) (known.1 are) known.0;
             },
             known,
           )

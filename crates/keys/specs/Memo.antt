@@ -1,8 +1,8 @@
 -- What is remembered of the ids of keys.
-use Rattle.std.specs.Prelude.{◌≡◌, ◌<◌, ℕ, List, [], ◌∷◌, Option, Some, None, length, map, slice_get, slice_index_or, true, ⊤}
+use Rattle.std.specs.Prelude.{◌≡◌, ◌<◌, ℕ, List, [], ◌∷◌, Option, Some, None, length, slice_get, slice_index_or, ⊤}
 use Rattle.indexmap.specs.IndexSet.{insert_key}
 use Rattle.arrays.specs.Batch.{Batch, row_of}
-use Rattle.arrays.specs.Item.{Item, null, text}
+use Rattle.arrays.specs.Item.{Item, null}
 use Rattle.arrays.specs.Kind as kind
 use Rattle.arrays.specs.Seen.{Seen}
 use Rattle.keys.specs.Keys.{key_of}
@@ -19,18 +19,13 @@ pub record KnowsItems (keys : List (List Item)) (items : List Item) (known : Lis
   pub room : length items ≡ length known
   pub each : (c : ℕ) → IsRemembered keys (slice_index_or items c null ∷ []) (slice_index_or known c None)
 
--- What is remembered of null is true, whatever batch it came in, and so is what is remembered of the common texts.
+-- What is remembered of null is true, whatever batch it came in.
 pub record Remembers (keys : List (List Item)) (m : Memo) : Type 0 where
   pub null : IsRemembered keys (null ∷ []) m.null
-  pub common : m.are_common ≡ true → KnowsItems keys (map text m.common.now) m.entries.items
-
--- The entries are the common texts, where it is these of which something is remembered.
-abbrev pub AreCommon : List Item → Memo → Type 0
-AreCommon items m = m.are_common ≡ true → items ≡ map text m.common.now
 
 -- It is these entries of which something is remembered, and it is true.
 abbrev pub Knows : List (List Item) → List Item → Memo → Type 0
-Knows keys items m = KnowsItems keys items m.entries.items × AreCommon items m
+Knows keys items m = KnowsItems keys items m.entries.items
 
 -- The same of the entries of a batch's dictionary, where its rows are put into groups by one dictionary-encoded column.
 pub record KnowsEntries (keys : List (List Item)) (b : Batch) (by : List ℕ) (m : Memo) : Type 0 where

@@ -18,7 +18,7 @@ use colbits::NoMemory;
 /// Puts the id of each row's key there, whose one item is the row's in this column.
 pub(crate) fn intern_codes(
     keys: &mut KeySet<'_>,
-    memo: &mut Memo<'_>,
+    memo: &mut Memo,
     ids: &mut Vec<usize>,
     columns: &KeyColumns<'_>,
     rows: &[usize],
@@ -49,7 +49,7 @@ pub(crate) fn intern_codes(
 #[inline(always)]
 fn intern_slot(
     keys: &mut KeySet<'_>,
-    memo: &mut Memo<'_>,
+    memo: &mut Memo,
     entries: &View<'_>,
     columns: &KeyColumns<'_>,
     row: usize,
@@ -73,7 +73,7 @@ fn intern_slot(
 #[inline(always)]
 fn intern_code(
     keys: &mut KeySet<'_>,
-    memo: &mut Memo<'_>,
+    memo: &mut Memo,
     entries: &View<'_>,
     code: i128,
 ) -> Result<usize, NoMemory>

@@ -1,14 +1,13 @@
 //! What is remembered of the ids of keys, so that most rows need no look at the keys themselves.
 
-ghost use Rattle.std.specs.Prelude.{◌≡◌, ◌∷◌, ◌<◌, [], IfOk, List, None, OnOk, length, map, slice_index_or, true};
-ghost use Rattle.arrays.specs.Item.{Item, null, text};
+ghost use Rattle.std.specs.Prelude.{◌≡◌, ◌∷◌, ◌<◌, [], IfOk, List, None, OnOk, length, slice_index_or};
+ghost use Rattle.arrays.specs.Item.{Item, null};
 ghost use Rattle.arrays.specs.Kind as kind;
 ghost use Rattle.keys.specs.Keys.{key_in};
-ghost use Rattle.keys.specs.Memo.{IsInterned, IsRemembered, Knows, KnowsEntries, Remembers};
+ghost use Rattle.keys.specs.Memo.{IsInterned, IsRemembered, KnowsEntries, Remembers};
 
 use crate::columns::KeyColumns;
 use crate::key_set::KeySet;
-use crate::text_set::TextSet;
 use arrays::{View, ViewType};
 use colbits::NoMemory;
 use evaluate::column::column_at;
@@ -16,27 +15,21 @@ use std::alloc::Global;
 
 /// The ids of keys of one item each.
 #[derive(Drop)]
-pub struct Memo<'a> {
+pub struct Memo {
     /// That of the key of null.
     pub(crate) null: Option<usize>,
     /// Those of the keys of a dictionary's entries, by their codes.
     pub(crate) entries: Vec<Option<usize>>,
-    /// Texts that are likely to be the entries in many batches.
-    pub(crate) common: &'a TextSet,
-    /// Whether they are the entries.
-    pub(crate) are_common: bool,
 }
 
-impl<'a> Memo<'a> {
+impl Memo {
     /// Nothing is remembered.
-    pub fn new(alloc: Global, common: &'a TextSet) -> Memo<'a>
+    pub fn new(alloc: Global) -> Memo
         ensures { (keys : List (List Item)) → Remembers keys result }
     {
         Memo {
             null: None,
             entries: Vec::new(alloc),
-            common,
-            are_common: false,
         }
     }
 
@@ -47,42 +40,15 @@ impl<'a> Memo<'a> {
         ensures entries { (keys : List (List Item)) → Remembers keys self.old
             → OnOk result (KnowsEntries keys columns.now.batch.now columns.now.by.now self.new) }
     {
+        self.entries.clear();
         if columns.by.len() == 1 {
             let view = column_at(columns.batch, columns.by[0]);
             if let ViewType::Dict = view.ty() {
-                return self.begin_entries(&view.entries(), columns.batch.rows() as usize);
+                self.entries.resize(view.entries().len(), None)?;
             }
         }
-        self.are_common = false;
-        self.entries.clear();
         Ok(())
     }
-
-    /// Makes room for the ids of these entries, unless those before were the same.
-    fn begin_entries(&mut self, entries: &View<'_>, rows: usize) -> Result<(), NoMemory>
-        requires utf8 { entries.now.kind ≡ kind.utf8 }
-        ensures { (keys : List (List Item)) → Remembers keys self.old
-            → OnOk result (Remembers keys self.new × Knows keys entries.now.items self.new) }
-    {
-        let are_common = are_texts(self.common, entries, rows);
-        if are_common && self.are_common {
-            return Ok(());
-        }
-        self.are_common = false;
-        self.entries.clear();
-        self.entries.resize(entries.len(), None)?;
-        self.are_common = are_common;
-        Ok(())
-    }
-}
-
-/// Whether these texts are the entries of a dictionary of so many rows, unless there are more entries than rows: to look at them takes
-/// longer than it spares then.
-fn are_texts(texts: &TextSet, entries: &View<'_>, rows: usize) -> bool
-    requires utf8 { entries.now.kind ≡ kind.utf8 }
-    ensures { result ≡ true → entries.now.items ≡ map text texts.now }
-{
-    entries.len() <= rows && texts.are_entries(entries)
 }
 
 /// The id of a row's key: the one that is known, or else the one that it has or gets, which is known then.

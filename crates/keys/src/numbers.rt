@@ -16,7 +16,7 @@ use types::with_integer;
 /// Puts the id of each row's key there, whose one item is the row's in this column.
 pub(crate) fn intern_numbers(
     keys: &mut KeySet<'_>,
-    memo: &mut Memo<'_>,
+    memo: &mut Memo,
     ids: &mut Vec<usize>,
     columns: &KeyColumns<'_>,
     rows: &[usize],
@@ -41,7 +41,7 @@ pub(crate) fn intern_numbers(
 /// The same, for a column of type `T`.
 fn intern_as<T: Integer>(
     keys: &mut KeySet<'_>,
-    memo: &mut Memo<'_>,
+    memo: &mut Memo,
     ids: &mut Vec<usize>,
     columns: &KeyColumns<'_>,
     rows: &[usize],
@@ -69,7 +69,7 @@ fn intern_as<T: Integer>(
 #[inline(always)]
 fn intern_item(
     keys: &mut KeySet<'_>,
-    memo: &mut Memo<'_>,
+    memo: &mut Memo,
     columns: &KeyColumns<'_>,
     row: usize,
     number: Option<i128>,

@@ -2,9 +2,7 @@
 
 ghost use Rattle.std.specs.Prelude.{◌≡◌, ◌∷◌, ◌<◌, ◌≤◌, [], IfOk, None, OnErr, OnOk, Some, length, map, slice_get};
 ghost use Rattle.std.specs.Option.{ForSome};
-ghost use Rattle.std.specs.List.{IsDistinct};
 ghost use Rattle.indexmap.specs.IndexSet.{insert_key};
-ghost use Rattle.keys.specs.Parts.{same_part};
 ghost use Rattle.keys.specs.PartSets.{one, parts_listed, parts_of_code, parts_shown, parts_stored, same_parts};
 
 use crate::code_set::CodeSet;

@@ -16,7 +16,7 @@ use evaluate::column::column_at;
 /// Puts the id of each row's key in place of what was there. A key that is new is put at the end.
 pub fn intern_rows(
     keys: &mut KeySet<'_>,
-    memo: &mut Memo<'_>,
+    memo: &mut Memo,
     ids: &mut Vec<usize>,
     columns: &KeyColumns<'_>,
     rows: &[usize],

@@ -1,13 +1,11 @@
 //! Texts, each once.
 
-ghost use Rattle.std.specs.Prelude.{◌≡◌, ◌<◌, ◌^◌, ◌++◌, ◌∷◌, [], None, OnErr, OnOk, Some, false, length, map, slice_get, true};
+ghost use Rattle.std.specs.Prelude.{◌≡◌, ◌<◌, ◌^◌, ◌++◌, ◌∷◌, [], None, OnErr, OnOk, Some, false, length, map, slice_get};
 ghost use Rattle.std.specs.Option.{ForSome, option_copied};
 ghost use Rattle.std.specs.List.{IsDistinct, list_any};
 ghost use Rattle.std.specs.Str.{bytes_eq};
 ghost use Rattle.arrays.specs.Item.{text};
-ghost use Rattle.arrays.specs.Kind as kind;
 
-use arrays::View;
 use colbits::NoMemory;
 use indexmap::IndexSet;
 use std::alloc::Global;
@@ -60,22 +58,6 @@ impl TextSet {
             Some(text) => Some(text.as_str()),
             None => None,
         }
-    }
-
-    /// Whether they are the entries of a dictionary, one by one.
-    pub(crate) fn are_entries(&self, entries: &View<'_>) -> bool
-        requires utf8 { entries.now.kind ≡ kind.utf8 }
-        ensures { result ≡ true → entries.now.items ≡ map text self.now }
-    {
-        if entries.len() != self.len() {
-            return false;
-        }
-        for i in 0..self.len() {
-            if entries.utf8_at(i) != self.text_at(i) {
-                return false;
-            }
-        }
-        true
     }
 
     /// The place of a text, none where it isn't there.

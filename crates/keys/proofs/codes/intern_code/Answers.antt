@@ -31,5 +31,5 @@ returns c = λ h knows.
     let now = c.recall_entry.new.known in
     let new = c.recall_entry.new.keys in
     step_entry c.recall_entry.result c.args.keys.now new m _ key items place old now is h knows
-    below (c.index_mut.ensures.value ∙ get_or_default m.entries.items place old None below) (record { null = refl; are = refl; common = refl; entries = refl })
+    below (c.index_mut.ensures.value ∙ get_or_default m.entries.items place old None below) (record { null = refl; entries = refl })
     (subst (λ k. IsRemembered c.args.keys.now k old → IfOk c.recall_entry.result (λ x. IsInterned c.args.keys.now new k x × IsRemembered new k now)) (sym is) c.recall_entry.ensures)

@@ -16,7 +16,7 @@ intern_slot-requires-clause-code c =
     (ap (λ (s : Seen). length s.items) (sym c.entries-entries.ensures))
 
 pub intern_slot-requires-clause-room : goal.intern_slot-requires-clause-room
-intern_slot-requires-clause-room c = ap (λ (s : Seen). length s.items) c.entries-entries.ensures ∙ c.loop-row.invariant.3.0.room
+intern_slot-requires-clause-room c = ap (λ (s : Seen). length s.items) c.entries-entries.ensures ∙ c.loop-row.invariant.3.room
 
 pub loop-row-preserved : goal.loop-row-preserved
 loop-row-preserved c =
