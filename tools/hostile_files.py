@@ -58,31 +58,34 @@ COSTS = [
 
 MOST = 2147483647
 ITEM = {"name": "item", "nullable": True, "type": {"name": "int", "bitWidth": 8, "isSigned": True}, "children": []}
-TYPES = {"int": INT32, "bool": {"name": "bool"}, "utf8": {"name": "utf8"}, "list": {"name": "list"}}
+TYPES = {"int": INT32, **{name: {"name": name} for name in ("bool", "utf8", "largeutf8", "list", "largelist")}}
 PLACE = "/batches/0/columns/0"
 
 
 def field(name):
-    return {"name": "n", "nullable": True, "type": TYPES[name], "children": [ITEM] if name == "list" else []}
+    return {"name": "n", "nullable": True, "type": TYPES[name], "children": [ITEM] if name in ("list", "largelist") else []}
 
 
 def stated_columns():
     """The type, how many rows the batch states, the column, and what is told of it."""
-    for name in ("int", "bool", "utf8"):
+    for name in ("int", "bool", "utf8", "largeutf8"):
         yield name, MOST, {"count": MOST, "DATA": []}, f"J7 CountDiffers at {PLACE}/DATA"
         yield name, MOST, {"count": MOST, "VALIDITY": [], "DATA": []}, f"J7 CountDiffers at {PLACE}/VALIDITY"
         yield name, MOST, {"count": MOST}, f"J2 MissingMember at {PLACE}/DATA"
         yield name, 0, {"count": MOST, "DATA": []}, f"J7 CountDiffers at {PLACE}/count"
     none = {"name": "item", "count": 0, "VALIDITY": [], "DATA": []}
     most = {"name": "item", "count": MOST, "DATA": []}
-    yield "list", MOST, {"count": MOST, "OFFSET": [], "children": [none]}, f"J7 CountDiffers at {PLACE}/OFFSET"
-    yield "list", MOST, {"count": MOST, "OFFSET": [0], "children": [none]}, f"J7 CountDiffers at {PLACE}/OFFSET"
-    yield "list", MOST, {"count": MOST, "VALIDITY": [], "OFFSET": [0], "children": [none]}, f"J7 CountDiffers at {PLACE}/VALIDITY"
-    yield "list", 1, {"count": 1, "OFFSET": [0, MOST], "children": [none]}, f"J10 Layout V6 OffsetPastEnd at {PLACE}"
-    yield "list", 1, {"count": 1, "OFFSET": [MOST, MOST], "children": [none]}, f"J10 Layout V6 OffsetPastEnd at {PLACE}"
+    for name in ("list", "largelist"):
+        yield name, MOST, {"count": MOST, "OFFSET": [], "children": [none]}, f"J7 CountDiffers at {PLACE}/OFFSET"
+        yield name, MOST, {"count": MOST, "OFFSET": [0], "children": [none]}, f"J7 CountDiffers at {PLACE}/OFFSET"
+        yield name, MOST, {"count": MOST, "VALIDITY": [], "OFFSET": [0], "children": [none]}, f"J7 CountDiffers at {PLACE}/VALIDITY"
+        yield name, 1, {"count": 1, "OFFSET": [0, MOST], "children": [none]}, f"J10 Layout V6 OffsetPastEnd at {PLACE}"
+        yield name, 1, {"count": 1, "OFFSET": [MOST, MOST], "children": [none]}, f"J10 Layout V6 OffsetPastEnd at {PLACE}"
+        yield name, 0, {"count": 0, "OFFSET": [], "children": [most]}, f"J7 CountDiffers at {PLACE}/children/0/DATA"
+        yield name, 1, {"count": 1, "OFFSET": [0, MOST], "children": [most]}, f"J7 CountDiffers at {PLACE}/children/0/DATA"
     yield "list", 1, {"count": 1, "OFFSET": [0, MOST + 1], "children": [none]}, f"J6 BadOffset at {PLACE}/OFFSET/1"
-    yield "list", 0, {"count": 0, "OFFSET": [], "children": [most]}, f"J7 CountDiffers at {PLACE}/children/0/DATA"
-    yield "list", 1, {"count": 1, "OFFSET": [0, MOST], "children": [most]}, f"J7 CountDiffers at {PLACE}/children/0/DATA"
+    yield "largelist", 1, {"count": 1, "OFFSET": [0, str(MOST + 1)], "children": [none]}, f"J10 Layout V6 OffsetPastEnd at {PLACE}"
+    yield "largelist", 1, {"count": 1, "OFFSET": [0, str(2 ** 63)], "children": [none]}, f"J6 BadOffset at {PLACE}/OFFSET/1"
 
 
 def stated_dictionaries():

@@ -27,7 +27,7 @@ def cases():
     """The words of each case."""
     query = '{"filter":{"op":"lt","args":[{"column":"people"},{"int":200000}]},"by":["city"],"aggs":[{"agg":"rows"},{"agg":"sum","column":"people"}]}'
     yield ["--help"]
-    for name in ("primitive.json", "mixed.json", "lists.json", "dictionaries.json"):
+    for name in ("primitive.json", "mixed.json", "lists.json", "dictionaries.json", "large.json"):
         yield ["stats", example(name)]
         yield ["export", example(name)]
     for workers in ("1", "2", "4"):

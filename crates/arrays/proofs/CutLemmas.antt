@@ -5,6 +5,7 @@ use Rattle.std.proofs.lemmas.List.{drop-append-le, take-append-le, drop-drop, ni
 use Rattle.std.proofs.lemmas.List.Elements.{All-append}
 use Rattle.std.proofs.lemmas.List.Sums.{sum_by-cons, sum_by_push}
 use Rattle.std.proofs.Math.Seq.{take-length}
+use Rattle.types.specs.declared.offset_width.OffsetWidth.{OffsetWidth}
 use Rattle.layout.specs.Item.{Item, null, text, list, list_of}
 use Rattle.arrays.specs.Growing.{cut_texts, AreTextsOf, IsText}
 use Rattle.arrays.specs.Lengths.{cut, total, text_length, text_bytes}
@@ -39,27 +40,27 @@ lists_cut (Some n ∷ ls) items = ap (λ xs. list (list_of (take n items)) ∷ x
 -- ---- cut by offsets
 
 -- How long slot j is, none where it isn't valid.
-abbrev pub slot_length : (ℕ → Bool) → List ℕ → ℕ → Option ℕ
-slot_length valid offsets j = cond (valid j) (Some (length_at offsets j)) None
+abbrev pub slot_length : OffsetWidth → (ℕ → Bool) → List ℕ → ℕ → Option ℕ
+slot_length w valid offsets j = cond (valid j) (Some (length_at w offsets j)) None
 
 -- Offsets that rise, by which a slot that isn't valid is empty.
-pub record Rises (valid : ℕ → Bool) (n : ℕ) (offsets : List ℕ) : Type 0 where
-  pub rising : (j : ℕ) → j < n → start_at offsets j ≤ start_at offsets (j + 1)
-  pub empty : (j : ℕ) → j < n → valid j ≡ false → length_at offsets j ≡ 0
+pub record Rises (w : OffsetWidth) (valid : ℕ → Bool) (n : ℕ) (offsets : List ℕ) : Type 0 where
+  pub rising : (j : ℕ) → j < n → start_at w offsets j ≤ start_at w offsets (j + 1)
+  pub empty : (j : ℕ) → j < n → valid j ≡ false → length_at w offsets j ≡ 0
 
 slot_total : (b : Bool) (l start end : ℕ) → l ≡ end - start → start ≤ end → (b ≡ false → l ≡ 0) → unwrap_or (cond b (Some l) None) 0 + start ≡ end
 slot_total true l start end is le empty = omega arith
 slot_total false l start end is le empty = let none = empty refl in omega arith
 
-pub total-from : (valid : ℕ → Bool) (offsets : List ℕ) (n : ℕ) → Rises valid n offsets → (d a : ℕ) → a + d ≡ n
-    → total (map (slot_length valid offsets) (range_with_len a d)) + start_at offsets a ≡ start_at offsets n
-total-from valid offsets n rises zero a e =
-    let same : start_at offsets a ≡ start_at offsets n = ap (start_at offsets) (omega arith) in
+pub total-from : (w : OffsetWidth) (valid : ℕ → Bool) (offsets : List ℕ) (n : ℕ) → Rises w valid n offsets → (d a : ℕ) → a + d ≡ n
+    → total (map (slot_length w valid offsets) (range_with_len a d)) + start_at w offsets a ≡ start_at w offsets n
+total-from w valid offsets n rises zero a e =
+    let same : start_at w offsets a ≡ start_at w offsets n = ap (start_at w offsets) (omega arith) in
     omega (arith, same)
-total-from valid offsets n rises (suc d) a e =
-    let here = slot_total (valid a) (length_at offsets a) (start_at offsets a) (start_at offsets (a + 1)) refl (rises.rising a (omega arith)) (rises.empty a (omega arith)) in
-    let there = total-from valid offsets n rises d (a + 1) (omega arith) in
-    let both = total-cons (slot_length valid offsets a) (map (slot_length valid offsets) (range_with_len (a + 1) d)) in
+total-from w valid offsets n rises (suc d) a e =
+    let here = slot_total (valid a) (length_at w offsets a) (start_at w offsets a) (start_at w offsets (a + 1)) refl (rises.rising a (omega arith)) (rises.empty a (omega arith)) in
+    let there = total-from w valid offsets n rises d (a + 1) (omega arith) in
+    let both = total-cons (slot_length w valid offsets a) (map (slot_length w valid offsets) (range_with_len (a + 1) d)) in
     omega (arith, here, there, both)
 
 slot_cut : {A X : Type 0} (wrap : List A → X) (x : X) (b : Bool) (l start end : ℕ) (ls : List (Option ℕ)) (values : List A) (out : List X) → l ≡ end - start → start ≤ end
@@ -72,14 +73,14 @@ slot_cut wrap x false l start end ls values out is le empty rest =
     let none = empty refl in
     ap (λ xs. x ∷ xs) (ap (λ s. cut_by wrap x ls (drop s values)) (omega arith) ∙ rest)
 
-pub cut-from : {A X : Type 0} (wrap : List A → X) (x : X) (valid : ℕ → Bool) (offsets : List ℕ) (n : ℕ) (values : List A) → Rises valid n offsets → (d a : ℕ) → a + d ≡ n
-    → cut_by wrap x (map (slot_length valid offsets) (range_with_len a d)) (drop (start_at offsets a) values)
-    ≡ map (λ j. cond (valid j) (wrap (slot_at offsets values j)) x) (range_with_len a d)
-cut-from wrap x valid offsets n values rises zero a e = refl
-cut-from wrap x valid offsets n values rises (suc d) a e =
-    slot_cut wrap x (valid a) (length_at offsets a) (start_at offsets a) (start_at offsets (a + 1)) (map (slot_length valid offsets) (range_with_len (a + 1) d)) values
-    (map (λ j. cond (valid j) (wrap (slot_at offsets values j)) x) (range_with_len (a + 1) d))
-    refl (rises.rising a (omega arith)) (rises.empty a (omega arith)) (cut-from wrap x valid offsets n values rises d (a + 1) (omega arith))
+pub cut-from : {A X : Type 0} (w : OffsetWidth) (wrap : List A → X) (x : X) (valid : ℕ → Bool) (offsets : List ℕ) (n : ℕ) (values : List A) → Rises w valid n offsets → (d a : ℕ) → a + d ≡ n
+    → cut_by wrap x (map (slot_length w valid offsets) (range_with_len a d)) (drop (start_at w offsets a) values)
+    ≡ map (λ j. cond (valid j) (wrap (slot_at w offsets values j)) x) (range_with_len a d)
+cut-from w wrap x valid offsets n values rises zero a e = refl
+cut-from w wrap x valid offsets n values rises (suc d) a e =
+    slot_cut wrap x (valid a) (length_at w offsets a) (start_at w offsets a) (start_at w offsets (a + 1)) (map (slot_length w valid offsets) (range_with_len (a + 1) d)) values
+    (map (λ j. cond (valid j) (wrap (slot_at w offsets values j)) x) (range_with_len (a + 1) d))
+    refl (rises.rising a (omega arith)) (rises.empty a (omega arith)) (cut-from w wrap x valid offsets n values rises d (a + 1) (omega arith))
 
 -- ---- a slot more
 
@@ -174,3 +175,9 @@ pub bytes_with : (ls : List (Option ℕ)) (bytes : List ℕ) (old : List Item) (
 bytes_with ls bytes old l x view_is texts same =
     let here : text_bytes old ≡ total ls = ap text_bytes (sym view_is ∙ texts_cut ls bytes) ∙ text_bytes-cut ls bytes (omega (arith, texts.whole)) in
     omega (arith, here, same, total-push ls l, sum_by_push text_length old x)
+
+-- .. so that one slot more adds its length to the bytes
+pub bytes_more : (ls : List (Option ℕ)) (bytes : List ℕ) (old : List Item) (l : Option ℕ) (x : Item) → cut_texts ls bytes ≡ old → AreTextsOf ls bytes → text_length x ≡ unwrap_or l 0
+    → text_bytes (old ++ x ∷ []) ≡ length bytes + unwrap_or l 0
+bytes_more ls bytes old l x view_is texts same =
+    sym (bytes_with ls bytes old l x view_is texts same) ∙ total-push ls l ∙ ap (λ n. n + unwrap_or l 0) texts.whole

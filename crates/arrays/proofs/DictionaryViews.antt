@@ -27,6 +27,7 @@ use Rattle.arrays.specs.Slot.{is_text}
 use Rattle.arrays.specs.ViewType.{view_kind}
 use Rattle.arrays.specs.declared.view.ViewType.{ViewType}
 use Rattle.arrays.specs.declared.view.ViewType.TheVariants as type
+use Rattle.types.specs.declared.offset_width.OffsetWidth.{OffsetWidth}
 use Rattle.arrays.specs.declared.view.View.TheInside.{Inside}
 use Rattle.layout.proofs.FirstFaultLemmas.{IsWhole, own_fault-whole}
 use Rattle.layout.proofs.OffsetLemmas.{fails-least_none}
@@ -249,19 +250,25 @@ dict_kind v s shows is = sym (kind_shown v s shows) ∙ ap view_kind is
 plain_type : (ty : ViewType) → (ty ≡ type.Dict → ⊥) → same_kind (view_kind ty) kind.dict ≡ false
 plain_type (type.Int t) h = refl
 plain_type type.Bool h = refl
-plain_type type.Utf8 h = refl
-plain_type (type.List item) h = refl
+plain_type (type.Text w) h = refl
+plain_type (type.List w item) h = refl
 plain_type type.Dict h = absurd (h refl)
 
 pub plain_kind : (v : Inside) (s : Seen) → show_view v ≡ s → (v.ty ≡ type.Dict → ⊥) → same_kind s.kind kind.dict ≡ false
 plain_kind v s shows h = subst (λ k. same_kind k kind.dict ≡ false) (kind_shown v s shows) (plain_type v.ty h)
 
-plain_texts : (k : Kind) → is_text k ≡ true → same_kind k kind.dict ≡ false → k ≡ kind.utf8
-plain_texts (kind.int t) h plain = cc
-plain_texts kind.boolean h plain = cc
-plain_texts kind.utf8 h plain = refl
-plain_texts (kind.list k) h plain = cc
-plain_texts kind.dict h plain = cc
+pub text_kind : (v : Inside) (s : Seen) (w : OffsetWidth) → show_view v ≡ s → v.ty ≡ type.Text w → s.kind ≡ kind.texts w
+text_kind v s w shows is = sym (kind_shown v s shows) ∙ ap view_kind is
 
-pub text_kind : (v : Inside) (s : Seen) → show_view v ≡ s → (v.ty ≡ type.Dict → ⊥) → is_text s.kind ≡ true → s.kind ≡ kind.utf8
-text_kind v s shows h text = plain_texts s.kind text (plain_kind v s shows h)
+text_type : (ty : ViewType) → ((w : OffsetWidth) → ty ≡ type.Text w → ⊥) → (ty ≡ type.Dict → ⊥) → is_text (view_kind ty) ≡ false
+text_type (type.Int t) h g = refl
+text_type type.Bool h g = refl
+text_type (type.Text w) h g = absurd (h w refl)
+text_type (type.List w item) h g = refl
+text_type type.Dict h g = absurd (g refl)
+
+-- a view of texts has a type of texts
+pub some_text : (v : Inside) (s : Seen) → show_view v ≡ s → ((w : OffsetWidth) → v.ty ≡ type.Text w → ⊥) → (v.ty ≡ type.Dict → ⊥) → is_text s.kind ≡ true → ⊥
+some_text v s shows h g text =
+    let no : is_text s.kind ≡ false = sym (ap is_text (kind_shown v s shows)) ∙ text_type v.ty h g in
+    false≢true (sym no ∙ text)

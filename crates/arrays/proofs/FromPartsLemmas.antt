@@ -4,9 +4,11 @@ use Rattle.std.specs.List.{list_any, range_with_len}
 use Rattle.std.specs.Str.{is_utf8}
 use Rattle.std.proofs.lemmas.Str.{is_utf8-from_IsUtf8}
 use Rattle.types.specs.declared.int_type.IntType.{IntType}
+use Rattle.types.specs.declared.offset_width.OffsetWidth.{OffsetWidth}
 use Rattle.types.specs.Kind as kind
 use Rattle.layout.specs.declared.raw.RawArray.{RawArray}
-use Rattle.types.specs.Kind.{Kind, bytes_of, int32}
+use Rattle.types.specs.Kind.{Kind, bytes_of}
+use Rattle.types.specs.OffsetWidth.{offset_type, size_of}
 use Rattle.layout.specs.Layout.{Buffers, column, is_valid_in}
 use Rattle.types.specs.Number.{natural, number_at, is_negative}
 use Rattle.types.specs.First.{first}
@@ -72,18 +74,18 @@ not_below (pos a) (negsuc b) hx hy h = cc
 not_below (negsuc a) y hx hy h = cc
 
 -- what the tests of offsets tell
-pub record OffsetsPass (n : ℕ) (offsets : List ℕ) : Type 0 where
-  pub enough : are_offsets_short n offsets ≡ false
-  pub none_negative : list_any (λ j. is_negative (number_at int32 offsets j)) (range_with_len 0 (n + 1)) ≡ false
-  pub none_decreases : least_row (λ j. int_lt (number_at int32 offsets (j + 1)) (number_at int32 offsets j)) n ≡ None
+pub record OffsetsPass (w : OffsetWidth) (n : ℕ) (offsets : List ℕ) : Type 0 where
+  pub enough : are_offsets_short w n offsets ≡ false
+  pub none_negative : list_any (λ j. is_negative (number_at (offset_type w) offsets j)) (range_with_len 0 (n + 1)) ≡ false
+  pub none_decreases : least_row (λ j. int_lt (number_at (offset_type w) offsets (j + 1)) (number_at (offset_type w) offsets j)) n ≡ None
 
-pub offsets_pass : (n : ℕ) (offsets : List ℕ) (most : ℕ) → AreOffsetBytes n offsets most → OffsetsPass n offsets
-offsets_pass n offsets most are = record {
-  enough = rw (le-ltb (length offsets) (4 * (n + 1)) are.size) refl;
-  none_negative = any_none (λ j. is_negative (number_at int32 offsets j)) (n + 1) (λ j below. are.counted j (omega arith));
+pub offsets_pass : (w : OffsetWidth) (n : ℕ) (offsets : List ℕ) (most : ℕ) → AreOffsetBytes w n offsets most → OffsetsPass w n offsets
+offsets_pass w n offsets most are = record {
+  enough = rw (le-ltb (length offsets) ((n + 1) * size_of w) are.size) refl;
+  none_negative = any_none (λ j. is_negative (number_at (offset_type w) offsets j)) (n + 1) (λ j below. are.counted j (omega arith));
   none_decreases =
-      least_none (λ j. int_lt (number_at int32 offsets (j + 1)) (number_at int32 offsets j)) n
-      (λ j below. not_below (number_at int32 offsets j) (number_at int32 offsets (j + 1)) (are.counted j (omega arith)) (are.counted (j + 1) (omega arith)) (are.rising j below));
+      least_none (λ j. int_lt (number_at (offset_type w) offsets (j + 1)) (number_at (offset_type w) offsets j)) n
+      (λ j below. not_below (number_at (offset_type w) offsets j) (number_at (offset_type w) offsets (j + 1)) (are.counted j (omega arith)) (are.counted (j + 1) (omega arith)) (are.rising j below));
 }
 
 -- ---- texts
@@ -92,12 +94,12 @@ valid_text : (b : Bool) (bytes : List ℕ) → (b ≡ true → IsUtf8 bytes) →
 valid_text false bytes h = refl
 valid_text true bytes h = ap not (is_utf8-from_IsUtf8 bytes (h refl))
 
-own_fault-utf8 : (n : ℕ) (validity : Option (List ℕ)) (offsets bytes : List ℕ) → n ≤ most_slots → is_validity_short n validity ≡ false
-    → AreOffsetBytes n offsets (length bytes) → AreTexts n validity offsets bytes
-    → own_fault kind.utf8 n None (validity ∷ Some offsets ∷ Some bytes ∷ []) [] None ≡ None
-own_fault-utf8 n validity offsets bytes short valid are texts =
-    let pass = offsets_pass n offsets (length bytes) are in
-    own_fault-whole kind.utf8 n None (validity ∷ Some offsets ∷ Some bytes ∷ []) [] None record {
+own_fault-texts : (w : OffsetWidth) (n : ℕ) (validity : Option (List ℕ)) (offsets bytes : List ℕ) → n ≤ most_slots → is_validity_short n validity ≡ false
+    → AreOffsetBytes w n offsets (length bytes) → AreTexts w n validity offsets bytes
+    → own_fault (kind.texts w) n None (validity ∷ Some offsets ∷ Some bytes ∷ []) [] None ≡ None
+own_fault-texts w n validity offsets bytes short valid are texts =
+    let pass = offsets_pass w n offsets (length bytes) are in
+    own_fault-whole (kind.texts w) n None (validity ∷ Some offsets ∷ Some bytes ∷ []) [] None record {
       short = le-ltb most_slots n short;
       shallow = refl;
       none_missing = refl;
@@ -107,22 +109,22 @@ own_fault-utf8 n validity offsets bytes short valid are texts =
       data_enough = pass.enough;
       none_negative = pass.none_negative;
       none_decreases = pass.none_decreases;
-      within_end = le-ltb (length bytes) (start_at offsets n) are.last;
+      within_end = le-ltb (length bytes) (start_at w offsets n) are.last;
       count_agrees = refl;
       all_texts =
-          least_none (λ j. is_valid_in validity j && not (is_utf8 (slot_at offsets bytes j))) n
-          (λ j below. valid_text (is_valid_in validity j) (slot_at offsets bytes j) (texts.each j below));
+          least_none (λ j. is_valid_in validity j && not (is_utf8 (slot_at w offsets bytes j))) n
+          (λ j below. valid_text (is_valid_in validity j) (slot_at w offsets bytes j) (texts.each j below));
       all_codes = refl;
     }
 
-pub read_texts : (n : ℕ) (validity : Option (List ℕ)) (offsets bytes : List ℕ) → n ≤ most_slots → is_validity_short n validity ≡ false
-    → AreOffsetBytes n offsets (length bytes) → AreTexts n validity offsets bytes
-    → (read_parts kind.utf8 n None (validity ∷ Some offsets ∷ Some bytes ∷ []) [] None).fault ≡ None
+pub read_texts : (w : OffsetWidth) (n : ℕ) (validity : Option (List ℕ)) (offsets bytes : List ℕ) → n ≤ most_slots → is_validity_short n validity ≡ false
+    → AreOffsetBytes w n offsets (length bytes) → AreTexts w n validity offsets bytes
+    → (read_parts (kind.texts w) n None (validity ∷ Some offsets ∷ Some bytes ∷ []) [] None).fault ≡ None
 unfolding read_parts
-read_texts n validity offsets bytes short valid are texts =
-    ap (λ f. first (f ∷ None ∷ None ∷ [])) (own_fault-utf8 n validity offsets bytes short valid are texts)
+read_texts w n validity offsets bytes short valid are texts =
+    ap (λ f. first (f ∷ None ∷ None ∷ [])) (own_fault-texts w n validity offsets bytes short valid are texts)
 
-pub show_read_texts : (n : ℕ) (validity : Option (List ℕ)) (offsets bytes : List ℕ)
-    → (read_parts kind.utf8 n None (validity ∷ Some offsets ∷ Some bytes ∷ []) [] None).seen ≡ show_texts n validity offsets bytes
+pub show_read_texts : (w : OffsetWidth) (n : ℕ) (validity : Option (List ℕ)) (offsets bytes : List ℕ)
+    → (read_parts (kind.texts w) n None (validity ∷ Some offsets ∷ Some bytes ∷ []) [] None).seen ≡ show_texts w n validity offsets bytes
 unfolding read_parts column
-show_read_texts n validity offsets bytes = refl
+show_read_texts w n validity offsets bytes = refl

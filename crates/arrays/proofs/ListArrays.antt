@@ -1,10 +1,12 @@
 -- A list column over a child, made of parts that are known to be lawful.
-use Rattle.std.proofs.Common.{◌≡◌, ◌∙◌, ℕ, suc, ◌<◌, ◌≤◌, List, [], ◌∷◌, map, Bool, true, false, not, cond, length, Option, Some, None, option_map, ap, sym, refl, arith, le-ltb, eq-eqb}
+use Rattle.std.proofs.Common.{◌≡◌, ◌∙◌, ℕ, suc, ◌<◌, ◌≤◌, List, [], ◌∷◌, map, Bool, true, false, not, cond, ◌&&◌, length, Option, Some, None, option_map, ap, sym, refl, arith, le-ltb, eq-eqb}
 use Rattle.layout.specs.declared.fault.LayoutFault.{LayoutFault}
 use Rattle.layout.specs.declared.raw.RawArray.{RawArray, RawArray-F, roll-RawArray, out-roll-RawArray}
 use Rattle.std.specs.Arc.{arc_value}
+use Rattle.types.specs.declared.offset_width.OffsetWidth.{OffsetWidth}
+use Rattle.types.specs.declared.offset_width.OffsetWidth.TheVariants.{Narrow, Wide}
 use Rattle.types.specs.Kind as kind
-use Rattle.types.specs.Kind.{Kind, bytes_of, depth, kind_of, same_kind}
+use Rattle.types.specs.Kind.{Kind, bytes_of, depth, kind_of, same_kind, same_offsets}
 use Rattle.layout.specs.Seen.{Seen}
 use Rattle.layout.specs.Checked.{checked, checked_texts}
 use Rattle.arrays.specs.Array.{kind_with, read_array, show_array, words_with}
@@ -29,8 +31,8 @@ none_held : (k : Kind) (children : List Inner) (dictionary : Option Reading) →
     → do_parts_differ k children (option_map inner_of dictionary) ≡ false → dictionary ≡ None
 none_held (kind.int t) children dictionary other h = no_dictionary dictionary (either_false _ _ h).1
 none_held kind.boolean children dictionary other h = no_dictionary dictionary (either_false _ _ h).1
-none_held kind.utf8 children dictionary other h = no_dictionary dictionary (either_false _ _ h).1
-none_held (kind.list k) children dictionary other h = no_dictionary dictionary (either_false _ _ h).1
+none_held (kind.texts w) children dictionary other h = no_dictionary dictionary (either_false _ _ h).1
+none_held (kind.lists w k) children dictionary other h = no_dictionary dictionary (either_false _ _ h).1
 none_held kind.dict children dictionary other h = cc
 
 -- the parts of an array are read without its words
@@ -53,11 +55,16 @@ sign_same : (b : Bool) → cond b b (not b) ≡ true
 sign_same true = refl
 sign_same false = refl
 
-same_kind-refl : (k : Kind) → same_kind k k ≡ true
+same_offsets-refl : (w : OffsetWidth) → same_offsets w w ≡ true
+same_offsets-refl Narrow = refl
+same_offsets-refl Wide = refl
+
+-- a kind is the same as itself
+pub same_kind-refl : (k : Kind) → same_kind k k ≡ true
 same_kind-refl (kind.int t) = rw (eq-eqb (bytes_of t.bits) (bytes_of t.bits) refl) (sign_same t.signed)
 same_kind-refl kind.boolean = refl
-same_kind-refl kind.utf8 = refl
-same_kind-refl (kind.list k) = same_kind-refl k
+same_kind-refl (kind.texts w) = same_offsets-refl w
+same_kind-refl (kind.lists w k) = ap (λ b. b && same_kind k k) (same_offsets-refl w) ∙ same_kind-refl k
 same_kind-refl kind.dict = refl
 
 -- a child and the list's parts, as they were handed in
@@ -71,12 +78,12 @@ read_over k l m n buffers parts children raw child kind_is len_is buffers_are on
     ∙ ap (λ rs. read_parts l n None parts (map reading rs) None) one
     ∙ ap (λ r. read_parts l n None parts (r ∷ []) None) is
 
-own_fault-list : (n : ℕ) (validity : Option (List ℕ)) (offsets : List ℕ) (child : Seen) → n ≤ most_slots → is_validity_short n validity ≡ false
-    → AreOffsetBytes n offsets (length child.items) → same_kind child.kind kind.dict ≡ false → depth child.kind < 8
-    → own_fault (kind.list child.kind) n None (validity ∷ Some offsets ∷ []) (inner_of (checked child) ∷ []) None ≡ None
-own_fault-list n validity offsets child short valid are other shallow =
-    let pass = offsets_pass n offsets (length child.items) are in
-    own_fault-whole (kind.list child.kind) n None (validity ∷ Some offsets ∷ []) (inner_of (checked child) ∷ []) None record {
+own_fault-list : (w : OffsetWidth) (n : ℕ) (validity : Option (List ℕ)) (offsets : List ℕ) (child : Seen) → n ≤ most_slots → is_validity_short n validity ≡ false
+    → AreOffsetBytes w n offsets (length child.items) → same_kind child.kind kind.dict ≡ false → depth child.kind < 8
+    → own_fault (kind.lists w child.kind) n None (validity ∷ Some offsets ∷ []) (inner_of (checked child) ∷ []) None ≡ None
+own_fault-list w n validity offsets child short valid are other shallow =
+    let pass = offsets_pass w n offsets (length child.items) are in
+    own_fault-whole (kind.lists w child.kind) n None (validity ∷ Some offsets ∷ []) (inner_of (checked child) ∷ []) None record {
       short = le-ltb most_slots n short;
       shallow = le-ltb 8 (suc (depth child.kind)) (omega arith);
       none_missing = refl;
@@ -86,23 +93,23 @@ own_fault-list n validity offsets child short valid are other shallow =
       data_enough = pass.enough;
       none_negative = pass.none_negative;
       none_decreases = pass.none_decreases;
-      within_end = le-ltb (length child.items) (start_at offsets n) are.last;
+      within_end = le-ltb (length child.items) (start_at w offsets n) are.last;
       count_agrees = refl;
       all_texts = refl;
       all_codes = refl;
     }
 
-pub read_lists : (n : ℕ) (validity : Option (List ℕ)) (offsets : List ℕ) (child : Seen) → n ≤ most_slots → is_validity_short n validity ≡ false
-    → AreOffsetBytes n offsets (length child.items) → same_kind child.kind kind.dict ≡ false → depth child.kind < 8
-    → (read_parts (kind.list child.kind) n None (validity ∷ Some offsets ∷ []) (checked child ∷ []) None).fault ≡ None
+pub read_lists : (w : OffsetWidth) (n : ℕ) (validity : Option (List ℕ)) (offsets : List ℕ) (child : Seen) → n ≤ most_slots → is_validity_short n validity ≡ false
+    → AreOffsetBytes w n offsets (length child.items) → same_kind child.kind kind.dict ≡ false → depth child.kind < 8
+    → (read_parts (kind.lists w child.kind) n None (validity ∷ Some offsets ∷ []) (checked child ∷ []) None).fault ≡ None
 unfolding read_parts
-read_lists n validity offsets child short valid are other shallow =
-    ap (λ f. first (f ∷ None ∷ None ∷ [])) (own_fault-list n validity offsets child short valid are other shallow)
+read_lists w n validity offsets child short valid are other shallow =
+    ap (λ f. first (f ∷ None ∷ None ∷ [])) (own_fault-list w n validity offsets child short valid are other shallow)
 
-pub show_read_lists : (n : ℕ) (validity : Option (List ℕ)) (offsets : List ℕ) (child : Seen)
-    → (read_parts (kind.list child.kind) n None (validity ∷ Some offsets ∷ []) (checked child ∷ []) None).seen ≡ show_lists n validity offsets child
+pub show_read_lists : (w : OffsetWidth) (n : ℕ) (validity : Option (List ℕ)) (offsets : List ℕ) (child : Seen)
+    → (read_parts (kind.lists w child.kind) n None (validity ∷ Some offsets ∷ []) (checked child ∷ []) None).seen ≡ show_lists w n validity offsets child
 unfolding read_parts column
-show_read_lists n validity offsets child = refl
+show_read_lists w n validity offsets child = refl
 
 -- ---- lists of parts that are checked
 
@@ -116,18 +123,18 @@ own_fault-roll r =
     ap (λ (q : RawArray-F RawArray). own_fault (kind_of q.ty) q.length q.null_count q.buffers.items (inner_children q.children.items) (inner_dictionary q.dictionary)) (out-roll-RawArray r)
 
 -- a list over a lawful child has no fault but its own
-pub own_over : (r : RawArray-F RawArray) (below : RawArray) (k : Kind) (n : ℕ) (validity : Option (List ℕ)) (offsets : List ℕ) (child : Seen)
-    → kind_of r.ty ≡ kind.list k → r.length ≡ n → r.null_count ≡ None → r.buffers.items ≡ validity ∷ Some offsets ∷ [] → r.children.items ≡ below ∷ [] → r.dictionary ≡ None
-    → reading below ≡ checked child → own_fault_of (roll-RawArray r) ≡ (list_parts k n validity offsets child).fault
+pub own_over : (w : OffsetWidth) (r : RawArray-F RawArray) (below : RawArray) (k : Kind) (n : ℕ) (validity : Option (List ℕ)) (offsets : List ℕ) (child : Seen)
+    → kind_of r.ty ≡ kind.lists w k → r.length ≡ n → r.null_count ≡ None → r.buffers.items ≡ validity ∷ Some offsets ∷ [] → r.children.items ≡ below ∷ [] → r.dictionary ≡ None
+    → reading below ≡ checked child → own_fault_of (roll-RawArray r) ≡ (list_parts w k n validity offsets child).fault
 unfolding read_parts
-own_over r below k n validity offsets child kind_is len_is unstated buffers_are one wordless is =
+own_over w r below k n validity offsets child kind_is len_is unstated buffers_are one wordless is =
     let parts = validity ∷ Some offsets ∷ [] in
     own_fault-roll r
     ∙ ap (λ l. own_fault l r.length r.null_count r.buffers.items (inner_children r.children.items) (inner_dictionary r.dictionary)) kind_is
-    ∙ ap (λ m. own_fault (kind.list k) m r.null_count r.buffers.items (inner_children r.children.items) (inner_dictionary r.dictionary)) len_is
-    ∙ ap (λ stated. own_fault (kind.list k) n stated r.buffers.items (inner_children r.children.items) (inner_dictionary r.dictionary)) unstated
-    ∙ ap (λ b. own_fault (kind.list k) n None b (inner_children r.children.items) (inner_dictionary r.dictionary)) buffers_are
-    ∙ ap (λ cs. own_fault (kind.list k) n None parts (inner_children cs) (inner_dictionary r.dictionary)) one
-    ∙ ap (λ d. own_fault (kind.list k) n None parts (inner_children (below ∷ [])) (inner_dictionary d)) wordless
-    ∙ ap (λ c. own_fault (kind.list k) n None parts (c ∷ []) None) (sym (held-reading below) ∙ ap inner_of is)
-    ∙ alone (own_fault (kind.list k) n None parts (inner_of (checked child) ∷ []) None)
+    ∙ ap (λ m. own_fault (kind.lists w k) m r.null_count r.buffers.items (inner_children r.children.items) (inner_dictionary r.dictionary)) len_is
+    ∙ ap (λ stated. own_fault (kind.lists w k) n stated r.buffers.items (inner_children r.children.items) (inner_dictionary r.dictionary)) unstated
+    ∙ ap (λ b. own_fault (kind.lists w k) n None b (inner_children r.children.items) (inner_dictionary r.dictionary)) buffers_are
+    ∙ ap (λ cs. own_fault (kind.lists w k) n None parts (inner_children cs) (inner_dictionary r.dictionary)) one
+    ∙ ap (λ d. own_fault (kind.lists w k) n None parts (inner_children (below ∷ [])) (inner_dictionary d)) wordless
+    ∙ ap (λ c. own_fault (kind.lists w k) n None parts (c ∷ []) None) (sym (held-reading below) ∙ ap inner_of is)
+    ∙ alone (own_fault (kind.lists w k) n None parts (inner_of (checked child) ∷ []) None)

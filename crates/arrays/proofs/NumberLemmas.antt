@@ -18,8 +18,8 @@ int_kind v s int shows is = sym (kind_shown v s shows) ∙ ap view_kind is
 int_type : (ty : ViewType) → ((int : IntType) → ty ≡ type.Int int → ⊥) → is_int (view_kind ty) ≡ false
 int_type (type.Int t) h = absurd (h t refl)
 int_type type.Bool h = refl
-int_type type.Utf8 h = refl
-int_type (type.List item) h = refl
+int_type (type.Text w) h = refl
+int_type (type.List w item) h = refl
 int_type type.Dict h = refl
 
 -- a view of numbers has a type of numbers

@@ -1,5 +1,5 @@
 -- The values of a view, as they lie in its buffers.
-use Rattle.std.proofs.Common.{◌≡◌, ◌∙◌, ℕ, ◌+◌, ◌*◌, ◌<◌, ◌≤◌, ◌&&◌, List, [], ◌∷◌, map, slice_index_or, slice_get, get_or, Bool, true, false, not, length, cond, Some, None, Option, option_map, IsUtf8, ap, sym, refl, subst, arith, zero-add, ltb-false}
+use Rattle.std.proofs.Common.{◌≡◌, ◌∙◌, ℕ, ◌+◌, ◌*◌, ◌<◌, ◌≤◌, ◌&&◌, List, [], ◌∷◌, map, slice_index_or, slice_get, get_or, Bool, true, false, not, length, cond, Some, None, Option, option_map, IsUtf8, Bor, ap, sym, refl, subst, arith, zero-add, ltb-false}
 use Rattle.std.specs.List.{range_with_len}
 use Rattle.std.specs.Arc.{arc_value}
 use Rattle.std.specs.Str.{is_utf8}
@@ -11,8 +11,10 @@ use Rattle.colbits.specs.Slice.{slice}
 use Rattle.colbits.proofs.BitLemmas.{get_or-bits, length-bits}
 use Rattle.layout.specs.declared.raw.RawArray.{RawArray, out-RawArray}
 use Rattle.layout.specs.Item.{Item, null, is_null, boolean, text, list, list_of}
+use Rattle.types.specs.declared.offset_width.OffsetWidth.{OffsetWidth}
 use Rattle.types.specs.Kind as kind
-use Rattle.types.specs.Kind.{Kind, int32, kind_of, same_kind}
+use Rattle.types.specs.Kind.{Kind, item_kind, kind_of, same_kind}
+use Rattle.types.specs.OffsetWidth.{offset_type}
 use Rattle.types.specs.Number.{is_negative, number_at}
 use Rattle.layout.specs.Layout.{Buffers, bytes_at, buffer_at, is_valid, column, value_at}
 use Rattle.layout.specs.declared.fault.LayoutFault.{LayoutFault}
@@ -23,10 +25,14 @@ use Rattle.layout.specs.Reading.{Reading, read_parts, reading, inner_of, fault, 
 use Rattle.layout.specs.Checked.{checked_texts}
 use Rattle.layout.specs.Offsets.{AreOffsets, of_slot, offsets_in, slot_at}
 use Rattle.arrays.specs.Values.{HasBits, HasTexts, HasLists, valid_values}
-use Rattle.arrays.specs.Slot.{is_list, holds_at}
+use Rattle.arrays.specs.Slot.{holds_at, is_list}
 use Rattle.arrays.specs.View.{read_view, show_view}
 use Rattle.arrays.specs.ViewType.{view_kind}
 use Rattle.arrays.specs.declared.view.View.TheInside.{Inside}
+use Rattle.arrays.specs.declared.view.ViewType.{ViewType}
+use Rattle.arrays.specs.declared.view.ViewType.TheVariants as type
+use Rattle.types.specs.declared.data_type.Field.{Field, out-Field}
+use Rattle.std.proofs.lemmas.Bool.{false≢true}
 use Rattle.layout.proofs.FirstFaultLemmas.{IsWhole, reading-raw}
 use Rattle.layout.proofs.ChildLemmas.{OneChild, only_child}
 use Rattle.layout.proofs.ListLemmas.{map-range-below}
@@ -45,8 +51,8 @@ pub seen-items : (k : Kind) (n : ℕ) (stated : Option ℕ) (buffers : Buffers) 
 unfolding read_parts column
 seen-items (kind.int t) n stated buffers children dictionary = refl
 seen-items kind.boolean n stated buffers children dictionary = refl
-seen-items kind.utf8 n stated buffers children dictionary = refl
-seen-items (kind.list k) n stated buffers children dictionary = refl
+seen-items (kind.texts w) n stated buffers children dictionary = refl
+seen-items (kind.lists w k) n stated buffers children dictionary = refl
 seen-items kind.dict n stated buffers children dictionary = refl
 
 pub items-part : (k : Kind) (n : ℕ) (buffers : Buffers) (children : List Reading) (dictionary : Option Reading) (start len : ℕ) (value : ℕ → Item) → start + len ≤ n
@@ -132,11 +138,11 @@ bits_of_view v s shows kind_is lawful within =
 
 -- ---- texts
 
-is_utf8_at : (n : ℕ) (buffers : Buffers) → bad_text_row kind.utf8 n buffers ≡ None → (j : ℕ) → j < n → is_valid buffers j ≡ true
-    → IsUtf8 (slot_at (bytes_at buffers 1) (bytes_at buffers 2) j)
-is_utf8_at n buffers none j below valid =
-    let bytes = slot_at (bytes_at buffers 1) (bytes_at buffers 2) j in
-    let fine : (true && not (is_utf8 bytes)) ≡ false = ap (λ b. b && not (is_utf8 bytes)) (sym valid) ∙ fails-least_none (is_no_text buffers) n none j below in
+is_utf8_at : (w : OffsetWidth) (n : ℕ) (buffers : Buffers) → bad_text_row (kind.texts w) n buffers ≡ None → (j : ℕ) → j < n → is_valid buffers j ≡ true
+    → IsUtf8 (slot_at w (bytes_at buffers 1) (bytes_at buffers 2) j)
+is_utf8_at w n buffers none j below valid =
+    let bytes = slot_at w (bytes_at buffers 1) (bytes_at buffers 2) j in
+    let fine : (true && not (is_utf8 bytes)) ≡ false = ap (λ b. b && not (is_utf8 bytes)) (sym valid) ∙ fails-least_none (is_no_text w buffers) n none j below in
     IsUtf8-from_is_utf8 bytes (not_false (is_utf8 bytes) fine)
   where
     not_false : (b : Bool) → not b ≡ false → b ≡ true
@@ -144,42 +150,42 @@ is_utf8_at n buffers none j below valid =
     not_false false h = cc
 
 -- The offsets of n slots are there from slot `start` on.
-pub record HasOffsets (first : List ℕ) (start n : ℕ) : Type 0 where
-  pub enough : are_offsets_short (start + n) first ≡ false
-  pub counted : (j : ℕ) → j ≤ start + n → is_negative (number_at int32 first j) ≡ false
+pub record HasOffsets (w : OffsetWidth) (first : List ℕ) (start n : ℕ) : Type 0 where
+  pub enough : are_offsets_short w (start + n) first ≡ false
+  pub counted : (j : ℕ) → j ≤ start + n → is_negative (number_at (offset_type w) first j) ≡ false
 
-has_offsets : (total : ℕ) (first : List ℕ) (most : ℕ) → Rising total first most → (start n : ℕ) → start + n ≤ total → HasOffsets first start n
-has_offsets total first most rises start n within = record {
-  enough = enough-part total (start + n) first rises.enough within;
+has_offsets : (w : OffsetWidth) (total : ℕ) (first : List ℕ) (most : ℕ) → Rising w total first most → (start n : ℕ) → start + n ≤ total → HasOffsets w first start n
+has_offsets w total first most rises start n within = record {
+  enough = enough-part w total (start + n) first rises.enough within;
   counted = λ j below. rises.counted j (omega (arith, below, within));
 }
 
 -- The texts of a view, whose offsets and bytes are these.
-pub record ViewTexts (first bytes : List ℕ) (start n : ℕ) (s : Seen) : Type 0 where
-  pub there : HasOffsets first start n
-  pub texts : HasTexts (offsets_in first start n) bytes s
+pub record ViewTexts (w : OffsetWidth) (first bytes : List ℕ) (start n : ℕ) (s : Seen) : Type 0 where
+  pub there : HasOffsets w first start n
+  pub texts : HasTexts (offsets_in w first start n) bytes s
 
-whole_texts : (v : Inside) (s : Seen) → show_view v ≡ s → s.kind ≡ kind.utf8 → (read_view v).fault ≡ None → v.start + v.len ≤ v.total
-    → ViewTexts (bytes_at v.buffers.now 1) (bytes_at v.buffers.now 2) v.start v.len s
-whole_texts v s shows kind_is lawful within =
+whole_texts : (w : OffsetWidth) (v : Inside) (s : Seen) → show_view v ≡ s → s.kind ≡ (kind.texts w) → (read_view v).fault ≡ None → v.start + v.len ≤ v.total
+    → ViewTexts w (bytes_at v.buffers.now 1) (bytes_at v.buffers.now 2) v.start v.len s
+whole_texts w v s shows kind_is lawful within =
     let buffers = v.buffers.now in
     let first = bytes_at buffers 1 in
     let bytes = bytes_at buffers 2 in
-    let offsets = offsets_in first v.start v.len in
+    let offsets = offsets_in w first v.start v.len in
     let is = kind_shown v s shows ∙ kind_is in
-    let w = whole_view v kind.utf8 is lawful in
-    let rises = rising-texts v.total None buffers _ _ w in
+    let tests = whole_view v (kind.texts w) is lawful in
+    let rises = rising-texts w v.total None buffers _ _ tests in
     let slots = length-show_view v within in
     record {
-      there = has_offsets v.total first (length bytes) rises v.start v.len within;
+      there = has_offsets w v.total first (length bytes) rises v.start v.len within;
       texts = subst (HasTexts offsets bytes) shows (record {
-        bounds = subst (λ n. AreOffsets n offsets (length bytes)) (sym slots) (AreOffsets-part v.total first (length bytes) rises v.start v.len within);
-        texts = items-view v _ within (λ j h. value_is v kind.utf8 is j ∙ ap text (sym (of_slot-in first bytes v.start v.len j h)));
+        bounds = subst (λ n. AreOffsets n offsets (length bytes)) (sym slots) (AreOffsets-part w v.total first (length bytes) rises v.start v.len within);
+        texts = items-view v _ within (λ j h. value_is v (kind.texts w) is j ∙ ap text (sym (of_slot-in w first bytes v.start v.len j h)));
         utf8 =
             λ j h valid.
             let below : j < v.len = omega (arith, h, slots) in
-            subst IsUtf8 (sym (of_slot-in first bytes v.start v.len j below))
-            (is_utf8_at v.total buffers w.all_texts (v.start + j) (omega (arith, below, within)) (sym (valid-view v j within below) ∙ valid));
+            subst IsUtf8 (sym (of_slot-in w first bytes v.start v.len j below))
+            (is_utf8_at w v.total buffers tests.all_texts (v.start + j) (omega (arith, below, within)) (sym (valid-view v j within below) ∙ valid));
       });
     }
 
@@ -187,40 +193,48 @@ whole_texts v s shows kind_is lawful within =
 slots_of : (v : Inside) (s : Seen) (n : ℕ) → show_view v ≡ s → v.start + v.len ≤ v.total → n ≡ length s.items → v.len ≡ n
 slots_of v s n shows within slots = sym (length-show_view v within) ∙ ap (λ (q : Seen). length q.items) shows ∙ sym slots
 
-pub texts_of_view : (v : Inside) (s : Seen) (first bytes : List ℕ) (n : ℕ) → show_view v ≡ s → s.kind ≡ kind.utf8 → (read_view v).fault ≡ None → v.start + v.len ≤ v.total
-    → first ≡ bytes_at v.buffers.now 1 → bytes ≡ bytes_at v.buffers.now 2 → n ≡ length s.items → ViewTexts first bytes v.start n s
-texts_of_view v s first bytes n shows kind_is lawful within first_is bytes_is slots =
-    subst (λ f. ViewTexts f bytes v.start n s) (sym first_is)
-    (subst (λ b. ViewTexts (bytes_at v.buffers.now 1) b v.start n s) (sym bytes_is)
-    (subst (λ m. ViewTexts (bytes_at v.buffers.now 1) (bytes_at v.buffers.now 2) v.start m s) (slots_of v s n shows within slots) (whole_texts v s shows kind_is lawful within)))
+pub texts_of_view : (w : OffsetWidth) (v : Inside) (s : Seen) (first bytes : List ℕ) (n : ℕ) → show_view v ≡ s → s.kind ≡ (kind.texts w) → (read_view v).fault ≡ None → v.start + v.len ≤ v.total
+    → first ≡ bytes_at v.buffers.now 1 → bytes ≡ bytes_at v.buffers.now 2 → n ≡ length s.items → ViewTexts w first bytes v.start n s
+texts_of_view w v s first bytes n shows kind_is lawful within first_is bytes_is slots =
+    subst (λ f. ViewTexts w f bytes v.start n s) (sym first_is)
+    (subst (λ b. ViewTexts w (bytes_at v.buffers.now 1) b v.start n s) (sym bytes_is)
+    (subst (λ m. ViewTexts w (bytes_at v.buffers.now 1) (bytes_at v.buffers.now 2) v.start m s) (slots_of v s n shows within slots) (whole_texts w v s shows kind_is lawful within)))
 
 -- ---- lists
 
-pub list_kind : (k : Kind) → is_list k ≡ true → (j : Kind) × (k ≡ kind.list j)
-list_kind (kind.int t) h = cc
-list_kind kind.boolean h = cc
-list_kind kind.utf8 h = cc
-list_kind (kind.list k) h = (k, refl)
-list_kind kind.dict h = cc
+-- a view of lists has a type of lists
+list_type : (ty : ViewType) → ((w : OffsetWidth) (item : Bor Field) → ty ≡ type.List w item → ⊥) → is_list (view_kind ty) ≡ false
+list_type (type.Int t) h = refl
+list_type type.Bool h = refl
+list_type (type.Text w) h = refl
+list_type (type.List w item) h = absurd (h w item refl)
+list_type type.Dict h = refl
+
+pub some_list : (v : Inside) (s : Seen) → show_view v ≡ s → ((w : OffsetWidth) (item : Bor Field) → v.ty ≡ type.List w item → ⊥) → is_list s.kind ≡ true → ⊥
+some_list v s shows h listed =
+    let no : is_list s.kind ≡ false = sym (ap is_list (kind_shown v s shows)) ∙ list_type v.ty h in
+    false≢true (sym no ∙ listed)
+
+pub list_kind : (v : Inside) (s : Seen) (w : OffsetWidth) (item : Bor Field) → show_view v ≡ s → v.ty ≡ type.List w item → s.kind ≡ kind.lists w (kind_of (out-Field item.now).ty)
+list_kind v s w item shows is = sym (kind_shown v s shows) ∙ ap view_kind is
 
 some_child : (k : Kind) (children : List RawArray) → is_no_child k (map inner_of (map reading children)) ≡ false → 0 < length children
 some_child k [] h = cc
 some_child k (c ∷ cs) h = omega arith
 
 -- a view of lists has a child
-pub child_there : (v : Inside) (s : Seen) → show_view v ≡ s → is_list s.kind ≡ true → (read_view v).fault ≡ None → 0 < length v.children.now
-child_there v s shows listed lawful =
-    let of = list_kind s.kind listed in
-    let w = whole_view v (kind.list of.0) (kind_shown v s shows ∙ of.1) lawful in
-    some_child of.0 v.children.now (either_false _ _ w.parts_agree).0
+pub child_there : (w : OffsetWidth) (k : Kind) (v : Inside) (s : Seen) → show_view v ≡ s → s.kind ≡ kind.lists w k → (read_view v).fault ≡ None → 0 < length v.children.now
+child_there w k v s shows kind_is lawful =
+    let tests = whole_view v (kind.lists w k) (kind_shown v s shows ∙ kind_is) lawful in
+    some_child k v.children.now (either_false _ _ tests.parts_agree).0
 
 -- The lists of a view, whose offsets and child are these.
-pub record ViewLists (first : List ℕ) (start n : ℕ) (s child : Seen) : Type 0 where
-  pub there : HasOffsets first start n
+pub record ViewLists (w : OffsetWidth) (first : List ℕ) (start n : ℕ) (s child : Seen) : Type 0 where
+  pub there : HasOffsets w first start n
   pub no_dict : same_kind child.kind kind.dict ≡ false
   pub depth : kind.depth child.kind < 8
   pub short : length child.items ≤ most_slots
-  pub lists : HasLists (offsets_in first start n) child s
+  pub lists : HasLists (offsets_in w first start n) child s
 
 seen-reading : (raw : RawArray) → ((reading raw).seen.kind ≡ (reading raw).kind) × (length (reading raw).seen.items ≡ (reading raw).length)
 unfolding read_parts
@@ -244,55 +258,53 @@ seen-short raw lawful =
     let items = length-items (kind_of r.ty) r.length r.null_count r.buffers.items children dictionary in
     omega (arith, short, ap (λ (q : Reading). length q.seen.items) is, items)
 
-pub child_of_view : (v : Inside) (s : Seen) (raw : RawArray) → show_view v ≡ s → (listed : is_list s.kind ≡ true) → (read_view v).fault ≡ None → raw ≡ slice_index_or v.children.now 0 raw
-    → OneChild (list_kind s.kind listed).0 v.children.now raw
-child_of_view v s raw shows listed lawful is =
-    let of = list_kind s.kind listed in
-    let w = whole_view v (kind.list of.0) (kind_shown v s shows ∙ of.1) lawful in
-    subst (OneChild of.0 v.children.now) (sym is)
-    (only_child of.0 v.children.now raw (either_false _ _ w.parts_agree).0
+pub child_of_view : (w : OffsetWidth) (k : Kind) (v : Inside) (s : Seen) (raw : RawArray) → show_view v ≡ s → s.kind ≡ kind.lists w k → (read_view v).fault ≡ None → raw ≡ slice_index_or v.children.now 0 raw
+    → OneChild k v.children.now raw
+child_of_view w k v s raw shows kind_is lawful is =
+    let tests = whole_view v (kind.lists w k) (kind_shown v s shows ∙ kind_is) lawful in
+    subst (OneChild k v.children.now) (sym is)
+    (only_child k v.children.now raw (either_false _ _ tests.parts_agree).0
     (children_lawful (view_kind v.ty) v.total v.buffers.now (map reading v.children.now) (option_map checked_texts (option_map (λ w. arc_value w.now) v.words)) lawful))
 
-whole_lists : (v : Inside) (s : Seen) (raw : RawArray) → show_view v ≡ s → is_list s.kind ≡ true → (read_view v).fault ≡ None → v.start + v.len ≤ v.total → raw ≡ slice_index_or v.children.now 0 raw
-    → ViewLists (bytes_at v.buffers.now 1) v.start v.len s (reading raw).seen
-whole_lists v s raw shows listed lawful within raw_is =
+whole_lists : (w : OffsetWidth) (k : Kind) (v : Inside) (s : Seen) (raw : RawArray) → show_view v ≡ s → s.kind ≡ kind.lists w k → (read_view v).fault ≡ None → v.start + v.len ≤ v.total → raw ≡ slice_index_or v.children.now 0 raw
+    → ViewLists w (bytes_at v.buffers.now 1) v.start v.len s (reading raw).seen
+whole_lists w k v s raw shows kind_is lawful within raw_is =
     let first = bytes_at v.buffers.now 1 in
     let inner = (reading raw).seen in
-    let offsets = offsets_in first v.start v.len in
-    let of = list_kind s.kind listed in
-    let is = kind_shown v s shows ∙ of.1 in
-    let w = whole_view v (kind.list of.0) is lawful in
-    let child = child_of_view v s raw shows listed lawful raw_is in
+    let offsets = offsets_in w first v.start v.len in
+    let is = kind_shown v s shows ∙ kind_is in
+    let tests = whole_view v (kind.lists w k) is lawful in
+    let child = child_of_view w k v s raw shows kind_is lawful raw_is in
     let seen = seen-reading raw in
-    let seen_kind : inner.kind ≡ of.0 = seen.0 ∙ child.kind_is in
-    let few = ltb-false 8 (kind.depth (kind.list of.0)) w.shallow in
+    let seen_kind : inner.kind ≡ k = seen.0 ∙ child.kind_is in
+    let few = ltb-false 8 (kind.depth (kind.lists w k)) tests.shallow in
     let most : child_length (map inner_of (map reading v.children.now)) ≡ length inner.items =
     ap (λ (cs : List RawArray). child_length (map inner_of (map reading cs))) child.is ∙ sym seen.1 in
     let items : child_items (map reading v.children.now) ≡ inner.items = ap (λ (cs : List RawArray). child_items (map reading cs)) child.is in
-    let rises = rising-lists of.0 v.total None v.buffers.now _ _ w in
+    let rises = rising-lists w k v.total None v.buffers.now _ _ tests in
     let slots = length-show_view v within in
-    let same : (j : ℕ) → j < v.len → slot_at first (child_items (map reading v.children.now)) (v.start + j) ≡ of_slot offsets inner.items j =
-    λ j h. ap (λ xs. slot_at first xs (v.start + j)) items ∙ sym (of_slot-in first inner.items v.start v.len j h) in
-    let bounds = AreOffsets-part v.total first (child_length (map inner_of (map reading v.children.now))) rises v.start v.len within in
+    let same : (j : ℕ) → j < v.len → slot_at w first (child_items (map reading v.children.now)) (v.start + j) ≡ of_slot offsets inner.items j =
+    λ j h. ap (λ xs. slot_at w first xs (v.start + j)) items ∙ sym (of_slot-in w first inner.items v.start v.len j h) in
+    let bounds = AreOffsets-part w v.total first (child_length (map inner_of (map reading v.children.now))) rises v.start v.len within in
     record {
-      there = has_offsets v.total first _ rises v.start v.len within;
+      there = has_offsets w v.total first _ rises v.start v.len within;
       no_dict = ap (λ k. same_kind k kind.dict) seen.0 ∙ child.no_dict;
       depth = omega (arith, few, ap kind.depth seen_kind);
       short = seen-short raw child.lawful;
       lists = record {
-        kind = of.1 ∙ ap kind.list (sym child.kind_is ∙ sym seen.0);
+        kind = ap item_kind kind_is ∙ ap Some (sym child.kind_is ∙ sym seen.0);
         bounds = subst (λ n. AreOffsets n offsets (length inner.items)) (sym slots ∙ ap (λ (q : Seen). length q.items) shows) (subst (AreOffsets v.len offsets) most bounds);
         lists = subst (λ (q : Seen). q.items ≡ valid_values (λ j. list (list_of (of_slot offsets inner.items j))) q) shows
-            (items-view v _ within (λ j h. value_is v (kind.list of.0) is j ∙ ap (λ xs. list (list_of xs)) (same j h)));
+            (items-view v _ within (λ j h. value_is v (kind.lists w k) is j ∙ ap (λ xs. list (list_of xs)) (same j h)));
       };
     }
 
-pub lists_of_view : (v : Inside) (s child : Seen) (raw : RawArray) (first : List ℕ) (n : ℕ) → show_view v ≡ s → is_list s.kind ≡ true → (read_view v).fault ≡ None → v.start + v.len ≤ v.total
-    → raw ≡ slice_index_or v.children.now 0 raw → child ≡ (reading raw).seen → first ≡ bytes_at v.buffers.now 1 → n ≡ length s.items → ViewLists first v.start n s child
-lists_of_view v s child raw first n shows listed lawful within raw_is child_is first_is slots =
-    subst (ViewLists first v.start n s) (sym child_is)
-    (subst (λ f. ViewLists f v.start n s (reading raw).seen) (sym first_is)
-    (subst (λ m. ViewLists (bytes_at v.buffers.now 1) v.start m s (reading raw).seen) (slots_of v s n shows within slots) (whole_lists v s raw shows listed lawful within raw_is)))
+pub lists_of_view : (w : OffsetWidth) (k : Kind) (v : Inside) (s child : Seen) (raw : RawArray) (first : List ℕ) (n : ℕ) → show_view v ≡ s → s.kind ≡ kind.lists w k → (read_view v).fault ≡ None → v.start + v.len ≤ v.total
+    → raw ≡ slice_index_or v.children.now 0 raw → child ≡ (reading raw).seen → first ≡ bytes_at v.buffers.now 1 → n ≡ length s.items → ViewLists w first v.start n s child
+lists_of_view w k v s child raw first n shows kind_is lawful within raw_is child_is first_is slots =
+    subst (ViewLists w first v.start n s) (sym child_is)
+    (subst (λ f. ViewLists w f v.start n s (reading raw).seen) (sym first_is)
+    (subst (λ m. ViewLists w (bytes_at v.buffers.now 1) v.start m s (reading raw).seen) (slots_of v s n shows within slots) (whole_lists w k v s raw shows kind_is lawful within raw_is)))
 
 -- ---- the item of one slot
 
@@ -314,8 +326,8 @@ valid_slot value s i is within h = item_slot value s i is within ∙ ap (λ v. S
 no_null : (k : Kind) (buffers : Buffers) (child entries : List Item) (j : ℕ) → same_kind k kind.dict ≡ false → is_null (value_at k buffers child entries j) ≡ false
 no_null (kind.int t) buffers child entries j h = refl
 no_null kind.boolean buffers child entries j h = refl
-no_null kind.utf8 buffers child entries j h = refl
-no_null (kind.list k) buffers child entries j h = refl
+no_null (kind.texts w) buffers child entries j h = refl
+no_null (kind.lists w k) buffers child entries j h = refl
 no_null kind.dict buffers child entries j h = cc
 
 held_where_valid : (b : Bool) (x : Item) → is_null x ≡ false → not (is_null (cond b x null)) ≡ b

@@ -27,8 +27,8 @@ kind-array a =
 pub dict-same : (k : Kind) → same_kind k kind.dict ≡ true → k ≡ kind.dict
 dict-same (kind.int t) h = cc
 dict-same kind.boolean h = cc
-dict-same kind.utf8 h = cc
-dict-same (kind.list k) h = cc
+dict-same (kind.texts w) h = cc
+dict-same (kind.lists w k) h = cc
 dict-same kind.dict h = refl
 
 some-none : (d : Reading) → Some d ≢ None
@@ -38,8 +38,8 @@ some-none d e = cc
 held-dict : (k : Kind) (children : List Inner) (d : Reading) → do_parts_differ k children (Some (inner_of d)) ≡ false → k ≡ kind.dict
 held-dict (kind.int t) children d h = let e : Some d ≡ None = no_dictionary (Some d) (either_false _ _ h).1 in absurd (some-none d e)
 held-dict kind.boolean children d h = let e : Some d ≡ None = no_dictionary (Some d) (either_false _ _ h).1 in absurd (some-none d e)
-held-dict kind.utf8 children d h = let e : Some d ≡ None = no_dictionary (Some d) (either_false _ _ h).1 in absurd (some-none d e)
-held-dict (kind.list k) children d h = let e : Some d ≡ None = no_dictionary (Some d) (either_false _ _ h).1 in absurd (some-none d e)
+held-dict (kind.texts w) children d h = let e : Some d ≡ None = no_dictionary (Some d) (either_false _ _ h).1 in absurd (some-none d e)
+held-dict (kind.lists w k) children d h = let e : Some d ≡ None = no_dictionary (Some d) (either_false _ _ h).1 in absurd (some-none d e)
 held-dict kind.dict children d h = refl
 
 pub dict-lawful : (k : Kind) (n : ℕ) (buffers : Buffers) (children : List Reading) (d : Reading)

@@ -1,5 +1,5 @@
 -- Offsets count what lies in a column: slots that are cut one after the other hold no more than what they are cut from.
-use Rattle.std.proofs.Common.{◌≡◌, ◌∙◌, ℕ, zero, suc, ◌+◌, ◌<◌, ◌≤◌, ◌||◌, List, [], ◌∷◌, length, take, drop, map, Bool, true, false, cond, ap, refl, arith}
+use Rattle.std.proofs.Common.{◌≡◌, ◌∙◌, ℕ, zero, suc, ◌+◌, ◌<◌, ◌≤◌, ◌||◌, List, [], ◌∷◌, length, take, drop, map, Bool, true, false, Some, cond, ap, refl, arith}
 use Rattle.std.specs.Prelude.{flat_map, sum_by}
 use Rattle.std.specs.List.{range_with_len}
 use Rattle.std.proofs.lemmas.Bool.Decides.{nat_tests}
@@ -8,8 +8,11 @@ use Rattle.std.proofs.lemmas.List.Concat.{length-flat_map}
 use Rattle.std.proofs.lemmas.List.FromFn.{sum_by-map-range_with_len_more}
 use Rattle.std.proofs.lemmas.List.Sums.{sum_by-append, sum_by-cons, sum_by-take-le}
 use Rattle.std.proofs.Math.Seq.{take-add}
+use Rattle.types.specs.declared.offset_width.OffsetWidth.{OffsetWidth}
+use Rattle.types.specs.declared.offset_width.OffsetWidth.TheVariants.{Narrow, Wide}
+use Rattle.types.specs.OffsetWidth.{most_of}
 use Rattle.types.specs.Kind as kind
-use Rattle.types.specs.Kind.{Kind}
+use Rattle.types.specs.Kind.{Kind, item_kind}
 use Rattle.types.specs.Limits.{most_slots}
 use Rattle.layout.specs.Item.{Item, null, list, list_of, text}
 use Rattle.layout.specs.Offsets.{length_of, of_slot, start_of}
@@ -47,8 +50,9 @@ lighter-fits : (k : Kind) (xs ys : List Item) → IsLighter xs ys → is_too_big
 lighter-fits (kind.int t) xs ys less fits = refl
 lighter-fits kind.boolean xs ys less fits = refl
 lighter-fits kind.dict xs ys less fits = refl
-lighter-fits kind.utf8 xs ys less fits = not_past (text_bytes xs) (omega (arith, less text_length, small (text_bytes ys) fits))
-lighter-fits (kind.list k) xs ys less fits =
+lighter-fits (kind.texts Narrow) xs ys less fits = not_past (text_bytes xs) (omega (arith, less text_length, small (text_bytes ys) fits))
+lighter-fits (kind.texts Wide) xs ys less fits = refl
+lighter-fits (kind.lists w k) xs ys less fits =
     let parts = neither (is_past (length (inner_items ys))) (is_too_big k (inner_items ys)) fits in
     let few : length (inner_items xs) ≤ most_slots =
     omega (arith, length-flat_map items_in xs, length-flat_map items_in ys, less (λ x. length (items_in x)), small (length (inner_items ys)) parts.0) in
@@ -100,11 +104,18 @@ lists-lighter offsets child s has weight =
 
 -- the lists of a column hold what lies in its child, or less
 pub lists-fit : (offsets : List ℕ) (child s : Seen) → HasLists offsets child s → length child.items ≤ most_slots → is_too_big child.kind child.items ≡ false → is_too_big s.kind s.items ≡ false
-lists-fit offsets child s has few fits =
-    let lighter = lists-lighter offsets child s has in
-    ap (λ k. is_too_big k s.items) has.kind
-    ∙ ap (λ b. b || is_too_big child.kind (inner_items s.items)) (not_past (length (inner_items s.items)) (omega (arith, lighter (λ x. 1), sum_by-one (inner_items s.items), sum_by-one child.items, few)))
-    ∙ lighter-fits child.kind (inner_items s.items) child.items lighter fits
+lists-fit offsets child s has few fits = of_kind s.kind has.kind where
+  of_kind : (k : Kind) → item_kind k ≡ Some child.kind → is_too_big k s.items ≡ false
+  of_kind (kind.int t) is = cc
+  of_kind kind.boolean is = cc
+  of_kind (kind.texts w) is = cc
+  of_kind kind.dict is = cc
+  of_kind (kind.lists w k) is =
+      let lighter = lists-lighter offsets child s has in
+      let same : k ≡ child.kind = cc in
+      ap (λ b. b || is_too_big k (inner_items s.items)) (not_past (length (inner_items s.items)) (omega (arith, lighter (λ x. 1), sum_by-one (inner_items s.items), sum_by-one child.items, few)))
+      ∙ ap (λ j. is_too_big j (inner_items s.items)) same
+      ∙ lighter-fits child.kind (inner_items s.items) child.items lighter fits
 
 -- ---- texts
 
@@ -113,8 +124,9 @@ text_weighs true bytes = omega arith
 text_weighs false bytes = omega arith
 
 -- the texts of a column are no more bytes than its last offset
-pub texts-fit : (offsets bytes : List ℕ) (s : Seen) → HasTexts offsets bytes s → start_of offsets (length s.items) ≤ most_slots → is_too_big kind.utf8 s.items ≡ false
-texts-fit offsets bytes s has counts =
+pub texts-fit : (w : OffsetWidth) (offsets bytes : List ℕ) (s : Seen) → HasTexts offsets bytes s → start_of offsets (length s.items) ≤ most_of w → is_too_big (kind.texts w) s.items ≡ false
+texts-fit Wide offsets bytes s has counts = refl
+texts-fit Narrow offsets bytes s has counts =
     let n = length s.items in
     let item : ℕ → Item = λ j. cond (valid_at s j) (text (of_slot offsets bytes j)) null in
     let sizes = slots_weigh text_length item (start_of offsets) n

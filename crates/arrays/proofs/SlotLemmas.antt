@@ -22,7 +22,7 @@ use Rattle.layout.specs.Checked.{checked_texts}
 use Rattle.arrays.specs.ViewType.{view_kind}
 use Rattle.arrays.specs.View.{read_view, show_view}
 use Rattle.arrays.specs.declared.view.View.TheInside.{Inside}
-use Rattle.arrays.specs.Slot.{item_of}
+use Rattle.arrays.specs.Slot.{is_recodable, is_text, item_of}
 use Rattle.arrays.specs.Values.{HasNumbers, items_where, valid_values}
 use Rattle.layout.proofs.FirstFaultLemmas.{IsWhole, own_fault-none}
 use Rattle.layout.proofs.LawfulLemmas.{first-parts}
@@ -44,8 +44,8 @@ pub seen-validity : (k : Kind) (n : ℕ) (stated : Option ℕ) (buffers : Buffer
 unfolding read_parts
 seen-validity (kind.int t) n stated buffers children dictionary = refl
 seen-validity kind.boolean n stated buffers children dictionary = refl
-seen-validity kind.utf8 n stated buffers children dictionary = refl
-seen-validity (kind.list k) n stated buffers children dictionary = refl
+seen-validity (kind.texts w) n stated buffers children dictionary = refl
+seen-validity (kind.lists w k) n stated buffers children dictionary = refl
 seen-validity kind.dict n stated buffers children dictionary = refl
 
 -- a bitmap of a lawful array has a bit for each slot
@@ -206,3 +206,12 @@ pub nulls_counted : (xs : List Bool) (validity : Option (List Bool)) → validit
 nulls_counted xs validity is =
     let n : length xs - count_by (λ b. b) xs ≡ count_by not xs = omega (arith, both_counted xs) in
     n ∙ ap nulls_in (sym is)
+
+-- ---- what a dictionary may hold
+
+pub text-recodable : (k : Kind) → is_recodable k ≡ true → is_text k ≡ true
+text-recodable (kind.int t) h = cc
+text-recodable kind.boolean h = cc
+text-recodable (kind.texts w) h = refl
+text-recodable (kind.lists w k) h = cc
+text-recodable kind.dict h = refl

@@ -1,18 +1,19 @@
 -- Items are of their column's kind.
-use Rattle.std.proofs.Common.{◌≡◌, ℕ, zero, suc, ◌+◌, ◌<◌, List, [], ◌∷◌, length, Bool, true, false, cond, get_or, All, sym, refl, subst, arith, map, zero-add}
+use Rattle.std.proofs.Common.{◌≡◌, ℕ, zero, suc, ◌+◌, ◌<◌, List, [], ◌∷◌, length, Bool, true, false, Some, cond, get_or, All, sym, refl, subst, arith, map, zero-add}
 use Rattle.std.proofs.lemmas.List.Elements.{All-drop, All-map, All-take}
 use Rattle.std.proofs.lemmas.List.FromFn.{get_or-range_with_len, length-range_with_len}
 use Rattle.std.specs.List.{range_with_len}
 use Rattle.std.specs.Prelude.{slice_index_or}
 use Rattle.arrays.specs.Dictionary.{looked_up}
 use Rattle.types.specs.Kind as kind
-use Rattle.types.specs.Kind.{Kind}
+use Rattle.types.specs.declared.offset_width.OffsetWidth.{OffsetWidth}
+use Rattle.types.specs.Kind.{Kind, item_kind}
 use Rattle.layout.specs.Item.{Item, null, int, boolean, text, list, list_of}
 use Rattle.types.specs.Number.{natural}
 use Rattle.layout.specs.Offsets.{of_slot}
 use Rattle.layout.specs.Seen.{Seen, valid_at}
 use Rattle.arrays.specs.Typed.{AreItemsOf, IsItemOf}
-use Rattle.arrays.specs.Values.{valid_values}
+use Rattle.arrays.specs.Values.{HasLists, valid_values}
 
 -- ---- slots
 
@@ -39,8 +40,21 @@ list_of-typed : (k : Kind) (xs : List Item) → All (IsItemOf k) xs → AreItems
 list_of-typed k [] all = tt
 list_of-typed k (x ∷ xs) all = (all 0 x (omega arith), list_of-typed k xs (λ i d below. all (suc i) d (omega (arith, below))))
 
-pub list-typed : (k : Kind) (offsets : List ℕ) (items : List Item) (j : ℕ) → All (IsItemOf k) items → IsItemOf (kind.list k) (list (list_of (of_slot offsets items j)))
-list-typed k offsets items j all = list_of-typed k (of_slot offsets items j) (All-take (IsItemOf k) _ _ (All-drop (IsItemOf k) _ items all))
+list-typed : (w : OffsetWidth) (k : Kind) (offsets : List ℕ) (items : List Item) (j : ℕ) → All (IsItemOf k) items → IsItemOf (kind.lists w k) (list (list_of (of_slot offsets items j)))
+list-typed w k offsets items j all = list_of-typed k (of_slot offsets items j) (All-take (IsItemOf k) _ _ (All-drop (IsItemOf k) _ items all))
+
+-- the lists of a column are of its kind where the items of its child are of theirs
+pub lists-typed : (offsets : List ℕ) (child s : Seen) → HasLists offsets child s → All (IsItemOf child.kind) child.items → All (IsItemOf s.kind) s.items
+lists-typed offsets child s has all = of_kind s.kind has.kind where
+  of_kind : (k : Kind) → item_kind k ≡ Some child.kind → All (IsItemOf k) s.items
+  of_kind (kind.int t) is = cc
+  of_kind kind.boolean is = cc
+  of_kind (kind.texts w) is = cc
+  of_kind kind.dict is = cc
+  of_kind (kind.lists w k) is =
+      let same : child.kind ≡ k = cc in
+      values-typed (kind.lists w k) (λ j. list (list_of (of_slot offsets child.items j))) s has.lists
+      (λ j below valid. list-typed w k offsets child.items j (subst (λ (q : Kind). All (IsItemOf q) child.items) same all))
 
 -- ---- texts with a dictionary
 

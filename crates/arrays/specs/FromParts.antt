@@ -5,6 +5,7 @@ use Rattle.std.specs.Str.{IsUtf8}
 use Rattle.colbits.specs.Bit.{bit, bits}
 use Rattle.types.specs.declared.int_type.IntType.{IntType}
 use Rattle.layout.specs.Item.{Item, null, int, boolean, text, list, list_of}
+use Rattle.types.specs.declared.offset_width.OffsetWidth.{OffsetWidth}
 use Rattle.types.specs.Kind as kind
 use Rattle.types.specs.Kind.{Kind}
 use Rattle.layout.specs.Layout.{is_valid_in}
@@ -33,18 +34,18 @@ abbrev pub show_bits : ℕ → Option (List ℕ) → List ℕ → Seen
 show_bits n validity packed = show_slots kind.boolean n validity (λ j. boolean (bit packed j))
 
 -- The bytes of each valid slot are a text. What lies under a null is any bytes.
-pub record AreTexts (n : ℕ) (validity : Option (List ℕ)) (offsets bytes : List ℕ) : Type 0 where
-  pub each : (j : ℕ) → j < n → is_valid_in validity j ≡ true → IsUtf8 (slot_at offsets bytes j)
+pub record AreTexts (w : OffsetWidth) (n : ℕ) (validity : Option (List ℕ)) (offsets bytes : List ℕ) : Type 0 where
+  pub each : (j : ℕ) → j < n → is_valid_in validity j ≡ true → IsUtf8 (slot_at w offsets bytes j)
 
 -- Texts. ("Variable-size binary layout")
-abbrev pub show_texts : ℕ → Option (List ℕ) → List ℕ → List ℕ → Seen
-show_texts n validity offsets bytes = show_slots kind.utf8 n validity (λ j. text (slot_at offsets bytes j))
+abbrev pub show_texts : OffsetWidth → ℕ → Option (List ℕ) → List ℕ → List ℕ → Seen
+show_texts w n validity offsets bytes = show_slots (kind.texts w) n validity (λ j. text (slot_at w offsets bytes j))
 
 -- Lists over the items of a child, each from one offset up to the next. ("Variable-size list layout")
-abbrev pub show_lists : ℕ → Option (List ℕ) → List ℕ → Seen → Seen
-show_lists n validity offsets child =
-    show_slots (kind.list child.kind) n validity (λ j. list (list_of (slot_at offsets child.items j)))
+abbrev pub show_lists : OffsetWidth → ℕ → Option (List ℕ) → List ℕ → Seen → Seen
+show_lists w n validity offsets child =
+    show_slots (kind.lists w child.kind) n validity (λ j. list (list_of (slot_at w offsets child.items j)))
 
 -- The parts of an array of lists over a child that is lawful: their fault, if there is one, and what they show.
-abbrev pub list_parts : Kind → ℕ → Option (List ℕ) → List ℕ → Seen → Reading
-list_parts k n validity offsets child = read_parts (kind.list k) n None (validity ∷ Some offsets ∷ []) (checked child ∷ []) None
+abbrev pub list_parts : OffsetWidth → Kind → ℕ → Option (List ℕ) → List ℕ → Seen → Reading
+list_parts w k n validity offsets child = read_parts (kind.lists w k) n None (validity ∷ Some offsets ∷ []) (checked child ∷ []) None

@@ -3,6 +3,8 @@ use Rattle.std.specs.Prelude.{◌≡◌, ℕ, ◌+◌, ◌*◌, ◌<◌, ◌≤�
 use Rattle.std.specs.List.{range_with_len, All}
 use Rattle.std.specs.Str.{IsUtf8}
 use Rattle.colbits.specs.Bit.{bits}
+use Rattle.types.specs.declared.offset_width.OffsetWidth.{OffsetWidth}
+use Rattle.types.specs.OffsetWidth.{most_of, size_of}
 use Rattle.layout.specs.Fault.{is_validity_short}
 use Rattle.layout.specs.Item.{Item, null, boolean, text}
 use Rattle.layout.specs.Layout.{is_valid_in}
@@ -16,27 +18,27 @@ unfoldable pub bools_where : List Bool → List Bool → List Item
 bools_where values valid = map (λ j. if slice_index_or valid j false then boolean (slice_index_or values j false) else null) (range_with_len 0 (length valid))
 
 -- The length of each valid slot, else none.
-unfoldable pub lengths_where : List Bool → List ℕ → List (Option ℕ)
-lengths_where valid offsets = map (λ j. if slice_index_or valid j false then Some (length_at offsets j) else None) (range_with_len 0 (length valid))
+unfoldable pub lengths_where : OffsetWidth → List Bool → List ℕ → List (Option ℕ)
+lengths_where w valid offsets = map (λ j. if slice_index_or valid j false then Some (length_at w offsets j) else None) (range_with_len 0 (length valid))
 
 -- The offsets begin at 0 and end at `most`, and the slots that aren't valid are empty.
-pub record AreFresh (valid : List Bool) (offsets : List ℕ) (most : ℕ) : Type 0 where
-  pub bounds : AreOffsetBytes (length valid) offsets most
-  pub first : start_at offsets 0 ≡ 0
-  pub ends : start_at offsets (length valid) ≡ most
-  pub size : length offsets ≡ 4 * (length valid + 1)
-  pub short : most ≤ most_slots
-  pub empty : (j : ℕ) → j < length valid → slice_index_or valid j false ≡ false → length_at offsets j ≡ 0
+pub record AreFresh (w : OffsetWidth) (valid : List Bool) (offsets : List ℕ) (most : ℕ) : Type 0 where
+  pub bounds : AreOffsetBytes w (length valid) offsets most
+  pub first : start_at w offsets 0 ≡ 0
+  pub ends : start_at w offsets (length valid) ≡ most
+  pub size : length offsets ≡ (length valid + 1) * size_of w
+  pub short : most ≤ most_of w
+  pub empty : (j : ℕ) → j < length valid → slice_index_or valid j false ≡ false → length_at w offsets j ≡ 0
 
 -- Slots of these lengths in memory: n offsets and one more, and a validity only where a slot isn't valid.
-pub record AreLaid (lengths : List (Option ℕ)) (n : ℕ) (validity : Option (List ℕ)) (offsets : List ℕ) : Type 0 where
+pub record AreLaid (w : OffsetWidth) (lengths : List (Option ℕ)) (n : ℕ) (validity : Option (List ℕ)) (offsets : List ℕ) : Type 0 where
   pub short : n ≤ most_slots
   pub long : is_validity_short n validity ≡ false
-  pub bounds : AreOffsetBytes n offsets (total lengths)
-  pub first : start_at offsets 0 ≡ 0
+  pub bounds : AreOffsetBytes w n offsets (total lengths)
+  pub first : start_at w offsets 0 ≡ 0
   pub needed : option_map (λ bytes. bits bytes 0 n) validity ≡ kept (map (is_valid_in validity) (range_with_len 0 n))
-  pub slots : lengths ≡ map (λ j. if is_valid_in validity j then Some (length_at offsets j) else None) (range_with_len 0 n)
-  pub empty : (j : ℕ) → j < n → is_valid_in validity j ≡ false → length_at offsets j ≡ 0
+  pub slots : lengths ≡ map (λ j. if is_valid_in validity j then Some (length_at w offsets j) else None) (range_with_len 0 n)
+  pub empty : (j : ℕ) → j < n → is_valid_in validity j ≡ false → length_at w offsets j ≡ 0
 
 -- Texts of these lengths, cut one after the other from the bytes; null where there is no length.
 abbrev pub cut_texts : List (Option ℕ) → List ℕ → List Item

@@ -4,6 +4,7 @@ use Rattle.layout.specs.Item.{Item, null, text, list, items_of, list_of}
 use Rattle.layout.specs.Seen.{Seen}
 use Rattle.arrays.specs.declared.builder.fault.BuildFault.{BuildFault}
 use Rattle.arrays.specs.declared.builder.fault.BuildFault.TheVariants.{NoMemory, OffsetsFull}
+use Rattle.types.specs.OffsetWidth.{is_full}
 use Rattle.types.specs.Kind as kind
 use Rattle.types.specs.Kind.{Kind}
 use Rattle.types.specs.Limits.{most_slots}
@@ -49,10 +50,10 @@ cut (Some n ∷ lengths) items = list (list_of (take n items)) ∷ cut lengths (
 abbrev pub is_past : ℕ → Bool
 is_past n = nat_lt most_slots n
 
--- At some level of lists the bytes of all texts, or the number of all items of lists, is more than 32-bit offsets count.
+-- At some level of lists the bytes of all texts are more than their offsets count, or the items of all lists are more than an array has.
 abbrev pub is_too_big : Kind → List Item → Bool
-is_too_big kind.utf8 items = is_past (text_bytes items)
-is_too_big (kind.list k) items = is_past (length (inner_items items)) || is_too_big k (inner_items items)
+is_too_big (kind.texts w) items = is_full w (text_bytes items)
+is_too_big (kind.lists w k) items = is_past (length (inner_items items)) || is_too_big k (inner_items items)
 is_too_big k items = false
 
 -- Why a slot is refused: with it the offsets would be past what they count, or, where they aren't, a growth was refused.

@@ -1,6 +1,7 @@
 -- What a slot holds, as an item: null for none.
 use Rattle.std.specs.Prelude.{ℕ, ℤ, List, Bool, true, false, not, Option, Some, None, slice_index_or}
-use Rattle.types.specs.Kind.{Kind, int, utf8, list, dict}
+use Rattle.types.specs.declared.offset_width.OffsetWidth.TheVariants.{Narrow}
+use Rattle.types.specs.Kind.{Kind, int, texts, lists, dict}
 use Rattle.layout.specs.Item as item
 use Rattle.layout.specs.Item.{Item, null, is_null, list_of}
 use Rattle.layout.specs.Seen.{Seen}
@@ -39,11 +40,17 @@ is_int k = false
 
 -- Whether the items are texts.
 abbrev pub is_text : Kind → Bool
-is_text utf8 = true
+is_text (texts w) = true
 is_text dict = true
 is_text k = false
 
+-- Whether they are texts that a dictionary may hold: of 32-bit offsets, or of a dictionary already.
+abbrev pub is_recodable : Kind → Bool
+is_recodable (texts Narrow) = true
+is_recodable dict = true
+is_recodable k = false
+
 -- Whether the items are lists.
 abbrev pub is_list : Kind → Bool
-is_list (list k) = true
+is_list (lists w k) = true
 is_list k = false

@@ -11,9 +11,9 @@ abbrev mutual
   IsItemOf k null = ⊤
   IsItemOf (kind.int t) (int z) = IsOfType t z
   IsItemOf kind.boolean (boolean b) = ⊤
-  IsItemOf kind.utf8 (text bytes) = IsUtf8 bytes
+  IsItemOf (kind.texts w) (text bytes) = IsUtf8 bytes
   IsItemOf kind.dict (text bytes) = IsUtf8 bytes
-  IsItemOf (kind.list k) (list xs) = AreItemsOf k xs
+  IsItemOf (kind.lists w k) (list xs) = AreItemsOf k xs
   IsItemOf k x = ⊥
 
   pub AreItemsOf : Kind → Items → Type 0

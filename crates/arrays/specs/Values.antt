@@ -3,8 +3,7 @@ use Rattle.std.specs.Prelude.{◌≡◌, ℕ, ◌+◌, ◌*◌, ◌<◌, ◌≤�
 use Rattle.std.specs.List.{range_with_len}
 use Rattle.std.specs.Str.{IsUtf8}
 use Rattle.types.specs.declared.int_type.IntType.{IntType}
-use Rattle.types.specs.Kind as kind
-use Rattle.types.specs.Kind.{bytes_of}
+use Rattle.types.specs.Kind.{bytes_of, item_kind}
 use Rattle.types.specs.Number.{number_at}
 use Rattle.layout.specs.Item.{Item, null, int, boolean, text, list, list_of}
 use Rattle.layout.specs.Seen.{Seen, valid_at, valid_in}
@@ -97,6 +96,6 @@ items_of_lists l = list_items l.offsets l.child.items l.validity l.slots
 
 -- The child's slots from each offset to the next are the list of the slot where it is valid.
 pub record HasLists (offsets : List ℕ) (child s : Seen) : Type 0 where
-  pub kind : s.kind ≡ kind.list child.kind
+  pub kind : item_kind s.kind ≡ Some child.kind
   pub bounds : AreOffsets (length s.items) offsets (length child.items)
   pub lists : s.items ≡ valid_values (λ j. list (list_of (of_slot offsets child.items j))) s

@@ -6,6 +6,7 @@ pub mod array;
 pub mod batch;
 pub mod builder;
 pub mod file;
+pub mod offset_slots;
 pub mod validity;
 pub mod view;
 pub mod words;
@@ -20,8 +21,10 @@ pub use builder::texts::TextBuilder;
 pub use builder::validity::ValidityBuilder;
 pub use file::File;
 pub use layout::{LayoutFault, Offsets, RawArray};
+pub use offset_slots::OffsetSlots;
 pub use types::{
-    DataType, Field, INT32, IntType, Integer, MOST_SLOTS, Packed, Schema, SchemaFault, Width,
+    DataType, Field, INT32, IntType, Integer, MOST_SLOTS, OffsetWidth, Packed, Schema, SchemaFault,
+    Width,
 };
 pub use view::{Bools, Ints, Lists, Texts, View, ViewType};
 pub use words::Words;

@@ -26,15 +26,15 @@ pub use lists::Lists;
 use std::marker::Model;
 use std::sync::Arc;
 pub use texts::Texts;
-use types::{DataType, Field, IntType, is_same};
+use types::{DataType, Field, IntType, OffsetWidth, is_same};
 
-/// The type of a view, with the item's field of a list.
+/// The type of a view: of texts and lists with the width of their offsets, of a list with the field of its items.
 #[derive(Clone, Copy)]
 pub enum ViewType<'a> {
     Int(IntType),
     Bool,
-    Utf8,
-    List(&'a Field),
+    Text(OffsetWidth),
+    List(OffsetWidth, &'a Field),
     Dict,
 }
 
@@ -46,8 +46,10 @@ impl<'a> ViewType<'a> {
         match ty {
             DataType::Int(int) => ViewType::Int(*int),
             DataType::Bool => ViewType::Bool,
-            DataType::Utf8 => ViewType::Utf8,
-            DataType::List(item) => ViewType::List(item),
+            DataType::Utf8 => ViewType::Text(OffsetWidth::Narrow),
+            DataType::LargeUtf8 => ViewType::Text(OffsetWidth::Wide),
+            DataType::List(item) => ViewType::List(OffsetWidth::Narrow, item),
+            DataType::LargeList(item) => ViewType::List(OffsetWidth::Wide, item),
             DataType::Dict => ViewType::Dict,
         }
     }
@@ -59,8 +61,10 @@ impl<'a> ViewType<'a> {
         match (self, other) {
             (ViewType::Int(a), ViewType::Int(b)) => a == b,
             (ViewType::Bool, ViewType::Bool) => true,
-            (ViewType::Utf8, ViewType::Utf8) => true,
-            (ViewType::List(a), ViewType::List(b)) => is_same(&a.ty, &b.ty),
+            (ViewType::Text(a), ViewType::Text(b)) => a == b,
+            (ViewType::List(a, item), ViewType::List(b, other)) => {
+                a == b && is_same(&item.ty, &other.ty)
+            }
             (ViewType::Dict, ViewType::Dict) => true,
             _ => false,
         }

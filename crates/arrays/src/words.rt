@@ -13,6 +13,7 @@ use layout::RawArray;
 use std::alloc::Global;
 use std::marker::Model;
 use std::sync::Arc;
+use types::OffsetWidth;
 
 /// The texts of a dictionary: a Utf8 array, as a type that holds no other array. Doubles and nulls may
 /// stand among them.
@@ -44,7 +45,13 @@ impl Words {
         ensures texts { result ≡ texts_alone (entries_shown result) }
     {
         let parts = &*self.parts;
-        View::whole(ViewType::Utf8, &parts.buffers, &[], None, parts.length)
+        View::whole(
+            ViewType::Text(OffsetWidth::Narrow),
+            &parts.buffers,
+            &[],
+            None,
+            parts.length,
+        )
     }
 
     /// An array of texts as a dictionary: its parts move, so that no memory is taken and nothing is copied.

@@ -2,6 +2,7 @@
 use Rattle.std.proofs.Common.{◌≡◌, ◌∙◌, ℕ, ℤ, List, Option, Some, None, option_and_then, refl, sym, ap, subst, arith}
 use Rattle.std.proofs.lemmas.Bool.{false≢true}
 use Rattle.types.specs.declared.int_type.IntType.{IntType}
+use Rattle.types.specs.declared.offset_width.OffsetWidth.TheVariants.{Narrow}
 use Rattle.arrays.specs.Item.{Item}
 use Rattle.serde_json.specs.Data as data'
 use Rattle.serde_json.specs.Data.{Data, Items, item, no_items}
@@ -59,7 +60,7 @@ texts_law d items k p h (bad_texts_list k' p' f) =
 texts_law d items k p h (bad_texts n column k' p' count columns w) =
     let a : n ≡ h.n = cc (count, h.count) in
     let b : column ≡ h.column = cc (columns, h.columns) in
-    plain_law texts h.n h.column items k' p' h.reads (subst (λ x. ColumnFault texts x h.column k' p') a (subst (λ y. ColumnFault texts n y k' p') b w))
+    plain_law (texts Narrow) h.n h.column items k' p' h.reads (subst (λ x. ColumnFault (texts Narrow) x h.column k' p') a (subst (λ y. ColumnFault (texts Narrow) n y k' p') b w))
 
 -- an object is no array
 not_single : (d e : Data) → IsObject d → only_item d ≡ Some e → ⊥
@@ -156,7 +157,7 @@ same_texts : (d : Data) (xs ys : List Item) → ReadsTexts d xs → ReadsTexts d
 same_texts d xs ys h g =
     let n : h.n ≡ g.n = cc (h.count, g.count) in
     let column : h.column ≡ g.column = cc (h.columns, g.columns) in
-    same_plain texts g.n g.column xs ys (subst (λ m. ReadsPlain texts m g.column xs) n (subst (λ e. ReadsPlain texts h.n e xs) column h.reads)) g.reads
+    same_plain (texts Narrow) g.n g.column xs ys (subst (λ m. ReadsPlain (texts Narrow) m g.column xs) n (subst (λ e. ReadsPlain (texts Narrow) h.n e xs) column h.reads)) g.reads
 
 same_held : (d : Data) (xs ys : List Item) → HasTexts d xs → HasTexts d ys → xs ≡ ys
 same_held d xs ys (bare r) (bare q) = same_texts d xs ys r q

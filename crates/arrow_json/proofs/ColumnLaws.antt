@@ -1,8 +1,11 @@
 -- Where a fault of a column stands, it isn't read, and two readings of one column are one.
 use Rattle.std.proofs.Common.{◌≡◌, ◌∙◌, ℕ, suc, ◌<◌, ◌≤◌, Bool, true, false, List, [], ◌∷◌, Option, Some, None, option_and_then, refl, sym, ap, subst, arith}
-use Rattle.std.specs.List.{slice_get, sum_by}
+use Rattle.std.specs.List.{slice_get}
+use Rattle.std.proofs.lemmas.Bool.{false≢true}
 use Rattle.std.proofs.lemmas.Bool.Decides.{nat_tests}
 use Rattle.std.proofs.lemmas.List.Sums.{sum_by-cons}
+use Rattle.types.specs.declared.offset_width.OffsetWidth.{OffsetWidth}
+use Rattle.types.specs.declared.offset_width.OffsetWidth.TheVariants.{Narrow, Wide}
 use Rattle.arrays.specs.Item.{Item}
 use Rattle.serde_json.specs.Data as data'
 use Rattle.serde_json.specs.Data.{Data, Items}
@@ -13,8 +16,8 @@ use Rattle.json_places.specs.declared.path.Step.{Step}
 use Rattle.json_places.specs.declared.fault.JsonFaultKind.{JsonFaultKind}
 use Rattle.json_places.specs.JsonMember.{member_of, ListFault, no_array, length_differs}
 use Rattle.json_places.specs.JsonNumber.{count_of}
-use Rattle.arrow_json.specs.JsonColumn.{Spelling, is_full, flags_of, HasFlags, valid_at, slot_of, ReadsSlots, HasSlots, ReadsPlain}
-use Rattle.arrays.specs.Lengths.{is_past}
+use Rattle.arrow_json.specs.JsonColumn.{Spelling, is_past_offsets, is_full, flags_of, HasFlags, valid_at, slot_of, ReadsSlots, HasSlots, ReadsPlain}
+use Rattle.arrays.specs.Lengths.{text_length, text_bytes}
 use Rattle.arrow_json.specs.JsonColumnFault.{CountFault, no_count, other_count, FlagsFault, no_flags, NoSlots, no_column_object, bad_count, bad_flags, bad_values, SlotsFault, no_flag, no_value, too_long, ColumnFault, no_slots, bad_slots}
 use Rattle.json_places.proofs.MemberLaws.{inner, no_object, not_unlike, no_member, under_law, get_item-within, slice_get-within, slice_get_some, same_lists}
 
@@ -73,22 +76,24 @@ slot_given s (Some true) None x h = absurd cc
 slot_given s (Some false) None x h = absurd cc
 
 -- the first items hold no more than all
-sum_by-first : (size : Item → ℕ) (xs ys : List Item) → ((i : ℕ) (x : Item) → slice_get xs i ≡ Some x → slice_get ys i ≡ Some x) → sum_by size xs ≤ sum_by size ys
-sum_by-first size [] ys h = omega arith
-sum_by-first size (x ∷ xs) [] h = absurd (let e = h 0 x refl in cc)
-sum_by-first size (x ∷ xs) (y ∷ ys) h =
+text_bytes-first : (xs ys : List Item) → ((i : ℕ) (x : Item) → slice_get xs i ≡ Some x → slice_get ys i ≡ Some x) → text_bytes xs ≤ text_bytes ys
+text_bytes-first [] ys h = omega arith
+text_bytes-first (x ∷ xs) [] h = absurd (let e = h 0 x refl in cc)
+text_bytes-first (x ∷ xs) (y ∷ ys) h =
     let e = h 0 x refl in
-    let same : size y ≡ size x = ap size cc in
-    let rest = sum_by-first size xs ys (λ i z at. h (suc i) z at) in
-    omega (arith, sum_by-cons size x xs, sum_by-cons size y ys, same, rest)
+    let same : text_length y ≡ text_length x = ap text_length cc in
+    let rest = text_bytes-first xs ys (λ i z at. h (suc i) z at) in
+    omega (arith, sum_by-cons text_length x xs, sum_by-cons text_length y ys, same, rest)
 
-not_past : (m n : ℕ) → m ≤ n → is_past m ≡ true → is_past n ≡ false → ⊥
-not_past m n h past within = grind (arith, nat_tests)
+not_past : (o : Option OffsetWidth) (m n : ℕ) → m ≤ n → is_past_offsets o m ≡ true → is_past_offsets o n ≡ false → ⊥
+not_past None m n h past within = false≢true past
+not_past (Some Narrow) m n h past within = grind (arith, nat_tests)
+not_past (Some Wide) m n h past within = false≢true past
 
 long_law : (s : Spelling) (n : ℕ) (d : Data) (items first : List Item) (m : ℕ) → (h : ReadsPlain s n d items) → ReadsSlots s h.flags h.values m first → is_full s first ≡ true → ⊥
 long_law s n d items first m h reads full =
-    not_past (sum_by s.size first) (sum_by s.size items)
-    (sum_by-first s.size first items
+    not_past s.offsets (text_bytes first) (text_bytes items)
+    (text_bytes-first first items
     (λ i x at.
     let below : i < m = omega (arith, slice_get-within first i x at, reads.len) in
     let slot = sym (reads.each i below) ∙ at in

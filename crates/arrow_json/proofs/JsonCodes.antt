@@ -27,7 +27,7 @@ use Rattle.arrow_json.specs.JsonColumnFault.{NoSlots}
 use Rattle.arrow_json.specs.JsonCodes.{entry_at, indices, ReadsCodes}
 use Rattle.arrow_json.specs.JsonCodesFault.{IndicesFault, no_index_flag, no_index, past_dictionary, CodesFault, no_code_slots, bad_codes}
 use Rattle.json_places.proofs.JsonTells.{tells_at, tells_as, tells_wants}
-use Rattle.arrow_json.proofs.JsonSlots.{never_full, no_slots_yet, slots_pushed, valid_slot, null_slot}
+use Rattle.arrow_json.proofs.JsonSlots.{no_slots_yet, slots_pushed, valid_slot, null_slot}
 
 -- ---- entries
 
@@ -123,6 +123,6 @@ pub codes_read : (t : IntType) (entries : List Item) (n m : ℕ) (d : Data) (fla
     → HasSlots n d flags values → m ≡ n → items ≡ map (looked_up entries) c.items → ReadsCodes t entries n d items
 codes_read t entries n m d flags values c items h given whole shown =
     let slots = subst (λ (xs : List Item). ReadsSlots (indices t entries) flags values n xs) (sym shown) (subst (λ k. ReadsSlots (indices t entries) flags values k (map (looked_up entries) c.items)) whole h.slots) in
-    record { flags = flags; values = values; given = given; slots = slots; fits = never_full items }
+    record { flags = flags; values = values; given = given; slots = slots; fits = refl }
 
 pub ruleset column_told = (codes_no_slots, codes_slots, tells_wants)

@@ -19,6 +19,7 @@ use Rattle.arrays.specs.Kind as kind
 use Rattle.arrays.specs.Kind.{Kind}
 use Rattle.arrays.specs.Seen.{Seen}
 use Rattle.types.specs.declared.int_type.IntType.{IntType}
+use Rattle.types.specs.declared.offset_width.OffsetWidth.{OffsetWidth}
 use Rattle.arrow_json.specs.declared.column.Slots.{Slots}
 use Rattle.arrow_json.specs.SlotParts.{flags_in, values_in}
 use Rattle.arrow_json.specs.JsonBatch.{HoldsColumn, ReadsColumn}
@@ -115,8 +116,8 @@ pub holds_truths : (n : ℕ) (d : Data) (flags : Option Items) (vs : List Value)
     → ReadsSlots truths flags (items_view vs) (length vs) a.items → length vs ≡ n → is_full truths a.items ≡ false → HoldsColumn kind.boolean n d a
 holds_truths n d flags vs a same given slots whole fits = holds kind.boolean truths n d flags vs a same given slots whole fits (λ r. r)
 
-pub holds_texts : (n : ℕ) (d : Data) (flags : Option Items) (vs : List Value) (a : Seen) → a.kind ≡ kind.utf8 → HasSlots n d flags (items_view vs)
-    → ReadsSlots texts flags (items_view vs) (length vs) a.items → length vs ≡ n → is_full texts a.items ≡ false → HoldsColumn kind.utf8 n d a
-holds_texts n d flags vs a same given slots whole fits = holds kind.utf8 texts n d flags vs a same given slots whole fits (λ r. r)
+pub holds_texts : (w : OffsetWidth) (n : ℕ) (d : Data) (flags : Option Items) (vs : List Value) (a : Seen) → a.kind ≡ kind.texts w → HasSlots n d flags (items_view vs)
+    → ReadsSlots (texts w) flags (items_view vs) (length vs) a.items → length vs ≡ n → is_full (texts w) a.items ≡ false → HoldsColumn (kind.texts w) n d a
+holds_texts w n d flags vs a same given slots whole fits = holds (kind.texts w) (texts w) n d flags vs a same given slots whole fits (λ r. r)
 
 pub ruleset column_told = (column_no_slots, column_slots, holds_numbers, holds_truths, holds_texts, tells_wants)

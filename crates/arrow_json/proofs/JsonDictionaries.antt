@@ -1,5 +1,6 @@
 -- Why a fault of a dictionary stands.
 use Rattle.std.proofs.Common.{◌≡◌, ℕ, List, [], ◌∷◌, Some, None, option_and_then}
+use Rattle.types.specs.declared.offset_width.OffsetWidth.TheVariants.{Narrow}
 use Rattle.arrays.specs.Seen.{Seen}
 use Rattle.arrays.specs.Kind as kind
 use Rattle.serde_json.specs.Data.{Data, item, no_items}
@@ -32,12 +33,12 @@ texts_count d f t = tells_as (MemberFault member.Count (Unlike count_of) d) (Tex
 pub texts_list : (d : Data) (f : JsonFault) → Tells (MemberFault member.Columns (ListFault 1) d) f → Tells (TextsFault d) f
 texts_list d f t = tells_as (MemberFault member.Columns (ListFault 1) d) (TextsFault d) f (λ k p h. bad_texts_list k p h) t
 
-pub texts_column : (d : Data) (n : ℕ) (column : Data) (f g h : JsonFault) → Tells (ColumnFault texts n column) f → option_and_then count_of (member_of member.Count d) ≡ Some n
+pub texts_column : (d : Data) (n : ℕ) (column : Data) (f g h : JsonFault) → Tells (ColumnFault (texts Narrow) n column) f → option_and_then count_of (member_of member.Count d) ≡ Some n
     → option_and_then as_array (member_of member.Columns d) ≡ Some (item column no_items) → IsUnder (step.Item 0) f g → IsUnder (step.Member member.Columns) g h → Tells (TextsFault d) h
 texts_column d n column f g h t count columns up up_again =
     let Inside : JsonFaultKind → List Step → Type 0 = λ k p. TextsFault d k (step.Member member.Columns ∷ p) in
     tells_under Inside (TextsFault d) (step.Member member.Columns) g h (λ k p w. w)
-    (tells_under (ColumnFault texts n column) Inside (step.Item 0) f g (λ k p w. bad_texts n column k p count columns w) t up)
+    (tells_under (ColumnFault (texts Narrow) n column) Inside (step.Item 0) f g (λ k p w. bad_texts n column k p count columns w) t up)
     up_again
 
 pub texts_read : (d : Data) (n : ℕ) (column : Data) (s : Seen) → option_and_then count_of (member_of member.Count d) ≡ Some n

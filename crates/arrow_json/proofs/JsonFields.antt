@@ -3,6 +3,7 @@ use Rattle.std.proofs.Common.{◌≡◌, ◌≢◌, ◌∙◌, ℕ, ◌+◌, ◌
 use Rattle.std.proofs.lemmas.Bool.Decides.{nat_tests}
 use Rattle.types.specs.declared.data_type.DataType.{DataType, fold_out-DataType, map-DataType}
 use Rattle.types.specs.declared.data_type.DataType.TheVariants.{Dict, outs-Dict}
+use Rattle.types.specs.declared.offset_width.OffsetWidth.TheVariants.{Narrow}
 use Rattle.std.proofs.lemmas.List.{map-append}
 use Rattle.types.specs.declared.data_type.Field.{Field, out-Field, fold_out-Field}
 use Rattle.arrays.specs.Kind.{depth}
@@ -22,7 +23,7 @@ use Rattle.arrow_json.specs.JsonEncodingFault.{EncodedFault}
 use Rattle.arrow_json.specs.JsonFieldsFault.{TopFault, bad_top, bad_encoded, other_values, SchemaFault, no_schema_object, bad_fields, bad_field}
 use Rattle.arrow_json.specs.JsonSchema.{HasType, IsFieldOf, type_name, named_type, is_childless}
 use Rattle.arrow_json.specs.JsonFields.{IsEncodedField, ReadsField, plain_field, encoded_field}
-use Rattle.arrow_json.specs.JsonSchemaFault.{TypeFault, FieldFault, utf8_name}
+use Rattle.arrow_json.specs.JsonSchemaFault.{TypeFault, FieldFault, texts_called}
 use Rattle.json_places.proofs.JsonTells.{tells_at, tells_as, tells_under, tells_wants, tells_item_at}
 use Rattle.arrow_json.proofs.JsonFaults.{field_object, field_name_told, field_nullable_told, field_no_type, field_type_told, field_children_named}
 use Rattle.json_places.proofs.MemberLaws.{has_object}
@@ -63,7 +64,7 @@ top_other d e bytes f some at named other is =
 pub top_children : (d : Data) (f : JsonFault) → HasType d shape.utf8 → is_childless (member_of member.Children d) ≡ false → IsFault WrongMember (step.Member member.Children ∷ []) f
     → Tells (TopFault d) f
 top_children d f ty some is =
-    top_plain d f (field_children_named 0 d (codes "utf8") f (ap (option_and_then type_name) ty.at_type ∙ ty.reads) utf8_name some is)
+    top_plain d f (field_children_named 0 d (codes "utf8") f (ap (option_and_then type_name) ty.at_type ∙ ty.reads) (texts_called Narrow) some is)
 
 -- ---- a field that is read
 

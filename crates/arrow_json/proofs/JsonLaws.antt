@@ -1,5 +1,6 @@
 -- Where a fault stands, nothing is read.
 use Rattle.std.proofs.Common.{◌≡◌, ◌∙◌, ℕ, ◌<◌, ℤ, true, List, length, Option, Some, None, option_and_then, refl, sym, ap, subst, arith}
+use Rattle.types.specs.declared.offset_width.OffsetWidth.{OffsetWidth}
 use Rattle.arrays.specs.Kind as kind
 use Rattle.arrays.specs.Kind.{Kind}
 use Rattle.arrays.specs.Item.{Item}
@@ -52,17 +53,17 @@ no_lists_law n d flags offsets child k p h (bad_children k' p' f) =
     under_law member.Children (ListFault 1) d i.0 _ _ i.1 (λ k p w. list_law 1 i.0 (data'.item child data'.no_items) k p i.2 refl w) f
 
 -- a slot that is there has a flag
-no_flags_law : (fs : Items) (n : ℕ) (offsets : List ℕ) (below items : List Item) (k : JsonFaultKind) (p : List Step) → HasFlags n (Some fs) → ReadsLists (Some fs) offsets below n items
+no_flags_law : (w : OffsetWidth) (fs : Items) (n : ℕ) (offsets : List ℕ) (below items : List Item) (k : JsonFaultKind) (p : List Step) → HasFlags n (Some fs) → ReadsLists w (Some fs) offsets below n items
     → EachFault (Unlike flag_of) fs k p → ⊥
-no_flags_law fs n offsets below items k p many slots (at.item i e k' p' found u) =
+no_flags_law w fs n offsets below items k p many slots (at.item i e k' p' found u) =
     let within : i < n = omega (arith, get_item-within fs i e found, many) in
     let x = slice_get_some items i (omega (arith, slots.len)) in
     let none : valid_at (Some fs) i ≡ None = ap (option_and_then flag_of) found ∙ not_unlike flag_of e _ _ u in
-    let slot = ap (λ o. list_slot o (slot_at offsets below i)) none in
+    let slot = ap (λ o. list_slot o (slot_at w offsets below i)) none in
     cc (slots.each i within, slot, x.1)
 
-no_offset_law : (d : Data) (z : ℤ) (k : JsonFaultKind) (p : List Step) → Spells d z → NoOffset d k p → ⊥
-no_offset_law d z k p h (no_offset none) = cc (none, h)
+no_offset_law : (w : OffsetWidth) (d : Data) (z : ℤ) (k : JsonFaultKind) (p : List Step) → Spells w d z → NoOffset w d k p → ⊥
+no_offset_law w d z k p h (no_offset none) = cc (none, h)
 
 child_law : (R : ℕ → Data → List Item → Type 0) (W : ℕ → Data → JsonFaultKind → List Step → Type 0) (m : ℕ) (d : Data) (items : List Item) (k : JsonFaultKind) (p : List Step)
     → option_and_then count_of (member_of member.Count d) ≡ Some m → ((k : JsonFaultKind) (p : List Step) → W m d k p → ⊥) → ChildFault W d k p → ⊥
@@ -72,8 +73,8 @@ child_law R W m d items k p count law (bad_child_column o k' p' found w) =
     let same : o ≡ m = cc (found, count) in
     law k' p' (subst (λ x. W x d k' p') same w)
 
-not_lawful_law : (c : Kind) (n : ℕ) (offsets : List ℕ) (m : ℕ) (k : JsonFaultKind) (p : List Step) → lists_fault c n offsets m ≡ None → NotLawful c n offsets m k p → ⊥
-not_lawful_law c n offsets m k p lawful (not_lawful fault stands) = cc (lawful, stands)
+not_lawful_law : (w : OffsetWidth) (c : Kind) (n : ℕ) (offsets : List ℕ) (m : ℕ) (k : JsonFaultKind) (p : List Step) → lists_fault w c n offsets m ≡ None → NotLawful w c n offsets m k p → ⊥
+not_lawful_law w c n offsets m k p lawful (not_lawful fault stands) = cc (lawful, stands)
 
 -- what an object's flags, offsets and child are is decided by the object
 same_flags : (n m : ℕ) (d : Data) (flags fs : Option Items) (offsets os : Items) (child e : Data) → HasLists n d flags offsets child → HasLists m d fs os e → fs ≡ flags
@@ -85,36 +86,36 @@ same_offsets n m d flags fs offsets os child e h g = cc (h.listed, g.listed)
 same_child : (n m : ℕ) (d : Data) (flags fs : Option Items) (offsets os : Items) (child e : Data) → HasLists n d flags offsets child → HasLists m d fs os e → e ≡ child
 same_child n m d flags fs offsets os child e h g = cc (h.children, g.children)
 
-same_number : (d : Data) (a b : ℤ) → Spells d a → Spells d b → a ≡ b
-same_number d a b h g = cc
+same_number : (w : OffsetWidth) (d : Data) (a b : ℤ) → Spells w d a → Spells w d b → a ≡ b
+same_number w d a b h g = cc
 
-same_numbers : (offsets os : Items) (a b : List ℤ) → os ≡ offsets → ReadsEach Spells offsets a → ReadsEach Spells os b → b ≡ a
-same_numbers offsets os a b same h g = same_each Spells offsets b a same_number (subst (λ o. ReadsEach Spells o b) same g) h
+same_numbers : (w : OffsetWidth) (offsets os : Items) (a b : List ℤ) → os ≡ offsets → ReadsEach (Spells w) offsets a → ReadsEach (Spells w) os b → b ≡ a
+same_numbers w offsets os a b same h g = same_each (Spells w) offsets b a (same_number w) (subst (λ o. ReadsEach (Spells w) o b) same g) h
 
-lists_law : (R : ℕ → Data → List Item → Type 0) (W : ℕ → Data → JsonFaultKind → List Step → Type 0) (c : Kind) (n : ℕ) (d : Data) (items : List Item) (k : JsonFaultKind) (p : List Step)
+lists_law : (R : ℕ → Data → List Item → Type 0) (W : ℕ → Data → JsonFaultKind → List Step → Type 0) (w : OffsetWidth) (c : Kind) (n : ℕ) (d : Data) (items : List Item) (k : JsonFaultKind) (p : List Step)
     → ((m : ℕ) (e : Data) (xs : List Item) → R m e xs → option_and_then count_of (member_of member.Count e) ≡ Some m)
-    → ((m : ℕ) (e : Data) (xs : List Item) (k : JsonFaultKind) (p : List Step) → R m e xs → W m e k p → ⊥) → ReadsList R c n d items → ListsFault W c n d k p → ⊥
-lists_law R W c n d items k p count law h (no_lists k' p' f) = no_lists_law n d h.flags h.offsets h.child _ _ h.given f
-lists_law R W c n d items k p count law h (no_flags_of_lists flags offsets child k' p' given (no_flag_at fs k'' p'' is f)) =
+    → ((m : ℕ) (e : Data) (xs : List Item) (k : JsonFaultKind) (p : List Step) → R m e xs → W m e k p → ⊥) → ReadsList R w c n d items → ListsFault W w c n d k p → ⊥
+lists_law R W w c n d items k p count law h (no_lists k' p' f) = no_lists_law n d h.flags h.offsets h.child _ _ h.given f
+lists_law R W w c n d items k p count law h (no_flags_of_lists flags offsets child k' p' given (no_flag_at fs k'' p'' is f)) =
     let same : h.flags ≡ Some fs = sym (same_flags n n d h.flags flags h.offsets offsets h.child child h.given given) ∙ is in
-    no_flags_law fs n (offset_bytes h.numbers) h.below items _ _ (subst (HasFlags n) same h.given.flagged) (subst (λ o. ReadsLists o (offset_bytes h.numbers) h.below n items) same h.slots) f
-lists_law R W c n d items k p count law h (bad_offset flags offsets child k' p' given f) =
+    no_flags_law w fs n (offset_bytes w h.numbers) h.below items _ _ (subst (HasFlags n) same h.given.flagged) (subst (λ o. ReadsLists w o (offset_bytes w h.numbers) h.below n items) same h.slots) f
+lists_law R W w c n d items k p count law h (bad_offset flags offsets child k' p' given f) =
     let same = same_offsets n n d h.flags flags h.offsets offsets h.child child h.given given in
-    each_law Spells NoOffset h.offsets h.numbers k' p' h.spelled no_offset_law (subst (λ o. EachFault NoOffset o k' p') same f)
-lists_law R W c n d items k p count law h (bad_child flags offsets child k' p' given f) =
+    each_law (Spells w) (NoOffset w) h.offsets h.numbers k' p' h.spelled (no_offset_law w) (subst (λ o. EachFault (NoOffset w) o k' p') same f)
+lists_law R W w c n d items k p count law h (bad_child flags offsets child k' p' given f) =
     let same = same_child n n d h.flags flags h.offsets offsets h.child child h.given given in
-    child_law R W h.m h.child h.below k' p' (count h.m h.child h.below h.inner) (λ k p w. law h.m h.child h.below k p h.inner w) (subst (λ e. ChildFault W e k' p') same f)
-lists_law R W c n d items k p count law h (bad_lists flags offsets child numbers m k' p' given spelled found f) =
+    child_law R W h.m h.child h.below k' p' (count h.m h.child h.below h.inner) (λ k p f. law h.m h.child h.below k p h.inner f) (subst (λ e. ChildFault W e k' p') same f)
+lists_law R W w c n d items k p count law h (bad_lists flags offsets child numbers m k' p' given spelled found f) =
     let child_is = same_child n n d h.flags flags h.offsets offsets h.child child h.given given in
-    let numbers_are = same_numbers h.offsets offsets h.numbers numbers (same_offsets n n d h.flags flags h.offsets offsets h.child child h.given given) h.spelled spelled in
+    let numbers_are = same_numbers w h.offsets offsets h.numbers numbers (same_offsets n n d h.flags flags h.offsets offsets h.child child h.given given) h.spelled spelled in
     let m_is : m ≡ h.m = cc (ap (λ e. option_and_then count_of (member_of member.Count e)) child_is, found, count h.m h.child h.below h.inner) in
-    not_lawful_law c n (offset_bytes h.numbers) h.m k' p' h.lawful (subst (λ x. NotLawful c n (offset_bytes h.numbers) x k' p') m_is (subst (λ x. NotLawful c n (offset_bytes x) m k' p') numbers_are f))
+    not_lawful_law w c n (offset_bytes w h.numbers) h.m k' p' h.lawful (subst (λ x. NotLawful w c n (offset_bytes w h.numbers) x k' p') m_is (subst (λ x. NotLawful w c n (offset_bytes w x) m k' p') numbers_are f))
 
 column_law : (c : Kind) (n : ℕ) (d : Data) (items : List Item) (k : JsonFaultKind) (p : List Step) → ReadsColumn c n d items → KindFault c n d k p → ⊥
 column_law (kind.int t) n d items k p h f = plain_law (numbers t) n d items k p h f
 column_law kind.boolean n d items k p h f = plain_law truths n d items k p h f
-column_law kind.utf8 n d items k p h f = plain_law texts n d items k p h f
-column_law (kind.list c) n d items k p h f = lists_law (ReadsColumn c) (KindFault c) c n d items k p (column_count c) (column_law c) h f
+column_law (kind.texts w) n d items k p h f = plain_law (texts w) n d items k p h f
+column_law (kind.lists w c) n d items k p h f = lists_law (ReadsColumn c) (KindFault c) w c n d items k p (column_count c) (column_law c) h f
 column_law kind.dict n d items k p h f = absurd h
 
 -- ---- batches and files
@@ -163,29 +164,29 @@ bytes_law bytes f k p h (bad_file d k' p' text parsed w) =
 
 -- ---- two readings of one file are one
 
-same_list_column : (R : ℕ → Data → List Item → Type 0) (c : Kind) (n : ℕ) (d : Data) (xs ys : List Item)
+same_list_column : (R : ℕ → Data → List Item → Type 0) (w : OffsetWidth) (c : Kind) (n : ℕ) (d : Data) (xs ys : List Item)
     → ((m : ℕ) (e : Data) (zs : List Item) → R m e zs → option_and_then count_of (member_of member.Count e) ≡ Some m)
-    → ((m : ℕ) (e : Data) (vs ws : List Item) → R m e vs → R m e ws → vs ≡ ws) → ReadsList R c n d xs → ReadsList R c n d ys → xs ≡ ys
-same_list_column R c n d xs ys count law h g =
+    → ((m : ℕ) (e : Data) (vs ws : List Item) → R m e vs → R m e ws → vs ≡ ws) → ReadsList R w c n d xs → ReadsList R w c n d ys → xs ≡ ys
+same_list_column R w c n d xs ys count law h g =
     let flags = same_flags n n d g.flags h.flags g.offsets h.offsets g.child h.child g.given h.given in
     let child = same_child n n d g.flags h.flags g.offsets h.offsets g.child h.child g.given h.given in
-    let numbers = same_numbers g.offsets h.offsets g.numbers h.numbers (same_offsets n n d g.flags h.flags g.offsets h.offsets g.child h.child g.given h.given) g.spelled h.spelled in
+    let numbers = same_numbers w g.offsets h.offsets g.numbers h.numbers (same_offsets n n d g.flags h.flags g.offsets h.offsets g.child h.child g.given h.given) g.spelled h.spelled in
     let m : h.m ≡ g.m = cc (ap (λ e. option_and_then count_of (member_of member.Count e)) child, count h.m h.child h.below h.inner, count g.m g.child g.below g.inner) in
     let below : h.below ≡ g.below = law g.m g.child h.below g.below (subst (λ e. R g.m e h.below) child (subst (λ l. R l h.child h.below) m h.inner)) g.inner in
     same_lists xs ys (h.slots.len ∙ sym g.slots.len)
     (λ i x y at at'.
     let within : i < n = omega (arith, slice_get-within xs i x at, h.slots.len) in
-    let slot : list_slot (valid_at h.flags i) (slot_at (offset_bytes h.numbers) h.below i) ≡ list_slot (valid_at g.flags i) (slot_at (offset_bytes g.numbers) g.below i) =
-    ap (λ fs. list_slot (valid_at fs i) (slot_at (offset_bytes h.numbers) h.below i)) flags
-    ∙ (ap (λ ns. list_slot (valid_at g.flags i) (slot_at (offset_bytes ns) h.below i)) numbers ∙ ap (λ zs. list_slot (valid_at g.flags i) (slot_at (offset_bytes g.numbers) zs i)) below) in
+    let slot : list_slot (valid_at h.flags i) (slot_at w (offset_bytes w h.numbers) h.below i) ≡ list_slot (valid_at g.flags i) (slot_at w (offset_bytes w g.numbers) g.below i) =
+    ap (λ fs. list_slot (valid_at fs i) (slot_at w (offset_bytes w h.numbers) h.below i)) flags
+    ∙ (ap (λ ns. list_slot (valid_at g.flags i) (slot_at w (offset_bytes w ns) h.below i)) numbers ∙ ap (λ zs. list_slot (valid_at g.flags i) (slot_at w (offset_bytes w g.numbers) zs i)) below) in
     let e : Some x ≡ Some y = sym at ∙ (h.slots.each i within ∙ (slot ∙ (sym (g.slots.each i within) ∙ at'))) in
     cc)
 
 same_column : (k : Kind) (n : ℕ) (d : Data) (xs ys : List Item) → ReadsColumn k n d xs → ReadsColumn k n d ys → xs ≡ ys
 same_column (kind.int t) n d xs ys h g = same_plain (numbers t) n d xs ys h g
 same_column kind.boolean n d xs ys h g = same_plain truths n d xs ys h g
-same_column kind.utf8 n d xs ys h g = same_plain texts n d xs ys h g
-same_column (kind.list k) n d xs ys h g = same_list_column (ReadsColumn k) k n d xs ys (column_count k) (same_column k) h g
+same_column (kind.texts w) n d xs ys h g = same_plain (texts w) n d xs ys h g
+same_column (kind.lists w k) n d xs ys h g = same_list_column (ReadsColumn k) w k n d xs ys (column_count k) (same_column k) h g
 same_column kind.dict n d xs ys h g = absurd h
 
 same_coded : (a : Kind) (c : Option Coding) (n : ℕ) (d : Data) (xs ys : List Item) → ReadsTop a c n d xs → ReadsTop a c n d ys → xs ≡ ys

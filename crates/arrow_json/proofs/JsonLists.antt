@@ -9,12 +9,14 @@ use Rattle.layout.specs.declared.fault.LayoutFault.{LayoutFault}
 use Rattle.layout.specs.declared.fault.LayoutFault.TheVariants as layout
 use Rattle.types.specs.declared.data_type.Field.{Field, out-Field}
 use Rattle.types.proofs.ShapeLemmas.{kind_of_field-field_of}
+use Rattle.types.specs.declared.offset_width.OffsetWidth.{OffsetWidth}
+use Rattle.types.specs.OffsetWidth.{offset_type}
 use Rattle.arrays.specs.Fault.{own_fault, is_validity_short}
 use Rattle.arrays.specs.FromParts.{list_parts, show_lists}
 use Rattle.arrays.specs.Item as column
 use Rattle.arrays.specs.Item.{Item, list_of}
 use Rattle.arrays.specs.Kind as kind
-use Rattle.arrays.specs.Kind.{Kind, kind_of, same_kind, int32}
+use Rattle.arrays.specs.Kind.{Kind, kind_of, same_kind}
 use Rattle.arrays.specs.Layout.{is_valid_in}
 use Rattle.arrays.specs.Number.{bytes_of_number}
 use Rattle.arrays.specs.Offsets.{slot_at}
@@ -149,16 +151,17 @@ pub ruleset validity_told = (no_flags_hold, tells_flags_under, flags_hold, tells
 
 -- ---- offsets
 
-pub offset_bytes-push : (numbers : List ℤ) (z : ℤ) → offset_bytes (numbers ++ z ∷ []) ≡ offset_bytes numbers ++ bytes_of_number int32 z
-offset_bytes-push numbers z = flat_map-append (bytes_of_number int32) numbers (z ∷ []) ∙ ap (λ last. offset_bytes numbers ++ last) (append-nil (bytes_of_number int32 z))
+pub offset_bytes-push : (w : OffsetWidth) (numbers : List ℤ) (z : ℤ) → offset_bytes w (numbers ++ z ∷ []) ≡ offset_bytes w numbers ++ bytes_of_number (offset_type w) z
+offset_bytes-push w numbers z =
+    flat_map-append (bytes_of_number (offset_type w)) numbers (z ∷ []) ∙ ap (λ last. offset_bytes w numbers ++ last) (append-nil (bytes_of_number (offset_type w) z))
 
-pub tells_no_offset : (vs : List Value) (i : ℕ) (v : Value) (f : JsonFault) → integer_of int32 (view v) ≡ None → i < length vs → v ≡ get_or vs i v → IsFault BadOffset (step.Item i ∷ []) f
-    → Tells (EachFault NoOffset (items_view vs)) f
-tells_no_offset vs i v f none within at_value is =
-    tells_at (EachFault NoOffset (items_view vs)) BadOffset (step.Item i ∷ []) f (at.item i (view v) BadOffset [] (at_index vs i v within at_value) (no_offset none)) is
+pub tells_no_offset : (w : OffsetWidth) (vs : List Value) (i : ℕ) (v : Value) (f : JsonFault) → integer_of (offset_type w) (view v) ≡ None → i < length vs → v ≡ get_or vs i v
+    → IsFault BadOffset (step.Item i ∷ []) f → Tells (EachFault (NoOffset w) (items_view vs)) f
+tells_no_offset w vs i v f none within at_value is =
+    tells_at (EachFault (NoOffset w) (items_view vs)) BadOffset (step.Item i ∷ []) f (at.item i (view v) BadOffset [] (at_index vs i v within at_value) (no_offset none)) is
 
-pub offsets_kept : (offsets : Items) (bytes kept : List ℕ) → HoldsOffsets offsets bytes → kept ≡ bytes → HoldsOffsets offsets kept
-offsets_kept offsets bytes kept h same = record { numbers = h.numbers; spelled = h.spelled; laid = same ∙ h.laid }
+pub offsets_kept : (w : OffsetWidth) (offsets : Items) (bytes kept : List ℕ) → HoldsOffsets w offsets bytes → kept ≡ bytes → HoldsOffsets w offsets kept
+offsets_kept w offsets bytes kept h same = record { numbers = h.numbers; spelled = h.spelled; laid = same ∙ h.laid }
 
 pub ruleset offsets_told = (tells_no_offset, offsets_kept, tells_wants)
 
@@ -169,23 +172,23 @@ same-alone None = refl
 same-alone (Some fault) = refl
 
 -- a validity that is long enough is no fault
-pub lists_fault-is : (n : ℕ) (validity : Option (List ℕ)) (offsets : List ℕ) (child : Seen) → is_validity_short n validity ≡ false
-    → (list_parts child.kind n validity offsets child).fault ≡ lists_fault child.kind n offsets (length child.items)
+pub lists_fault-is : (w : OffsetWidth) (n : ℕ) (validity : Option (List ℕ)) (offsets : List ℕ) (child : Seen) → is_validity_short n validity ≡ false
+    → (list_parts w child.kind n validity offsets child).fault ≡ lists_fault w child.kind n offsets (length child.items)
 unfolding read_parts own_fault
-lists_fault-is n validity offsets child enough = rw enough (same-alone _)
+lists_fault-is w n validity offsets child enough = rw enough (same-alone _)
 
 -- the copy of a field has its kind
 pub kind_copied : (f g : Field) → field_of f ≡ field_of g → kind_of (out-Field f).ty ≡ kind_of (out-Field g).ty
 kind_copied f g same = sym (kind_of_field-field_of f) ∙ (ap kind_of_field same ∙ kind_of_field-field_of g)
 
-pub tells_not_lawful : (k : Kind) (n : ℕ) (offsets : List ℕ) (m : ℕ) (fault : LayoutFault) (f : JsonFault) → lists_fault k n offsets m ≡ Some fault → IsFault (Layout fault) [] f
-    → Tells (NotLawful k n offsets m) f
-tells_not_lawful k n offsets m fault f stands is = tells_at (NotLawful k n offsets m) (Layout fault) [] f (not_lawful fault stands) is
+pub tells_not_lawful : (w : OffsetWidth) (k : Kind) (n : ℕ) (offsets : List ℕ) (m : ℕ) (fault : LayoutFault) (f : JsonFault) → lists_fault w k n offsets m ≡ Some fault
+    → IsFault (Layout fault) [] f → Tells (NotLawful w k n offsets m) f
+tells_not_lawful w k n offsets m fault f stands is = tells_at (NotLawful w k n offsets m) (Layout fault) [] f (not_lawful fault stands) is
 
-pub tells_tried : (k : Kind) (n : ℕ) (offsets : List ℕ) (m : ℕ) (fault : LayoutFault) (f : JsonFault) (o : Option LayoutFault) → o ≡ lists_fault k n offsets m
-    → (o ≡ Some fault) ⊎ (fault ≡ layout.NoMemory) → IsFault (Layout fault) [] f → (fault ≡ layout.NoMemory → f ≡ no_memory) → Tells (NotLawful k n offsets m) f
-tells_tried k n offsets m fault f o same (inl stands) told wants = tells_not_lawful k n offsets m fault f (sym same ∙ stands) told
-tells_tried k n offsets m fault f o same (inr none) told wants = tells_wants (NotLawful k n offsets m) f (wants none)
+pub tells_tried : (w : OffsetWidth) (k : Kind) (n : ℕ) (offsets : List ℕ) (m : ℕ) (fault : LayoutFault) (f : JsonFault) (o : Option LayoutFault) → o ≡ lists_fault w k n offsets m
+    → (o ≡ Some fault) ⊎ (fault ≡ layout.NoMemory) → IsFault (Layout fault) [] f → (fault ≡ layout.NoMemory → f ≡ no_memory) → Tells (NotLawful w k n offsets m) f
+tells_tried w k n offsets m fault f o same (inl stands) told wants = tells_not_lawful w k n offsets m fault f (sym same ∙ stands) told
+tells_tried w k n offsets m fault f o same (inr none) told wants = tells_wants (NotLawful w k n offsets m) f (wants none)
 
 pub ruleset lists_made = (tells_not_lawful, tells_wants)
 
@@ -208,24 +211,24 @@ pub ruleset child_told = (child_object, child_count, child_column, child_holds)
 
 -- ---- a column
 
-pub lists_no_parts : (W : ℕ → Data → JsonFaultKind → List Step → Type 0) (k : Kind) (n : ℕ) (d : Data) (f : JsonFault) → Tells (NoLists n d) f → Tells (ListsFault W k n d) f
-lists_no_parts W k n d f t = tells_as (NoLists n d) (ListsFault W k n d) f (λ a p h. no_lists a p h) t
+pub lists_no_parts : (W : ℕ → Data → JsonFaultKind → List Step → Type 0) (w : OffsetWidth) (k : Kind) (n : ℕ) (d : Data) (f : JsonFault) → Tells (NoLists n d) f → Tells (ListsFault W w k n d) f
+lists_no_parts W w k n d f t = tells_as (NoLists n d) (ListsFault W w k n d) f (λ a p h. no_lists a p h) t
 
-pub lists_flags : (W : ℕ → Data → JsonFaultKind → List Step → Type 0) (k : Kind) (n : ℕ) (d : Data) (f : JsonFault) (flags : Option Items) (offsets : Items) (child : Data)
-    → Tells (NoFlags flags) f → HasLists n d flags offsets child → Tells (ListsFault W k n d) f
-lists_flags W k n d f flags offsets child t given = tells_as (NoFlags flags) (ListsFault W k n d) f (λ a p h. no_flags_of_lists flags offsets child a p given h) t
+pub lists_flags : (W : ℕ → Data → JsonFaultKind → List Step → Type 0) (w : OffsetWidth) (k : Kind) (n : ℕ) (d : Data) (f : JsonFault) (flags : Option Items) (offsets : Items) (child : Data)
+    → Tells (NoFlags flags) f → HasLists n d flags offsets child → Tells (ListsFault W w k n d) f
+lists_flags W w k n d f flags offsets child t given = tells_as (NoFlags flags) (ListsFault W w k n d) f (λ a p h. no_flags_of_lists flags offsets child a p given h) t
 
-pub lists_offsets : (W : ℕ → Data → JsonFaultKind → List Step → Type 0) (k : Kind) (n : ℕ) (d : Data) (f g : JsonFault) (flags : Option Items) (offsets : Items) (child : Data)
-    → Tells (EachFault NoOffset offsets) f → HasLists n d flags offsets child → IsUnder (step.Member member.Offset) f g → Tells (ListsFault W k n d) g
-lists_offsets W k n d f g flags offsets child t given up =
-    tells_under (EachFault NoOffset offsets) (ListsFault W k n d) (step.Member member.Offset) f g (λ a p h. bad_offset flags offsets child a p given h) t up
+pub lists_offsets : (W : ℕ → Data → JsonFaultKind → List Step → Type 0) (w : OffsetWidth) (k : Kind) (n : ℕ) (d : Data) (f g : JsonFault) (flags : Option Items) (offsets : Items) (child : Data)
+    → Tells (EachFault (NoOffset w) offsets) f → HasLists n d flags offsets child → IsUnder (step.Member member.Offset) f g → Tells (ListsFault W w k n d) g
+lists_offsets W w k n d f g flags offsets child t given up =
+    tells_under (EachFault (NoOffset w) offsets) (ListsFault W w k n d) (step.Member member.Offset) f g (λ a p h. bad_offset flags offsets child a p given h) t up
 
-pub lists_child : (W : ℕ → Data → JsonFaultKind → List Step → Type 0) (k : Kind) (n : ℕ) (d : Data) (f g h : JsonFault) (flags : Option Items) (offsets : Items) (child : Data)
-    → Tells (ChildFault W child) f → HasLists n d flags offsets child → IsUnder (step.Item 0) f g → IsUnder (step.Member member.Children) g h → Tells (ListsFault W k n d) h
-lists_child W k n d f g h flags offsets child t given up up_again =
-    let Inside : JsonFaultKind → List Step → Type 0 = λ a p. ListsFault W k n d a (step.Member member.Children ∷ p) in
-    tells_under Inside (ListsFault W k n d) (step.Member member.Children) g h (λ a p w. w)
-    (tells_under (ChildFault W child) Inside (step.Item 0) f g (λ a p w. bad_child flags offsets child a p given w) t up)
+pub lists_child : (W : ℕ → Data → JsonFaultKind → List Step → Type 0) (w : OffsetWidth) (k : Kind) (n : ℕ) (d : Data) (f g h : JsonFault) (flags : Option Items) (offsets : Items) (child : Data)
+    → Tells (ChildFault W child) f → HasLists n d flags offsets child → IsUnder (step.Item 0) f g → IsUnder (step.Member member.Children) g h → Tells (ListsFault W w k n d) h
+lists_child W w k n d f g h flags offsets child t given up up_again =
+    let Inside : JsonFaultKind → List Step → Type 0 = λ a p. ListsFault W w k n d a (step.Member member.Children ∷ p) in
+    tells_under Inside (ListsFault W w k n d) (step.Member member.Children) g h (λ a p x. x)
+    (tells_under (ChildFault W child) Inside (step.Item 0) f g (λ a p x. bad_child flags offsets child a p given x) t up)
     up_again
 
 -- ---- what an object of a column says of itself
@@ -234,26 +237,26 @@ lists_child W k n d f g h flags offsets child t given up up_again =
 pub column_count : (k : Kind) (n : ℕ) (d : Data) (items : List Item) → ReadsColumn k n d items → option_and_then count_of (member_of member.Count d) ≡ Some n
 column_count (kind.int t) n d items h = h.given.count
 column_count kind.boolean n d items h = h.given.count
-column_count kind.utf8 n d items h = h.given.count
-column_count (kind.list k) n d items h = h.given.count
+column_count (kind.texts w) n d items h = h.given.count
+column_count (kind.lists w k) n d items h = h.given.count
 column_count kind.dict n d items h = absurd h
 
 -- no column of codes is read
 pub column_plain : (k : Kind) (n : ℕ) (d : Data) (items : List Item) → ReadsColumn k n d items → same_kind k kind.dict ≡ false
 column_plain (kind.int t) n d items h = refl
 column_plain kind.boolean n d items h = refl
-column_plain kind.utf8 n d items h = refl
-column_plain (kind.list k) n d items h = refl
+column_plain (kind.texts w) n d items h = refl
+column_plain (kind.lists w k) n d items h = refl
 column_plain kind.dict n d items h = absurd h
 
-pub lists_not_lawful : (W : ℕ → Data → JsonFaultKind → List Step → Type 0) (k : Kind) (n : ℕ) (d : Data) (f : JsonFault) (flags : Option Items) (offsets : Items) (child : Data) (bytes : List ℕ) (s : Seen)
-    → Tells (NotLawful s.kind n bytes (length s.items)) f → HasLists n d flags offsets child → HoldsOffsets offsets bytes → HoldsColumn k (length s.items) child s
-    → Tells (ListsFault W k n d) f
-lists_not_lawful W k n d f flags offsets child bytes s t given held column =
-    tells_as (NotLawful s.kind n bytes (length s.items)) (ListsFault W k n d) f
+pub lists_not_lawful : (W : ℕ → Data → JsonFaultKind → List Step → Type 0) (w : OffsetWidth) (k : Kind) (n : ℕ) (d : Data) (f : JsonFault) (flags : Option Items) (offsets : Items) (child : Data)
+    (bytes : List ℕ) (s : Seen) → Tells (NotLawful w s.kind n bytes (length s.items)) f → HasLists n d flags offsets child → HoldsOffsets w offsets bytes → HoldsColumn k (length s.items) child s
+    → Tells (ListsFault W w k n d) f
+lists_not_lawful W w k n d f flags offsets child bytes s t given held column =
+    tells_as (NotLawful w s.kind n bytes (length s.items)) (ListsFault W w k n d) f
     (λ a p h.
     bad_lists flags offsets child held.numbers (length s.items) a p given held.spelled (column_count k (length s.items) child s.items column.reads)
-    (subst (λ x. NotLawful x n (offset_bytes held.numbers) (length s.items) a p) column.kind (subst (λ x. NotLawful s.kind n x (length s.items) a p) held.laid h)))
+    (subst (λ x. NotLawful w x n (offset_bytes w held.numbers) (length s.items) a p) column.kind (subst (λ x. NotLawful w s.kind n x (length s.items) a p) held.laid h)))
     t
 
 -- ---- what its lists are
@@ -262,10 +265,10 @@ slot_shown : (b : Bool) (items : List Item) → Some (cond b (column.list (list_
 slot_shown true items = refl
 slot_shown false items = refl
 
-shown_slots : (n : ℕ) (flags : Option Items) (validity : Option (List ℕ)) (offsets : List ℕ) (child : Seen) → HoldsFlags flags n validity
-    → ReadsLists flags offsets child.items n (show_lists n validity offsets child).items
-shown_slots n flags validity offsets child held =
-    let slot : ℕ → Item = λ j. cond (is_valid_in validity j) (column.list (list_of (slot_at offsets child.items j))) column.null in
+shown_slots : (w : OffsetWidth) (n : ℕ) (flags : Option Items) (validity : Option (List ℕ)) (offsets : List ℕ) (child : Seen) → HoldsFlags flags n validity
+    → ReadsLists w flags offsets child.items n (show_lists w n validity offsets child).items
+shown_slots w n flags validity offsets child held =
+    let slot : ℕ → Item = λ j. cond (is_valid_in validity j) (column.list (list_of (slot_at w offsets child.items j))) column.null in
     let len : length (map slot (range_with_len 0 n)) ≡ n = length-map-range_with_len slot 0 n in
     record {
       len = len;
@@ -273,18 +276,18 @@ shown_slots n flags validity offsets child held =
           λ i below.
           slice_get-get_or (map slot (range_with_len 0 n)) i column.null (omega (arith, below, len))
           ∙ ap Some (get_or-map-range_with_len slot 0 n i i column.null below (omega arith))
-          ∙ slot_shown (is_valid_in validity i) (slot_at offsets child.items i)
-          ∙ ap (λ o. list_slot o (slot_at offsets child.items i)) (sym (held.each i below));
+          ∙ slot_shown (is_valid_in validity i) (slot_at w offsets child.items i)
+          ∙ ap (λ o. list_slot o (slot_at w offsets child.items i)) (sym (held.each i below));
     }
 
-pub lists_hold : (k : Kind) (n : ℕ) (d : Data) (flags : Option Items) (offsets : Items) (child : Data) (validity : Option (List ℕ)) (bytes : List ℕ) (s a : Seen)
-    → HasLists n d flags offsets child → HoldsFlags flags n validity → HoldsOffsets offsets bytes → HoldsColumn k (length s.items) child s
-    → lists_fault s.kind n bytes (length s.items) ≡ None → a ≡ (list_parts s.kind n validity bytes s).seen → HoldsColumn (kind.list k) n d a
-lists_hold k n d flags offsets child validity bytes s a given held numbers column lawful is =
-    let shown : a ≡ show_lists n validity bytes s = is ∙ show_read_lists n validity bytes s in
-    let slots : ReadsLists flags bytes s.items n a.items = subst (λ (x : Seen). ReadsLists flags bytes s.items n x.items) (sym shown) (shown_slots n flags validity bytes s held) in
+pub lists_hold : (w : OffsetWidth) (k : Kind) (n : ℕ) (d : Data) (flags : Option Items) (offsets : Items) (child : Data) (validity : Option (List ℕ)) (bytes : List ℕ) (s a : Seen)
+    → HasLists n d flags offsets child → HoldsFlags flags n validity → HoldsOffsets w offsets bytes → HoldsColumn k (length s.items) child s
+    → lists_fault w s.kind n bytes (length s.items) ≡ None → a ≡ (list_parts w s.kind n validity bytes s).seen → HoldsColumn (kind.lists w k) n d a
+lists_hold w k n d flags offsets child validity bytes s a given held numbers column lawful is =
+    let shown : a ≡ show_lists w n validity bytes s = is ∙ show_read_lists w n validity bytes s in
+    let slots : ReadsLists w flags bytes s.items n a.items = subst (λ (x : Seen). ReadsLists w flags bytes s.items n x.items) (sym shown) (shown_slots w n flags validity bytes s held) in
     record {
-      kind = ap (λ (x : Seen). x.kind) shown ∙ ap kind.list column.kind;
+      kind = ap (λ (x : Seen). x.kind) shown ∙ ap (kind.lists w) column.kind;
       len = slots.len;
       reads = record {
         flags = flags;
@@ -296,8 +299,8 @@ lists_hold k n d flags offsets child validity bytes s a given held numbers colum
         m = length s.items;
         below = s.items;
         inner = column.reads;
-        lawful = ap (λ x. lists_fault x n (offset_bytes numbers.numbers) (length s.items)) (sym column.kind) ∙ (ap (λ x. lists_fault s.kind n x (length s.items)) (sym numbers.laid) ∙ lawful);
-        slots = subst (λ x. ReadsLists flags x s.items n a.items) numbers.laid slots;
+        lawful = ap (λ x. lists_fault w x n (offset_bytes w numbers.numbers) (length s.items)) (sym column.kind) ∙ (ap (λ x. lists_fault w s.kind n x (length s.items)) (sym numbers.laid) ∙ lawful);
+        slots = subst (λ x. ReadsLists w flags x s.items n a.items) numbers.laid slots;
       };
     }
 

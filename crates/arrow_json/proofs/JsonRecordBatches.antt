@@ -1,13 +1,15 @@
 -- Columns that are read make a lawful record batch.
-use Rattle.std.proofs.Common.{◌≡◌, ◌∙◌, ℕ, zero, suc, ◌^◌, ◌<◌, ◌==◌, Bool, true, false, not, nat_lt, List, [], ◌∷◌, length, map, Option, Some, None, option_map, option_and_then, refl, sym, ap, subst, arith}
+use Rattle.std.proofs.Common.{◌≡◌, ◌∙◌, ℕ, zero, suc, ◌^◌, ◌<◌, ◌==◌, Bool, true, false, not, ◌&&◌, nat_lt, List, [], ◌∷◌, length, map, Option, Some, None, option_map, option_and_then, refl, sym, ap, subst, arith}
 use Rattle.std.specs.List.{slice_get, zip}
 use Rattle.std.proofs.lemmas.List.{length-map}
 use Rattle.std.proofs.lemmas.Option.{slice_get-map, slice_get_within}
 use Rattle.std.proofs.lemmas.Bool.Decides.{nat_tests}
 use Rattle.arrays.specs.Kind as kind
-use Rattle.arrays.specs.Kind.{Kind, same_kind, same_int}
+use Rattle.arrays.specs.Kind.{Kind, same_kind, same_int, same_offsets}
 use Rattle.types.specs.declared.int_type.Width.{Width}
 use Rattle.types.specs.declared.int_type.Width.TheVariants.{W8, W16, W32, W64}
+use Rattle.types.specs.declared.offset_width.OffsetWidth.{OffsetWidth}
+use Rattle.types.specs.declared.offset_width.OffsetWidth.TheVariants.{Narrow, Wide}
 use Rattle.arrays.specs.Shape.{FieldShape, fields_of, kind_of_field}
 use Rattle.types.specs.declared.data_type.Field.{Field}
 use Rattle.arrays.specs.Seen.{Seen}
@@ -37,11 +39,15 @@ same_int_by W32 false = refl
 same_int_by W64 true = refl
 same_int_by W64 false = refl
 
+same_offsets-itself : (w : OffsetWidth) → same_offsets w w ≡ true
+same_offsets-itself Narrow = refl
+same_offsets-itself Wide = refl
+
 same_kind-itself : (k : Kind) → same_kind k k ≡ true
 same_kind-itself (kind.int t) = same_int_by t.bits t.signed
 same_kind-itself kind.boolean = refl
-same_kind-itself kind.utf8 = refl
-same_kind-itself (kind.list k) = same_kind-itself k
+same_kind-itself (kind.texts w) = same_offsets-itself w
+same_kind-itself (kind.lists w k) = ap (λ b. b && same_kind k k) (same_offsets-itself w) ∙ same_kind-itself k
 same_kind-itself kind.dict = refl
 
 both_at : {A B : Type 0} (xs : List A) (ys : List B) (i : ℕ) (p : A × B) → slice_get (zip xs ys) i ≡ Some p → (slice_get xs i ≡ Some p.0) × (slice_get ys i ≡ Some p.1)

@@ -4,7 +4,7 @@ use Rattle.std.specs.List.{slice_get, position_or_len}
 use Rattle.std.proofs.lemmas.Bool.Decides.{nat_tests}
 use Rattle.std.proofs.lemmas.Option.{slice_get_within}
 use Rattle.arrays.specs.Kind.{ends_in_dict}
-use Rattle.arrays.specs.Shape.{Shape, FieldShape, int, boolean, utf8, list, dict, field, kind_of_field, kind_of_shape}
+use Rattle.arrays.specs.Shape.{Shape, FieldShape, int, boolean, texts, lists, dict, field, kind_of_field, kind_of_shape}
 use Rattle.arrays.specs.Schema.{schema_fault, is_deep, holds_dict}
 use Rattle.serde_json.specs.Data.{Data, Items}
 use Rattle.json_places.specs.JsonMember.{ReadsEach}
@@ -20,15 +20,15 @@ mutual
   no_dict_shape : (d : Data) (s : Shape) → HasChildren d s → ends_in_dict (kind_of_shape s) ≡ false
   no_dict_shape d (int t) h = refl
   no_dict_shape d boolean h = refl
-  no_dict_shape d utf8 h = refl
-  no_dict_shape d (list f) h = no_dict h.0 f h.2
+  no_dict_shape d (texts w) h = refl
+  no_dict_shape d (lists w f) h = no_dict h.0 f h.2
   no_dict_shape d dict h = absurd h
 
 holds_none : (d : Data) (f : FieldShape) → IsFieldOf d f → holds_dict f ≡ false
 holds_none d (field bytes b (int t)) h = refl
 holds_none d (field bytes b boolean) h = refl
-holds_none d (field bytes b utf8) h = refl
-holds_none d (field bytes b (list f)) h = no_dict h.1.0 f h.1.2
+holds_none d (field bytes b (texts w)) h = refl
+holds_none d (field bytes b (lists w f)) h = no_dict h.1.0 f h.1.2
 holds_none d (field bytes b dict) h = refl
 
 field_flat : (d : Data) (f : FieldShape) → ReadsField d f → (is_deep f ≡ false) × (holds_dict f ≡ false)

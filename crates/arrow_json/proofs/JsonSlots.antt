@@ -1,10 +1,12 @@
 -- The slots of a column added one after another.
 use Rattle.std.proofs.Common.{◌≡◌, ◌∙◌, ℕ, ◌+◌, ℤ, Bool, List, [], ◌∷◌, ◌++◌, Option, Some, None, true, false, option_map, refl, sym, ap, subst, arith, length-append, below_more}
-use Rattle.std.specs.List.{slice_get, sum_by}
+use Rattle.std.specs.List.{slice_get}
 use Rattle.types.specs.declared.int_type.IntType.{IntType}
+use Rattle.types.specs.declared.offset_width.OffsetWidth.{OffsetWidth}
+use Rattle.types.specs.OffsetWidth as offsets
 use Rattle.arrays.specs.Item as column
 use Rattle.arrays.specs.Item.{Item}
-use Rattle.arrays.specs.Lengths.{is_past, text_bytes}
+use Rattle.arrays.specs.Lengths.{text_bytes}
 use Rattle.serde_json.specs.Data.{Data, Items}
 use Rattle.serde_json.specs.Find.{get_item, as_str}
 use Rattle.layout.specs.declared.fault.LayoutFault.TheVariants as layout
@@ -23,26 +25,17 @@ use Rattle.json_places.proofs.JsonTells.{tells_at, tells_wants}
 use Rattle.json_places.proofs.JsonItems.{slice_get-front, slice_get-last}
 use Rattle.arrow_json.proofs.JsonColumnFaults.{at_index}
 
--- ---- what offsets count
-
-nothing : (xs : List Item) → sum_by (λ (x : Item). 0) xs ≡ 0
-nothing [] = refl
-nothing (x ∷ xs) = nothing xs
-
--- a column without offsets is never full
-pub never_full : (xs : List Item) → is_past (sum_by (λ (x : Item). 0) xs) ≡ false
-never_full xs = ap is_past (nothing xs)
-
 -- ---- a value is taken
 
 pub number_taken : (t : IntType) (old new : List Item) (d : Data) (z : ℤ) → Some z ≡ integer_of t d → new ≡ old ++ column.int z ∷ [] → IsWith (numbers t) old d new
-number_taken t old new d z is grown = record { item = column.int z; spelled = ap (option_map column.int) (sym is); grown = grown; fits = never_full new }
+number_taken t old new d z is grown = record { item = column.int z; spelled = ap (option_map column.int) (sym is); grown = grown; fits = refl }
 
 pub truth_taken : (old new : List Item) (d : Data) (b : Bool) → Some b ≡ flag_of d → new ≡ old ++ column.boolean b ∷ [] → IsWith truths old d new
-truth_taken old new d b is grown = record { item = column.boolean b; spelled = ap (option_map column.boolean) (sym is); grown = grown; fits = never_full new }
+truth_taken old new d b is grown = record { item = column.boolean b; spelled = ap (option_map column.boolean) (sym is); grown = grown; fits = refl }
 
-pub text_taken : (old new : List Item) (d : Data) (t : List ℕ) → as_str d ≡ Some t → new ≡ old ++ column.text t ∷ [] → is_past (text_bytes new) ≡ false → IsWith texts old d new
-text_taken old new d t is grown fits = record { item = column.text t; spelled = ap (option_map column.text) is; grown = grown; fits = fits }
+pub text_taken : (w : OffsetWidth) (old new : List Item) (d : Data) (t : List ℕ) → as_str d ≡ Some t → new ≡ old ++ column.text t ∷ [] → offsets.is_full w (text_bytes new) ≡ false
+    → IsWith (texts w) old d new
+text_taken w old new d t is grown fits = record { item = column.text t; spelled = ap (option_map column.text) is; grown = grown; fits = fits }
 
 pub no_number : (t : IntType) (old : List Item) (d : Data) → integer_of t d ≡ None → IsUnfit (numbers t) old d (unfit.Unspelled BadNumber)
 no_number t old d none = spells_nothing (ap (option_map column.int) none)
@@ -50,11 +43,12 @@ no_number t old d none = spells_nothing (ap (option_map column.int) none)
 pub no_truth : (old : List Item) (d : Data) → flag_of d ≡ None → IsUnfit truths old d (unfit.Unspelled WrongMember)
 no_truth old d none = spells_nothing (ap (option_map column.boolean) none)
 
-pub no_text : (old : List Item) (d : Data) → as_str d ≡ None → IsUnfit texts old d (unfit.Unspelled WrongMember)
-no_text old d none = spells_nothing (ap (option_map column.text) none)
+pub no_text : (w : OffsetWidth) (old : List Item) (d : Data) → as_str d ≡ None → IsUnfit (texts w) old d (unfit.Unspelled WrongMember)
+no_text w old d none = spells_nothing (ap (option_map column.text) none)
 
-pub no_room : (old : List Item) (d : Data) (t : List ℕ) → as_str d ≡ Some t → is_past (text_bytes (old ++ column.text t ∷ [])) ≡ true → IsUnfit texts old d unfit.TooLong
-no_room old d t is past = has_no_room (column.text t) (ap (option_map column.text) is) past
+pub no_room : (w : OffsetWidth) (old : List Item) (d : Data) (t : List ℕ) → as_str d ≡ Some t → offsets.is_full w (text_bytes (old ++ column.text t ∷ [])) ≡ true
+    → IsUnfit (texts w) old d unfit.TooLong
+no_room w old d t is past = has_no_room (column.text t) (ap (option_map column.text) is) past
 
 pub number_refused : (t : IntType) (old : List Item) (d : Data) (z : ℤ) → Some z ≡ integer_of t d → IsUnfit (numbers t) old d unfit.NoMemory
 number_refused t old d z is = refused (column.int z) (ap (option_map column.int) (sym is))
@@ -62,8 +56,8 @@ number_refused t old d z is = refused (column.int z) (ap (option_map column.int)
 pub truth_refused : (old : List Item) (d : Data) (b : Bool) → Some b ≡ flag_of d → IsUnfit truths old d unfit.NoMemory
 truth_refused old d b is = refused (column.boolean b) (ap (option_map column.boolean) (sym is))
 
-pub text_refused : (old : List Item) (d : Data) (t : List ℕ) → as_str d ≡ Some t → IsUnfit texts old d unfit.NoMemory
-text_refused old d t is = refused (column.text t) (ap (option_map column.text) is)
+pub text_refused : (w : OffsetWidth) (old : List Item) (d : Data) (t : List ℕ) → as_str d ≡ Some t → IsUnfit (texts w) old d unfit.NoMemory
+text_refused w old d t is = refused (column.text t) (ap (option_map column.text) is)
 
 pub ruleset taken = (number_taken, truth_taken, text_taken, no_number, no_truth, no_text, no_room, number_refused, truth_refused, text_refused)
 

@@ -2,8 +2,10 @@
 use Rattle.std.proofs.Common.{◌≡◌, ◌≢◌, ◌∙◌, ℕ, suc, ◌+◌, ◌≤◌, Bool, true, false, nat_lt, List, Option, Some, None, option_and_then, codes, refl, ap, subst, arith}
 use Rattle.std.proofs.lemmas.Bool.Decides.{nat_tests}
 use Rattle.types.specs.declared.int_type.IntType.{IntType}
+use Rattle.types.specs.declared.offset_width.OffsetWidth.{OffsetWidth}
+use Rattle.types.specs.declared.offset_width.OffsetWidth.TheVariants.{Narrow}
 use Rattle.arrays.specs.Kind.{depth}
-use Rattle.arrays.specs.Shape.{Shape, FieldShape, int, boolean, utf8, list, dict, field, kind_of_field}
+use Rattle.arrays.specs.Shape.{Shape, FieldShape, int, boolean, texts, lists, dict, field, kind_of_field}
 use Rattle.serde_json.specs.Data.{Data}
 use Rattle.serde_json.specs.Find.{as_null, as_bool, as_number, as_str, as_array, as_object}
 use Rattle.json_places.specs.declared.path.Member.TheVariants as member
@@ -11,14 +13,14 @@ use Rattle.json_places.specs.declared.path.Step.{Step}
 use Rattle.json_places.specs.declared.fault.JsonFaultKind.{JsonFaultKind}
 use Rattle.json_places.specs.JsonMember.{IsObject, member_of, is_without, Unlike, MemberFault, EachFault, ReadsEach}
 use Rattle.json_places.specs.JsonNumber.{width_of}
-use Rattle.arrow_json.specs.JsonSchema.{type_name, named_type, is_childless, only_item, only_child, ReadsInt, ReadsShape, HasType, HasField, HasChildren, IsFieldOf}
+use Rattle.arrow_json.specs.JsonSchema.{type_name, texts_name, lists_name, named_type, NamesLists, is_childless, only_item, only_child, ReadsInt, ReadsShape, HasType, HasField, HasChildren, IsFieldOf}
 use Rattle.arrow_json.specs.JsonEncoding.{Encoding, HasEncoding, IsEncoding, id_of}
 use Rattle.arrow_json.specs.JsonEncodingFault.{EncodingFault, bad_id, bad_index, EncodedFault, no_encoding_object, bad_encoding}
 use Rattle.arrow_json.specs.JsonFields.{IsEncodedField, ReadsField, plain_field, encoded_field, ReadsSchema}
 use Rattle.arrow_json.specs.JsonFieldsFault.{TopFault, bad_top, bad_encoded, other_values, SchemaFault, no_schema_object, bad_fields, bad_field}
-use Rattle.json_places.proofs.MemberLaws.{has_object, no_null, head, inner, no_object, not_unlike, no_member, under_law, each_law, same_each}
-use Rattle.arrow_json.proofs.JsonNames.{not_list}
-use Rattle.arrow_json.specs.JsonSchemaFault.{NamesChildless, int_name, bool_name, utf8_name, TypeFault, no_type_object, bad_type_name, other_type, bad_width, other_width, bad_sign, FieldFault, no_field_object, bad_field_name, bad_nullable, bad_type, no_dictionary_object, encoded_item, has_children, no_child, ninth_list, bad_child, IndexFault, bad_index_type, other_index}
+use Rattle.json_places.proofs.MemberLaws.{has_object, no_null, inner, no_object, not_unlike, no_member, under_law, each_law, same_each}
+use Rattle.arrow_json.proofs.JsonNames.{mark, texts_mark, lists_mark, other_name, same_texts_width, same_lists_width, not_lists}
+use Rattle.arrow_json.specs.JsonSchemaFault.{NamesChildless, int_name, bool_name, texts_called, TypeFault, no_type_object, bad_type_name, other_type, bad_width, other_width, bad_sign, FieldFault, no_field_object, bad_field_name, bad_nullable, bad_type, no_dictionary_object, encoded_item, has_children, no_child, ninth_list, bad_child, IndexFault, bad_index_type, other_index}
 use Rattle.arrow_json.specs.JsonFile.{HasSchema}
 
 -- ---- schemas
@@ -26,7 +28,7 @@ use Rattle.arrow_json.specs.JsonFile.{HasSchema}
 type_law : (d : Data) (t : IntType) (k : JsonFaultKind) (p : List Step) → ReadsInt d t → TypeFault d k p → ⊥
 type_law d t k p h (no_type_object k' p' u) = no_object as_str member.Name d _ h.name (not_unlike as_object d _ _ u)
 type_law d t k p h (bad_type_name k' p' f) = no_member as_str member.Name d _ _ _ h.name f
-type_law d t k p h (other_type bytes found other no_bool no_utf8 no_list) =
+type_law d t k p h (other_type bytes found other no_bool no_texts no_lists) =
     let same : bytes ≡ codes "int" = cc (found, h.name) in
     other same
 type_law d t k p h (bad_width k' p' name f) =
@@ -36,44 +38,46 @@ type_law d t k p h (other_width width name at none) = cc (at, none, h.width)
 type_law d t k p h (bad_sign k' p' name f) = no_member as_bool member.IsSigned d _ _ _ h.sign f
 
 -- of a type that its name describes whole
-named_law : (d : Data) (bytes : List ℕ) (k : JsonFaultKind) (p : List Step) → type_name d ≡ Some bytes → bytes ≢ codes "int" → (bytes ≢ codes "bool" → bytes ≢ codes "utf8" → bytes ≢ codes "list" → ⊥)
+named_law : (d : Data) (bytes : List ℕ) (k : JsonFaultKind) (p : List Step) → type_name d ≡ Some bytes → bytes ≢ codes "int" → (bytes ≢ codes "bool" → ((w : OffsetWidth) → bytes ≢ texts_name w) → ((w : OffsetWidth) → bytes ≢ lists_name w) → ⊥)
     → TypeFault d k p → ⊥
 named_law d bytes k p h no_int known (no_type_object k' p' u) = no_object as_str member.Name d _ h (not_unlike as_object d _ _ u)
 named_law d bytes k p h no_int known (bad_type_name k' p' f) = no_member as_str member.Name d _ _ _ h f
 named_law d bytes k p h no_int known (other_type other found a b c e) =
     let same : other ≡ bytes = cc (found, h) in
-    known (subst (λ x. x ≢ codes "bool") same b) (subst (λ x. x ≢ codes "utf8") same c) (subst (λ x. x ≢ codes "list") same e)
+    known (subst (λ x. x ≢ codes "bool") same b) (λ w. subst (λ x. x ≢ texts_name w) same (c w)) (λ w. subst (λ x. x ≢ lists_name w) same (e w))
 named_law d bytes k p h no_int known (bad_width k' p' name f) = no_int cc
 named_law d bytes k p h no_int known (other_width width name at none) = no_int cc
 named_law d bytes k p h no_int known (bad_sign k' p' name f) = no_int cc
 
 shape_law : (d : Data) (s : Shape) (k : JsonFaultKind) (p : List Step) → ReadsShape d s → TypeFault d k p → ⊥
 shape_law d (int t) k p h f = type_law d t k p h f
-shape_law d boolean k p h f = named_law d (codes "bool") k p h (λ e. let n : 98 ≡ 105 = ap head e in omega (arith, n)) (λ no_bool no_utf8 no_list. no_bool refl) f
-shape_law d utf8 k p h f = named_law d (codes "utf8") k p h (λ e. let n : 117 ≡ 105 = ap head e in omega (arith, n)) (λ no_bool no_utf8 no_list. no_utf8 refl) f
-shape_law d (list g) k p h f = named_law d (codes "list") k p h (λ e. let n : 108 ≡ 105 = ap head e in omega (arith, n)) (λ no_bool no_utf8 no_list. no_list refl) f
+shape_law d boolean k p h f = named_law d (codes "bool") k p h (other_name (codes "bool") (codes "int") (λ e. omega (arith, e))) (λ no_bool no_texts no_lists. no_bool refl) f
+shape_law d (texts w) k p h f =
+    named_law d (texts_name w) k p h (other_name (texts_name w) (codes "int") (λ e. omega (arith, e, texts_mark w))) (λ no_bool no_texts no_lists. no_texts w refl) f
+shape_law d (lists w g) k p h f =
+    named_law d (lists_name w) k p h (other_name (lists_name w) (codes "int") (λ e. omega (arith, e, lists_mark w))) (λ no_bool no_texts no_lists. no_lists w refl) f
 shape_law d dict k p h f = absurd h
 
--- a list is called otherwise than a type without children
-no_list_name : (bytes : List ℕ) → NamesChildless bytes → bytes ≡ codes "list" → ⊥
-no_list_name bytes int_name e = let n : 105 ≡ 108 = ap head e in omega (arith, n)
-no_list_name bytes bool_name e = let n : 98 ≡ 108 = ap head e in omega (arith, n)
-no_list_name bytes utf8_name e = let n : 117 ≡ 108 = ap head e in omega (arith, n)
+-- lists are called otherwise than a type without children
+no_lists_name : (bytes : List ℕ) (w : OffsetWidth) → NamesChildless bytes → bytes ≡ lists_name w → ⊥
+no_lists_name bytes w int_name e = other_name (codes "int") (lists_name w) (λ n. omega (arith, n, lists_mark w)) e
+no_lists_name bytes w bool_name e = other_name (codes "bool") (lists_name w) (λ n. omega (arith, n, lists_mark w)) e
+no_lists_name bytes w (texts_called v) e = other_name (texts_name v) (lists_name w) (λ n. omega (arith, n, texts_mark v, lists_mark w)) e
 
-called_list : (d : Data) (bytes : List ℕ) → named_type d ≡ Some bytes → NamesChildless bytes → named_type d ≡ Some (codes "list") → ⊥
-called_list d bytes named flat is_list =
-    let same : bytes ≡ codes "list" = cc (named, is_list) in
-    no_list_name bytes flat same
+called_lists : (d : Data) (bytes : List ℕ) → named_type d ≡ Some bytes → NamesChildless bytes → NamesLists d → ⊥
+called_lists d bytes named flat called =
+    let same : bytes ≡ lists_name called.width = cc (named, called.named) in
+    no_lists_name bytes called.width flat same
 
 -- of a field that a dictionary makes no fault of, and whose child has no fault within these lists
 has_law : (n : ℕ) (d : Data) (bytes : List ℕ) (b : Bool) (s : Shape) (k : JsonFaultKind) (p : List Step) → option_and_then as_str (member_of member.Name d) ≡ Some bytes
     → option_and_then as_bool (member_of member.Nullable d) ≡ Some b → HasType d s
     → ((e : Data) → member_of member.Dictionary d ≡ Some e → as_null e ≡ None → as_object e ≡ None → ⊥)
     → ((m : ℕ) (e : Data) → n ≡ suc m → member_of member.Dictionary d ≡ Some e → IsObject e → ⊥)
-    → (named_type d ≢ Some (codes "list") → is_childless (member_of member.Children d) ≡ false → ⊥)
-    → ((k : JsonFaultKind) (p : List Step) → named_type d ≡ Some (codes "list") → MemberFault member.Children (Unlike only_item) d k p → ⊥)
-    → (named_type d ≡ Some (codes "list") → n ≡ 8 → ⊥)
-    → ((child : Data) (k : JsonFaultKind) (p : List Step) → named_type d ≡ Some (codes "list") → only_child d ≡ Some child → FieldFault (suc n) child k p → ⊥)
+    → ((¬ NamesLists d) → is_childless (member_of member.Children d) ≡ false → ⊥)
+    → ((k : JsonFaultKind) (p : List Step) → NamesLists d → MemberFault member.Children (Unlike only_item) d k p → ⊥)
+    → (NamesLists d → n ≡ 8 → ⊥)
+    → ((child : Data) (k : JsonFaultKind) (p : List Step) → NamesLists d → only_child d ≡ Some child → FieldFault (suc n) child k p → ⊥)
     → FieldFault n d k p → ⊥
 has_law n d bytes b s k p name nullable ty encoded nested some one ninth inside (no_field_object n' d' k' p' u) = no_object as_str member.Name d _ name (not_unlike as_object d _ _ u)
 has_law n d bytes b s k p name nullable ty encoded nested some one ninth inside (bad_field_name n' d' k' p' f) = no_member as_str member.Name d _ _ _ name f
@@ -82,7 +86,7 @@ has_law n d bytes b s k p name nullable ty encoded nested some one ninth inside 
     under_law member.DataType TypeFault d ty.object _ _ ty.at_type (λ k p w. shape_law ty.object s k p ty.reads w) f
 has_law n d bytes b s k p name nullable ty encoded nested some one ninth inside (no_dictionary_object n' d' e k' p' at none u) = encoded e at none (not_unlike as_object e _ _ u)
 has_law n d bytes b s k p name nullable ty encoded nested some one ninth inside (encoded_item n' d' e at object) = nested n' e refl at object
-has_law n d bytes b s k p name nullable ty encoded nested some one ninth inside (has_children n' d' called named flat e) = some (called_list d' called named flat) e
+has_law n d bytes b s k p name nullable ty encoded nested some one ninth inside (has_children n' d' called named flat e) = some (called_lists d' called named flat) e
 has_law n d bytes b s k p name nullable ty encoded nested some one ninth inside (no_child n' d' k' p' is_list f) = one _ _ is_list f
 has_law n d bytes b s k p name nullable ty encoded nested some one ninth inside (ninth_list d' is_list) = ninth is_list refl
 has_law n d bytes b s k p name nullable ty encoded nested some one ninth inside (bad_child n' d' child k' p' is_list at f) = inside child _ _ is_list at f
@@ -93,7 +97,7 @@ without_law d e plain at none = cc (at, none, plain)
 
 -- of a field that is no list
 flat_law : (n : ℕ) (d : Data) (bytes : List ℕ) (b : Bool) (s : Shape) (k : JsonFaultKind) (p : List Step) → HasField d bytes b s → is_childless (member_of member.Children d) ≡ true
-    → (named_type d ≡ Some (codes "list") → ⊥) → FieldFault n d k p → ⊥
+    → (NamesLists d → ⊥) → FieldFault n d k p → ⊥
 flat_law n d bytes b s k p h none flat w =
     has_law n d bytes b s k p h.name h.nullable h.ty
     (λ e at there object. without_law d e h.plain at there)
@@ -102,14 +106,15 @@ flat_law n d bytes b s k p h none flat w =
 
 -- a field that is read has no fault within as many lists as leave room for its own
 within_law : (n : ℕ) (d : Data) (f : FieldShape) (k : JsonFaultKind) (p : List Step) → IsFieldOf d f → n + depth (kind_of_field f) ≤ 8 → FieldFault n d k p → ⊥
-within_law n d (field bytes b (int t)) k p h room w = flat_law n d bytes b (int t) k p h.0 h.1 (not_list d (int t) (codes "int") h.0.ty h.0.ty.reads.name (λ e. omega (arith, e))) w
-within_law n d (field bytes b boolean) k p h room w = flat_law n d bytes b boolean k p h.0 h.1 (not_list d boolean (codes "bool") h.0.ty h.0.ty.reads (λ e. omega (arith, e))) w
-within_law n d (field bytes b utf8) k p h room w = flat_law n d bytes b utf8 k p h.0 h.1 (not_list d utf8 (codes "utf8") h.0.ty h.0.ty.reads (λ e. omega (arith, e))) w
-within_law n d (field bytes b (list f)) k p h room w =
-    has_law n d bytes b (list f) k p h.0.name h.0.nullable h.0.ty
+within_law n d (field bytes b (int t)) k p h room w = flat_law n d bytes b (int t) k p h.0 h.1 (not_lists d (int t) (codes "int") h.0.ty h.0.ty.reads.name (λ e. omega (arith, e))) w
+within_law n d (field bytes b boolean) k p h room w = flat_law n d bytes b boolean k p h.0 h.1 (not_lists d boolean (codes "bool") h.0.ty h.0.ty.reads (λ e. omega (arith, e))) w
+within_law n d (field bytes b (texts v)) k p h room w =
+    flat_law n d bytes b (texts v) k p h.0 h.1 (not_lists d (texts v) (texts_name v) h.0.ty h.0.ty.reads (λ e. omega (arith, e, texts_mark v))) w
+within_law n d (field bytes b (lists v f)) k p h room w =
+    has_law n d bytes b (lists v f) k p h.0.name h.0.nullable h.0.ty
     (λ e at there object. without_law d e h.0.plain at there)
     (λ m e is at object. without_law d e h.0.plain at (no_null e object))
-    (λ other some. other (ap (option_and_then type_name) h.0.ty.at_type ∙ h.0.ty.reads))
+    (λ other some. other (record { width = v; named = ap (option_and_then type_name) h.0.ty.at_type ∙ h.0.ty.reads }))
     (λ k p is_list f. no_member only_item member.Children d h.1.0 k p h.1.1 f)
     (λ is_list eight. omega (arith, room, eight))
     (λ child k p is_list at w.
@@ -151,8 +156,8 @@ encoded_law d (Some x) k p h (bad_encoding e k' p' at object w) =
 
 encoded_field_law : (d : Data) (bytes : List ℕ) (b : Bool) (k : JsonFaultKind) (p : List Step) → IsEncodedField d bytes b → FieldFault 0 d k p → ⊥
 encoded_field_law d bytes b k p h w =
-    let flat = not_list d utf8 (codes "utf8") h.ty h.ty.reads (λ e. omega (arith, e)) in
-    has_law 0 d bytes b utf8 k p h.name h.nullable h.ty
+    let flat = not_lists d (texts Narrow) (codes "utf8") h.ty h.ty.reads (λ e. omega (arith, e)) in
+    has_law 0 d bytes b (texts Narrow) k p h.name h.nullable h.ty
     (λ e at there none. object_law d e h.encoded_as h.encoding at none)
     (λ m e is at object. omega (arith, is))
     (λ other some. cc (h.childless, some)) (λ k p is_list f. flat is_list) (λ is_list eight. flat is_list) (λ child k p is_list at f. flat is_list) w
@@ -187,35 +192,35 @@ same_int d s t h g =
     let sign : s.signed ≡ t.signed = cc (h.sign, g.sign) in
     ap (λ w. record { bits = w; signed = s.signed }) width ∙ ap (λ b. record { bits = t.bits; signed = b }) sign
 
-other_names : (d : Data) (a b : List ℕ) → head a ≢ head b → type_name d ≡ Some a → type_name d ≡ Some b → ⊥
+other_names : (d : Data) (a b : List ℕ) → mark a ≢ mark b → type_name d ≡ Some a → type_name d ≡ Some b → ⊥
 other_names d a b differ h g =
     let same : a ≡ b = cc in
-    differ (ap head same)
+    other_name a b differ same
 
 mutual
   same_types : (d e : Data) (s t : Shape) → ReadsShape e s → ReadsShape e t → HasChildren d s → HasChildren d t → s ≡ t
   same_types d e (int s) (int t) h g a b = ap int (same_int e s t h g)
   same_types d e (int s) boolean h g a b = absurd (other_names e (codes "int") (codes "bool") (λ e. omega (arith, e)) h.name g)
-  same_types d e (int s) utf8 h g a b = absurd (other_names e (codes "int") (codes "utf8") (λ e. omega (arith, e)) h.name g)
-  same_types d e (int s) (list f) h g a b = absurd (other_names e (codes "int") (codes "list") (λ e. omega (arith, e)) h.name g)
+  same_types d e (int s) (texts w) h g a b = absurd (other_names e (codes "int") (texts_name w) (λ e. omega (arith, e, texts_mark w)) h.name g)
+  same_types d e (int s) (lists w f) h g a b = absurd (other_names e (codes "int") (lists_name w) (λ e. omega (arith, e, lists_mark w)) h.name g)
   same_types d e boolean (int t) h g a b = absurd (other_names e (codes "bool") (codes "int") (λ e. omega (arith, e)) h g.name)
   same_types d e boolean boolean h g a b = refl
-  same_types d e boolean utf8 h g a b = absurd (other_names e (codes "bool") (codes "utf8") (λ e. omega (arith, e)) h g)
-  same_types d e boolean (list f) h g a b = absurd (other_names e (codes "bool") (codes "list") (λ e. omega (arith, e)) h g)
-  same_types d e utf8 (int t) h g a b = absurd (other_names e (codes "utf8") (codes "int") (λ e. omega (arith, e)) h g.name)
-  same_types d e utf8 boolean h g a b = absurd (other_names e (codes "utf8") (codes "bool") (λ e. omega (arith, e)) h g)
-  same_types d e utf8 utf8 h g a b = refl
-  same_types d e utf8 (list f) h g a b = absurd (other_names e (codes "utf8") (codes "list") (λ e. omega (arith, e)) h g)
-  same_types d e (list f) (int t) h g a b = absurd (other_names e (codes "list") (codes "int") (λ e. omega (arith, e)) h g.name)
-  same_types d e (list f) boolean h g a b = absurd (other_names e (codes "list") (codes "bool") (λ e. omega (arith, e)) h g)
-  same_types d e (list f) utf8 h g a b = absurd (other_names e (codes "list") (codes "utf8") (λ e. omega (arith, e)) h g)
-  same_types d e (list f) (list f') h g a b =
+  same_types d e boolean (texts w) h g a b = absurd (other_names e (codes "bool") (texts_name w) (λ e. omega (arith, e, texts_mark w)) h g)
+  same_types d e boolean (lists w f) h g a b = absurd (other_names e (codes "bool") (lists_name w) (λ e. omega (arith, e, lists_mark w)) h g)
+  same_types d e (texts v) (int t) h g a b = absurd (other_names e (texts_name v) (codes "int") (λ e. omega (arith, e, texts_mark v)) h g.name)
+  same_types d e (texts v) boolean h g a b = absurd (other_names e (texts_name v) (codes "bool") (λ e. omega (arith, e, texts_mark v)) h g)
+  same_types d e (texts v) (texts w) h g a b = ap texts (same_texts_width v w cc)
+  same_types d e (texts v) (lists w f) h g a b = absurd (other_names e (texts_name v) (lists_name w) (λ e. omega (arith, e, texts_mark v, lists_mark w)) h g)
+  same_types d e (lists v f) (int t) h g a b = absurd (other_names e (lists_name v) (codes "int") (λ e. omega (arith, e, lists_mark v)) h g.name)
+  same_types d e (lists v f) boolean h g a b = absurd (other_names e (lists_name v) (codes "bool") (λ e. omega (arith, e, lists_mark v)) h g)
+  same_types d e (lists v f) (texts w) h g a b = absurd (other_names e (lists_name v) (texts_name w) (λ e. omega (arith, e, lists_mark v, texts_mark w)) h g)
+  same_types d e (lists v f) (lists w f') h g a b =
       let same : a.0 ≡ b.0 = cc (a.1, b.1) in
-      ap list (same_within b.0 f f' (subst (λ c. IsFieldOf c f) same a.2) b.2)
+      ap (λ x. lists x f) (same_lists_width v w cc) ∙ ap (lists w) (same_within b.0 f f' (subst (λ c. IsFieldOf c f) same a.2) b.2)
   same_types d e (int s) dict h g a b = absurd b
   same_types d e boolean dict h g a b = absurd b
-  same_types d e utf8 dict h g a b = absurd b
-  same_types d e (list f) dict h g a b = absurd b
+  same_types d e (texts v) dict h g a b = absurd b
+  same_types d e (lists v f) dict h g a b = absurd b
   same_types d e dict t h g a b = absurd a
 
   same_within : (d : Data) (f g : FieldShape) → IsFieldOf d f → IsFieldOf d g → f ≡ g

@@ -1,6 +1,6 @@
 -- The batches of a file. (Arrow integration testing, "JSON test data format", RecordBatch)
 use Rattle.std.specs.Prelude.{◌≡◌, ℕ, List, length, slice_get, Option, Some, None, option_and_then}
-use Rattle.arrays.specs.Kind.{Kind, int, boolean, utf8, list, dict}
+use Rattle.arrays.specs.Kind.{Kind, int, boolean, texts, lists, dict}
 use Rattle.arrays.specs.Item.{Item}
 use Rattle.arrays.specs.Shape.{FieldShape, kind_of_field}
 use Rattle.arrays.specs.Seen.{Seen}
@@ -9,7 +9,7 @@ use Rattle.serde_json.specs.Find.{get_item, as_array}
 use Rattle.serde_json.specs.Events.{items_len}
 use Rattle.json_places.specs.JsonNumber.{count_of}
 use Rattle.json_places.specs.JsonMember.{member_of}
-use Rattle.arrow_json.specs.JsonColumn.{ReadsPlain, numbers, truths, texts}
+use Rattle.arrow_json.specs.JsonColumn.{ReadsPlain, numbers, truths, texts as texts_spelled}
 use Rattle.arrow_json.specs.JsonList.{ReadsList}
 use Rattle.arrow_json.specs.JsonCodes.{ReadsCodes}
 use Rattle.arrow_json.specs.JsonCatalog.{Coding}
@@ -20,8 +20,8 @@ use Rattle.json_places.specs.declared.path.Member.TheVariants as member
 abbrev pub ReadsColumn : Kind → ℕ → Data → List Item → Type 0
 ReadsColumn (int t) n d items = ReadsPlain (numbers t) n d items
 ReadsColumn boolean n d items = ReadsPlain truths n d items
-ReadsColumn utf8 n d items = ReadsPlain texts n d items
-ReadsColumn (list k) n d items = ReadsList (ReadsColumn k) k n d items
+ReadsColumn (texts w) n d items = ReadsPlain (texts_spelled w) n d items
+ReadsColumn (lists w k) n d items = ReadsList (ReadsColumn k) w k n d items
 ReadsColumn dict n d items = ⊥
 
 -- An array that is the column of the kind.

@@ -1,12 +1,12 @@
 -- What can be wrong with a batch.
 use Rattle.std.specs.Prelude.{◌≡◌, ℕ, List, [], ◌∷◌, length, slice_get, Option, Some, None, option_and_then}
-use Rattle.arrays.specs.Kind.{Kind, int, boolean, utf8, list, dict}
+use Rattle.arrays.specs.Kind.{Kind, int, boolean, texts, lists, dict}
 use Rattle.arrays.specs.Shape.{FieldShape, kind_of_field}
 use Rattle.serde_json.specs.Data.{Data, Items}
 use Rattle.serde_json.specs.Find.{get_item, as_array, as_object}
 use Rattle.json_places.specs.JsonNumber.{count_of}
 use Rattle.json_places.specs.JsonMember.{member_of, Unlike, MemberFault, ListFault}
-use Rattle.arrow_json.specs.JsonColumn.{numbers, truths, texts}
+use Rattle.arrow_json.specs.JsonColumn.{numbers, truths, texts as texts_spelled}
 use Rattle.arrow_json.specs.JsonColumnFault.{ColumnFault}
 use Rattle.arrow_json.specs.JsonListFault.{ListsFault}
 use Rattle.arrow_json.specs.JsonCodesFault.{CodesFault}
@@ -24,8 +24,8 @@ pub data Unread : JsonFaultKind → List Step → Type 0 where
 abbrev pub KindFault : Kind → ℕ → Data → JsonFaultKind → List Step → Type 0
 KindFault (int t) n d kind path = ColumnFault (numbers t) n d kind path
 KindFault boolean n d kind path = ColumnFault truths n d kind path
-KindFault utf8 n d kind path = ColumnFault texts n d kind path
-KindFault (list k) n d kind path = ListsFault (KindFault k) k n d kind path
+KindFault (texts w) n d kind path = ColumnFault (texts_spelled w) n d kind path
+KindFault (lists w k) n d kind path = ListsFault (KindFault k) w k n d kind path
 KindFault dict n d kind path = Unread kind path
 
 -- Of the column of a field.

@@ -14,7 +14,7 @@ entry_at entries (negsuc n) = None
 
 -- Indices of the type spell the entries that they name.
 abbrev pub indices : IntType → List Item → Spelling
-indices t entries = record { spelled = λ d. option_and_then (entry_at entries) (integer_of t d); bad = BadNumber; size = λ x. 0 }
+indices t entries = record { spelled = λ d. option_and_then (entry_at entries) (integer_of t d); bad = BadNumber; offsets = None }
 
 -- The column object of n indices.
 abbrev pub ReadsCodes : IntType → List Item → ℕ → Data → List Item → Type 0

@@ -1,10 +1,13 @@
 -- The columns of a file. (Arrow integration testing, "JSON test data format", RecordBatch and FieldData)
-use Rattle.std.specs.Prelude.{◌≡◌, ℕ, ◌<◌, List, length, slice_get, sum_by, Bool, true, false, Option, Some, None, option_map, option_and_then}
+use Rattle.std.specs.Prelude.{◌≡◌, ℕ, ◌<◌, List, length, slice_get, Bool, true, false, Option, Some, None, option_map, option_and_then}
 use Rattle.types.specs.declared.int_type.IntType.{IntType}
+use Rattle.types.specs.declared.offset_width.OffsetWidth.{OffsetWidth}
+use Rattle.types.specs.OffsetWidth.{is_full as is_past}
 use Rattle.arrays.specs.Item as column
 use Rattle.arrays.specs.Item.{Item}
-use Rattle.arrays.specs.Kind.{Kind, int, boolean as truth, utf8, list, dict}
-use Rattle.arrays.specs.Lengths.{is_past, text_length}
+use Rattle.arrays.specs.Kind as kind
+use Rattle.arrays.specs.Kind.{Kind}
+use Rattle.arrays.specs.Lengths.{text_bytes}
 use Rattle.serde_json.specs.Data.{Data, null, boolean, number, string, array, object, Items}
 use Rattle.serde_json.specs.Find.{get_item, as_array, as_str}
 use Rattle.serde_json.specs.Events.{items_len}
@@ -35,38 +38,43 @@ valid_at (Some fs) i = option_and_then flag_of (get_item i fs)
 
 -- ---- what values spell
 
--- What a value spells, as what one that spells nothing is told, and how much of the offsets an item takes.
+-- What a value spells, as what one that spells nothing is told, and how wide the offsets are that count the bytes of texts, none where nothing is counted.
 pub record Spelling : Type 0 where
   pub spelled : Data → Option Item
   pub bad : JsonFaultKind
-  pub size : Item → ℕ
+  pub offsets : Option OffsetWidth
 
 -- Integers of a type.
 abbrev pub numbers : IntType → Spelling
-numbers t = record { spelled = λ d. option_map column.int (integer_of t d); bad = BadNumber; size = λ x. 0 }
+numbers t = record { spelled = λ d. option_map column.int (integer_of t d); bad = BadNumber; offsets = None }
 
 -- Truth values, spelled as flags are.
 abbrev pub truths : Spelling
-truths = record { spelled = λ d. option_map column.boolean (flag_of d); bad = WrongMember; size = λ x. 0 }
+truths = record { spelled = λ d. option_map column.boolean (flag_of d); bad = WrongMember; offsets = None }
 
--- Texts: the offsets count their bytes.
-abbrev pub texts : Spelling
-texts = record { spelled = λ d. option_map column.text (as_str d); bad = WrongMember; size = text_length }
+-- Texts: offsets of the width count their bytes. (Arrow columnar format, "Variable-size binary layout")
+abbrev pub texts : OffsetWidth → Spelling
+texts w = record { spelled = λ d. option_map column.text (as_str d); bad = WrongMember; offsets = Some w }
 
 -- Nothing is spelled.
 abbrev pub unread : Spelling
-unread = record { spelled = λ d. None; bad = UnsupportedType; size = λ x. 0 }
+unread = record { spelled = λ d. None; bad = UnsupportedType; offsets = None }
 
 abbrev pub spelling_of : Kind → Spelling
-spelling_of (int t) = numbers t
-spelling_of truth = truths
-spelling_of utf8 = texts
-spelling_of (list k) = unread
-spelling_of dict = unread
+spelling_of (kind.int t) = numbers t
+spelling_of kind.boolean = truths
+spelling_of (kind.texts w) = texts w
+spelling_of (kind.lists w k) = unread
+spelling_of kind.dict = unread
 
--- The items are more than 32-bit offsets count.
+-- So many bytes are more than the offsets count, where there are offsets.
+abbrev pub is_past_offsets : Option OffsetWidth → ℕ → Bool
+is_past_offsets None n = false
+is_past_offsets (Some w) n = is_past w n
+
+-- The items are more than the offsets count.
 abbrev pub is_full : Spelling → List Item → Bool
-is_full s items = is_past (sum_by s.size items)
+is_full s items = is_past_offsets s.offsets (text_bytes items)
 
 -- ---- slots
 

@@ -1,5 +1,6 @@
 -- The dictionaries of a file. (Arrow integration testing, "JSON test data format", DictionaryBatch)
 use Rattle.std.specs.Prelude.{◌≡◌, ℕ, List, Some, option_and_then}
+use Rattle.types.specs.declared.offset_width.OffsetWidth.TheVariants.{Narrow}
 use Rattle.arrays.specs.Item.{Item}
 use Rattle.serde_json.specs.Data.{Data, item, no_items}
 use Rattle.serde_json.specs.Find.{as_array}
@@ -9,13 +10,13 @@ use Rattle.arrow_json.specs.JsonSchema.{only_item}
 use Rattle.arrow_json.specs.JsonColumn.{ReadsPlain, texts}
 use Rattle.json_places.specs.declared.path.Member.TheVariants as member
 
--- A batch object with one column, of texts.
+-- A batch object with one column, of texts as utf8 has them.
 pub record ReadsTexts (d : Data) (items : List Item) : Type 0 where
   pub n : ℕ
   pub count : option_and_then count_of (member_of member.Count d) ≡ Some n
   pub column : Data
   pub columns : option_and_then as_array (member_of member.Columns d) ≡ Some (item column no_items)
-  pub reads : ReadsPlain texts n column items
+  pub reads : ReadsPlain (texts Narrow) n column items
 
 -- Such a batch object, or an array of exactly one.
 pub data HasTexts (d : Data) (items : List Item) : Type 0 where

@@ -1,5 +1,6 @@
 -- What can be wrong with a dictionary.
 use Rattle.std.specs.Prelude.{◌≡◌, ℕ, List, [], ◌∷◌, Some, None, option_and_then}
+use Rattle.types.specs.declared.offset_width.OffsetWidth.TheVariants.{Narrow}
 use Rattle.serde_json.specs.Data.{Data, item, no_items}
 use Rattle.serde_json.specs.Find.{as_array, as_object}
 use Rattle.json_places.specs.JsonNumber.{count_of}
@@ -19,7 +20,7 @@ pub data TextsFault (d : Data) : JsonFaultKind → List Step → Type 0 where
   bad_texts_count : (kind : JsonFaultKind) (path : List Step) → MemberFault member.Count (Unlike count_of) d kind path → TextsFault d kind path
   bad_texts_list : (kind : JsonFaultKind) (path : List Step) → MemberFault member.Columns (ListFault 1) d kind path → TextsFault d kind path
   bad_texts : (n : ℕ) (column : Data) (kind : JsonFaultKind) (path : List Step) → option_and_then count_of (member_of member.Count d) ≡ Some n
-      → option_and_then as_array (member_of member.Columns d) ≡ Some (item column no_items) → ColumnFault texts n column kind path
+      → option_and_then as_array (member_of member.Columns d) ≡ Some (item column no_items) → ColumnFault (texts Narrow) n column kind path
       → TextsFault d kind (step.Member member.Columns ∷ step.Item 0 ∷ path)
 
 -- Of what is to be such a batch object, or an array of exactly one.

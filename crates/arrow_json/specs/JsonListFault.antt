@@ -1,7 +1,9 @@
 -- What can be wrong with a column of lists.
 use Rattle.std.specs.Prelude.{◌≡◌, ℕ, ℤ, List, [], ◌∷◌, false, Option, Some, None, option_and_then}
+use Rattle.types.specs.declared.offset_width.OffsetWidth.{OffsetWidth}
+use Rattle.types.specs.OffsetWidth.{offset_type}
 use Rattle.layout.specs.declared.fault.LayoutFault.{LayoutFault}
-use Rattle.arrays.specs.Kind.{Kind, int32}
+use Rattle.arrays.specs.Kind.{Kind}
 use Rattle.serde_json.specs.Data.{Data, Items}
 use Rattle.serde_json.specs.Find.{as_array, as_object}
 use Rattle.serde_json.specs.Events.{items_len}
@@ -29,9 +31,9 @@ pub data NoLists (n : ℕ) (d : Data) : JsonFaultKind → List Step → Type 0 w
   bad_offsets : (kind : JsonFaultKind) (path : List Step) → OffsetsFault n d kind path → NoLists n d kind path
   bad_children : (kind : JsonFaultKind) (path : List Step) → MemberFault member.Children (ListFault 1) d kind path → NoLists n d kind path
 
--- An item of OFFSET spells no number.
-pub data NoOffset (d : Data) : JsonFaultKind → List Step → Type 0 where
-  no_offset : integer_of int32 d ≡ None → NoOffset d BadOffset []
+-- An item of OFFSET spells no number of the width.
+pub data NoOffset (w : OffsetWidth) (d : Data) : JsonFaultKind → List Step → Type 0 where
+  no_offset : integer_of (offset_type w) d ≡ None → NoOffset w d BadOffset []
 
 -- Some flag is none.
 pub data NoFlags (flags : Option Items) : JsonFaultKind → List Step → Type 0 where
@@ -44,17 +46,17 @@ pub data ChildFault (Wrong : ℕ → Data → JsonFaultKind → List Step → Ty
   bad_child_column : (m : ℕ) (kind : JsonFaultKind) (path : List Step) → option_and_then count_of (member_of member.Count d) ≡ Some m → Wrong m d kind path → ChildFault Wrong d kind path
 
 -- The layout refuses the offsets of n lists over a child of m items.
-pub data NotLawful (k : Kind) (n : ℕ) (offsets : List ℕ) (m : ℕ) : JsonFaultKind → List Step → Type 0 where
-  not_lawful : (fault : LayoutFault) → lists_fault k n offsets m ≡ Some fault → NotLawful k n offsets m (Layout fault) []
+pub data NotLawful (w : OffsetWidth) (k : Kind) (n : ℕ) (offsets : List ℕ) (m : ℕ) : JsonFaultKind → List Step → Type 0 where
+  not_lawful : (fault : LayoutFault) → lists_fault w k n offsets m ≡ Some fault → NotLawful w k n offsets m (Layout fault) []
 
-pub data ListsFault (Wrong : ℕ → Data → JsonFaultKind → List Step → Type 0) (k : Kind) (n : ℕ) (d : Data) : JsonFaultKind → List Step → Type 0 where
-  no_lists : (kind : JsonFaultKind) (path : List Step) → NoLists n d kind path → ListsFault Wrong k n d kind path
+pub data ListsFault (Wrong : ℕ → Data → JsonFaultKind → List Step → Type 0) (w : OffsetWidth) (k : Kind) (n : ℕ) (d : Data) : JsonFaultKind → List Step → Type 0 where
+  no_lists : (kind : JsonFaultKind) (path : List Step) → NoLists n d kind path → ListsFault Wrong w k n d kind path
   no_flags_of_lists : (flags : Option Items) (offsets : Items) (child : Data) (kind : JsonFaultKind) (path : List Step) → HasLists n d flags offsets child
-      → NoFlags flags kind path → ListsFault Wrong k n d kind path
+      → NoFlags flags kind path → ListsFault Wrong w k n d kind path
   bad_offset : (flags : Option Items) (offsets : Items) (child : Data) (kind : JsonFaultKind) (path : List Step) → HasLists n d flags offsets child
-      → EachFault NoOffset offsets kind path → ListsFault Wrong k n d kind (step.Member member.Offset ∷ path)
+      → EachFault (NoOffset w) offsets kind path → ListsFault Wrong w k n d kind (step.Member member.Offset ∷ path)
   bad_child : (flags : Option Items) (offsets : Items) (child : Data) (kind : JsonFaultKind) (path : List Step) → HasLists n d flags offsets child
-      → ChildFault Wrong child kind path → ListsFault Wrong k n d kind (step.Member member.Children ∷ step.Item 0 ∷ path)
+      → ChildFault Wrong child kind path → ListsFault Wrong w k n d kind (step.Member member.Children ∷ step.Item 0 ∷ path)
   bad_lists : (flags : Option Items) (offsets : Items) (child : Data) (numbers : List ℤ) (m : ℕ) (kind : JsonFaultKind) (path : List Step) → HasLists n d flags offsets child
-      → ReadsEach Spells offsets numbers → option_and_then count_of (member_of member.Count child) ≡ Some m → NotLawful k n (offset_bytes numbers) m kind path
-      → ListsFault Wrong k n d kind path
+      → ReadsEach (Spells w) offsets numbers → option_and_then count_of (member_of member.Count child) ≡ Some m → NotLawful w k n (offset_bytes w numbers) m kind path
+      → ListsFault Wrong w k n d kind path

@@ -1,7 +1,9 @@
 -- The schema of a file. (Arrow integration testing, "JSON test data format", Schema and Field)
 use Rattle.std.specs.Prelude.{◌≡◌, ℕ, ◌==◌, List, codes, Bool, true, Option, Some, None, is_some, option_map, option_and_then, unwrap_or}
 use Rattle.types.specs.declared.int_type.IntType.{IntType}
-use Rattle.arrays.specs.Shape.{Shape, FieldShape, int, boolean, utf8, list, dict, field}
+use Rattle.types.specs.declared.offset_width.OffsetWidth.{OffsetWidth}
+use Rattle.types.specs.declared.offset_width.OffsetWidth.TheVariants.{Narrow, Wide}
+use Rattle.arrays.specs.Shape.{Shape, FieldShape, int, boolean, texts, lists, dict, field}
 use Rattle.serde_json.specs.Data.{Data, Items, no_items, item}
 use Rattle.serde_json.specs.Find.{as_null, as_bool, as_number, as_str, as_array}
 use Rattle.serde_json.specs.Events.{items_len}
@@ -15,6 +17,15 @@ use Rattle.json_places.specs.declared.path.Member.TheVariants as member
 abbrev pub type_name : Data → Option (List ℕ)
 type_name d = option_and_then as_str (member_of member.Name d)
 
+-- The name of the type of texts whose offsets are so wide, and of lists. (Arrow integration testing, "JSON test data format", DataType)
+abbrev pub texts_name : OffsetWidth → List ℕ
+texts_name Narrow = codes "utf8"
+texts_name Wide = codes "largeutf8"
+
+abbrev pub lists_name : OffsetWidth → List ℕ
+lists_name Narrow = codes "list"
+lists_name Wide = codes "largelist"
+
 -- The type object of an integer type.
 pub record ReadsInt (d : Data) (t : IntType) : Type 0 where
   pub name : type_name d ≡ Some (codes "int")
@@ -25,8 +36,8 @@ pub record ReadsInt (d : Data) (t : IntType) : Type 0 where
 abbrev pub ReadsShape : Data → Shape → Type 0
 ReadsShape d (int t) = ReadsInt d t
 ReadsShape d boolean = type_name d ≡ Some (codes "bool")
-ReadsShape d utf8 = type_name d ≡ Some (codes "utf8")
-ReadsShape d (list f) = type_name d ≡ Some (codes "list")
+ReadsShape d (texts w) = type_name d ≡ Some (texts_name w)
+ReadsShape d (lists w f) = type_name d ≡ Some (lists_name w)
 ReadsShape d dict = ⊥
 
 -- ---- fields
@@ -53,6 +64,11 @@ only_child d = option_and_then only_item (member_of member.Children d)
 abbrev pub named_type : Data → Option (List ℕ)
 named_type d = option_and_then type_name (member_of member.DataType d)
 
+-- The field's type is called as lists are, of either width.
+pub record NamesLists (d : Data) : Type 0 where
+  pub width : OffsetWidth
+  pub named : named_type d ≡ Some (lists_name width)
+
 -- The field's type object is that of the type.
 pub record HasType (d : Data) (shape : Shape) : Type 0 where
   pub object : Data
@@ -74,6 +90,6 @@ abbrev mutual
   pub HasChildren : Data → Shape → Type 0
   HasChildren d (int t) = is_childless (member_of member.Children d) ≡ true
   HasChildren d boolean = is_childless (member_of member.Children d) ≡ true
-  HasChildren d utf8 = is_childless (member_of member.Children d) ≡ true
-  HasChildren d (list f) = (child : Data) × (only_child d ≡ Some child) × IsFieldOf child f
+  HasChildren d (texts w) = is_childless (member_of member.Children d) ≡ true
+  HasChildren d (lists w f) = (child : Data) × (only_child d ≡ Some child) × IsFieldOf child f
   HasChildren d dict = ⊥

@@ -1,5 +1,6 @@
 -- The validity and the offsets of lists in memory.
 use Rattle.std.specs.Prelude.{◌≡◌, ℕ, ◌<◌, ℤ, List, false, Bool, Option, Some}
+use Rattle.types.specs.declared.offset_width.OffsetWidth.{OffsetWidth}
 use Rattle.arrays.specs.Fault.{is_validity_short}
 use Rattle.arrays.specs.Layout.{is_valid_in}
 use Rattle.serde_json.specs.Data.{Data, Items}
@@ -18,7 +19,7 @@ pub record HoldsFlags (flags : Option Items) (n : ℕ) (validity : Option (List 
   pub each : (i : ℕ) → i < n → valid_at flags i ≡ Some (is_valid_in validity i)
 
 -- The bytes are the numbers that the items of OFFSET spell.
-pub record HoldsOffsets (offsets : Items) (bytes : List ℕ) : Type 0 where
+pub record HoldsOffsets (w : OffsetWidth) (offsets : Items) (bytes : List ℕ) : Type 0 where
   pub numbers : List ℤ
-  pub spelled : ReadsEach Spells offsets numbers
-  pub laid : bytes ≡ offset_bytes numbers
+  pub spelled : ReadsEach (Spells w) offsets numbers
+  pub laid : bytes ≡ offset_bytes w numbers

@@ -15,7 +15,7 @@ use crate::catalog::Coding;
 use crate::codes::read_codes;
 use crate::column::{list_member, read_numbers, read_texts, read_truths};
 use crate::list::read_list;
-use arrays::{Array, DataType, Field, RecordBatch, Schema};
+use arrays::{Array, DataType, Field, OffsetWidth, RecordBatch, Schema};
 use json_places::member::{check_object, count_member, push};
 use json_places::{JsonFault, JsonFaultKind, Member, Step};
 use serde_json::Value;
@@ -37,8 +37,10 @@ pub(crate) fn read_array(
     match &field.ty {
         DataType::Int(int) => read_numbers(alloc, *int, rows, column),
         DataType::Bool => read_truths(alloc, rows, column),
-        DataType::Utf8 => read_texts(alloc, rows, column),
-        DataType::List(item) => read_list(alloc, item, rows, column),
+        DataType::Utf8 => read_texts(alloc, OffsetWidth::Narrow, rows, column),
+        DataType::LargeUtf8 => read_texts(alloc, OffsetWidth::Wide, rows, column),
+        DataType::List(item) => read_list(alloc, OffsetWidth::Narrow, item, rows, column),
+        DataType::LargeList(item) => read_list(alloc, OffsetWidth::Wide, item, rows, column),
         DataType::Dict => Err(JsonFault::at(alloc, JsonFaultKind::UnsupportedType, &[])),
     }
 }

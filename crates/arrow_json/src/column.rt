@@ -14,7 +14,9 @@ ghost use Rattle.arrow_json.specs.SlotParts.{flags_in, values_in};
 ghost use Rattle.arrow_json.specs.Unfit.{IsWith, IsUnfit, IsTold};
 ghost use Rattle.json_places.specs.declared.path.Member.TheVariants as member;
 
-use arrays::{Array, BoolBuilder, BuildFault, IntBuilder, IntType, LayoutFault, TextBuilder};
+use arrays::{
+    Array, BoolBuilder, BuildFault, IntBuilder, IntType, LayoutFault, OffsetWidth, TextBuilder,
+};
 use colbits::NoMemory;
 use json_places::member::{check_object, count_member, required};
 use json_places::number::{flag, integer};
@@ -167,7 +169,7 @@ pub(crate) fn read_slots<'v>(
 enum Unfit {
     /// It spells nothing that the column may hold, which is told as this kind.
     Unspelled(JsonFaultKind),
-    /// With it the column would be more than 32-bit offsets count.
+    /// With it the column would be more than its offsets count.
     TooLong,
     /// A growth was refused.
     NoMemory,
@@ -271,11 +273,11 @@ impl ColumnBuilder for BoolBuilder {
 }
 
 impl ColumnBuilder for TextBuilder {
-    ghost use Rattle.arrays.specs.Kind.{utf8};
+    ghost use Rattle.arrays.specs.Kind.{texts as texts_kind};
 
-    ghost kind = { λ _. utf8 };
+    ghost kind = { λ c. texts_kind c.width };
 
-    ghost items = { λ items. items };
+    ghost items = { λ c. c.items };
 
     #[inline]
     #[tactic(auto, using(crate::proofs::JsonSlots::taken))]
@@ -430,15 +432,20 @@ pub(crate) fn read_truths(alloc: Global, count: u32, column: &Value) -> Result<A
     }
 }
 
-/// The column of `count` texts that a column object holds.
+/// The column of `count` texts, with offsets of this width, that a column object holds.
 #[tactic(auto, using(crate::proofs::JsonColumnFaults::column_told))]
-pub(crate) fn read_texts(alloc: Global, count: u32, column: &Value) -> Result<Array, JsonFault>
+pub(crate) fn read_texts(
+    alloc: Global,
+    width: OffsetWidth,
+    count: u32,
+    column: &Value,
+) -> Result<Array, JsonFault>
     requires { count < 2 ^ 31 }
-    ensures ok { IfOk result (HoldsColumn kind.utf8 count (view column.now)) }
-    ensures err { IfErr result (Tells (ColumnFault texts count (view column.now))) }
+    ensures ok { IfOk result (HoldsColumn (kind.texts width) count (view column.now)) }
+    ensures err { IfErr result (Tells (ColumnFault (texts width) count (view column.now))) }
 {
     let slots = read_slots(alloc, count, column)?;
-    match TextBuilder::with_capacity(alloc, slots.values.len(), 0) {
+    match TextBuilder::with_capacity(alloc, width, slots.values.len(), 0) {
         Ok(builder) => array_of(alloc, builder, &slots),
         Err(NoMemory) => Err(JsonFault::no_memory(alloc)),
     }

@@ -10,7 +10,7 @@ ghost use Rattle.json_places.specs.JsonMember.{IsObject};
 
 use crate::column::{read_texts, single_member};
 use crate::schema::only_item;
-use arrays::{Array, Words};
+use arrays::{Array, OffsetWidth, Words};
 use json_places::member::{check_object, count_member, required};
 use json_places::{JsonFault, JsonFaultKind, Member, Step};
 use serde_json::Value;
@@ -26,7 +26,7 @@ fn read_batch_of_texts(alloc: Global, batch: &Value) -> Result<Array, JsonFault>
     check_object(alloc, batch)?;
     let rows = count_member(alloc, batch, Member::Count)?;
     let column = single_member(alloc, batch, Member::Columns)?;
-    match read_texts(alloc, rows, column) {
+    match read_texts(alloc, OffsetWidth::Narrow, rows, column) {
         Ok(texts) => Ok(texts),
         Err(fault) => {
             let item = fault.under(alloc, Step::Item(0));

@@ -1,10 +1,12 @@
 //! Columns of lists.
 
-ghost use Rattle.std.specs.Prelude.{◌≡◌, ◌<◌, ◌^◌, [], false, true, length, IfOk, IfErr, IfSome, Some, option_and_then};
+ghost use Rattle.std.specs.Prelude.{◌≡◌, ◌<◌, ◌^◌, ◌++◌, [], false, true, length, IfOk, IfErr, IfSome, OnErr, OnOk, Some, option_and_then};
 ghost use Rattle.arrays.specs.Fault.{is_validity_short};
 ghost use Rattle.arrays.specs.FromParts.{list_parts};
 ghost use Rattle.arrays.specs.Kind as kind;
 ghost use Rattle.arrays.specs.Kind.{kind_of, same_kind};
+ghost use Rattle.arrays.specs.Number.{IsOfType, bytes_of_number};
+ghost use Rattle.types.specs.OffsetWidth.{offset_type};
 ghost use Rattle.types.specs.declared.data_type.Field.{out-Field};
 ghost use Rattle.serde_json.specs.Find.{as_array};
 ghost use Rattle.serde_json.specs.View.{view, items_view};
@@ -23,7 +25,9 @@ ghost use Rattle.json_places.specs.declared.path.Member.TheVariants as member;
 use crate::batch::read_array;
 use crate::column::{check_count, flags, single_member};
 use arrays::validity::buffer_of;
-use arrays::{Array, Field, Integer, LayoutFault, ValidityBuilder};
+use arrays::{
+    Array, Field, IntType, Integer, LayoutFault, OffsetSlots, OffsetWidth, ValidityBuilder,
+};
 use colbits::{Buffer, NoMemory};
 use json_places::member::{array_member, check_object, count_member};
 use json_places::number::{flag, integer};
@@ -122,18 +126,41 @@ fn read_validity(alloc: Global, parts: &ListParts, count: u32) -> Result<Option<
     }
 }
 
+/// The type of offsets of this width.
+fn offset_type(width: OffsetWidth) -> IntType
+    ensures { result ≡ offset_type width }
+{
+    match width {
+        OffsetWidth::Narrow => i32::ty(),
+        OffsetWidth::Wide => i64::ty(),
+    }
+}
+
+/// Adds the bytes of an offset at the end, which may be negative: of that the layout tells. A refused growth changes nothing.
+fn push_offset(bytes: &mut Vec<u8>, width: OffsetWidth, offset: i128) -> Result<(), NoMemory>
+    requires { IsOfType (offset_type width) offset }
+    ensures ok { OnOk result (bytes.new.items ≡ bytes.old.items ++ bytes_of_number (offset_type width) offset) }
+    ensures err { OnErr result (bytes.new.items ≡ bytes.old.items) }
+{
+    match width {
+        OffsetWidth::Narrow => i32::push(bytes, offset),
+        OffsetWidth::Wide => i64::push(bytes, offset),
+    }
+}
+
 /// The bytes of the offsets, one after another.
 #[tactic(auto, using(crate::proofs::JsonLists::offsets_told))]
-fn offset_bytes(alloc: Global, offsets: &[Value]) -> Result<Vec<u8>, JsonFault>
-    ensures ok { IfOk result (λ bytes. HoldsOffsets (items_view offsets.now) bytes.items) }
-    ensures err { IfErr result (Tells (EachFault NoOffset (items_view offsets.now))) }
+fn offset_bytes(alloc: Global, width: OffsetWidth, offsets: &[Value]) -> Result<Vec<u8>, JsonFault>
+    ensures ok { IfOk result (λ bytes. HoldsOffsets width (items_view offsets.now) bytes.items) }
+    ensures err { IfErr result (Tells (EachFault (NoOffset width) (items_view offsets.now))) }
 {
+    let ty = offset_type(width);
     let mut bytes = Vec::new(alloc);
     for (index, value) in offsets.iter().enumerate() {
-        let Some(number) = integer(i32::ty(), value) else {
+        let Some(number) = integer(ty, value) else {
             return Err(JsonFault::at(alloc, JsonFaultKind::BadOffset, &[Step::Item(index)]));
         };
-        let Ok(()) = <i32 as Integer>::push(&mut bytes, number) else {
+        let Ok(()) = push_offset(&mut bytes, width, number) else {
             return Err(JsonFault::no_memory(alloc));
         };
     }
@@ -142,11 +169,11 @@ fn offset_bytes(alloc: Global, offsets: &[Value]) -> Result<Vec<u8>, JsonFault>
 
 /// The offsets in memory.
 #[tactic(auto, using(crate::proofs::JsonLists::offsets_told))]
-fn read_offsets(alloc: Global, offsets: &[Value]) -> Result<Buffer, JsonFault>
-    ensures ok { IfOk result (HoldsOffsets (items_view offsets.now)) }
-    ensures err { IfErr result (Tells (EachFault NoOffset (items_view offsets.now))) }
+fn read_offsets(alloc: Global, width: OffsetWidth, offsets: &[Value]) -> Result<Buffer, JsonFault>
+    ensures ok { IfOk result (HoldsOffsets width (items_view offsets.now)) }
+    ensures err { IfErr result (Tells (EachFault (NoOffset width) (items_view offsets.now))) }
 {
-    let bytes = offset_bytes(alloc, offsets)?;
+    let bytes = offset_bytes(alloc, width, offsets)?;
     match Buffer::from_vec(bytes) {
         Ok(offsets) => Ok(offsets),
         Err(NoMemory) => Err(JsonFault::no_memory(alloc)),
@@ -170,22 +197,20 @@ fn layout_fault(alloc: Global, fault: LayoutFault) -> JsonFault
 fn list_array(
     alloc: Global,
     item: &Field,
-    count: u32,
-    validity: Option<Buffer>,
-    offsets: Buffer,
+    slots: OffsetSlots,
     child: Array,
 ) -> Result<Array, JsonFault>
     requires kind { child.kind ≡ kind_of (out-Field item.now).ty }
     requires plain { same_kind child.kind kind.dict ≡ false }
-    requires enough { is_validity_short count validity ≡ false }
-    ensures lawful { IfOk result (λ _. lists_fault child.kind count offsets (length child.items) ≡ None) }
-    ensures shows { IfOk result (λ a. a ≡ (list_parts child.kind count validity offsets child).seen) }
-    ensures err { IfErr result (Tells (NotLawful child.kind count offsets (length child.items))) }
+    requires enough { is_validity_short slots.len slots.validity ≡ false }
+    ensures lawful { IfOk result (λ _. lists_fault slots.width child.kind slots.len slots.offsets (length child.items) ≡ None) }
+    ensures shows { IfOk result (λ a. a ≡ (list_parts slots.width child.kind slots.len slots.validity slots.offsets child).seen) }
+    ensures err { IfErr result (Tells (NotLawful slots.width child.kind slots.len slots.offsets (length child.items))) }
 {
     let Ok(item) = item.copy(alloc) else {
         return Err(JsonFault::no_memory(alloc));
     };
-    match Array::try_list(alloc, item, count, validity, offsets, child) {
+    match Array::try_list(alloc, item, slots, child) {
         Ok(array) => Ok(array),
         Err(fault) => Err(layout_fault(alloc, fault)),
     }
@@ -203,26 +228,33 @@ fn read_child(alloc: Global, item: &Field, child: &Value) -> Result<Array, JsonF
     read_array(alloc, item, rows, child)
 }
 
-/// The column of `count` lists that a column object holds.
+/// The column of `count` lists, with offsets of this width, that a column object holds.
 #[cycle(columns)]
 #[tactic(auto, using(crate::proofs::JsonLists::lists_told))]
 pub(crate) fn read_list(
     alloc: Global,
+    width: OffsetWidth,
     item: &Field,
     count: u32,
     column: &Value,
 ) -> Result<Array, JsonFault>
     requires { count < 2 ^ 31 }
-    ensures ok { IfOk result (HoldsColumn (kind.list (kind_of (out-Field item.now).ty)) count (view column.now)) }
+    ensures ok { IfOk result (HoldsColumn (kind.lists width (kind_of (out-Field item.now).ty)) count (view column.now)) }
     ensures err { IfErr result
-        (Tells (ListsFault (KindFault (kind_of (out-Field item.now).ty)) (kind_of (out-Field item.now).ty) count (view column.now))) }
+        (Tells (ListsFault (KindFault (kind_of (out-Field item.now).ty)) width (kind_of (out-Field item.now).ty) count (view column.now))) }
 {
     let parts = read_parts(alloc, count, column)?;
     let validity = read_validity(alloc, &parts, count)?;
-    let read = read_offsets(alloc, parts.offsets);
+    let read = read_offsets(alloc, width, parts.offsets);
     let offsets = read.map_err(|fault| fault.under(alloc, Step::Member(Member::Offset)))?;
+    let slots = OffsetSlots {
+        width,
+        len: count,
+        validity,
+        offsets,
+    };
     match read_child(alloc, item, parts.child) {
-        Ok(child) => list_array(alloc, item, count, validity, offsets, child),
+        Ok(child) => list_array(alloc, item, slots, child),
         Err(fault) => {
             let fault = fault.under(alloc, Step::Item(0));
             Err(fault.under(alloc, Step::Member(Member::Children)))

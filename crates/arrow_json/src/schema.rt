@@ -1,4 +1,4 @@
-ghost use Rattle.std.specs.Prelude.{◌≡◌, ◌+◌, ◌<◌, ◌≤◌, true, IfOk, IfErr, OnOk, None, Some, codes, map, option_map, option_and_then};
+ghost use Rattle.std.specs.Prelude.{◌≡◌, ◌+◌, ◌<◌, ◌≤◌, true, IfOk, IfErr, OnOk, None, Some, map, option_map, option_and_then};
 ghost use Rattle.std.specs.Arc.{arc_value};
 ghost use Rattle.serde_json.specs.Find.{as_array};
 ghost use Rattle.serde_json.specs.View.{view, items_view};
@@ -9,7 +9,7 @@ ghost use Rattle.arrays.specs.Shape.{field_of, fields_of, kind_of_field, shape_o
 ghost use Rattle.json_places.specs.JsonFault.{Tells, no_memory};
 ghost use Rattle.arrow_json.specs.BareField.{IsFieldType, IsBare};
 ghost use Rattle.json_places.specs.JsonMember.{member_of, is_without, EachFault, IsObject, ReadsEach};
-ghost use Rattle.arrow_json.specs.JsonSchema.{HasType, named_type, only_item, only_child, IsFieldOf, is_childless};
+ghost use Rattle.arrow_json.specs.JsonSchema.{HasType, NamesLists, only_item, only_child, IsFieldOf, is_childless};
 ghost use Rattle.arrow_json.specs.JsonSchemaFault.{FieldFault};
 ghost use Rattle.arrow_json.specs.EncodingParts.{AreEncoded, HasSomeEncoding, parts_of};
 ghost use Rattle.arrow_json.specs.JsonEncoding.{HasEncoding};
@@ -18,8 +18,8 @@ ghost use Rattle.arrow_json.specs.JsonFieldsFault.{SchemaFault, TopFault};
 ghost use Rattle.json_places.specs.declared.path.Member.TheVariants as member;
 
 use crate::encoding::{Encoding, read_encoded};
-use crate::type_object::{read_type, type_name};
-use arrays::{DataType, Field, Schema};
+use crate::type_object::{NamedType, read_type, type_name};
+use arrays::{DataType, Field, OffsetWidth, Schema};
 use json_places::member::{
     array_member, check_object, push, required, text_member, truth_member, unlike,
 };
@@ -63,9 +63,9 @@ fn is_childless(field: &Value) -> bool
     }
 }
 
-/// The type of a field, none where it is a list. Others have no children.
+/// The type of a field. Only lists have children.
 #[tactic(auto, using(crate::proofs::JsonFaults::field_told))]
-fn field_type(alloc: Global, within: u32, field: &Value) -> Result<Option<DataType>, JsonFault>
+fn field_type(alloc: Global, within: u32, field: &Value) -> Result<NamedType, JsonFault>
     requires { IsObject (view field.now) }
     ensures ok { IfOk result (IsFieldType (view field.now)) }
     ensures err { IfErr result (Tells (FieldFault within (view field.now))) }
@@ -75,10 +75,16 @@ fn field_type(alloc: Global, within: u32, field: &Value) -> Result<Option<DataTy
         Ok(read) => read,
         Err(fault) => return Err(fault.under(alloc, Step::Member(Member::DataType))),
     };
-    if read.is_some() && !is_childless(field) {
-        return Err(unlike(alloc, Member::Children));
+    match read {
+        NamedType::Lists(width) => Ok(NamedType::Lists(width)),
+        NamedType::Flat(ty) => {
+            if is_childless(field) {
+                Ok(NamedType::Flat(ty))
+            } else {
+                Err(unlike(alloc, Member::Children))
+            }
+        }
     }
-    Ok(read)
 }
 
 /// The item of an array of exactly one.
@@ -99,7 +105,7 @@ pub(crate) fn only_item(value: &Value) -> Option<&Value>
 fn list_child<'v>(alloc: Global, within: u32, field: &'v Value) -> Result<&'v Value, JsonFault>
     requires object { IsObject (view field.now) }
     requires few { within ≤ 8 }
-    requires list { named_type (view field.now) ≡ Some (codes "list") }
+    requires lists { NamesLists (view field.now) }
     ensures few { OnOk result (within < 8) }
     ensures child { IfOk result (λ child. only_child (view field.now) ≡ Some (view child.now)) }
     ensures err { IfErr result (Tells (FieldFault within (view field.now))) }
@@ -113,12 +119,12 @@ fn list_child<'v>(alloc: Global, within: u32, field: &'v Value) -> Result<&'v Va
     }
 }
 
-/// A field without its children: its type is none where it is a list.
+/// A field without its children.
 #[derive(Drop)]
 struct Bare {
     name: String,
     nullable: bool,
-    ty: Option<DataType>,
+    ty: NamedType,
 }
 
 /// What a field's object says within so many lists, its children apart.
@@ -138,13 +144,13 @@ fn read_bare(alloc: Global, within: u32, field: &Value) -> Result<Bare, JsonFaul
     Ok(Bare { name, nullable, ty })
 }
 
-/// The type of lists of the item's field.
-fn list_of(alloc: Global, item: Field) -> Result<DataType, JsonFault>
-    ensures ok { IfOk result (λ t. shape_of t ≡ shape.list (field_of item)) }
+/// The type of lists of the item's field whose offsets are of this width.
+fn lists_of(alloc: Global, width: OffsetWidth, item: Field) -> Result<DataType, JsonFault>
+    ensures ok { IfOk result (λ t. shape_of t ≡ shape.lists width (field_of item)) }
     ensures err { IfErr result (λ f. f ≡ no_memory) }
 {
     match Box::new(alloc, item) {
-        Ok(item) => Ok(DataType::List(item)),
+        Ok(item) => Ok(DataType::of_lists(width, item)),
         Err(_) => Err(JsonFault::no_memory(alloc)),
     }
 }
@@ -159,15 +165,16 @@ fn read_within(alloc: Global, within: u32, field: &Value) -> Result<Field, JsonF
     ensures err { IfErr result (Tells (FieldFault within (view field.now))) }
 {
     let Bare { name, nullable, ty } = read_bare(alloc, within, field)?;
-    if let Some(ty) = ty {
-        return Ok(Field { name, nullable, ty });
-    }
+    let width = match ty {
+        NamedType::Flat(ty) => return Ok(Field { name, nullable, ty }),
+        NamedType::Lists(width) => width,
+    };
     let child = list_child(alloc, within, field)?;
     match read_within(alloc, within + 1, child) {
         Ok(item) => Ok(Field {
             name,
             nullable,
-            ty: list_of(alloc, item)?,
+            ty: lists_of(alloc, width, item)?,
         }),
         Err(fault) => {
             let item = fault.under(alloc, Step::Item(0));

@@ -8,7 +8,7 @@ ghost use Rattle.json_places.specs.JsonMember.{IsObject};
 ghost use Rattle.arrow_json.specs.JsonSchema.{type_name, ReadsInt};
 ghost use Rattle.arrow_json.specs.JsonSchemaFault.{TypeFault, IndexFault};
 
-use arrays::{DataType, IntType};
+use arrays::{DataType, IntType, OffsetWidth};
 use json_places::member::{check_object, number_member, text_member, truth_member};
 use json_places::number::width;
 use json_places::{JsonFault, JsonFaultKind, Member};
@@ -26,17 +26,28 @@ pub(crate) fn type_name(alloc: Global, object: &Value) -> Result<&str, JsonFault
     text_member(alloc, object, Member::Name)
 }
 
-/// The type that a type object names, none where it is a list: of what, its field's children tell.
+/// What a type object names.
+#[derive(Drop)]
+pub(crate) enum NamedType {
+    /// A type without children.
+    Flat(DataType),
+    /// Lists whose offsets are of this width: of what, their field's children tell.
+    Lists(OffsetWidth),
+}
+
+/// The type that a type object names.
 #[tactic(auto, using(crate::proofs::JsonFaults::type_told))]
-pub(crate) fn read_type(alloc: Global, object: &Value) -> Result<Option<DataType>, JsonFault>
+pub(crate) fn read_type(alloc: Global, object: &Value) -> Result<NamedType, JsonFault>
     ensures ok { IfOk result (IsTypeRead (view object.now)) }
     ensures err { IfErr result (Tells (TypeFault (view object.now))) }
 {
     match type_name(alloc, object)? {
-        "int" => Ok(Some(DataType::Int(read_int(alloc, object)?))),
-        "bool" => Ok(Some(DataType::Bool)),
-        "utf8" => Ok(Some(DataType::Utf8)),
-        "list" => Ok(None),
+        "int" => Ok(NamedType::Flat(DataType::Int(read_int(alloc, object)?))),
+        "bool" => Ok(NamedType::Flat(DataType::Bool)),
+        "utf8" => Ok(NamedType::Flat(DataType::Utf8)),
+        "largeutf8" => Ok(NamedType::Flat(DataType::LargeUtf8)),
+        "list" => Ok(NamedType::Lists(OffsetWidth::Narrow)),
+        "largelist" => Ok(NamedType::Lists(OffsetWidth::Wide)),
         _ => Err(JsonFault::at(alloc, JsonFaultKind::UnsupportedType, &[])),
     }
 }

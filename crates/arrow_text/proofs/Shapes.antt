@@ -1,11 +1,26 @@
 -- The shapes of types.
 use Rattle.std.proofs.Common.{◌≡◌, ◌∙◌, ap}
-use Rattle.types.specs.declared.data_type.DataType.{DataType, fold_out-DataType, map-DataType}
-use Rattle.types.specs.declared.data_type.DataType.TheVariants.{Dict, outs-Dict}
+use Rattle.std.specs.declared.boxed.Box.{Box}
+use Rattle.std.specs.declared.alloc.Global.{Global}
+use Rattle.types.specs.declared.data_type.DataType.{DataType, DataType-F, out-DataType, fold_out-DataType, map-DataType}
+use Rattle.types.specs.declared.data_type.DataType.TheVariants.{LargeUtf8, Dict, outs-LargeUtf8, outs-LargeList', outs-Dict}
+use Rattle.types.specs.declared.data_type.DataType.TheViews as types
 use Rattle.types.specs.declared.data_type.Field.{Field}
-use Rattle.types.specs.Shape.{Shape, FieldShape, shape_step, field_step, shape_of, field_of, dict}
+use Rattle.types.specs.declared.offset_width.OffsetWidth.TheVariants.{Wide}
+use Rattle.types.specs.Shape.{Shape, FieldShape, shape_step, field_step, shape_of, field_of, texts, lists, dict}
+
+-- A type whose level is known.
+pub shape_at : (t : DataType) (level : DataType-F DataType Field) → out-DataType t ≡ level → shape_of t ≡ shape_step (map-DataType DataType Field Shape FieldShape shape_of field_of level)
+shape_at t level is =
+    fold_out-DataType Shape FieldShape shape_step field_step t
+    ∙ ap (λ o. shape_step (map-DataType DataType Field Shape FieldShape shape_of field_of o)) is
+
+pub shape_of-LargeUtf8 : shape_of LargeUtf8 ≡ texts Wide
+shape_of-LargeUtf8 = shape_at LargeUtf8 _ outs-LargeUtf8
+
+pub shape_of-LargeList : (item : Box Field Global) → shape_of (types.LargeList item) ≡ lists Wide (field_of item.value)
+shape_of-LargeList item =
+    shape_at (types.LargeList item) _ (outs-LargeList' record { ptr = item.ptr; alloc = item.alloc; value = record {} } item.value.name item.value.nullable item.value.ty)
 
 pub shape_of-Dict : shape_of Dict ≡ dict
-shape_of-Dict =
-    fold_out-DataType Shape FieldShape shape_step field_step Dict
-    ∙ ap (λ o. shape_step (map-DataType DataType Field Shape FieldShape shape_of field_of o)) outs-Dict
+shape_of-Dict = shape_at Dict _ outs-Dict

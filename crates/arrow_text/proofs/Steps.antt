@@ -5,13 +5,14 @@ use Rattle.std.proofs.lemmas.List.{get_or-map, length-map}
 use Rattle.std.proofs.lemmas.List.Elements.{All-get_or}
 use Rattle.std.proofs.lemmas.List.Sums.{sum_by-cons}
 use Rattle.std.specs.List.{All, flat_map}
+use Rattle.types.specs.declared.offset_width.OffsetWidth.{OffsetWidth}
 use Rattle.arrays.specs.Item.{Item}
 use Rattle.json.specs.Tree.{items_tokens}
 use Rattle.serde_json.specs.Data.{Data}
 use Rattle.serde_json.specs.Written.{items_outline}
-use Rattle.arrow_text.specs.ColumnData.{each, item_length, offsets_data}
+use Rattle.arrow_text.specs.ColumnData.{each, item_length, offset_data, offsets_data}
 use Rattle.arrow_text.specs.Slots.{starts_tokens}
-use Rattle.arrow_text.specs.Written.{natural, tokens_of}
+use Rattle.arrow_text.specs.Written.{tokens_of}
 
 -- What is left after an element, if what is made of a list begins with what is made of its first element.
 pub moved : {A B : Type 0} (before after : List A → List B) (xs : List A) (i : ℕ) (x : A) (made old new all : List B)
@@ -38,12 +39,14 @@ pub All-read : {A : Type 0} (P : A → Type 0) (xs : List A) (i : ℕ) (x : A) �
 All-read P xs i x all within is = subst P (sym is) (All-get_or P xs i x within all)
 
 -- The offsets of one list and then those of another.
-pub offsets_append : (start : ℕ) (xs ys : List Item) → items_tokens (items_outline (offsets_data start (xs ++ ys))) ≡ starts_tokens start xs ++ items_tokens (items_outline (offsets_data (start + sum_by item_length xs) ys))
-offsets_append start [] ys = ap (λ n. items_tokens (items_outline (offsets_data n ys))) (sym (add-zero start))
-offsets_append start (x ∷ xs) ys =
-    ap (λ ts. tokens_of (natural start) ++ ts)
-    (offsets_append (start + item_length x) xs ys
-    ∙ ap (λ n. starts_tokens (start + item_length x) xs ++ items_tokens (items_outline (offsets_data n ys))) (add_assoc start (item_length x) (sum_by item_length xs) ∙ ap (λ n. start + n) (sym (sum_by-cons item_length x xs))))
+pub offsets_append : (w : OffsetWidth) (start : ℕ) (xs ys : List Item) → items_tokens (items_outline (offsets_data w start (xs ++ ys))) ≡ starts_tokens w start xs ++ items_tokens (items_outline (offsets_data w (start + sum_by item_length xs) ys))
+offsets_append w start [] ys = ap (λ n. items_tokens (items_outline (offsets_data w n ys))) (sym (add-zero start))
+offsets_append w start (x ∷ xs) ys =
+    let rest = starts_tokens w (start + item_length x) xs in
+    ap (λ ts. tokens_of (offset_data w start) ++ ts)
+    (offsets_append w (start + item_length x) xs ys
+    ∙ ap (λ n. rest ++ items_tokens (items_outline (offsets_data w n ys))) (add_assoc start (item_length x) (sum_by item_length xs) ∙ ap (λ n. start + n) (sym (sum_by-cons item_length x xs))))
+    ∙ sym (append_assoc (tokens_of (offset_data w start)) rest _)
 
 -- The same of what is made of each element.
 pub All-mapped : {A B : Type 0} (P : B → Type 0) (f : A → B) (xs : List A) (i : ℕ) (x : A) → All P (map f xs) → i < length xs → x ≡ get_or xs i x → P (f x)

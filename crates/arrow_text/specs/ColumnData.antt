@@ -4,10 +4,12 @@ use Rattle.std.specs.Fmt.{signed_decimal}
 use Rattle.types.specs.declared.int_type.IntType.{IntType}
 use Rattle.types.specs.declared.int_type.Width.{Width}
 use Rattle.types.specs.declared.int_type.Width.TheVariants.{W8, W16, W32, W64}
+use Rattle.types.specs.declared.offset_width.OffsetWidth.{OffsetWidth}
+use Rattle.types.specs.OffsetWidth.{offset_type}
 use Rattle.arrays.specs.Item as column
 use Rattle.arrays.specs.Item.{Item, is_null, items_of}
 use Rattle.arrays.specs.Lengths.{inner_items}
-use Rattle.arrays.specs.Shape.{Shape, FieldShape, int, boolean, utf8, list, dict, field}
+use Rattle.arrays.specs.Shape.{Shape, FieldShape, int, boolean, texts, lists, dict, field}
 use Rattle.serde_json.specs.Data.{Data, number, string, array, object, Items, no_items, item, Members, no_members, member}
 use Rattle.serde_json.specs.Find.{of_integer}
 use Rattle.arrow_text.specs.Written.{natural}
@@ -62,10 +64,14 @@ item_length (column.text bytes) = length bytes
 item_length (column.list xs) = length (items_of xs)
 item_length x = 0
 
+-- An offset: one of 64 bits is a string, as such a number is.
+abbrev pub offset_data : OffsetWidth → ℕ → Data
+offset_data w n = int_data (offset_type w).bits (pos n)
+
 -- Where each slot begins, one behind the other, and where the last one ends.
-abbrev pub offsets_data : ℕ → List Item → Items
-offsets_data start [] = item (natural start) no_items
-offsets_data start (x ∷ xs) = item (natural start) (offsets_data (start + item_length x) xs)
+abbrev pub offsets_data : OffsetWidth → ℕ → List Item → Items
+offsets_data w start [] = item (offset_data w start) no_items
+offsets_data w start (x ∷ xs) = item (offset_data w start) (offsets_data w (start + item_length x) xs)
 
 -- ---- columns
 
@@ -76,25 +82,25 @@ sized n name = member (codes "count") (natural n) (member (codes "name") (string
 abbrev pub flags : List Item → Data
 flags items = array (each valid_data items)
 
-abbrev pub offsets : List Item → Data
-offsets items = array (offsets_data 0 items)
+abbrev pub offsets : OffsetWidth → List Item → Data
+offsets w items = array (offsets_data w 0 items)
 
 -- A column with a value for each slot.
 abbrev pub plain_column : (Item → Data) → List ℕ → List Item → Data
 plain_column value name items = object (member (codes "DATA") (array (each value items)) (member (codes "VALIDITY") (flags items) (sized (length items) name)))
 
--- One of texts.
-abbrev pub text_column : List ℕ → List Item → Data
-text_column name items = object (member (codes "DATA") (array (each text_data items)) (member (codes "OFFSET") (offsets items) (member (codes "VALIDITY") (flags items) (sized (length items) name))))
+-- One of texts, whose offsets are of this width.
+abbrev pub text_column : OffsetWidth → List ℕ → List Item → Data
+text_column w name items = object (member (codes "DATA") (array (each text_data items)) (member (codes "OFFSET") (offsets w items) (member (codes "VALIDITY") (flags items) (sized (length items) name))))
 
 -- An array of one.
 abbrev pub only : Data → Data
 only d = array (item d no_items)
 
 -- One of lists, over the column of their items.
-abbrev pub list_column : Data → List ℕ → List Item → Data
-list_column child name items =
-    object (member (codes "OFFSET") (offsets items) (member (codes "VALIDITY") (flags items) (member (codes "children") (only child) (sized (length items) name))))
+abbrev pub list_column : OffsetWidth → Data → List ℕ → List Item → Data
+list_column w child name items =
+    object (member (codes "OFFSET") (offsets w items) (member (codes "VALIDITY") (flags items) (member (codes "children") (only child) (sized (length items) name))))
 
 -- The column of a field: its items alone decide. The items of a list column's child are those of the lists that are there, one list
 -- behind the other. A dictionary-encoded column has the codes of its texts.
@@ -105,6 +111,6 @@ abbrev mutual
   pub shaped_column : (List ℕ → ℕ) → Shape → List ℕ → List Item → Data
   shaped_column code (int t) name items = plain_column (number_data t) name items
   shaped_column code boolean name items = plain_column truth_data name items
-  shaped_column code utf8 name items = text_column name items
-  shaped_column code (list f) name items = list_column (column_data code f (inner_items items)) name items
+  shaped_column code (texts w) name items = text_column w name items
+  shaped_column code (lists w f) name items = list_column w (column_data code f (inner_items items)) name items
   shaped_column code dict name items = plain_column (code_data code) name items

@@ -1,8 +1,10 @@
 -- The schema of a file as a value. (Arrow integration testing, "JSON test data format", Schema and Field)
 use Rattle.std.specs.Prelude.{ℕ, suc, ◌*◌, List, [], ◌∷◌, codes, Bool, false}
 use Rattle.types.specs.declared.int_type.IntType.{IntType}
+use Rattle.types.specs.declared.offset_width.OffsetWidth.{OffsetWidth}
+use Rattle.types.specs.declared.offset_width.OffsetWidth.TheVariants.{Narrow, Wide}
 use Rattle.types.specs.Kind.{bytes_of, int32}
-use Rattle.types.specs.Shape.{Shape, FieldShape, int, boolean as truth, utf8, list, dict, field}
+use Rattle.types.specs.Shape.{Shape, FieldShape, int, boolean as truth, texts, lists, dict, field}
 use Rattle.serde_json.specs.Data.{Data, boolean, string, array, object, Items, no_items, item, Members, no_members, member}
 use Rattle.arrow_text.specs.Written.{natural}
 
@@ -14,13 +16,22 @@ int_type t = object (member (codes "bitWidth") (natural (8 * bytes_of t.bits)) (
 abbrev pub named_type : List ℕ → Data
 named_type name = object (member (codes "name") (string name) no_members)
 
--- The type object; of a dictionary that of its texts.
+-- The names of the types of texts and of lists, by the width of their offsets.
+abbrev pub text_name : OffsetWidth → List ℕ
+text_name Narrow = codes "utf8"
+text_name Wide = codes "largeutf8"
+
+abbrev pub list_name : OffsetWidth → List ℕ
+list_name Narrow = codes "list"
+list_name Wide = codes "largelist"
+
+-- The type object; of a dictionary that of its texts, whose offsets have 32 bits.
 abbrev pub type_data : Shape → Data
 type_data (int t) = int_type t
 type_data truth = named_type (codes "bool")
-type_data utf8 = named_type (codes "utf8")
-type_data (list f) = named_type (codes "list")
-type_data dict = named_type (codes "utf8")
+type_data (texts w) = named_type (text_name w)
+type_data (lists w f) = named_type (list_name w)
+type_data dict = named_type (text_name Narrow)
 
 -- The name, the nullability and the type, with which each field ends.
 abbrev pub named_members : List ℕ → Bool → Shape → Members
@@ -34,8 +45,8 @@ dictionary_data id = object (member (codes "id") (natural id) (member (codes "in
 abbrev pub other_members : ℕ → List ℕ → Bool → Shape → Members
 other_members id name nullable (int t) = named_members name nullable (int t)
 other_members id name nullable truth = named_members name nullable truth
-other_members id name nullable utf8 = named_members name nullable utf8
-other_members id name nullable (list f) = named_members name nullable (list f)
+other_members id name nullable (texts w) = named_members name nullable (texts w)
+other_members id name nullable (lists w f) = named_members name nullable (lists w f)
 other_members id name nullable dict = member (codes "dictionary") (dictionary_data id) (named_members name nullable dict)
 
 -- The field object of a field, whose dictionary, where it has one, is that of the id.
@@ -47,8 +58,8 @@ abbrev mutual
   pub children_data : ℕ → Shape → Items
   children_data id (int t) = no_items
   children_data id truth = no_items
-  children_data id utf8 = no_items
-  children_data id (list f) = item (field_data id f) no_items
+  children_data id (texts w) = no_items
+  children_data id (lists w f) = item (field_data id f) no_items
   children_data id dict = no_items
 
 -- The fields in order, from the place on: a field's place is its dictionary's id.

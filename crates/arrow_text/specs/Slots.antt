@@ -8,8 +8,9 @@ use Rattle.arrays.specs.Kind.{Kind}
 use Rattle.arrays.specs.Seen.{Seen}
 use Rattle.json.specs.Token.{Token}
 use Rattle.serde_json.specs.Data.{Data}
-use Rattle.arrow_text.specs.Written.{natural, tokens_of}
-use Rattle.arrow_text.specs.ColumnData.{code_data, item_length, number_data, text_data, truth_data, valid_data}
+use Rattle.types.specs.declared.offset_width.OffsetWidth.{OffsetWidth}
+use Rattle.arrow_text.specs.Written.{tokens_of}
+use Rattle.arrow_text.specs.ColumnData.{code_data, item_length, number_data, offset_data, text_data, truth_data, valid_data}
 use Rattle.arrow_text.specs.declared.slots.Part.{Part}
 use Rattle.arrow_text.specs.declared.slots.Part.TheVariants.{Numbers, Truths, Texts, Codes, Flags}
 
@@ -20,7 +21,7 @@ code_in texts bytes = unwrap_or (position (bytes_eq bytes) texts) 0
 abbrev pub part_data : Part → Item → Data
 part_data (Numbers t) = number_data t
 part_data Truths = truth_data
-part_data Texts = text_data
+part_data (Texts w) = text_data
 part_data (Codes texts) = code_data (code_in texts.now)
 part_data Flags = valid_data
 
@@ -28,7 +29,7 @@ part_data Flags = valid_data
 abbrev pub IsPartOf : Kind → Part → Type 0
 IsPartOf k (Numbers t) = k ≡ kind.int t
 IsPartOf k Truths = k ≡ kind.boolean
-IsPartOf k Texts = k ≡ kind.utf8
+IsPartOf k (Texts w) = k ≡ kind.texts w
 IsPartOf k (Codes texts) = k ≡ kind.dict
 IsPartOf k Flags = ⊤
 
@@ -40,14 +41,14 @@ AddsEach value items old new = new ≡ old ++ flat_map (λ x. tokens_of (value x
 abbrev pub is_sized : Kind → Bool
 is_sized (kind.int t) = false
 is_sized kind.boolean = false
-is_sized kind.utf8 = true
-is_sized (kind.list k) = true
+is_sized (kind.texts w) = true
+is_sized (kind.lists w k) = true
 is_sized kind.dict = false
 
 -- Where each slot begins.
-abbrev pub starts_tokens : ℕ → List Item → List Token
-starts_tokens start [] = []
-starts_tokens start (x ∷ xs) = tokens_of (natural start) ++ starts_tokens (start + item_length x) xs
+abbrev pub starts_tokens : OffsetWidth → ℕ → List Item → List Token
+starts_tokens w start [] = []
+starts_tokens w start (x ∷ xs) = tokens_of (offset_data w start) ++ starts_tokens w (start + item_length x) xs
 
 -- Columns of one kind.
 abbrev pub AreOf : Kind → List Seen → Type 0

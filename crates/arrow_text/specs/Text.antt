@@ -2,7 +2,7 @@
 use Rattle.std.specs.Prelude.{ℕ, List, codes, Bool, true, false}
 use Rattle.std.specs.List.{list_any}
 use Rattle.arrays.specs.File.{File}
-use Rattle.arrays.specs.Kind.{Kind, int, boolean, utf8, list, dict}
+use Rattle.arrays.specs.Kind.{Kind, int, boolean, texts, lists, dict}
 use Rattle.arrays.specs.Shape.{FieldShape, kind_of_field}
 use Rattle.serde_json.specs.Data.{Data, array, object, Members, no_members, member}
 use Rattle.serde_json.specs.Written.{compact_text}
@@ -15,8 +15,8 @@ use Rattle.arrow_text.specs.SchemaData.{schema_data}
 abbrev pub is_encoded : Kind → Bool
 is_encoded (int t) = false
 is_encoded boolean = false
-is_encoded utf8 = false
-is_encoded (list k) = false
+is_encoded (texts w) = false
+is_encoded (lists w k) = false
 is_encoded dict = true
 
 -- Whether some field is dictionary-encoded.

@@ -14,7 +14,7 @@ use crate::lists::lists_of;
 use crate::output::Output;
 use crate::slots::{Part, slot_count, write_array, write_offsets};
 use crate::text_set::TextSet;
-use arrays::{DataType, Field, View};
+use arrays::{DataType, Field, OffsetWidth, View};
 use colbits::NoMemory;
 use std::alloc::Global;
 
@@ -48,42 +48,48 @@ fn write_plain(
     write_sized(out, count, name)
 }
 
-/// Writes a column of texts.
-fn write_texts(out: &mut Output, name: &str, columns: &[View<'_>]) -> Result<(), NoMemory>
-    requires { All (λ c. c.kind ≡ kind.utf8) columns.now }
-    ensures { OnOk result (Adds (text_column name.now (joined_items columns.now)) out.old out.new) }
+/// Writes a column of texts whose offsets are of this width.
+fn write_texts(
+    out: &mut Output,
+    width: OffsetWidth,
+    name: &str,
+    columns: &[View<'_>],
+) -> Result<(), NoMemory>
+    requires { AreOf (kind.texts width) columns.now }
+    ensures { OnOk result (Adds (text_column width name.now (joined_items columns.now)) out.old out.new) }
 {
     let count = slot_count(columns)?;
     out.begin_object()?;
     out.key("DATA")?;
-    write_array(out, Part::Texts, columns)?;
+    write_array(out, Part::Texts(width), columns)?;
     out.key("OFFSET")?;
-    write_offsets(out, columns)?;
+    write_offsets(out, width, columns)?;
     out.key("VALIDITY")?;
     write_array(out, Part::Flags, columns)?;
     write_sized(out, count, name)
 }
 
-/// Writes a column of lists of the item's field.
+/// Writes a column of lists, of which `list` has the width of the offsets and the field of the items.
 #[cycle(columns)]
 fn write_lists(
     alloc: Global,
     out: &mut Output,
     texts: &TextSet,
-    item: &Field,
+    list: (OffsetWidth, &Field),
     name: &str,
     columns: &[View<'_>],
 ) -> Result<(), NoMemory>
-    requires { AreOf (kind.list (kind_of (out-Field item.now).ty)) columns.now }
-    ensures { OnOk result (Adds (list_column
-        (column_data (code_in texts.now) (field_of item.now) (inner_items (joined_items columns.now)))
+    requires { AreOf (kind.lists list.0 (kind_of (out-Field list.1.now).ty)) columns.now }
+    ensures { OnOk result (Adds (list_column list.entry.0
+        (column_data (code_in texts.now) (field_of list.entry.1.now) (inner_items (joined_items columns.now)))
         name.now (joined_items columns.now)) out.old out.new) }
 {
+    let (width, item) = list;
     let count = slot_count(columns)?;
     let lists = lists_of(alloc, columns)?;
     out.begin_object()?;
     out.key("OFFSET")?;
-    write_offsets(out, columns)?;
+    write_offsets(out, width, columns)?;
     out.key("VALIDITY")?;
     write_array(out, Part::Flags, columns)?;
     out.key("children")?;
@@ -127,8 +133,24 @@ pub(crate) fn write_column(
     match &field.ty {
         DataType::Int(int) => write_plain(out, Part::Numbers(*int), name, columns),
         DataType::Bool => write_plain(out, Part::Truths, name, columns),
-        DataType::Utf8 => write_texts(out, name, columns),
-        DataType::List(item) => write_lists(alloc, out, texts, item, name, columns),
+        DataType::Utf8 => write_texts(out, OffsetWidth::Narrow, name, columns),
+        DataType::LargeUtf8 => write_texts(out, OffsetWidth::Wide, name, columns),
+        DataType::List(item) => write_lists(
+            alloc,
+            out,
+            texts,
+            (OffsetWidth::Narrow, item),
+            name,
+            columns,
+        ),
+        DataType::LargeList(item) => write_lists(
+            alloc,
+            out,
+            texts,
+            (OffsetWidth::Wide, item),
+            name,
+            columns,
+        ),
         DataType::Dict => write_plain(out, Part::Codes(texts), name, columns),
     }
 }

@@ -1,6 +1,7 @@
 //! The dictionaries of a file as text.
 
 ghost use Rattle.std.specs.Prelude.{◌≡◌, ◌++◌, OnOk, length, map, string_bytes};
+ghost use Rattle.types.specs.declared.offset_width.OffsetWidth.TheVariants.{Narrow};
 ghost use Rattle.arrays.specs.Shape.{field_of, fields_of};
 ghost use Rattle.json.specs.Tree.{items_tokens};
 ghost use Rattle.serde_json.specs.Data.{Items, array};
@@ -28,7 +29,7 @@ fn write_strings(out: &mut Output, texts: &[String]) -> Result<(), NoMemory>
 
 /// Writes the offsets of texts. Numbers past 64 bits are of more bytes than a memory holds.
 fn write_offsets(out: &mut Output, texts: &[String]) -> Result<(), NoMemory>
-    ensures { OnOk result (Adds (offsets (text_items (map string_bytes texts.now))) out.old out.new) }
+    ensures { OnOk result (Adds (offsets Narrow (text_items (map string_bytes texts.now))) out.old out.new) }
 {
     out.begin_array()?;
     let mut end = 0u64;
@@ -53,7 +54,7 @@ fn write_flags(out: &mut Output, texts: &[String]) -> Result<(), NoMemory>
 
 /// Writes texts as a column.
 fn write_column(out: &mut Output, name: &str, texts: &[String]) -> Result<(), NoMemory>
-    ensures { OnOk result (Adds (text_column name.now (text_items (map string_bytes texts.now))) out.old out.new) }
+    ensures { OnOk result (Adds (text_column Narrow name.now (text_items (map string_bytes texts.now))) out.old out.new) }
 {
     out.begin_object()?;
     out.key("DATA")?;

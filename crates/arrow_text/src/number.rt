@@ -4,11 +4,11 @@ ghost use Rattle.std.specs.Prelude.{◌^◌, ◌-◌, ◌≤ℤ◌, OnOk, neg_�
 ghost use Rattle.std.specs.Fmt.{signed_decimal};
 ghost use Rattle.types.specs.Number.{IsOfType};
 ghost use Rattle.serde_json.specs.Data.{string};
-ghost use Rattle.arrow_text.specs.ColumnData.{int_data, whole_data};
+ghost use Rattle.arrow_text.specs.ColumnData.{int_data, offset_data, whole_data};
 ghost use Rattle.arrow_text.specs.Written.{Adds};
 
 use crate::output::Output;
-use arrays::{IntType, Width};
+use arrays::{IntType, OffsetWidth, Width};
 use colbits::NoMemory;
 
 /// Writes a number of at most 64 bits.
@@ -46,5 +46,19 @@ pub(crate) fn write_number(out: &mut Output, ty: IntType, number: i128) -> Resul
     match ty.bits {
         Width::W64 => write_quoted(out, number),
         Width::W8 | Width::W16 | Width::W32 => write_plain(out, number),
+    }
+}
+
+/// Writes an offset of texts or lists: within quotes where it has 64 bits.
+pub(crate) fn write_offset(
+    out: &mut Output,
+    width: OffsetWidth,
+    offset: u64,
+) -> Result<(), NoMemory>
+    ensures { OnOk result (Adds (offset_data width offset) out.old out.new) }
+{
+    match width {
+        OffsetWidth::Narrow => out.number(offset),
+        OffsetWidth::Wide => out.quoted_number(offset),
     }
 }

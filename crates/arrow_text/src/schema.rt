@@ -42,7 +42,9 @@ fn write_type(out: &mut Output, ty: &DataType) -> Result<(), NoMemory>
         DataType::Int(int) => write_int_type(out, *int),
         DataType::Bool => write_named_type(out, "bool"),
         DataType::Utf8 | DataType::Dict => write_named_type(out, "utf8"),
+        DataType::LargeUtf8 => write_named_type(out, "largeutf8"),
         DataType::List(_) => write_named_type(out, "list"),
+        DataType::LargeList(_) => write_named_type(out, "largelist"),
     }
 }
 
@@ -107,7 +109,7 @@ fn write_children(out: &mut Output, id: usize, ty: &DataType) -> Result<(), NoMe
     ensures { OnOk result (AddsItems (children_data id (shape_of ty.now)) out.old out.new) }
 {
     match ty {
-        DataType::List(item) => {
+        DataType::List(item) | DataType::LargeList(item) => {
             write_field(out, id, item)?;
             out.end_array()
         }

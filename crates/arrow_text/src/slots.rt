@@ -10,10 +10,10 @@ ghost use Rattle.arrow_text.specs.Slots.{AddsEach, IsPartOf, code_in, is_sized, 
 ghost use Rattle.arrays.specs.Lengths.{joined_items};
 ghost use Rattle.arrow_text.specs.Written.{Adds, AddsItems};
 
-use crate::number::write_number;
+use crate::number::{write_number, write_offset};
 use crate::output::Output;
 use crate::text_set::TextSet;
-use arrays::{IntType, View, ViewType};
+use arrays::{IntType, OffsetWidth, View, ViewType};
 use colbits::NoMemory;
 
 /// What is written of each slot of a column.
@@ -23,8 +23,8 @@ pub(crate) enum Part<'a> {
     Numbers(IntType),
     /// The truth values.
     Truths,
-    /// The texts.
-    Texts,
+    /// The texts, whose offsets are of this width.
+    Texts(OffsetWidth),
     /// The places of texts in a dictionary.
     Codes(&'a TextSet),
     /// Whether there is an item, whatever the column's kind.
@@ -58,7 +58,7 @@ fn write_slot(out: &mut Output, part: Part<'_>, view: &View<'_>, i: usize) -> Re
     match part {
         Part::Numbers(ty) => write_number(out, ty, view.int_as(ty, i).unwrap_or(0)),
         Part::Truths => write_flag(out, view.bool_at(i).unwrap_or(false)),
-        Part::Texts => out.string(view.utf8_at(i).unwrap_or("")),
+        Part::Texts(width) => out.string(view.text_as(width, i).unwrap_or("")),
         Part::Codes(texts) => write_code(out, texts, view.text_at(i)),
         Part::Flags => write_flag(out, view.holds(i)),
     }
@@ -107,7 +107,7 @@ fn item_length(view: &View<'_>, i: usize) -> usize
     ensures { result ≡ item_length (slice_index_or view.now.items i null) }
 {
     match view.ty() {
-        ViewType::Utf8 => view.utf8_at(i).unwrap_or("").len(),
+        ViewType::Text(width) => view.text_as(width, i).unwrap_or("").len(),
         _ => match view.list_at(i) {
             Some(list) => list.len(),
             None => 0,
@@ -117,14 +117,19 @@ fn item_length(view: &View<'_>, i: usize) -> usize
 
 /// Writes where each slot begins, the first one at `start`, and tells where the last one ends. Numbers past 64 bits
 /// are of more bytes or items than a memory holds.
-fn write_starts(out: &mut Output, view: &View<'_>, start: u64) -> Result<u64, NoMemory>
+fn write_starts(
+    out: &mut Output,
+    width: OffsetWidth,
+    view: &View<'_>,
+    start: u64,
+) -> Result<u64, NoMemory>
     requires { is_sized view.now.kind ≡ true }
-    ensures starts { OnOk result (out.new ≡ out.old ++ starts_tokens start view.now.items) }
+    ensures starts { OnOk result (out.new ≡ out.old ++ starts_tokens width start view.now.items) }
     ensures end { IfOk result (λ end. end ≡ start + sum_by item_length view.now.items) }
 {
     let mut end = start;
     for i in 0..view.len() {
-        out.number(end)?;
+        write_offset(out, width, end)?;
         end = end
             .checked_add(item_length(view, i) as u64)
             .ok_or(NoMemory)?;
@@ -133,25 +138,29 @@ fn write_starts(out: &mut Output, view: &View<'_>, start: u64) -> Result<u64, No
 }
 
 /// Writes the offsets of columns, one column behind the other, and the end of the array.
-fn write_ends(out: &mut Output, columns: &[View<'_>]) -> Result<(), NoMemory>
+fn write_ends(out: &mut Output, width: OffsetWidth, columns: &[View<'_>]) -> Result<(), NoMemory>
     requires { All (λ c. is_sized c.kind ≡ true) columns.now }
-    ensures { OnOk result (AddsItems (offsets_data 0 (joined_items columns.now)) out.old out.new) }
+    ensures { OnOk result (AddsItems (offsets_data width 0 (joined_items columns.now)) out.old out.new) }
 {
     let mut end = 0;
     for column in columns {
-        end = write_starts(out, column, end)?;
+        end = write_starts(out, width, column, end)?;
     }
-    out.number(end)?;
+    write_offset(out, width, end)?;
     out.end_array()
 }
 
 /// Writes the array of offsets of columns, one column behind the other.
-pub(crate) fn write_offsets(out: &mut Output, columns: &[View<'_>]) -> Result<(), NoMemory>
+pub(crate) fn write_offsets(
+    out: &mut Output,
+    width: OffsetWidth,
+    columns: &[View<'_>],
+) -> Result<(), NoMemory>
     requires { All (λ c. is_sized c.kind ≡ true) columns.now }
-    ensures { OnOk result (Adds (array (offsets_data 0 (joined_items columns.now))) out.old out.new) }
+    ensures { OnOk result (Adds (array (offsets_data width 0 (joined_items columns.now))) out.old out.new) }
 {
     out.begin_array()?;
-    write_ends(out, columns)
+    write_ends(out, width, columns)
 }
 
 /// How many slots the columns have together.

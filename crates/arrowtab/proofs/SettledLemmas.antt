@@ -106,11 +106,11 @@ module _ {X : Type 0} (R : X → X → Ordering) (total : IsTotalOrder R) (same 
 flip_least : (k : Kind) (xs ys : List Item) → better lesser (least_of k xs) (least_of k ys) ≡ better lesser (least_of k ys) (least_of k xs)
 flip_least (kind.int t) xs ys = least_flipped int_cmp int_cmp_total same_int int is_number (filter_map number_of) are_numbers lesser (λ x y. cond-item int (is_gt (int_cmp x y)) x y) xs ys
 flip_least kind.boolean xs ys = least_flipped bool_cmp bool_cmp_total same_bool boolean is_truth (filter_map truth_of) are_truths lesser (λ x y. cond-item boolean (is_gt (bool_cmp x y)) x y) xs ys
-flip_least kind.utf8 xs ys =
+flip_least (kind.texts w) xs ys =
     least_flipped (slice_cmp nat_cmp) nat_list_cmp_total same_bytes text is_bytes (filter_map bytes_of_text) are_bytes lesser (λ x y. cond-item text (is_gt (slice_cmp nat_cmp x y)) x y) xs ys
-flip_least (kind.list k) xs ys =
-    let a = no_least_of_lists (kind.list k) xs refl in
-    let b = no_least_of_lists (kind.list k) ys refl in
+flip_least (kind.lists w k) xs ys =
+    let a = no_least_of_lists (kind.lists w k) xs refl in
+    let b = no_least_of_lists (kind.lists w k) ys refl in
     (λ j. better lesser (a j) (b j)) ∙ sym (λ j. better lesser (b j) (a j))
 flip_least kind.dict xs ys =
     least_flipped (slice_cmp nat_cmp) nat_list_cmp_total same_bytes text is_bytes (filter_map bytes_of_text) are_bytes lesser (λ x y. cond-item text (is_gt (slice_cmp nat_cmp x y)) x y) xs ys
@@ -118,11 +118,11 @@ flip_least kind.dict xs ys =
 flip_greatest : (k : Kind) (xs ys : List Item) → better greater (greatest_of k xs) (greatest_of k ys) ≡ better greater (greatest_of k ys) (greatest_of k xs)
 flip_greatest (kind.int t) xs ys = greatest_flipped int_cmp int_cmp_total same_int int is_number (filter_map number_of) are_numbers greater (λ x y. cond-item int (is_gt (int_cmp y x)) x y) xs ys
 flip_greatest kind.boolean xs ys = greatest_flipped bool_cmp bool_cmp_total same_bool boolean is_truth (filter_map truth_of) are_truths greater (λ x y. cond-item boolean (is_gt (bool_cmp y x)) x y) xs ys
-flip_greatest kind.utf8 xs ys =
+flip_greatest (kind.texts w) xs ys =
     greatest_flipped (slice_cmp nat_cmp) nat_list_cmp_total same_bytes text is_bytes (filter_map bytes_of_text) are_bytes greater (λ x y. cond-item text (is_gt (slice_cmp nat_cmp y x)) x y) xs ys
-flip_greatest (kind.list k) xs ys =
-    let a = no_greatest_of_lists (kind.list k) xs refl in
-    let b = no_greatest_of_lists (kind.list k) ys refl in
+flip_greatest (kind.lists w k) xs ys =
+    let a = no_greatest_of_lists (kind.lists w k) xs refl in
+    let b = no_greatest_of_lists (kind.lists w k) ys refl in
     (λ j. better greater (a j) (b j)) ∙ sym (λ j. better greater (b j) (a j))
 flip_greatest kind.dict xs ys =
     greatest_flipped (slice_cmp nat_cmp) nat_list_cmp_total same_bytes text is_bytes (filter_map bytes_of_text) are_bytes greater (λ x y. cond-item text (is_gt (slice_cmp nat_cmp y x)) x y) xs ys

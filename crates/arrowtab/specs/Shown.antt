@@ -6,6 +6,7 @@ use Rattle.json.specs.Print.{quoted}
 use Rattle.ends.specs.Line.{line}
 use Rattle.types.specs.declared.int_type.Width.{Width}
 use Rattle.types.specs.declared.int_type.Width.TheVariants.{W8, W16, W32, W64}
+use Rattle.arrow_text.specs.SchemaData.{list_name, text_name}
 use Rattle.arrays.specs.Item as item
 use Rattle.arrays.specs.Item.{Item}
 use Rattle.arrays.specs.Kind as kind
@@ -34,12 +35,12 @@ type_name W32 false = codes "uint32"
 type_name W64 true = codes "int64"
 type_name W64 false = codes "uint64"
 
--- The name of a type. A column of texts is dictionary-encoded at the top, and plain inside lists.
+-- The name of a type. A column of texts with offsets of 32 bits is dictionary-encoded at the top, and plain inside lists.
 abbrev pub kind_name : Kind → List ℕ
 kind_name (kind.int t) = type_name t.bits t.signed
 kind_name kind.boolean = codes "bool"
-kind_name kind.utf8 = codes "utf8"
-kind_name (kind.list k) = codes "list<" ++ kind_name k ++ codes ">"
+kind_name (kind.texts w) = text_name w
+kind_name (kind.lists w k) = list_name w ++ codes "<" ++ kind_name k ++ codes ">"
 kind_name kind.dict = codes "dictionary"
 
 abbrev pub truth_text : Bool → List ℕ

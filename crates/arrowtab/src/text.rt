@@ -76,8 +76,14 @@ fn push_type(text: &mut String, ty: &DataType) -> Result<(), AllocError>
         DataType::Int(int) => text.push_str(type_name(*int)),
         DataType::Bool => text.push_str("bool"),
         DataType::Utf8 => text.push_str("utf8"),
+        DataType::LargeUtf8 => text.push_str("largeutf8"),
         DataType::List(item) => {
             text.push_str("list<")?;
+            push_type(text, &item.ty)?;
+            text.push_str(">")
+        }
+        DataType::LargeList(item) => {
+            text.push_str("largelist<")?;
             push_type(text, &item.ty)?;
             text.push_str(">")
         }

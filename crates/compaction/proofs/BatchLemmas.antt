@@ -127,17 +127,3 @@ kind-at fields b k f is below d =
 -- the column of the rows of a lawful batch is its own
 pub column-is : (b : Batch) (k : ℕ) (d : Seen) → batch_fault b.fields b.rows b.columns ≡ None → k < length b.columns → column (rows_of b) k ≡ (get_or b.columns k d).items
 column-is b k d lawful below = column-rows_of b k d below (sizes b.rows b.columns (whole b.fields b.rows b.columns lawful).long k d below)
-
--- ---- kinds
-
-same-signed : (b : Bool) → cond b b (not b) ≡ true
-same-signed true = refl
-same-signed false = refl
-
-pub same-itself : (k : Kind) → same_kind k k ≡ true
-same-itself (kind.int t) =
-    ap (λ b. b && cond t.signed t.signed (not t.signed)) (eq-eqb (bytes_of t.bits) (bytes_of t.bits) refl) ∙ same-signed t.signed
-same-itself kind.boolean = refl
-same-itself kind.utf8 = refl
-same-itself (kind.list k) = same-itself k
-same-itself kind.dict = refl

@@ -9,6 +9,7 @@ use Rattle.std.proofs.lemmas.List.{map-append}
 use Rattle.std.proofs.lemmas.List.Sums.{sum_by-append}
 use Rattle.arrays.specs.Batch.{Table, column}
 use Rattle.arrays.specs.Item.{Item, null}
+use Rattle.types.specs.declared.offset_width.OffsetWidth.TheVariants.{Narrow, Wide}
 use Rattle.arrays.specs.Kind as kind
 use Rattle.arrays.specs.Kind.{Kind}
 use Rattle.arrays.specs.Lengths.{inner_items, is_past, is_too_big, items_in, text_bytes, text_length}
@@ -27,8 +28,9 @@ pub front-fits : (k : Kind) (xs ys : List Item) → is_too_big k (xs ++ ys) ≡ 
 front-fits (kind.int t) xs ys fits = refl
 front-fits kind.boolean xs ys fits = refl
 front-fits kind.dict xs ys fits = refl
-front-fits kind.utf8 xs ys fits = less-past (text_bytes xs) (text_bytes (xs ++ ys)) (omega (arith, sum_by-append text_length xs ys)) fits
-front-fits (kind.list k) xs ys fits =
+front-fits (kind.texts Wide) xs ys fits = refl
+front-fits (kind.texts Narrow) xs ys fits = less-past (text_bytes xs) (text_bytes (xs ++ ys)) (omega (arith, sum_by-append text_length xs ys)) fits
+front-fits (kind.lists w k) xs ys fits =
     let inner = flat_map-append items_in xs ys in
     let parts = or_parts (is_past (length (inner_items xs ++ inner_items ys))) (is_too_big k (inner_items xs ++ inner_items ys))
     (ap (λ (l : List Item). is_past (length l) || is_too_big k l) (sym inner) ∙ fits) in

@@ -10,6 +10,7 @@ use Rattle.std.proofs.lemmas.List.Elements.{All-append, All-cons, All-head, All-
 use Rattle.std.proofs.lemmas.List.Folds.{list_any_at}
 use Rattle.std.proofs.lemmas.List.FromFn.{get_or-map-range_with_len, length-map-range_with_len}
 use Rattle.std.proofs.lemmas.Slice.Zip.{AllZip-long}
+use Rattle.arrays.proofs.ListArrays.{same_kind-refl}
 use Rattle.arrays.specs.Batch.{Batch, Row, Table, batch_fault, column, row_of, rows_of}
 use Rattle.arrays.specs.Item.{Item, null}
 use Rattle.arrays.specs.Kind as kind
@@ -23,7 +24,7 @@ use Rattle.compaction.specs.Columns.{AreJoinable, IsColumnOf, IsJoined}
 use Rattle.compaction.specs.Fronts.{IsBatchOf}
 use Rattle.compaction.specs.Groups.{is_big, together}
 use Rattle.compaction.specs.Under.{IsDictionary, IsUnder, NamesFront}
-use Rattle.compaction.proofs.BatchLemmas.{count-of, faultless, kind-at, row-item, same-itself, wrong_kind}
+use Rattle.compaction.proofs.BatchLemmas.{count-of, faultless, kind-at, row-item, wrong_kind}
 use Rattle.compaction.proofs.FitLemmas.{big-any, column-append, is_big_at}
 use Rattle.compaction.proofs.FrontLemmas.{any_field, enumerated-at, length-enumerated}
 
@@ -148,7 +149,7 @@ right-kinds t n [] (c ∷ columns) all = absurd all
 right-kinds t n (f ∷ fields) [] all = absurd all
 right-kinds t n (f ∷ fields) (c ∷ columns) all =
     ap (λ k. not (same_kind k (kind_of_field f)) || list_any wrong_kind (zip columns fields)) all.0.kind
-    ∙ ap (λ b. not b || list_any wrong_kind (zip columns fields)) (same-itself (kind_of_field f))
+    ∙ ap (λ b. not b || list_any wrong_kind (zip columns fields)) (same_kind-refl (kind_of_field f))
     ∙ right-kinds t (n + 1) fields columns all.1
 
 right-sizes : (t : Table) (n : ℕ) (fields : List FieldShape) (columns : List Seen) → AllZip (IsColumn t) (enumerate_from n fields) columns

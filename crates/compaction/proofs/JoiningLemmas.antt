@@ -6,6 +6,7 @@ use Rattle.std.proofs.lemmas.Bool.{and_parts, le-ltb, lt-ltb, ltb-true, or_from,
 use Rattle.std.proofs.lemmas.List.{append-nil, get_or_append_left, map-append, take_more}
 use Rattle.std.proofs.lemmas.List.Elements.{All-append, All-map, All-tail}
 use Rattle.std.proofs.lemmas.List.Sums.{list_all-from_AllPass}
+use Rattle.arrays.proofs.ListArrays.{same_kind-refl}
 use Rattle.arrays.specs.Dictionary.{codes_of, encoded, is_code, looked_up}
 use Rattle.arrays.specs.Item.{Item, boolean, int, list, null, text}
 use Rattle.arrays.specs.Kind as kind
@@ -19,7 +20,6 @@ use Rattle.select.specs.declared.fault.SelectFault.TheVariants.{NoMemory}
 use Rattle.select.proofs.JoinLemmas.{fault-of}
 use Rattle.select.proofs.JoinedCodes.{length-codes-of}
 use Rattle.compaction.specs.Columns.{AreJoinable, IsJoined}
-use Rattle.compaction.proofs.BatchLemmas.{same-itself}
 
 -- ---- what can't be refused
 
@@ -27,7 +27,7 @@ pub no-fault : (columns : List Seen) → All (λ (s : Seen). s.kind ≡ kind_of_
 no-fault columns kinds =
     let k = kind_of_first columns in
     fault-of columns k true refl
-    (sym (list_all-from_AllPass (λ (s : Seen). same_kind s.kind k) columns (λ i d below. ap (λ j. same_kind j k) (kinds i d below) ∙ same-itself k)))
+    (sym (list_all-from_AllPass (λ (s : Seen). same_kind s.kind k) columns (λ i d below. ap (λ j. same_kind j k) (kinds i d below) ∙ same_kind-refl k)))
 
 pub memory-only : (all : Option SelectFault) (full : Bool) (told : SelectFault) → all ≡ None → full ≡ false → IsSelectFault all all full told → told ≡ NoMemory
 memory-only all full told none fits is =

@@ -8,18 +8,19 @@ ghost use Rattle.arrays.specs.Slot.{is_list};
 ghost use Rattle.compaction.specs.Sizes.{levels, size_at};
 ghost use Rattle.types.specs.Limits.{most_slots};
 
-use arrays::{View, ViewType};
+use arrays::{OffsetWidth, View, ViewType};
 use types::MOST_SLOTS;
 
-/// At how many levels a view has offsets: those of its lists, of the lists in them, and of the texts.
+/// At how many levels a view may hold too much: those of its lists, of the lists in them, and of the texts with offsets of
+/// 32 bits.
 pub(crate) fn levels(view: &View<'_>) -> usize
     ensures count { result ≡ levels view.now.kind }
     ensures few { result ≤ depth view.now.kind + 1 }
 {
     match view.ty() {
-        ViewType::Utf8 => 1,
-        ViewType::List(_) => 1 + levels(&view.lists().child),
-        ViewType::Int(_) | ViewType::Bool | ViewType::Dict => 0,
+        ViewType::Text(OffsetWidth::Narrow) => 1,
+        ViewType::List(_, _) => 1 + levels(&view.lists().child),
+        ViewType::Int(_) | ViewType::Bool | ViewType::Text(OffsetWidth::Wide) | ViewType::Dict => 0,
     }
 }
 
@@ -30,9 +31,9 @@ pub(crate) fn with_size(view: &View<'_>, level: usize, before: usize) -> Option<
     ensures none { IfNone result (is_past (before + size_at view.now.kind level view.now.items) ≡ true) }
 {
     match view.ty() {
-        ViewType::Utf8 if level == 0 => with_bytes(view, before),
-        ViewType::List(_) if level == 0 => with_items(view, before),
-        ViewType::List(_) => {
+        ViewType::Text(OffsetWidth::Narrow) if level == 0 => with_bytes(view, before),
+        ViewType::List(_, _) if level == 0 => with_items(view, before),
+        ViewType::List(_, _) => {
             let mut size = before;
             for i in 0..view.len() {
                 if let Some(list) = view.list_at(i) {
@@ -54,7 +55,7 @@ fn with_bytes(view: &View<'_>, before: usize) -> Option<usize>
 {
     let mut bytes = before;
     for i in 0..view.len() {
-        if let Some(text) = view.utf8_at(i) {
+        if let Some(text) = view.text_as(OffsetWidth::Narrow, i) {
             bytes = sum_of(bytes, text.len())?;
         }
     }

@@ -96,12 +96,12 @@ beside true o (kind.int t) z h =
 beside false o (kind.int t) z h =
     let is = there (λ b. sorts.of_two o (Int t) b) (is_of_type t z) (Int t) h in record { has = is.0; sort = is.1; some = ap is_some (sym is.1) ∙ h }
 beside true o kind.boolean z h = absurd (true≢false (sym (two_alike o (Int int64) Truth (ap is_some (sym (there (λ a. sorts.of_two o a Truth) (is_of_type int64 z) (Int int64) h).1) ∙ h))))
-beside true o kind.utf8 z h = absurd (true≢false (sym (two_alike o (Int int64) Text (ap is_some (sym (there (λ a. sorts.of_two o a Text) (is_of_type int64 z) (Int int64) h).1) ∙ h))))
-beside true o (kind.list k) z h = absurd (true≢false (sym (two_alike o (Int int64) sort.List (ap is_some (sym (there (λ a. sorts.of_two o a sort.List) (is_of_type int64 z) (Int int64) h).1) ∙ h))))
+beside true o (kind.texts w) z h = absurd (true≢false (sym (two_alike o (Int int64) Text (ap is_some (sym (there (λ a. sorts.of_two o a Text) (is_of_type int64 z) (Int int64) h).1) ∙ h))))
+beside true o (kind.lists w k) z h = absurd (true≢false (sym (two_alike o (Int int64) sort.List (ap is_some (sym (there (λ a. sorts.of_two o a sort.List) (is_of_type int64 z) (Int int64) h).1) ∙ h))))
 beside true o kind.dict z h = absurd (true≢false (sym (two_alike o (Int int64) Text (ap is_some (sym (there (λ a. sorts.of_two o a Text) (is_of_type int64 z) (Int int64) h).1) ∙ h))))
 beside false o kind.boolean z h = absurd (true≢false (sym (two_alike o Truth (Int int64) (ap is_some (sym (there (λ b. sorts.of_two o Truth b) (is_of_type int64 z) (Int int64) h).1) ∙ h))))
-beside false o kind.utf8 z h = absurd (true≢false (sym (two_alike o Text (Int int64) (ap is_some (sym (there (λ b. sorts.of_two o Text b) (is_of_type int64 z) (Int int64) h).1) ∙ h))))
-beside false o (kind.list k) z h = absurd (true≢false (sym (two_alike o sort.List (Int int64) (ap is_some (sym (there (λ b. sorts.of_two o sort.List b) (is_of_type int64 z) (Int int64) h).1) ∙ h))))
+beside false o (kind.texts w) z h = absurd (true≢false (sym (two_alike o Text (Int int64) (ap is_some (sym (there (λ b. sorts.of_two o Text b) (is_of_type int64 z) (Int int64) h).1) ∙ h))))
+beside false o (kind.lists w k) z h = absurd (true≢false (sym (two_alike o sort.List (Int int64) (ap is_some (sym (there (λ b. sorts.of_two o sort.List b) (is_of_type int64 z) (Int int64) h).1) ∙ h))))
 beside false o kind.dict z h = absurd (true≢false (sym (two_alike o Text (Int int64) (ap is_some (sym (there (λ b. sorts.of_two o Text b) (is_of_type int64 z) (Int int64) h).1) ∙ h))))
 
 one_type : (w : Width) (signed : Bool) → same_int (record { bits = w; signed = signed }) (record { bits = w; signed = signed }) ≡ true
@@ -118,8 +118,8 @@ one_type W64 false = refl
 exact_sort : (k : Kind) (z : ℤ) → has_number k z ≡ true → sorts.arithmetic (sort_of_kind k) (sort_of_kind k) ≡ Some (sort_of_kind k)
 exact_sort (kind.int t) z h = ap (λ b. cond b (Some (Int t)) None) (one_type t.bits t.signed)
 exact_sort kind.boolean z h = absurd (true≢false (sym h))
-exact_sort kind.utf8 z h = absurd (true≢false (sym h))
-exact_sort (kind.list k) z h = absurd (true≢false (sym h))
+exact_sort (kind.texts w) z h = absurd (true≢false (sym h))
+exact_sort (kind.lists w k) z h = absurd (true≢false (sym h))
 exact_sort kind.dict z h = absurd (true≢false (sym h))
 
 -- ---- the same values
@@ -260,8 +260,8 @@ number_compared first o c d a z r named placed_is is =
 no_junction : (k : Kind) (z : ℤ) → has_number k z ≡ true → is_some (sorts.junction (sort_of_kind k) (sort_of_kind k)) ≡ true → ⊥
 no_junction (kind.int t) z has h = true≢false (sym h)
 no_junction kind.boolean z has h = true≢false (sym has)
-no_junction kind.utf8 z has h = true≢false (sym has)
-no_junction (kind.list k) z has h = true≢false (sym has)
+no_junction (kind.texts w) z has h = true≢false (sym has)
+no_junction (kind.lists w k) z has h = true≢false (sym has)
 no_junction kind.dict z has h = true≢false (sym has)
 
 -- what stands between a number and a column compares them, if it computes nothing

@@ -99,8 +99,8 @@ not_stops a e h told = no_type_fault (same_kind a.kind kind.boolean) e (one_trut
   one_truth : (k : Kind) → is_some (sorts.of_one op.Not (sort_of_kind k)) ≡ true → same_kind k kind.boolean ≡ true
   one_truth (kind.int t) h = h
   one_truth kind.boolean h = refl
-  one_truth kind.utf8 h = h
-  one_truth (kind.list k) h = h
+  one_truth (kind.texts w) h = h
+  one_truth (kind.lists w k) h = h
   one_truth kind.dict h = h
 
 -- ---- two columns
@@ -215,8 +215,8 @@ results_stop f a b e h lengths told =
 pub settled_kind : (t : IntType) (k : Kind) → sorts.settled t (sort_of_kind k) ≡ Some (sort_of_kind k)
 settled_kind t (kind.int s) = refl
 settled_kind t kind.boolean = refl
-settled_kind t kind.utf8 = refl
-settled_kind t (kind.list k) = refl
+settled_kind t (kind.texts w) = refl
+settled_kind t (kind.lists w k) = refl
 settled_kind t kind.dict = refl
 
 constant_placed : (x : Item) (n : ℕ) (r : Seen) → r ≡ shown kind.boolean (replicate n x) → IsPlaced kind.boolean (λ i. x) n r

@@ -108,8 +108,8 @@ exact_placed f a b lengths kinds none = record {
       ap (λ x. held_of (kind.int t) x) (sym here)
       ∙ ap (λ p. cond p None (Some (item_at (results f a.items b.items) i))) (none_outside t (results f a.items b.items) is i within)
   inside kind.boolean l one is i below = absurd (true≢false (sym one))
-  inside kind.utf8 l one is i below = absurd (true≢false (sym one))
-  inside (kind.list k) l one is i below = absurd (true≢false (sym one))
+  inside (kind.texts w) l one is i below = absurd (true≢false (sym one))
+  inside (kind.lists w k) l one is i below = absurd (true≢false (sym one))
   inside kind.dict l one is i below = absurd (true≢false (sym one))
 
 outside_at : (f : ℤ → ℤ → ℤ) (a b : Seen) (row : ℕ) → length a.items ≡ length b.items → are_one_int a.kind b.kind ≡ true
@@ -125,8 +125,8 @@ outside_at f a b row lengths kinds (inl is) =
           let below : row < length a.items = omega (arith, h.0, results_long f a.items b.items) in
           (below, ap (λ x. held_of (kind.int t) x) (sym (results_at f a.items b.items row below)) ∙ ap (λ p. cond p None (Some (item_at (results f a.items b.items) row))) h.1)
       outside kind.boolean l one found = absurd (true≢false (sym one))
-      outside kind.utf8 l one found = absurd (true≢false (sym one))
-      outside (kind.list k) l one found = absurd (true≢false (sym one))
+      outside (kind.texts w) l one found = absurd (true≢false (sym one))
+      outside (kind.lists w k) l one found = absurd (true≢false (sym one))
       outside kind.dict l one found = absurd (true≢false (sym one))
 
 -- A fault of these two columns is a row, or want of memory.

@@ -56,6 +56,6 @@ sort_passes test r s h is = passes (test s) WrongKind (ap (fault_unless test) (s
 pub plain_is_no_list : (k : Kind) → is_plain (sort_of_kind k) ≡ true → is_list k ≡ false
 plain_is_no_list (kind.int t) h = refl
 plain_is_no_list kind.boolean h = refl
-plain_is_no_list kind.utf8 h = refl
-plain_is_no_list (kind.list k) h = absurd cc
+plain_is_no_list (kind.texts w) h = refl
+plain_is_no_list (kind.lists w k) h = absurd cc
 plain_is_no_list kind.dict h = refl

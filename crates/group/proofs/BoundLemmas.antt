@@ -122,10 +122,10 @@ least_bounds (kind.int t) column =
 least_bounds kind.boolean column =
     as_least kind.boolean column (least_of kind.boolean column)
     (first-of bool_cmp bool_cmp_total boolean lesser (λ x y. cond-item boolean (is_gt (bool_cmp x y)) x y) (λ x y. is_gt (order x y)) (λ x y. refl) (ordered kind.boolean column) (filter_map truth_of column) (are_truths column))
-least_bounds kind.utf8 column =
-    as_least kind.utf8 column (least_of kind.utf8 column)
-    (first-of (slice_cmp nat_cmp) nat_list_cmp_total text lesser (λ x y. cond-item text (is_gt (slice_cmp nat_cmp x y)) x y) (λ x y. is_gt (order x y)) (λ x y. refl) (ordered kind.utf8 column) (filter_map bytes_of_text column) (are_bytes column))
-least_bounds (kind.list k) column = subst (λ o. IfSome o (IsLeastOf (kind.list k) column)) (sym (no_least_of_lists (kind.list k) column refl)) tt
+least_bounds (kind.texts w) column =
+    as_least (kind.texts w) column (least_of (kind.texts w) column)
+    (first-of (slice_cmp nat_cmp) nat_list_cmp_total text lesser (λ x y. cond-item text (is_gt (slice_cmp nat_cmp x y)) x y) (λ x y. is_gt (order x y)) (λ x y. refl) (ordered (kind.texts w) column) (filter_map bytes_of_text column) (are_bytes column))
+least_bounds (kind.lists w k) column = subst (λ o. IfSome o (IsLeastOf (kind.lists w k) column)) (sym (no_least_of_lists (kind.lists w k) column refl)) tt
 least_bounds kind.dict column =
     as_least kind.dict column (least_of kind.dict column)
     (first-of (slice_cmp nat_cmp) nat_list_cmp_total text lesser (λ x y. cond-item text (is_gt (slice_cmp nat_cmp x y)) x y) (λ x y. is_gt (order x y)) (λ x y. refl) (ordered kind.dict column) (filter_map bytes_of_text column) (are_bytes column))
@@ -138,10 +138,10 @@ greatest_bounds (kind.int t) column =
 greatest_bounds kind.boolean column =
     as_greatest kind.boolean column (greatest_of kind.boolean column)
     (first-of (flip_args bool_cmp) (back_total bool_cmp_total) boolean greater (λ x y. cond-item boolean (is_gt (bool_cmp y x)) x y) (λ x y. is_gt (order y x)) (λ x y. refl) (ordered kind.boolean column) (filter_map truth_of column) (are_truths column))
-greatest_bounds kind.utf8 column =
-    as_greatest kind.utf8 column (greatest_of kind.utf8 column)
-    (first-of (flip_args (slice_cmp nat_cmp)) (back_total nat_list_cmp_total) text greater (λ x y. cond-item text (is_gt (slice_cmp nat_cmp y x)) x y) (λ x y. is_gt (order y x)) (λ x y. refl) (ordered kind.utf8 column) (filter_map bytes_of_text column) (are_bytes column))
-greatest_bounds (kind.list k) column = subst (λ o. IfSome o (IsGreatestOf (kind.list k) column)) (sym (no_greatest_of_lists (kind.list k) column refl)) tt
+greatest_bounds (kind.texts w) column =
+    as_greatest (kind.texts w) column (greatest_of (kind.texts w) column)
+    (first-of (flip_args (slice_cmp nat_cmp)) (back_total nat_list_cmp_total) text greater (λ x y. cond-item text (is_gt (slice_cmp nat_cmp y x)) x y) (λ x y. is_gt (order y x)) (λ x y. refl) (ordered (kind.texts w) column) (filter_map bytes_of_text column) (are_bytes column))
+greatest_bounds (kind.lists w k) column = subst (λ o. IfSome o (IsGreatestOf (kind.lists w k) column)) (sym (no_greatest_of_lists (kind.lists w k) column refl)) tt
 greatest_bounds kind.dict column =
     as_greatest kind.dict column (greatest_of kind.dict column)
     (first-of (flip_args (slice_cmp nat_cmp)) (back_total nat_list_cmp_total) text greater (λ x y. cond-item text (is_gt (slice_cmp nat_cmp y x)) x y) (λ x y. is_gt (order y x)) (λ x y. refl) (ordered kind.dict column) (filter_map bytes_of_text column) (are_bytes column))

@@ -166,19 +166,19 @@ cond-item item false x y = refl
 pub least-append : (k : Kind) (xs ys : List Item) → least_of k (xs ++ ys) ≡ better lesser (least_of k xs) (least_of k ys)
 least-append (kind.int t) xs ys = joined-column int_cmp int_cmp_total int lesser (λ x y. cond-item int (is_gt (int_cmp x y)) x y) is_number (filter_map number_of) are_numbers xs ys
 least-append kind.boolean xs ys = joined-column bool_cmp bool_cmp_total boolean lesser (λ x y. cond-item boolean (is_gt (bool_cmp x y)) x y) is_truth (filter_map truth_of) are_truths xs ys
-least-append kind.utf8 xs ys = joined-column (slice_cmp nat_cmp) nat_list_cmp_total text lesser (λ x y. cond-item text (is_gt (slice_cmp nat_cmp x y)) x y) is_bytes (filter_map bytes_of_text) are_bytes xs ys
-least-append (kind.list k) xs ys =
-    no_least_of_lists (kind.list k) (xs ++ ys) refl
-    ∙ sym (λ j. better lesser (no_least_of_lists (kind.list k) xs refl j) (no_least_of_lists (kind.list k) ys refl j))
+least-append (kind.texts w) xs ys = joined-column (slice_cmp nat_cmp) nat_list_cmp_total text lesser (λ x y. cond-item text (is_gt (slice_cmp nat_cmp x y)) x y) is_bytes (filter_map bytes_of_text) are_bytes xs ys
+least-append (kind.lists w k) xs ys =
+    no_least_of_lists (kind.lists w k) (xs ++ ys) refl
+    ∙ sym (λ j. better lesser (no_least_of_lists (kind.lists w k) xs refl j) (no_least_of_lists (kind.lists w k) ys refl j))
 least-append kind.dict xs ys = joined-column (slice_cmp nat_cmp) nat_list_cmp_total text lesser (λ x y. cond-item text (is_gt (slice_cmp nat_cmp x y)) x y) is_bytes (filter_map bytes_of_text) are_bytes xs ys
 
 pub greatest-append : (k : Kind) (xs ys : List Item) → greatest_of k (xs ++ ys) ≡ better greater (greatest_of k xs) (greatest_of k ys)
 greatest-append (kind.int t) xs ys = joined-column (flip_args int_cmp) (back_total int_cmp_total) int greater (λ x y. cond-item int (is_gt (int_cmp y x)) x y) is_number (filter_map number_of) are_numbers xs ys
 greatest-append kind.boolean xs ys = joined-column (flip_args bool_cmp) (back_total bool_cmp_total) boolean greater (λ x y. cond-item boolean (is_gt (bool_cmp y x)) x y) is_truth (filter_map truth_of) are_truths xs ys
-greatest-append kind.utf8 xs ys = joined-column (flip_args (slice_cmp nat_cmp)) (back_total nat_list_cmp_total) text greater (λ x y. cond-item text (is_gt (slice_cmp nat_cmp y x)) x y) is_bytes (filter_map bytes_of_text) are_bytes xs ys
-greatest-append (kind.list k) xs ys =
-    no_greatest_of_lists (kind.list k) (xs ++ ys) refl
-    ∙ sym (λ j. better greater (no_greatest_of_lists (kind.list k) xs refl j) (no_greatest_of_lists (kind.list k) ys refl j))
+greatest-append (kind.texts w) xs ys = joined-column (flip_args (slice_cmp nat_cmp)) (back_total nat_list_cmp_total) text greater (λ x y. cond-item text (is_gt (slice_cmp nat_cmp y x)) x y) is_bytes (filter_map bytes_of_text) are_bytes xs ys
+greatest-append (kind.lists w k) xs ys =
+    no_greatest_of_lists (kind.lists w k) (xs ++ ys) refl
+    ∙ sym (λ j. better greater (no_greatest_of_lists (kind.lists w k) xs refl j) (no_greatest_of_lists (kind.lists w k) ys refl j))
 greatest-append kind.dict xs ys = joined-column (flip_args (slice_cmp nat_cmp)) (back_total nat_list_cmp_total) text greater (λ x y. cond-item text (is_gt (slice_cmp nat_cmp y x)) x y) is_bytes (filter_map bytes_of_text) are_bytes xs ys
 
 -- ---- nulls and sums
@@ -204,8 +204,8 @@ total-append xs ys =
 pub sum-append : (k : Kind) (xs ys : List Item) → sum_of k (xs ++ ys) ≡ both_sums (sum_of k xs) (sum_of k ys)
 sum-append (kind.int t) xs ys = ap Some (total-append xs ys)
 sum-append kind.boolean xs ys = refl
-sum-append kind.utf8 xs ys = refl
-sum-append (kind.list k) xs ys = refl
+sum-append (kind.texts w) xs ys = refl
+sum-append (kind.lists w k) xs ys = refl
 sum-append kind.dict xs ys = refl
 
 -- the statistics of two columns are those of both

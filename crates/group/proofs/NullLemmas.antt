@@ -21,8 +21,8 @@ no_numbers (suc n) = no_numbers n
 pub sum_of_nulls : (k : Kind) (n : ℕ) → sum_of k (replicate n null) ≡ sum_of k []
 sum_of_nulls (kind.int t) n = ap (λ zs. Some (fold ◌+ℤ◌ (pos 0) zs)) (no_numbers n)
 sum_of_nulls kind.boolean n = refl
-sum_of_nulls kind.utf8 n = refl
-sum_of_nulls (kind.list k) n = refl
+sum_of_nulls (kind.texts w) n = refl
+sum_of_nulls (kind.lists w k) n = refl
 sum_of_nulls kind.dict n = refl
 
 none_ordered : (k : Kind) (n : ℕ) → ordered k (replicate n null) ≡ []

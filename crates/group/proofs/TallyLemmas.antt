@@ -32,8 +32,8 @@ ordered-push k items x e = filter-append (is_ordered k) items (x ∷ []) ∙ ap 
 pub null_is_not : (k : Kind) → is_ordered k null ≡ false
 null_is_not (kind.int t) = refl
 null_is_not kind.boolean = refl
-null_is_not kind.utf8 = refl
-null_is_not (kind.list k) = refl
+null_is_not (kind.texts w) = refl
+null_is_not (kind.lists w k) = refl
 null_is_not kind.dict = refl
 
 is_there : (k : Kind) (x : Item) → is_ordered k x ≡ true → is_null x ≡ false
@@ -122,17 +122,17 @@ take-item items i x is =
 pub text_is : (k : Kind) (t : List ℕ) → is_text k ≡ true → is_ordered k (text t) ≡ true
 text_is (kind.int u) t e = absurd cc
 text_is kind.boolean t e = absurd cc
-text_is kind.utf8 t e = refl
-text_is (kind.list k) t e = absurd cc
+text_is (kind.texts w) t e = refl
+text_is (kind.lists w k) t e = absurd cc
 text_is kind.dict t e = refl
 
 -- lists have no order and no sum
 none_ordered : (k : Kind) (items : List Item) → is_list k ≡ true → ordered k items ≡ []
 none_ordered (kind.int t) items e = absurd cc
 none_ordered kind.boolean items e = absurd cc
-none_ordered kind.utf8 items e = absurd cc
-none_ordered (kind.list k) [] e = refl
-none_ordered (kind.list k) (x ∷ items) e = none_ordered (kind.list k) items e
+none_ordered (kind.texts w) items e = absurd cc
+none_ordered (kind.lists w k) [] e = refl
+none_ordered (kind.lists w k) (x ∷ items) e = none_ordered (kind.lists w k) items e
 none_ordered kind.dict items e = absurd cc
 
 pub no_least_of_lists : (k : Kind) (items : List Item) → is_list k ≡ true → least_of k items ≡ None
@@ -144,6 +144,6 @@ no_greatest_of_lists k items e = ap (reduce greater) (none_ordered k items e)
 pub no_sum_of_lists : (k : Kind) (items : List Item) → is_list k ≡ true → sum_of k items ≡ None
 no_sum_of_lists (kind.int u) items e = absurd cc
 no_sum_of_lists kind.boolean items e = refl
-no_sum_of_lists kind.utf8 items e = refl
-no_sum_of_lists (kind.list k) items e = refl
+no_sum_of_lists (kind.texts w) items e = refl
+no_sum_of_lists (kind.lists w k) items e = refl
 no_sum_of_lists kind.dict items e = refl

@@ -31,8 +31,8 @@ total_of items = fold ◌+ℤ◌ (pos 0) (numbers_of items)
 abbrev pub sum_of : Kind → List Item → Option ℤ
 sum_of (kind.int t) items = Some (total_of items)
 sum_of kind.boolean items = None
-sum_of kind.utf8 items = None
-sum_of (kind.list k) items = None
+sum_of (kind.texts w) items = None
+sum_of (kind.lists w k) items = None
 sum_of kind.dict items = None
 
 abbrev pub is_number : Item → Bool
@@ -60,8 +60,8 @@ is_bytes (list l) = false
 abbrev pub is_ordered : Kind → Item → Bool
 is_ordered (kind.int t) = is_number
 is_ordered kind.boolean = is_truth
-is_ordered kind.utf8 = is_bytes
-is_ordered (kind.list k) = λ x. false
+is_ordered (kind.texts w) = is_bytes
+is_ordered (kind.lists w k) = λ x. false
 is_ordered kind.dict = is_bytes
 
 -- The values of a column that come before or behind one another: all items that aren't null, and of lists none.

@@ -42,7 +42,7 @@ impl<'a> ScalarRef<'a> {
         match view.ty() {
             ViewType::Int(ty) => number(view.int_as(ty, i)),
             ViewType::Bool => truth(view.bool_at(i)),
-            ViewType::List(_) => unreachable!(),
+            ViewType::List(_, _) => unreachable!(),
             _ => text(view.text_at(i)),
         }
     }

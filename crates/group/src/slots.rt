@@ -22,7 +22,7 @@ pub fn stats_of(alloc: Global, view: &View<'_>) -> Result<ColumnStats, NoMemory>
     match view.ty() {
         ViewType::Int(ty) => Ok(int_stats(ty, view)),
         ViewType::Bool => Ok(truth_stats(view)),
-        ViewType::List(_) => Ok(list_stats(view)),
+        ViewType::List(_, _) => Ok(list_stats(view)),
         _ => text_stats(alloc, view),
     }
 }

@@ -97,8 +97,8 @@ results_flipped f s z =
 first_bad_flipped : (f : ℤ → ℤ → ℤ) (k : Kind) (s : Seen) (z : ℤ) → first_bad (flipped f) k s.items (number_beside s z).items ≡ first_bad f k (number_beside s z).items s.items
 first_bad_flipped f (kind.int t) s z = ap (position (is_outside t)) (results_flipped f s z)
 first_bad_flipped f kind.boolean s z = refl
-first_bad_flipped f kind.utf8 s z = refl
-first_bad_flipped f (kind.list k) s z = refl
+first_bad_flipped f (kind.texts w) s z = refl
+first_bad_flipped f (kind.lists w k) s z = refl
 first_bad_flipped f kind.dict s z = refl
 
 operands_flipped : (s : Seen) (z : ℤ) → operands_fault s (number_beside s z) ≡ operands_fault (number_beside s z) s

@@ -24,8 +24,8 @@ use Rattle.truths.proofs.TruthLemmas.{listed}
 pub kind_of_truths : (k : Kind) → same_kind k kind.boolean ≡ true → k ≡ kind.boolean
 kind_of_truths (kind.int t) e = cc
 kind_of_truths kind.boolean e = refl
-kind_of_truths kind.utf8 e = cc
-kind_of_truths (kind.list k) e = cc
+kind_of_truths (kind.texts w) e = cc
+kind_of_truths (kind.lists w k) e = cc
 kind_of_truths kind.dict e = cc
 
 tests_passed : (left right : Bool) (lengths : Option KernelFault) → cond (not (left && right)) (Some TypesDiffer) lengths ≡ None → (left ≡ true) × (right ≡ true)

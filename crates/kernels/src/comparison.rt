@@ -19,7 +19,7 @@ use crate::fault::KernelFault;
 use crate::side::{One, type_with};
 use arrays::{Array, IntType, Integer, View, ViewType};
 use colbits::NoMemory;
-use pairs::{Bools, Numbers, Pairs, Shown, Utf8s};
+use pairs::{Bools, Numbers, Pairs, PlainTexts, Shown};
 use std::alloc::Global;
 use truths::{BothValid, Truths, array_of};
 use types::with_integer;
@@ -78,7 +78,7 @@ fn are_comparable(a: ViewType<'_>, b: ViewType<'_>) -> bool
     match (a, b) {
         (ViewType::Int(s), ViewType::Int(t)) => is_same(s, t),
         (ViewType::Bool, ViewType::Bool) => true,
-        (ViewType::Utf8 | ViewType::Dict, ViewType::Utf8 | ViewType::Dict) => true,
+        (ViewType::Text(_) | ViewType::Dict, ViewType::Text(_) | ViewType::Dict) => true,
         _ => false,
     }
 }
@@ -207,24 +207,16 @@ fn compare_texts(alloc: Global, op: CmpOp, a: &View<'_>, b: &View<'_>) -> Result
     ensures { IfOk result (λ r. r ≡ shown kind.boolean (compared op a.now.items b.now.items)) }
 {
     match (a.ty(), b.ty()) {
-        (ViewType::Utf8, ViewType::Utf8) => compare_utf8s(alloc, op, a, b),
+        (ViewType::Text(width), ViewType::Text(other)) => {
+            let pairs = PlainTexts {
+                a: a.texts(width),
+                b: b.texts(other),
+                valid: BothValid::of(a, b),
+            };
+            decided(alloc, op, &pairs)
+        }
         _ => decided(alloc, op, &Shown { a, b }),
     }
-}
-
-/// Compares two columns of texts that aren't dictionary-encoded.
-fn compare_utf8s(alloc: Global, op: CmpOp, a: &View<'_>, b: &View<'_>) -> Result<Array, NoMemory>
-    requires a { a.now.kind ≡ kind.utf8 }
-    requires b { b.now.kind ≡ kind.utf8 }
-    requires lengths { length a.now.items ≡ length b.now.items }
-    ensures { IfOk result (λ r. r ≡ shown kind.boolean (compared op a.now.items b.now.items)) }
-{
-    let pairs = Utf8s {
-        a: a.texts(),
-        b: b.texts(),
-        valid: BothValid::of(a, b),
-    };
-    decided(alloc, op, &pairs)
 }
 
 /// The array that tells of each pair whether it meets the comparison.

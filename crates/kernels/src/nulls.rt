@@ -10,7 +10,7 @@ ghost use Rattle.types.specs.Limits.{most_slots};
 
 use crate::fault::KernelFault;
 use arrays::validity::{is_valid, valid_lanes, valid_word};
-use arrays::{Array, INT32, View, ViewType};
+use arrays::{Array, INT32, OffsetWidth, View, ViewType};
 use colbits::Bits;
 use colbits::lanes::flipped;
 use std::alloc::Global;
@@ -46,11 +46,11 @@ fn may_name_nulls(view: &View<'_>) -> bool
             let _ = view.bool_bits();
             false
         }
-        ViewType::Utf8 => {
-            let _ = view.texts();
+        ViewType::Text(width) => {
+            let _ = view.texts(width);
             false
         }
-        ViewType::List(_) => {
+        ViewType::List(_, _) => {
             let _ = view.lists();
             false
         }
@@ -64,7 +64,7 @@ fn may_have_null_entries(view: &View<'_>) -> bool
     ensures { result ≡ false → (i : ℕ) → i < length view.now.items → holds_at view.now i ≡ valid_at view.now i }
 {
     let (codes, entries) = (view.codes(), view.entries());
-    let (_, _) = (codes.numbers(INT32), entries.texts());
+    let (_, _) = (codes.numbers(INT32), entries.texts(OffsetWidth::Narrow));
     entries.validity().is_some()
 }
 

@@ -18,7 +18,7 @@ use crate::key_texts::KeyTexts;
 use crate::part::Part;
 use crate::part_set::{PartSet, Stored};
 use crate::text_set::TextSet;
-use arrays::View;
+use arrays::{OffsetWidth, View};
 use arrayvec::ArrayVec;
 use colbits::NoMemory;
 use group::{Scalar, ScalarRef};
@@ -105,7 +105,11 @@ impl<'a> KeySet<'a> {
         ensures keys { OnOk result (self.new ≡ insert_key same_key self.old (slice_index_or entries.now.items place null ∷ [])) }
         ensures id { IfOk result (λ n. slice_get self.new n ≡ Some (slice_index_or entries.now.items place null ∷ [])) }
     {
-        let part = likely_part(&mut self.texts, entries.utf8_at(place), place)?;
+        let part = likely_part(
+            &mut self.texts,
+            entries.text_as(OffsetWidth::Narrow, place),
+            place,
+        )?;
         intern_part(&self.texts, &mut self.keys, part)
     }
 

@@ -6,9 +6,11 @@ use Rattle.std.specs.declared.alloc.Global.{Global}
 use Rattle.types.specs.declared.int_type.Width.{Width}
 use Rattle.types.specs.declared.int_type.Width.TheVariants.{W8, W16, W32, W64}
 use Rattle.types.specs.declared.int_type.IntType.{IntType}
+use Rattle.types.specs.declared.offset_width.OffsetWidth.{OffsetWidth}
+use Rattle.types.specs.declared.offset_width.OffsetWidth.TheVariants.{Narrow, Wide}
 use Rattle.layout.specs.declared.raw.RawArray.{RawArray, out-RawArray}
 use Rattle.types.specs.Kind as kind
-use Rattle.types.specs.Kind.{Kind, kind_of, bytes_of, same_int, same_kind}
+use Rattle.types.specs.Kind.{Kind, kind_of, bytes_of, same_int, same_kind, same_offsets}
 use Rattle.layout.specs.Fault.{Inner, do_parts_differ, is_no_child}
 use Rattle.layout.specs.Inner.{inner_children, inner_dictionary}
 use Rattle.layout.specs.Reading.{Reading, read_parts, reading, inner_of, fault, child_fault}
@@ -47,32 +49,40 @@ same_ints s t h =
     ap (λ w. record { bits = w; signed = s.signed }) (same_width s.bits t.bits parts.0)
     ∙ ap (λ b. record { bits = t.bits; signed = b }) (same_sign s.signed t.signed parts.1)
 
+same_widths : (v w : OffsetWidth) → same_offsets v w ≡ true → v ≡ w
+same_widths Narrow Narrow h = refl
+same_widths Narrow Wide h = cc
+same_widths Wide Narrow h = cc
+same_widths Wide Wide h = refl
+
 -- types that are the same have one kind
 pub same_kinds : (k l : Kind) → same_kind k l ≡ true → k ≡ l
 same_kinds (kind.int s) (kind.int t) h = ap kind.int (same_ints s t h)
 same_kinds (kind.int s) kind.boolean h = cc
-same_kinds (kind.int s) kind.utf8 h = cc
-same_kinds (kind.int s) (kind.list l) h = cc
+same_kinds (kind.int s) (kind.texts w) h = cc
+same_kinds (kind.int s) (kind.lists w l) h = cc
 same_kinds (kind.int s) kind.dict h = cc
 same_kinds kind.boolean (kind.int t) h = cc
 same_kinds kind.boolean kind.boolean h = refl
-same_kinds kind.boolean kind.utf8 h = cc
-same_kinds kind.boolean (kind.list l) h = cc
+same_kinds kind.boolean (kind.texts w) h = cc
+same_kinds kind.boolean (kind.lists w l) h = cc
 same_kinds kind.boolean kind.dict h = cc
-same_kinds kind.utf8 (kind.int t) h = cc
-same_kinds kind.utf8 kind.boolean h = cc
-same_kinds kind.utf8 kind.utf8 h = refl
-same_kinds kind.utf8 (kind.list l) h = cc
-same_kinds kind.utf8 kind.dict h = cc
-same_kinds (kind.list k) (kind.int t) h = cc
-same_kinds (kind.list k) kind.boolean h = cc
-same_kinds (kind.list k) kind.utf8 h = cc
-same_kinds (kind.list k) (kind.list l) h = ap kind.list (same_kinds k l h)
-same_kinds (kind.list k) kind.dict h = cc
+same_kinds (kind.texts v) (kind.int t) h = cc
+same_kinds (kind.texts v) kind.boolean h = cc
+same_kinds (kind.texts v) (kind.texts w) h = ap kind.texts (same_widths v w h)
+same_kinds (kind.texts v) (kind.lists w l) h = cc
+same_kinds (kind.texts v) kind.dict h = cc
+same_kinds (kind.lists v k) (kind.int t) h = cc
+same_kinds (kind.lists v k) kind.boolean h = cc
+same_kinds (kind.lists v k) (kind.texts w) h = cc
+same_kinds (kind.lists v k) (kind.lists w l) h =
+    let parts = and_parts (same_offsets v w) (same_kind k l) h in
+    ap (λ u. kind.lists u k) (same_widths v w parts.0) ∙ ap (kind.lists w) (same_kinds k l parts.1)
+same_kinds (kind.lists v k) kind.dict h = cc
 same_kinds kind.dict (kind.int t) h = cc
 same_kinds kind.dict kind.boolean h = cc
-same_kinds kind.dict kind.utf8 h = cc
-same_kinds kind.dict (kind.list l) h = cc
+same_kinds kind.dict (kind.texts w) h = cc
+same_kinds kind.dict (kind.lists w l) h = cc
 same_kinds kind.dict kind.dict h = refl
 
 -- ---- an array that is no dictionary-encoded one
@@ -84,8 +94,8 @@ none_of false h = cc
 no_words : (k : Kind) (children : List Inner) (dictionary : Option Inner) → same_kind k kind.dict ≡ false → do_parts_differ k children dictionary ≡ false → is_none dictionary ≡ true
 no_words (kind.int t) children dictionary plain h = none_of (is_none dictionary) (either_false _ _ h).1
 no_words kind.boolean children dictionary plain h = none_of (is_none dictionary) (either_false _ _ h).1
-no_words kind.utf8 children dictionary plain h = none_of (is_none dictionary) (either_false _ _ h).1
-no_words (kind.list k) children dictionary plain h = none_of (is_none dictionary) (either_false _ _ h).1
+no_words (kind.texts w) children dictionary plain h = none_of (is_none dictionary) (either_false _ _ h).1
+no_words (kind.lists w k) children dictionary plain h = none_of (is_none dictionary) (either_false _ _ h).1
 no_words kind.dict children dictionary plain h = cc
 
 none_raw : (d : Option (Box RawArray Global)) → is_none (inner_dictionary d) ≡ true → d ≡ None

@@ -8,6 +8,8 @@ use Rattle.std.specs.Option.{ForSome}
 use Rattle.std.specs.declared.boxed.Box.{Box}
 use Rattle.std.specs.declared.alloc.Global.{Global}
 use Rattle.layout.specs.declared.raw.RawArray.{RawArray, out-RawArray}
+use Rattle.types.specs.declared.offset_width.OffsetWidth.{OffsetWidth}
+use Rattle.types.specs.declared.offset_width.OffsetWidth.TheVariants.{Narrow, Wide}
 use Rattle.types.specs.Kind as kind
 use Rattle.types.specs.Kind.{Kind, kind_of, same_kind}
 use Rattle.layout.specs.Layout.{Buffers}
@@ -89,24 +91,25 @@ no_dictionary None h = refl
 no_dictionary (Some d) h = cc
 
 -- a lawful text array has neither child nor dictionary
-pub text_alone : (n : ℕ) (stated : Option ℕ) (buffers : Buffers) (children : List Reading) (dictionary : Option Reading)
-    → (read_parts kind.utf8 n stated buffers children dictionary).fault ≡ None → (children ≡ []) × (dictionary ≡ None)
-text_alone n stated buffers children dictionary h =
-    let parts = either_false _ _ (parts_agree kind.utf8 n stated buffers children dictionary h) in
+pub text_alone : (w : OffsetWidth) (n : ℕ) (stated : Option ℕ) (buffers : Buffers) (children : List Reading) (dictionary : Option Reading)
+    → (read_parts (kind.texts w) n stated buffers children dictionary).fault ≡ None → (children ≡ []) × (dictionary ≡ None)
+text_alone w n stated buffers children dictionary h =
+    let parts = either_false _ _ (parts_agree (kind.texts w) n stated buffers children dictionary h) in
     (none_held children parts.0, no_dictionary dictionary parts.1)
 
 same_as_utf8 : (k : Kind) → not (same_kind k kind.utf8) ≡ false → k ≡ kind.utf8
 same_as_utf8 (kind.int t) h = cc
 same_as_utf8 kind.boolean h = cc
-same_as_utf8 kind.utf8 h = refl
-same_as_utf8 (kind.list k) h = cc
+same_as_utf8 (kind.texts Narrow) h = refl
+same_as_utf8 (kind.texts Wide) h = cc
+same_as_utf8 (kind.lists w k) h = cc
 same_as_utf8 kind.dict h = cc
 
 dictionary_kind : (k : Kind) (children : List Inner) (d : Inner) → do_parts_differ k children (Some d) ≡ false → d.kind ≡ kind.utf8
 dictionary_kind (kind.int t) children d h = absurd (false≢true (sym (either_false _ _ h).1))
 dictionary_kind kind.boolean children d h = absurd (false≢true (sym (either_false _ _ h).1))
-dictionary_kind kind.utf8 children d h = absurd (false≢true (sym (either_false _ _ h).1))
-dictionary_kind (kind.list k) children d h = absurd (false≢true (sym (either_false _ _ h).1))
+dictionary_kind (kind.texts w) children d h = absurd (false≢true (sym (either_false _ _ h).1))
+dictionary_kind (kind.lists w k) children d h = absurd (false≢true (sym (either_false _ _ h).1))
 dictionary_kind kind.dict children d h = same_as_utf8 d.kind (either_false _ _ h).1
 
 -- the dictionary of a lawful array is a lawful text array
@@ -153,7 +156,7 @@ pub texts_of : (n : ℕ) (stated : Option ℕ) (buffers : Buffers) (children : L
     → (read_parts kind.utf8 n stated buffers children dictionary).fault ≡ None
     → ((read_parts kind.utf8 n None buffers [] None).fault ≡ None) × ((read_parts kind.utf8 n None buffers [] None).seen ≡ (read_parts kind.utf8 n stated buffers children dictionary).seen)
 texts_of n stated buffers children dictionary h =
-    let alone = text_alone n stated buffers children dictionary h in
+    let alone = text_alone Narrow n stated buffers children dictionary h in
     let plain = lawful-unstated kind.utf8 n stated buffers children dictionary h in
     let same : read_parts kind.utf8 n None buffers children dictionary ≡ read_parts kind.utf8 n None buffers [] None =
     ap (λ cs. read_parts kind.utf8 n None buffers cs dictionary) alone.0 ∙ ap (read_parts kind.utf8 n None buffers []) alone.1 in (

@@ -3,12 +3,13 @@ use Rattle.std.proofs.Common.{◌≡◌, ◌∙◌, ℕ, zero, suc, ◌+◌, ◌
 use Rattle.std.proofs.lemmas.Bool.{ltb-false}
 use Rattle.std.specs.List.{position_or_len, range_with_len}
 use Rattle.std.proofs.lemmas.List.FromFn.{length-range_with_len}
+use Rattle.types.specs.declared.offset_width.OffsetWidth.{OffsetWidth}
 use Rattle.types.specs.Kind as kind
-use Rattle.types.specs.Kind.{Kind}
+use Rattle.types.specs.Kind.{Kind, offset_width}
 use Rattle.layout.specs.Layout.{Buffers, bytes_at, offset_at}
 use Rattle.layout.specs.Offsets.{start_at}
 use Rattle.types.specs.Number.{natural}
-use Rattle.layout.specs.Fault.{Inner, least_row, has_offsets, decreasing_row, is_past_end, child_length}
+use Rattle.layout.specs.Fault.{Inner, decreasing_row, least_decreasing, least_row, is_past_end, child_length}
 
 -- ---- each row fails where none is told
 
@@ -45,15 +46,18 @@ natural-rises (negsuc a) (pos b) h = omega arith
 natural-rises (negsuc a) (negsuc b) h = omega arith
 
 -- a slot begins where the one before it ends, or after
-pub start-rises : (k : Kind) (n : ℕ) (buffers : Buffers) → has_offsets k ≡ true → decreasing_row k n buffers ≡ None
-    → (j : ℕ) → j < n → start_at (bytes_at buffers 1) j ≤ start_at (bytes_at buffers 1) (j + 1)
-start-rises kind.utf8 n buffers has none j below =
-    natural-rises (offset_at buffers j) (offset_at buffers (j + 1)) (fails-least_none (λ i. int_lt (offset_at buffers (i + 1)) (offset_at buffers i)) n none j below)
-start-rises (kind.list k) n buffers has none j below =
-    natural-rises (offset_at buffers j) (offset_at buffers (j + 1)) (fails-least_none (λ i. int_lt (offset_at buffers (i + 1)) (offset_at buffers i)) n none j below)
-start-rises (kind.int t) n buffers has none j below = cc
-start-rises kind.boolean n buffers has none j below = cc
-start-rises kind.dict n buffers has none j below = cc
+pub start-rises : (w : OffsetWidth) (n : ℕ) (buffers : Buffers) → least_decreasing w n buffers ≡ None
+    → (j : ℕ) → j < n → start_at w (bytes_at buffers 1) j ≤ start_at w (bytes_at buffers 1) (j + 1)
+start-rises w n buffers none j below =
+    natural-rises (offset_at w buffers j) (offset_at w buffers (j + 1)) (fails-least_none (λ i. int_lt (offset_at w buffers (i + 1)) (offset_at w buffers i)) n none j below)
+
+-- the test of a kind is that of its offsets
+pub decreasing_row-offsets : (k : Kind) (w : OffsetWidth) (n : ℕ) (buffers : Buffers) → offset_width k ≡ Some w → decreasing_row k n buffers ≡ least_decreasing w n buffers
+decreasing_row-offsets (kind.texts v) w n buffers h = cc
+decreasing_row-offsets (kind.lists v k) w n buffers h = cc
+decreasing_row-offsets (kind.int t) w n buffers h = cc
+decreasing_row-offsets kind.boolean w n buffers h = cc
+decreasing_row-offsets kind.dict w n buffers h = cc
 
 pub rises_by : (starts : ℕ → ℕ) (n : ℕ) → ((j : ℕ) → j < n → starts j ≤ starts (j + 1)) → (d j : ℕ) → j + d ≤ n → starts j ≤ starts (j + d)
 rises_by starts n h zero j within =
@@ -66,23 +70,23 @@ rises_by starts n h (suc d) j within =
     omega arith
 
 -- each slot ends before the last one does
-pub start-le-last : (k : Kind) (n : ℕ) (buffers : Buffers) → has_offsets k ≡ true → decreasing_row k n buffers ≡ None
-    → (j : ℕ) → j ≤ n → start_at (bytes_at buffers 1) j ≤ start_at (bytes_at buffers 1) n
-start-le-last k n buffers has none j within =
-    let rise = rises_by (start_at (bytes_at buffers 1)) n (start-rises k n buffers has none) (n - j) j (omega arith) in
-    let same : start_at (bytes_at buffers 1) (j + (n - j)) ≡ start_at (bytes_at buffers 1) n = ap (start_at (bytes_at buffers 1)) (omega arith) in
+pub start-le-last : (w : OffsetWidth) (n : ℕ) (buffers : Buffers) → least_decreasing w n buffers ≡ None
+    → (j : ℕ) → j ≤ n → start_at w (bytes_at buffers 1) j ≤ start_at w (bytes_at buffers 1) n
+start-le-last w n buffers none j within =
+    let rise = rises_by (start_at w (bytes_at buffers 1)) n (start-rises w n buffers none) (n - j) j (omega arith) in
+    let same : start_at w (bytes_at buffers 1) (j + (n - j)) ≡ start_at w (bytes_at buffers 1) n = ap (start_at w (bytes_at buffers 1)) (omega arith) in
     omega arith
 
 -- the texts end within the bytes
-pub text_ends : (n : ℕ) (buffers : Buffers) (children : List Inner) → decreasing_row kind.utf8 n buffers ≡ None → is_past_end kind.utf8 n buffers children ≡ false
-    → (j : ℕ) → j ≤ n → start_at (bytes_at buffers 1) j ≤ length (bytes_at buffers 2)
-text_ends n buffers children none within j below =
-    let last = ltb-false (length (bytes_at buffers 2)) (start_at (bytes_at buffers 1) n) within in
-    omega (arith, start-le-last kind.utf8 n buffers refl none j below)
+pub text_ends : (w : OffsetWidth) (n : ℕ) (buffers : Buffers) (children : List Inner) → least_decreasing w n buffers ≡ None → is_past_end (kind.texts w) n buffers children ≡ false
+    → (j : ℕ) → j ≤ n → start_at w (bytes_at buffers 1) j ≤ length (bytes_at buffers 2)
+text_ends w n buffers children none within j below =
+    let last = ltb-false (length (bytes_at buffers 2)) (start_at w (bytes_at buffers 1) n) within in
+    omega (arith, start-le-last w n buffers none j below)
 
 -- the lists end within the child
-pub list_ends : (k : Kind) (n : ℕ) (buffers : Buffers) (children : List Inner) → decreasing_row (kind.list k) n buffers ≡ None → is_past_end (kind.list k) n buffers children ≡ false
-    → (j : ℕ) → j ≤ n → start_at (bytes_at buffers 1) j ≤ child_length children
-list_ends k n buffers children none within j below =
-    let last = ltb-false (child_length children) (start_at (bytes_at buffers 1) n) within in
-    omega (arith, start-le-last (kind.list k) n buffers refl none j below)
+pub list_ends : (w : OffsetWidth) (k : Kind) (n : ℕ) (buffers : Buffers) (children : List Inner) → least_decreasing w n buffers ≡ None → is_past_end (kind.lists w k) n buffers children ≡ false
+    → (j : ℕ) → j ≤ n → start_at w (bytes_at buffers 1) j ≤ child_length children
+list_ends w k n buffers children none within j below =
+    let last = ltb-false (child_length children) (start_at w (bytes_at buffers 1) n) within in
+    omega (arith, start-le-last w n buffers none j below)

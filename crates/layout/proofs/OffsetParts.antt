@@ -10,10 +10,12 @@ use Rattle.colbits.specs.Slice.{slice}
 use Rattle.colbits.proofs.BitLemmas.{map-range-same}
 use Rattle.types.specs.declared.int_type.IntType.{IntType}
 use Rattle.types.specs.Kind as kind
-use Rattle.types.specs.Kind.{Kind, bits_of, bytes_of, int32}
-use Rattle.types.specs.Limits.{most_slots}
+use Rattle.types.specs.Kind.{Kind, bits_of, bytes_of}
+use Rattle.types.specs.declared.offset_width.OffsetWidth.{OffsetWidth}
+use Rattle.types.specs.declared.offset_width.OffsetWidth.TheVariants.{Narrow, Wide}
+use Rattle.types.specs.OffsetWidth.{most_of, offset_type, size_of}
 use Rattle.types.specs.Number.{number_at, natural, is_negative}
-use Rattle.types.proofs.ByteLemmas.{number_at-empty}
+use Rattle.types.proofs.ByteLemmas.{offset_at-empty}
 use Rattle.types.proofs.RangeLemmas.{short_at}
 use Rattle.layout.specs.Layout.{Buffers, bytes_at, offset_at}
 use Rattle.layout.specs.Fault.{Inner, are_offsets_short, child_length}
@@ -40,111 +42,125 @@ number_at-slice t bytes start len j h =
     places s j w = omega arith
 
 -- the same of offsets
-pub offset_at-slice : (bytes : List ℕ) (start n j : ℕ) → j ≤ n → number_at int32 (slice bytes (4 * start) (4 * (n + 1))) j ≡ number_at int32 bytes (start + j)
-offset_at-slice bytes start n j below =
-    let begin : 4 * start ≡ start * 4 = omega arith in
-    let size : 4 * (n + 1) ≡ (n + 1) * 4 = omega arith in
-    ap (λ k. number_at int32 (slice bytes k (4 * (n + 1))) j) begin
-    ∙ ap (λ k. number_at int32 (slice bytes (start * 4) k) j) size
-    ∙ number_at-slice int32 bytes start (n + 1) j (omega (arith, below))
+pub offset_at-slice : (w : OffsetWidth) (bytes : List ℕ) (start n j : ℕ) → j ≤ n
+    → number_at (offset_type w) (slice bytes (start * size_of w) ((n + 1) * size_of w)) j ≡ number_at (offset_type w) bytes (start + j)
+offset_at-slice w bytes start n j below = number_at-slice (offset_type w) bytes start (n + 1) j (omega (arith, below))
 
 -- ---- offsets as numbers
 
-pub length-offsets_in : (bytes : List ℕ) (start n : ℕ) → length (offsets_in bytes start n) ≡ n + 1
-length-offsets_in bytes start n = length-map-range_with_len (start_at bytes) start (n + 1)
+pub length-offsets_in : (w : OffsetWidth) (bytes : List ℕ) (start n : ℕ) → length (offsets_in w bytes start n) ≡ n + 1
+length-offsets_in w bytes start n = length-map-range_with_len (start_at w bytes) start (n + 1)
 
 -- number j of some offsets is where the slot of its place begins
-pub start_of-in : (bytes : List ℕ) (start n j : ℕ) → j ≤ n → start_of (offsets_in bytes start n) j ≡ start_at bytes (start + j)
-start_of-in bytes start n j below = get_or-map-range_with_len (start_at bytes) start (n + 1) j (start + j) 0 (omega (arith, below)) refl
+pub start_of-in : (w : OffsetWidth) (bytes : List ℕ) (start n j : ℕ) → j ≤ n → start_of (offsets_in w bytes start n) j ≡ start_at w bytes (start + j)
+start_of-in w bytes start n j below = get_or-map-range_with_len (start_at w bytes) start (n + 1) j (start + j) 0 (omega (arith, below)) refl
 
-pub start_of-short : (bytes : List ℕ) (start n j : ℕ) → ((i : ℕ) → get_or bytes i 0 < 256) → j ≤ n → start_of (offsets_in bytes start n) j ≤ most_slots
-start_of-short bytes start n j small below = subst (λ m. m ≤ most_slots) (sym (start_of-in bytes start n j below)) (short_at bytes (start + j) small)
+pub start_of-short : (w : OffsetWidth) (bytes : List ℕ) (start n j : ℕ) → ((i : ℕ) → get_or bytes i 0 < 256) → j ≤ n → start_of (offsets_in w bytes start n) j ≤ most_of w
+start_of-short w bytes start n j small below = subst (λ m. m ≤ most_of w) (sym (start_of-in w bytes start n j below)) (short_at w bytes (start + j) small)
 
-pub length_of-in : (bytes : List ℕ) (start n j : ℕ) → j < n → length_of (offsets_in bytes start n) j ≡ length_at bytes (start + j)
-length_of-in bytes start n j below =
+pub length_of-in : (w : OffsetWidth) (bytes : List ℕ) (start n j : ℕ) → j < n → length_of (offsets_in w bytes start n) j ≡ length_at w bytes (start + j)
+length_of-in w bytes start n j below =
     let next : start + (j + 1) ≡ start + j + 1 = omega arith in
-    ap (λ e. e - start_of (offsets_in bytes start n) j) (start_of-in bytes start n (j + 1) (omega (arith, below)) ∙ ap (start_at bytes) next)
-    ∙ ap (λ s. start_at bytes (start + j + 1) - s) (start_of-in bytes start n j (omega (arith, below)))
+    ap (λ e. e - start_of (offsets_in w bytes start n) j) (start_of-in w bytes start n (j + 1) (omega (arith, below)) ∙ ap (start_at w bytes) next)
+    ∙ ap (λ s. start_at w bytes (start + j + 1) - s) (start_of-in w bytes start n j (omega (arith, below)))
 
-pub of_slot-in : {A : Type 0} (bytes : List ℕ) (values : List A) (start n j : ℕ) → j < n → of_slot (offsets_in bytes start n) values j ≡ slot_at bytes values (start + j)
-of_slot-in bytes values start n j below =
-    ap (λ a. slice values a (length_of (offsets_in bytes start n) j)) (start_of-in bytes start n j (omega (arith, below)))
-    ∙ ap (slice values (start_at bytes (start + j))) (length_of-in bytes start n j below)
+pub of_slot-in : {A : Type 0} (w : OffsetWidth) (bytes : List ℕ) (values : List A) (start n j : ℕ) → j < n
+    → of_slot (offsets_in w bytes start n) values j ≡ slot_at w bytes values (start + j)
+of_slot-in w bytes values start n j below =
+    ap (λ a. slice values a (length_of (offsets_in w bytes start n) j)) (start_of-in w bytes start n j (omega (arith, below)))
+    ∙ ap (slice values (start_at w bytes (start + j))) (length_of-in w bytes start n j below)
 
 -- the offsets that lie in part of the bytes
-pub offsets_in-slice : (bytes : List ℕ) (start n : ℕ) → offsets_in (slice bytes (4 * start) (4 * (n + 1))) 0 n ≡ offsets_in bytes start n
-offsets_in-slice bytes start n =
-    same_places (start_at (slice bytes (4 * start) (4 * (n + 1)))) (start_at bytes) start (n + 1)
-    (λ j below. ap natural (offset_at-slice bytes start n j (omega (arith, below))))
+pub offsets_in-slice : (w : OffsetWidth) (bytes : List ℕ) (start n : ℕ) → offsets_in w (slice bytes (start * size_of w) ((n + 1) * size_of w)) 0 n ≡ offsets_in w bytes start n
+offsets_in-slice w bytes start n =
+    same_places (start_at w (slice bytes (start * size_of w) ((n + 1) * size_of w))) (start_at w bytes) start (n + 1)
+    (λ j below. ap natural (offset_at-slice w bytes start n j (omega (arith, below))))
   where
     same_places : (f g : ℕ → ℕ) (start m : ℕ) → ((j : ℕ) → j < m → f j ≡ g (start + j)) → map f (range_with_len 0 m) ≡ map g (range_with_len start m)
     same_places f g start m each =
         map-range-below f (λ j. g (start + j)) 0 m (λ j below. ap f (zero-add j) ∙ each j below ∙ ap (λ k. g (start + k)) (sym (zero-add j)))
         ∙ map-range-same (λ j. g (start + j)) g 0 start m (λ j. ap (λ k. g (start + k)) (zero-add j))
 
-zeros_number : number_at int32 (0 ∷ 0 ∷ 0 ∷ 0 ∷ []) 0 ≡ number_at int32 [] 0
+-- Room for one offset of either width, all of it 0.
+abbrev pub zeros : List ℕ
+zeros = 0 ∷ 0 ∷ 0 ∷ 0 ∷ 0 ∷ 0 ∷ 0 ∷ 0 ∷ []
+
+zeros_number : (w : OffsetWidth) → number_at (offset_type w) zeros 0 ≡ pos 0
 unfolding number_at
-zeros_number = refl
+zeros_number Narrow = refl
+zeros_number Wide = refl
+
+zeros_size : (w : OffsetWidth) → 1 * size_of w ≤ 8
+zeros_size Narrow = omega arith
+zeros_size Wide = omega arith
+
+some_size : (w : OffsetWidth) → 0 < size_of w
+some_size Narrow = omega arith
+some_size Wide = omega arith
 
 -- no bytes, for no slots alone
-none_for_none : (n : ℕ) (bytes : List ℕ) → are_offsets_short n bytes ≡ false → length bytes ≡ 0 → n ≡ 0
-none_for_none n bytes h none = grind (arith, nat_tests)
+none_for_none : (w : OffsetWidth) (n : ℕ) (bytes : List ℕ) → are_offsets_short w n bytes ≡ false → length bytes ≡ 0 → n ≡ 0
+none_for_none Narrow n bytes h none = grind (arith, nat_tests)
+none_for_none Wide n bytes h none = grind (arith, nat_tests)
 
 no_bytes : (bytes : List ℕ) → length bytes ≡ 0 → bytes ≡ []
 no_bytes [] h = refl
 no_bytes (x ∷ xs) h = absurd (omega (arith, h))
 
-enough_for_all : (n : ℕ) (bytes : List ℕ) → are_offsets_short n bytes ≡ false → (length bytes ≡ 0 → ⊥) → 4 * (n + 1) ≤ length bytes
-enough_for_all n bytes h some = grind (arith, nat_tests)
+enough_for_all : (w : OffsetWidth) (n : ℕ) (bytes : List ℕ) → are_offsets_short w n bytes ≡ false → (length bytes ≡ 0 → ⊥) → (n + 1) * size_of w ≤ length bytes
+enough_for_all Narrow n bytes h some = grind (arith, nat_tests)
+enough_for_all Wide n bytes h some = grind (arith, nat_tests)
 
 -- The bytes are the offsets of n slots from slot `start` of others on.
-pub record ArePart (bytes others : List ℕ) (start n : ℕ) : Type 0 where
-  pub size : 4 * (n + 1) ≤ length bytes
-  pub counted : (j : ℕ) → j ≤ n → is_negative (number_at int32 bytes j) ≡ false
-  pub same : offsets_in bytes 0 n ≡ offsets_in others start n
+pub record ArePart (w : OffsetWidth) (bytes others : List ℕ) (start n : ℕ) : Type 0 where
+  pub size : (n + 1) * size_of w ≤ length bytes
+  pub counted : (j : ℕ) → j ≤ n → is_negative (number_at (offset_type w) bytes j) ≡ false
+  pub same : offsets_in w bytes 0 n ≡ offsets_in w others start n
 
-zero_counted : (j : ℕ) → j ≡ 0 → is_negative (number_at int32 (0 ∷ 0 ∷ 0 ∷ 0 ∷ []) j) ≡ false
-zero_counted j first =
-    ap (λ k. is_negative (number_at int32 (0 ∷ 0 ∷ 0 ∷ 0 ∷ []) k)) first ∙ ap is_negative (zeros_number ∙ number_at-empty [] 0 refl)
+zero_counted : (w : OffsetWidth) (j : ℕ) → j ≡ 0 → is_negative (number_at (offset_type w) zeros j) ≡ false
+zero_counted w j first =
+    ap (λ k. is_negative (number_at (offset_type w) zeros k)) first ∙ ap is_negative (zeros_number w)
 
 -- the one offset 0 stands for no bytes
-pub absent-part : (bytes : List ℕ) (start n : ℕ) → are_offsets_short (start + n) bytes ≡ false → length bytes ≡ 0 → ArePart (0 ∷ 0 ∷ 0 ∷ 0 ∷ []) bytes start n
-absent-part bytes start n enough none =
-    let sum = none_for_none (start + n) bytes enough none in
+pub absent-part : (w : OffsetWidth) (bytes : List ℕ) (start n : ℕ) → are_offsets_short w (start + n) bytes ≡ false → length bytes ≡ 0 → ArePart w zeros bytes start n
+absent-part w bytes start n enough none =
+    let sum = none_for_none w (start + n) bytes enough none in
     let no_slots : n ≡ 0 = omega (arith, sum) in
     let first : 0 ≡ start = omega (arith, sum) in
     record {
-      size = omega (arith, no_slots);
-      counted = λ j below. zero_counted j (omega (arith, below, no_slots));
+      size = subst (λ k. (k + 1) * size_of w ≤ 8) (sym no_slots) (zeros_size w);
+      counted = λ j below. zero_counted w j (omega (arith, below, no_slots));
       same =
-          ap (offsets_in (0 ∷ 0 ∷ 0 ∷ 0 ∷ []) 0) no_slots
-          ∙ ap (λ z. natural z ∷ []) zeros_number
-          ∙ ap (λ b. offsets_in b 0 0) (sym (no_bytes bytes none))
-          ∙ ap (λ s. offsets_in bytes s 0) first
-          ∙ ap (offsets_in bytes start) (sym no_slots);
+          ap (offsets_in w zeros 0) no_slots
+          ∙ ap (λ z. natural z ∷ []) (zeros_number w ∙ sym (offset_at-empty w bytes 0 none))
+          ∙ ap (λ s. offsets_in w bytes s 0) first
+          ∙ ap (offsets_in w bytes start) (sym no_slots);
     }
 
-pub slice-part : (bytes : List ℕ) (start n : ℕ) → are_offsets_short (start + n) bytes ≡ false → (length bytes ≡ 0 → ⊥)
-    → ((j : ℕ) → j ≤ start + n → is_negative (number_at int32 bytes j) ≡ false) → ArePart (slice bytes (4 * start) (4 * (n + 1))) bytes start n
-slice-part bytes start n enough some counted =
-    let long = enough_for_all (start + n) bytes enough some in
+pub slice-part : (w : OffsetWidth) (bytes : List ℕ) (start n : ℕ) → are_offsets_short w (start + n) bytes ≡ false → (length bytes ≡ 0 → ⊥)
+    → ((j : ℕ) → j ≤ start + n → is_negative (number_at (offset_type w) bytes j) ≡ false)
+    → ArePart w (slice bytes (start * size_of w) ((n + 1) * size_of w)) bytes start n
+slice-part w bytes start n enough some counted =
+    let long = enough_for_all w (start + n) bytes enough some in
+    let size : start * size_of w + (n + 1) * size_of w ≡ (start + n + 1) * size_of w = omega arith in
     record {
-      size = omega (arith, length-slice bytes (4 * start) (4 * (n + 1)) (omega (arith, long)));
-      counted = λ j below. ap is_negative (offset_at-slice bytes start n j below) ∙ counted (start + j) (omega (arith, below));
-      same = offsets_in-slice bytes start n;
+      size = omega (arith, length-slice bytes (start * size_of w) ((n + 1) * size_of w) (omega (arith, long, size)));
+      counted = λ j below. ap is_negative (offset_at-slice w bytes start n j below) ∙ counted (start + j) (omega (arith, below));
+      same = offsets_in-slice w bytes start n;
     }
 
-pub enough-part : (n m : ℕ) (bytes : List ℕ) → are_offsets_short n bytes ≡ false → m ≤ n → are_offsets_short m bytes ≡ false
-enough-part n m bytes h within = grind (arith, nat_tests)
+pub enough-part : (w : OffsetWidth) (n m : ℕ) (bytes : List ℕ) → are_offsets_short w n bytes ≡ false → m ≤ n → are_offsets_short w m bytes ≡ false
+enough-part Narrow n m bytes h within = grind (arith, nat_tests)
+enough-part Wide n m bytes h within = grind (arith, nat_tests)
 
 -- ---- the offsets of a lawful array
 
 -- Offsets of n slots, or no bytes for no slots.
-pub record Rising (n : ℕ) (bytes : List ℕ) (most : ℕ) : Type 0 where
-  pub enough : are_offsets_short n bytes ≡ false
-  pub counted : (j : ℕ) → j ≤ n → is_negative (number_at int32 bytes j) ≡ false
-  pub rising : (j : ℕ) → j < n → start_at bytes j ≤ start_at bytes (j + 1)
-  pub ends : (j : ℕ) → j ≤ n → start_at bytes j ≤ most
+pub record Rising (w : OffsetWidth) (n : ℕ) (bytes : List ℕ) (most : ℕ) : Type 0 where
+  pub enough : are_offsets_short w n bytes ≡ false
+  pub counted : (j : ℕ) → j ≤ n → is_negative (number_at (offset_type w) bytes j) ≡ false
+  pub rising : (j : ℕ) → j < n → start_at w bytes j ≤ start_at w bytes (j + 1)
+  pub ends : (j : ℕ) → j ≤ n → start_at w bytes j ≤ most
 
 not_found : (b : Bool) → (b ≡ true → ⊥) → b ≡ false
 not_found true h = absurd (h refl)
@@ -155,37 +171,37 @@ fails-any_none : (test : ℕ → Bool) (n : ℕ) → list_any test (range_with_l
 fails-any_none test n h j below =
     not_found (test j) (λ passes. false≢true (sym h ∙ any_found test n j below passes))
 
-pub rising-texts : (n : ℕ) (stated : Option ℕ) (buffers : Buffers) (children : List Inner) (dictionary : Option Inner)
-    → IsWhole kind.utf8 n stated buffers children dictionary → Rising n (bytes_at buffers 1) (length (bytes_at buffers 2))
-rising-texts n stated buffers children dictionary whole = record {
+pub rising-texts : (w : OffsetWidth) (n : ℕ) (stated : Option ℕ) (buffers : Buffers) (children : List Inner) (dictionary : Option Inner)
+    → IsWhole (kind.texts w) n stated buffers children dictionary → Rising w n (bytes_at buffers 1) (length (bytes_at buffers 2))
+rising-texts w n stated buffers children dictionary whole = record {
   enough = whole.data_enough;
-  counted = λ j h. fails-any_none (λ i. is_negative (offset_at buffers i)) (n + 1) whole.none_negative j (omega (arith, h));
-  rising = start-rises kind.utf8 n buffers refl whole.none_decreases;
-  ends = text_ends n buffers children whole.none_decreases whole.within_end;
+  counted = λ j h. fails-any_none (λ i. is_negative (offset_at w buffers i)) (n + 1) whole.none_negative j (omega (arith, h));
+  rising = start-rises w n buffers whole.none_decreases;
+  ends = text_ends w n buffers children whole.none_decreases whole.within_end;
 }
 
-pub rising-lists : (k : Kind) (n : ℕ) (stated : Option ℕ) (buffers : Buffers) (children : List Inner) (dictionary : Option Inner)
-    → IsWhole (kind.list k) n stated buffers children dictionary → Rising n (bytes_at buffers 1) (child_length children)
-rising-lists k n stated buffers children dictionary whole = record {
+pub rising-lists : (w : OffsetWidth) (k : Kind) (n : ℕ) (stated : Option ℕ) (buffers : Buffers) (children : List Inner) (dictionary : Option Inner)
+    → IsWhole (kind.lists w k) n stated buffers children dictionary → Rising w n (bytes_at buffers 1) (child_length children)
+rising-lists w k n stated buffers children dictionary whole = record {
   enough = whole.data_enough;
-  counted = λ j h. fails-any_none (λ i. is_negative (offset_at buffers i)) (n + 1) whole.none_negative j (omega (arith, h));
-  rising = start-rises (kind.list k) n buffers refl whole.none_decreases;
-  ends = list_ends k n buffers children whole.none_decreases whole.within_end;
+  counted = λ j h. fails-any_none (λ i. is_negative (offset_at w buffers i)) (n + 1) whole.none_negative j (omega (arith, h));
+  rising = start-rises w n buffers whole.none_decreases;
+  ends = list_ends w k n buffers children whole.none_decreases whole.within_end;
 }
 
 -- those of part of it
-pub AreOffsets-part : (n : ℕ) (bytes : List ℕ) (most : ℕ) → Rising n bytes most → (start len : ℕ) → start + len ≤ n → AreOffsets len (offsets_in bytes start len) most
-AreOffsets-part n bytes most rises start len within = record {
-  size = length-offsets_in bytes start len;
+pub AreOffsets-part : (w : OffsetWidth) (n : ℕ) (bytes : List ℕ) (most : ℕ) → Rising w n bytes most → (start len : ℕ) → start + len ≤ n → AreOffsets len (offsets_in w bytes start len) most
+AreOffsets-part w n bytes most rises start len within = record {
+  size = length-offsets_in w bytes start len;
   rising =
       λ j h.
-      let here = start_of-in bytes start len j (omega (arith, h)) in
-      let next = start_of-in bytes start len (j + 1) (omega (arith, h)) in
+      let here = start_of-in w bytes start len j (omega (arith, h)) in
+      let next = start_of-in w bytes start len (j + 1) (omega (arith, h)) in
       let up = rises.rising (start + j) (omega (arith, within, h)) in
-      let same : start_at bytes (start + j + 1) ≡ start_at bytes (start + (j + 1)) = ap (start_at bytes) (omega arith) in
+      let same : start_at w bytes (start + j + 1) ≡ start_at w bytes (start + (j + 1)) = ap (start_at w bytes) (omega arith) in
       omega (arith, here, next, up, same);
   last =
-      let end = start_of-in bytes start len len (omega arith) in
+      let end = start_of-in w bytes start len len (omega arith) in
       let there = rises.ends (start + len) within in
       omega (arith, end, there);
 }

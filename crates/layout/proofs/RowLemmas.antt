@@ -10,6 +10,7 @@ use Rattle.std.proofs.Math.Bool.{and-false}
 use Rattle.std.proofs.lemmas.Str.{IsUtf8-from_is_utf8, is_utf8-from_IsUtf8, IsUtf8-nil, IsUtf8-between}
 use Rattle.colbits.specs.Bit.{bit, bits}
 use Rattle.colbits.specs.Slice.{slice}
+use Rattle.types.specs.declared.offset_width.OffsetWidth.{OffsetWidth}
 use Rattle.layout.specs.Layout.{Buffers, buffer_at, bytes_at, is_valid, is_valid_in}
 use Rattle.layout.specs.Offsets.{slot_at, start_at}
 use Rattle.layout.specs.Fault.{is_no_text, least_row, null_count}
@@ -119,13 +120,13 @@ utf8-between bytes s e true falls text begins ends =
     subst (λ k. IsUtf8 (take k (drop s bytes))) none IsUtf8-nil
 utf8-between bytes s e false rises text begins ends = IsUtf8-between bytes s e text (ltb-false e s rises) begins ends
 
-pub text-between : (offsets bytes : List ℕ) (j : ℕ) → IsUtf8 bytes → IsCharBoundary bytes (start_at offsets j) → IsCharBoundary bytes (start_at offsets (j + 1))
-    → is_utf8 (slot_at offsets bytes j) ≡ true
-text-between offsets bytes j text begins ends =
-    let s = start_at offsets j in
-    let e = start_at offsets (j + 1) in
-    is_utf8-from_IsUtf8 (slot_at offsets bytes j) (utf8-between bytes s e (nat_lt e s) refl text begins ends)
+pub text-between : (w : OffsetWidth) (offsets bytes : List ℕ) (j : ℕ) → IsUtf8 bytes → IsCharBoundary bytes (start_at w offsets j) → IsCharBoundary bytes (start_at w offsets (j + 1))
+    → is_utf8 (slot_at w offsets bytes j) ≡ true
+text-between w offsets bytes j text begins ends =
+    let s = start_at w offsets j in
+    let e = start_at w offsets (j + 1) in
+    is_utf8-from_IsUtf8 (slot_at w offsets bytes j) (utf8-between bytes s e (nat_lt e s) refl text begins ends)
 
 -- a slot whose bytes are a text is one, valid or not
-pub no_text-of_text : (buffers : Buffers) (j : ℕ) → is_utf8 (slot_at (bytes_at buffers 1) (bytes_at buffers 2) j) ≡ true → is_no_text buffers j ≡ false
-no_text-of_text buffers j text = ap (λ b. is_valid buffers j && not b) text ∙ and-false (is_valid buffers j)
+pub no_text-of_text : (w : OffsetWidth) (buffers : Buffers) (j : ℕ) → is_utf8 (slot_at w (bytes_at buffers 1) (bytes_at buffers 2) j) ≡ true → is_no_text w buffers j ≡ false
+no_text-of_text w buffers j text = ap (λ b. is_valid buffers j && not b) text ∙ and-false (is_valid buffers j)

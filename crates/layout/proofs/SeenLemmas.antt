@@ -26,8 +26,8 @@ pub seen-kind : (k : Kind) (n : ℕ) (stated : Option ℕ) (buffers : Buffers) (
 unfolding read_parts
 seen-kind (kind.int t) n stated buffers children dictionary = refl
 seen-kind kind.boolean n stated buffers children dictionary = refl
-seen-kind kind.utf8 n stated buffers children dictionary = refl
-seen-kind (kind.list k) n stated buffers children dictionary = refl
+seen-kind (kind.texts w) n stated buffers children dictionary = refl
+seen-kind (kind.lists w k) n stated buffers children dictionary = refl
 seen-kind kind.dict n stated buffers children dictionary = refl
 
 pub length-items : (k : Kind) (n : ℕ) (stated : Option ℕ) (buffers : Buffers) (children : List Reading) (dictionary : Option Reading)
@@ -35,8 +35,8 @@ pub length-items : (k : Kind) (n : ℕ) (stated : Option ℕ) (buffers : Buffers
 unfolding read_parts
 length-items (kind.int t) n stated buffers children dictionary = length-column _ n buffers _ _
 length-items kind.boolean n stated buffers children dictionary = length-column _ n buffers _ _
-length-items kind.utf8 n stated buffers children dictionary = length-column _ n buffers _ _
-length-items (kind.list k) n stated buffers children dictionary = length-column _ n buffers _ _
+length-items (kind.texts w) n stated buffers children dictionary = length-column _ n buffers _ _
+length-items (kind.lists w k) n stated buffers children dictionary = length-column _ n buffers _ _
 length-items kind.dict n stated buffers children dictionary = length-column _ n buffers _ _
 
 -- ---- slices
@@ -96,8 +96,8 @@ pub Fits-seen : (k : Kind) (n : ℕ) (stated : Option ℕ) (buffers : Buffers) (
 unfolding read_parts codes
 Fits-seen (kind.int t) n stated buffers children dictionary = record { items = length-column _ n buffers _ _; validity = validity-fits n buffers; codes = omega arith }
 Fits-seen kind.boolean n stated buffers children dictionary = record { items = length-column _ n buffers _ _; validity = validity-fits n buffers; codes = omega arith }
-Fits-seen kind.utf8 n stated buffers children dictionary = record { items = length-column _ n buffers _ _; validity = validity-fits n buffers; codes = omega arith }
-Fits-seen (kind.list k) n stated buffers children dictionary = record { items = length-column _ n buffers _ _; validity = validity-fits n buffers; codes = omega arith }
+Fits-seen (kind.texts w) n stated buffers children dictionary = record { items = length-column _ n buffers _ _; validity = validity-fits n buffers; codes = omega arith }
+Fits-seen (kind.lists w k) n stated buffers children dictionary = record { items = length-column _ n buffers _ _; validity = validity-fits n buffers; codes = omega arith }
 Fits-seen kind.dict n stated buffers children dictionary = record { items = length-column _ n buffers _ _; validity = validity-fits n buffers; codes = omega (arith, length-column (kind.int int32) n buffers [] []) }
 
 -- ---- how long a lawful array is

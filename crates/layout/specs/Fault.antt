@@ -4,7 +4,9 @@ use Rattle.std.specs.List.{range_with_len, list_any}
 use Rattle.std.specs.Str.{is_utf8}
 use Rattle.std.specs.Bool.{then_some}
 use Rattle.types.specs.First.{first}
-use Rattle.types.specs.Kind.{Kind, int, boolean, utf8, list, dict, bytes_of, depth, same_kind}
+use Rattle.types.specs.declared.offset_width.OffsetWidth.{OffsetWidth}
+use Rattle.types.specs.Kind.{Kind, int, boolean, texts, utf8, lists, dict, bytes_of, depth, same_kind}
+use Rattle.types.specs.OffsetWidth.{size_of}
 use Rattle.types.specs.Number.{is_negative}
 use Rattle.layout.specs.Layout.{Buffers, buffer_at, bytes_at, is_valid, offset_at, code_at}
 use Rattle.layout.specs.Offsets.{slot_at, start_at}
@@ -21,7 +23,7 @@ pub record Inner : Type 0 where
 
 -- How many positions the layout has.
 abbrev pub positions : Kind → ℕ
-positions utf8 = 3
+positions (texts w) = 3
 positions k = 2
 
 -- A position is missing, or holds none and isn't the validity.
@@ -33,15 +35,15 @@ abbrev pub bytes_for : ℕ → ℕ
 bytes_for n = (n + 7) / 8
 
 -- The offsets of n slots are one more, save that none may stand for the one offset 0.
-abbrev pub are_offsets_short : ℕ → List ℕ → Bool
-are_offsets_short n offsets = nat_lt (length offsets) (4 * (n + 1)) && not ((n == 0) && (length offsets == 0))
+abbrev pub are_offsets_short : OffsetWidth → ℕ → List ℕ → Bool
+are_offsets_short w n offsets = nat_lt (length offsets) ((n + 1) * size_of w) && not ((n == 0) && (length offsets == 0))
 
 -- The bytes behind the validity are fewer than n slots need.
 abbrev pub is_data_short : Kind → ℕ → Buffers → Bool
 is_data_short (int t) n buffers = nat_lt (length (bytes_at buffers 1)) (n * bytes_of t.bits)
 is_data_short boolean n buffers = nat_lt (length (bytes_at buffers 1)) (bytes_for n)
-is_data_short utf8 n buffers = are_offsets_short n (bytes_at buffers 1)
-is_data_short (list k) n buffers = are_offsets_short n (bytes_at buffers 1)
+is_data_short (texts w) n buffers = are_offsets_short w n (bytes_at buffers 1)
+is_data_short (lists w k) n buffers = are_offsets_short w n (bytes_at buffers 1)
 is_data_short dict n buffers = nat_lt (length (bytes_at buffers 1)) (n * 4)
 
 abbrev pub is_validity_short : ℕ → Option (List ℕ) → Bool
@@ -60,35 +62,41 @@ is_no_dictionary None = true
 is_no_dictionary (Some d) = not (same_kind d.kind utf8)
 
 abbrev pub do_parts_differ : Kind → List Inner → Option Inner → Bool
-do_parts_differ (list k) children dictionary = is_no_child k children || not (is_none dictionary)
+do_parts_differ (lists w k) children dictionary = is_no_child k children || not (is_none dictionary)
 do_parts_differ dict children dictionary = not (length children == 0) || is_no_dictionary dictionary
 do_parts_differ k children dictionary = not (length children == 0) || not (is_none dictionary)
 
 -- ---- offsets
 
--- Whether the kind has offsets.
-abbrev pub has_offsets : Kind → Bool
-has_offsets utf8 = true
-has_offsets (list k) = true
-has_offsets k = false
+-- Some offset of n slots is below 0.
+abbrev pub is_some_negative : OffsetWidth → ℕ → Buffers → Bool
+is_some_negative w n buffers = list_any (λ j. is_negative (offset_at w buffers j)) (range_with_len 0 (n + 1))
 
 abbrev pub has_negative_offset : Kind → ℕ → Buffers → Bool
-has_negative_offset k n buffers = has_offsets k && list_any (λ j. is_negative (offset_at buffers j)) (range_with_len 0 (n + 1))
+has_negative_offset (texts w) n buffers = is_some_negative w n buffers
+has_negative_offset (lists w k) n buffers = is_some_negative w n buffers
+has_negative_offset k n buffers = false
 
 -- The least of n rows that passes.
 abbrev pub least_row : (ℕ → Bool) → ℕ → Option ℕ
 least_row test n = position test (range_with_len 0 n)
 
+-- The least of n slots that ends before it begins.
+abbrev pub least_decreasing : OffsetWidth → ℕ → Buffers → Option ℕ
+least_decreasing w n buffers = least_row (λ j. int_lt (offset_at w buffers (j + 1)) (offset_at w buffers j)) n
+
 abbrev pub decreasing_row : Kind → ℕ → Buffers → Option ℕ
-decreasing_row k n buffers = if has_offsets k then least_row (λ j. int_lt (offset_at buffers (j + 1)) (offset_at buffers j)) n else None
+decreasing_row (texts w) n buffers = least_decreasing w n buffers
+decreasing_row (lists w k) n buffers = least_decreasing w n buffers
+decreasing_row k n buffers = None
 
 abbrev pub child_length : List Inner → ℕ
 child_length [] = 0
 child_length (c ∷ cs) = c.length
 
 abbrev pub is_past_end : Kind → ℕ → Buffers → List Inner → Bool
-is_past_end utf8 n buffers children = nat_lt (length (bytes_at buffers 2)) (start_at (bytes_at buffers 1) n)
-is_past_end (list k) n buffers children = nat_lt (child_length children) (start_at (bytes_at buffers 1) n)
+is_past_end (texts w) n buffers children = nat_lt (length (bytes_at buffers 2)) (start_at w (bytes_at buffers 1) n)
+is_past_end (lists w k) n buffers children = nat_lt (child_length children) (start_at w (bytes_at buffers 1) n)
 is_past_end k n buffers children = false
 
 -- ---- nulls, texts, codes
@@ -101,11 +109,11 @@ abbrev pub does_count_differ : Option ℕ → ℕ → Buffers → Bool
 does_count_differ None n buffers = false
 does_count_differ (Some stated) n buffers = not (stated == null_count n buffers)
 
-abbrev pub is_no_text : Buffers → ℕ → Bool
-is_no_text buffers j = is_valid buffers j && not (is_utf8 (slot_at (bytes_at buffers 1) (bytes_at buffers 2) j))
+abbrev pub is_no_text : OffsetWidth → Buffers → ℕ → Bool
+is_no_text w buffers j = is_valid buffers j && not (is_utf8 (slot_at w (bytes_at buffers 1) (bytes_at buffers 2) j))
 
 abbrev pub bad_text_row : Kind → ℕ → Buffers → Option ℕ
-bad_text_row utf8 n buffers = least_row (is_no_text buffers) n
+bad_text_row (texts w) n buffers = least_row (is_no_text w buffers) n
 bad_text_row k n buffers = None
 
 abbrev pub entry_count : Option Inner → ℕ

@@ -2,14 +2,16 @@
 use Rattle.std.specs.Prelude.{◌≡◌, ℕ, ◌+◌, ◌*◌, ◌<◌, List, length, map, Option, option_map}
 use Rattle.std.specs.declared.boxed.Box.{Box}
 use Rattle.std.specs.declared.alloc.Global.{Global}
+use Rattle.types.specs.declared.offset_width.OffsetWidth.{OffsetWidth}
 use Rattle.types.specs.Kind.{kind_of}
+use Rattle.types.specs.OffsetWidth.{size_of}
 use Rattle.layout.specs.Fault.{Inner, content_faults, own_fault, shape_faults}
 use Rattle.layout.specs.declared.fault.LayoutFault.{LayoutFault}
 use Rattle.layout.specs.declared.raw.RawArray.{RawArray, out-RawArray}
 
 -- The bytes hold the offsets of n slots, or there are none.
-abbrev pub HasOffsets : ℕ → List ℕ → Type 0
-HasOffsets n bytes = length bytes < 4 * (n + 1) → length bytes ≡ 0
+abbrev pub HasOffsets : OffsetWidth → ℕ → List ℕ → Type 0
+HasOffsets w n bytes = length bytes < (n + 1) * size_of w → length bytes ≡ 0
 
 -- What an array knows of its children and of its dictionary.
 abbrev pub inner_raw : RawArray → Inner

@@ -2,7 +2,9 @@
 use Rattle.std.specs.Prelude.{ℕ, ℤ, List, [], map, Bool, true, if◌then◌else◌, Option, Some, None, option_map, unwrap_or, slice_get, slice_index_or}
 use Rattle.std.specs.List.{range_with_len}
 use Rattle.colbits.specs.Bit.{bit, bits}
-use Rattle.types.specs.Kind.{Kind, int, boolean, utf8, list, dict, int32}
+use Rattle.types.specs.declared.offset_width.OffsetWidth.{OffsetWidth}
+use Rattle.types.specs.Kind.{Kind, int, boolean, texts, lists, dict, int32}
+use Rattle.types.specs.OffsetWidth.{offset_type}
 use Rattle.types.specs.Number.{natural, number_at}
 use Rattle.layout.specs.Offsets.{slot_at}
 use Rattle.layout.specs.Item as item
@@ -21,8 +23,8 @@ abbrev pub bytes_at : Buffers → ℕ → List ℕ
 bytes_at buffers k = unwrap_or (buffer_at buffers k) []
 
 -- Offset j of a text or list array. Bytes that aren't there read as 0, so that at length 0 no bytes stand for the one offset 0.
-abbrev pub offset_at : Buffers → ℕ → ℤ
-offset_at buffers j = number_at int32 (bytes_at buffers 1) j
+abbrev pub offset_at : OffsetWidth → Buffers → ℕ → ℤ
+offset_at w buffers j = number_at (offset_type w) (bytes_at buffers 1) j
 
 -- Whether slot j is valid: its bit is 1, or there is no bitmap. ("Validity bitmaps")
 abbrev pub is_valid_in : Option (List ℕ) → ℕ → Bool
@@ -44,8 +46,8 @@ code_at buffers j = number_at int32 (bytes_at buffers 1) j
 abbrev pub value_at : Kind → Buffers → List Item → List Item → ℕ → Item
 value_at (int t) buffers child entries j = item.int (number_at t (bytes_at buffers 1) j)
 value_at boolean buffers child entries j = item.boolean (bit (bytes_at buffers 1) j)
-value_at utf8 buffers child entries j = item.text (slot_at (bytes_at buffers 1) (bytes_at buffers 2) j)
-value_at (list k) buffers child entries j = item.list (item.list_of (slot_at (bytes_at buffers 1) child j))
+value_at (texts w) buffers child entries j = item.text (slot_at w (bytes_at buffers 1) (bytes_at buffers 2) j)
+value_at (lists w k) buffers child entries j = item.list (item.list_of (slot_at w (bytes_at buffers 1) child j))
 value_at dict buffers child entries j = slice_index_or entries (natural (code_at buffers j)) item.null
 
 -- An item for each slot: null where the slot isn't valid.

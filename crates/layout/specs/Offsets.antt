@@ -2,7 +2,8 @@
 use Rattle.std.specs.Prelude.{◌≡◌, ℕ, ◌+◌, ◌-◌, ◌*◌, ◌<◌, ◌≤◌, List, map, false, length, slice_index_or}
 use Rattle.std.specs.List.{range_with_len}
 use Rattle.colbits.specs.Slice.{slice}
-use Rattle.types.specs.Kind.{int32}
+use Rattle.types.specs.declared.offset_width.OffsetWidth.{OffsetWidth}
+use Rattle.types.specs.OffsetWidth.{offset_type, size_of}
 use Rattle.types.specs.Number.{natural, number_at, is_negative}
 
 -- ---- as numbers
@@ -26,23 +27,24 @@ pub record AreOffsets (n : ℕ) (offsets : List ℕ) (most : ℕ) : Type 0 where
 
 -- ---- as bytes
 
--- The same where the offsets lie in bytes. Bytes that aren't there read as 0, so that at length 0 no bytes stand for the one offset 0.
-abbrev pub start_at : List ℕ → ℕ → ℕ
-start_at bytes j = natural (number_at int32 bytes j)
+-- The same where the offsets lie in bytes, each as wide as w says. Bytes that aren't there read as 0, so that at length 0 no
+-- bytes stand for the one offset 0.
+abbrev pub start_at : OffsetWidth → List ℕ → ℕ → ℕ
+start_at w bytes j = natural (number_at (offset_type w) bytes j)
 
-abbrev pub length_at : List ℕ → ℕ → ℕ
-length_at bytes j = start_at bytes (j + 1) - start_at bytes j
+abbrev pub length_at : OffsetWidth → List ℕ → ℕ → ℕ
+length_at w bytes j = start_at w bytes (j + 1) - start_at w bytes j
 
-abbrev pub slot_at : {A : Type 0} → List ℕ → List A → ℕ → List A
-slot_at bytes values j = slice values (start_at bytes j) (length_at bytes j)
+abbrev pub slot_at : {A : Type 0} → OffsetWidth → List ℕ → List A → ℕ → List A
+slot_at w bytes values j = slice values (start_at w bytes j) (length_at w bytes j)
 
 -- The offsets of n slots from slot `start` on, as numbers.
-abbrev pub offsets_in : List ℕ → ℕ → ℕ → List ℕ
-offsets_in bytes start n = map (start_at bytes) (range_with_len start (n + 1))
+abbrev pub offsets_in : OffsetWidth → List ℕ → ℕ → ℕ → List ℕ
+offsets_in w bytes start n = map (start_at w bytes) (range_with_len start (n + 1))
 
 -- Bytes that are offsets of n slots, none of them negative.
-pub record AreOffsetBytes (n : ℕ) (bytes : List ℕ) (most : ℕ) : Type 0 where
-  pub size : 4 * (n + 1) ≤ length bytes
-  pub counted : (j : ℕ) → j ≤ n → is_negative (number_at int32 bytes j) ≡ false
-  pub rising : (j : ℕ) → j < n → start_at bytes j ≤ start_at bytes (j + 1)
-  pub last : start_at bytes n ≤ most
+pub record AreOffsetBytes (w : OffsetWidth) (n : ℕ) (bytes : List ℕ) (most : ℕ) : Type 0 where
+  pub size : (n + 1) * size_of w ≤ length bytes
+  pub counted : (j : ℕ) → j ≤ n → is_negative (number_at (offset_type w) bytes j) ≡ false
+  pub rising : (j : ℕ) → j < n → start_at w bytes j ≤ start_at w bytes (j + 1)
+  pub last : start_at w bytes n ≤ most

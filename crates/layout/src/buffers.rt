@@ -7,11 +7,11 @@ ghost use Rattle.colbits.specs.Slice.{slice};
 ghost use Rattle.layout.specs.Inner.{HasOffsets};
 ghost use Rattle.layout.specs.Layout.{bytes_at, buffer_at, is_valid};
 ghost use Rattle.layout.specs.Offsets.{slot_at, start_at};
-ghost use Rattle.types.specs.Kind.{int32};
 ghost use Rattle.types.specs.Number.{number_at};
+ghost use Rattle.types.specs.OffsetWidth.{offset_type};
 
 use colbits::Buffer;
-use types::int32_at;
+use types::OffsetWidth;
 
 /// The bytes of the buffer at a position of the layout, if it has one.
 pub fn buffer_at(buffers: &[Option<Buffer>], position: usize) -> Option<&[u8]>
@@ -47,33 +47,33 @@ pub fn is_valid(buffers: &[Option<Buffer>], j: usize) -> bool
 
 /// Offset `j` of a text or list array: 0 where there are no bytes at all.
 #[inline(always)]
-pub(crate) fn offset_in(offsets: &[u8], j: usize) -> i32
-    requires { HasOffsets j offsets.now }
-    ensures { result ≡ number_at int32 offsets.now j }
+pub(crate) fn offset_in(width: OffsetWidth, offsets: &[u8], j: usize) -> i64
+    requires { HasOffsets width j offsets.now }
+    ensures { result ≡ number_at (offset_type width) offsets.now j }
 {
     if offsets.is_empty() {
         0
     } else {
-        int32_at(offsets, j)
+        width.at(offsets, j)
     }
 }
 
 /// Where slot `j` of a text or list array begins, 0 for a negative offset.
 #[inline(always)]
-pub(crate) fn start_in(offsets: &[u8], j: usize) -> usize
-    requires { HasOffsets j offsets.now }
-    ensures { result ≡ start_at offsets.now j }
+pub(crate) fn start_in(width: OffsetWidth, offsets: &[u8], j: usize) -> usize
+    requires { HasOffsets width j offsets.now }
+    ensures { result ≡ start_at width offsets.now j }
 {
-    let offset = offset_in(offsets, j);
+    let offset = offset_in(width, offsets, j);
     if offset < 0 { 0 } else { offset as usize }
 }
 
 /// The same, by the buffers of the array.
-pub(crate) fn start_at(buffers: &[Option<Buffer>], j: usize) -> usize
-    requires { HasOffsets j (bytes_at buffers.now 1) }
-    ensures { result ≡ start_at (bytes_at buffers.now 1) j }
+pub(crate) fn start_at(width: OffsetWidth, buffers: &[Option<Buffer>], j: usize) -> usize
+    requires { HasOffsets width j (bytes_at buffers.now 1) }
+    ensures { result ≡ start_at width (bytes_at buffers.now 1) j }
 {
-    start_in(bytes_at(buffers, 1), j)
+    start_in(width, bytes_at(buffers, 1), j)
 }
 
 /// The `len` bytes from `start` on, fewer where the bytes end before.
@@ -85,13 +85,13 @@ pub(crate) fn part(bytes: &[u8], start: usize, len: usize) -> &[u8]
 }
 
 /// The bytes of slot `j` of a text array.
-pub(crate) fn text_at(buffers: &[Option<Buffer>], j: usize) -> &[u8]
-    requires enough { HasOffsets (j + 1) (bytes_at buffers.now 1) }
+pub(crate) fn text_at(width: OffsetWidth, buffers: &[Option<Buffer>], j: usize) -> &[u8]
+    requires enough { HasOffsets width (j + 1) (bytes_at buffers.now 1) }
     requires short { j < 2147483648 }
     ensures { result.now
-        ≡ slot_at (bytes_at buffers.now 1) (bytes_at buffers.now 2) j }
+        ≡ slot_at width (bytes_at buffers.now 1) (bytes_at buffers.now 2) j }
 {
-    let start = start_at(buffers, j);
-    let end = start_at(buffers, j + 1);
+    let start = start_at(width, buffers, j);
+    let end = start_at(width, buffers, j + 1);
     part(bytes_at(buffers, 2), start, end.saturating_sub(start))
 }

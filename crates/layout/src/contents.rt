@@ -5,10 +5,11 @@ ghost use Rattle.std.specs.Prelude.{◌≡◌, ℕ, ◌+◌, ◌*◌, ◌<◌, �
 ghost use Rattle.std.specs.List.{count_by, list_any, range_with_len};
 ghost use Rattle.colbits.specs.Bit.{bit};
 ghost use Rattle.layout.specs.Inner.{HasOffsets, inner_children, inner_dictionary};
-ghost use Rattle.types.specs.Kind.{int32, kind_of};
-ghost use Rattle.layout.specs.Fault.{bad_code_row, bad_text_row, decreasing_row, does_count_differ, has_negative_offset, has_offsets, is_data_short, is_no_code, is_no_text, is_past_end, is_validity_short, least_row, null_count};
+ghost use Rattle.types.specs.Kind.{kind_of};
+ghost use Rattle.layout.specs.Fault.{bad_code_row, bad_text_row, decreasing_row, does_count_differ, has_negative_offset, is_data_short, is_no_code, is_no_text, is_past_end, is_validity_short, least_row, null_count};
 ghost use Rattle.layout.specs.Offsets.{slot_at};
 ghost use Rattle.types.specs.Number.{is_negative, number_at};
+ghost use Rattle.types.specs.OffsetWidth.{offset_type};
 ghost use Rattle.std.specs.Str.{is_utf8};
 ghost use Rattle.layout.specs.Layout.{buffer_at, bytes_at};
 
@@ -16,35 +17,35 @@ use crate::buffers::{buffer_at, bytes_at, is_valid, offset_in, start_at, start_i
 use crate::raw::RawArray;
 use crate::shapes::{child_length, entry_count};
 use colbits::{Bits, Buffer};
-use types::{DataType, int32_at};
+use types::{DataType, OffsetWidth, int32_at};
 
 /// Whether offset `j` is below 0.
 #[inline(always)]
-fn is_negative(offsets: &[u8], j: usize) -> bool
-    requires { HasOffsets j offsets.now }
-    ensures { result ≡ is_negative (number_at int32 offsets.now j) }
+fn is_negative(width: OffsetWidth, offsets: &[u8], j: usize) -> bool
+    requires { HasOffsets width j offsets.now }
+    ensures { result ≡ is_negative (number_at (offset_type width) offsets.now j) }
 {
-    offset_in(offsets, j) < 0
+    offset_in(width, offsets, j) < 0
 }
 
 /// Whether the offset after slot `j`'s is below it.
 #[inline(always)]
-fn is_decreasing(offsets: &[u8], j: usize) -> bool
-    requires enough { HasOffsets (j + 1) offsets.now }
+fn is_decreasing(width: OffsetWidth, offsets: &[u8], j: usize) -> bool
+    requires enough { HasOffsets width (j + 1) offsets.now }
     requires short { j < 2147483648 }
-    ensures { result ≡ int_lt (number_at int32 offsets.now (j + 1)) (number_at int32 offsets.now j) }
+    ensures { result ≡ int_lt (number_at (offset_type width) offsets.now (j + 1)) (number_at (offset_type width) offsets.now j) }
 {
-    offset_in(offsets, j + 1) < offset_in(offsets, j)
+    offset_in(width, offsets, j + 1) < offset_in(width, offsets, j)
 }
 
 /// Whether some offset of `n` slots is below 0.
-fn is_some_negative(offsets: &[u8], n: usize) -> bool
-    requires enough { HasOffsets n offsets.now }
+fn is_some_negative(width: OffsetWidth, offsets: &[u8], n: usize) -> bool
+    requires enough { HasOffsets width n offsets.now }
     requires short { n < 2147483648 }
-    ensures { result ≡ list_any (λ j. is_negative (number_at int32 offsets.now j)) (range_with_len 0 (n + 1)) }
+    ensures { result ≡ list_any (λ j. is_negative (number_at (offset_type width) offsets.now j)) (range_with_len 0 (n + 1)) }
 {
     for j in 0..n + 1 {
-        if is_negative(offsets, j) {
+        if is_negative(width, offsets, j) {
             return true;
         }
     }
@@ -52,14 +53,14 @@ fn is_some_negative(offsets: &[u8], n: usize) -> bool
 }
 
 /// The least slot that ends before it begins.
-fn least_decreasing(offsets: &[u8], n: usize) -> Option<usize>
-    requires enough { HasOffsets n offsets.now }
+fn least_decreasing(width: OffsetWidth, offsets: &[u8], n: usize) -> Option<usize>
+    requires enough { HasOffsets width n offsets.now }
     requires short { n < 2147483648 }
     ensures { result
-        ≡ least_row (λ j. int_lt (number_at int32 offsets.now (j + 1)) (number_at int32 offsets.now j)) n }
+        ≡ least_row (λ j. int_lt (number_at (offset_type width) offsets.now (j + 1)) (number_at (offset_type width) offsets.now j)) n }
 {
     for j in 0..n {
-        if is_decreasing(offsets, j) {
+        if is_decreasing(width, offsets, j) {
             return Some(j);
         }
     }
@@ -86,25 +87,25 @@ fn null_count(buffers: &[Option<Buffer>], n: usize) -> usize
 }
 
 /// Whether slot `j` is valid and its bytes aren't UTF-8.
-fn is_no_text(buffers: &[Option<Buffer>], j: usize) -> bool
-    requires enough { HasOffsets (j + 1) (bytes_at buffers.now 1) }
+fn is_no_text(width: OffsetWidth, buffers: &[Option<Buffer>], j: usize) -> bool
+    requires enough { HasOffsets width (j + 1) (bytes_at buffers.now 1) }
     requires short { j < 2147483648 }
-    ensures { result ≡ is_no_text buffers.now j }
+    ensures { result ≡ is_no_text width buffers.now j }
 {
-    is_valid(buffers, j) && !simdutf8::is_utf8(text_at(buffers, j))
+    is_valid(buffers, j) && !simdutf8::is_utf8(text_at(width, buffers, j))
 }
 
 /// The least of `n` slots that is no text.
-fn least_no_text(buffers: &[Option<Buffer>], n: usize) -> Option<usize>
-    requires enough { HasOffsets n (bytes_at buffers.now 1) }
+fn least_no_text(width: OffsetWidth, buffers: &[Option<Buffer>], n: usize) -> Option<usize>
+    requires enough { HasOffsets width n (bytes_at buffers.now 1) }
     requires short { n < 2147483648 }
-    ensures { result ≡ least_row (is_no_text buffers.now) n }
+    ensures { result ≡ least_row (is_no_text width buffers.now) n }
 {
-    if are_texts(bytes_at(buffers, 1), bytes_at(buffers, 2), n) {
+    if are_texts(width, bytes_at(buffers, 1), bytes_at(buffers, 2), n) {
         return None;
     }
     for j in 0..n {
-        if is_no_text(buffers, j) {
+        if is_no_text(width, buffers, j) {
             return Some(j);
         }
     }
@@ -113,17 +114,17 @@ fn least_no_text(buffers: &[Option<Buffer>], n: usize) -> Option<usize>
 
 /// Whether all bytes are UTF-8 as one text, and `n` slots begin and end between its characters: then each slot is a text,
 /// whether it is valid or not, and one pass over the bytes has told it.
-fn are_texts(offsets: &[u8], bytes: &[u8], n: usize) -> bool
-    requires enough { HasOffsets n offsets.now }
+fn are_texts(width: OffsetWidth, offsets: &[u8], bytes: &[u8], n: usize) -> bool
+    requires enough { HasOffsets width n offsets.now }
     requires short { n < 2147483648 }
-    ensures { IsTrue result → (j : ℕ) → j < n → is_utf8 (slot_at offsets.now bytes.now j) ≡ true }
+    ensures { IsTrue result → (j : ℕ) → j < n → is_utf8 (slot_at width offsets.now bytes.now j) ≡ true }
 {
     let Ok(text) = simdutf8::basic::from_utf8(bytes) else {
         return false;
     };
     let edges = n + 1;
     for edge in 0..edges {
-        if !text.is_char_boundary(start_in(offsets, edge)) {
+        if !text.is_char_boundary(start_in(width, offsets, edge)) {
             return false;
         }
     }
@@ -155,20 +156,16 @@ fn least_no_code(buffers: &[Option<Buffer>], entries: u64, n: usize) -> Option<u
     None
 }
 
-/// Whether arrays of the type have offsets.
-fn has_offsets(ty: &DataType) -> bool
-    ensures { result ≡ has_offsets (kind_of ty.now) }
-{
-    matches!(ty, DataType::Utf8 | DataType::List(_))
-}
-
 /// Whether some offset is below 0.
 pub(crate) fn has_negative_offset(ty: &DataType, n: usize, buffers: &[Option<Buffer>]) -> bool
     requires short { n < 2147483648 }
     requires enough { is_data_short (kind_of ty.now) n buffers.now ≡ false }
     ensures { result ≡ has_negative_offset (kind_of ty.now) n buffers.now }
 {
-    has_offsets(ty) && is_some_negative(bytes_at(buffers, 1), n)
+    match ty.offset_width() {
+        Some(width) => is_some_negative(width, bytes_at(buffers, 1), n),
+        None => false,
+    }
 }
 
 /// The least slot that ends before it begins.
@@ -177,10 +174,9 @@ pub(crate) fn decreasing_row(ty: &DataType, n: usize, buffers: &[Option<Buffer>]
     requires enough { is_data_short (kind_of ty.now) n buffers.now ≡ false }
     ensures { result ≡ decreasing_row (kind_of ty.now) n buffers.now }
 {
-    if has_offsets(ty) {
-        least_decreasing(bytes_at(buffers, 1), n)
-    } else {
-        None
+    match ty.offset_width() {
+        Some(width) => least_decreasing(width, bytes_at(buffers, 1), n),
+        None => None,
     }
 }
 
@@ -195,11 +191,14 @@ pub(crate) fn is_past_end(
     requires enough { is_data_short (kind_of ty.now) n buffers.now ≡ false }
     ensures { result ≡ is_past_end (kind_of ty.now) n buffers.now (inner_children children.now) }
 {
-    match ty {
-        DataType::Utf8 => bytes_at(buffers, 2).len() < start_at(buffers, n),
-        DataType::List(_) => child_length(children) < start_at(buffers, n) as u64,
-        _ => false,
-    }
+    let Some(width) = ty.offset_width() else {
+        return false;
+    };
+    let values = match ty.text_width() {
+        Some(_) => bytes_at(buffers, 2).len() as u64,
+        None => child_length(children),
+    };
+    values < start_at(width, buffers, n) as u64
 }
 
 /// Whether a null count is stated and isn't the number of slots that aren't valid.
@@ -219,10 +218,7 @@ pub(crate) fn bad_text_row(ty: &DataType, n: usize, buffers: &[Option<Buffer>]) 
     requires enough { is_data_short (kind_of ty.now) n buffers.now ≡ false }
     ensures { result ≡ bad_text_row (kind_of ty.now) n buffers.now }
 {
-    match ty {
-        DataType::Utf8 => least_no_text(buffers, n),
-        _ => None,
-    }
+    least_no_text(ty.text_width()?, buffers, n)
 }
 
 /// The least valid slot whose index names no entry of the dictionary.

@@ -9,15 +9,15 @@ ghost use Rattle.layout.specs.Layout.{bytes_at, buffer_at};
 use crate::buffers::{buffer_at, bytes_at};
 use crate::raw::RawArray;
 use colbits::Buffer;
-use types::{DataType, is_same};
+use types::{DataType, OffsetWidth, is_same};
 
 /// How many positions the layout of the type has.
 fn positions(ty: &DataType) -> usize
     ensures { result ≡ positions (kind_of ty.now) }
 {
-    match ty {
-        DataType::Utf8 => 3,
-        _ => 2,
+    match ty.text_width() {
+        Some(_) => 3,
+        None => 2,
     }
 }
 
@@ -54,11 +54,11 @@ pub(crate) fn is_validity_short(buffers: &[Option<Buffer>], n: usize) -> bool
 }
 
 /// Whether the offsets of `n` slots are fewer than one more. None may stand for the one offset 0.
-fn are_offsets_short(offsets: &[u8], n: usize) -> bool
+fn are_offsets_short(width: OffsetWidth, offsets: &[u8], n: usize) -> bool
     requires { n < 2147483648 }
-    ensures { result ≡ are_offsets_short n offsets.now }
+    ensures { result ≡ are_offsets_short width n offsets.now }
 {
-    offsets.len() < 4 * (n + 1) && !(n == 0 && offsets.is_empty())
+    offsets.len() < (n + 1) * width.bytes() && !(n == 0 && offsets.is_empty())
 }
 
 /// Whether the bytes behind the validity are fewer than `n` slots need.
@@ -70,7 +70,10 @@ pub(crate) fn is_data_short(ty: &DataType, n: usize, buffers: &[Option<Buffer>])
     match ty {
         DataType::Int(int) => bytes.len() < n * int.bits.bytes(),
         DataType::Bool => bytes.len() < bytes_for(n),
-        DataType::Utf8 | DataType::List(_) => are_offsets_short(bytes, n),
+        DataType::Utf8 | DataType::List(_) => are_offsets_short(OffsetWidth::Narrow, bytes, n),
+        DataType::LargeUtf8 | DataType::LargeList(_) => {
+            are_offsets_short(OffsetWidth::Wide, bytes, n)
+        }
         DataType::Dict => bytes.len() < n * 4,
     }
 }
@@ -105,7 +108,9 @@ pub(crate) fn do_parts_differ(
         ≡ do_parts_differ (kind_of ty.now) (inner_children children.now) (inner_dictionary dictionary.now) }
 {
     match ty {
-        DataType::List(item) => is_no_child(&item.ty, children) || dictionary.is_some(),
+        DataType::List(item) | DataType::LargeList(item) => {
+            is_no_child(&item.ty, children) || dictionary.is_some()
+        }
         DataType::Dict => !children.is_empty() || is_no_dictionary(dictionary),
         _ => !children.is_empty() || dictionary.is_some(),
     }

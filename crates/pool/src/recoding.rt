@@ -5,7 +5,7 @@ ghost use mathlib.Core.List.{IsPrefix};
 ghost use Rattle.arrays.specs.Kind as kind;
 ghost use Rattle.arrays.specs.Kind.{int32};
 ghost use Rattle.arrays.specs.Shown.{shown};
-ghost use Rattle.arrays.specs.Slot.{is_text};
+ghost use Rattle.arrays.specs.Slot.{is_recodable, is_text};
 ghost use Rattle.pool.specs.Codes.{code_item};
 ghost use Rattle.pool.specs.Texts.{firsts, texts_of, is_once, is_too_full};
 
@@ -21,7 +21,7 @@ use std::alloc::Global;
 /// than there are rows, an entry's text is looked up where a row names it first.
 #[tactic(auto, using(crate::proofs::PrefixLemmas::prefix_length, crate::proofs::PrefixLemmas::prefix_take))]
 pub fn recode(alloc: Global, view: &View<'_>, pool: &mut TextPool) -> Result<Array, PoolFault>
-    requires { is_text view.now.kind ≡ true }
+    requires { is_recodable view.now.kind ≡ true }
     ensures texts { OnOk result (pool.new ≡ firsts (pool.old ++ texts_of view.now.items)) }
     ensures fits { OnOk result (is_too_full (firsts (pool.old ++ texts_of view.now.items)) ≡ false) }
     ensures kind { IfOk result (λ a. a.kind ≡ kind.int int32) }

@@ -7,7 +7,7 @@ ghost use Rattle.pool.specs.Texts.{IsPoolFault, is_among, is_once, is_too_full, 
 ghost use Rattle.types.specs.Limits.{most_slots};
 
 use crate::fault::PoolFault;
-use arrays::{Array, BuildFault, TextBuilder};
+use arrays::{Array, BuildFault, OffsetWidth, TextBuilder};
 use colbits::NoMemory;
 use indexmap::IndexSet;
 use std::alloc::Global;
@@ -102,7 +102,12 @@ impl TextPool {
         ensures { IfOk result (λ d. d ≡ shown kind.utf8 (map item.text self.now)) }
     {
         let len = self.len();
-        let mut texts = TextBuilder::with_capacity(alloc, len, self.byte_len())?;
+        let mut texts = TextBuilder::with_capacity(
+            alloc,
+            OffsetWidth::Narrow,
+            len,
+            self.byte_len(),
+        )?;
         for code in 0..len {
             let text = self.text_of(code as u32);
             match texts.push(text) {

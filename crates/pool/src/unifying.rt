@@ -4,7 +4,7 @@ ghost use Rattle.std.specs.Prelude.{◌≡◌, ◌⊎◌, false, true, map, All,
 ghost use Rattle.arrays.specs.Item as item;
 ghost use Rattle.arrays.specs.Kind as kind;
 ghost use Rattle.arrays.specs.Shown.{shown};
-ghost use Rattle.arrays.specs.Slot.{is_text};
+ghost use Rattle.arrays.specs.Slot.{is_recodable};
 ghost use Rattle.pool.specs.Texts.{is_too_full};
 ghost use Rattle.pool.specs.Unified.{all_texts, codes_among};
 
@@ -17,7 +17,7 @@ use std::alloc::Global;
 /// One dictionary of the texts of some columns, in order of first appearance, and for each column its codes into it:
 /// null for null. It fails where the dictionary would be too full, and for want of memory.
 pub fn unify(alloc: Global, views: &[View<'_>]) -> Result<(Array, Vec<Array>), PoolFault>
-    requires { All (λ v. is_text v.kind ≡ true) views.now }
+    requires { All (λ v. is_recodable v.kind ≡ true) views.now }
     ensures dictionary { IfOk result (λ r. r.0 ≡ shown kind.utf8 (map item.text (all_texts views.now))) }
     ensures codes { IfOk result (λ r. r.1.items ≡ map (codes_among (all_texts views.now)) views.now) }
     ensures fits { OnOk result (is_too_full (all_texts views.now) ≡ false) }
@@ -31,7 +31,7 @@ pub fn unify(alloc: Global, views: &[View<'_>]) -> Result<(Array, Vec<Array>), P
 
 /// A pool of the texts of all columns, and each column's places in it.
 fn recode_all(alloc: Global, views: &[View<'_>]) -> Result<(TextPool, Vec<Array>), PoolFault>
-    requires { All (λ v. is_text v.kind ≡ true) views.now }
+    requires { All (λ v. is_recodable v.kind ≡ true) views.now }
     ensures texts { IfOk result (λ r. r.0 ≡ all_texts views.now) }
     ensures fits { OnOk result (is_too_full (all_texts views.now) ≡ false) }
     ensures codes { IfOk result (λ r. r.1.items ≡ map (codes_among (all_texts views.now)) views.now) }

@@ -14,8 +14,8 @@ use Rattle.query.specs.declared.sort.Sort.TheVariants.{Literal, Int, Truth, Text
 abbrev pub sort_of_kind : Kind → Sort
 sort_of_kind (kind.int t) = Int t
 sort_of_kind kind.boolean = Truth
-sort_of_kind kind.utf8 = Text
-sort_of_kind (kind.list k) = sort.List
+sort_of_kind (kind.texts w) = Text
+sort_of_kind (kind.lists w k) = sort.List
 sort_of_kind kind.dict = Text
 
 -- ---- literals

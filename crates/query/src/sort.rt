@@ -26,8 +26,8 @@ pub(crate) fn sort_of_type(ty: &DataType) -> Sort
     match ty {
         DataType::Int(int) => Sort::Int(*int),
         DataType::Bool => Sort::Truth,
-        DataType::Utf8 | DataType::Dict => Sort::Text,
-        DataType::List(_) => Sort::List,
+        DataType::Utf8 | DataType::LargeUtf8 | DataType::Dict => Sort::Text,
+        DataType::List(_) | DataType::LargeList(_) => Sort::List,
     }
 }
 

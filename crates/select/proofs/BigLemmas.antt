@@ -4,6 +4,9 @@ use Rattle.std.specs.Prelude.{slice_get}
 use Rattle.std.proofs.lemmas.Bool.{ltb-true, lt-ltb}
 use Rattle.std.proofs.lemmas.List.{take-map}
 use Rattle.std.proofs.lemmas.List.Sums.{sum_by-take-le}
+use Rattle.types.specs.declared.offset_width.OffsetWidth.{OffsetWidth}
+use Rattle.types.specs.declared.offset_width.OffsetWidth.TheVariants.{Narrow, Wide}
+use Rattle.types.specs.OffsetWidth.{is_full}
 use Rattle.arrays.specs.Item.{Item}
 use Rattle.arrays.specs.Lengths.{IsBuildFault, is_past, text_bytes, text_length}
 use Rattle.arrays.specs.declared.builder.fault.BuildFault.{BuildFault}
@@ -16,14 +19,18 @@ use Rattle.types.specs.Limits.{most_slots}
 pub past-more : (m n : ℕ) → m ≤ n → is_past m ≡ true → is_past n ≡ true
 past-more m n le past = lt-ltb most_slots n (omega (arith, le, ltb-true most_slots m past))
 
+pub full-grows : (w : OffsetWidth) (m n : ℕ) → m ≤ n → is_full w m ≡ true → is_full w n ≡ true
+full-grows Narrow m n le full = past-more m n le full
+full-grows Wide m n le full = cc
+
 -- texts of the first rows are too many only where those of all are
-pub past-picked : (items : List Item) (picks : List (Option ℕ)) (j : ℕ) (pick : Option ℕ) (old : List Item) (x : Item) → slice_get picks j ≡ Some pick
-    → old ≡ picked items (take j picks) → x ≡ picked_at items pick → is_past (text_bytes (old ++ x ∷ [])) ≡ true → is_past (text_bytes (picked items picks)) ≡ true
-past-picked items picks j pick old x at is of past =
+pub full-picked : (w : OffsetWidth) (items : List Item) (picks : List (Option ℕ)) (j : ℕ) (pick : Option ℕ) (old : List Item) (x : Item) → slice_get picks j ≡ Some pick
+    → old ≡ picked items (take j picks) → x ≡ picked_at items pick → is_full w (text_bytes (old ++ x ∷ [])) ≡ true → is_full w (text_bytes (picked items picks)) ≡ true
+full-picked w items picks j pick old x at is of full =
     let front : old ++ x ∷ [] ≡ take (j + 1) (picked items picks) =
     ap (λ l. l ++ x ∷ []) is ∙ ap (λ y. picked items (take j picks) ++ y ∷ []) of ∙ sym (picked-more items picks j pick at) ∙ sym (take-map (picked_at items) (j + 1) picks) in
-    past-more (text_bytes (old ++ x ∷ [])) (text_bytes (picked items picks))
-    (omega (arith, ap text_bytes front, sum_by-take-le text_length (picked items picks) (j + 1))) past
+    full-grows w (text_bytes (old ++ x ∷ [])) (text_bytes (picked items picks))
+    (omega (arith, ap text_bytes front, sum_by-take-le text_length (picked items picks) (j + 1))) full
 
 -- a builder's fault, told of all
 pub told_of_all : {T : Type 0} (r : Result T SelectFault) (b : BuildFault) (one all : Bool) → IsErrAnd r (λ e. e ≡ of_build b)

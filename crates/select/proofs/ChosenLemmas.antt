@@ -5,7 +5,8 @@ use Rattle.std.proofs.lemmas.List.{length-map}
 use Rattle.arrays.specs.Dictionary.{codes_of, dictionary_of, encoded, entries_shown, is_code, looked_up}
 use Rattle.arrays.specs.Item.{Item, null}
 use Rattle.arrays.specs.Kind as kind
-use Rattle.arrays.specs.Kind.{Kind, same_kind, int32}
+use Rattle.types.specs.declared.offset_width.OffsetWidth.{OffsetWidth}
+use Rattle.arrays.specs.Kind.{Kind, item_kind, same_kind, int32}
 use Rattle.arrays.specs.Seen.{Entries, Seen}
 use Rattle.arrays.specs.Shown.{shown, validity_of}
 use Rattle.select.specs.declared.fault.SelectFault.{SelectFault}
@@ -17,23 +18,23 @@ use Rattle.select.proofs.ListLemmas.{get_or-map-any}
 pub kind-chosen : (k : Kind) (f : List Item → List Item) (s : Seen) → (chosen k f s).kind ≡ k
 kind-chosen (kind.int t) f s = refl
 kind-chosen kind.boolean f s = refl
-kind-chosen kind.utf8 f s = refl
-kind-chosen (kind.list k) f s = refl
+kind-chosen (kind.texts w) f s = refl
+kind-chosen (kind.lists w k) f s = refl
 kind-chosen kind.dict f s = refl
 
 pub items-chosen : (k : Kind) (f : List Item → List Item) (s : Seen) → (chosen k f s).items ≡ f s.items
 items-chosen (kind.int t) f s = refl
 items-chosen kind.boolean f s = refl
-items-chosen kind.utf8 f s = refl
-items-chosen (kind.list k) f s = refl
+items-chosen (kind.texts w) f s = refl
+items-chosen (kind.lists w k) f s = refl
 items-chosen kind.dict f s = refl
 
 -- the same rows, chosen in two ways
 pub chosen-same : (k : Kind) (f g : List Item → List Item) (s : Seen) → f s.items ≡ g s.items → (same_kind k kind.dict ≡ true → f s.codes ≡ g s.codes) → chosen k f s ≡ chosen k g s
 chosen-same (kind.int t) f g s items codes = ap (shown (kind.int t)) items
 chosen-same kind.boolean f g s items codes = ap (shown kind.boolean) items
-chosen-same kind.utf8 f g s items codes = ap (shown kind.utf8) items
-chosen-same (kind.list k) f g s items codes = ap (shown (kind.list k)) items
+chosen-same (kind.texts w) f g s items codes = ap (shown (kind.texts w)) items
+chosen-same (kind.lists w k) f g s items codes = ap (shown (kind.lists w k)) items
 chosen-same kind.dict f g s items codes =
     ap (coded_as s.entries (f s.codes)) items ∙ ap (λ (c : List Item). coded_as s.entries c (g s.items)) (codes refl)
   where
@@ -81,8 +82,12 @@ codes-picked n codes picks all within k d below =
     one None h = refl
     one (Some i) h = all i null h
 
-pub list-injective : (k l : Kind) → kind.list k ≡ kind.list l → k ≡ l
-list-injective k l h = cc
+pub item-is : (k l : Kind) → Some k ≡ Some l → k ≡ l
+item-is k l h = cc
+
+-- a list's kind, by the width of its offsets and its items
+pub list-kind : (w : OffsetWidth) (k j l : Kind) → kind.lists w j ≡ k → item_kind k ≡ Some l → k ≡ kind.lists w l
+list-kind w k j l is item = sym is ∙ ap (kind.lists w) (item-is j l (ap item_kind is ∙ item))
 
 -- rows picked by a mask are those that it keeps
 pub chosen-kept : (s mask : Seen) (picks : List (Option ℕ)) (r : Result Seen SelectFault) → length mask.items ≡ length s.items

@@ -2,6 +2,7 @@
 use Rattle.std.proofs.Common.{◌≡◌, ◌∙◌, ℕ, List, length, map, Option, ap, sym}
 use Rattle.std.specs.Prelude.{All}
 use Rattle.arrays.specs.Item.{Item}
+use Rattle.types.specs.declared.offset_width.OffsetWidth.{OffsetWidth}
 use Rattle.arrays.specs.Kind as kind
 use Rattle.arrays.specs.Lengths.{cut, inner_items, list_length, total}
 use Rattle.arrays.specs.Seen.{Seen}
@@ -23,14 +24,15 @@ total_finished child made items rows lengths lengths_are rows_are is =
 pub kind_finished : (child made : Seen) (rows : List (Option ℕ)) → made ≡ chosen child.kind (λ xs. picked xs rows) child → made.kind ≡ child.kind
 kind_finished child made rows is = ap (λ (s : Seen). s.kind) is ∙ kind-chosen child.kind (λ xs. picked xs rows) child
 
-pub lists_finished : (offsets : List ℕ) (s child made : Seen) (picks rows lengths : List (Option ℕ)) → HasLists offsets child s → All (IsPick (length s.items)) picks
+pub lists_finished : (w v : OffsetWidth) (offsets : List ℕ) (s child made : Seen) (picks rows lengths : List (Option ℕ)) → HasLists offsets child s → s.kind ≡ kind.lists w child.kind → v ≡ w → All (IsPick (length s.items)) picks
     → lengths ≡ map list_length (picked s.items picks) → picked child.items rows ≡ inner_items (picked s.items picks) → made ≡ chosen child.kind (λ xs. picked xs rows) child
-    → shown (kind.list made.kind) (cut lengths made.items) ≡ chosen s.kind (λ xs. picked xs picks) s
-lists_finished offsets s child made picks rows lengths has within lengths_are rows_are is =
+    → shown (kind.lists v made.kind) (cut lengths made.items) ≡ chosen s.kind (λ xs. picked xs picks) s
+lists_finished w v offsets s child made picks rows lengths has kind_is same within lengths_are rows_are is =
     let items = picked s.items picks in
     let held : made.items ≡ inner_items items = ap (λ (s : Seen). s.items) is ∙ items-chosen child.kind (λ xs. picked xs rows) child ∙ rows_are in
-    ap (λ k. shown (kind.list k) (cut lengths made.items)) (kind_finished child made rows is)
-    ∙ ap (λ l. shown (kind.list child.kind) (cut l made.items)) lengths_are
-    ∙ ap (λ l. shown (kind.list child.kind) (cut (map list_length items) l)) held
-    ∙ ap (shown (kind.list child.kind)) (cut-again items (lists-picked offsets child s picks has within))
-    ∙ ap (λ k. chosen k (λ xs. picked xs picks) s) (sym has.kind)
+    ap (λ u. shown (kind.lists u made.kind) (cut lengths made.items)) same
+    ∙ ap (λ k. shown (kind.lists w k) (cut lengths made.items)) (kind_finished child made rows is)
+    ∙ ap (λ l. shown (kind.lists w child.kind) (cut l made.items)) lengths_are
+    ∙ ap (λ l. shown (kind.lists w child.kind) (cut (map list_length items) l)) held
+    ∙ ap (shown (kind.lists w child.kind)) (cut-again items (lists-picked offsets child s picks has within))
+    ∙ ap (λ k. chosen k (λ xs. picked xs picks) s) (sym kind_is)

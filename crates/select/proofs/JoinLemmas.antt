@@ -10,7 +10,10 @@ use Rattle.std.proofs.lemmas.Option.{slice_get-get_or}
 use Rattle.std.proofs.lemmas.Result.{IfErr-weaker}
 use Rattle.arrays.specs.Item.{Item, null}
 use Rattle.arrays.specs.Kind as kind
-use Rattle.arrays.specs.Kind.{Kind, same_kind}
+use Rattle.types.specs.declared.offset_width.OffsetWidth.{OffsetWidth}
+use Rattle.types.specs.OffsetWidth.{is_full}
+use Rattle.arrays.specs.Kind.{Kind, item_kind, same_kind}
+use Rattle.select.proofs.ChosenLemmas.{item-is}
 use Rattle.arrays.specs.Lengths.{cut, inner_items, is_past, is_too_big, items_in, joined_items, list_length, text_bytes, text_length, total}
 use Rattle.arrays.specs.Seen.{Seen}
 use Rattle.arrays.specs.Shown.{shown}
@@ -20,7 +23,7 @@ use Rattle.select.specs.Fault.{IsFull}
 use Rattle.select.specs.Joined.{concat_fault, is_content_too_big, joined, kind_of_first}
 use Rattle.select.specs.declared.fault.SelectFault.{SelectFault}
 use Rattle.select.specs.declared.fault.SelectFault.TheVariants.{TypesDiffer}
-use Rattle.select.proofs.BigLemmas.{past-more}
+use Rattle.select.proofs.BigLemmas.{full-grows, past-more}
 use Rattle.select.proofs.ListLemmas.{cut-again, total-lengths}
 use Rattle.select.proofs.PickLemmas.{take-one}
 
@@ -50,11 +53,11 @@ front-weighs : {A : Type 0} (w : A → ℕ) (before items : List A) (i : ℕ) �
 front-weighs w before items i =
     omega (arith, sum_by-append w before (take i items), sum_by-append w before items, sum_by-take-le w items i)
 
-pub past-pushed : (items : List Item) (i : ℕ) (x : Item) (before old : List Item) → slice_get items i ≡ Some x
-    → old ≡ before ++ take i items → is_past (text_bytes (old ++ x ∷ [])) ≡ true → is_past (text_bytes (before ++ items)) ≡ true
-past-pushed items i x before old at is past =
+pub full-pushed : (w : OffsetWidth) (items : List Item) (i : ℕ) (x : Item) (before old : List Item) → slice_get items i ≡ Some x
+    → old ≡ before ++ take i items → is_full w (text_bytes (old ++ x ∷ [])) ≡ true → is_full w (text_bytes (before ++ items)) ≡ true
+full-pushed w items i x before old at is full =
     let front = pushed-more items i x before old (old ++ x ∷ []) at is refl in
-    past-more (text_bytes (old ++ x ∷ [])) (text_bytes (before ++ items)) (omega (arith, ap text_bytes front, front-weighs text_length before items (i + 1))) past
+    full-grows w (text_bytes (old ++ x ∷ [])) (text_bytes (before ++ items)) (omega (arith, ap text_bytes front, front-weighs text_length before items (i + 1))) full
 
 -- lengths that are too many are so among all
 pub past-lengths : (items : List Item) (i : ℕ) (before old : List (Option ℕ)) (y : Option ℕ) → i < length items
@@ -107,12 +110,12 @@ past-column columns k s old below at is past =
     (omega (arith, ap total front, sum_by-append (λ (l : Option ℕ). unwrap_or l 0) (old ++ map list_length s.items) rest, total-lengths (joined_items columns))) past
 
 -- texts with the next column's that are too long are so among all
-pub past-texts : (columns : List Seen) (k : ℕ) (s : Seen) (old : List Item) → k < length columns → s ≡ get_or columns k s
-    → old ++ joined_items (drop k columns) ≡ joined_items columns → is_past (text_bytes (old ++ s.items)) ≡ true → is_past (text_bytes (joined_items columns)) ≡ true
-past-texts columns k s old below at is past =
+pub full-texts : (w : OffsetWidth) (columns : List Seen) (k : ℕ) (s : Seen) (old : List Item) → k < length columns → s ≡ get_or columns k s
+    → old ++ joined_items (drop k columns) ≡ joined_items columns → is_full w (text_bytes (old ++ s.items)) ≡ true → is_full w (text_bytes (joined_items columns)) ≡ true
+full-texts w columns k s old below at is full =
     let rest = joined_items (drop (k + 1) columns) in
     let front = front-of (λ (x : Seen). x.items) columns k s old (joined_items columns) below at is in
-    past-more (text_bytes (old ++ s.items)) (text_bytes (joined_items columns)) (omega (arith, ap text_bytes front, sum_by-append text_length (old ++ s.items) rest)) past
+    full-grows w (text_bytes (old ++ s.items)) (text_bytes (joined_items columns)) (omega (arith, ap text_bytes front, sum_by-append text_length (old ++ s.items) rest)) full
 
 -- ---- too much of one column is too much of all
 
@@ -137,9 +140,9 @@ pub too_big-around : (k : Kind) (before items after : List Item) → is_too_big 
 too_big-around (kind.int t) before items after h = cc
 too_big-around kind.boolean before items after h = cc
 too_big-around kind.dict before items after h = cc
-too_big-around kind.utf8 before items after h =
-    past-more (text_bytes items) (text_bytes (before ++ (items ++ after))) (omega (arith, sum_by-append text_length before (items ++ after), sum_by-append text_length items after)) h
-too_big-around (kind.list k) before items after h =
+too_big-around (kind.texts w) before items after h =
+    full-grows w (text_bytes items) (text_bytes (before ++ (items ++ after))) (omega (arith, sum_by-append text_length before (items ++ after), sum_by-append text_length items after)) h
+too_big-around (kind.lists w k) before items after h =
     let all = before ++ (items ++ after) in
     let inner = inner-around before items after in
     elim (either (is_past (length (inner_items items))) (is_too_big k (inner_items items)) h) [
@@ -176,6 +179,10 @@ All-one : {A : Type 0} (P : A → Type 0) (x : A) → P x → All P (x ∷ [])
 All-one P x h Rattle.std.proofs.Common.zero d below = h
 All-one P x h (Rattle.std.proofs.Common.suc k) d below = absurd (omega (arith, below))
 
+-- the kind of each of columns of lists
+pub item-here : (kind : Kind) (columns : List Seen) (k : ℕ) (s : Seen) → k < length columns → s ≡ get_or columns k s → All (λ (c : Seen). item_kind c.kind ≡ Some kind) columns → item_kind s.kind ≡ Some kind
+item-here kind columns k s below at all = ap (λ (c : Seen). item_kind c.kind) at ∙ all k s below
+
 pub AreChildren-more : (kind : Kind) (columns children more : List Seen) (k : ℕ) (s child : Seen) → k < length columns → s ≡ get_or columns k s
     → AreChildren kind (take k columns) children → IsChild s child → child.kind ≡ kind → more ≡ children ++ child ∷ [] → AreChildren kind (take (k + 1) columns) more
 AreChildren-more kind columns children more k s child below at are is same more_is =
@@ -200,15 +207,15 @@ AreChildren-more kind columns children more k s child below at are is same more_
 pub joined-shown : (k : Kind) (columns : List Seen) → same_kind k kind.dict ≡ false → joined k columns ≡ shown k (joined_items columns)
 joined-shown (kind.int t) columns h = refl
 joined-shown kind.boolean columns h = refl
-joined-shown kind.utf8 columns h = refl
-joined-shown (kind.list k) columns h = refl
+joined-shown (kind.texts w) columns h = refl
+joined-shown (kind.lists w k) columns h = refl
 joined-shown kind.dict columns h = cc
 
 pub content-shown : (k : Kind) (columns : List Seen) → same_kind k kind.dict ≡ false → is_content_too_big k columns ≡ is_too_big k (joined_items columns)
 content-shown (kind.int t) columns h = refl
 content-shown kind.boolean columns h = refl
-content-shown kind.utf8 columns h = refl
-content-shown (kind.list k) columns h = refl
+content-shown (kind.texts w) columns h = refl
+content-shown (kind.lists w k) columns h = refl
 content-shown kind.dict columns h = cc
 
 pub first-kind : (columns : List Seen) (s : Seen) → 1 ≤ length columns → s ≡ get_or columns 0 s → kind_of_first columns ≡ s.kind
@@ -252,9 +259,17 @@ child-shown k j columns parts children child are some same kind_is is =
     ∙ joined-shown k children (are.inner some).no_dict
     ∙ ap (shown k) are.items
 
-pub child-too_big : (k j : Kind) (columns parts children : List Seen) → AreChildren k columns children → 1 ≤ length columns → parts ≡ children → j ≡ k
-    → is_content_too_big j parts ≡ true → is_content_too_big (kind.list k) columns ≡ true
-child-too_big k j columns parts children are some same kind_is big =
+-- what is too big of lists, by the kind of their items
+pub too_big-list : (k l : Kind) (items : List Item) → item_kind k ≡ Some l → is_too_big k items ≡ (is_past (length (inner_items items)) || is_too_big l (inner_items items))
+too_big-list (kind.int t) l items h = cc
+too_big-list kind.boolean l items h = cc
+too_big-list (kind.texts w) l items h = cc
+too_big-list kind.dict l items h = cc
+too_big-list (kind.lists w k) l items h = ap (λ j. is_past (length (inner_items items)) || is_too_big j (inner_items items)) (item-is k l h)
+
+pub child-too_big : (w : OffsetWidth) (k j : Kind) (columns parts children : List Seen) → AreChildren k columns children → 1 ≤ length columns → parts ≡ children → j ≡ k
+    → is_content_too_big j parts ≡ true → is_content_too_big (kind.lists w k) columns ≡ true
+child-too_big w k j columns parts children are some same kind_is big =
     or-right (is_past (length (inner_items (joined_items columns)))) (is_too_big k (inner_items (joined_items columns)))
     (ap (is_too_big k) (sym are.items)
     ∙ sym (content-shown k children (are.inner some).no_dict)
@@ -262,10 +277,11 @@ child-too_big k j columns parts children are some same kind_is big =
     ∙ ap (λ i. is_content_too_big i parts) (sym kind_is)
     ∙ big)
 
-pub lists-joined : (k : Kind) (columns children : List Seen) (lengths : List (Option ℕ)) (child : Seen) → AreChildren k columns children → lengths ≡ map list_length (joined_items columns)
-    → child ≡ shown k (inner_items (joined_items columns)) → shown (kind.list child.kind) (cut lengths child.items) ≡ joined (kind.list k) columns
-lists-joined k columns children lengths child are lengths_are is =
+pub lists-joined : (w v : OffsetWidth) (k : Kind) (columns children : List Seen) (lengths : List (Option ℕ)) (child : Seen) → AreChildren k columns children → v ≡ w → lengths ≡ map list_length (joined_items columns)
+    → child ≡ shown k (inner_items (joined_items columns)) → shown (kind.lists v child.kind) (cut lengths child.items) ≡ joined (kind.lists w k) columns
+lists-joined w v k columns children lengths child are same lengths_are is =
     let items = joined_items columns in
-    ap (λ (q : Seen). shown (kind.list q.kind) (cut lengths q.items)) is
-    ∙ ap (λ l. shown (kind.list k) (cut l (inner_items items))) lengths_are
-    ∙ ap (shown (kind.list k)) (cut-again items are.lists)
+    ap (λ u. shown (kind.lists u child.kind) (cut lengths child.items)) same
+    ∙ ap (λ (q : Seen). shown (kind.lists w q.kind) (cut lengths q.items)) is
+    ∙ ap (λ l. shown (kind.lists w k) (cut l (inner_items items))) lengths_are
+    ∙ ap (shown (kind.lists w k)) (cut-again items are.lists)

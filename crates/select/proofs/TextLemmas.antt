@@ -7,7 +7,9 @@ use Rattle.std.proofs.lemmas.List.{map-append, length-map}
 use Rattle.std.proofs.lemmas.List.Sums.{sum_by-cons, sum_by_push}
 use Rattle.std.proofs.lemmas.Option.{get_or_from_slice_get}
 use Rattle.std.proofs.lemmas.Simd.{map-map}
-use Rattle.types.specs.Kind.{int32}
+use Rattle.types.specs.declared.offset_width.OffsetWidth.{OffsetWidth}
+use Rattle.types.specs.declared.offset_width.OffsetWidth.TheVariants.{Narrow, Wide}
+use Rattle.types.specs.OffsetWidth.{is_full, most_of, offset_type}
 use Rattle.types.specs.Number.{bytes_of_number}
 use Rattle.arrays.specs.FromParts.{AreTexts, show_texts}
 use Rattle.arrays.specs.Growing.{AreLaid, AreTextsOf, IsText, cut_texts}
@@ -26,7 +28,7 @@ use Rattle.arrays.proofs.PartLemmas.{item_slot}
 use Rattle.select.specs.Picked.{picked, picked_at, IsPick}
 use Rattle.select.specs.Stored.{is_stored}
 use Rattle.select.specs.Texts.{AreOffsetsOf, all_bytes, bytes_in, is_held, text_size}
-use Rattle.select.proofs.BigLemmas.{past-picked}
+use Rattle.select.proofs.BigLemmas.{full-picked}
 use Rattle.select.proofs.ListLemmas.{drop-front, get_or-map-any, take-front}
 use Rattle.select.proofs.PickLemmas.{by_place}
 use Rattle.types.specs.Limits.{most_slots}
@@ -41,16 +43,16 @@ sized_length : (o : Option (List ℕ)) → unwrap_or (text_size (item_of_text o)
 sized_length None = refl
 sized_length (Some t) = refl
 
-pub offsets-none : (offsets : List ℕ) → offsets ≡ 0 ∷ 0 ∷ 0 ∷ 0 ∷ [] → AreOffsetsOf [] offsets 0
-offsets-none offsets is = record { fresh = fresh-none [] offsets refl is; sizes = lengths-none [] offsets refl }
+pub offsets-none : (w : OffsetWidth) (offsets : List ℕ) → offsets ≡ bytes_of_number (offset_type w) (pos 0) → AreOffsetsOf w [] offsets 0
+offsets-none w offsets is = record { fresh = fresh-none w [] offsets refl is; sizes = lengths-none w [] offsets refl }
 
-pub offsets-more : (items longer : List Item) (offsets more : List ℕ) (end size : ℕ) (o : Option (List ℕ)) (x : Item) → AreOffsetsOf items offsets end → x ≡ item_of_text o → longer ≡ items ++ x ∷ []
-    → size ≡ text_length x → end + size ≤ most_slots → more ≡ offsets ++ bytes_of_number int32 (pos (end + size)) → AreOffsetsOf longer more (end + size)
-offsets-more items longer offsets more end size o x are is longer_is size_is short more_is =
+pub offsets-more : (w : OffsetWidth) (items longer : List Item) (offsets more : List ℕ) (end size : ℕ) (o : Option (List ℕ)) (x : Item) → AreOffsetsOf w items offsets end → x ≡ item_of_text o → longer ≡ items ++ x ∷ []
+    → size ≡ text_length x → end + size ≤ most_of w → more ≡ offsets ++ bytes_of_number (offset_type w) (pos (end + size)) → AreOffsetsOf w longer more (end + size)
+offsets-more w items longer offsets more end size o x are is longer_is size_is short more_is =
     let slot = text_size (item_of_text o) in
     let flags : map is_held longer ≡ map is_held items ++ is_held (item_of_text o) ∷ [] =
     ap (map is_held) longer_is ∙ map-append is_held items (x ∷ []) ∙ ap (λ y. map is_held items ++ is_held y ∷ []) is in
-    let next = grown (map is_held items) (map is_held longer) offsets more end size (is_held (item_of_text o)) (map text_size items) slot are.sizes are.fresh (held_sized o)
+    let next = grown w (map is_held items) (map is_held longer) offsets more end size (is_held (item_of_text o)) (map text_size items) slot are.sizes are.fresh (held_sized o)
     (size_is ∙ ap text_length is ∙ sym (sized_length o)) short more_is flags in
     record {
       fresh = next.fresh_still;
@@ -64,6 +66,11 @@ bytes-more items longer bytes more x is longer_is more_is =
     ∙ ap (λ b. all_bytes items ++ b) (sym (append-nil (bytes_in x)))
     ∙ sym (flat_map-append bytes_in items (x ∷ []))
     ∙ ap all_bytes (sym longer_is)
+
+-- no offset is past what wide ones count
+pub most-counted : (w : OffsetWidth) (n : ℕ) → n ≤ most_of w → n ≤ most_of Wide
+most-counted Narrow n h = omega arith
+most-counted Wide n h = h
 
 -- ---- what texts are
 
@@ -150,16 +157,16 @@ sizes_bytes [] = refl
 sizes_bytes (x ∷ xs) =
     omega (arith, sum_by-cons text_length x xs, sum_by-cons (λ (o : Option ℕ). unwrap_or o 0) (text_size x) (map text_size xs), length_size x, sizes_bytes xs)
 
-pub end-bytes : (items : List Item) (offsets : List ℕ) (end : ℕ) → AreOffsetsOf items offsets end → text_bytes items ≡ end
-end-bytes items offsets end are = sizes_bytes items ∙ ap total (sym are.sizes) ∙ total-fresh (map is_held items) offsets end are.fresh
+pub end-bytes : (w : OffsetWidth) (items : List Item) (offsets : List ℕ) (end : ℕ) → AreOffsetsOf w items offsets end → text_bytes items ≡ end
+end-bytes w items offsets end are = sizes_bytes items ∙ ap total (sym are.sizes) ∙ total-fresh w (map is_held items) offsets end are.fresh
 
 -- texts that are too many with one more are so among all
-pub past-offsets : (items : List Item) (picks : List (Option ℕ)) (j : ℕ) (pick : Option ℕ) (offsets : List ℕ) (end size : ℕ) (x : Item) → slice_get picks j ≡ Some pick
-    → AreOffsetsOf (picked items (take j picks)) offsets end → x ≡ picked_at items pick → size ≡ text_length x → most_slots < end + size → is_past (text_bytes (picked items picks)) ≡ true
-past-offsets items picks j pick offsets end size x at are is size_is past =
+pub full-offsets : (w : OffsetWidth) (items : List Item) (picks : List (Option ℕ)) (j : ℕ) (pick : Option ℕ) (offsets : List ℕ) (end size : ℕ) (x : Item) → slice_get picks j ≡ Some pick
+    → AreOffsetsOf w (picked items (take j picks)) offsets end → x ≡ picked_at items pick → size ≡ text_length x → is_full w (end + size) ≡ true → is_full w (text_bytes (picked items picks)) ≡ true
+full-offsets w items picks j pick offsets end size x at are is size_is full =
     let old = picked items (take j picks) in
-    past-picked items picks j pick old x at refl is
-    (lt-ltb most_slots (text_bytes (old ++ x ∷ [])) (omega (arith, past, size_is, end-bytes old offsets end are, sum_by_push text_length old x)))
+    full-picked w items picks j pick old x at refl is
+    (ap (is_full w) (omega (arith, size_is, end-bytes w old offsets end are, sum_by_push text_length old x)) ∙ full)
 
 -- ---- the finished column
 
@@ -170,35 +177,35 @@ plain_text (boolean b) h = tt
 plain_text (text t) h = h
 plain_text (list xs) h = tt
 
-pub record AreFinished (items : List Item) (n : ℕ) (validity : Option (List ℕ)) (offsets bytes : List ℕ) : Type 0 where
-  pub bounds : AreOffsetBytes n offsets (length bytes)
-  pub texts : AreTexts n validity offsets bytes
+pub record AreFinished (w : OffsetWidth) (items : List Item) (n : ℕ) (validity : Option (List ℕ)) (offsets bytes : List ℕ) : Type 0 where
+  pub bounds : AreOffsetBytes w n offsets (length bytes)
+  pub texts : AreTexts w n validity offsets bytes
   pub long : is_validity_short n validity ≡ false
-  pub shows : show_texts n validity offsets bytes ≡ shown kind.utf8 items
+  pub shows : show_texts w n validity offsets bytes ≡ shown (kind.texts w) items
 
-pub texts_finished : (items : List Item) (n end : ℕ) (offsets laid_offsets bytes laid_bytes : List ℕ) (validity : Option (List ℕ)) → AreOffsetsOf items offsets end → All IsTextItem items
+pub texts_finished : (w : OffsetWidth) (items : List Item) (n end : ℕ) (offsets laid_offsets bytes laid_bytes : List ℕ) (validity : Option (List ℕ)) → AreOffsetsOf w items offsets end → All IsTextItem items
     → n ≡ length items → n ≤ most_slots → IsBufferOf validity (kept (map is_held items)) → laid_offsets ≡ offsets → bytes ≡ all_bytes items → laid_bytes ≡ bytes
-    → AreFinished items n validity laid_offsets laid_bytes
-texts_finished items n end offsets laid_offsets bytes laid_bytes validity are all count short holds offsets_are bytes_are laid_are =
+    → AreFinished w items n validity laid_offsets laid_bytes
+texts_finished w items n end offsets laid_offsets bytes laid_bytes validity are all count short holds offsets_are bytes_are laid_are =
     let sizes = map text_size items in
-    let lay : AreLaid sizes n validity laid_offsets =
-    laid (map is_held items) offsets laid_offsets end n sizes (kept (map is_held items)) validity are.sizes are.fresh (count ∙ sym (length-map items is_held)) short refl holds offsets_are in
+    let lay : AreLaid w sizes n validity laid_offsets =
+    laid w (map is_held items) offsets laid_offsets end n sizes (kept (map is_held items)) validity are.sizes are.fresh (count ∙ sym (length-map items is_held)) short refl holds offsets_are in
     let held : laid_bytes ≡ all_bytes items = laid_are ∙ bytes_are in
     let again : cut_texts sizes laid_bytes ≡ items = ap (cut_texts sizes) held ∙ texts_again items all in
     let whole : total sizes ≡ length laid_bytes = total-sizes items ∙ ap length (sym held) in
     let texts : AreTextsOf sizes laid_bytes = record { whole = whole; utf8 = subst (λ (l : List Item). All IsText l) (sym again) (λ k d below. plain_text (get_or items k d) (all k d below)) } in
     record {
-      bounds = subst (AreOffsetBytes n laid_offsets) whole lay.bounds;
-      texts = texts-laid sizes n validity laid_offsets laid_bytes lay texts;
+      bounds = subst (AreOffsetBytes w n laid_offsets) whole lay.bounds;
+      texts = texts-laid w sizes n validity laid_offsets laid_bytes lay texts;
       long = lay.long;
-      shows = shown-texts sizes n validity laid_offsets laid_bytes lay ∙ ap (shown kind.utf8) again;
+      shows = shown-texts w sizes n validity laid_offsets laid_bytes lay ∙ ap (shown (kind.texts w)) again;
     }
 
-pub texts_done : (starts content : List ℕ) (s : Seen) (picks : List (Option ℕ)) (n end : ℕ) (offsets laid_offsets bytes laid_bytes : List ℕ) (seen : Option (List Bool)) (validity : Option (List ℕ))
-    → HasTexts starts content s → All (IsPick (length s.items)) picks → AreOffsetsOf (picked s.items picks) offsets end → n ≡ length picks → n ≤ most_slots → seen ≡ s.validity
+pub texts_done : (w : OffsetWidth) (starts content : List ℕ) (s : Seen) (picks : List (Option ℕ)) (n end : ℕ) (offsets laid_offsets bytes laid_bytes : List ℕ) (seen : Option (List Bool)) (validity : Option (List ℕ))
+    → HasTexts starts content s → All (IsPick (length s.items)) picks → AreOffsetsOf w (picked s.items picks) offsets end → n ≡ length picks → n ≤ most_slots → seen ≡ s.validity
     → IsBufferOf validity (kept (map (λ j. is_stored seen (get_or picks j None)) (range_with_len 0 (length picks)))) → laid_offsets ≡ offsets → bytes ≡ all_bytes (picked s.items picks) → laid_bytes ≡ bytes
-    → AreFinished (picked s.items picks) n validity laid_offsets laid_bytes
-texts_done starts content s picks n end offsets laid_offsets bytes laid_bytes seen validity has within are count short same holds offsets_are bytes_are laid_are =
+    → AreFinished w (picked s.items picks) n validity laid_offsets laid_bytes
+texts_done w starts content s picks n end offsets laid_offsets bytes laid_bytes seen validity has within are count short same holds offsets_are bytes_are laid_are =
     let held = ap (λ v. kept (map (λ j. is_stored v (get_or picks j None)) (range_with_len 0 (length picks)))) same ∙ ap kept (validity-held starts content s picks has within) in
-    texts_finished (picked s.items picks) n end offsets laid_offsets bytes laid_bytes validity are (texts_picked starts content s picks has within) (count ∙ sym (length-map picks (picked_at s.items))) short
+    texts_finished w (picked s.items picks) n end offsets laid_offsets bytes laid_bytes validity are (texts_picked starts content s picks has within) (count ∙ sym (length-map picks (picked_at s.items))) short
     (subst (IsBufferOf validity) held holds) offsets_are bytes_are laid_are

@@ -1,9 +1,8 @@
 -- The rows of the children that lists hold.
-use Rattle.std.specs.Prelude.{◌≡◌, ◌<◌, ◌≤◌, List, length, false}
+use Rattle.std.specs.Prelude.{◌≡◌, ◌<◌, ◌≤◌, List, Some, length, false}
 use Rattle.std.specs.List.{All}
 use Rattle.arrays.specs.Item.{Item, null, list}
-use Rattle.arrays.specs.Kind as kind
-use Rattle.arrays.specs.Kind.{Kind, dict, depth, same_kind}
+use Rattle.arrays.specs.Kind.{Kind, dict, depth, item_kind, same_kind}
 use Rattle.arrays.specs.Lengths.{inner_items, joined_items}
 use Rattle.arrays.specs.Seen.{Seen}
 
@@ -20,7 +19,7 @@ pub record IsInner (k : Kind) : Type 0 where
 
 -- The column is one of lists, and the child has the rows alone that they hold, one list after the other.
 pub record IsChild (s child : Seen) : Type 0 where
-  pub kind : s.kind ≡ kind.list child.kind
+  pub kind : item_kind s.kind ≡ Some child.kind
   pub items : child.items ≡ inner_items s.items
   pub lists : All IsList s.items
   pub inner : IsInner child.kind

@@ -1,5 +1,6 @@
 -- Texts one after the other.
 use Rattle.std.specs.Prelude.{◌≡◌, ℕ, List, [], Bool, length, map, flat_map, not, Option, Some, None}
+use Rattle.types.specs.declared.offset_width.OffsetWidth.{OffsetWidth}
 use Rattle.arrays.specs.Growing.{AreFresh, lengths_where}
 use Rattle.arrays.specs.Item.{Item, is_null, text}
 
@@ -22,6 +23,6 @@ abbrev pub all_bytes : List Item → List ℕ
 all_bytes items = flat_map bytes_in items
 
 -- The offsets are those of the texts, the last of them is `end`, and a null is empty.
-pub record AreOffsetsOf (items : List Item) (offsets : List ℕ) (end : ℕ) : Type 0 where
-  pub fresh : AreFresh (map is_held items) offsets end
-  pub sizes : lengths_where (map is_held items) offsets ≡ map text_size items
+pub record AreOffsetsOf (w : OffsetWidth) (items : List Item) (offsets : List ℕ) (end : ℕ) : Type 0 where
+  pub fresh : AreFresh w (map is_held items) offsets end
+  pub sizes : lengths_where w (map is_held items) offsets ≡ map text_size items

@@ -35,13 +35,13 @@ pub(crate) fn gather<R: Rows>(
     ensures err { IfErr result (IsFull (is_too_big view.now.kind (picked view.now.items (R.picks rows.now)))) }
 {
     match view.ty() {
-        ViewType::List(item) => {
+        ViewType::List(width, item) => {
             let lists = view.lists();
-            let spread = spread_out(alloc, &lists, rows)?;
+            let spread = spread_out(alloc, width, &lists, rows)?;
             let child = gather_picks(alloc, &lists.child, &spread.rows)?;
-            Ok(spread.lengths.finish(item.copy(alloc)?, child)?)
+            Ok(spread.lists.finish(item.copy(alloc)?, child)?)
         }
-        ViewType::Int(_) | ViewType::Bool | ViewType::Utf8 | ViewType::Dict => {
+        ViewType::Int(_) | ViewType::Bool | ViewType::Text(_) | ViewType::Dict => {
             gather_plain(alloc, view, rows)
         }
     }
@@ -58,13 +58,13 @@ pub(crate) fn gather_picks(
     ensures err { IfErr result (IsFull (is_too_big view.now.kind (picked view.now.items picks.now))) }
 {
     match view.ty() {
-        ViewType::List(item) => {
+        ViewType::List(width, item) => {
             let lists = view.lists();
-            let spread = spread_out(alloc, &lists, picks)?;
+            let spread = spread_out(alloc, width, &lists, picks)?;
             let child = gather_picks(alloc, &lists.child, &spread.rows)?;
-            Ok(spread.lengths.finish(item.copy(alloc)?, child)?)
+            Ok(spread.lists.finish(item.copy(alloc)?, child)?)
         }
-        ViewType::Int(_) | ViewType::Bool | ViewType::Utf8 | ViewType::Dict => {
+        ViewType::Int(_) | ViewType::Bool | ViewType::Text(_) | ViewType::Dict => {
             gather_plain(alloc, view, picks)
         }
     }
@@ -81,8 +81,8 @@ fn gather_plain<R: Rows>(alloc: Global, view: &View<'_>, rows: &R) -> Result<Arr
     match view.ty() {
         ViewType::Int(ty) => Ok(numbers::gather_numbers(alloc, ty, view, rows)?),
         ViewType::Bool => Ok(bools::gather(alloc, view, rows)?),
-        ViewType::Utf8 => texts::gather(alloc, view, rows),
-        ViewType::List(_) => unreachable!(),
+        ViewType::Text(width) => texts::gather(alloc, width, view, rows),
+        ViewType::List(_, _) => unreachable!(),
         ViewType::Dict => {
             let codes = numbers::gather::<i32, R>(alloc, &view.codes(), rows)?;
             Ok(Array::dict(codes, view.dictionary().clone()?))

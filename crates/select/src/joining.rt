@@ -81,9 +81,9 @@ fn join(
     match ty {
         ViewType::Int(ty) => Ok(numbers::join(alloc, ty, views, slots)?),
         ViewType::Bool => Ok(bools::join(alloc, views, slots)?),
-        ViewType::Utf8 => texts::join(alloc, views, slots),
-        ViewType::List(item) => {
-            let lengths = lists::lengths(alloc, views, slots)?;
+        ViewType::Text(width) => texts::join(alloc, width, views, slots),
+        ViewType::List(width, item) => {
+            let lengths = lists::lengths(alloc, width, views, slots)?;
             let children = lists::children(alloc, item, views)?;
             let parts = lists::parts(alloc, &children)?;
             let Some(slots) = slots_of(&parts) else {

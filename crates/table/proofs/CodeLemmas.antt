@@ -5,7 +5,7 @@ use Rattle.std.specs.Str.{bytes_eq}
 use Rattle.std.proofs.lemmas.Cmp.{nat_list_eq_equiv}
 use Rattle.std.proofs.lemmas.Slice.Eq.{bytes_eq-Decides}
 use Rattle.std.proofs.lemmas.List.Folds.{list_any-append}
-use Rattle.arrays.specs.Slot.{item_of, is_text}
+use Rattle.arrays.specs.Slot.{item_of, is_recodable}
 use Rattle.arrays.specs.Dictionary.{looked_up}
 use Rattle.arrays.specs.Item.{Item, boolean, int, list, null, text}
 use Rattle.arrays.specs.Kind as kind
@@ -106,15 +106,15 @@ code-back ts t among =
     ap (λ o. looked_up (map text ts) (item_of (option_map pos o))) (among_place (bytes_eq t) ts among) ∙ text-back ts t among
 
 -- no number, truth value or list is a text
-no_text : {C : Type 0} (k : Kind) (x : Item) → is_text k ≡ true → IsItemOf k x → ((t : List ℕ) → x ≡ text t → C) → (x ≡ null → C) → C
+no_text : {C : Type 0} (k : Kind) (x : Item) → is_recodable k ≡ true → IsItemOf k x → ((t : List ℕ) → x ≡ text t → C) → (x ≡ null → C) → C
 no_text k null texts of_kind f g = g refl
 no_text k (text t) texts of_kind f g = f t refl
 no_text (kind.int i) x texts of_kind f g = absurd (true≢false (sym texts))
 no_text kind.boolean x texts of_kind f g = absurd (true≢false (sym texts))
-no_text (kind.list k) x texts of_kind f g = absurd (true≢false (sym texts))
-no_text kind.utf8 (int z) texts of_kind f g = absurd of_kind
-no_text kind.utf8 (boolean b) texts of_kind f g = absurd of_kind
-no_text kind.utf8 (list l) texts of_kind f g = absurd of_kind
+no_text (kind.lists w k) x texts of_kind f g = absurd (true≢false (sym texts))
+no_text (kind.texts w) (int z) texts of_kind f g = absurd of_kind
+no_text (kind.texts w) (boolean b) texts of_kind f g = absurd of_kind
+no_text (kind.texts w) (list l) texts of_kind f g = absurd of_kind
 no_text kind.dict (int z) texts of_kind f g = absurd of_kind
 no_text kind.dict (boolean b) texts of_kind f g = absurd of_kind
 no_text kind.dict (list l) texts of_kind f g = absurd of_kind
@@ -122,14 +122,14 @@ no_text kind.dict (list l) texts of_kind f g = absurd of_kind
 abbrev pub AreAmong : List Item → List (List ℕ) → Type 0
 AreAmong items ts = (t : List ℕ) → is_among (texts_of items) t ≡ true → is_among ts t ≡ true
 
-fewer : (x : Item) (items : List Item) (ts : List (List ℕ)) (k : Kind) → is_text k ≡ true → IsItemOf k x → AreAmong (x ∷ items) ts → AreAmong items ts
+fewer : (x : Item) (items : List Item) (ts : List (List ℕ)) (k : Kind) → is_recodable k ≡ true → IsItemOf k x → AreAmong (x ∷ items) ts → AreAmong items ts
 fewer x items ts k texts of_kind there u h =
     there u
     (no_text k x texts of_kind
     (λ t is. ap (λ z. is_among (texts_of (z ∷ items)) u) is ∙ or-right (bytes_eq u t) (is_among (texts_of items) u) h)
     (λ is. ap (λ z. is_among (texts_of (z ∷ items)) u) is ∙ h))
 
-item-back : (x : Item) (items : List Item) (ts : List (List ℕ)) (k : Kind) → is_text k ≡ true → IsItemOf k x → AreAmong (x ∷ items) ts → looked_up (map text ts) (code_item ts x) ≡ x
+item-back : (x : Item) (items : List Item) (ts : List (List ℕ)) (k : Kind) → is_recodable k ≡ true → IsItemOf k x → AreAmong (x ∷ items) ts → looked_up (map text ts) (code_item ts x) ≡ x
 item-back x items ts k texts of_kind there =
     no_text k x texts of_kind
     (λ t is.
@@ -137,7 +137,7 @@ item-back x items ts k texts of_kind there =
     ap (λ y. looked_up (map text ts) (code_item ts y)) is ∙ code-back ts t among ∙ sym is)
     (λ is. ap (λ y. looked_up (map text ts) (code_item ts y)) is ∙ sym is)
 
-pub codes-back : (ts : List (List ℕ)) (k : Kind) (items : List Item) → is_text k ≡ true → All (IsItemOf k) items → AreAmong items ts
+pub codes-back : (ts : List (List ℕ)) (k : Kind) (items : List Item) → is_recodable k ≡ true → All (IsItemOf k) items → AreAmong items ts
     → map (looked_up (map text ts)) (map (code_item ts) items) ≡ items
 codes-back ts k [] texts typed there = refl
 codes-back ts k (x ∷ items) texts typed there =

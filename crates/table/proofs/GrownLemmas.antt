@@ -7,7 +7,8 @@ use Rattle.arrays.specs.Kind.{Kind, same_kind}
 use Rattle.arrays.specs.Seen.{Seen}
 use Rattle.arrays.specs.Shape.{FieldShape}
 use Rattle.arrays.specs.Shown.{shown}
-use Rattle.arrays.specs.Slot.{is_text}
+use Rattle.types.specs.declared.offset_width.OffsetWidth.TheVariants.{Narrow, Wide}
+use Rattle.arrays.specs.Slot.{is_recodable}
 use Rattle.pool.specs.Texts.{firsts, is_too_full, texts_of}
 use Rattle.std.specs.Bool.{then_some}
 use Rattle.arrays.specs.First.{first}
@@ -24,14 +25,15 @@ use Rattle.table.proofs.SuitLemmas.{AllSuit, Suits}
 
 -- ---- one column
 
-text-kind : (k : Kind) → same_kind (stored_kind k) kind.dict ≡ is_text k
+text-kind : (k : Kind) → same_kind (stored_kind k) kind.dict ≡ is_recodable k
 text-kind (kind.int t) = refl
 text-kind kind.boolean = refl
-text-kind kind.utf8 = refl
-text-kind (kind.list k) = refl
+text-kind (kind.texts Narrow) = refl
+text-kind (kind.texts Wide) = refl
+text-kind (kind.lists w k) = refl
 text-kind kind.dict = refl
 
-text-field : (u : Table) (e : ℕ × FieldShape) (c : Seen) → Suits u e c → is_text_field e.1 ≡ is_text c.kind
+text-field : (u : Table) (e : ℕ × FieldShape) (c : Seen) → Suits u e c → is_text_field e.1 ≡ is_recodable c.kind
 text-field u e c suits = ap (λ k. same_kind k kind.dict) suits.kind ∙ text-kind c.kind
 
 grown-if : (b : Bool) (xs ys : List (List ℕ)) → cond b (firsts (cond b (firsts xs) [] ++ ys)) (cond b (firsts xs) []) ≡ cond b (firsts (xs ++ ys)) []

@@ -11,7 +11,9 @@ use Rattle.arrays.specs.Kind.{Kind, bytes_of, same_kind}
 use Rattle.arrays.specs.Seen.{Seen}
 use Rattle.arrays.specs.Shape.{FieldShape, kind_of_field}
 use Rattle.arrays.specs.Shown.{shown}
-use Rattle.arrays.specs.Slot.{is_text}
+use Rattle.types.specs.declared.offset_width.OffsetWidth.TheVariants.{Narrow, Wide}
+use Rattle.arrays.proofs.ListArrays.{same_kind-refl}
+use Rattle.arrays.specs.Slot.{is_recodable}
 use Rattle.group.specs.Summary.{AreStats}
 use Rattle.group.specs.declared.stats.ColumnStats.{ColumnStats}
 use Rattle.pool.specs.Texts.{firsts, texts_of}
@@ -33,21 +35,23 @@ pub record Kept (u : Table) (e : ℕ × FieldShape) (c : Seen) : Type 0 where
   pub kind : c.kind ≡ kind_of_field e.1
   pub items : c.items ≡ column u e.0
 
-stored-text : (k : Kind) → is_text k ≡ true → kind.dict ≡ stored_kind k
-stored-text kind.utf8 texts = refl
+stored-text : (k : Kind) → is_recodable k ≡ true → kind.dict ≡ stored_kind k
+stored-text (kind.texts Narrow) texts = refl
+stored-text (kind.texts Wide) texts = absurd (true≢false (sym texts))
 stored-text kind.dict texts = refl
 stored-text (kind.int t) texts = absurd (true≢false (sym texts))
 stored-text kind.boolean texts = absurd (true≢false (sym texts))
-stored-text (kind.list k) texts = absurd (true≢false (sym texts))
+stored-text (kind.lists w k) texts = absurd (true≢false (sym texts))
 
-stored-other : (k : Kind) → is_text k ≡ false → k ≡ stored_kind k
-stored-other kind.utf8 texts = absurd (true≢false texts)
+stored-other : (k : Kind) → is_recodable k ≡ false → k ≡ stored_kind k
+stored-other (kind.texts Narrow) texts = absurd (true≢false texts)
+stored-other (kind.texts Wide) texts = refl
 stored-other kind.dict texts = absurd (true≢false texts)
 stored-other (kind.int t) texts = refl
 stored-other kind.boolean texts = refl
-stored-other (kind.list k) texts = refl
+stored-other (kind.lists w k) texts = refl
 
-kept-if : (u : Table) (ts : List (List ℕ)) (e : ℕ × FieldShape) (c : Seen) (b : Bool) → is_text c.kind ≡ b → Suits u e c
+kept-if : (u : Table) (ts : List (List ℕ)) (e : ℕ × FieldShape) (c : Seen) (b : Bool) → is_recodable c.kind ≡ b → Suits u e c
     → Kept u e (cond b (coded (cond b (firsts (ts ++ texts_of c.items)) ts) c) c)
 kept-if u ts e c true texts suits = record {
   kind = stored-text c.kind texts ∙ sym suits.kind;
@@ -59,7 +63,7 @@ pub kept-all : (t u : Table) (es : List (ℕ × FieldShape)) (columns : List See
 kept-all t u [] [] all = tt
 kept-all t u [] (c ∷ columns) all = absurd all
 kept-all t u (e ∷ es) [] all = absurd all
-kept-all t u (e ∷ es) (c ∷ columns) all = (kept-if u (texts_in t e) e c (is_text c.kind) refl all.0, kept-all t u es columns all.1)
+kept-all t u (e ∷ es) (c ∷ columns) all = (kept-if u (texts_in t e) e c (is_recodable c.kind) refl all.0, kept-all t u es columns all.1)
 
 front-if : (b : Bool) (ts : List (List ℕ)) (c : Seen) → NamesFront (cond b (coded ts c) c) (cond b (Some (shown kind.utf8 (map text ts))) None)
 front-if true ts c = prefix_self (map text ts)
@@ -69,7 +73,7 @@ pub front-all : (texts : List (List (List ℕ))) (columns : List Seen)
     → AllZip NamesFront (map stored_seen (zip texts columns)) (map dictionary_for (zip (map grown (zip texts columns)) columns))
 front-all [] columns = tt
 front-all (ts ∷ texts) [] = tt
-front-all (ts ∷ texts) (c ∷ columns) = (front-if (is_text c.kind) (grown (ts, c)) c, front-all texts columns)
+front-all (ts ∷ texts) (c ∷ columns) = (front-if (is_recodable c.kind) (grown (ts, c)) c, front-all texts columns)
 
 -- The rows of the stored columns are those of the batch.
 kept-items : (u : Table) (es : List (ℕ × FieldShape)) (columns stored : List Seen) → AllSuit u es columns → AllZip (Kept u) es stored
@@ -97,25 +101,13 @@ kept-rows u es b stored all kept size =
 length-column : (u : Table) (k : ℕ) → length (column u k) ≡ length u
 length-column u k = length-map u (λ row. slice_index_or row k null)
 
-same-signed : (b : Bool) → cond b b (not b) ≡ true
-same-signed true = refl
-same-signed false = refl
-
-same-itself : (k : Kind) → same_kind k k ≡ true
-same-itself (kind.int t) =
-    ap (λ b. b && cond t.signed t.signed (not t.signed)) (eq-eqb (bytes_of t.bits) (bytes_of t.bits) refl) ∙ same-signed t.signed
-same-itself kind.boolean = refl
-same-itself kind.utf8 = refl
-same-itself (kind.list k) = same-itself k
-same-itself kind.dict = refl
-
 kept-kinds : (u : Table) (n : ℕ) (fields : List FieldShape) (stored : List Seen) → AllZip (Kept u) (enumerate_from n fields) stored → list_any wrong_kind (zip stored fields) ≡ false
 kept-kinds u n [] [] kept = refl
 kept-kinds u n [] (d ∷ stored) kept = absurd kept
 kept-kinds u n (f ∷ fields) [] kept = absurd kept
 kept-kinds u n (f ∷ fields) (d ∷ stored) kept =
     ap (λ k. not (same_kind k (kind_of_field f)) || list_any wrong_kind (zip stored fields)) kept.0.kind
-    ∙ ap (λ b. not b || list_any wrong_kind (zip stored fields)) (same-itself (kind_of_field f))
+    ∙ ap (λ b. not b || list_any wrong_kind (zip stored fields)) (same_kind-refl (kind_of_field f))
     ∙ kept-kinds u (n + 1) fields stored kept.1
 
 kept-sizes : (u : Table) (n m : ℕ) (fields : List FieldShape) (stored : List Seen) → AllZip (Kept u) (enumerate_from n fields) stored → length u ≡ m
@@ -153,11 +145,12 @@ TheStats t es stats = AllZip (λ (e : ℕ × FieldShape) (s : ColumnStats). AreS
 
 -- Texts have the statistics of their codes.
 stats-stored : (s : ColumnStats) (k : Kind) (items : List Item) → AreStats s k items → AreStats s (stored_kind k) items
-stats-stored s kind.utf8 items is = record { rows = is.rows; nulls = is.nulls; sum = is.sum; least = is.least; greatest = is.greatest }
+stats-stored s (kind.texts Wide) items is = is
+stats-stored s (kind.texts Narrow) items is = record { rows = is.rows; nulls = is.nulls; sum = is.sum; least = is.least; greatest = is.greatest }
 stats-stored s kind.dict items is = is
 stats-stored s (kind.int t) items is = is
 stats-stored s kind.boolean items is = is
-stats-stored s (kind.list k) items is = is
+stats-stored s (kind.lists w k) items is = is
 
 pub theirs-all : (u : Table) (es : List (ℕ × FieldShape)) (columns : List Seen) (stats : List ColumnStats) → AllSuit u es columns → AreTheirs columns stats → TheStats u es stats
 theirs-all u [] [] [] all theirs = tt

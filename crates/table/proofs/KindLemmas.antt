@@ -3,9 +3,9 @@ use Rattle.std.proofs.Common.{◌≡◌, ◌∙◌, false, ap, refl}
 use Rattle.arrays.specs.Kind as kind
 use Rattle.arrays.specs.Kind.{Kind, kind_of, kind_step, same_kind}
 use Rattle.types.specs.declared.data_type.DataType.{DataType, fold_out-DataType, map-DataType}
-use Rattle.types.specs.declared.data_type.DataType.TheVariants.{Int, Bool, Utf8, List', Dict, outs-Dict}
+use Rattle.types.specs.declared.data_type.DataType.TheVariants.{Int, Bool, Utf8, LargeUtf8, List', LargeList', Dict, outs-Dict}
 use Rattle.types.specs.declared.data_type.Field.{Field, fold-Field}
-use Rattle.types.proofs.ShapeLemmas.{kind_of-Bool, kind_of-Int, kind_of-List, kind_of-Utf8}
+use Rattle.types.proofs.ShapeLemmas.{kind_of-Bool, kind_of-Int, kind_of-LargeList, kind_of-LargeUtf8, kind_of-List, kind_of-Utf8}
 
 pub kind_of-Dict : kind_of Dict ≡ kind.dict
 kind_of-Dict =
@@ -16,6 +16,9 @@ pub no_dict : (t : DataType) → (t ≡ Dict → ⊥) → same_kind (kind_of t) 
 no_dict (Int i) h = ap (λ k. same_kind k kind.dict) (kind_of-Int i)
 no_dict Bool h = ap (λ k. same_kind k kind.dict) kind_of-Bool
 no_dict Utf8 h = ap (λ k. same_kind k kind.dict) kind_of-Utf8
+no_dict LargeUtf8 h = ap (λ k. same_kind k kind.dict) kind_of-LargeUtf8
 no_dict (List' b name nullable ty) h =
     ap (λ k. same_kind k kind.dict) (kind_of-List record { ptr = b.ptr; alloc = b.alloc; value = record { name = name; nullable = nullable; ty = ty } })
+no_dict (LargeList' b name nullable ty) h =
+    ap (λ k. same_kind k kind.dict) (kind_of-LargeList record { ptr = b.ptr; alloc = b.alloc; value = record { name = name; nullable = nullable; ty = ty } })
 no_dict Dict h = absurd (h refl)

@@ -8,7 +8,7 @@ use Rattle.std.proofs.lemmas.Bool.{le-ltb, lt-ltb}
 use Rattle.std.proofs.lemmas.List.{append-nil, drop_all, drop_more, append_assoc, get_or-map, get_or_at, get_or_default, length-drop, length-map, length-take-le, map-append, map_more, set_at, take-append-drop, take_all, take_more}
 use Rattle.std.proofs.lemmas.Simd.{map-map}
 use Rattle.std.proofs.lemmas.Slice.Zip.{get_or-zip, length-zip}
-use Rattle.arrays.specs.Slot.{item_of, is_text}
+use Rattle.arrays.specs.Slot.{item_of, is_recodable}
 use Rattle.arrays.specs.Dictionary.{encoded, is_code}
 use Rattle.arrays.specs.Item.{Item, boolean, int, list, null, text}
 use Rattle.arrays.specs.Kind as kind
@@ -58,11 +58,11 @@ codes-within texts items k d below =
     let inside : k < length items = omega (arith, below, length-map items (code_item texts)) in
     subst (λ c. is_code (length texts) c ≡ true) (sym (get_or-map (code_item texts) items k null d inside)) (code-within texts (get_or items k null))
 
-grown-text : (old : List (List ℕ)) (c : Seen) → is_text c.kind ≡ true → grown (old, c) ≡ firsts (old ++ texts_of c.items)
+grown-text : (old : List (List ℕ)) (c : Seen) → is_recodable c.kind ≡ true → grown (old, c) ≡ firsts (old ++ texts_of c.items)
 grown-text old c is = ap (λ b. if b then firsts (old ++ texts_of c.items) else old) is
 
 -- Codes with the dictionary of the texts are the column as it is stored.
-pub column-coded : (old texts : List (List ℕ)) (c codes words : Seen) → is_text c.kind ≡ true → texts ≡ firsts (old ++ texts_of c.items)
+pub column-coded : (old texts : List (List ℕ)) (c codes words : Seen) → is_recodable c.kind ≡ true → texts ≡ firsts (old ++ texts_of c.items)
     → codes ≡ shown (kind.int int32) (map (code_item texts) c.items) → words ≡ shown kind.utf8 (map text texts) → encoded codes words ≡ coded (grown (old, c)) c
 column-coded old texts c codes words is are made named =
     ap (λ (s : Seen). encoded s words) made

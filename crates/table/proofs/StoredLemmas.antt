@@ -1,8 +1,9 @@
 -- A schema as a table stores it.
 use Rattle.std.proofs.Common.{◌≡◌, ◌∙◌, List, Option, None, Some, option_map, position, ap, refl}
 use Rattle.std.specs.Option.{option_or}
+use Rattle.types.specs.declared.offset_width.OffsetWidth.TheVariants.{Narrow, Wide}
 use Rattle.arrays.specs.Schema.{holds_dict, is_deep, schema_fault}
-use Rattle.arrays.specs.Shape.{FieldShape, boolean, dict, field, int, list, utf8}
+use Rattle.arrays.specs.Shape.{FieldShape, boolean, dict, field, int, lists, texts}
 use Rattle.types.specs.declared.schema.SchemaFault.{SchemaFault}
 use Rattle.types.specs.declared.schema.SchemaFault.TheVariants.{DictInList, TooDeep}
 use Rattle.types.proofs.SchemaLemmas.{position-map}
@@ -11,15 +12,17 @@ use Rattle.table.specs.Stored.{stored_field, stored_fields}
 same_deep : (f : FieldShape) → is_deep (stored_field f) ≡ is_deep f
 same_deep (field name nullable (int t)) = refl
 same_deep (field name nullable boolean) = refl
-same_deep (field name nullable utf8) = refl
-same_deep (field name nullable (list f)) = refl
+same_deep (field name nullable (texts Narrow)) = refl
+same_deep (field name nullable (texts Wide)) = refl
+same_deep (field name nullable (lists w f)) = refl
 same_deep (field name nullable dict) = refl
 
 same_dict : (f : FieldShape) → holds_dict (stored_field f) ≡ holds_dict f
 same_dict (field name nullable (int t)) = refl
 same_dict (field name nullable boolean) = refl
-same_dict (field name nullable utf8) = refl
-same_dict (field name nullable (list f)) = refl
+same_dict (field name nullable (texts Narrow)) = refl
+same_dict (field name nullable (texts Wide)) = refl
+same_dict (field name nullable (lists w f)) = refl
 same_dict (field name nullable dict) = refl
 
 -- no list gets deeper, and none gets a dictionary

@@ -6,6 +6,7 @@ use Rattle.std.proofs.lemmas.Bool.{eqb-true}
 use Rattle.std.proofs.lemmas.List.Elements.{All-map}
 use Rattle.arrays.specs.Batch.{Batch, batch_fault, row_of, rows_of, Table, column}
 use Rattle.arrays.specs.Item.{Item, boolean, int, list, null, text}
+use Rattle.types.specs.declared.offset_width.OffsetWidth.TheVariants.{Narrow, Wide}
 use Rattle.arrays.specs.Kind as kind
 use Rattle.arrays.specs.Kind.{Kind, same_kind}
 use Rattle.arrays.specs.Seen.{Seen}
@@ -91,14 +92,15 @@ suits-batch fields b alike lawful typed =
 -- ---- the rows are of the fields
 
 typed-stored : (k : Kind) (x : Item) → IsItemOf k x → IsItemOf (stored_kind k) x
-typed-stored kind.utf8 null is = tt
-typed-stored kind.utf8 (text t) is = is
-typed-stored kind.utf8 (int z) is = absurd is
-typed-stored kind.utf8 (boolean b) is = absurd is
-typed-stored kind.utf8 (list l) is = absurd is
+typed-stored (kind.texts Narrow) null is = tt
+typed-stored (kind.texts Narrow) (text t) is = is
+typed-stored (kind.texts Narrow) (int z) is = absurd is
+typed-stored (kind.texts Narrow) (boolean b) is = absurd is
+typed-stored (kind.texts Narrow) (list l) is = absurd is
+typed-stored (kind.texts Wide) x is = is
 typed-stored (kind.int t) x is = is
 typed-stored kind.boolean x is = is
-typed-stored (kind.list k) x is = is
+typed-stored (kind.lists w k) x is = is
 typed-stored kind.dict x is = is
 
 typed-at : (k : Kind) (items : List Item) (i : ℕ) → All (IsItemOf k) items → IsItemOf k (get_or items i null)

@@ -10,7 +10,7 @@ use Rattle.arrays.specs.Kind as kind
 use Rattle.arrays.specs.Kind.{int32}
 use Rattle.arrays.specs.Seen.{Seen}
 use Rattle.arrays.specs.Shown.{shown}
-use Rattle.arrays.specs.Slot.{is_text}
+use Rattle.arrays.specs.Slot.{is_recodable}
 use Rattle.pool.specs.Codes.{code_item}
 use Rattle.pool.specs.Texts.{firsts, is_too_full, texts_of}
 use Rattle.std.specs.Bool.{then_some}
@@ -20,15 +20,15 @@ use Rattle.table.specs.declared.refusal.Refusal.TheVariants.{TextsFull}
 
 -- The texts with those of the column, each once. Of a column that isn't one of texts, the texts alone.
 abbrev pub grown : List (List ℕ) × Seen → List (List ℕ)
-grown p = if is_text p.1.kind then firsts (p.0 ++ texts_of p.1.items) else p.0
+grown p = if is_recodable p.1.kind then firsts (p.0 ++ texts_of p.1.items) else p.0
 
 -- Whether they are more than a dictionary holds.
 abbrev pub is_full : List (List ℕ) × Seen → Bool
-is_full p = is_text p.1.kind && is_too_full (grown p)
+is_full p = is_recodable p.1.kind && is_too_full (grown p)
 
 -- The dictionary of the texts, where the column is one of texts.
 abbrev pub dictionary_for : List (List ℕ) × Seen → Option Seen
-dictionary_for p = if is_text p.1.kind then Some (shown kind.utf8 (map text p.0)) else None
+dictionary_for p = if is_recodable p.1.kind then Some (shown kind.utf8 (map text p.0)) else None
 
 -- The column's items as codes among the texts.
 abbrev pub coded : List (List ℕ) → Seen → Seen
@@ -36,7 +36,7 @@ coded texts c = encoded (shown (kind.int int32) (map (code_item texts) c.items))
 
 -- The column as it is stored.
 abbrev pub stored_seen : List (List ℕ) × Seen → Seen
-stored_seen p = if is_text p.1.kind then coded (grown p) p.1 else p.1
+stored_seen p = if is_recodable p.1.kind then coded (grown p) p.1 else p.1
 
 -- The least column with too many texts.
 abbrev pub full_at : ℕ × (List (List ℕ) × Seen) → Option Refusal

@@ -1,15 +1,17 @@
--- How a table keeps its columns: a top-level column of texts gets a dictionary.
+-- How a table keeps its columns: a top-level column of texts with offsets of 32 bits gets a dictionary.
 use Rattle.std.specs.Prelude.{List, map, Bool}
+use Rattle.types.specs.declared.offset_width.OffsetWidth.TheVariants.{Narrow, Wide}
 use Rattle.arrays.specs.Kind as kind
 use Rattle.arrays.specs.Kind.{Kind, kind_of, same_kind}
 use Rattle.types.specs.declared.data_type.DataType.{DataType}
-use Rattle.arrays.specs.Shape.{FieldShape, Shape, boolean, dict, field, int, kind_of_field, list, utf8}
+use Rattle.arrays.specs.Shape.{FieldShape, Shape, boolean, dict, field, int, kind_of_field, lists, texts}
 
 abbrev pub stored_shape : Shape → Shape
-stored_shape utf8 = dict
+stored_shape (texts Narrow) = dict
+stored_shape (texts Wide) = texts Wide
 stored_shape (int t) = int t
 stored_shape boolean = boolean
-stored_shape (list f) = list f
+stored_shape (lists w f) = lists w f
 stored_shape dict = dict
 
 abbrev pub stored_field : FieldShape → FieldShape
@@ -19,10 +21,11 @@ abbrev pub stored_fields : List FieldShape → List FieldShape
 stored_fields fields = map stored_field fields
 
 abbrev pub stored_kind : Kind → Kind
-stored_kind kind.utf8 = kind.dict
+stored_kind (kind.texts Narrow) = kind.dict
+stored_kind (kind.texts Wide) = kind.texts Wide
 stored_kind (kind.int t) = kind.int t
 stored_kind kind.boolean = kind.boolean
-stored_kind (kind.list k) = kind.list k
+stored_kind (kind.lists w k) = kind.lists w k
 stored_kind kind.dict = kind.dict
 
 -- Whether the stored field is one of texts.

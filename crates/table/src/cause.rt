@@ -11,7 +11,7 @@ ghost use Rattle.table.specs.Stored.{is_stored_as};
 use crate::held::Held;
 use crate::nulls::null_refusal;
 use crate::refusal::Refusal;
-use arrays::{DataType, Field, RecordBatch, Schema, ViewType};
+use arrays::{DataType, Field, OffsetWidth, RecordBatch, Schema, ViewType};
 
 /// The most rows that a table may have.
 const MOST_ROWS: u64 = 1 << 40;
@@ -76,7 +76,7 @@ fn is_stored_as(stored: &DataType, handed: &DataType) -> bool
     ensures { result ≡ is_stored_as stored.now handed.now }
 {
     match ViewType::of(handed) {
-        ViewType::Utf8 => ViewType::of(stored).is_same(ViewType::Dict),
+        ViewType::Text(OffsetWidth::Narrow) => ViewType::of(stored).is_same(ViewType::Dict),
         handed => ViewType::of(stored).is_same(handed),
     }
 }

@@ -7,7 +7,7 @@ ghost use mathlib.Core.List.{IsPrefix};
 ghost use Rattle.arrays.specs.Kind as kind;
 ghost use Rattle.arrays.specs.Item.{text};
 ghost use Rattle.arrays.specs.Shown.{shown};
-ghost use Rattle.arrays.specs.Slot.{is_text};
+ghost use Rattle.arrays.specs.Slot.{is_recodable};
 ghost use Rattle.table.specs.Recoded.{coded, dictionary_for, entry_count, full_cause, grown, is_full, shortened, stored_seen};
 
 use crate::refusal::Refusal;
@@ -97,7 +97,7 @@ fn stored_texts(
     pool: &mut TextPool,
     words: &Arc<Words>,
 ) -> Result<(Array, Arc<Words>), PoolFault>
-    requires text { is_text column.now.kind ≡ true }
+    requires text { is_recodable column.now.kind ≡ true }
     requires words { arc_value words.now ≡ shown kind.utf8 (map text pool.old) }
     ensures column { IfOk result (λ r. r.0 ≡ coded (grown (pool.old, column.now)) column.now) }
     ensures dictionary { IfOk result (λ r. arc_value r.1 ≡ shown kind.utf8 (map text (grown (pool.old, column.now)))) }

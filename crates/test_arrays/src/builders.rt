@@ -7,14 +7,14 @@ use crate::testing::{AllBut, has_bits};
 use arrays::BuildFault::OffsetsFull;
 use arrays::validity::{buffer_of, validity_of};
 use arrays::{
-    Array, BoolBuilder, BuildFault, DataType, IntBuilder, Integer, ListBuilder, TextBuilder,
-    ValidityBuilder, ViewType,
+    Array, BoolBuilder, BuildFault, DataType, IntBuilder, Integer, ListBuilder, OffsetWidth,
+    TextBuilder, ValidityBuilder, View, ViewType,
 };
 use colbits::{BitmapBuf, Buffer, NoMemory};
 use std::alloc::Global;
 use std::test::Fail;
 use test_samples::{
-    INT16, INT32, Shown, field, has_item, has_offsets, is_result, is_result_of_bools,
+    INT16, INT32, Shown, field, has_item, has_offsets, has_width, is_result, is_result_of_bools,
     is_result_of_numbers, shows,
 };
 
@@ -220,7 +220,7 @@ fn builds_truth_values_without_a_null(rt: HostRuntime) -> Result<(), Fail> {
 
 /// Puts the texts a, null, bé and an empty one at the end.
 fn push_texts(builder: &mut TextBuilder) -> Result<(), BuildFault>
-    requires { length builder.old < 2147483640 }
+    requires { length builder.old.items < 2147483640 }
 {
     builder.push(Some("a"))?;
     builder.push(None)?;
@@ -228,46 +228,59 @@ fn push_texts(builder: &mut TextBuilder) -> Result<(), BuildFault>
     builder.push(Some(""))
 }
 
+/// Whether texts without a dictionary lie in these bytes.
+fn has_bytes(view: &View<'_>, bytes: &str) -> bool {
+    match view.ty() {
+        ViewType::Text(width) => view.texts(width).bytes == bytes.as_bytes(),
+        _ => false,
+    }
+}
+
+const BUILT_TEXTS: Shown = Shown::Texts(&[Some("a"), None, Some("b\u{e9}"), Some("")]);
+
 #[test]
 fn builds_texts(rt: HostRuntime) -> Result<(), Fail> {
-    let mut builder = TextBuilder::with_capacity(rt.alloc(), 1, 1)?;
-    push_texts(&mut builder)?;
-    let array = builder.finish()?;
-    let view = array.view();
-    assert!(rt;
-        shows(
-            &view,
-            Shown::Texts(&[Some("a"), None, Some("b\u{e9}"), Some("")])
-        )
-    );
-    assert!(rt; has_offsets(&view, &[0, 1, 1, 4, 4]));
-    let ViewType::Utf8 = view.ty() else {
-        panic!(rt; "these are no texts");
-    };
-    assert!(rt; view.texts().bytes == "ab\u{e9}".as_bytes());
+    for width in [OffsetWidth::Narrow, OffsetWidth::Wide] {
+        let mut builder = TextBuilder::with_capacity(rt.alloc(), width, 1, 1)?;
+        push_texts(&mut builder)?;
+        let array = builder.finish()?;
+        let view = array.view();
+        assert!(rt;
+            shows(&view, BUILT_TEXTS) && has_width(&view, width),
+            "{width:?}"
+        );
+        assert!(rt; has_offsets(&view, &[0, 1, 1, 4, 4]) && has_bytes(&view, "ab\u{e9}"));
+    }
     Ok(())
 }
 
 #[test]
 fn builds_texts_without_a_null(rt: HostRuntime) -> Result<(), Fail> {
-    let mut builder = TextBuilder::with_capacity(rt.alloc(), 1, 2)?;
-    builder.push(Some("ab"))?;
-    let array = builder.finish()?;
-    assert!(rt; is_result(&array, Shown::Texts(&[Some("ab")])));
+    for width in [OffsetWidth::Narrow, OffsetWidth::Wide] {
+        let mut builder = TextBuilder::with_capacity(rt.alloc(), width, 1, 2)?;
+        builder.push(Some("ab"))?;
+        let array = builder.finish()?;
+        assert!(rt; is_result(&array, Shown::Texts(&[Some("ab")])));
+        assert!(rt; has_width(&array.view(), width));
+    }
     Ok(())
 }
 
 #[test]
 fn builds_no_texts(rt: HostRuntime) -> Result<(), Fail> {
-    let array = TextBuilder::with_capacity(rt.alloc(), 0, 0)?.finish()?;
-    assert!(rt; shows(&array.view(), Shown::Texts(&[])) && has_offsets(&array.view(), &[0]));
+    for width in [OffsetWidth::Narrow, OffsetWidth::Wide] {
+        let array = TextBuilder::with_capacity(rt.alloc(), width, 0, 0)?.finish()?;
+        let view = array.view();
+        assert!(rt; shows(&view, Shown::Texts(&[])) && has_offsets(&view, &[0]));
+        assert!(rt; has_width(&view, width));
+    }
     Ok(())
 }
 
 /// Puts the lengths 1, null, 0 and 2 at the end.
 fn push_lengths(builder: &mut ListBuilder) -> Result<(), BuildFault>
-    requires { builder.old ≡ [] }
-    ensures { OnOk result (builder.new ≡ Some 1 ∷ None ∷ Some 0 ∷ Some 2 ∷ []) }
+    requires { builder.old.lengths ≡ [] }
+    ensures { OnOk result (builder.new.lengths ≡ Some 1 ∷ None ∷ Some 0 ∷ Some 2 ∷ []) }
 {
     builder.push(Some(1))?;
     builder.push(None)?;
@@ -276,11 +289,11 @@ fn push_lengths(builder: &mut ListBuilder) -> Result<(), BuildFault>
 }
 
 /// The lists of 1, null, of nothing, and of 2 and 3, with this field of their items.
-fn lists(alloc: Global, name: &str, nullable: bool) -> Result<Array, Fail> {
+fn lists(alloc: Global, width: OffsetWidth, name: &str, nullable: bool) -> Result<Array, Fail> {
     let numbers = Buffer::from_bytes(alloc, &[1, 0, 2, 0, 3, 0])?;
     let child = Array::from_numbers(alloc, INT16, 3, None, numbers)?;
     let item = field(alloc, name, nullable, DataType::Int(INT16))?;
-    let mut builder = ListBuilder::with_capacity(alloc, 1)?;
+    let mut builder = ListBuilder::with_capacity(alloc, width, 1)?;
     push_lengths(&mut builder)?;
     Ok(builder.finish(item, child)?)
 }
@@ -291,27 +304,32 @@ const BUILT_OFFSETS: &[usize] = &[0, 1, 1, 1, 3];
 
 #[test]
 fn builds_lists_with_their_items_field(rt: HostRuntime) -> Result<(), Fail> {
-    for (name, nullable) in [("item", true), ("entry", false)] {
-        let array = lists(rt.alloc(), name, nullable)?;
-        let view = array.view();
-        assert!(rt;
-            shows(&view, BUILT) && has_item(&view, name, nullable),
-            "{name}"
-        );
-        assert!(rt; has_offsets(&view, BUILT_OFFSETS));
+    for width in [OffsetWidth::Narrow, OffsetWidth::Wide] {
+        for (name, nullable) in [("item", true), ("entry", false)] {
+            let array = lists(rt.alloc(), width, name, nullable)?;
+            let view = array.view();
+            assert!(rt;
+                shows(&view, BUILT) && has_item(&view, name, nullable),
+                "{name}"
+            );
+            assert!(rt; has_offsets(&view, BUILT_OFFSETS) && has_width(&view, width));
+        }
     }
     Ok(())
 }
 
+/// No array has more items, whatever the offsets count.
 #[test]
-fn tells_full_offsets(rt: HostRuntime) -> Result<(), Fail> {
-    let mut builder = ListBuilder::with_capacity(rt.alloc(), 4)?;
-    assert!(rt; builder.push(Some(usize::MAX)) == Err(OffsetsFull));
-    builder.push(Some(2147483646))?;
-    assert!(rt; builder.push(Some(2)) == Err(OffsetsFull));
-    builder.push(Some(1))?;
-    builder.push(None)?;
-    builder.push(Some(0))?;
-    assert!(rt; builder.push(Some(1)) == Err(OffsetsFull));
+fn tells_more_items_than_an_array_has(rt: HostRuntime) -> Result<(), Fail> {
+    for width in [OffsetWidth::Narrow, OffsetWidth::Wide] {
+        let mut builder = ListBuilder::with_capacity(rt.alloc(), width, 4)?;
+        assert!(rt; builder.push(Some(usize::MAX)) == Err(OffsetsFull));
+        builder.push(Some(2147483646))?;
+        assert!(rt; builder.push(Some(2)) == Err(OffsetsFull));
+        builder.push(Some(1))?;
+        builder.push(None)?;
+        builder.push(Some(0))?;
+        assert!(rt; builder.push(Some(1)) == Err(OffsetsFull));
+    }
     Ok(())
 }

@@ -5,14 +5,19 @@ mod deep;
 mod hostile;
 mod over;
 
-use Held::{Bytes, Int32s, Nothing};
+use Held::{Bytes, Cut, Int32s, Nothing, Offsets};
 use Inner::{Bits, Indices, Numbers, Texts};
-use arrays::{DataType, IntType, LayoutFault, RawArray, ViewType, Width, validate};
+use arrays::{
+    Array, DataType, IntType, LayoutFault, OffsetWidth, RawArray, ViewType, Width, validate,
+};
 use colbits::Buffer;
 use std::alloc::Global;
 use std::process::Abort;
 use std::test::Fail;
-use test_samples::{INT32, Positions, lists_of, raw, shows_numbers};
+use test_samples::{
+    INT32, Positions, WIDTHS, Widths, has_width, list_of, lists_of, offset_bytes, raw,
+    shows_numbers,
+};
 
 /// A type that isn't a list: of numbers the width, and whether they are signed.
 #[derive(Clone, Copy)]
@@ -28,8 +33,12 @@ enum Inner {
 enum Held {
     Nothing,
     Bytes(&'static [u8]),
-    /// Offsets or indices, little-endian.
+    /// Numbers or indices, little-endian.
     Int32s(&'static [i32]),
+    /// Offsets, as wide as the array has them.
+    Offsets(&'static [i64]),
+    /// The same without so many of their last bytes.
+    Cut(&'static [i64], usize),
 }
 
 /// So many lists in one another and the type in them, the length, the null count, and what lies at each position.
@@ -37,32 +46,33 @@ type Part = (usize, Inner, u64, Option<u64>, &'static [Held]);
 
 const SHORT: Inner = Numbers(Width::W16, true);
 
-const WIDE: Inner = Numbers(Width::W32, true);
+const LONGER: Inner = Numbers(Width::W32, true);
 
 const UNSIGNED: Inner = Numbers(Width::W16, false);
 
 /// The validity of two slots that are valid.
 const BOTH: Held = Bytes(&[0x03]);
 
-/// The parts, without children or a dictionary.
-fn parts(alloc: Global, part: Part) -> Result<RawArray, Fail> {
+/// The parts, without children or a dictionary, whose offsets are of these widths.
+fn parts(alloc: Global, widths: Widths, part: Part) -> Result<RawArray, Fail> {
     let (lists, inner, length, null_count, positions) = part;
     let ty = match inner {
         Numbers(bits, signed) => DataType::Int(IntType { bits, signed }),
         Bits => DataType::Bool,
-        Texts => DataType::Utf8,
+        Texts => DataType::of_texts(widths.texts),
         Indices => DataType::Dict,
     };
-    let mut parts = raw(alloc, lists_of(alloc, lists, ty)?, length, &[])?;
+    let mut parts = raw(alloc, lists_of(alloc, widths, lists, ty)?, length, &[])?;
     parts.null_count = null_count;
     for held in positions {
-        parts.buffers.push(buffer(alloc, *held)?)?;
+        let buffer = buffer(alloc, widths.of_lists(lists), *held)?;
+        parts.buffers.push(buffer)?;
     }
     Ok(parts)
 }
 
-/// The buffer at a position.
-fn buffer(alloc: Global, held: Held) -> Result<Option<Buffer>, Fail> {
+/// The buffer at a position of an array whose offsets are of this width.
+fn buffer(alloc: Global, width: OffsetWidth, held: Held) -> Result<Option<Buffer>, Fail> {
     let mut bytes = Vec::new(alloc);
     match held {
         Nothing => return Ok(None),
@@ -72,6 +82,11 @@ fn buffer(alloc: Global, held: Held) -> Result<Option<Buffer>, Fail> {
                 bytes.extend_from_slice(&number.to_le_bytes())?;
             }
         }
+        Offsets(offsets) => bytes = offset_bytes(alloc, width, offsets)?,
+        Cut(offsets, missing) => {
+            bytes = offset_bytes(alloc, width, offsets)?;
+            bytes.truncate(bytes.len().saturating_sub(missing));
+        }
     }
     Ok(Some(Buffer::from_vec(bytes)?))
 }
@@ -80,44 +95,67 @@ fn buffer(alloc: Global, held: Held) -> Result<Option<Buffer>, Fail> {
 type Whole = (Part, &'static [Part], Option<Part>);
 
 /// The parts with what stands in them.
-fn assembled(alloc: Global, whole: Whole) -> Result<RawArray, Fail> {
+fn assembled(alloc: Global, widths: Widths, whole: Whole) -> Result<RawArray, Fail> {
     let (own, children, dictionary) = whole;
-    let mut array = parts(alloc, own)?;
+    let mut array = parts(alloc, widths, own)?;
     for child in children {
-        array.children.push(parts(alloc, *child)?)?;
+        array.children.push(parts(alloc, widths, *child)?)?;
     }
     if let Some(entries) = dictionary {
-        array.dictionary = Some(Box::new(alloc, parts(alloc, entries)?)?);
+        let entries = parts(alloc, widths, entries)?;
+        array.dictionary = Some(Box::new(alloc, entries)?);
     }
     Ok(array)
 }
 
-/// Asserts the fault of each, in groups of one fault.
-fn expect_faults(
+/// Asserts the fault of each, in groups of one fault, whose offsets are of these widths.
+fn expect_at(
     rt: &impl Abort,
     alloc: Global,
+    widths: Widths,
     groups: &[(Option<LayoutFault>, &[Whole])],
 ) -> Result<(), Fail> {
     for (fault, wholes) in groups {
         for (i, whole) in wholes.iter().enumerate() {
-            let told = validate(alloc, assembled(alloc, *whole)?).err();
-            assert!(rt; told == *fault, "{told:?} for {fault:?}, {i}");
+            let told = validate(alloc, assembled(alloc, widths, *whole)?).err();
+            assert!(rt; told == *fault, "{told:?} for {fault:?}, {i}, {widths:?}");
         }
     }
     Ok(())
 }
 
-/// An array in so many lists of one slot, each of these positions.
+/// Asserts it at each of several widths.
+fn expect_faults(
+    rt: &impl Abort,
+    alloc: Global,
+    several: &[Widths],
+    groups: &[(Option<LayoutFault>, &[Whole])],
+) -> Result<(), Fail> {
+    for widths in several {
+        expect_at(rt, alloc, *widths, groups)?;
+    }
+    Ok(())
+}
+
+/// What lies at the two positions of lists.
+type Slot = [Held; 2];
+
+/// An array in so many lists of one slot.
 fn in_lists(
     alloc: Global,
+    widths: Widths,
     lists: usize,
     array: RawArray,
-    slot: Positions,
+    slot: Slot,
 ) -> Result<RawArray, Fail> {
     let mut inner = array;
-    for _list in 0..lists {
-        let ty = lists_of(alloc, 1, inner.ty.copy(alloc)?)?;
-        let mut list = raw(alloc, ty, 1, slot)?;
+    for list in 0..lists {
+        let width = widths.of_lists(list + 1);
+        let ty = list_of(alloc, width, inner.ty.copy(alloc)?)?;
+        let mut list = raw(alloc, ty, 1, &[])?;
+        for held in slot {
+            list.buffers.push(buffer(alloc, width, held)?)?;
+        }
         list.children.push(inner)?;
         inner = list;
     }
@@ -128,20 +166,33 @@ fn in_lists(
 const NUMBER: Positions = &[None, Some(&[42, 0, 0, 0])];
 
 /// A slot of one item.
-const ONE_ITEM: Positions = &[None, Some(&[0, 0, 0, 0, 1, 0, 0, 0])];
+const ONE_ITEM: Slot = [Nothing, Offsets(&[0, 1])];
+
+/// Whether the number stands in eight lists.
+fn is_in_eight_lists(array: &Array, widths: Widths) -> bool {
+    let mut view = array.view();
+    for list in 0..8 {
+        if !has_width(&view, widths.of_lists(8 - list)) || view.len() != 1 {
+            return false;
+        }
+        let ViewType::List(_, _) = view.ty() else {
+            return false;
+        };
+        match view.list_at(0) {
+            Some(items) => view = items,
+            None => return false,
+        }
+    }
+    shows_numbers(&view, &[Some(42)])
+}
 
 #[test]
 fn reads_the_number_in_eight_lists(rt: HostRuntime) -> Result<(), Fail> {
-    let number = raw(rt.alloc(), DataType::Int(INT32), 1, NUMBER)?;
-    let array = validate(rt.alloc(), in_lists(rt.alloc(), 8, number, ONE_ITEM)?)?;
-    let mut view = array.view();
-    for _list in 0..8 {
-        assert!(rt; matches!(view.ty(), ViewType::List(_)) && view.len() == 1);
-        match view.list_at(0) {
-            Some(items) => view = items,
-            None => panic!(rt; "the list is null"),
-        }
+    for widths in WIDTHS {
+        let number = raw(rt.alloc(), DataType::Int(INT32), 1, NUMBER)?;
+        let lists = in_lists(rt.alloc(), widths, 8, number, ONE_ITEM)?;
+        let array = validate(rt.alloc(), lists)?;
+        assert!(rt; is_in_eight_lists(&array, widths), "{widths:?}");
     }
-    assert!(rt; shows_numbers(&view, &[Some(42)]));
     Ok(())
 }

@@ -1,20 +1,23 @@
 //! Tests of arrays that are made of lawful parts, and of copies.
 
-ghost use Rattle.std.specs.Prelude.{◌≡◌, pos, [], ◌∷◌, IfOk};
+ghost use Rattle.std.specs.Prelude.{◌≡◌, pos, [], ◌∷◌, Some, IfOk};
+ghost use Rattle.layout.specs.Offsets.{AreOffsetBytes, offsets_in};
 ghost use Rattle.arrays.specs.Item.{int, null};
 ghost use Rattle.arrays.specs.Kind as kind;
 ghost use Rattle.arrays.specs.Kind.{int32};
 
-use arrays::{Array, DataType, IntBuilder, IntType, LayoutFault, ViewType, Words};
+use arrays::{
+    Array, DataType, IntBuilder, IntType, LayoutFault, OffsetSlots, OffsetWidth, ViewType, Words,
+};
 use colbits::Buffer;
 use std::alloc::Global;
 use std::process::Abort;
 use std::sync::Arc;
 use std::test::Fail;
-use test_samples::Sample::{self, Coded, Lists, ListsOfLists, Of};
+use test_samples::Sample::{self, Coded, Lists, ListsOfLists, Of, Texts};
 use test_samples::{
-    Flat, INT16, INT32, Parts, Positions, Shown, checked, field, has_item, sampled, shows,
-    shows_bools, shows_lists, shows_numbers,
+    Flat, INT16, INT32, NAMES, Parts, Shown, WIDTHS, field, has_item, has_width, offset_bytes,
+    sampled, sampled_at, shows, shows_bools, shows_lists, shows_numbers,
 };
 
 #[test]
@@ -37,110 +40,175 @@ fn makes_truth_values(rt: HostRuntime) -> Result<(), Fail> {
 }
 
 /// The offsets 0, 1, 3 and 3.
-const OFFSETS: &[u8] = &[0, 0, 0, 0, 1, 0, 0, 0, 3, 0, 0, 0, 3, 0, 0, 0];
+fn offsets(alloc: Global, width: OffsetWidth) -> Result<Buffer, Fail>
+    ensures bounds { IfOk result (λ o. AreOffsetBytes width 3 o 3) }
+    ensures numbers { IfOk result (λ o. offsets_in width o 0 3 ≡ 0 ∷ 1 ∷ 3 ∷ 3 ∷ []) }
+{
+    let mut bytes = Vec::new(alloc);
+    width.push(&mut bytes, 0)?;
+    width.push(&mut bytes, 1)?;
+    width.push(&mut bytes, 3)?;
+    width.push(&mut bytes, 3)?;
+    Ok(Buffer::from_vec(bytes)?)
+}
+
+/// Three slots of these offsets, of which the second is null.
+fn slots(alloc: Global, width: OffsetWidth) -> Result<OffsetSlots, Fail>
+    ensures width { IfOk result (λ s. s.width ≡ width) }
+    ensures len { IfOk result (λ s. s.len ≡ 3) }
+    ensures validity { IfOk result (λ s. s.validity ≡ Some (5 ∷ [])) }
+    ensures bounds { IfOk result (λ s. AreOffsetBytes width 3 s.offsets 3) }
+    ensures numbers { IfOk result (λ s. offsets_in width s.offsets 0 3 ≡ 0 ∷ 1 ∷ 3 ∷ 3 ∷ []) }
+{
+    Ok(OffsetSlots {
+        width,
+        len: 3,
+        validity: Some(Buffer::from_bytes(alloc, &[0x05])?),
+        offsets: offsets(alloc, width)?,
+    })
+}
 
 /// The texts `a`, `bc` and nothing, of which the second is null.
-fn texts(alloc: Global) -> Result<Array, Fail> {
-    let validity = Buffer::from_bytes(alloc, &[0x05])?;
-    let offsets = Buffer::from_bytes(alloc, OFFSETS)?;
+fn texts(alloc: Global, width: OffsetWidth) -> Result<Array, Fail> {
+    let slots = slots(alloc, width)?;
     let bytes = Buffer::from_bytes(alloc, b"a\xff\xff")?;
-    Ok(Array::from_texts(alloc, 3, Some(validity), offsets, bytes)?)
+    Ok(Array::from_texts(alloc, slots, bytes)?)
 }
 
 #[test]
 fn makes_texts(rt: HostRuntime) -> Result<(), Fail> {
-    let array = texts(rt.alloc())?;
-    assert!(rt; shows(&array.view(), Shown::Texts(&[Some("a"), None, Some("")])));
+    for width in [OffsetWidth::Narrow, OffsetWidth::Wide] {
+        let array = texts(rt.alloc(), width)?;
+        assert!(rt; shows(&array.view(), Shown::Texts(&[Some("a"), None, Some("")])));
+        assert!(rt; has_width(&array.view(), width));
+    }
     Ok(())
 }
 
 /// The lists of 1, of 2 and 3, and of nothing, of which the second is null, with this field of their items.
-fn lists(alloc: Global, name: &str, nullable: bool) -> Result<Array, Fail> {
+fn lists(alloc: Global, width: OffsetWidth, name: &str, nullable: bool) -> Result<Array, Fail> {
     let values = Buffer::from_bytes(alloc, &[1, 0, 2, 0, 3, 0])?;
     let child = Array::from_numbers(alloc, INT16, 3, None, values)?;
     let item = field(alloc, name, nullable, DataType::Int(INT16))?;
-    let validity = Buffer::from_bytes(alloc, &[0x05])?;
-    let offsets = Buffer::from_bytes(alloc, OFFSETS)?;
-    Ok(Array::from_list(alloc, item, 3, Some(validity), offsets, child)?)
+    Ok(Array::from_list(alloc, item, slots(alloc, width)?, child)?)
 }
 
 const MADE: Shown = Shown::Lists(&[Some(&[Some(1)]), None, Some(&[])]);
 
 #[test]
 fn makes_and_copies_lists_with_their_items_field(rt: HostRuntime) -> Result<(), Fail> {
-    for (name, nullable) in [("item", true), ("entry", false)] {
-        let array = lists(rt.alloc(), name, nullable)?;
-        let copy = array.copy(rt.alloc())?;
-        assert!(rt; is_copied(&array, &copy, MADE));
-        assert!(rt; has_item(&array.view(), name, nullable));
-        assert!(rt; has_item(&copy.view(), name, nullable));
+    for width in [OffsetWidth::Narrow, OffsetWidth::Wide] {
+        for (name, nullable) in [("item", true), ("entry", false)] {
+            let array = lists(rt.alloc(), width, name, nullable)?;
+            let copy = array.copy(rt.alloc())?;
+            assert!(rt; is_copied(&array, &copy, MADE) && has_width(&copy.view(), width));
+            assert!(rt; has_item(&array.view(), name, nullable));
+            assert!(rt; has_item(&copy.view(), name, nullable));
+        }
     }
     Ok(())
 }
 
 /// What lists from outside say of themselves: the type of their items, how many they are, their bitmap and offsets.
-type Outside<'a> = (IntType, u32, &'a [u8], &'a [u8]);
+type Outside<'a> = (IntType, u32, &'a [u8], &'a [i64]);
 
-/// Lists from outside over the numbers 1, 2 and 3.
-fn tried(alloc: Global, outside: Outside<'_>) -> Result<Result<Array, LayoutFault>, Fail> {
+/// Lists from outside over the numbers 1, 2 and 3, whose offsets are of this width.
+fn tried(
+    alloc: Global,
+    width: OffsetWidth,
+    outside: Outside<'_>,
+) -> Result<Result<Array, LayoutFault>, Fail> {
     let (item, len, validity, offsets) = outside;
     let values = Buffer::from_bytes(alloc, &[1, 0, 2, 0, 3, 0])?;
     let child = Array::from_numbers(alloc, INT16, 3, None, values)?;
     let item = field(alloc, "item", true, DataType::Int(item))?;
-    let validity = Buffer::from_bytes(alloc, validity)?;
-    let offsets = Buffer::from_bytes(alloc, offsets)?;
-    Ok(Array::try_list(alloc, item, len, Some(validity), offsets, child))
+    let slots = OffsetSlots {
+        width,
+        len,
+        validity: Some(Buffer::from_bytes(alloc, validity)?),
+        offsets: Buffer::from_vec(offset_bytes(alloc, width, offsets)?)?,
+    };
+    Ok(Array::try_list(alloc, item, slots, child))
 }
-
-/// The offsets 1, 2, 3 and 3.
-const LATE: &[u8] = &[1, 0, 0, 0, 2, 0, 0, 0, 3, 0, 0, 0, 3, 0, 0, 0];
 
 #[test]
 fn makes_lists_of_offsets_from_outside(rt: HostRuntime) -> Result<(), Fail> {
-    let array = tried(rt.alloc(), (INT16, 3, &[0x05], LATE))??;
-    let view = array.view();
-    assert!(rt; shows_lists(&view, &[Some(&[Some(2)]), None, Some(&[])]));
-    assert!(rt; has_item(&view, "item", true));
+    for width in [OffsetWidth::Narrow, OffsetWidth::Wide] {
+        let array = tried(rt.alloc(), width, (INT16, 3, &[0x05], &[1, 2, 3, 3]))??;
+        let view = array.view();
+        assert!(rt; shows_lists(&view, &[Some(&[Some(2)]), None, Some(&[])]));
+        assert!(rt; has_item(&view, "item", true) && has_width(&view, width));
+    }
     Ok(())
 }
 
-/// Offsets of which the third is below 0, the third is below the second, the last is past the numbers, and one is
-/// missing.
-const NEGATIVE: &[u8] = &[0, 0, 0, 0, 1, 0, 0, 0, 0xff, 0xff, 0xff, 0xff, 3, 0, 0, 0];
+/// Lawful offsets, and some of which one is missing.
+const OFFSETS: &[i64] = &[0, 1, 3, 3];
 
-const DECREASING: &[u8] = &[0, 0, 0, 0, 2, 0, 0, 0, 1, 0, 0, 0, 3, 0, 0, 0];
+const SHORT: &[i64] = &[0, 1, 3];
 
-const PAST: &[u8] = &[0, 0, 0, 0, 1, 0, 0, 0, 3, 0, 0, 0, 4, 0, 0, 0];
+/// What is wrong at each width.
+const WRONG: [(Outside<'_>, LayoutFault); 9] = [
+    ((INT16, 2147483648, &[0x05], OFFSETS), LayoutFault::TooLong),
+    ((INT32, 3, &[0x05], OFFSETS), LayoutFault::ChildDiffers),
+    ((INT16, 3, &[], OFFSETS), LayoutFault::BufferTooShort),
+    ((INT16, 3, &[0x05], SHORT), LayoutFault::BufferTooShort),
+    (
+        (INT16, 2147483647, &[0x05], OFFSETS),
+        LayoutFault::BufferTooShort,
+    ),
+    (
+        (INT16, 3, &[0x05], &[0, 1, -1, 3]),
+        LayoutFault::OffsetNegative,
+    ),
+    ((INT16, 0, &[], &[-2147483648]), LayoutFault::OffsetNegative),
+    (
+        (INT16, 3, &[0x05], &[0, 2, 1, 3]),
+        LayoutFault::OffsetDecreases { row: 1 },
+    ),
+    (
+        (INT16, 3, &[0x05], &[0, 1, 3, 4]),
+        LayoutFault::OffsetPastEnd,
+    ),
+];
 
-const SHORT: &[u8] = &[0, 0, 0, 0, 1, 0, 0, 0, 3, 0, 0, 0];
+/// What is wrong with offsets that 32 bits don't hold. The lower halves of the last are lawful.
+const WRONG_OF_64_BITS: [(Outside<'_>, LayoutFault); 4] = [
+    ((INT16, 0, &[], &[i64::MIN]), LayoutFault::OffsetNegative),
+    (
+        (INT16, 3, &[0x05], &[0, 1, 3, 1 << 31]),
+        LayoutFault::OffsetPastEnd,
+    ),
+    (
+        (INT16, 3, &[0x05], &[0, 4294967297, 3, 3]),
+        LayoutFault::OffsetDecreases { row: 1 },
+    ),
+    (
+        (INT16, 3, &[0x05], &[0, 1, 3, 4294967299]),
+        LayoutFault::OffsetPastEnd,
+    ),
+];
+
+/// Asserts the fault of each.
+fn expect_wrong(
+    rt: &impl Abort,
+    alloc: Global,
+    width: OffsetWidth,
+    cases: &[(Outside<'_>, LayoutFault)],
+) -> Result<(), Fail> {
+    for (outside, fault) in cases {
+        let told = tried(alloc, width, *outside)?.err();
+        assert!(rt; told == Some(*fault), "{told:?} for {fault:?}, {width:?}");
+    }
+    Ok(())
+}
 
 #[test]
 fn tells_what_is_wrong_with_lists_from_outside(rt: HostRuntime) -> Result<(), Fail> {
-    let cases: [(Outside<'_>, LayoutFault); 9] = [
-        ((INT16, 2147483648, &[0x05], OFFSETS), LayoutFault::TooLong),
-        ((INT32, 3, &[0x05], OFFSETS), LayoutFault::ChildDiffers),
-        ((INT16, 3, &[], OFFSETS), LayoutFault::BufferTooShort),
-        ((INT16, 3, &[0x05], SHORT), LayoutFault::BufferTooShort),
-        (
-            (INT16, 2147483647, &[0x05], OFFSETS),
-            LayoutFault::BufferTooShort,
-        ),
-        ((INT16, 3, &[0x05], NEGATIVE), LayoutFault::OffsetNegative),
-        (
-            (INT16, 0, &[], &[0, 0, 0, 0x80]),
-            LayoutFault::OffsetNegative,
-        ),
-        (
-            (INT16, 3, &[0x05], DECREASING),
-            LayoutFault::OffsetDecreases { row: 1 },
-        ),
-        ((INT16, 3, &[0x05], PAST), LayoutFault::OffsetPastEnd),
-    ];
-    for (outside, fault) in cases {
-        let told = tried(rt.alloc(), outside)?.err();
-        assert!(rt; told == Some(fault), "{told:?} for {fault:?}");
+    for width in [OffsetWidth::Narrow, OffsetWidth::Wide] {
+        expect_wrong(&rt, rt.alloc(), width, &WRONG)?;
     }
-    Ok(())
+    expect_wrong(&rt, rt.alloc(), OffsetWidth::Wide, &WRONG_OF_64_BITS)
 }
 
 /// The numbers 1, 0, 2, 4 and 8, of which the second is null.
@@ -154,10 +222,14 @@ const NUMBERS: Parts = (
 );
 
 /// Arrays, and what they and their copies hold.
-const COPIED: [(Sample, Shown); 4] = [
+const COPIED: [(Sample, Shown); 5] = [
     (
         Of(NUMBERS),
         Shown::Numbers(&[Some(1), None, Some(2), Some(4), Some(8)]),
+    ),
+    (
+        Texts(NAMES),
+        Shown::Texts(&[Some("joe"), None, None, Some("mark")]),
     ),
     (
         Lists,
@@ -194,20 +266,18 @@ fn is_copied(array: &Array, copy: &Array, shown: Shown) -> bool {
 
 #[test]
 fn copies_arrays(rt: HostRuntime) -> Result<(), Fail> {
-    for (i, (sample, shown)) in COPIED.iter().enumerate() {
-        let array = sampled(rt.alloc(), *sample)?;
-        let copy = array.copy(rt.alloc())?;
-        assert!(rt; is_copied(&array, &copy, *shown), "array {i}");
+    for widths in WIDTHS {
+        for (i, (sample, shown)) in COPIED.iter().enumerate() {
+            let array = sampled_at(rt.alloc(), widths, *sample)?;
+            let copy = array.copy(rt.alloc())?;
+            assert!(rt; is_copied(&array, &copy, *shown), "array {i}, {widths:?}");
+        }
     }
     Ok(())
 }
 
 /// The texts `a`, `b` and `a`, and a null.
-const TEXTS: Positions = &[
-    Some(&[0x07]),
-    Some(&[0, 0, 0, 0, 1, 0, 0, 0, 2, 0, 0, 0, 3, 0, 0, 0, 3, 0, 0, 0]),
-    Some(b"aba"),
-];
+const TEXTS: test_samples::Words = (Some(&[0x07]), &[0, 1, 2, 3, 3], b"aba");
 
 /// The codes 2, 0, 3, null and 1.
 fn codes(alloc: Global) -> Result<Array, Fail>
@@ -225,8 +295,8 @@ fn codes(alloc: Global) -> Result<Array, Fail>
 
 /// The codes with the texts as their dictionary.
 fn encoded(rt: &impl Abort, alloc: Global) -> Result<Array, Fail> {
-    let texts = checked(alloc, DataType::Utf8, 4, TEXTS)?;
-    let ViewType::Utf8 = texts.view().ty() else {
+    let texts = sampled(alloc, Texts(TEXTS))?;
+    let ViewType::Text(OffsetWidth::Narrow) = texts.view().ty() else {
         panic!(rt; "these are no texts");
     };
     assert!(rt; texts.len() == 4);

@@ -2,39 +2,62 @@
 
 use arrays::BatchFault::{self, ColumnCount, LengthsDiffer, TypeDiffers};
 use arrays::SchemaFault::{DictInList, TooDeep};
-use arrays::{DataType, IntType, RecordBatch, Schema};
+use arrays::{Array, DataType, IntType, RecordBatch, Schema, validate};
 use std::alloc::Global;
 use std::sync::Arc;
 use std::test::Fail;
-use test_samples::{INT16, INT32, Positions, Shown, checked, field, lists_of, shows};
+use test_samples::{
+    INT16, INT32, NARROW, Positions, Shown, WIDE, WIDE_IN_NARROW, WIDTHS, Widths, checked, field,
+    list_of, lists_of, raw, shows,
+};
 
 #[test]
 fn tells_faults_of_schemas(rt: HostRuntime) -> Result<(), Fail> {
     let alloc = rt.alloc();
-    for (lists, ty, fault) in [
-        (8, DataType::Bool, None),
-        (9, DataType::Bool, Some(TooDeep { column: 0 })),
-        (1_000_000, DataType::Dict, Some(TooDeep { column: 0 })),
-        (1, DataType::Dict, Some(DictInList { column: 0 })),
-    ] {
-        let ty = lists_of(alloc, lists, ty)?;
-        let fields = vec![in alloc; field(alloc, "name", true, ty)?]?;
-        assert!(rt; Schema::new(fields).err() == fault, "{lists} lists");
+    for widths in WIDTHS {
+        for (lists, ty, fault) in [
+            (8, DataType::Bool, None),
+            (9, DataType::Bool, Some(TooDeep { column: 0 })),
+            (200_000, DataType::Dict, Some(TooDeep { column: 0 })),
+            (1, DataType::Dict, Some(DictInList { column: 0 })),
+            (8, DataType::Dict, Some(DictInList { column: 0 })),
+        ] {
+            let ty = lists_of(alloc, widths, lists, ty)?;
+            let fields = vec![in alloc; field(alloc, "name", true, ty)?]?;
+            assert!(rt;
+                Schema::new(fields).err() == fault,
+                "{lists} lists, {widths:?}"
+            );
+        }
     }
     Ok(())
 }
 
-/// A schema of a field of lists of lists of numbers.
-const NESTED: &str =
-    r#"Schema { fields: [Field { name: "name", nullable: true, ty: List(Field { name: "item", nullable: true, ty: List(Field { name: "item", nullable: true, ty: Int(IntType { bits: W16, signed: true }) }) }) }] }"#;
+/// Schemas of a field of lists of lists of texts.
+const NESTED: [(Widths, &str); 3] = [
+    (
+        NARROW,
+        r#"Schema { fields: [Field { name: "name", nullable: true, ty: List(Field { name: "item", nullable: true, ty: List(Field { name: "item", nullable: true, ty: Utf8 }) }) }] }"#,
+    ),
+    (
+        WIDE,
+        r#"Schema { fields: [Field { name: "name", nullable: true, ty: LargeList(Field { name: "item", nullable: true, ty: LargeList(Field { name: "item", nullable: true, ty: LargeUtf8 }) }) }] }"#,
+    ),
+    (
+        WIDE_IN_NARROW,
+        r#"Schema { fields: [Field { name: "name", nullable: true, ty: LargeList(Field { name: "item", nullable: true, ty: List(Field { name: "item", nullable: true, ty: LargeUtf8 }) }) }] }"#,
+    ),
+];
 
 #[test]
 fn copies_schemas(rt: HostRuntime) -> Result<(), Fail> {
     let alloc = rt.alloc();
-    let ty = lists_of(alloc, 2, DataType::Int(INT16))?;
-    let schema = Schema::new(vec![in alloc; field(alloc, "name", true, ty)?]?)?;
-    let written = format!(in alloc; "{:?}", schema.copy(alloc)?)?;
-    assert_eq!(rt; written.as_str(), NESTED);
+    for (widths, expected) in NESTED {
+        let ty = lists_of(alloc, widths, 2, DataType::of_texts(widths.texts))?;
+        let schema = Schema::new(vec![in alloc; field(alloc, "name", true, ty)?]?)?;
+        let written = format!(in alloc; "{:?}", schema.copy(alloc)?)?;
+        assert_eq!(rt; written.as_str(), expected);
+    }
     Ok(())
 }
 
@@ -88,6 +111,51 @@ fn batch_fault(alloc: Global, parts: Columns) -> Result<Option<BatchFault>, Fail
 fn tells_faults_of_batches(rt: HostRuntime) -> Result<(), Fail> {
     for (parts, fault) in BATCHES {
         assert!(rt; batch_fault(rt.alloc(), *parts)? == *fault, "{parts:?}");
+    }
+    Ok(())
+}
+
+/// The fault of a batch of a column of no rows, whose field is of another width.
+fn fault_of_widths(
+    alloc: Global,
+    field_widths: Widths,
+    column_widths: Widths,
+    lists: usize,
+) -> Result<Option<BatchFault>, Fail> {
+    let texts = DataType::of_texts(field_widths.texts);
+    let ty = lists_of(alloc, field_widths, lists, texts)?;
+    let fields = vec![in alloc; field(alloc, "name", true, ty)?]?;
+    let column = no_texts(alloc, column_widths, lists)?;
+    Ok(RecordBatch::new(Schema::new(fields)?, 0, vec![in alloc; column]?).err())
+}
+
+/// No texts, in so many lists in one another.
+fn no_texts(alloc: Global, widths: Widths, lists: usize) -> Result<Array, Fail> {
+    let no_bytes: &[u8] = &[];
+    let positions = [None, Some(no_bytes), Some(no_bytes)];
+    let mut column = raw(alloc, DataType::of_texts(widths.texts), 0, &positions)?;
+    for list in 0..lists {
+        let ty = list_of(alloc, widths.of_lists(list + 1), column.ty.copy(alloc)?)?;
+        let mut outer = raw(alloc, ty, 0, &[None, Some(no_bytes)])?;
+        outer.children.push(column)?;
+        column = outer;
+    }
+    Ok(validate(alloc, column)?)
+}
+
+#[test]
+fn columns_have_the_widths_of_their_fields(rt: HostRuntime) -> Result<(), Fail> {
+    let alloc = rt.alloc();
+    for (i, widths) in WIDTHS.iter().enumerate() {
+        for (j, others) in WIDTHS.iter().enumerate() {
+            let fault = fault_of_widths(alloc, *widths, *others, 2)?;
+            let expected = if i == j {
+                None
+            } else {
+                Some(TypeDiffers { column: 0 })
+            };
+            assert!(rt; fault == expected, "{widths:?} for {others:?}");
+        }
     }
     Ok(())
 }

@@ -1,13 +1,13 @@
 //! Tests of views and of their types.
 
 use crate::testing::has_bits;
-use arrays::{Array, DataType, ViewType, validate};
+use arrays::{Array, DataType, OffsetWidth, ViewType, validate};
 use std::alloc::Global;
 use std::test::Fail;
-use test_samples::Sample::{self, Coded, Lists, Of};
+use test_samples::Sample::{self, Coded, Lists, ListsOfLists, Of, Texts};
 use test_samples::{
-    Flat, INT8, INT32, NAMES, Parts, Positions, Shown, UINT32, built, lists_of, raw, sampled,
-    shows, shows_texts, slots_of,
+    Flat, INT8, INT32, NAMES, NARROW, Parts, Positions, Shown, UINT32, WIDE, WIDE_IN_NARROW,
+    WIDTHS, Words, built, lists_of, raw, raw_words, sampled_at, shows, shows_texts, slots_of,
 };
 
 /// The numbers 0, 1, null, 2, null and 3.
@@ -24,17 +24,13 @@ const NUMBERS: Parts = (
 const TRUTHS: Parts = (Flat::Bool, 10, &[Some(&[0xbb, 0x03]), Some(&[0x75, 0x03])]);
 
 /// The text `joe`, which doesn't begin at the first byte.
-const LATE: Parts = (
-    Flat::Utf8,
-    1,
-    &[None, Some(&[2, 0, 0, 0, 5, 0, 0, 0]), Some(b"xxjoe")],
-);
+const LATE: Words = (None, &[2, 5], b"xxjoe");
 
 /// The texts of the dictionary.
 const ENTRIES: &[Option<&str>] = &[Some("a"), Some("b"), Some("a"), None];
 
 /// Arrays, of their slots the first and how many, and what these hold.
-const SLICES: [(Sample, usize, usize, Shown); 8] = [
+const SLICES: [(Sample, usize, usize, Shown); 9] = [
     (Of(NUMBERS), 3, 3, Shown::Numbers(&[Some(2), None, Some(3)])),
     (
         Of(TRUTHS),
@@ -50,13 +46,13 @@ const SLICES: [(Sample, usize, usize, Shown); 8] = [
         ]),
     ),
     (
-        Of(NAMES),
+        Texts(NAMES),
         0,
         4,
         Shown::Texts(&[Some("joe"), None, None, Some("mark")]),
     ),
-    (Of(NAMES), 2, 2, Shown::Texts(&[None, Some("mark")])),
-    (Of(LATE), 0, 1, Shown::Texts(&[Some("joe")])),
+    (Texts(NAMES), 2, 2, Shown::Texts(&[None, Some("mark")])),
+    (Texts(LATE), 0, 1, Shown::Texts(&[Some("joe")])),
     (
         Lists,
         1,
@@ -65,6 +61,15 @@ const SLICES: [(Sample, usize, usize, Shown); 8] = [
             None,
             Some(&[Some(0), Some(-127), Some(127), Some(50)]),
             Some(&[]),
+        ]),
+    ),
+    (
+        ListsOfLists,
+        1,
+        2,
+        Shown::ListsOfLists(&[
+            None,
+            Some(&[Some(&[Some(0), Some(-127), Some(127), Some(50)]), Some(&[])]),
         ]),
     ),
     (
@@ -87,12 +92,14 @@ const SLICES: [(Sample, usize, usize, Shown); 8] = [
 
 #[test]
 fn slices_hold_their_slots(rt: HostRuntime) -> Result<(), Fail> {
-    for (sample, start, len, shown) in SLICES {
-        let array = sampled(rt.alloc(), sample)?;
-        assert!(rt;
-            shows(&slots_of(&array, start, len), shown),
-            "slots from {start} on"
-        );
+    for widths in WIDTHS {
+        for (sample, start, len, shown) in SLICES {
+            let array = sampled_at(rt.alloc(), widths, sample)?;
+            assert!(rt;
+                shows(&slots_of(&array, start, len), shown),
+                "slots from {start} on, {widths:?}"
+            );
+        }
     }
     Ok(())
 }
@@ -110,7 +117,7 @@ fn slices_have_their_part_of_a_bitmap(rt: HostRuntime) -> Result<(), Fail> {
 }
 
 /// The texts `x` and `y`.
-const LETTERS: Positions = &[None, Some(b"\0\0\0\0\x01\0\0\0\x02\0\0\0"), Some(b"xy")];
+const LETTERS: Words = (None, &[0, 1, 2], b"xy");
 
 /// The code 0, and a null over one that names no entry.
 const PAST: Positions = &[Some(&[0x01]), Some(&[0, 0, 0, 0, 5, 0, 0, 0])];
@@ -118,7 +125,7 @@ const PAST: Positions = &[Some(&[0x01]), Some(&[0, 0, 0, 0, 5, 0, 0, 0])];
 /// The text `x`, and a null over a code that names no entry.
 fn past(alloc: Global) -> Result<Array, Fail> {
     let mut codes = raw(alloc, DataType::Dict, 2, PAST)?;
-    let entries = raw(alloc, DataType::Utf8, 2, LETTERS)?;
+    let entries = raw_words(alloc, OffsetWidth::Narrow, LETTERS)?;
     codes.dictionary = Some(Box::new(alloc, entries)?);
     Ok(validate(alloc, codes)?)
 }
@@ -138,8 +145,14 @@ fn types_are_the_same_as_themselves_alone(rt: HostRuntime) -> Result<(), Fail> {
         DataType::Int(UINT32),
         DataType::Bool,
         DataType::Utf8,
-        lists_of(rt.alloc(), 1, DataType::Int(INT8))?,
-        lists_of(rt.alloc(), 1, DataType::Utf8)?,
+        DataType::LargeUtf8,
+        lists_of(rt.alloc(), NARROW, 1, DataType::Int(INT8))?,
+        lists_of(rt.alloc(), NARROW, 1, DataType::Utf8)?,
+        lists_of(rt.alloc(), NARROW, 1, DataType::LargeUtf8)?,
+        lists_of(rt.alloc(), WIDE, 1, DataType::Int(INT8))?,
+        lists_of(rt.alloc(), WIDE, 1, DataType::Utf8)?,
+        lists_of(rt.alloc(), NARROW, 2, DataType::Utf8)?,
+        lists_of(rt.alloc(), WIDE_IN_NARROW, 2, DataType::Utf8)?,
         DataType::Dict,
     ];
     for (i, ty) in types.iter().enumerate() {

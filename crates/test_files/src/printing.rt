@@ -14,7 +14,7 @@ use test_samples::{coded, field, raw};
 
 /// Files as they come, and as they are printed: 64-bit numbers as strings, 0 and no text under nulls, offsets from 0
 /// on, the items of lists that are there alone, and no member that isn't needed.
-const FILES: [(&str, &str); 7] = [
+const FILES: [(&str, &str); 9] = [
     (
         r#"{"schema":{"fields":[{"name":"n","nullable":true,"type":{"name":"int","bitWidth":64,"isSigned":true},"children":[]}]},"batches":[{"count":3,"columns":[{"name":"n","count":3,"VALIDITY":[1,0,1],"DATA":["9223372036854775807","x",-1]}]}]}"#,
         r#"{"batches":[{"columns":[{"DATA":["9223372036854775807","0","-1"],"VALIDITY":[1,0,1],"count":3,"name":"n"}],"count":3}],"schema":{"fields":[{"children":[],"name":"n","nullable":true,"type":{"bitWidth":64,"isSigned":true,"name":"int"}}]}}"#,
@@ -31,6 +31,15 @@ const FILES: [(&str, &str); 7] = [
     (
         r#"{"schema":{"fields":[{"name":"l","nullable":true,"type":{"name":"list"},"children":[{"name":"x","nullable":true,"type":{"name":"bool"},"children":[]}]}]},"batches":[{"count":3,"columns":[{"name":"l","count":3,"VALIDITY":[1,0,1],"OFFSET":[1,2,4,6],"children":[{"name":"x","count":7,"VALIDITY":[1,1,1,1,0,1,1],"DATA":[0,1,1,1,1,0,1]}]}]}]}"#,
         r#"{"batches":[{"columns":[{"OFFSET":[0,1,1,3],"VALIDITY":[1,0,1],"children":[{"DATA":[1,0,0],"VALIDITY":[1,0,1],"count":3,"name":"x"}],"count":3,"name":"l"}],"count":3}],"schema":{"fields":[{"children":[{"children":[],"name":"x","nullable":true,"type":{"name":"bool"}}],"name":"l","nullable":true,"type":{"name":"list"}}]}}"#,
+    ),
+    // Offsets of 64 bits come in either spelling, and are strings in print.
+    (
+        r#"{"schema":{"fields":[{"name":"l","nullable":true,"type":{"name":"largelist"},"children":[{"name":"item","nullable":true,"type":{"name":"int","bitWidth":8,"isSigned":true},"children":[]}]}]},"batches":[{"count":2,"columns":[{"name":"l","count":2,"VALIDITY":[1,0],"OFFSET":[0,"2",2],"children":[{"name":"item","count":2,"VALIDITY":[1,1],"DATA":[1,2]}]}]}]}"#,
+        r#"{"batches":[{"columns":[{"OFFSET":["0","2","2"],"VALIDITY":[1,0],"children":[{"DATA":[1,2],"VALIDITY":[1,1],"count":2,"name":"item"}],"count":2,"name":"l"}],"count":2}],"schema":{"fields":[{"children":[{"children":[],"name":"item","nullable":true,"type":{"bitWidth":8,"isSigned":true,"name":"int"}}],"name":"l","nullable":true,"type":{"name":"largelist"}}]}}"#,
+    ),
+    (
+        r#"{"schema":{"fields":[{"name":"k","nullable":true,"type":{"name":"largeutf8"},"children":[]}]},"batches":[{"count":3,"columns":[{"name":"k","count":3,"VALIDITY":[1,0,1],"OFFSET":["0","1","1","3"],"DATA":["b","","aa"]}]}]}"#,
+        r#"{"batches":[{"columns":[{"DATA":["b","","aa"],"OFFSET":["0","1","1","3"],"VALIDITY":[1,0,1],"count":3,"name":"k"}],"count":3}],"schema":{"fields":[{"children":[],"name":"k","nullable":true,"type":{"name":"largeutf8"}}]}}"#,
     ),
     // A text of two bytes, and one that JSON escapes; a field's name too.
     (

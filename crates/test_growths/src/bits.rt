@@ -1,5 +1,6 @@
 //! Buffers and bitmaps.
 
+use crate::columns::TEXTS;
 use crate::refusals::Refused;
 use crate::run::{Ran, run};
 use crate::scene::Scene;
@@ -10,7 +11,6 @@ use arrays::Array;
 use colbits::{BitmapBuf, BitmapBuilder, Bits, Buffer, NoMemory};
 use std::alloc::Global;
 use std::test::Fail;
-use test_samples::{NAMES, built};
 use truths::BothValid;
 
 /// A maker of a buffer.
@@ -41,7 +41,7 @@ impl<R> Trial<R> for Maker {
     fn run(&self, rt: &R, alloc: Global, refused: Option<Refused>) -> Result<Ran, Fail> {
         let scene = Making {
             maker: *self,
-            names: built(alloc, NAMES)?,
+            names: TEXTS.array(alloc)?,
         };
         run(rt, alloc, scene, refused)
     }

@@ -1,5 +1,6 @@
 //! The kernels.
 
+use crate::columns::{BOOLS, CODES, Column, LARGE_LISTS, LARGE_TEXTS, LISTS, NUMBERS, TEXTS};
 use crate::refusals::Refused;
 use crate::run::{Ran, run};
 use crate::scene::Scene;
@@ -13,7 +14,7 @@ use kernels::{
 };
 use std::alloc::Global;
 use std::test::Fail;
-use test_samples::{Flat, INT8, INT64, NAMES, Sample, sampled};
+use test_samples::{Flat, INT64, NARROW, Sample};
 
 /// A kernel.
 #[derive(Clone, Copy)]
@@ -33,58 +34,55 @@ enum Kernel {
     IsNull,
 }
 
-/// The numbers 1, null, 3 and 4.
-const SMALL: Sample = Sample::Of((Flat::Int(INT8), 4, &[Some(&[0x0d]), Some(&[1, 0, 3, 4])]));
-
 /// The numbers 1, 2, 3 and 4.
-const LARGE: Sample = Sample::Of((
-    Flat::Int(INT64),
-    4,
-    &[
-        None,
-        Some(b"\x01\0\0\0\0\0\0\0\x02\0\0\0\0\0\0\0\x03\0\0\0\0\0\0\0\x04\0\0\0\0\0\0\0"),
-    ],
-));
+const LONG: Column = Column(
+    NARROW,
+    Sample::Of((
+        Flat::Int(INT64),
+        4,
+        &[
+            None,
+            Some(b"\x01\0\0\0\0\0\0\0\x02\0\0\0\0\0\0\0\x03\0\0\0\0\0\0\0\x04\0\0\0\0\0\0\0"),
+        ],
+    )),
+);
 
-/// The truth values true, null, false and true.
-const TRUTHS: Sample = Sample::Of((Flat::Bool, 4, &[Some(&[0x0d]), Some(&[0x09])]));
-
-const TEXTS: Sample = Sample::Of(NAMES);
-
-pub(crate) const CASES: [(&str, Case); 21] = [
-    ("add", Case(Kernel::Add, SMALL)),
-    ("add, 64 bits", Case(Kernel::Add, LARGE)),
-    ("sub", Case(Kernel::Sub, SMALL)),
-    ("mul", Case(Kernel::Mul, SMALL)),
-    ("add_number", Case(Kernel::AddNumber, SMALL)),
-    ("add_number, 64 bits", Case(Kernel::AddNumber, LARGE)),
-    ("sub_number", Case(Kernel::SubNumber, SMALL)),
-    ("sub_from_number", Case(Kernel::SubFromNumber, SMALL)),
-    ("mul_number", Case(Kernel::MulNumber, SMALL)),
-    ("compare", Case(Kernel::Compare, SMALL)),
-    ("compare, 64 bits", Case(Kernel::Compare, LARGE)),
-    ("compare, truth values", Case(Kernel::Compare, TRUTHS)),
+pub(crate) const CASES: [(&str, Case); 23] = [
+    ("add", Case(Kernel::Add, NUMBERS)),
+    ("add, 64 bits", Case(Kernel::Add, LONG)),
+    ("sub", Case(Kernel::Sub, NUMBERS)),
+    ("mul", Case(Kernel::Mul, NUMBERS)),
+    ("add_number", Case(Kernel::AddNumber, NUMBERS)),
+    ("add_number, 64 bits", Case(Kernel::AddNumber, LONG)),
+    ("sub_number", Case(Kernel::SubNumber, NUMBERS)),
+    ("sub_from_number", Case(Kernel::SubFromNumber, NUMBERS)),
+    ("mul_number", Case(Kernel::MulNumber, NUMBERS)),
+    ("compare", Case(Kernel::Compare, NUMBERS)),
+    ("compare, 64 bits", Case(Kernel::Compare, LONG)),
+    ("compare, truth values", Case(Kernel::Compare, BOOLS)),
     ("compare, texts", Case(Kernel::Compare, TEXTS)),
-    ("compare, codes", Case(Kernel::Compare, Sample::Coded)),
-    ("compare_number", Case(Kernel::CompareNumber, SMALL)),
-    ("kleene_and", Case(Kernel::And, TRUTHS)),
-    ("kleene_or", Case(Kernel::Or, TRUTHS)),
-    ("kleene_not", Case(Kernel::Not, TRUTHS)),
-    ("is_null", Case(Kernel::IsNull, SMALL)),
-    ("is_null, codes", Case(Kernel::IsNull, Sample::Coded)),
-    ("is_null, lists", Case(Kernel::IsNull, Sample::Lists)),
+    ("compare, large texts", Case(Kernel::Compare, LARGE_TEXTS)),
+    ("compare, codes", Case(Kernel::Compare, CODES)),
+    ("compare_number", Case(Kernel::CompareNumber, NUMBERS)),
+    ("kleene_and", Case(Kernel::And, BOOLS)),
+    ("kleene_or", Case(Kernel::Or, BOOLS)),
+    ("kleene_not", Case(Kernel::Not, BOOLS)),
+    ("is_null", Case(Kernel::IsNull, NUMBERS)),
+    ("is_null, codes", Case(Kernel::IsNull, CODES)),
+    ("is_null, lists", Case(Kernel::IsNull, LISTS)),
+    ("is_null, large lists", Case(Kernel::IsNull, LARGE_LISTS)),
 ];
 
 /// A kernel, and the column that it is given, on both sides where it wants two.
 #[derive(Clone, Copy)]
-pub(crate) struct Case(Kernel, Sample);
+pub(crate) struct Case(Kernel, Column);
 
 impl<R> Trial<R> for Case {
     fn run(&self, rt: &R, alloc: Global, refused: Option<Refused>) -> Result<Ran, Fail> {
-        let Case(kernel, sample) = *self;
+        let Case(kernel, column) = *self;
         let scene = Computing {
             kernel,
-            column: sampled(alloc, sample)?,
+            column: column.array(alloc)?,
         };
         run(rt, alloc, scene, refused)
     }

@@ -6,6 +6,8 @@
 #![tactic(auto)]
 
 mod bits;
+mod builders;
+mod columns;
 mod fault;
 mod gathering;
 mod kernels_of;
@@ -53,6 +55,7 @@ fn main(rt: HostRuntime) -> Result<ExitCode, Fail> {
 /// Has each request of the calls on columns, files and texts refused.
 fn sweep_columns<R: Print>(rt: &R, alloc: Global, tally: &mut Tally) -> Result<(), Fail> {
     sweep_all(rt, alloc, &bits::MAKERS, tally)?;
+    sweep_all(rt, alloc, &builders::BUILDS, tally)?;
     sweep_all(rt, alloc, &kernels_of::CASES, tally)?;
     sweep_all(rt, alloc, &selections::CASES, tally)?;
     sweep_all(rt, alloc, &statistics::CASES, tally)?;

@@ -1,19 +1,19 @@
 //! Columns of texts recoded into a pool.
 
-ghost use Rattle.arrays.specs.Slot.{is_text};
+ghost use Rattle.arrays.specs.Slot.{is_recodable};
 ghost use Rattle.std.specs.Prelude.{◌≡◌, IsTrue, true};
 
+use crate::columns::{CODES, Column, TEXTS};
 use crate::refusals::Refused;
 use crate::run::{Ran, run};
 use crate::scene::Scene;
 use crate::stop::Stop;
 use crate::sweep::Trial;
 use crate::tell::{tell_array, tell_arrays};
-use arrays::{Array, View, ViewType};
+use arrays::{Array, OffsetWidth, View, ViewType};
 use pool::{TextPool, recode, unify};
 use std::alloc::Global;
 use std::test::Fail;
-use test_samples::{NAMES, Sample, sampled};
 
 /// A call that gives texts a dictionary, or makes one a column.
 #[derive(Clone, Copy)]
@@ -23,26 +23,24 @@ enum Coding {
     ToArray,
 }
 
-const TEXTS: Sample = Sample::Of(NAMES);
-
 pub(crate) const CASES: [(&str, Case); 5] = [
     ("recode, texts", Case(Coding::Recode, TEXTS)),
-    ("recode, codes", Case(Coding::Recode, Sample::Coded)),
+    ("recode, codes", Case(Coding::Recode, CODES)),
     ("unify, texts", Case(Coding::Unify, TEXTS)),
-    ("unify, codes", Case(Coding::Unify, Sample::Coded)),
+    ("unify, codes", Case(Coding::Unify, CODES)),
     ("TextPool::to_array", Case(Coding::ToArray, TEXTS)),
 ];
 
 /// A call, and the column that it is given.
 #[derive(Clone, Copy)]
-pub(crate) struct Case(Coding, Sample);
+pub(crate) struct Case(Coding, Column);
 
 impl<R> Trial<R> for Case {
     fn run(&self, rt: &R, alloc: Global, refused: Option<Refused>) -> Result<Ran, Fail> {
-        let Case(coding, sample) = *self;
+        let Case(coding, column) = *self;
         let mut pool = TextPool::new(alloc);
-        let column = sampled(alloc, sample)?;
-        let other = sampled(alloc, Sample::Coded)?;
+        let column = column.array(alloc)?;
+        let other = CODES.array(alloc)?;
         fill(alloc, &other.view(), &mut pool)?;
         let scene = Recoding {
             coding,
@@ -115,12 +113,12 @@ impl<R> Scene<R> for Recoding {
     }
 }
 
-/// Whether a view is of texts.
+/// Whether a view is of texts that a dictionary may hold.
 fn is_of_texts(view: &View<'_>) -> bool
-    ensures { IsTrue result → is_text view.now.kind ≡ true }
+    ensures { IsTrue result → is_recodable view.now.kind ≡ true }
 {
     match view.ty() {
-        ViewType::Utf8 => true,
+        ViewType::Text(OffsetWidth::Narrow) => true,
         ViewType::Dict => true,
         _ => false,
     }

@@ -8,7 +8,7 @@ ghost use Rattle.query.specs.Fault.{fits};
 use crate::permit::Permit;
 use crate::refusals::Refused;
 use crate::run::{Ran, run};
-use crate::samples::{BY_TEXT, BY_TWO, ONE_MORE, first_batch, query_text, table};
+use crate::samples::{BY_LARGE_TEXT, BY_TEXT, BY_TWO, ONE_MORE, first_batch, query_text, table};
 use crate::scene::Scene;
 use crate::stop::Stop;
 use crate::sweep::Trial;
@@ -31,12 +31,28 @@ enum Call {
     Export,
 }
 
-pub(crate) const CASES: [(&str, Case); 9] = [
+pub(crate) const CASES: [(&str, Case); 13] = [
     ("resolve, by texts", Case(Call::Resolve, BY_TEXT)),
+    (
+        "resolve, by large texts",
+        Case(Call::Resolve, BY_LARGE_TEXT),
+    ),
     ("resolve, by two", Case(Call::Resolve, BY_TWO)),
     ("answer, by texts, 1 piece", Case(Call::Answer(1), BY_TEXT)),
     ("answer, by texts, 2 pieces", Case(Call::Answer(2), BY_TEXT)),
     ("answer, by texts, 4 pieces", Case(Call::Answer(4), BY_TEXT)),
+    (
+        "answer, by large texts, 1 piece",
+        Case(Call::Answer(1), BY_LARGE_TEXT),
+    ),
+    (
+        "answer, by large texts, 2 pieces",
+        Case(Call::Answer(2), BY_LARGE_TEXT),
+    ),
+    (
+        "answer, by large texts, 4 pieces",
+        Case(Call::Answer(4), BY_LARGE_TEXT),
+    ),
     ("answer, by two, 1 piece", Case(Call::Answer(1), BY_TWO)),
     ("answer, by two, 2 pieces", Case(Call::Answer(2), BY_TWO)),
     ("answer, by two, 4 pieces", Case(Call::Answer(4), BY_TWO)),

@@ -1,18 +1,20 @@
 //! Columns made of rows of others, checked and copied.
 
+use crate::columns::{
+    BOOLS, CODES, Column, LARGE_LISTS, LARGE_LISTS_OF_LISTS, LARGE_TEXTS, LISTS, LISTS_OF_LISTS,
+    NUMBERS, TEXTS,
+};
 use crate::refusals::Refused;
 use crate::run::{Ran, run};
 use crate::scene::Scene;
 use crate::stop::Stop;
 use crate::sweep::Trial;
 use crate::tell::{tell_array, tell_arrays};
-use arrays::{Array, DataType, RawArray, validate};
+use arrays::{Array, RawArray, validate};
 use select::{concat, copy, filter, take};
 use std::alloc::Global;
 use std::test::Fail;
-use test_samples::{
-    Flat, INT8, INT32, NAMES, Positions, Sample, item, lists_of, raw, raw_coded, raw_lists, sampled,
-};
+use test_samples::{Flat, INT32, NARROW, Sample};
 
 /// A call that makes a column of another.
 #[derive(Clone, Copy)]
@@ -24,35 +26,44 @@ enum Selection {
     Validate,
 }
 
-const NUMBERS: Sample = Sample::Of((Flat::Int(INT8), 4, &[Some(&[0x0d]), Some(&[1, 0, 3, 4])]));
-
-const BOOLS: Sample = Sample::Of((Flat::Bool, 4, &[Some(&[0x0d]), Some(&[0x09])]));
-
-const TEXTS: Sample = Sample::Of(NAMES);
-
 /// The rows 2, none, 0 and 2.
-const ROWS: Sample = Sample::Of((
-    Flat::Int(INT32),
-    4,
-    &[Some(&[0x0d]), Some(b"\x02\0\0\0\0\0\0\0\0\0\0\0\x02\0\0\0")],
-));
+const ROWS: Column = Column(
+    NARROW,
+    Sample::Of((
+        Flat::Int(INT32),
+        4,
+        &[Some(&[0x0d]), Some(b"\x02\0\0\0\0\0\0\0\0\0\0\0\x02\0\0\0")],
+    )),
+);
 
 /// Of so many rows the first and the third.
-const KEPT_OF_3: Sample = Sample::Of((Flat::Bool, 3, &[None, Some(&[0x05])]));
+const KEPT_OF_3: Column = Column(NARROW, Sample::Of((Flat::Bool, 3, &[None, Some(&[0x05])])));
 
-const KEPT_OF_4: Sample = Sample::Of((Flat::Bool, 4, &[None, Some(&[0x05])]));
+const KEPT_OF_4: Column = Column(NARROW, Sample::Of((Flat::Bool, 4, &[None, Some(&[0x05])])));
 
-const KEPT_OF_5: Sample = Sample::Of((Flat::Bool, 5, &[None, Some(&[0x05])]));
+const KEPT_OF_5: Column = Column(NARROW, Sample::Of((Flat::Bool, 5, &[None, Some(&[0x05])])));
 
-pub(crate) const CASES: [(&str, Case); 30] = [
+pub(crate) static CASES: [(&str, Case); 45] = [
     ("take, numbers", Case(Selection::Take, NUMBERS, ROWS)),
     ("take, truth values", Case(Selection::Take, BOOLS, ROWS)),
     ("take, texts", Case(Selection::Take, TEXTS, ROWS)),
-    ("take, codes", Case(Selection::Take, Sample::Coded, ROWS)),
-    ("take, lists", Case(Selection::Take, Sample::Lists, ROWS)),
+    (
+        "take, large texts",
+        Case(Selection::Take, LARGE_TEXTS, ROWS),
+    ),
+    ("take, codes", Case(Selection::Take, CODES, ROWS)),
+    ("take, lists", Case(Selection::Take, LISTS, ROWS)),
+    (
+        "take, large lists",
+        Case(Selection::Take, LARGE_LISTS, ROWS),
+    ),
     (
         "take, lists of lists",
-        Case(Selection::Take, Sample::ListsOfLists, ROWS),
+        Case(Selection::Take, LISTS_OF_LISTS, ROWS),
+    ),
+    (
+        "take, large lists of lists",
+        Case(Selection::Take, LARGE_LISTS_OF_LISTS, ROWS),
     ),
     (
         "filter, numbers",
@@ -64,16 +75,22 @@ pub(crate) const CASES: [(&str, Case); 30] = [
     ),
     ("filter, texts", Case(Selection::Filter, TEXTS, KEPT_OF_4)),
     (
-        "filter, codes",
-        Case(Selection::Filter, Sample::Coded, KEPT_OF_5),
+        "filter, large texts",
+        Case(Selection::Filter, LARGE_TEXTS, KEPT_OF_4),
     ),
+    ("filter, codes", Case(Selection::Filter, CODES, KEPT_OF_5)),
+    ("filter, lists", Case(Selection::Filter, LISTS, KEPT_OF_4)),
     (
-        "filter, lists",
-        Case(Selection::Filter, Sample::Lists, KEPT_OF_4),
+        "filter, large lists",
+        Case(Selection::Filter, LARGE_LISTS, KEPT_OF_4),
     ),
     (
         "filter, lists of lists",
-        Case(Selection::Filter, Sample::ListsOfLists, KEPT_OF_3),
+        Case(Selection::Filter, LISTS_OF_LISTS, KEPT_OF_3),
+    ),
+    (
+        "filter, large lists of lists",
+        Case(Selection::Filter, LARGE_LISTS_OF_LISTS, KEPT_OF_3),
     ),
     ("concat, numbers", Case(Selection::Concat, NUMBERS, NUMBERS)),
     (
@@ -82,19 +99,25 @@ pub(crate) const CASES: [(&str, Case); 30] = [
     ),
     ("concat, texts", Case(Selection::Concat, TEXTS, TEXTS)),
     (
-        "concat, codes",
-        Case(Selection::Concat, Sample::Coded, Sample::Coded),
+        "concat, large texts",
+        Case(Selection::Concat, LARGE_TEXTS, LARGE_TEXTS),
     ),
+    ("concat, codes", Case(Selection::Concat, CODES, CODES)),
+    ("concat, lists", Case(Selection::Concat, LISTS, LISTS)),
     (
-        "concat, lists",
-        Case(Selection::Concat, Sample::Lists, Sample::Lists),
+        "concat, large lists",
+        Case(Selection::Concat, LARGE_LISTS, LARGE_LISTS),
     ),
     (
         "concat, lists of lists",
+        Case(Selection::Concat, LISTS_OF_LISTS, LISTS_OF_LISTS),
+    ),
+    (
+        "concat, large lists of lists",
         Case(
             Selection::Concat,
-            Sample::ListsOfLists,
-            Sample::ListsOfLists,
+            LARGE_LISTS_OF_LISTS,
+            LARGE_LISTS_OF_LISTS,
         ),
     ),
     (
@@ -107,16 +130,22 @@ pub(crate) const CASES: [(&str, Case); 30] = [
     ),
     ("select::copy, texts", Case(Selection::Copy, TEXTS, ROWS)),
     (
-        "select::copy, codes",
-        Case(Selection::Copy, Sample::Coded, ROWS),
+        "select::copy, large texts",
+        Case(Selection::Copy, LARGE_TEXTS, ROWS),
     ),
+    ("select::copy, codes", Case(Selection::Copy, CODES, ROWS)),
+    ("select::copy, lists", Case(Selection::Copy, LISTS, ROWS)),
     (
-        "select::copy, lists",
-        Case(Selection::Copy, Sample::Lists, ROWS),
+        "select::copy, large lists",
+        Case(Selection::Copy, LARGE_LISTS, ROWS),
     ),
     (
         "select::copy, lists of lists",
-        Case(Selection::Copy, Sample::ListsOfLists, ROWS),
+        Case(Selection::Copy, LISTS_OF_LISTS, ROWS),
+    ),
+    (
+        "select::copy, large lists of lists",
+        Case(Selection::Copy, LARGE_LISTS_OF_LISTS, ROWS),
     ),
     (
         "validate, numbers",
@@ -128,30 +157,36 @@ pub(crate) const CASES: [(&str, Case); 30] = [
     ),
     ("validate, texts", Case(Selection::Validate, TEXTS, ROWS)),
     (
-        "validate, codes",
-        Case(Selection::Validate, Sample::Coded, ROWS),
+        "validate, large texts",
+        Case(Selection::Validate, LARGE_TEXTS, ROWS),
     ),
+    ("validate, codes", Case(Selection::Validate, CODES, ROWS)),
+    ("validate, lists", Case(Selection::Validate, LISTS, ROWS)),
     (
-        "validate, lists",
-        Case(Selection::Validate, Sample::Lists, ROWS),
+        "validate, large lists",
+        Case(Selection::Validate, LARGE_LISTS, ROWS),
     ),
     (
         "validate, lists of lists",
-        Case(Selection::Validate, Sample::ListsOfLists, ROWS),
+        Case(Selection::Validate, LISTS_OF_LISTS, ROWS),
+    ),
+    (
+        "validate, large lists of lists",
+        Case(Selection::Validate, LARGE_LISTS_OF_LISTS, ROWS),
     ),
 ];
 
 /// A selection, the column that it is of, and the rows, the mask or the column that goes with that.
 #[derive(Clone, Copy)]
-pub(crate) struct Case(Selection, Sample, Sample);
+pub(crate) struct Case(Selection, Column, Column);
 
 impl<R> Trial<R> for Case {
     fn run(&self, rt: &R, alloc: Global, refused: Option<Refused>) -> Result<Ran, Fail> {
-        let Case(selection, sample, other) = *self;
+        let Case(selection, column, other) = *self;
         let scene = Selecting {
             selection,
-            sample,
-            arrays: [sampled(alloc, sample)?, sampled(alloc, other)?],
+            column,
+            arrays: [column.array(alloc)?, other.array(alloc)?],
             raw: None,
         };
         run(rt, alloc, scene, refused)
@@ -162,7 +197,7 @@ impl<R> Trial<R> for Case {
 #[derive(Drop)]
 struct Selecting {
     selection: Selection,
-    sample: Sample,
+    column: Column,
     arrays: [Array; 2],
     raw: Option<RawArray>,
 }
@@ -172,7 +207,7 @@ impl<R> Scene<R> for Selecting {
 
     fn renew(&mut self, alloc: Global) -> Result<(), Fail> {
         if let Selection::Validate = self.selection {
-            self.raw = Some(parts_of(alloc, self.sample)?);
+            self.raw = Some(self.column.parts(alloc)?);
         }
         Ok(())
     }
@@ -198,29 +233,5 @@ impl<R> Scene<R> for Selecting {
 
     fn tell_answer(told: &mut String, answer: &Array) -> Result<(), Fail> {
         tell_array(told, answer)
-    }
-}
-
-/// The parts of a column.
-fn parts_of(alloc: Global, sample: Sample) -> Result<RawArray, Fail> {
-    match sample {
-        Sample::Of((flat, length, positions)) => {
-            let ty = match flat {
-                Flat::Int(int) => DataType::Int(int),
-                Flat::Bool => DataType::Bool,
-                Flat::Utf8 => DataType::Utf8,
-            };
-            raw(alloc, ty, length, positions)
-        }
-        Sample::Coded => raw_coded(alloc),
-        Sample::Lists => raw_lists(alloc, item(alloc, DataType::Int(INT8))?),
-        Sample::ListsOfLists => {
-            let ty = lists_of(alloc, 2, DataType::Int(INT8))?;
-            let halves: Positions = &[None, Some(b"\0\0\0\0\x02\0\0\0\x04\0\0\0")];
-            let mut outer = raw(alloc, ty, 2, halves)?;
-            let inner = raw_lists(alloc, item(alloc, DataType::Int(INT8))?)?;
-            outer.children.push(inner)?;
-            Ok(outer)
-        }
     }
 }

@@ -1,5 +1,6 @@
 //! Statistics of columns.
 
+use crate::columns::{CODES, Column, LARGE_TEXTS, TEXTS};
 use crate::refusals::Refused;
 use crate::run::{Ran, run};
 use crate::scene::Scene;
@@ -10,7 +11,6 @@ use arrays::Array;
 use group::{ColumnStats, joined, stats_of};
 use std::alloc::Global;
 use std::test::Fail;
-use test_samples::{NAMES, Sample, sampled};
 
 /// A call that makes statistics.
 #[derive(Clone, Copy)]
@@ -20,28 +20,29 @@ enum Summary {
     Copy,
 }
 
-const TEXTS: Sample = Sample::Of(NAMES);
-
-pub(crate) const CASES: [(&str, Case); 6] = [
+pub(crate) const CASES: [(&str, Case); 9] = [
     ("stats_of, texts", Case(Summary::Of, TEXTS)),
-    ("stats_of, codes", Case(Summary::Of, Sample::Coded)),
+    ("stats_of, large texts", Case(Summary::Of, LARGE_TEXTS)),
+    ("stats_of, codes", Case(Summary::Of, CODES)),
     ("joined, texts", Case(Summary::Joined, TEXTS)),
-    ("joined, codes", Case(Summary::Joined, Sample::Coded)),
+    ("joined, large texts", Case(Summary::Joined, LARGE_TEXTS)),
+    ("joined, codes", Case(Summary::Joined, CODES)),
     ("ColumnStats::copy, texts", Case(Summary::Copy, TEXTS)),
     (
-        "ColumnStats::copy, codes",
-        Case(Summary::Copy, Sample::Coded),
+        "ColumnStats::copy, large texts",
+        Case(Summary::Copy, LARGE_TEXTS),
     ),
+    ("ColumnStats::copy, codes", Case(Summary::Copy, CODES)),
 ];
 
 /// A call, and the column that the statistics are of.
 #[derive(Clone, Copy)]
-pub(crate) struct Case(Summary, Sample);
+pub(crate) struct Case(Summary, Column);
 
 impl<R> Trial<R> for Case {
     fn run(&self, rt: &R, alloc: Global, refused: Option<Refused>) -> Result<Ran, Fail> {
-        let Case(summary, sample) = *self;
-        let column = sampled(alloc, sample)?;
+        let Case(summary, column) = *self;
+        let column = column.array(alloc)?;
         let stats = stats_of(alloc, &column.view())?;
         let scene = Summing {
             summary,

@@ -1,5 +1,6 @@
 //! Why a call had no answer.
 
+use arrays::BuildFault;
 use arrow_json::{JsonFault, JsonFaultKind};
 use colbits::NoMemory;
 use ends::SourceFault;
@@ -47,6 +48,12 @@ impl From<AllocError> for Stop {
 impl From<LayoutFault> for Stop {
     fn from(fault: LayoutFault) -> Stop {
         Stop::of(fault == LayoutFault::NoMemory)
+    }
+}
+
+impl From<BuildFault> for Stop {
+    fn from(fault: BuildFault) -> Stop {
+        Stop::of(fault == BuildFault::NoMemory)
     }
 }
 

@@ -20,7 +20,7 @@ pub(crate) fn tell_view(told: &mut String, view: &View<'_>) -> Result<(), Fail> 
     let mut level = view.slice(0, view.len());
     for _level in 0..LEVELS {
         tell_level(told, &level)?;
-        let ViewType::List(_) = level.ty() else {
+        let ViewType::List(_, _) = level.ty() else {
             return Ok(());
         };
         level = level.lists().child;
@@ -37,8 +37,8 @@ fn tell_level(told: &mut String, view: &View<'_>) -> Result<(), Fail> {
     match view.ty() {
         ViewType::Int(_) => tell_numbers(told, view),
         ViewType::Bool => tell_bools(told, view),
-        ViewType::Utf8 => tell_texts(told, view),
-        ViewType::List(_) => tell_lengths(told, view),
+        ViewType::Text(_) => tell_texts(told, view),
+        ViewType::List(_, _) => tell_lengths(told, view),
         ViewType::Dict => {
             tell_numbers(told, &view.codes())?;
             tell_texts(told, &view.entries())
@@ -69,7 +69,7 @@ fn tell_bools(told: &mut String, view: &View<'_>) -> Result<(), Fail> {
 }
 
 fn tell_texts(told: &mut String, view: &View<'_>) -> Result<(), Fail> {
-    let (ViewType::Utf8 | ViewType::Dict) = view.ty() else {
+    let (ViewType::Text(_) | ViewType::Dict) = view.ty() else {
         return Ok(());
     };
     for i in 0..view.len() {
@@ -80,7 +80,7 @@ fn tell_texts(told: &mut String, view: &View<'_>) -> Result<(), Fail> {
 }
 
 fn tell_lengths(told: &mut String, view: &View<'_>) -> Result<(), Fail> {
-    let ViewType::List(_) = view.ty() else {
+    let ViewType::List(_, _) = view.ty() else {
         return Ok(());
     };
     for i in 0..view.len() {

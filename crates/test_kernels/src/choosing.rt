@@ -2,14 +2,15 @@
 
 use crate::pieces::Piece::{self, All, Part, Repeated};
 use crate::pieces::{INT8S, NUMBERS, Selected, Slots, TRUTHS, is_selected};
-use arrays::{Array, DataType, View, validate};
+use arrays::{Array, DataType, OffsetWidth, View, validate};
 use select::{SelectFault, concat, copy, filter, take};
 use std::alloc::Global;
 use std::process::Abort;
 use std::test::Fail;
-use test_samples::Sample::{self, Coded, Lists, ListsOfLists, Of};
+use test_samples::Sample::{self, Coded, Lists, ListsOfLists, Of, Texts};
 use test_samples::{
-    Flat, INT8, INT32, NAMES, Positions, Shown, UINT8, UINT32, UINT64, field, has_item, raw_lists,
+    Flat, INT8, INT32, NAMES, NARROW, Positions, Shown, UINT8, UINT32, UINT64, WIDTHS, Widths,
+    field, has_item, raw_lists,
 };
 
 /// Whether rows are taken by indices, kept by a mask, or all copied.
@@ -27,8 +28,8 @@ fn chosen(
     view: &View<'_>,
 ) -> Result<Result<Array, SelectFault>, Fail> {
     Ok(match choice {
-        Choice::Take(indices) => take(alloc, view, &indices.slots(&indices.array(alloc)?)),
-        Choice::Filter(mask) => filter(alloc, view, &mask.slots(&mask.array(alloc)?)),
+        Choice::Take(indices) => take(alloc, view, &indices.slots(&indices.array(alloc, NARROW)?)),
+        Choice::Filter(mask) => filter(alloc, view, &mask.slots(&mask.array(alloc, NARROW)?)),
         Choice::Copy => Ok(copy(alloc, view)?),
     })
 }
@@ -62,14 +63,10 @@ const REPEATED: Piece = All(Of((
 )));
 
 /// The texts joe, null, an empty one, mark and é, with bytes under the null.
-const FIVE_NAMES: Piece = All(Of((
-    Flat::Utf8,
-    5,
-    &[
-        Some(&[0x1d]),
-        Some(b"\0\0\0\0\x03\0\0\0\x05\0\0\0\x05\0\0\0\x09\0\0\0\x0b\0\0\0"),
-        Some(b"joe\xff\xffmark\xc3\xa9"),
-    ],
+const FIVE_NAMES: Piece = All(Texts((
+    Some(&[0x1d]),
+    &[0, 3, 5, 5, 9, 11],
+    b"joe\xff\xffmark\xc3\xa9",
 )));
 
 /// True, true, null, true.
@@ -244,9 +241,9 @@ static KEPT_OFTEN: [Chosen; 2] = [
     ),
 ];
 
-static KEPT_OTHERS: [Chosen; 3] = [
+static KEPT_OTHERS: [Chosen; 4] = [
     (
-        All(Of(NAMES)),
+        All(Texts(NAMES)),
         Choice::Filter(MASK),
         Selected::Slots(Shown::Texts(&[Some("joe"), None, Some("mark")])),
     ),
@@ -256,6 +253,14 @@ static KEPT_OTHERS: [Chosen; 3] = [
         Selected::Lists(
             Shown::Lists(&[Some(FIRST), None, Some(&[])]),
             &[(&[0, 3, 3, 3], 3)],
+        ),
+    ),
+    (
+        All(ListsOfLists),
+        Choice::Filter(Part(TRUTHS, 3, 3)),
+        Selected::Lists(
+            Shown::ListsOfLists(&[Some(&[Some(FIRST), None])]),
+            &[(&[0, 2], 2), (&[0, 3, 3], 3)],
         ),
     ),
     (
@@ -269,7 +274,7 @@ static KEPT_OTHERS: [Chosen; 3] = [
     ),
 ];
 
-static COPIED: [Chosen; 6] = [
+static COPIED: [Chosen; 7] = [
     (
         Part(NUMBERS, 3, 3),
         Choice::Copy,
@@ -281,7 +286,7 @@ static COPIED: [Chosen; 6] = [
         Selected::Slots(Shown::Bools(&[Some(true), None, Some(false), None])),
     ),
     (
-        Part(Of(NAMES), 2, 2),
+        Part(Texts(NAMES), 2, 2),
         Choice::Copy,
         Selected::Slots(Shown::Texts(&[None, Some("mark")])),
     ),
@@ -290,6 +295,14 @@ static COPIED: [Chosen; 6] = [
         Part(Lists, 1, 2),
         Choice::Copy,
         Selected::Lists(Shown::Lists(&[None, Some(THIRD)]), &[(&[0, 0, 4], 4)]),
+    ),
+    (
+        Part(ListsOfLists, 1, 2),
+        Choice::Copy,
+        Selected::Lists(
+            Shown::ListsOfLists(&[None, Some(&[Some(THIRD), Some(&[])])]),
+            &[(&[0, 0, 2], 2), (&[0, 4, 4], 4)],
+        ),
     ),
     // Codes, with the whole dictionary.
     (
@@ -304,25 +317,41 @@ static COPIED: [Chosen; 6] = [
     ),
 ];
 
-/// Asserts what choices give.
-fn expect_chosen(rt: &impl Abort, alloc: Global, cases: &[Chosen]) -> Result<(), Fail> {
+/// Asserts what choices give of arrays whose offsets are of these widths.
+fn expect_chosen_at(
+    rt: &impl Abort,
+    alloc: Global,
+    widths: Widths,
+    cases: &[Chosen],
+) -> Result<(), Fail> {
     for (i, (piece, choice, selected)) in cases.iter().enumerate() {
-        let array = piece.array(alloc)?;
+        let array = piece.array(alloc, widths)?;
         let view = piece.slots(&array);
         let rows = chosen(alloc, *choice, &view)??;
-        assert!(rt; is_selected(&rows, &view, *selected), "case {i}");
+        assert!(rt;
+            is_selected(&rows, &view, *selected),
+            "case {i}, {widths:?}"
+        );
+    }
+    Ok(())
+}
+
+/// Asserts it at each width.
+fn expect_chosen(rt: &impl Abort, alloc: Global, cases: &[Chosen]) -> Result<(), Fail> {
+    for widths in WIDTHS {
+        expect_chosen_at(rt, alloc, widths, cases)?;
     }
     Ok(())
 }
 
 #[test]
 fn numbers_and_truths_are_taken(rt: HostRuntime) -> Result<(), Fail> {
-    expect_chosen(&rt, rt.alloc(), &TAKEN)
+    expect_chosen_at(&rt, rt.alloc(), NARROW, &TAKEN)
 }
 
 #[test]
 fn numbers_are_taken_by_many_indices(rt: HostRuntime) -> Result<(), Fail> {
-    expect_chosen(&rt, rt.alloc(), &TAKEN_OFTEN)
+    expect_chosen_at(&rt, rt.alloc(), NARROW, &TAKEN_OFTEN)
 }
 
 #[test]
@@ -337,12 +366,12 @@ fn texts_and_codes_are_taken(rt: HostRuntime) -> Result<(), Fail> {
 
 #[test]
 fn numbers_and_truths_are_kept(rt: HostRuntime) -> Result<(), Fail> {
-    expect_chosen(&rt, rt.alloc(), &KEPT)
+    expect_chosen_at(&rt, rt.alloc(), NARROW, &KEPT)
 }
 
 #[test]
 fn more_rows_are_kept_than_a_word_has(rt: HostRuntime) -> Result<(), Fail> {
-    expect_chosen(&rt, rt.alloc(), &KEPT_OFTEN)
+    expect_chosen_at(&rt, rt.alloc(), NARROW, &KEPT_OFTEN)
 }
 
 #[test]
@@ -427,7 +456,7 @@ static REFUSED: [(Piece, Choice, SelectFault); 11] = [
 #[test]
 fn what_names_no_rows_is_refused(rt: HostRuntime) -> Result<(), Fail> {
     for (i, (piece, choice, fault)) in REFUSED.iter().enumerate() {
-        let array = piece.array(rt.alloc())?;
+        let array = piece.array(rt.alloc(), NARROW)?;
         let answer = chosen(rt.alloc(), *choice, &piece.slots(&array))?;
         assert!(rt; answer.err() == Some(*fault), "case {i}");
     }
@@ -444,11 +473,13 @@ fn has_readings(rows: Result<Array, SelectFault>) -> bool {
 
 #[test]
 fn an_item_keeps_its_name(rt: HostRuntime) -> Result<(), Fail> {
-    let reading = field(rt.alloc(), "reading", false, DataType::Int(INT8))?;
-    let lists = validate(rt.alloc(), raw_lists(rt.alloc(), reading)?)?;
-    for choice in [Choice::Take(ZERO), Choice::Filter(MASK), Choice::Copy] {
-        assert!(rt; has_readings(chosen(rt.alloc(), choice, &lists.view())?));
+    for width in [OffsetWidth::Narrow, OffsetWidth::Wide] {
+        let reading = field(rt.alloc(), "reading", false, DataType::Int(INT8))?;
+        let lists = validate(rt.alloc(), raw_lists(rt.alloc(), width, reading)?)?;
+        for choice in [Choice::Take(ZERO), Choice::Filter(MASK), Choice::Copy] {
+            assert!(rt; has_readings(chosen(rt.alloc(), choice, &lists.view())?));
+        }
+        assert!(rt; has_readings(concat(rt.alloc(), &[lists.view(), lists.view()])));
     }
-    assert!(rt; has_readings(concat(rt.alloc(), &[lists.view(), lists.view()])));
     Ok(())
 }

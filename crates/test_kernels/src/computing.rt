@@ -12,7 +12,8 @@ use std::process::Abort;
 use std::test::Fail;
 use test_samples::Sample::Of;
 use test_samples::{
-    Flat, INT16, INT64, Parts, Positions, Shown, UINT8, UINT64, built, is_result, sampled, slots_of,
+    Flat, INT16, INT64, NARROW, Parts, Positions, Shown, UINT8, UINT64, Widths, built, is_result,
+    sampled_at, slots_of,
 };
 
 const UINT8S: Flat = Flat::Int(UINT8);
@@ -56,15 +57,30 @@ fn outcome(
 /// A kernel, two columns, and what it gives of them.
 type Computed = (Kernel, Slots, Slots, Shown);
 
-/// Asserts what kernels give.
-fn expect_computed(rt: &impl Abort, alloc: Global, cases: &[Computed]) -> Result<(), Fail> {
+/// Asserts what kernels give of columns whose offsets are of these widths: those of the first, and those of the second.
+fn expect_computed_at(
+    rt: &impl Abort,
+    alloc: Global,
+    widths: Widths,
+    others: Widths,
+    cases: &[Computed],
+) -> Result<(), Fail> {
     for (i, (kernel, a, b, shown)) in cases.iter().enumerate() {
-        let (first, second) = (sampled(alloc, a.0)?, sampled(alloc, b.0)?);
+        let first = sampled_at(alloc, widths, a.0)?;
+        let second = sampled_at(alloc, others, b.0)?;
         let (a, b) = (slots_of(&first, a.1, a.2), slots_of(&second, b.1, b.2));
         let results = outcome(alloc, *kernel, &a, &b)?;
-        assert!(rt; is_result(&results, *shown), "case {i}");
+        assert!(rt;
+            is_result(&results, *shown),
+            "case {i}, {widths:?} and {others:?}"
+        );
     }
     Ok(())
+}
+
+/// Asserts what kernels give of columns without offsets.
+fn expect_computed(rt: &impl Abort, alloc: Global, cases: &[Computed]) -> Result<(), Fail> {
+    expect_computed_at(rt, alloc, NARROW, NARROW, cases)
 }
 
 const NO_NUMBERS: Slots = (Of((INT8S, 0, &[None, Some(&[])])), 0, 0);

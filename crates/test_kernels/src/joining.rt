@@ -7,18 +7,14 @@ use select::{SelectFault, concat};
 use std::alloc::Global;
 use std::process::Abort;
 use std::test::Fail;
-use test_samples::Sample::{self, Coded, Lists, ListsOfLists, Of};
+use test_samples::Sample::{self, Coded, Lists, ListsOfLists, Of, Texts};
 use test_samples::{
-    Flat, INT8, INT16, INT32, INT64, NAMES, Positions, Shown, UINT8, UINT16, UINT32, UINT64,
-    slots_of,
+    Flat, INT8, INT16, INT32, INT64, NAMES, NARROW, Positions, Shown, UINT8, UINT16, UINT32,
+    UINT64, WIDTHS, Widths, sampled_at, slots_of,
 };
 
 /// The text é.
-const ACCENTED: Piece = All(Of((
-    Flat::Utf8,
-    1,
-    &[None, Some(&[0, 0, 0, 0, 2, 0, 0, 0]), Some(b"\xc3\xa9")],
-)));
+const ACCENTED: Piece = All(Texts((None, &[0, 2], b"\xc3\xa9")));
 
 /// Bytes of ones.
 const ONES: Positions = &[None, Some(&[255; 8])];
@@ -116,11 +112,11 @@ static OF_TYPES: [Joined; 8] = [
 
 static OTHERS: [Joined; 7] = [
     (
-        &[All(Of(NAMES)), ACCENTED],
+        &[All(Texts(NAMES)), ACCENTED],
         Selected::Slots(Shown::Texts(&[Some("joe"), None, None, Some("mark"), Some("é")])),
     ),
     (
-        &[Part(Of(NAMES), 3, 1), Part(Of(NAMES), 0, 2)],
+        &[Part(Texts(NAMES), 3, 1), Part(Texts(NAMES), 0, 2)],
         Selected::Slots(Shown::Texts(&[Some("mark"), Some("joe"), None])),
     ),
     // Lists, without what lies before them.
@@ -178,11 +174,11 @@ static OTHERS: [Joined; 7] = [
     ),
 ];
 
-/// The arrays of the pieces.
-fn arrays_of(alloc: Global, pieces: &[Piece]) -> Result<Vec<Array>, Fail> {
+/// The arrays of the pieces, with offsets of these widths.
+fn arrays_of(alloc: Global, widths: Widths, pieces: &[Piece]) -> Result<Vec<Array>, Fail> {
     let mut arrays = Vec::new(alloc);
     for piece in pieces {
-        arrays.push(piece.array(alloc)?)?;
+        arrays.push(piece.array(alloc, widths)?)?;
     }
     Ok(arrays)
 }
@@ -201,8 +197,12 @@ fn views_of<'a>(
 }
 
 /// Pieces one after the other.
-fn joined(alloc: Global, pieces: &[Piece]) -> Result<Result<Array, SelectFault>, Fail> {
-    let arrays = arrays_of(alloc, pieces)?;
+fn joined(
+    alloc: Global,
+    widths: Widths,
+    pieces: &[Piece],
+) -> Result<Result<Array, SelectFault>, Fail> {
+    let arrays = arrays_of(alloc, widths, pieces)?;
     let views = views_of(alloc, pieces, &arrays)?;
     if views.is_empty() {
         return Err("there are no views".into());
@@ -213,41 +213,51 @@ fn joined(alloc: Global, pieces: &[Piece]) -> Result<Result<Array, SelectFault>,
 /// Whether this is what the pieces give, of the type of the first.
 fn is_joined(
     alloc: Global,
+    widths: Widths,
     rows: &Array,
     pieces: &[Piece],
     selected: Selected,
 ) -> Result<bool, Fail> {
     match pieces.first() {
         Some(piece) => {
-            let array = piece.array(alloc)?;
+            let array = piece.array(alloc, widths)?;
             Ok(is_selected(rows, &array.view(), selected))
         }
         None => Ok(false),
     }
 }
 
-/// Asserts what pieces give.
-fn expect_joined(rt: &impl Abort, alloc: Global, cases: &[Joined]) -> Result<(), Fail> {
+/// Asserts what pieces give whose offsets are of these widths.
+fn expect_joined(
+    rt: &impl Abort,
+    alloc: Global,
+    widths: Widths,
+    cases: &[Joined],
+) -> Result<(), Fail> {
     for (i, (pieces, selected)) in cases.iter().enumerate() {
-        let rows = joined(alloc, *pieces)??;
-        assert!(rt; is_joined(alloc, &rows, *pieces, *selected)?, "case {i}");
+        let rows = joined(alloc, widths, *pieces)??;
+        let is_joined = is_joined(alloc, widths, &rows, *pieces, *selected)?;
+        assert!(rt; is_joined, "case {i}, {widths:?}");
     }
     Ok(())
 }
 
 #[test]
 fn numbers_and_truths_are_joined_from_any_slot(rt: HostRuntime) -> Result<(), Fail> {
-    expect_joined(&rt, rt.alloc(), &NUMBERS_AND_TRUTHS)
+    expect_joined(&rt, rt.alloc(), NARROW, &NUMBERS_AND_TRUTHS)
 }
 
 #[test]
 fn numbers_of_each_type_are_joined(rt: HostRuntime) -> Result<(), Fail> {
-    expect_joined(&rt, rt.alloc(), &OF_TYPES)
+    expect_joined(&rt, rt.alloc(), NARROW, &OF_TYPES)
 }
 
 #[test]
 fn texts_lists_and_codes_are_joined(rt: HostRuntime) -> Result<(), Fail> {
-    expect_joined(&rt, rt.alloc(), &OTHERS)
+    for widths in WIDTHS {
+        expect_joined(&rt, rt.alloc(), widths, &OTHERS)?;
+    }
+    Ok(())
 }
 
 /// The numbers 4, null, 6 over and over again.
@@ -262,7 +272,7 @@ const LONG_PIECES: &[Piece] = &[
 
 #[test]
 fn long_columns_are_joined(rt: HostRuntime) -> Result<(), Fail> {
-    let joined = joined(rt.alloc(), LONG_PIECES)??;
+    let joined = joined(rt.alloc(), NARROW, LONG_PIECES)??;
     let (first, others) = (slots_of(&joined, 0, 100), slots_of(&joined, 100, 300));
     assert!(rt; repeats_numbers(&first, 100, &[Some(6), Some(4), None]));
     assert!(rt; repeats_numbers(&others, 203, &[Some(4), None, Some(6)]));
@@ -271,10 +281,7 @@ fn long_columns_are_joined(rt: HostRuntime) -> Result<(), Fail> {
 
 /// Pieces of several types.
 static REFUSED: [[Piece; 2]; 4] = [
-    [
-        All(Of((Flat::Utf8, 0, &[None, Some(&[]), Some(&[])]))),
-        All(Coded),
-    ],
+    [All(Texts((None, &[], b""))), All(Coded)],
     [
         All(Of((Flat::Int(INT32), 0, NOTHING))),
         All(Of((Flat::Int(INT64), 0, NOTHING))),
@@ -290,9 +297,55 @@ const NOTHING: Positions = &[None, Some(&[])];
 
 #[test]
 fn views_of_several_types_are_refused(rt: HostRuntime) -> Result<(), Fail> {
-    for (i, pieces) in REFUSED.iter().enumerate() {
-        let answer = joined(rt.alloc(), pieces)?;
-        assert!(rt; answer.err() == Some(SelectFault::TypesDiffer), "case {i}");
+    for widths in WIDTHS {
+        for (i, pieces) in REFUSED.iter().enumerate() {
+            let answer = joined(rt.alloc(), widths, pieces)?;
+            assert!(rt;
+                answer.err() == Some(SelectFault::TypesDiffer),
+                "case {i}, {widths:?}"
+            );
+        }
+    }
+    Ok(())
+}
+
+/// The text `a`.
+const LETTER: Sample = Texts((None, &[0, 1], b"a"));
+
+/// Whether two pieces are of one width.
+fn are_alike(sample: Sample, widths: Widths, others: Widths) -> bool {
+    match sample {
+        Texts(_) => widths.texts == others.texts,
+        Lists => widths.inner == others.inner,
+        ListsOfLists => widths.inner == others.inner && widths.outer == others.outer,
+        _ => true,
+    }
+}
+
+/// Whether a sample is joined with the same at other widths where these don't differ, and else refused.
+fn is_told(alloc: Global, sample: Sample, widths: Widths, others: Widths) -> Result<bool, Fail> {
+    let arrays = [
+        sampled_at(alloc, widths, sample)?,
+        sampled_at(alloc, others, sample)?,
+    ];
+    let [first, second] = &arrays;
+    let fault = concat(alloc, &[first.view(), second.view()]).err();
+    Ok(if are_alike(sample, widths, others) {
+        fault == None
+    } else {
+        fault == Some(SelectFault::TypesDiffer)
+    })
+}
+
+#[test]
+fn views_of_several_widths_are_refused(rt: HostRuntime) -> Result<(), Fail> {
+    for widths in WIDTHS {
+        for others in WIDTHS {
+            for (i, sample) in [LETTER, Lists, ListsOfLists, Coded].iter().enumerate() {
+                let is_told = is_told(rt.alloc(), *sample, widths, others)?;
+                assert!(rt; is_told, "sample {i}, {widths:?} and {others:?}");
+            }
+        }
     }
     Ok(())
 }

@@ -5,8 +5,8 @@ use select::concat;
 use std::alloc::Global;
 use std::test::Fail;
 use test_samples::{
-    Flat, INT8, Layers, Sample, Shown, has_layers, has_validity_only_where_null, is_result,
-    sampled, slots_of,
+    Flat, INT8, Layers, Sample, Shown, Widths, has_layers, has_validity_only_where_null, is_result,
+    sampled_at, slots_of,
 };
 
 pub(crate) const INT8S: Flat = Flat::Int(INT8);
@@ -35,13 +35,18 @@ pub(crate) enum Piece {
 }
 
 impl Piece {
-    /// The array that it is of.
-    pub(crate) fn array(self, alloc: Global) -> Result<Array, Fail> {
+    /// The array that it is of, with offsets of these widths.
+    pub(crate) fn array(self, alloc: Global, widths: Widths) -> Result<Array, Fail> {
         match self {
-            Piece::All(sample) => sampled(alloc, sample),
-            Piece::Part(sample, _, _) => sampled(alloc, sample),
+            Piece::All(sample) => sampled_at(alloc, widths, sample),
+            Piece::Part(sample, _, _) => sampled_at(alloc, widths, sample),
             Piece::Repeated((sample, start, len), times, _, _) => {
-                repeated(alloc, &sampled(alloc, sample)?, (start, len), times)
+                repeated(
+                    alloc,
+                    &sampled_at(alloc, widths, sample)?,
+                    (start, len),
+                    times,
+                )
             }
         }
     }

@@ -1,20 +1,20 @@
 ghost use Rattle.std.specs.Prelude.{◌≡◌, true};
-ghost use Rattle.arrays.specs.Slot.{is_text};
+ghost use Rattle.arrays.specs.Slot.{is_recodable};
 
-use arrays::{Array, View, ViewType};
+use arrays::{Array, OffsetWidth, View, ViewType};
 use pool::{TextPool, recode, unify};
 use std::alloc::Global;
 use std::process::Abort;
 use std::test::Fail;
-use test_samples::Sample::{self, Coded, Of};
-use test_samples::{Flat, Parts, Shown, coded, sampled, shows, slots_of};
+use test_samples::Sample::{self, Coded, Texts};
+use test_samples::{Shown, Words, coded, sampled, shows, slots_of};
 
-/// Asserts that a view is of texts.
+/// Asserts that a view is of texts that a dictionary may hold.
 fn assert_of_texts(rt: &impl Abort, view: &View<'_>)
-    ensures { is_text view.now.kind ≡ true }
+    ensures { is_recodable view.now.kind ≡ true }
 {
     match view.ty() {
-        ViewType::Utf8 => {}
+        ViewType::Text(OffsetWidth::Narrow) => {}
         ViewType::Dict => {}
         _ => panic!(rt; "these are no texts"),
     }
@@ -62,29 +62,17 @@ fn a_pool_is_cut_back(rt: HostRuntime) -> Result<(), Fail> {
 }
 
 /// The texts b and null.
-const B_AND_NULL: Parts = (
-    Flat::Utf8,
-    2,
-    &[
-        Some(&[0x01]),
-        Some(b"\0\0\0\0\x01\0\0\0\x01\0\0\0"),
-        Some(b"b"),
-    ],
-);
+const B_AND_NULL: Words = (Some(&[0x01]), &[0, 1, 1], b"b");
 
 /// The texts a and b.
-const A_AND_B: Parts = (
-    Flat::Utf8,
-    2,
-    &[None, Some(b"\0\0\0\0\x01\0\0\0\x02\0\0\0"), Some(b"ab")],
-);
+const A_AND_B: Words = (None, &[0, 1, 2], b"ab");
 
 #[test]
 fn columns_share_a_pool(rt: HostRuntime) -> Result<(), Fail> {
     let mut pool = TextPool::new(rt.alloc());
     for (sample, expected) in [
-        (Of(B_AND_NULL), Shown::Numbers(&[Some(0), None])),
-        (Of(A_AND_B), Shown::Numbers(&[Some(1), Some(0)])),
+        (Texts(B_AND_NULL), Shown::Numbers(&[Some(0), None])),
+        (Texts(A_AND_B), Shown::Numbers(&[Some(1), Some(0)])),
     ] {
         let codes = recoded(&rt, rt.alloc(), sample, &mut pool)?;
         assert!(rt; shows(&codes.view(), expected));

@@ -2,8 +2,8 @@ use group::{ColumnStats, joined, stats_of};
 use std::alloc::Global;
 use std::process::Abort;
 use std::test::Fail;
-use test_samples::Sample::{self, Coded, Lists, Of};
-use test_samples::{Flat, INT8, INT16, UINT64, built, sampled};
+use test_samples::Sample::{self, Coded, Lists, ListsOfLists, Of, Texts};
+use test_samples::{Flat, INT8, INT16, NAMES, UINT64, WIDTHS, Widths, built, sampled_at};
 
 /// Asserts how statistics are printed.
 fn expect(rt: &impl Abort, alloc: Global, stats: &ColumnStats, wanted: &str) -> Result<(), Fail> {
@@ -20,7 +20,7 @@ const OF_NOTHING: &str =
     r#"ColumnStats { rows: 0, nulls: 0, sum: None, least: None, greatest: None }"#;
 
 /// Columns, their statistics, and those of no slots of their type.
-static TOLD: [(Sample, &str, &str); 6] = [
+static TOLD: [(Sample, &str, &str); 8] = [
     // The sum is wider than the numbers.
     (
         Of((Flat::Int(UINT64), 2, &[None, Some(&[255; 16])])),
@@ -43,6 +43,11 @@ static TOLD: [(Sample, &str, &str); 6] = [
         r#"ColumnStats { rows: 3, nulls: 1, sum: None, least: Some(Bool(false)), greatest: Some(Bool(true)) }"#,
         OF_NOTHING,
     ),
+    (
+        Texts(NAMES),
+        r#"ColumnStats { rows: 4, nulls: 2, sum: None, least: Some(Text("joe")), greatest: Some(Text("mark")) }"#,
+        OF_NOTHING,
+    ),
     // An entry that is null counts as a null.
     (
         Coded,
@@ -54,18 +59,31 @@ static TOLD: [(Sample, &str, &str); 6] = [
         r#"ColumnStats { rows: 4, nulls: 1, sum: None, least: None, greatest: None }"#,
         OF_NOTHING,
     ),
+    (
+        ListsOfLists,
+        r#"ColumnStats { rows: 3, nulls: 1, sum: None, least: None, greatest: None }"#,
+        OF_NOTHING,
+    ),
 ];
+
+/// Asserts the statistics of columns whose offsets are of these widths.
+fn expect_at(rt: &impl Abort, alloc: Global, widths: Widths) -> Result<(), Fail> {
+    for (sample, wanted, empty) in TOLD {
+        let column = sampled_at(alloc, widths, sample)?;
+        let stats = stats_of(alloc, &column.view())?;
+        expect(rt, alloc, &stats, wanted)?;
+        let copy = stats.copy(alloc)?;
+        expect(rt, alloc, &copy, wanted)?;
+        let stats = ColumnStats::empty(column.view().ty());
+        expect(rt, alloc, &stats, empty)?;
+    }
+    Ok(())
+}
 
 #[test]
 fn columns_have_statistics(rt: HostRuntime) -> Result<(), Fail> {
-    for (sample, wanted, empty) in TOLD {
-        let column = sampled(rt.alloc(), sample)?;
-        let stats = stats_of(rt.alloc(), &column.view())?;
-        expect(&rt, rt.alloc(), &stats, wanted)?;
-        let copy = stats.copy(rt.alloc())?;
-        expect(&rt, rt.alloc(), &copy, wanted)?;
-        let stats = ColumnStats::empty(column.view().ty());
-        expect(&rt, rt.alloc(), &stats, empty)?;
+    for widths in WIDTHS {
+        expect_at(&rt, rt.alloc(), widths)?;
     }
     Ok(())
 }

@@ -2,21 +2,14 @@
 
 use crate::fields::item;
 use crate::integers::INT8;
-use crate::parts::{Flat, Parts, Positions, built, raw};
-use arrays::{Array, DataType, Field, RawArray, validate};
+use crate::parts::{Parts, Positions, Words, raw, raw_flat, raw_words};
+use crate::widths::{NARROW, Widths, offset_bytes};
+use arrays::{Array, DataType, Field, OffsetWidth, RawArray, validate};
 use std::alloc::Global;
 use std::test::Fail;
 
 /// The texts joe, null, null and mark, with bytes under a null.
-pub const NAMES: Parts = (
-    Flat::Utf8,
-    4,
-    &[
-        Some(&[0x09]),
-        Some(b"\0\0\0\0\x03\0\0\0\x05\0\0\0\x05\0\0\0\x09\0\0\0"),
-        Some(b"joe\xff\xffmark"),
-    ],
-);
+pub const NAMES: Words = (Some(&[0x09]), &[0, 3, 5, 5, 9], b"joe\xff\xffmark");
 
 /// Five codes into a dictionary of four entries, of which the third is the first again and the last is null:
 /// a, a, null by its entry, null, b.
@@ -25,13 +18,9 @@ pub fn raw_coded(alloc: Global) -> Result<RawArray, Fail> {
         Some(&[0x17]),
         Some(b"\x02\0\0\0\0\0\0\0\x03\0\0\0\x09\0\0\0\x01\0\0\0"),
     ];
-    let entries: Positions = &[
-        Some(&[0x07]),
-        Some(b"\0\0\0\0\x01\0\0\0\x02\0\0\0\x03\0\0\0\x03\0\0\0"),
-        Some(b"aba"),
-    ];
     let mut column = raw(alloc, DataType::Dict, 5, codes)?;
-    let dictionary = raw(alloc, DataType::Utf8, 4, entries)?;
+    let entries: Words = (Some(&[0x07]), &[0, 1, 2, 3, 3], b"aba");
+    let dictionary = raw_words(alloc, OffsetWidth::Narrow, entries)?;
     column.dictionary = Some(Box::new(alloc, dictionary)?);
     Ok(column)
 }
@@ -41,54 +30,68 @@ pub fn coded(alloc: Global) -> Result<Array, Fail> {
     Ok(validate(alloc, raw_coded(alloc)?)?)
 }
 
+/// Lists over a child: the bytes of their bitmap, and their offsets.
+type Cuts = (&'static [u8], &'static [i64]);
+
+/// The parts of lists of the item's type whose offsets are of a width.
+fn raw_cuts(
+    alloc: Global,
+    width: OffsetWidth,
+    item: Field,
+    cuts: Cuts,
+    child: RawArray,
+) -> Result<RawArray, Fail> {
+    let (bitmap, numbers) = cuts;
+    let offsets = offset_bytes(alloc, width, numbers)?;
+    let positions = [Some(bitmap), Some(offsets.as_slice())];
+    let ty = DataType::of_lists(width, Box::new(alloc, item)?);
+    let lists = numbers.len().saturating_sub(1) as u64;
+    let mut column = raw(alloc, ty, lists, &positions)?;
+    column.children.push(child)?;
+    Ok(column)
+}
+
 /// The lists 12, -7, 25; null; 0, -127, 127, 50; and one without items. The items are of INT8.
-pub fn raw_lists(alloc: Global, item: Field) -> Result<RawArray, Fail> {
+pub fn raw_lists(alloc: Global, width: OffsetWidth, item: Field) -> Result<RawArray, Fail> {
     let items: Positions = &[None, Some(&[12, 249, 25, 0, 129, 127, 50])];
     let child = raw(alloc, DataType::Int(INT8), 7, items)?;
-    let positions: Positions = &[
-        Some(&[0x0d]),
-        Some(b"\0\0\0\0\x03\0\0\0\x03\0\0\0\x07\0\0\0\x07\0\0\0"),
-    ];
-    let mut lists = raw(alloc, DataType::List(Box::new(alloc, item)?), 4, positions)?;
-    lists.children.push(child)?;
-    Ok(lists)
+    raw_cuts(alloc, width, item, (&[0x0d], &[0, 3, 3, 7, 7]), child)
 }
 
-/// The lists as an array.
-pub fn lists(alloc: Global) -> Result<Array, Fail> {
-    let item = item(alloc, DataType::Int(INT8))?;
-    Ok(validate(alloc, raw_lists(alloc, item)?)?)
-}
-
-/// Lists of lists: the first two of `lists`, null, and the other two.
-pub fn lists_of_lists(alloc: Global) -> Result<Array, Fail> {
-    let child = raw_lists(alloc, item(alloc, DataType::Int(INT8))?)?;
-    let inner = Box::new(alloc, item(alloc, DataType::Int(INT8))?)?;
-    let outer = Box::new(alloc, item(alloc, DataType::List(inner))?)?;
-    let positions: Positions = &[
-        Some(&[0x05]),
-        Some(b"\0\0\0\0\x02\0\0\0\x02\0\0\0\x04\0\0\0"),
-    ];
-    let mut lists = raw(alloc, DataType::List(outer), 3, positions)?;
-    lists.children.push(child)?;
-    Ok(validate(alloc, lists)?)
+/// Lists of lists: the first two of those, null, and the other two.
+fn raw_lists_of_lists(alloc: Global, widths: Widths) -> Result<RawArray, Fail> {
+    let child = raw_lists(alloc, widths.inner, item(alloc, DataType::Int(INT8))?)?;
+    let item = item(alloc, child.ty.copy(alloc)?)?;
+    raw_cuts(alloc, widths.outer, item, (&[0x05], &[0, 2, 2, 4]), child)
 }
 
 /// An array that tests start from.
 #[derive(Clone, Copy)]
 pub enum Sample {
     Of(Parts),
+    Texts(Words),
     Coded,
     Lists,
     ListsOfLists,
 }
 
-/// The array of a sample.
-pub fn sampled(alloc: Global, sample: Sample) -> Result<Array, Fail> {
+/// The parts of a sample whose offsets are of these widths.
+pub fn raw_sample(alloc: Global, widths: Widths, sample: Sample) -> Result<RawArray, Fail> {
     match sample {
-        Sample::Of(parts) => built(alloc, parts),
-        Sample::Coded => coded(alloc),
-        Sample::Lists => lists(alloc),
-        Sample::ListsOfLists => lists_of_lists(alloc),
+        Sample::Of(parts) => raw_flat(alloc, parts),
+        Sample::Texts(words) => raw_words(alloc, widths.texts, words),
+        Sample::Coded => raw_coded(alloc),
+        Sample::Lists => raw_lists(alloc, widths.inner, item(alloc, DataType::Int(INT8))?),
+        Sample::ListsOfLists => raw_lists_of_lists(alloc, widths),
     }
+}
+
+/// The array of a sample whose offsets are of these widths.
+pub fn sampled_at(alloc: Global, widths: Widths, sample: Sample) -> Result<Array, Fail> {
+    Ok(validate(alloc, raw_sample(alloc, widths, sample)?)?)
+}
+
+/// The same with narrow offsets.
+pub fn sampled(alloc: Global, sample: Sample) -> Result<Array, Fail> {
+    sampled_at(alloc, NARROW, sample)
 }

@@ -2,7 +2,8 @@
 
 ghost use Rattle.std.specs.Prelude.{◌≡◌, IfOk};
 
-use arrays::{DataType, Field};
+use crate::widths::Widths;
+use arrays::{DataType, Field, OffsetWidth};
 use std::alloc::Global;
 use std::test::Fail;
 
@@ -24,11 +25,21 @@ pub fn item(alloc: Global, ty: DataType) -> Result<Field, Fail>
     field(alloc, "item", true, ty)
 }
 
-/// So many lists in one another, over a type. Their items are nullable, and named `item`.
-pub fn lists_of(alloc: Global, lists: usize, ty: DataType) -> Result<DataType, Fail> {
+/// Lists with offsets of a width, over a type. Their items are nullable, and named `item`.
+pub fn list_of(alloc: Global, width: OffsetWidth, ty: DataType) -> Result<DataType, Fail> {
+    Ok(DataType::of_lists(width, Box::new(alloc, item(alloc, ty)?)?))
+}
+
+/// So many of them in one another.
+pub fn lists_of(
+    alloc: Global,
+    widths: Widths,
+    lists: usize,
+    ty: DataType,
+) -> Result<DataType, Fail> {
     let mut outer = ty;
-    for _list in 0..lists {
-        outer = DataType::List(Box::new(alloc, item(alloc, outer)?)?);
+    for list in 0..lists {
+        outer = list_of(alloc, widths.of_lists(list + 1), outer)?;
     }
     Ok(outer)
 }

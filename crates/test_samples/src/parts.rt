@@ -1,6 +1,7 @@
 //! Arrays of the bytes of their buffers.
 
-use arrays::{Array, DataType, IntType, RawArray, validate};
+use crate::widths::offset_bytes;
+use arrays::{Array, DataType, IntType, OffsetWidth, RawArray, validate};
 use colbits::Buffer;
 use std::alloc::Global;
 use std::test::Fail;
@@ -33,6 +34,18 @@ pub fn raw(
     })
 }
 
+/// Texts: the bytes of their bitmap, none where it is absent, their offsets, and their bytes.
+pub type Words = (Option<&'static [u8]>, &'static [i64], &'static [u8]);
+
+/// The parts of texts whose offsets are of a width.
+pub fn raw_words(alloc: Global, width: OffsetWidth, words: Words) -> Result<RawArray, Fail> {
+    let (bitmap, numbers, bytes) = words;
+    let offsets = offset_bytes(alloc, width, numbers)?;
+    let positions = [bitmap, Some(offsets.as_slice()), Some(bytes)];
+    let texts = numbers.len().saturating_sub(1) as u64;
+    raw(alloc, DataType::of_texts(width), texts, &positions)
+}
+
 /// An array without children, checked.
 pub fn checked(
     alloc: Global,
@@ -54,13 +67,18 @@ pub enum Flat {
 /// An array of a flat type: the type, the length and the bytes of each position.
 pub type Parts = (Flat, u64, Positions);
 
-/// The array of these parts.
-pub fn built(alloc: Global, parts: Parts) -> Result<Array, Fail> {
+/// These parts.
+pub fn raw_flat(alloc: Global, parts: Parts) -> Result<RawArray, Fail> {
     let (flat, length, positions) = parts;
     let ty = match flat {
         Flat::Int(int) => DataType::Int(int),
         Flat::Bool => DataType::Bool,
         Flat::Utf8 => DataType::Utf8,
     };
-    checked(alloc, ty, length, positions)
+    raw(alloc, ty, length, positions)
+}
+
+/// The array of these parts.
+pub fn built(alloc: Global, parts: Parts) -> Result<Array, Fail> {
+    Ok(validate(alloc, raw_flat(alloc, parts)?)?)
 }

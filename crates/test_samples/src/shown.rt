@@ -14,7 +14,7 @@ type Texts = &'static [Option<&'static str>];
 pub enum Shown {
     Numbers(&'static [Option<i128>]),
     Bools(&'static [Option<bool>]),
-    /// Texts without a dictionary.
+    /// Texts without a dictionary, whatever the width of their offsets.
     Texts(Texts),
     /// Texts in a dictionary, whatever their codes are.
     Named(Texts),
@@ -29,7 +29,7 @@ pub fn shows(view: &View<'_>, shown: Shown) -> bool {
     match shown {
         Shown::Numbers(numbers) => shows_numbers(view, numbers),
         Shown::Bools(bools) => shows_bools(view, bools),
-        Shown::Texts(texts) => view.ty().is_same(ViewType::Utf8) && shows_texts(view, texts),
+        Shown::Texts(texts) => matches!(view.ty(), ViewType::Text(_)) && shows_texts(view, texts),
         Shown::Named(texts) => view.ty().is_same(ViewType::Dict) && shows_texts(view, texts),
         Shown::Encoded(codes, entries, texts) => shows_encoded(view, codes, entries, texts),
         Shown::Lists(lists) => shows_lists(view, lists),
@@ -39,7 +39,7 @@ pub fn shows(view: &View<'_>, shown: Shown) -> bool {
 
 /// Whether the slots of a view hold these lists of lists.
 fn shows_lists_of_lists(view: &View<'_>, lists: &[Option<&[Numbers<'_>]>]) -> bool {
-    let ViewType::List(_) = view.ty() else {
+    let ViewType::List(_, _) = view.ty() else {
         return false;
     };
     if view.len() != lists.len() {
@@ -73,7 +73,7 @@ pub type Layers = &'static [(&'static [usize], usize)];
 pub fn has_layers(view: &View<'_>, layers: Layers) -> bool {
     let mut lists = view.slice(0, view.len());
     for (offsets, items) in layers {
-        let ViewType::List(_) = lists.ty() else {
+        let ViewType::List(_, _) = lists.ty() else {
             return false;
         };
         let child = lists.lists().child;

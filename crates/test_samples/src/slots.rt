@@ -2,7 +2,7 @@
 
 ghost use Rattle.std.specs.Prelude.{◌≡◌, ◌+◌, length};
 
-use arrays::{Array, Offsets, View, ViewType};
+use arrays::{Array, OffsetWidth, Offsets, View, ViewType};
 
 /// So many slots of an array, from one on, as far as they are there.
 pub fn slots_of(array: &Array, start: usize, len: usize) -> View<'_> {
@@ -49,7 +49,7 @@ pub fn shows_bools(view: &View<'_>, bools: &[Option<bool>]) -> bool {
 
 /// Whether the slots of a view hold these texts, in a dictionary or not.
 pub fn shows_texts(view: &View<'_>, texts: &[Option<&str>]) -> bool {
-    let (ViewType::Utf8 | ViewType::Dict) = view.ty() else {
+    let (ViewType::Text(_) | ViewType::Dict) = view.ty() else {
         return false;
     };
     if view.len() != texts.len() {
@@ -88,7 +88,7 @@ pub type Numbers<'a> = Option<&'a [Option<i128>]>;
 
 /// Whether the slots of a view hold these lists of numbers, and as many are counted as null.
 pub fn shows_lists(view: &View<'_>, lists: &[Numbers<'_>]) -> bool {
-    let ViewType::List(_) = view.ty() else {
+    let ViewType::List(_, _) = view.ty() else {
         return false;
     };
     if view.len() != lists.len() {
@@ -112,11 +112,11 @@ pub fn shows_lists(view: &View<'_>, lists: &[Numbers<'_>]) -> bool {
 /// Whether these are the offsets of a view of texts or lists.
 pub fn has_offsets(view: &View<'_>, offsets: &[usize]) -> bool {
     match view.ty() {
-        ViewType::Utf8 => {
-            let texts = view.texts();
+        ViewType::Text(width) => {
+            let texts = view.texts(width);
             are_same(&texts.offsets, texts.slots, offsets)
         }
-        ViewType::List(_) => {
+        ViewType::List(_, _) => {
             let lists = view.lists();
             are_same(&lists.offsets, lists.slots, offsets)
         }
@@ -139,10 +139,19 @@ fn are_same(offsets: &Offsets<'_>, slots: u32, others: &[usize]) -> bool
     true
 }
 
+/// Whether a view is of texts or lists whose offsets are of this width.
+pub fn has_width(view: &View<'_>, width: OffsetWidth) -> bool {
+    match view.ty() {
+        ViewType::Text(own) => own == width,
+        ViewType::List(own, _) => own == width,
+        _ => false,
+    }
+}
+
 /// Whether the items of lists have this name, and are nullable or not.
 pub fn has_item(view: &View<'_>, name: &str, nullable: bool) -> bool {
     match view.ty() {
-        ViewType::List(item) => item.name.as_str() == name && item.nullable == nullable,
+        ViewType::List(_, item) => item.name.as_str() == name && item.nullable == nullable,
         _ => false,
     }
 }

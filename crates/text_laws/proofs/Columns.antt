@@ -3,6 +3,7 @@ use Rattle.std.proofs.Common.{◌≡◌, ◌∙◌, ◌+◌, ◌<◌, ◌^◌, L
 use Rattle.std.specs.Prelude.{sum_by}
 use Rattle.std.specs.List.{AllByRecursion}
 use Rattle.std.proofs.lemmas.List.Sums.{sum_by-cons}
+use Rattle.types.specs.declared.offset_width.OffsetWidth.{OffsetWidth}
 use Rattle.arrays.specs.Item as column
 use Rattle.arrays.specs.Item.{Item, Items, items_of}
 use Rattle.arrays.specs.Kind as kind
@@ -14,30 +15,30 @@ use Rattle.arrow_text.specs.ColumnData.{item_length}
 
 -- ---- lengths
 
-text_size : (x : Item) → IsItemOf kind.utf8 x → item_length x ≡ text_length x
-text_size column.null h = refl
-text_size (column.int z) h = absurd h
-text_size (column.boolean b) h = absurd h
-text_size (column.text t) h = refl
-text_size (column.list l) h = absurd h
+text_size : (w : OffsetWidth) (x : Item) → IsItemOf (kind.texts w) x → item_length x ≡ text_length x
+text_size w column.null h = refl
+text_size w (column.int z) h = absurd h
+text_size w (column.boolean b) h = absurd h
+text_size w (column.text t) h = refl
+text_size w (column.list l) h = absurd h
 
 -- How many bytes texts have.
-pub text_sizes : (items : List Item) → AllByRecursion (IsItemOf kind.utf8) items → sum_by item_length items ≡ text_bytes items
-text_sizes [] h = refl
-text_sizes (x ∷ xs) h = sum_by-cons item_length x xs ∙ ap₂ (λ a b. a + b) (text_size x h.0) (text_sizes xs h.1) ∙ sym (sum_by-cons text_length x xs)
+pub text_sizes : (w : OffsetWidth) (items : List Item) → AllByRecursion (IsItemOf (kind.texts w)) items → sum_by item_length items ≡ text_bytes items
+text_sizes w [] h = refl
+text_sizes w (x ∷ xs) h = sum_by-cons item_length x xs ∙ ap₂ (λ a b. a + b) (text_size w x h.0) (text_sizes w xs h.1) ∙ sym (sum_by-cons text_length x xs)
 
-pub list_size : (k : Kind) (x : Item) → IsItemOf (kind.list k) x → item_length x ≡ length (items_in x)
-list_size k column.null h = refl
-list_size k (column.int z) h = absurd h
-list_size k (column.boolean b) h = absurd h
-list_size k (column.text t) h = absurd h
-list_size k (column.list l) h = refl
+pub list_size : (w : OffsetWidth) (k : Kind) (x : Item) → IsItemOf (kind.lists w k) x → item_length x ≡ length (items_in x)
+list_size w k column.null h = refl
+list_size w k (column.int z) h = absurd h
+list_size w k (column.boolean b) h = absurd h
+list_size w k (column.text t) h = absurd h
+list_size w k (column.list l) h = refl
 
 -- How many items lists have.
-pub list_sizes : (k : Kind) (items : List Item) → AllByRecursion (IsItemOf (kind.list k)) items → sum_by item_length items ≡ length (inner_items items)
-list_sizes k [] h = refl
-list_sizes k (x ∷ xs) h =
-    sum_by-cons item_length x xs ∙ ap₂ (λ a b. a + b) (list_size k x h.0) (list_sizes k xs h.1) ∙ sym (length-append (items_in x) (inner_items xs))
+pub list_sizes : (w : OffsetWidth) (k : Kind) (items : List Item) → AllByRecursion (IsItemOf (kind.lists w k)) items → sum_by item_length items ≡ length (inner_items items)
+list_sizes w k [] h = refl
+list_sizes w k (x ∷ xs) h =
+    sum_by-cons item_length x xs ∙ ap₂ (λ a b. a + b) (list_size w k x h.0) (list_sizes w k xs h.1) ∙ sym (length-append (items_in x) (inner_items xs))
 
 -- ---- the items of lists are of the inner kind
 
@@ -49,21 +50,21 @@ items_typed : (k : Kind) (l : Items) → AreItemsOf k l → AllByRecursion (IsIt
 items_typed k column.none h = tt
 items_typed k (column.more x l) h = (h.0, items_typed k l h.1)
 
-list_typed : (k : Kind) (x : Item) → IsItemOf (kind.list k) x → AllByRecursion (IsItemOf k) (items_in x)
-list_typed k column.null h = tt
-list_typed k (column.int z) h = absurd h
-list_typed k (column.boolean b) h = absurd h
-list_typed k (column.text t) h = absurd h
-list_typed k (column.list l) h = items_typed k l h
+list_typed : (w : OffsetWidth) (k : Kind) (x : Item) → IsItemOf (kind.lists w k) x → AllByRecursion (IsItemOf k) (items_in x)
+list_typed w k column.null h = tt
+list_typed w k (column.int z) h = absurd h
+list_typed w k (column.boolean b) h = absurd h
+list_typed w k (column.text t) h = absurd h
+list_typed w k (column.list l) h = items_typed k l h
 
-pub inner_typed : (k : Kind) (items : List Item) → AllByRecursion (IsItemOf (kind.list k)) items → AllByRecursion (IsItemOf k) (inner_items items)
-inner_typed k [] h = tt
-inner_typed k (x ∷ xs) h = joined (IsItemOf k) (items_in x) (inner_items xs) (list_typed k x h.0) (inner_typed k xs h.1)
+pub inner_typed : (w : OffsetWidth) (k : Kind) (items : List Item) → AllByRecursion (IsItemOf (kind.lists w k)) items → AllByRecursion (IsItemOf k) (inner_items items)
+inner_typed w k [] h = tt
+inner_typed w k (x ∷ xs) h = joined (IsItemOf k) (items_in x) (inner_items xs) (list_typed w k x h.0) (inner_typed w k xs h.1)
 
 -- ---- what offsets count
 
 -- The items of lists are few where the lists are, and so are those inside.
-pub inner_few : (k : Kind) (items : List Item) → is_too_big (kind.list k) items ≡ false → (length (inner_items items) < 2 ^ 31) × (is_too_big k (inner_items items) ≡ false)
-inner_few k items few =
+pub inner_few : (w : OffsetWidth) (k : Kind) (items : List Item) → is_too_big (kind.lists w k) items ≡ false → (length (inner_items items) < 2 ^ 31) × (is_too_big k (inner_items items) ≡ false)
+inner_few w k items few =
     let parts = neither (is_past (length (inner_items items))) (is_too_big k (inner_items items)) few in
     (omega (arith, small (length (inner_items items)) parts.0), parts.1)

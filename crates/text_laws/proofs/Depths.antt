@@ -3,15 +3,19 @@ use Rattle.std.proofs.Common.{◌≡◌, ℕ, suc, max, ◌+◌, ◌*◌, ◌≤
 use Rattle.types.specs.declared.int_type.IntType.{IntType}
 use Rattle.types.specs.declared.int_type.Width.{Width}
 use Rattle.types.specs.declared.int_type.Width.TheVariants.{W8, W16, W32, W64}
+use Rattle.types.specs.declared.offset_width.OffsetWidth.{OffsetWidth}
+use Rattle.types.specs.declared.offset_width.OffsetWidth.TheVariants.{Narrow}
+use Rattle.types.specs.OffsetWidth.{offset_type}
 use Rattle.arrays.specs.Item as column
 use Rattle.arrays.specs.Item.{Item, is_null}
 use Rattle.arrays.specs.Kind as kind
 use Rattle.arrays.specs.Lengths.{inner_items}
-use Rattle.arrays.specs.Shape.{Shape, FieldShape, int, boolean, utf8, list, dict, field, kind_of_field, kind_of_shape}
+use Rattle.arrays.specs.Shape as shape
+use Rattle.arrays.specs.Shape.{Shape, FieldShape, int, boolean, dict, field, kind_of_field, kind_of_shape}
 use Rattle.serde_json.specs.Data.{Data, Items, depth, items_depth, members_depth}
 use Rattle.arrow_text.specs.BatchData.{batch_data, batches_data, columns_data}
 use Rattle.json_places.specs.JsonTable.{Table}
-use Rattle.arrow_text.specs.ColumnData.{code_data, column_data, each, flag_data, int_data, item_length, list_column, number_data, offsets_data, plain_column, shaped_column, text_column, text_data, truth_data, valid_data}
+use Rattle.arrow_text.specs.ColumnData.{code_data, column_data, each, flag_data, int_data, item_length, list_column, number_data, offset_data, offsets_data, plain_column, shaped_column, text_column, text_data, truth_data, valid_data}
 use Rattle.arrow_text.specs.Dictionaries.{dictionaries_from}
 use Rattle.arrow_text.specs.DictionaryData.{entries_data, entry_data, text_items, with_field}
 use Rattle.arrow_text.specs.SchemaData.{field_data, fields_data, schema_data}
@@ -64,18 +68,21 @@ code_flat code (column.list l) = refl
 flags_flat : (items : List Item) → items_depth (each valid_data items) ≡ 0
 flags_flat = each_flat valid_data (λ x. flag_flat (not (is_null x)))
 
-offsets_flat : (start : ℕ) (items : List Item) → items_depth (offsets_data start items) ≡ 0
-offsets_flat start [] = refl
-offsets_flat start (x ∷ xs) = ap₂ max refl (offsets_flat (start + item_length x) xs)
+offset_flat : (w : OffsetWidth) (n : ℕ) → depth (offset_data w n) ≡ 0
+offset_flat w n = int_flat (offset_type w).bits (pos n)
+
+offsets_flat : (w : OffsetWidth) (start : ℕ) (items : List Item) → items_depth (offsets_data w start items) ≡ 0
+offsets_flat w start [] = ap₂ max (offset_flat w start) refl
+offsets_flat w start (x ∷ xs) = ap₂ max (offset_flat w start) (offsets_flat w (start + item_length x) xs)
 
 plain_depth : (value : Item → Data) (name : List ℕ) (items : List Item) → ((x : Item) → depth (value x) ≡ 0) → depth (plain_column value name items) ≤ 2
 plain_depth value name items flat = omega (arith, each_flat value flat items, flags_flat items)
 
-text_depth : (name : List ℕ) (items : List Item) → depth (text_column name items) ≤ 2
-text_depth name items = omega (arith, each_flat text_data text_flat items, offsets_flat 0 items, flags_flat items)
+text_depth : (w : OffsetWidth) (name : List ℕ) (items : List Item) → depth (text_column w name items) ≤ 2
+text_depth w name items = omega (arith, each_flat text_data text_flat items, offsets_flat w 0 items, flags_flat items)
 
-list_depth : (child : Data) (name : List ℕ) (items : List Item) (n : ℕ) → depth child ≤ n → depth (list_column child name items) ≤ n + 2
-list_depth child name items n low = omega (arith, low, offsets_flat 0 items, flags_flat items)
+list_depth : (w : OffsetWidth) (child : Data) (name : List ℕ) (items : List Item) (n : ℕ) → depth child ≤ n → depth (list_column w child name items) ≤ n + 2
+list_depth w child name items n low = omega (arith, low, offsets_flat w 0 items, flags_flat items)
 
 mutual
   pub column_depth : (code : List ℕ → ℕ) (f : FieldShape) (items : List Item) → depth (column_data code f items) ≤ 2 + 2 * kind.depth (kind_of_field f)
@@ -84,9 +91,9 @@ mutual
   shaped_depth : (code : List ℕ → ℕ) (ty : Shape) (name : List ℕ) (items : List Item) → depth (shaped_column code ty name items) ≤ 2 + 2 * kind.depth (kind_of_shape ty)
   shaped_depth code (int t) name items = omega (arith, plain_depth (number_data t) name items (number_flat t))
   shaped_depth code boolean name items = omega (arith, plain_depth truth_data name items truth_flat)
-  shaped_depth code utf8 name items = omega (arith, text_depth name items)
-  shaped_depth code (list f) name items =
-      omega (arith, list_depth (column_data code f (inner_items items)) name items (2 + 2 * kind.depth (kind_of_field f)) (column_depth code f (inner_items items)))
+  shaped_depth code (shape.texts w) name items = omega (arith, text_depth w name items)
+  shaped_depth code (shape.lists w f) name items =
+      omega (arith, list_depth w (column_data code f (inner_items items)) name items (2 + 2 * kind.depth (kind_of_field f)) (column_depth code f (inner_items items)))
   shaped_depth code dict name items = omega (arith, plain_depth (code_data code) name items (code_flat code))
 
 -- ---- batches and dictionaries
@@ -106,13 +113,13 @@ batches_depth dictionaries fields [] h = omega arith
 batches_depth dictionaries fields (t ∷ tables) h = omega (arith, batch_depth dictionaries fields t h, batches_depth dictionaries fields tables h)
 
 entry_depth : (id : ℕ) (name : List ℕ) (texts : List (List ℕ)) → depth (entry_data id name texts) ≤ 5
-entry_depth id name texts = omega (arith, text_depth name (text_items texts))
+entry_depth id name texts = omega (arith, text_depth Narrow name (text_items texts))
 
 with_field_depth : (id : ℕ) (f : FieldShape) (texts : List (List ℕ)) (others : Items) → items_depth others ≤ 5 → items_depth (with_field id f texts others) ≤ 5
 with_field_depth id (field name nullable (int t)) texts others h = h
 with_field_depth id (field name nullable boolean) texts others h = h
-with_field_depth id (field name nullable utf8) texts others h = h
-with_field_depth id (field name nullable (list f)) texts others h = h
+with_field_depth id (field name nullable (shape.texts w)) texts others h = h
+with_field_depth id (field name nullable (shape.lists w f)) texts others h = h
 with_field_depth id (field name nullable dict) texts others h = omega (arith, h, entry_depth id name texts)
 
 entries_depth : (place : ℕ) (dictionaries : List (List (List ℕ))) (fields : List FieldShape) → items_depth (entries_data place dictionaries fields) ≤ 5
@@ -125,8 +132,8 @@ entries_depth place (texts ∷ dictionaries) (f ∷ fields) = with_field_depth p
 field_depth : (id : ℕ) (f : FieldShape) → depth (field_data id f) ≤ 3 + 2 * kind.depth (kind_of_field f)
 field_depth id (field name nullable (int t)) = omega arith
 field_depth id (field name nullable boolean) = omega arith
-field_depth id (field name nullable utf8) = omega arith
-field_depth id (field name nullable (list f)) = omega (arith, field_depth id f)
+field_depth id (field name nullable (shape.texts w)) = omega arith
+field_depth id (field name nullable (shape.lists w f)) = omega (arith, field_depth id f)
 field_depth id (field name nullable dict) = omega arith
 
 fields_depth : (place : ℕ) (fields : List FieldShape) → AreShallow fields → items_depth (fields_data place fields) ≤ 19

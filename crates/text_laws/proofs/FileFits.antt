@@ -1,18 +1,33 @@
 -- A file whose dictionaries are short fits.
 use Rattle.std.proofs.Common.{◌≡◌, ℕ, ◌<◌, ◌^◌, List, [], ◌∷◌, length, false, arith}
+use Rattle.std.specs.Prelude.{sum_by}
 use Rattle.std.specs.List.{AllByRecursion}
 use Rattle.std.proofs.lemmas.Bool.{ltb-false}
 use Rattle.arrays.specs.Item.{Item}
+use Rattle.types.specs.declared.offset_width.OffsetWidth.{OffsetWidth}
+use Rattle.types.specs.declared.offset_width.OffsetWidth.TheVariants.{Narrow, Wide}
+use Rattle.arrays.specs.Kind as kind
 use Rattle.arrays.specs.Kind.{depth}
 use Rattle.arrays.specs.Lengths.{inner_items, is_too_big, text_bytes}
-use Rattle.arrays.specs.Shape.{Shape, FieldShape, int, boolean, utf8, list, dict, field, kind_of_field, kind_of_shape}
+use Rattle.arrays.specs.Shape as shape
+use Rattle.arrays.specs.Shape.{Shape, FieldShape, int, boolean, dict, field, kind_of_field, kind_of_shape}
 use Rattle.arrays.specs.Typed.{IsItemOf}
 use Rattle.json_places.specs.JsonTable.{Table}
+use Rattle.arrow_text.specs.ColumnData.{item_length}
 use Rattle.arrow_text.specs.Dictionaries.{dictionaries_from}
 use Rattle.text_laws.specs.IsFile.{AreColumns, AreShort, IsField, IsFile, IsTable}
-use Rattle.text_laws.specs.Fits.{AreShallow, FitColumns, FitDictionaries, FitTables, FitsField, FitsFile, FitsShape}
+use Rattle.text_laws.specs.Fits.{AreShallow, FitColumns, FitDictionaries, FitTables, FitsField, FitsOffset, FitsFile, FitsShape}
 use Rattle.arrays.proofs.SizeLemmas.{small}
 use Rattle.text_laws.proofs.Columns.{inner_few, inner_typed, list_sizes, text_sizes}
+
+-- Texts fit where the narrow offsets count them: wide ones are asked nothing.
+texts_fit : (w : OffsetWidth) (items : List Item) → AllByRecursion (IsItemOf (kind.texts w)) items → is_too_big (kind.texts w) items ≡ false → FitsOffset w (sum_by item_length items)
+texts_fit Narrow items typed counted = omega (arith, text_sizes Narrow items typed, small (text_bytes items) counted)
+texts_fit Wide items typed counted = tt
+
+few_fit : (w : OffsetWidth) (n : ℕ) → n < 2 ^ 64 → FitsOffset w n
+few_fit Narrow n h = h
+few_fit Wide n h = tt
 
 mutual
   field_fits : (f : FieldShape) (items : List Item) → length items < 2 ^ 31 → AllByRecursion (IsItemOf (kind_of_field f)) items → is_too_big (kind_of_field f) items ≡ false → FitsField f items
@@ -21,10 +36,13 @@ mutual
   shape_fits : (ty : Shape) (items : List Item) → AllByRecursion (IsItemOf (kind_of_shape ty)) items → is_too_big (kind_of_shape ty) items ≡ false → FitsShape ty items
   shape_fits (int t) items typed counted = typed
   shape_fits boolean items typed counted = tt
-  shape_fits utf8 items typed counted = omega (arith, text_sizes items typed, small (text_bytes items) counted)
-  shape_fits (list f) items typed counted =
-      let inside = inner_few (kind_of_field f) items counted in
-      (omega (arith, list_sizes (kind_of_field f) items typed, inside.0), field_fits f (inner_items items) inside.0 (inner_typed (kind_of_field f) items typed) inside.1)
+  shape_fits (shape.texts w) items typed counted = texts_fit w items typed counted
+  shape_fits (shape.lists w f) items typed counted =
+      let k = kind_of_field f in
+      let inside = inner_few w k items counted in (
+        few_fit w (sum_by item_length items) (omega (arith, list_sizes w k items typed, inside.0)),
+        field_fits f (inner_items items) inside.0 (inner_typed w k items typed) inside.1,
+      )
   shape_fits dict items typed counted = tt
 
 columns_fit : (fields : List FieldShape) (rows : ℕ) (columns : List (List Item)) → rows < 2 ^ 31 → AreColumns fields rows columns → FitColumns fields columns

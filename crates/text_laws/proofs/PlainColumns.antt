@@ -1,5 +1,5 @@
 -- Columns that fit are plain values.
-use Rattle.std.proofs.Common.{◌≡◌, ℕ, ◌+◌, ◌-◌, ◌<◌, ◌^◌, ℤ, pos, negsuc, neg_ℤ, List, [], ◌∷◌, length, Bool, true, false, not, Option, Some, None, position, refl, arith, lit<}
+use Rattle.std.proofs.Common.{◌≡◌, ℕ, ◌+◌, ◌-◌, ◌<◌, ◌≤◌, ◌^◌, ℤ, pos, negsuc, neg_ℤ, List, [], ◌∷◌, length, Bool, true, false, not, Option, Some, None, position, refl, arith, lit<}
 use Rattle.std.specs.Prelude.{◌≤ℤ◌, sum_by, unwrap_or}
 use Rattle.std.specs.List.{AllByRecursion}
 use Rattle.std.specs.Str.{bytes_eq}
@@ -8,19 +8,22 @@ use Rattle.std.proofs.lemmas.List.Sums.{sum_by-cons}
 use Rattle.types.specs.declared.int_type.IntType.{IntType}
 use Rattle.types.specs.declared.int_type.Width.{Width}
 use Rattle.types.specs.declared.int_type.Width.TheVariants.{W8, W16, W32, W64}
+use Rattle.types.specs.declared.offset_width.OffsetWidth.{OffsetWidth}
+use Rattle.types.specs.declared.offset_width.OffsetWidth.TheVariants.{Narrow, Wide}
 use Rattle.arrays.specs.Item as column
 use Rattle.arrays.specs.Item.{Item, is_null}
 use Rattle.arrays.specs.Kind as kind
 use Rattle.arrays.specs.Lengths.{inner_items}
-use Rattle.arrays.specs.Shape.{Shape, FieldShape, int, boolean, utf8, list, dict, field}
+use Rattle.arrays.specs.Shape as shape
+use Rattle.arrays.specs.Shape.{Shape, FieldShape, int, boolean, dict, field}
 use Rattle.arrays.specs.Typed.{IsItemOf}
 use Rattle.pool.proofs.PlaceLemmas.{position_found}
 use Rattle.serde_json.specs.Data.{Data}
-use Rattle.arrow_text.specs.ColumnData.{code_data, column_data, each, flag_data, int_data, item_length, list_column, number_data, offsets_data, plain_column, shaped_column, sized, text_column, text_data, truth_data, valid_data, whole_data}
+use Rattle.arrow_text.specs.ColumnData.{code_data, column_data, each, flag_data, int_data, item_length, list_column, number_data, offset_data, offsets_data, plain_column, shaped_column, sized, text_column, text_data, truth_data, valid_data, whole_data}
 use Rattle.arrow_text.specs.Plain.{ArePlain, ArePlainMembers, IsPlain}
 use Rattle.arrow_text.specs.Slots.{code_in}
 use Rattle.arrow_text.proofs.Ranges.{high_of, low_of}
-use Rattle.text_laws.specs.Fits.{FitsField, FitsShape}
+use Rattle.text_laws.specs.Fits.{FitsField, FitsOffset, FitsShape}
 
 -- ---- slots
 
@@ -76,9 +79,21 @@ numbers_plain : (t : IntType) (items : List Item) → AllByRecursion (IsItemOf (
 numbers_plain t [] h = tt
 numbers_plain t (x ∷ xs) h = (number_plain t x h.0, numbers_plain t xs h.1)
 
-offsets_plain : (start : ℕ) (items : List Item) → start + sum_by item_length items < 2 ^ 64 → ArePlain (offsets_data start items)
-offsets_plain start [] h = (omega (arith, h), tt)
-offsets_plain start (x ∷ xs) h = (omega (arith, h), offsets_plain (start + item_length x) xs (omega (arith, h, sum_by-cons item_length x xs)))
+offset_plain : (w : OffsetWidth) (n : ℕ) → FitsOffset w n → IsPlain (offset_data w n)
+offset_plain Narrow n h = h
+offset_plain Wide n h = tt
+
+-- An offset that isn't behind one that fits.
+before : (w : OffsetWidth) (m n : ℕ) → m ≤ n → FitsOffset w n → FitsOffset w m
+before Narrow m n below h = omega (arith, below, h)
+before Wide m n below h = tt
+
+offsets_plain : (w : OffsetWidth) (start : ℕ) (items : List Item) → FitsOffset w (start + sum_by item_length items) → ArePlain (offsets_data w start items)
+offsets_plain w start [] h = (offset_plain w start (before w start _ (omega arith) h), tt)
+offsets_plain w start (x ∷ xs) h = (
+  offset_plain w start (before w start _ (omega arith) h),
+  offsets_plain w (start + item_length x) xs (before w _ _ (omega (arith, sum_by-cons item_length x xs)) h),
+)
 
 code_small : (texts : List (List ℕ)) (t : List ℕ) → length texts < 2 ^ 64 → code_in texts t < 2 ^ 64
 code_small texts t few = go (position (bytes_eq t) texts) refl where
@@ -102,16 +117,17 @@ plain_column_plain : (value : Item → Data) (name : List ℕ) (items : List Ite
 plain_column_plain value name items few plain =
     (plain, (refl, (refl, (refl, tt))), (flags_plain items, (refl, (refl, tt)), sized_plain (length items) name few))
 
-pub text_column_plain : (name : List ℕ) (items : List Item) → length items < 2 ^ 64 → sum_by item_length items < 2 ^ 64 → IsPlain (text_column name items)
-text_column_plain name items few short = (
+pub text_column_plain : (w : OffsetWidth) (name : List ℕ) (items : List Item) → length items < 2 ^ 64 → FitsOffset w (sum_by item_length items) → IsPlain (text_column w name items)
+text_column_plain w name items few short = (
   each_plain text_data text_plain items,
   (refl, (refl, (refl, (refl, tt)))),
-  (offsets_plain 0 items (omega (arith, short)), (refl, (refl, (refl, tt))), (flags_plain items, (refl, (refl, tt)), sized_plain (length items) name few)),
+  (offsets_plain w 0 items (before w _ _ (omega arith) short), (refl, (refl, (refl, tt))), (flags_plain items, (refl, (refl, tt)), sized_plain (length items) name few)),
 )
 
-list_column_plain : (child : Data) (name : List ℕ) (items : List Item) → length items < 2 ^ 64 → sum_by item_length items < 2 ^ 64 → IsPlain child → IsPlain (list_column child name items)
-list_column_plain child name items few short plain = (
-  offsets_plain 0 items (omega (arith, short)),
+list_column_plain : (w : OffsetWidth) (child : Data) (name : List ℕ) (items : List Item) → length items < 2 ^ 64 → FitsOffset w (sum_by item_length items) → IsPlain child
+    → IsPlain (list_column w child name items)
+list_column_plain w child name items few short plain = (
+  offsets_plain w 0 items (before w _ _ (omega arith) short),
   (refl, (refl, (refl, (refl, tt)))),
   (flags_plain items, (refl, (refl, (refl, tt))), ((plain, tt), (refl, (refl, tt)), sized_plain (length items) name few)),
 )
@@ -123,8 +139,8 @@ mutual
   shaped_plain : (texts : List (List ℕ)) → length texts < 2 ^ 64 → (ty : Shape) (name : List ℕ) (items : List Item) → length items < 2 ^ 64 → FitsShape ty items → IsPlain (shaped_column (code_in texts) ty name items)
   shaped_plain texts small (int t) name items few h = plain_column_plain (number_data t) name items few (numbers_plain t items h)
   shaped_plain texts small boolean name items few h = plain_column_plain truth_data name items few (each_plain truth_data truth_plain items)
-  shaped_plain texts small utf8 name items few h = text_column_plain name items few h
-  shaped_plain texts small (list f) name items few h =
-      list_column_plain (column_data (code_in texts) f (inner_items items)) name items few h.0 (column_plain texts small f (inner_items items) h.1)
+  shaped_plain texts small (shape.texts w) name items few h = text_column_plain w name items few h
+  shaped_plain texts small (shape.lists w f) name items few h =
+      list_column_plain w (column_data (code_in texts) f (inner_items items)) name items few h.0 (column_plain texts small f (inner_items items) h.1)
   shaped_plain texts small dict name items few h =
       plain_column_plain (code_data (code_in texts)) name items few (each_plain (code_data (code_in texts)) (code_plain texts small) items)

@@ -3,9 +3,11 @@ use Rattle.std.proofs.Common.{◌≡◌, ◌∙◌, ℕ, suc, ◌+◌, ◌<◌, 
 use Rattle.std.specs.Prelude.{sum_by}
 use Rattle.std.proofs.lemmas.List.{length-map}
 use Rattle.std.proofs.lemmas.List.Sums.{sum_by-cons}
+use Rattle.types.specs.declared.offset_width.OffsetWidth.TheVariants.{Narrow}
 use Rattle.arrays.specs.File.{File}
 use Rattle.arrays.specs.Item.{text}
-use Rattle.arrays.specs.Shape.{FieldShape, int, boolean, utf8, list, dict, field}
+use Rattle.arrays.specs.Shape as shape
+use Rattle.arrays.specs.Shape.{FieldShape, int, boolean, dict, field}
 use Rattle.serde_json.specs.Data.{Items, depth}
 use Rattle.serde_json.specs.Read.{read}
 use Rattle.json_places.specs.JsonTable.{Table, tables_of}
@@ -35,7 +37,7 @@ bytes_of_texts (t ∷ texts) =
 
 text_batch_plain : (name : List ℕ) (texts : List (List ℕ)) → length texts < 2 ^ 64 → sum_by length texts < 2 ^ 64 → IsPlain (text_batch name texts)
 text_batch_plain name texts few short = (
-  (text_column_plain name (text_items texts) (subst (λ n. n < 2 ^ 64) (sym (length-map texts text)) few) (subst (λ n. n < 2 ^ 64) (sym (bytes_of_texts texts)) short), tt),
+  (text_column_plain Narrow name (text_items texts) (subst (λ n. n < 2 ^ 64) (sym (length-map texts text)) few) (subst (λ n. n < 2 ^ 64) (sym (bytes_of_texts texts)) short), tt),
   (refl, tt),
   (few, tt, tt),
 )
@@ -47,8 +49,8 @@ with_field_plain : (id : ℕ) (f : FieldShape) (texts : List (List ℕ)) (others
     → ArePlain (with_field id f texts others)
 with_field_plain id (field name nullable (int t)) texts others small few short plain = plain
 with_field_plain id (field name nullable boolean) texts others small few short plain = plain
-with_field_plain id (field name nullable utf8) texts others small few short plain = plain
-with_field_plain id (field name nullable (list f)) texts others small few short plain = plain
+with_field_plain id (field name nullable (shape.texts w)) texts others small few short plain = plain
+with_field_plain id (field name nullable (shape.lists w f)) texts others small few short plain = plain
 with_field_plain id (field name nullable dict) texts others small few short plain = (entry_plain id name texts small few short, plain)
 
 entries_plain : (place : ℕ) (dictionaries : List (List (List ℕ))) (fields : List FieldShape) → place + length fields ≤ 2 ^ 64 → FitDictionaries dictionaries

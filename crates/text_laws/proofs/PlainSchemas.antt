@@ -4,7 +4,7 @@ use Rattle.types.specs.declared.int_type.IntType.{IntType}
 use Rattle.types.specs.declared.int_type.Width.{Width}
 use Rattle.types.specs.declared.int_type.Width.TheVariants.{W8, W16, W32, W64}
 use Rattle.arrays.specs.Kind.{bytes_of, int32}
-use Rattle.arrays.specs.Shape.{Shape, FieldShape, int, boolean, utf8, list, dict, field}
+use Rattle.arrays.specs.Shape.{Shape, FieldShape, int, boolean, texts, lists, dict, field}
 use Rattle.arrow_text.specs.Plain.{ArePlain, ArePlainMembers, IsPlain}
 use Rattle.arrow_text.specs.SchemaData.{dictionary_data, field_data, fields_data, int_type, named_members, schema_data, type_data}
 
@@ -20,8 +20,8 @@ int_type_plain t = (width_small t.bits, (refl, (refl, tt)), (tt, (refl, tt), (tt
 type_plain : (ty : Shape) → IsPlain (type_data ty)
 type_plain (int t) = int_type_plain t
 type_plain boolean = (tt, tt, tt)
-type_plain utf8 = (tt, tt, tt)
-type_plain (list f) = (tt, tt, tt)
+type_plain (texts w) = (tt, tt, tt)
+type_plain (lists w f) = (tt, tt, tt)
 type_plain dict = (tt, tt, tt)
 
 named_plain : (name : List ℕ) (nullable : Bool) (ty : Shape) → ArePlainMembers (named_members name nullable ty)
@@ -34,8 +34,8 @@ mutual
   field_plain : (id : ℕ) → id < 2 ^ 64 → (f : FieldShape) → IsPlain (field_data id f)
   field_plain id small (field name nullable (int t)) = (tt, (refl, (refl, (refl, tt))), named_plain name nullable (int t))
   field_plain id small (field name nullable boolean) = (tt, (refl, (refl, (refl, tt))), named_plain name nullable boolean)
-  field_plain id small (field name nullable utf8) = (tt, (refl, (refl, (refl, tt))), named_plain name nullable utf8)
-  field_plain id small (field name nullable (list f)) = ((field_plain id small f, tt), (refl, (refl, (refl, tt))), named_plain name nullable (list f))
+  field_plain id small (field name nullable (texts w)) = (tt, (refl, (refl, (refl, tt))), named_plain name nullable (texts w))
+  field_plain id small (field name nullable (lists w f)) = ((field_plain id small f, tt), (refl, (refl, (refl, tt))), named_plain name nullable (lists w f))
   field_plain id small (field name nullable dict) =
       (tt, (refl, (refl, (refl, (refl, tt)))), (dictionary_plain id small, (refl, (refl, (refl, tt))), named_plain name nullable dict))
 

@@ -6,11 +6,13 @@ use Rattle.std.proofs.lemmas.List.{length-map}
 use Rattle.std.proofs.lemmas.List.Sums.{sum_by-cons}
 use Rattle.std.proofs.lemmas.Bool.{le-ltb}
 use Rattle.types.specs.Limits.{most_slots}
+use Rattle.types.specs.declared.offset_width.OffsetWidth.TheVariants.{Narrow}
 use Rattle.arrays.specs.Item.{text}
 use Rattle.arrays.specs.Kind as kind
 use Rattle.arrays.specs.Kind.{Kind, int32}
 use Rattle.arrays.specs.Lengths.{text_bytes, text_length}
-use Rattle.arrays.specs.Shape.{FieldShape, int, boolean, utf8, list, dict, field, kind_of_field}
+use Rattle.arrays.specs.Shape as shape
+use Rattle.arrays.specs.Shape.{FieldShape, int, boolean, dict, field, kind_of_field}
 use Rattle.arrays.specs.Typed.{IsItemOf}
 use Rattle.pool.specs.Texts.{byte_count}
 use Rattle.serde_json.specs.Data.{Data, array, object, Items, member}
@@ -34,8 +36,8 @@ use Rattle.text_laws.proofs.ReadSchema.{encoding_read}
 abbrev with_id : ℕ → FieldShape → List ℤ → List ℤ
 with_id place (field name nullable (int t)) ids = ids
 with_id place (field name nullable boolean) ids = ids
-with_id place (field name nullable utf8) ids = ids
-with_id place (field name nullable (list f)) ids = ids
+with_id place (field name nullable (shape.texts w)) ids = ids
+with_id place (field name nullable (shape.lists w f)) ids = ids
 with_id place (field name nullable dict) ids = pos place ∷ ids
 
 abbrev pub ids_from : ℕ → List FieldShape → List ℤ
@@ -45,8 +47,8 @@ ids_from place (f ∷ fields) = with_id place f (ids_from (suc place) fields)
 with_entry_read : (place : ℕ) → place < 2 ^ 63 → (f : FieldShape) (texts : List (List ℕ)) (others : Items) (ids : List ℤ) → AreRead HasId others ids → AreRead HasId (with_field place f texts others) (with_id place f ids)
 with_entry_read place small (field name nullable (int t)) texts others ids h = h
 with_entry_read place small (field name nullable boolean) texts others ids h = h
-with_entry_read place small (field name nullable utf8) texts others ids h = h
-with_entry_read place small (field name nullable (list f)) texts others ids h = h
+with_entry_read place small (field name nullable (shape.texts w)) texts others ids h = h
+with_entry_read place small (field name nullable (shape.lists w f)) texts others ids h = h
 with_entry_read place small (field name nullable dict) texts others ids h = (id_read place small, h)
 
 pub ids_read : (place : ℕ) (dictionaries : List (List (List ℕ))) (fields : List FieldShape) → length dictionaries ≡ length fields → place + length fields ≤ 2 ^ 63
@@ -62,8 +64,8 @@ ids_read place (texts ∷ dictionaries) (f ∷ fields) same few =
 above_head : (place : ℕ) (f : FieldShape) (ids : List ℤ) → ((i n : ℕ) → slice_get ids i ≡ Some (pos n) → suc place ≤ n) → (i n : ℕ) → slice_get (with_id place f ids) i ≡ Some (pos n) → place ≤ n
 above_head place (field name nullable (int t)) ids h i n at = omega (arith, h i n at)
 above_head place (field name nullable boolean) ids h i n at = omega (arith, h i n at)
-above_head place (field name nullable utf8) ids h i n at = omega (arith, h i n at)
-above_head place (field name nullable (list f)) ids h i n at = omega (arith, h i n at)
+above_head place (field name nullable (shape.texts w)) ids h i n at = omega (arith, h i n at)
+above_head place (field name nullable (shape.lists w f)) ids h i n at = omega (arith, h i n at)
 above_head place (field name nullable dict) ids h zero n at = let same : place ≡ n = cc in omega (arith, same)
 above_head place (field name nullable dict) ids h (suc i) n at = omega (arith, h i n at)
 
@@ -77,8 +79,8 @@ once_head : (place : ℕ) (f : FieldShape) (ids : List ℤ) → ((i n : ℕ) →
     → (i j n : ℕ) → slice_get (with_id place f ids) i ≡ Some (pos n) → slice_get (with_id place f ids) j ≡ Some (pos n) → j ≡ i
 once_head place (field name nullable (int t)) ids h g i j n at again = g i j n at again
 once_head place (field name nullable boolean) ids h g i j n at again = g i j n at again
-once_head place (field name nullable utf8) ids h g i j n at again = g i j n at again
-once_head place (field name nullable (list f)) ids h g i j n at again = g i j n at again
+once_head place (field name nullable (shape.texts w)) ids h g i j n at again = g i j n at again
+once_head place (field name nullable (shape.lists w f)) ids h g i j n at again = g i j n at again
 once_head place (field name nullable dict) ids h g zero zero n at again = refl
 once_head place (field name nullable dict) ids h g zero (suc j) n at again =
     let same : place ≡ n = cc in
@@ -103,8 +105,8 @@ behind : (place : ℕ) (f : FieldShape) (others : List (List ℕ)) (entries : It
     → HasEntry (with_field place f others entries) (with_id place f ids) id name texts
 behind place (field n b (int t)) others entries ids id name texts h = h
 behind place (field n b boolean) others entries ids id name texts h = h
-behind place (field n b utf8) others entries ids id name texts h = h
-behind place (field n b (list f)) others entries ids id name texts h = h
+behind place (field n b (shape.texts w)) others entries ids id name texts h = h
+behind place (field n b (shape.lists w f)) others entries ids id name texts h = h
 behind place (field n b dict) others entries ids id name texts h = record { i = suc h.i; here = h.here; found = h.found }
 
 pub entry_found : (place : ℕ) (dictionaries : List (List (List ℕ))) (fields : List FieldShape) (j : ℕ) (name : List ℕ) (nullable : Bool) (texts : List (List ℕ))
@@ -143,11 +145,11 @@ entry_read id name texts few short typed =
       reads = bare record {
         n = length texts;
         count = count_read (length texts) few;
-        column = text_column name (text_items texts);
+        column = text_column Narrow name (text_items texts);
         columns = refl;
         reads =
-            subst (λ n. ReadsPlain texts_spelled n (text_column name (text_items texts)) (text_items texts)) many
-            (text_column_read name (text_items texts) (omega (arith, many, few)) (texts_typed texts typed) (le-ltb most_slots (text_bytes (text_items texts)) (omega (arith, texts_bytes texts, short))));
+            subst (λ n. ReadsPlain (texts_spelled Narrow) n (text_column Narrow name (text_items texts)) (text_items texts)) many
+            (text_column_read Narrow name (text_items texts) (omega (arith, many, few)) (texts_typed texts typed) (le-ltb most_slots (text_bytes (text_items texts)) (omega (arith, texts_bytes texts, short))));
       };
     }
 
@@ -156,8 +158,8 @@ entry_read id name texts few short typed =
 abbrev pub coding_of : Kind → List (List ℕ) → Option Coding
 coding_of (kind.int t) texts = None
 coding_of kind.boolean texts = None
-coding_of kind.utf8 texts = None
-coding_of (kind.list k) texts = None
+coding_of (kind.texts w) texts = None
+coding_of (kind.lists w k) texts = None
 coding_of kind.dict texts = Some (record { index = int32; texts = text_items texts })
 
 abbrev pub catalog_of : List (List (List ℕ)) → List FieldShape → List (Option Coding)
@@ -184,8 +186,8 @@ field_coded : (d : Data) (place : ℕ) → place < 2 ^ 63 → (ts : List (List �
     → AreThere d place (ts ∷ dictionaries) (f ∷ fields) → HasCoding d (field_data place f) (coding_of (kind_of_field f) ts)
 field_coded d place small ts dictionaries (field name nullable (int t)) fields h = refl
 field_coded d place small ts dictionaries (field name nullable boolean) fields h = refl
-field_coded d place small ts dictionaries (field name nullable utf8) fields h = refl
-field_coded d place small ts dictionaries (field name nullable (list f)) fields h = refl
+field_coded d place small ts dictionaries (field name nullable (shape.texts w)) fields h = refl
+field_coded d place small ts dictionaries (field name nullable (shape.lists w f)) fields h = refl
 field_coded d place small ts dictionaries (field name nullable dict) fields h =
     let there : IsThere d place ts = subst (λ id. IsThere d id ts) (omega arith) (h 0 name nullable ts refl refl) in
     record {

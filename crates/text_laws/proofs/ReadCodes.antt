@@ -19,7 +19,6 @@ use Rattle.pool.proofs.PlaceLemmas.{among_place, position_found}
 use Rattle.pool.proofs.TextLemmas.{is_among-firsts}
 use Rattle.json_places.specs.JsonTable.{Table}
 use Rattle.arrow_json.specs.JsonCodes.{ReadsCodes, entry_at, indices}
-use Rattle.arrow_json.proofs.JsonSlots.{never_full}
 use Rattle.arrow_text.specs.ColumnData.{code_data, plain_column}
 use Rattle.arrow_text.specs.Dictionaries.{column_at, column_items}
 use Rattle.arrow_text.specs.DictionaryData.{text_items}
@@ -130,4 +129,4 @@ codes_spelled texts few (x ∷ xs) h among = (code_spelled texts few x h.0 among
 pub codes_read : (texts : List (List ℕ)) (name : List ℕ) (items : List Item) → length texts < 2 ^ 31 → length items < 2 ^ 31 → AllByRecursion (IsItemOf kind.dict) items
     → AllByRecursion (IsAmong texts) items → ReadsCodes int32 (text_items texts) (length items) (plain_column (code_data (code_in texts)) name items) items
 codes_read texts name items short few typed among =
-    plain_read (indices int32 (text_items texts)) (code_data (code_in texts)) name items few (codes_spelled texts short items typed among) (never_full items)
+    plain_read (indices int32 (text_items texts)) (code_data (code_in texts)) name items few (codes_spelled texts short items typed among) refl

@@ -3,18 +3,18 @@ use Rattle.std.proofs.Common.{◌≡◌, ℕ, ◌<◌, ◌≤◌, ◌^◌, List,
 use Rattle.std.specs.List.{AllByRecursion}
 use Rattle.std.proofs.lemmas.Bool.{ltb-false}
 use Rattle.types.specs.declared.int_type.IntType.{IntType}
+use Rattle.types.specs.declared.offset_width.OffsetWidth.{OffsetWidth}
 use Rattle.arrays.specs.Item as column
 use Rattle.arrays.specs.Item.{Item}
 use Rattle.arrays.specs.Kind as kind
 use Rattle.arrays.specs.Kind.{Kind, depth, ends_in_dict, has_dict_in_list}
 use Rattle.arrays.specs.Lengths.{inner_items, is_too_big}
-use Rattle.arrays.specs.Shape.{Shape, FieldShape, int, boolean, utf8, list, dict, field, kind_of_field, kind_of_shape}
+use Rattle.arrays.specs.Shape.{Shape, FieldShape, int, boolean, texts, lists, dict, field, kind_of_field, kind_of_shape}
 use Rattle.arrays.specs.Typed.{IsItemOf}
 use Rattle.serde_json.specs.Data.{Data}
 use Rattle.arrow_json.specs.JsonBatch.{ReadsColumn}
-use Rattle.arrow_json.specs.JsonColumn.{ReadsPlain, Spelling, numbers, texts, truths}
+use Rattle.arrow_json.specs.JsonColumn.{ReadsPlain, Spelling, numbers, texts as texts_spelled, truths}
 use Rattle.arrow_json.proofs.JsonLists.{column_plain}
-use Rattle.arrow_json.proofs.JsonSlots.{never_full}
 use Rattle.arrow_text.specs.ColumnData.{column_data, each, number_data, shaped_column, text_column, text_data, truth_data, valid_data}
 use Rattle.arrow_text.specs.Text.{is_encoded}
 use Rattle.text_laws.specs.IsFile.{IsColumn, IsField}
@@ -39,12 +39,12 @@ truth_spelled (column.boolean b) h = λ some. ap (option_map column.boolean) (fl
 truth_spelled (column.text bytes) h = absurd h
 truth_spelled (column.list l) h = absurd h
 
-text_spelled : (x : Item) → IsItemOf kind.utf8 x → IsSpelled texts text_data x
-text_spelled column.null h = λ some. absurd cc
-text_spelled (column.int z) h = absurd h
-text_spelled (column.boolean b) h = absurd h
-text_spelled (column.text bytes) h = λ some. refl
-text_spelled (column.list l) h = absurd h
+text_spelled : (w : OffsetWidth) (x : Item) → IsItemOf (kind.texts w) x → IsSpelled (texts_spelled w) text_data x
+text_spelled w column.null h = λ some. absurd cc
+text_spelled w (column.int z) h = absurd h
+text_spelled w (column.boolean b) h = absurd h
+text_spelled w (column.text bytes) h = λ some. refl
+text_spelled w (column.list l) h = absurd h
 
 pub all_spelled : (k : Kind) (s : Spelling) (value : Item → Data) → ((x : Item) → IsItemOf k x → IsSpelled s value x) → (items : List Item) → AllByRecursion (IsItemOf k) items
     → AllByRecursion (IsSpelled s value) items
@@ -54,9 +54,9 @@ all_spelled k s value one (x ∷ xs) h = (one x h.0, all_spelled k s value one x
 -- ---- columns
 
 -- Texts: the offsets say no more than the texts.
-pub text_column_read : (name : List ℕ) (items : List Item) → length items < 2 ^ 31 → AllByRecursion (IsItemOf kind.utf8) items → is_too_big kind.utf8 items ≡ false
-    → ReadsPlain texts (length items) (text_column name items) items
-text_column_read name items few typed short = record {
+pub text_column_read : (w : OffsetWidth) (name : List ℕ) (items : List Item) → length items < 2 ^ 31 → AllByRecursion (IsItemOf (kind.texts w)) items → is_too_big (kind.texts w) items ≡ false
+    → ReadsPlain (texts_spelled w) (length items) (text_column w name items) items
+text_column_read w name items few typed short = record {
   flags = Some (each valid_data items);
   values = each text_data items;
   given = record {
@@ -66,7 +66,7 @@ text_column_read name items few typed short = record {
     listed = refl;
     whole = length-each text_data items;
   };
-  slots = slots_spelled texts text_data items (all_spelled kind.utf8 texts text_data text_spelled items typed);
+  slots = slots_spelled (texts_spelled w) text_data items (all_spelled (kind.texts w) (texts_spelled w) text_data (text_spelled w) items typed);
   fits = short;
 }
 
@@ -78,15 +78,15 @@ mutual
   shape_read : (code : List ℕ → ℕ) (ty : Shape) (name : List ℕ) (items : List Item) → length items < 2 ^ 31 → depth (kind_of_shape ty) ≤ 8 → ends_in_dict (kind_of_shape ty) ≡ false
       → AllByRecursion (IsItemOf (kind_of_shape ty)) items → is_too_big (kind_of_shape ty) items ≡ false → ReadsColumn (kind_of_shape ty) (length items) (shaped_column code ty name items) items
   shape_read code (int t) name items few shallow plain typed counted =
-      plain_read (numbers t) (number_data t) name items few (all_spelled (kind.int t) (numbers t) (number_data t) (number_spelled t) items typed) (never_full items)
+      plain_read (numbers t) (number_data t) name items few (all_spelled (kind.int t) (numbers t) (number_data t) (number_spelled t) items typed) refl
   shape_read code boolean name items few shallow plain typed counted =
-      plain_read truths truth_data name items few (all_spelled kind.boolean truths truth_data truth_spelled items typed) (never_full items)
-  shape_read code utf8 name items few shallow plain typed counted = text_column_read name items few typed counted
-  shape_read code (list f) name items few shallow plain typed counted =
+      plain_read truths truth_data name items few (all_spelled kind.boolean truths truth_data truth_spelled items typed) refl
+  shape_read code (texts w) name items few shallow plain typed counted = text_column_read w name items few typed counted
+  shape_read code (lists w f) name items few shallow plain typed counted =
       let k = kind_of_field f in
-      let inside = inner_few k items counted in
-      let inner = column_read code f (inner_items items) inside.0 (omega (arith, shallow)) plain (inner_typed k items typed) inside.1 in
-      list_column_read (ReadsColumn k) k (column_data code f (inner_items items)) name items few inside.0 typed (column_plain k _ _ _ inner) (omega (arith, shallow)) inner
+      let inside = inner_few w k items counted in
+      let inner = column_read code f (inner_items items) inside.0 (omega (arith, shallow)) plain (inner_typed w k items typed) inside.1 in
+      list_column_read (ReadsColumn k) w k (column_data code f (inner_items items)) name items few inside.0 typed (column_plain k _ _ _ inner) (omega (arith, shallow)) inner
   shape_read code dict name items few shallow plain typed counted = absurd cc
 
 -- ---- a column of a field
@@ -94,8 +94,8 @@ mutual
 no_dictionary : (k : Kind) → has_dict_in_list k ≡ false → is_encoded k ≡ false → ends_in_dict k ≡ false
 no_dictionary (kind.int t) h other = refl
 no_dictionary kind.boolean h other = refl
-no_dictionary kind.utf8 h other = refl
-no_dictionary (kind.list k) h other = h
+no_dictionary (kind.texts w) h other = refl
+no_dictionary (kind.lists w k) h other = h
 no_dictionary kind.dict h other = other
 
 pub plain_column_read : (code : List ℕ → ℕ) (f : FieldShape) (rows : ℕ) (items : List Item) → IsField f → is_encoded (kind_of_field f) ≡ false → rows < 2 ^ 31

@@ -7,7 +7,8 @@ use Rattle.arrays.specs.File.{File}
 use Rattle.arrays.specs.Item.{Item}
 use Rattle.arrays.specs.Kind as kind
 use Rattle.arrays.specs.Kind.{Kind, int32}
-use Rattle.arrays.specs.Shape.{FieldShape, int, boolean, utf8, list, dict, field, kind_of_field}
+use Rattle.arrays.specs.Shape as shape
+use Rattle.arrays.specs.Shape.{FieldShape, int, boolean, dict, field, kind_of_field}
 use Rattle.pool.specs.Texts.{firsts, texts_of}
 use Rattle.serde_json.specs.Data.{Data}
 use Rattle.serde_json.specs.Events.{items_len}
@@ -98,8 +99,8 @@ top_read : (f : FieldShape) (texts : List (List ℕ)) (rows : ℕ) (items : List
     → IsCodedBy (kind_of_field f) texts items → ReadsTop (kind_of_field f) (coding_of (kind_of_field f) texts) rows (column_data (code_in texts) f items) items
 top_read (field name nullable (int t)) texts rows items lawful few h short coded = plain_column_read (code_in texts) (field name nullable (int t)) rows items lawful refl few h
 top_read (field name nullable boolean) texts rows items lawful few h short coded = plain_column_read (code_in texts) (field name nullable boolean) rows items lawful refl few h
-top_read (field name nullable utf8) texts rows items lawful few h short coded = plain_column_read (code_in texts) (field name nullable utf8) rows items lawful refl few h
-top_read (field name nullable (list f)) texts rows items lawful few h short coded = plain_column_read (code_in texts) (field name nullable (list f)) rows items lawful refl few h
+top_read (field name nullable (shape.texts w)) texts rows items lawful few h short coded = plain_column_read (code_in texts) (field name nullable (shape.texts w)) rows items lawful refl few h
+top_read (field name nullable (shape.lists w f)) texts rows items lawful few h short coded = plain_column_read (code_in texts) (field name nullable (shape.lists w f)) rows items lawful refl few h
 top_read (field name nullable dict) texts rows items lawful few h short coded =
     subst (λ n. ReadsCodes int32 (text_items texts) n (plain_column (code_data (code_in texts)) name items) items) h.len
     (codes_read texts name items short (omega (arith, few, h.len)) h.typed (coded refl))

@@ -83,7 +83,7 @@ number_read t z h =
 
 -- ---- natural numbers
 
--- An offset or a code.
+-- A code.
 pub index_read : (n : ℕ) → n < 2 ^ 31 → integer_of int32 (natural n) ≡ Some (pos n)
 index_read n small = ap (λ b. if b then Some (pos n) else None) (lt-ltb n (2 ^ 31) small)
 

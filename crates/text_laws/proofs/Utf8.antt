@@ -1,8 +1,10 @@
 -- The compact text of a plain value whose strings and names are UTF-8 is UTF-8.
-use Rattle.std.proofs.Common.{ℕ, suc, pos, negsuc, List, [], ◌∷◌, ◌++◌, Bool, true, false, refl, arith}
+use Rattle.std.proofs.Common.{ℕ, zero, suc, ◌<◌, ◌/◌, ◌%◌, ◌==◌, ℤ, pos, negsuc, List, [], ◌∷◌, ◌++◌, Bool, true, false, if◌then◌else◌, refl, arith, lit<}
 use Rattle.std.specs.Prelude.{IsUtf8, ⊤, decimal}
-use Rattle.std.proofs.lemmas.Fmt.{IsAscii-decimal}
-use Rattle.std.proofs.lemmas.Str.{IsUtf8-append, IsUtf8-from_ascii}
+use Rattle.std.specs.Fmt.{digit_glyph, digits, digits_onto, signed_decimal}
+use Rattle.std.specs.Str.{IsAscii}
+use Rattle.std.proofs.lemmas.Bool.Decides.{nat_tests}
+use Rattle.std.proofs.lemmas.Str.{IsUtf8-append, IsUtf8-from_ascii, IsUtf8-nil}
 use Rattle.json.proofs.Printed.Utf8.{IsUtf8-are_ascii, IsUtf8-boolean, IsUtf8-quoted}
 use Rattle.json.specs.Print.{quoted}
 use Rattle.serde_json.specs.Data.{Num, unsigned, negative, float, Data, null, boolean, number, string, array, object, Items, no_items, item, Members, no_members, member}
@@ -34,10 +36,37 @@ comma : (later : Bool) → IsUtf8 (comma_if later)
 comma true = IsUtf8-are_ascii (44 ∷ []) refl
 comma false = IsUtf8-are_ascii [] refl
 
-pub number_utf8 : (n : Num) → IsWhole n → IsUtf8 (number_text n)
-number_utf8 (unsigned n) h = IsUtf8-from_ascii (decimal n) (IsAscii-decimal n h)
-number_utf8 (negative (pos n)) h = absurd h
-number_utf8 (negative (negsuc n)) h = byte 45 (decimal (suc n)) (IsUtf8-are_ascii (45 ∷ []) refl) (IsUtf8-from_ascii (decimal (suc n)) (IsAscii-decimal (suc n) (omega (arith, h))))
+-- ---- numbers, however long they are
+
+one_ascii : (c : ℕ) → c < 128 → IsAscii (c ∷ [])
+one_ascii c small zero = small
+one_ascii c small (suc i) = lit< tt
+
+digit_ascii : (d : ℕ) → d < 10 → digit_glyph false d < 128
+digit_ascii d small = grind (arith, nat_tests)
+
+either : (b : Bool) (xs ys : List ℕ) → IsUtf8 xs → IsUtf8 ys → IsUtf8 (if b then xs else ys)
+either true xs ys h g = h
+either false xs ys h g = g
+
+digits_utf8 : (k n : ℕ) (rest : List ℕ) → IsUtf8 rest → IsUtf8 (digits_onto k 10 false n rest)
+digits_utf8 zero n rest h = h
+digits_utf8 (suc k) n rest h =
+    let digit = digit_glyph false (n % 10) in
+    let with_digit = byte digit rest (IsUtf8-from_ascii (digit ∷ []) (one_ascii digit (digit_ascii (n % 10) (omega arith)))) h in
+    either (n / 10 == 0) (digit ∷ rest) (digits_onto k 10 false (n / 10) (digit ∷ rest)) with_digit (digits_utf8 k (n / 10) (digit ∷ rest) with_digit)
+
+decimal_utf8 : (n : ℕ) → IsUtf8 (decimal n)
+unfolding digits
+decimal_utf8 n = digits_utf8 64 n [] IsUtf8-nil
+
+pub signed_utf8 : (z : ℤ) → IsUtf8 (signed_decimal z)
+signed_utf8 (pos n) = decimal_utf8 n
+signed_utf8 (negsuc n) = byte 45 (decimal (suc n)) (IsUtf8-are_ascii (45 ∷ []) refl) (decimal_utf8 (suc n))
+
+number_utf8 : (n : Num) → IsWhole n → IsUtf8 (number_text n)
+number_utf8 (unsigned n) h = decimal_utf8 n
+number_utf8 (negative z) h = signed_utf8 z
 number_utf8 (float x) h = absurd h
 
 mutual

@@ -1,35 +1,36 @@
 -- The strings and names of a file's document are UTF-8.
-use Rattle.std.proofs.Common.{◌≡◌, ℕ, zero, suc, ◌+◌, ◌-◌, ◌^◌, ℤ, pos, negsuc, neg_ℤ, List, [], ◌∷◌, length, Bool, true, false, not, cond, filter, Some, codes, get_or, refl, subst, arith, lit<}
-use Rattle.std.specs.Prelude.{◌≤ℤ◌, IsUtf8, slice_get}
-use Rattle.std.specs.Fmt.{signed_decimal}
+use Rattle.std.proofs.Common.{◌≡◌, ℕ, zero, suc, ◌+◌, ℤ, pos, List, [], ◌∷◌, length, Bool, true, false, not, cond, filter, Some, codes, get_or, refl, subst, arith}
+use Rattle.std.specs.Prelude.{IsUtf8, slice_get}
 use Rattle.std.specs.List.{AllByRecursion}
 use Rattle.std.specs.Str.{bytes_eq}
-use Rattle.std.proofs.lemmas.Int.{ints}
 use Rattle.json.proofs.Printed.Utf8.{IsUtf8-are_ascii}
 use Rattle.types.specs.declared.int_type.IntType.{IntType}
 use Rattle.types.specs.declared.int_type.Width.{Width}
 use Rattle.types.specs.declared.int_type.Width.TheVariants.{W8, W16, W32, W64}
+use Rattle.types.specs.declared.offset_width.OffsetWidth.{OffsetWidth}
+use Rattle.types.specs.declared.offset_width.OffsetWidth.TheVariants.{Narrow, Wide}
+use Rattle.types.specs.OffsetWidth.{offset_type}
 use Rattle.arrays.specs.Item as column
 use Rattle.arrays.specs.Item.{Item, is_null}
 use Rattle.arrays.specs.Kind as kind
 use Rattle.arrays.specs.Kind.{Kind}
 use Rattle.arrays.specs.Lengths.{inner_items}
-use Rattle.arrays.specs.Shape.{Shape, FieldShape, int, boolean, utf8, list, dict, field, kind_of_field, kind_of_shape}
+use Rattle.arrays.specs.Shape as shape
+use Rattle.arrays.specs.Shape.{Shape, FieldShape, int, boolean, dict, field, kind_of_field, kind_of_shape}
 use Rattle.arrays.specs.Typed.{IsItemOf}
 use Rattle.pool.specs.Texts.{firsts, texts_of}
-use Rattle.serde_json.specs.Data.{Data, Items, unsigned, negative}
+use Rattle.serde_json.specs.Data.{Data, Items}
 use Rattle.json_places.specs.JsonTable.{Table}
 use Rattle.arrow_text.specs.BatchData.{batch_data, batches_data, columns_data}
-use Rattle.arrow_text.specs.ColumnData.{code_data, column_data, each, flag_data, int_data, item_length, list_column, number_data, offsets_data, plain_column, shaped_column, sized, text_column, text_data, truth_data, valid_data}
+use Rattle.arrow_text.specs.ColumnData.{code_data, column_data, each, flag_data, int_data, item_length, list_column, number_data, offset_data, offsets_data, plain_column, shaped_column, sized, text_column, text_data, truth_data, valid_data}
 use Rattle.arrow_text.specs.Dictionaries.{column_at, column_items, dictionaries_from, dictionary_of}
 use Rattle.arrow_text.specs.DictionaryData.{entries_data, entry_data, text_items, with_field}
-use Rattle.arrow_text.specs.SchemaData.{field_data, fields_data, int_type, named_members, schema_data, type_data}
+use Rattle.arrow_text.specs.SchemaData.{field_data, fields_data, int_type, list_name, named_members, schema_data, text_name, type_data}
 use Rattle.arrow_text.specs.Slots.{code_in}
 use Rattle.arrow_text.specs.Text.{document, has_dictionary, last_members}
-use Rattle.arrow_text.proofs.Ranges.{high_of, low_of}
 use Rattle.text_laws.specs.IsFile.{AreColumns, IsColumn, IsField, IsFile, IsNamed, IsTable}
 use Rattle.text_laws.proofs.Columns.{inner_typed, joined}
-use Rattle.text_laws.proofs.Utf8.{AreNamed, AreTexts, IsText, number_utf8}
+use Rattle.text_laws.proofs.Utf8.{AreNamed, AreTexts, IsText, signed_utf8}
 
 -- ---- slots
 
@@ -45,29 +46,22 @@ flags_text : (items : List Item) → AreTexts (each valid_data items)
 flags_text [] = tt
 flags_text (x ∷ xs) = (flag_text (not (is_null x)), flags_text xs)
 
-offsets_text : (start : ℕ) (items : List Item) → AreTexts (offsets_data start items)
-offsets_text start [] = (tt, tt)
-offsets_text start (x ∷ xs) = (tt, offsets_text (start + item_length x) xs)
+int_text : (w : Width) (z : ℤ) → IsText (int_data w z)
+int_text W8 z = tt
+int_text W16 z = tt
+int_text W32 z = tt
+int_text W64 z = signed_utf8 z
 
-signed_utf8 : (z : ℤ) → neg_ℤ (pos (2 ^ 63)) ≤ℤ z → z ≤ℤ pos (2 ^ 64 - 1) → IsUtf8 (signed_decimal z)
-signed_utf8 (pos n) low high = number_utf8 (unsigned n) (omega (arith, ints))
-signed_utf8 (negsuc n) low high = number_utf8 (negative (negsuc n)) (omega (arith, ints))
+offset_text : (w : OffsetWidth) (n : ℕ) → IsText (offset_data w n)
+offset_text w n = int_text (offset_type w).bits (pos n)
 
-int_text : (w : Width) (z : ℤ) → neg_ℤ (pos (2 ^ 63)) ≤ℤ z → z ≤ℤ pos (2 ^ 64 - 1) → IsText (int_data w z)
-int_text W8 z low high = tt
-int_text W16 z low high = tt
-int_text W32 z low high = tt
-int_text W64 z low high = signed_utf8 z low high
-
-zero_text : (w : Width) → IsText (int_data w (pos 0))
-zero_text W8 = tt
-zero_text W16 = tt
-zero_text W32 = tt
-zero_text W64 = number_utf8 (unsigned 0) (lit< tt)
+offsets_text : (w : OffsetWidth) (start : ℕ) (items : List Item) → AreTexts (offsets_data w start items)
+offsets_text w start [] = (offset_text w start, tt)
+offsets_text w start (x ∷ xs) = (offset_text w start, offsets_text w (start + item_length x) xs)
 
 number_text : (t : IntType) (x : Item) → IsItemOf (kind.int t) x → IsText (number_data t x)
-number_text t column.null h = zero_text t.bits
-number_text t (column.int z) h = int_text t.bits z (low_of t z h) (high_of t z h)
+number_text t column.null h = int_text t.bits (pos 0)
+number_text t (column.int z) h = int_text t.bits z
 number_text t (column.boolean b) h = absurd h
 number_text t (column.text bytes) h = absurd h
 number_text t (column.list l) h = absurd h
@@ -79,12 +73,12 @@ truth_text (column.boolean b) h = flag_text b
 truth_text (column.text bytes) h = tt
 truth_text (column.list l) h = tt
 
-text_text : (x : Item) → IsItemOf kind.utf8 x → IsText (text_data x)
-text_text column.null h = IsUtf8-are_ascii [] refl
-text_text (column.int z) h = absurd h
-text_text (column.boolean b) h = absurd h
-text_text (column.text bytes) h = h
-text_text (column.list l) h = absurd h
+text_text : (w : OffsetWidth) (x : Item) → IsItemOf (kind.texts w) x → IsText (text_data x)
+text_text w column.null h = IsUtf8-are_ascii [] refl
+text_text w (column.int z) h = absurd h
+text_text w (column.boolean b) h = absurd h
+text_text w (column.text bytes) h = h
+text_text w (column.list l) h = absurd h
 
 code_text : (code : List ℕ → ℕ) (x : Item) → IsItemOf kind.dict x → IsText (code_data code x)
 code_text code column.null h = tt
@@ -102,17 +96,17 @@ plain_text : (value : Item → Data) (name : List ℕ) (items : List Item) → I
 plain_text value name items named h =
     (IsUtf8-are_ascii (codes "DATA") refl, h, (IsUtf8-are_ascii (codes "VALIDITY") refl, flags_text items, sized_text (length items) name named))
 
-text_column_text : (name : List ℕ) (items : List Item) → IsUtf8 name → AllByRecursion (IsItemOf kind.utf8) items → IsText (text_column name items)
-text_column_text name items named h = (
+text_column_text : (w : OffsetWidth) (name : List ℕ) (items : List Item) → IsUtf8 name → AllByRecursion (IsItemOf (kind.texts w)) items → IsText (text_column w name items)
+text_column_text w name items named h = (
   IsUtf8-are_ascii (codes "DATA") refl,
-  each_text kind.utf8 text_data text_text items h,
-  (IsUtf8-are_ascii (codes "OFFSET") refl, offsets_text 0 items, (IsUtf8-are_ascii (codes "VALIDITY") refl, flags_text items, sized_text (length items) name named)),
+  each_text (kind.texts w) text_data (text_text w) items h,
+  (IsUtf8-are_ascii (codes "OFFSET") refl, offsets_text w 0 items, (IsUtf8-are_ascii (codes "VALIDITY") refl, flags_text items, sized_text (length items) name named)),
 )
 
-list_column_text : (child : Data) (name : List ℕ) (items : List Item) → IsUtf8 name → IsText child → IsText (list_column child name items)
-list_column_text child name items named h = (
+list_column_text : (w : OffsetWidth) (child : Data) (name : List ℕ) (items : List Item) → IsUtf8 name → IsText child → IsText (list_column w child name items)
+list_column_text w child name items named h = (
   IsUtf8-are_ascii (codes "OFFSET") refl,
-  offsets_text 0 items,
+  offsets_text w 0 items,
   (IsUtf8-are_ascii (codes "VALIDITY") refl, flags_text items, (IsUtf8-are_ascii (codes "children") refl, (h, tt), sized_text (length items) name named)),
 )
 
@@ -124,9 +118,9 @@ mutual
       → IsText (shaped_column code ty name items)
   shaped_text code (int t) name items named h = plain_text (number_data t) name items named.0 (each_text (kind.int t) (number_data t) (number_text t) items h)
   shaped_text code boolean name items named h = plain_text truth_data name items named.0 (each_text kind.boolean truth_data truth_text items h)
-  shaped_text code utf8 name items named h = text_column_text name items named.0 h
-  shaped_text code (list f) name items named h =
-      list_column_text (column_data code f (inner_items items)) name items named.0 (column_text code f (inner_items items) named.1 (inner_typed (kind_of_field f) items h))
+  shaped_text code (shape.texts w) name items named h = text_column_text w name items named.0 h
+  shaped_text code (shape.lists w f) name items named h =
+      list_column_text w (column_data code f (inner_items items)) name items named.0 (column_text code f (inner_items items) named.1 (inner_typed w (kind_of_field f) items h))
   shaped_text code dict name items named h = plain_text (code_data code) name items named.0 (each_text kind.dict (code_data code) (code_text code) items h)
 
 -- ---- batches
@@ -187,8 +181,8 @@ items_typed fields (t ∷ tables) i f h at =
 dictionary_utf8 : (k : Kind) (items : List Item) → AllByRecursion (IsItemOf k) items → AllByRecursion IsUtf8 (dictionary_of k items)
 dictionary_utf8 (kind.int t) items h = tt
 dictionary_utf8 kind.boolean items h = tt
-dictionary_utf8 kind.utf8 items h = tt
-dictionary_utf8 (kind.list k) items h = tt
+dictionary_utf8 (kind.texts w) items h = tt
+dictionary_utf8 (kind.lists w k) items h = tt
 dictionary_utf8 kind.dict items h = firsts_utf8 (texts_of items) (texts_utf8 items h)
 
 dictionaries_from_utf8 : (place : ℕ) (fields : List FieldShape) (tables : List Table)
@@ -213,15 +207,15 @@ text_items_text (t ∷ texts) h = (h.0, text_items_text texts h.1)
 entry_text : (id : ℕ) (name : List ℕ) (texts : List (List ℕ)) → IsUtf8 name → AllByRecursion IsUtf8 texts → IsText (entry_data id name texts)
 entry_text id name texts named h = (
   IsUtf8-are_ascii (codes "data") refl,
-  (IsUtf8-are_ascii (codes "columns") refl, (text_column_text name (text_items texts) named (text_items_text texts h), tt), (IsUtf8-are_ascii (codes "count") refl, tt, tt)),
+  (IsUtf8-are_ascii (codes "columns") refl, (text_column_text Narrow name (text_items texts) named (text_items_text texts h), tt), (IsUtf8-are_ascii (codes "count") refl, tt, tt)),
   (IsUtf8-are_ascii (codes "id") refl, tt, tt),
 )
 
 with_field_text : (id : ℕ) (f : FieldShape) (texts : List (List ℕ)) (others : Items) → IsNamed f → AllByRecursion IsUtf8 texts → AreTexts others → AreTexts (with_field id f texts others)
 with_field_text id (field name nullable (int t)) texts others named h g = g
 with_field_text id (field name nullable boolean) texts others named h g = g
-with_field_text id (field name nullable utf8) texts others named h g = g
-with_field_text id (field name nullable (list f)) texts others named h g = g
+with_field_text id (field name nullable (shape.texts w)) texts others named h g = g
+with_field_text id (field name nullable (shape.lists w f)) texts others named h g = g
 with_field_text id (field name nullable dict) texts others named h g = (entry_text id name texts named.0 h, g)
 
 entries_text : (place : ℕ) (dictionaries : List (List (List ℕ))) (fields : List FieldShape) → AllByRecursion IsField fields → AllByRecursion (AllByRecursion IsUtf8) dictionaries
@@ -240,12 +234,20 @@ int_type_text t = (
   (IsUtf8-are_ascii (codes "isSigned") refl, tt, (IsUtf8-are_ascii (codes "name") refl, IsUtf8-are_ascii (codes "int") refl, tt)),
 )
 
+text_name_utf8 : (w : OffsetWidth) → IsUtf8 (text_name w)
+text_name_utf8 Narrow = IsUtf8-are_ascii (text_name Narrow) refl
+text_name_utf8 Wide = IsUtf8-are_ascii (text_name Wide) refl
+
+list_name_utf8 : (w : OffsetWidth) → IsUtf8 (list_name w)
+list_name_utf8 Narrow = IsUtf8-are_ascii (list_name Narrow) refl
+list_name_utf8 Wide = IsUtf8-are_ascii (list_name Wide) refl
+
 type_text : (ty : Shape) → IsText (type_data ty)
 type_text (int t) = int_type_text t
 type_text boolean = (IsUtf8-are_ascii (codes "name") refl, IsUtf8-are_ascii (codes "bool") refl, tt)
-type_text utf8 = (IsUtf8-are_ascii (codes "name") refl, IsUtf8-are_ascii (codes "utf8") refl, tt)
-type_text (list f) = (IsUtf8-are_ascii (codes "name") refl, IsUtf8-are_ascii (codes "list") refl, tt)
-type_text dict = (IsUtf8-are_ascii (codes "name") refl, IsUtf8-are_ascii (codes "utf8") refl, tt)
+type_text (shape.texts w) = (IsUtf8-are_ascii (codes "name") refl, text_name_utf8 w, tt)
+type_text (shape.lists w f) = (IsUtf8-are_ascii (codes "name") refl, list_name_utf8 w, tt)
+type_text dict = (IsUtf8-are_ascii (codes "name") refl, text_name_utf8 Narrow, tt)
 
 named_text : (name : List ℕ) (nullable : Bool) (ty : Shape) → IsUtf8 name → AreNamed (named_members name nullable ty)
 named_text name nullable ty h =
@@ -257,8 +259,8 @@ children_name = IsUtf8-are_ascii (codes "children") refl
 field_text : (id : ℕ) (f : FieldShape) → IsNamed f → IsText (field_data id f)
 field_text id (field name nullable (int t)) h = (children_name, tt, named_text name nullable (int t) h.0)
 field_text id (field name nullable boolean) h = (children_name, tt, named_text name nullable boolean h.0)
-field_text id (field name nullable utf8) h = (children_name, tt, named_text name nullable utf8 h.0)
-field_text id (field name nullable (list f)) h = (children_name, (field_text id f h.1, tt), named_text name nullable (list f) h.0)
+field_text id (field name nullable (shape.texts w)) h = (children_name, tt, named_text name nullable (shape.texts w) h.0)
+field_text id (field name nullable (shape.lists w f)) h = (children_name, (field_text id f h.1, tt), named_text name nullable (shape.lists w f) h.0)
 field_text id (field name nullable dict) h = (
   children_name,
   tt,

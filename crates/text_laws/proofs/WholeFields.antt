@@ -1,30 +1,34 @@
 -- The fields of a schema: their names are those of strings, and none is at fault.
-use Rattle.std.proofs.Common.{◌≡◌, ◌∙◌, ℕ, List, [], ◌∷◌, Bool, true, false, ◌||◌, Option, None, Some, option_map, position, ap, refl, subst, sym, true≢false}
+use Rattle.std.proofs.Common.{◌≡◌, ℕ, List, [], ◌∷◌, Bool, true, false, ◌||◌, Option, None, Some, option_map, position, refl, subst, sym, true≢false}
 use Rattle.std.specs.List.{AllByRecursion, list_any}
 use Rattle.std.specs.Option.{option_or}
+use Rattle.std.specs.declared.alloc.Global.{Global}
+use Rattle.std.specs.declared.string.String.{String}
 use Rattle.std.proofs.lemmas.Str.{IsUtf8-string_bytes}
 use Rattle.pool.proofs.PlaceLemmas.{among_missing}
-use Rattle.types.specs.declared.data_type.DataType.{DataType, DataType-F, out-DataType, fold_out-DataType, map-DataType}
+use Rattle.types.specs.declared.data_type.DataType.{DataType}
 use Rattle.types.specs.declared.data_type.DataType.TheVariants as variants
-use Rattle.types.specs.declared.data_type.DataType.TheVariants.{Int, Utf8, List', Dict, outs-Int, outs-Bool, outs-Utf8, outs-List', outs-Dict}
+use Rattle.types.specs.declared.data_type.DataType.TheVariants.{Int, Utf8, LargeUtf8, List', LargeList', Dict, outs-Int, outs-Bool, outs-Utf8, outs-LargeUtf8, outs-List', outs-LargeList', outs-Dict}
 use Rattle.types.specs.declared.data_type.Field.{Field, out-Field, fold_out-Field}
 use Rattle.types.specs.declared.schema.SchemaFault.TheVariants.{DictInList, TooDeep}
 use Rattle.arrays.specs.Schema.{holds_dict, is_deep, schema_fault}
 use Rattle.arrays.specs.Shape.{Shape, FieldShape, field_of, field_step, fields_of, shape_of, shape_step}
+use Rattle.arrow_text.proofs.Shapes.{shape_at}
 use Rattle.text_laws.specs.IsFile.{IsField, IsNamed, IsNamedInside}
 
-shape_at : (t : DataType) (level : DataType-F DataType Field) → out-DataType t ≡ level → shape_of t ≡ shape_step (map-DataType DataType Field Shape FieldShape shape_of field_of level)
-shape_at t level is =
-    fold_out-DataType Shape FieldShape shape_step field_step t ∙ ap (λ o. shape_step (map-DataType DataType Field Shape FieldShape shape_of field_of o)) is
+named_item : (name : String Global) (nullable : Bool) (ty : DataType) → IsNamedInside (shape_of ty) → IsNamed (field_of (record { name = name; nullable = nullable; ty = ty }))
+named_item name nullable ty inside =
+    subst IsNamed (sym (fold_out-Field Shape FieldShape shape_step field_step (record { name = name; nullable = nullable; ty = ty }))) (IsUtf8-string_bytes name, inside)
 
 named_inside : (t : DataType) → IsNamedInside (shape_of t)
 named_inside (Int x) = subst IsNamedInside (sym (shape_at (Int x) _ (outs-Int x))) tt
 named_inside variants.Bool = subst IsNamedInside (sym (shape_at variants.Bool _ outs-Bool)) tt
 named_inside Utf8 = subst IsNamedInside (sym (shape_at Utf8 _ outs-Utf8)) tt
+named_inside LargeUtf8 = subst IsNamedInside (sym (shape_at LargeUtf8 _ outs-LargeUtf8)) tt
 named_inside (List' b name nullable ty) =
-    let item : Field = record { name = name; nullable = nullable; ty = ty } in
-    subst IsNamedInside (sym (shape_at (List' b name nullable ty) _ (outs-List' b name nullable ty)))
-    (subst IsNamed (sym (fold_out-Field Shape FieldShape shape_step field_step item)) (IsUtf8-string_bytes name, named_inside ty))
+    subst IsNamedInside (sym (shape_at (List' b name nullable ty) _ (outs-List' b name nullable ty))) (named_item name nullable ty (named_inside ty))
+named_inside (LargeList' b name nullable ty) =
+    subst IsNamedInside (sym (shape_at (LargeList' b name nullable ty) _ (outs-LargeList' b name nullable ty))) (named_item name nullable ty (named_inside ty))
 named_inside Dict = subst IsNamedInside (sym (shape_at Dict _ outs-Dict)) tt
 
 named : (f : Field) → IsNamed (field_of f)

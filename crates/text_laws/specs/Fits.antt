@@ -1,15 +1,22 @@
 -- Columns whose text has numbers of at most 64 bits, as all columns in memory are: their slots, bytes and list items are counted by
--- 64 bits, and their numbers are of their type.
+-- 64 bits, and their numbers are of their type. Offsets of 64 bits are strings, so nothing is asked of them.
 use Rattle.std.specs.Prelude.{ℕ, ◌<◌, ◌≤◌, ◌^◌, List, [], ◌∷◌, length, sum_by, ⊤}
 use Rattle.std.specs.List.{AllByRecursion}
+use Rattle.types.specs.declared.offset_width.OffsetWidth.{OffsetWidth}
+use Rattle.types.specs.declared.offset_width.OffsetWidth.TheVariants.{Narrow, Wide}
 use Rattle.arrays.specs.Item.{Item}
 use Rattle.arrays.specs.Kind as kind
 use Rattle.arrays.specs.Lengths.{inner_items}
-use Rattle.arrays.specs.Shape.{Shape, FieldShape, int, boolean, utf8, list, dict, field, kind_of_field}
+use Rattle.arrays.specs.Shape.{Shape, FieldShape, int, boolean, texts, lists, dict, field, kind_of_field}
 use Rattle.arrays.specs.Typed.{IsItemOf}
 use Rattle.json_places.specs.JsonTable.{Table}
 use Rattle.arrow_text.specs.ColumnData.{item_length}
 use Rattle.arrow_text.specs.Dictionaries.{dictionaries_from}
+
+-- What is asked of an offset, and with it of all before it.
+abbrev pub FitsOffset : OffsetWidth → ℕ → Type 0
+FitsOffset Narrow n = n < 2 ^ 64
+FitsOffset Wide n = ⊤
 
 abbrev mutual
   pub FitsField : FieldShape → List Item → Type 0
@@ -18,8 +25,8 @@ abbrev mutual
   pub FitsShape : Shape → List Item → Type 0
   FitsShape (int t) items = AllByRecursion (IsItemOf (kind.int t)) items
   FitsShape boolean items = ⊤
-  FitsShape utf8 items = sum_by item_length items < 2 ^ 64
-  FitsShape (list f) items = (sum_by item_length items < 2 ^ 64) × FitsField f (inner_items items)
+  FitsShape (texts w) items = FitsOffset w (sum_by item_length items)
+  FitsShape (lists w f) items = FitsOffset w (sum_by item_length items) × FitsField f (inner_items items)
   FitsShape dict items = ⊤
 
 -- Columns under their fields.

@@ -7,7 +7,7 @@ use Rattle.arrays.specs.Kind.{Kind}
 use Rattle.arrays.specs.Lengths.{is_too_big}
 use Rattle.arrays.specs.Schema.{holds_dict, is_deep}
 use Rattle.arrays.specs.Seen.{Seen}
-use Rattle.arrays.specs.Shape.{Shape, FieldShape, int, boolean, utf8, list, dict, field, kind_of_field}
+use Rattle.arrays.specs.Shape.{Shape, FieldShape, int, boolean, texts, lists, dict, field, kind_of_field}
 use Rattle.arrays.specs.Typed.{IsItemOf}
 use Rattle.pool.specs.Texts.{byte_count}
 use Rattle.json_places.specs.JsonTable.{Table, table_of}
@@ -22,8 +22,8 @@ abbrev mutual
   pub IsNamedInside : Shape → Type 0
   IsNamedInside (int t) = ⊤
   IsNamedInside boolean = ⊤
-  IsNamedInside utf8 = ⊤
-  IsNamedInside (list f) = IsNamed f
+  IsNamedInside (texts w) = ⊤
+  IsNamedInside (lists w f) = IsNamed f
   IsNamedInside dict = ⊤
 
 -- A field has at most 8 lists in one another, and a dictionary at its top alone.

@@ -8,8 +8,10 @@ use Rattle.colbits.specs.Slice.{slice}
 use Rattle.types.specs.declared.int_type.Width.{Width}
 use Rattle.types.specs.declared.int_type.Width.TheVariants.{W8, W16, W32, W64}
 use Rattle.types.specs.declared.int_type.IntType.{IntType}
-use Rattle.types.specs.Kind.{bits_of, bytes_of, int32}
-use Rattle.types.specs.Limits.{most_slots}
+use Rattle.types.specs.declared.offset_width.OffsetWidth.{OffsetWidth}
+use Rattle.types.specs.declared.offset_width.OffsetWidth.TheVariants.{Narrow, Wide}
+use Rattle.types.specs.OffsetWidth.{most_of, offset_type}
+use Rattle.types.specs.Kind.{bits_of, bytes_of}
 use Rattle.types.specs.Number.{IsOfType, is_of_type, natural, number_at}
 use Rattle.types.proofs.ByteLemmas.{get_or-slice}
 
@@ -73,10 +75,11 @@ number_at-of_type t bytes j small =
     of_type t.bits t.signed _ (from_le_bytes-small t.bits (slice bytes (j * bytes_of t.bits) (bytes_of t.bits))
     (λ i below. subst (λ n. n < 256) (sym (get_or-slice bytes (j * bytes_of t.bits) (bytes_of t.bits) i below)) (small (j * bytes_of t.bits + i))))
 
-natural-short : (z : ℤ) → IsOfType int32 z → natural z ≤ most_slots
-natural-short (pos n) of = omega (arith, ints)
-natural-short (negsuc n) of = omega arith
+natural-short : (w : OffsetWidth) (z : ℤ) → IsOfType (offset_type w) z → natural z ≤ most_of w
+natural-short Narrow (pos n) of = omega (arith, ints)
+natural-short Wide (pos n) of = omega (arith, ints)
+natural-short w (negsuc n) of = omega arith
 
--- a number of 32 bits is no more than an array has slots
-pub short_at : (bytes : List ℕ) (j : ℕ) → ((i : ℕ) → get_or bytes i 0 < 256) → natural (number_at int32 bytes j) ≤ most_slots
-short_at bytes j small = natural-short (number_at int32 bytes j) (number_at-of_type int32 bytes j small)
+-- an offset is no more than its width counts
+pub short_at : (w : OffsetWidth) (bytes : List ℕ) (j : ℕ) → ((i : ℕ) → get_or bytes i 0 < 256) → natural (number_at (offset_type w) bytes j) ≤ most_of w
+short_at w bytes j small = natural-short w (number_at (offset_type w) bytes j) (number_at-of_type (offset_type w) bytes j small)

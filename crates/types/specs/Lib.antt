@@ -5,3 +5,4 @@ pub mod Schema
 pub mod Number
 pub mod Code
 pub mod Limits
+pub mod OffsetWidth

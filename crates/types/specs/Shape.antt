@@ -1,6 +1,8 @@
 -- The fields of a schema as plain values: two readings of one file are equal by them.
 use Rattle.std.specs.Prelude.{ℕ, Bool, List, map, string_bytes}
 use Rattle.types.specs.declared.int_type.IntType.{IntType}
+use Rattle.types.specs.declared.offset_width.OffsetWidth.{OffsetWidth}
+use Rattle.types.specs.declared.offset_width.OffsetWidth.TheVariants.{Narrow, Wide}
 use Rattle.types.specs.declared.data_type.DataType.{DataType, fold-DataType}
 use Rattle.types.specs.declared.data_type.DataType.TheOpen.{DataType-F, Field-F}
 use Rattle.types.specs.declared.data_type.Field.{Field, fold-Field}
@@ -12,19 +14,24 @@ mutual
   pub data Shape : Type 0 where
     int : IntType → Shape
     boolean : Shape
-    utf8 : Shape
-    list : FieldShape → Shape
+    texts : OffsetWidth → Shape
+    lists : OffsetWidth → FieldShape → Shape
     dict : Shape
 
   -- A field: its name as bytes, whether it may hold nulls, and its type.
   pub data FieldShape : Type 0 where
     field : List ℕ → Bool → Shape → FieldShape
 
+abbrev pub utf8 : Shape
+utf8 = texts Narrow
+
 abbrev pub shape_step : DataType-F Shape FieldShape → Shape
 shape_step (DataType-F.Int t) = int t
 shape_step DataType-F.Bool = boolean
-shape_step DataType-F.Utf8 = utf8
-shape_step (DataType-F.List item) = list item.value
+shape_step DataType-F.Utf8 = texts Narrow
+shape_step DataType-F.LargeUtf8 = texts Wide
+shape_step (DataType-F.List item) = lists Narrow item.value
+shape_step (DataType-F.LargeList item) = lists Wide item.value
 shape_step DataType-F.Dict = dict
 
 abbrev pub field_step : Field-F Shape FieldShape → FieldShape
@@ -52,8 +59,8 @@ abbrev mutual
   pub kind_of_shape : Shape → Kind
   kind_of_shape (int t) = kind.int t
   kind_of_shape boolean = kind.boolean
-  kind_of_shape utf8 = kind.utf8
-  kind_of_shape (list f) = kind.list (kind_of_field f)
+  kind_of_shape (texts w) = kind.texts w
+  kind_of_shape (lists w f) = kind.lists w (kind_of_field f)
   kind_of_shape dict = kind.dict
 
   pub kind_of_field : FieldShape → Kind

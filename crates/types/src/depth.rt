@@ -9,10 +9,8 @@ use crate::data_type::DataType;
 fn item_type(ty: &DataType) -> Option<&DataType>
     ensures { option_map (λ t. kind_of t.now) result ≡ item_kind (kind_of ty.now) }
 {
-    match ty {
-        DataType::List(item) => Some(&item.ty),
-        _ => None,
-    }
+    let (_width, item) = ty.as_list()?;
+    Some(&item.ty)
 }
 
 /// Whether more than 8 lists stand in one another. It goes down 9 levels at most.
@@ -35,7 +33,7 @@ fn ends_in_dict(ty: &DataType) -> bool
     ensures { result ≡ ends_in_dict (kind_of ty.now) }
 {
     match ty {
-        DataType::List(item) => ends_in_dict(&item.ty),
+        DataType::List(item) | DataType::LargeList(item) => ends_in_dict(&item.ty),
         DataType::Dict => true,
         _ => false,
     }
@@ -47,7 +45,7 @@ pub fn has_dict_in_list(ty: &DataType) -> bool
     ensures { result ≡ has_dict_in_list (kind_of ty.now) }
 {
     match ty {
-        DataType::List(item) => ends_in_dict(&item.ty),
+        DataType::List(item) | DataType::LargeList(item) => ends_in_dict(&item.ty),
         _ => false,
     }
 }

@@ -9,6 +9,7 @@ pub mod int_type;
 pub mod integer;
 pub mod limits;
 pub mod numbers;
+pub mod offset_width;
 pub mod schema;
 
 pub use data_type::{DataType, Field, is_same};
@@ -17,4 +18,5 @@ pub use int_type::{INT32, INT64, IntType, Width};
 pub use integer::{Integer, Packed};
 pub use limits::MOST_SLOTS;
 pub use numbers::{int32_at, natural_at, number_at, push_number};
+pub use offset_width::OffsetWidth;
 pub use schema::{Schema, SchemaFault};

@@ -9,6 +9,7 @@ ghost use Rattle.types.specs.Limits.{most_slots};
 
 use super::Array;
 use super::parts::{Parts, into_raw};
+use crate::offset_slots::OffsetSlots;
 use colbits::{Buffer, NoMemory};
 use layout::RawArray;
 use std::alloc::Global;
@@ -61,24 +62,23 @@ impl Array {
         Array::plain(alloc, parts)
     }
 
-    /// An array of texts: slot `j` is the bytes from offset `j` up to offset `j + 1`, valid where its bit
-    /// is 1, all of them where there are no bits. The offsets are little-endian, of 32 bits. It fails for
-    /// want of memory alone, and the parts are gone then.
-    pub fn from_texts(
-        alloc: Global,
-        len: u32,
-        validity: Option<Buffer>,
-        offsets: Buffer,
-        bytes: Buffer,
-    ) -> Result<Array, NoMemory>
-        requires short { len ≤ most_slots }
-        requires validity { is_validity_short len validity ≡ false }
-        requires offsets { AreOffsetBytes len offsets (length bytes) }
-        requires texts { AreTexts len validity offsets bytes }
-        ensures { IfOk result (λ a. a ≡ show_texts len validity offsets bytes) }
+    /// An array of texts: each slot is the bytes between its offsets. It fails for want of memory alone, and the parts are
+    /// gone then.
+    pub fn from_texts(alloc: Global, slots: OffsetSlots, bytes: Buffer) -> Result<Array, NoMemory>
+        requires short { slots.len ≤ most_slots }
+        requires validity { is_validity_short slots.len slots.validity ≡ false }
+        requires offsets { AreOffsetBytes slots.width slots.len slots.offsets (length bytes) }
+        requires texts { AreTexts slots.width slots.len slots.validity slots.offsets bytes }
+        ensures { IfOk result (λ a. a ≡ show_texts slots.width slots.len slots.validity slots.offsets bytes) }
     {
+        let OffsetSlots {
+            width,
+            len,
+            validity,
+            offsets,
+        } = slots;
         let parts = Parts {
-            ty: DataType::Utf8,
+            ty: DataType::of_texts(width),
             length: u64::from(len),
             buffers: vec![in alloc; validity, Some(offsets), Some(bytes)]?,
             children: Vec::new(alloc),
@@ -86,27 +86,30 @@ impl Array {
         Array::plain(alloc, parts)
     }
 
-    /// An array of lists of the field's type: slot `j` holds the items of the child from offset `j` up to
-    /// offset `j + 1`, valid where its bit is 1, all of them where there are no bits. The offsets are
-    /// little-endian, of 32 bits. It fails for want of memory alone, and the parts are gone then.
+    /// An array of lists of the field's type: each slot holds the items of the child between its offsets. It fails for want
+    /// of memory alone, and the parts are gone then.
     pub fn from_list(
         alloc: Global,
         item: Field,
-        len: u32,
-        validity: Option<Buffer>,
-        offsets: Buffer,
+        slots: OffsetSlots,
         child: Array,
     ) -> Result<Array, NoMemory>
-        requires short { len ≤ most_slots }
-        requires validity { is_validity_short len validity ≡ false }
-        requires offsets { AreOffsetBytes len offsets (length child.items) }
+        requires short { slots.len ≤ most_slots }
+        requires validity { is_validity_short slots.len slots.validity ≡ false }
+        requires offsets { AreOffsetBytes slots.width slots.len slots.offsets (length child.items) }
         requires kind { kind_of item.ty ≡ child.kind }
         requires no_dict { same_kind child.kind dict ≡ false }
         requires depth { depth child.kind < 8 }
-        ensures { IfOk result (λ a. a ≡ show_lists len validity offsets child) }
+        ensures { IfOk result (λ a. a ≡ show_lists slots.width slots.len slots.validity slots.offsets child) }
     {
+        let OffsetSlots {
+            width,
+            len,
+            validity,
+            offsets,
+        } = slots;
         let parts = Parts {
-            ty: DataType::List(Box::new(alloc, item)?),
+            ty: DataType::of_lists(width, Box::new(alloc, item)?),
             length: u64::from(len),
             buffers: vec![in alloc; validity, Some(offsets)]?,
             children: vec![in alloc; child.into_raw(alloc)?]?,

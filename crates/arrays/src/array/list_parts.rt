@@ -5,34 +5,32 @@ ghost use Rattle.layout.specs.Reading.{reading};
 ghost use Rattle.arrays.specs.FromParts.{list_parts};
 
 use super::Array;
-use colbits::{Buffer, NoMemory};
+use crate::offset_slots::OffsetSlots;
+use colbits::NoMemory;
 use layout::{LayoutFault, RawArray, own_fault, release};
 use std::alloc::Global;
 use types::{DataType, Field};
 
 // Arrays of lists whose parts come from outside.
 impl Array {
-    /// An array of lists of the field's type, of parts that come from outside: slot `j` holds the items of the child
-    /// from offset `j` up to offset `j + 1`, valid where its bit is 1, all of them where there are no bits. The child
-    /// is lawful already, and isn't checked again.
+    /// An array of lists of the field's type, of parts that come from outside: each slot holds the items of the child between
+    /// its offsets. The child is lawful already, and isn't checked again.
     ///
     /// The first fault of the other parts is told, in the order of the faults' table; the parts are gone then. Want
     /// of memory may be told in its stead.
     pub fn try_list(
         alloc: Global,
         item: Field,
-        len: u32,
-        validity: Option<Buffer>,
-        offsets: Buffer,
+        slots: OffsetSlots,
         child: Array,
     ) -> Result<Array, LayoutFault>
         requires no_dict { same_kind child.kind dict ≡ false }
-        ensures lawful { IfOk result (λ _. (list_parts (kind_of item.ty) len validity offsets child).fault ≡ None) }
-        ensures shows { IfOk result (λ a. a ≡ (list_parts (kind_of item.ty) len validity offsets child).seen) }
+        ensures lawful { IfOk result (λ _. (list_parts slots.width (kind_of item.ty) slots.len slots.validity slots.offsets child).fault ≡ None) }
+        ensures shows { IfOk result (λ a. a ≡ (list_parts slots.width (kind_of item.ty) slots.len slots.validity slots.offsets child).seen) }
         ensures err { IfErr result (λ e.
-            ((list_parts (kind_of item.ty) len validity offsets child).fault ≡ Some e) ⊎ (e ≡ LayoutFault.NoMemory)) }
+            ((list_parts slots.width (kind_of item.ty) slots.len slots.validity slots.offsets child).fault ≡ Some e) ⊎ (e ≡ LayoutFault.NoMemory)) }
     {
-        match Array::raw_list(alloc, item, len, validity, offsets, child) {
+        match Array::raw_list(alloc, item, slots, child) {
             Ok(raw) => Array::checked_list(alloc, raw),
             Err(NoMemory) => Err(LayoutFault::NoMemory),
         }
@@ -42,18 +40,22 @@ impl Array {
     fn raw_list(
         alloc: Global,
         item: Field,
-        len: u32,
-        validity: Option<Buffer>,
-        offsets: Buffer,
+        slots: OffsetSlots,
         child: Array,
     ) -> Result<RawArray, NoMemory>
         requires no_dict { same_kind child.kind dict ≡ false }
-        ensures reads { IfOk result (λ raw. reading raw ≡ list_parts (kind_of item.ty) len validity offsets child) }
+        ensures reads { IfOk result (λ raw. reading raw ≡ list_parts slots.width (kind_of item.ty) slots.len slots.validity slots.offsets child) }
         ensures own { IfOk result (λ raw.
-            own_fault_of raw ≡ (list_parts (kind_of item.ty) len validity offsets child).fault) }
+            own_fault_of raw ≡ (list_parts slots.width (kind_of item.ty) slots.len slots.validity slots.offsets child).fault) }
     {
+        let OffsetSlots {
+            width,
+            len,
+            validity,
+            offsets,
+        } = slots;
         Ok(RawArray {
-            ty: DataType::List(Box::new(alloc, item)?),
+            ty: DataType::of_lists(width, Box::new(alloc, item)?),
             length: u64::from(len),
             null_count: None,
             buffers: vec![in alloc; validity, Some(offsets)]?,

@@ -13,7 +13,7 @@ use crate::array::Array;
 use colbits::NoMemory;
 use std::alloc::Global;
 use std::marker::Model;
-use types::Field;
+use types::{Field, MOST_SLOTS, OffsetWidth};
 
 /// A column of lists in the making, of which the lengths are told: their offsets begin at 0, and a null has no
 /// items. The items come as an array at the end.
@@ -24,45 +24,62 @@ pub struct ListBuilder {
 }
 
 impl Model for ListBuilder {
-    ghost use Rattle.std.specs.Prelude.{ℕ, List, Option};
+    ghost use Rattle.std.specs.Prelude.{◌≡◌, false};
+    ghost use Rattle.arrays.specs.Column.{SizedColumn, sized_column_code};
+    ghost use Rattle.arrays.specs.Lengths.{is_past, total};
 
-    ghost Value = { List (Option ℕ) };
+    ghost Value = { SizedColumn };
+
+    ghost coded = { sized_column_code };
 
     ghost view = { λ b. b.slots };
+
+    // A child has no more slots than an array may have, whatever the offsets count.
+    ghost invariant = { λ b. is_past (total b.slots.lengths) ≡ false };
 }
 
 impl ListBuilder {
-    /// An empty column, with room for so many slots.
-    pub fn with_capacity(alloc: Global, slots: usize) -> Result<ListBuilder, NoMemory>
+    /// An empty column whose offsets are of this width, with room for so many slots.
+    pub fn with_capacity(
+        alloc: Global,
+        width: OffsetWidth,
+        slots: usize,
+    ) -> Result<ListBuilder, NoMemory>
         requires { slots ≤ most_slots }
-        ensures { IfOk result (λ b. b ≡ []) }
+        ensures width { IfOk result (λ b. b.width ≡ width) }
+        ensures empty { IfOk result (λ b. b.lengths ≡ []) }
     {
         Ok(ListBuilder {
             alloc,
-            slots: OffsetsBuilder::with_capacity(alloc, slots)?,
+            slots: OffsetsBuilder::with_capacity(alloc, width, slots)?,
         })
     }
 
     /// Adds a slot at the end: a list of so many items, or null.
     pub fn push(&mut self, items: Option<usize>) -> Result<(), BuildFault>
-        requires room { length self.old < most_slots }
-        ensures ok { OnOk result (self.new ≡ self.old ++ items ∷ []) }
-        ensures err { OnErr result (self.new ≡ self.old) }
-        ensures fault { IfErr result (IsBuildFault (is_past (total (self.old ++ items ∷ [])))) }
+        requires room { length self.old.lengths < most_slots }
+        ensures width { self.new.width ≡ self.old.width }
+        ensures ok { OnOk result (self.new.lengths ≡ self.old.lengths ++ items ∷ []) }
+        ensures err { OnErr result (self.new.lengths ≡ self.old.lengths) }
+        ensures fault { IfErr result (IsBuildFault (is_past (total (self.old.lengths ++ items ∷ [])))) }
     {
-        self.slots.push(items)
+        if items.unwrap_or(0) > MOST_SLOTS - self.slots.total() {
+            return Err(BuildFault::OffsetsFull);
+        }
+        self.slots.push(items)?;
+        Ok(())
     }
 
     /// The column of the child's items as an array, with a validity only where there is a null.
     pub fn finish(self, item: Field, child: Array) -> Result<Array, NoMemory>
-        requires total { total self ≡ length child.items }
+        requires total { total self.lengths ≡ length child.items }
         requires kind { kind_of item.ty ≡ child.kind }
         requires no_dict { same_kind child.kind dict ≡ false }
         requires depth { depth child.kind < 8 }
-        ensures { IfOk result (λ a. a ≡ shown (kind.list child.kind) (cut self child.items)) }
+        ensures { IfOk result (λ a. a ≡ shown (kind.lists self.width child.kind) (cut self.lengths child.items)) }
     {
         let ListBuilder { alloc, slots } = self;
-        let laid = slots.finish()?;
-        Array::from_list(alloc, item, laid.len, laid.validity, laid.offsets, child)
+        let slots = slots.finish()?;
+        Array::from_list(alloc, item, slots, child)
     }
 }

@@ -1,21 +1,24 @@
 //! The offsets of texts or lists in the making.
 
-ghost use Rattle.std.specs.Prelude.{◌≡◌, ◌<◌, ◌≤◌, false, Some, [], ◌∷◌, ◌++◌, length, IfErr, IfOk, OnErr, OnOk};
+ghost use Rattle.std.specs.Prelude.{◌≡◌, ◌<◌, ◌≤◌, [], ◌∷◌, ◌++◌, length, IfOk, OnErr, OnOk};
 ghost use Rattle.arrays.specs.Growing.{AreLaid};
-ghost use Rattle.arrays.specs.Lengths.{IsBuildFault, is_past, total};
+ghost use Rattle.arrays.specs.Lengths.{total};
 ghost use Rattle.types.specs.Limits.{most_slots};
+ghost use Rattle.types.specs.OffsetWidth.{most_of};
 
-use super::fault::BuildFault;
 use super::validity::ValidityBuilder;
+use crate::offset_slots::OffsetSlots;
 use crate::validity::buffer_of;
 use colbits::{Buffer, NoMemory};
 use std::alloc::Global;
 use std::marker::Model;
-use types::{Integer, MOST_SLOTS};
+use types::OffsetWidth;
 
-/// Offsets of which the lengths are told one by one: they begin at 0, and a null is empty.
+/// Offsets of which the lengths are told one by one: they begin at 0, and a null is empty. Whoever pushes a length sees
+/// to it that the offsets can count it.
 #[derive(Drop)]
 pub(crate) struct OffsetsBuilder {
+    pub(crate) width: OffsetWidth,
     pub(crate) offsets: Vec<u8>,
     /// How long all are together.
     pub(crate) total: usize,
@@ -23,53 +26,66 @@ pub(crate) struct OffsetsBuilder {
 }
 
 impl Model for OffsetsBuilder {
-    ghost use Rattle.std.specs.Prelude.{ℕ, List, Option};
+    ghost use Rattle.arrays.specs.Column.{SizedColumn, sized_column_code};
     ghost use Rattle.arrays.specs.Growing.{AreFresh, lengths_where};
 
-    ghost Value = { List (Option ℕ) };
+    ghost Value = { SizedColumn };
 
-    ghost view = { λ b. lengths_where b.valid b.offsets.items };
+    ghost coded = { sized_column_code };
 
-    ghost invariant = { λ b. AreFresh b.valid b.offsets.items b.total };
+    ghost view = { λ b. record { width = b.width; lengths = lengths_where b.width b.valid b.offsets.items } };
+
+    ghost invariant = { λ b. AreFresh b.width b.valid b.offsets.items b.total };
 }
 
 impl OffsetsBuilder {
     /// No slots, with room for so many.
-    pub(crate) fn with_capacity(alloc: Global, slots: usize) -> Result<OffsetsBuilder, NoMemory>
+    pub(crate) fn with_capacity(
+        alloc: Global,
+        width: OffsetWidth,
+        slots: usize,
+    ) -> Result<OffsetsBuilder, NoMemory>
         requires { slots ≤ most_slots }
-        ensures { IfOk result (λ b. b ≡ []) }
+        ensures width { IfOk result (λ b. b.width ≡ width) }
+        ensures empty { IfOk result (λ b. b.lengths ≡ []) }
     {
-        let mut offsets = Vec::with_capacity(alloc, 4 * slots + 67)?;
-        offsets.extend_from_slice(&[0; 4])?;
+        let mut offsets = Vec::with_capacity(alloc, (slots + 1) * width.bytes() + 63)?;
+        width.push(&mut offsets, 0)?;
         Ok(OffsetsBuilder {
+            width,
             offsets,
             total: 0,
             valid: ValidityBuilder::new(alloc),
         })
     }
 
-    /// Whether the offsets can't count one slot more of this length.
-    pub(crate) fn is_full_for(&self, more: usize) -> bool
-        ensures { result ≡ is_past (total (self.now ++ Some more ∷ [])) }
+    /// How wide the offsets are.
+    #[inline(always)]
+    pub(crate) fn width(&self) -> OffsetWidth
+        ensures { result ≡ self.now.width }
     {
-        more > MOST_SLOTS - self.total
+        self.width
+    }
+
+    /// How long all slots are together.
+    #[inline(always)]
+    pub(crate) fn total(&self) -> usize
+        ensures { result ≡ total self.now.lengths }
+    {
+        self.total
     }
 
     /// Adds a slot at the end: its length, or null.
-    pub(crate) fn push(&mut self, slot: Option<usize>) -> Result<(), BuildFault>
-        requires room { length self.old < most_slots }
-        ensures ok { OnOk result (self.new ≡ self.old ++ slot ∷ []) }
-        ensures err { OnErr result (self.new ≡ self.old) }
-        ensures fault { IfErr result (IsBuildFault (is_past (total (self.old ++ slot ∷ [])))) }
-        ensures fits { OnOk result (is_past (total self.new) ≡ false) }
+    pub(crate) fn push(&mut self, slot: Option<usize>) -> Result<(), NoMemory>
+        requires room { length self.old.lengths < most_slots }
+        requires fits { total (self.old.lengths ++ slot ∷ []) ≤ most_of self.old.width }
+        ensures width { self.new.width ≡ self.old.width }
+        ensures ok { OnOk result (self.new.lengths ≡ self.old.lengths ++ slot ∷ []) }
+        ensures err { OnErr result (self.new.lengths ≡ self.old.lengths) }
     {
-        let more = slot.unwrap_or(0);
-        if more > MOST_SLOTS - self.total {
-            return Err(BuildFault::OffsetsFull);
-        }
-        let end = self.total + more;
+        let end = self.total + slot.unwrap_or(0);
         let before = self.offsets.len();
-        <i32 as Integer>::push(&mut self.offsets, end as i128)?;
+        self.width.push(&mut self.offsets, end)?;
         match self.valid.push(slot.is_some()) {
             Ok(()) => {
                 self.total = end;
@@ -77,16 +93,18 @@ impl OffsetsBuilder {
             }
             Err(error) => {
                 self.offsets.truncate(before);
-                Err(error.into())
+                Err(error)
             }
         }
     }
 
-    /// The offsets in memory, with a validity only where there is a null.
-    pub(crate) fn finish(self) -> Result<Laid, NoMemory>
-        ensures { IfOk result (λ o. AreLaid self o.len o.validity o.offsets) }
+    /// The slots in memory, with a validity only where there is a null.
+    pub(crate) fn finish(self) -> Result<OffsetSlots, NoMemory>
+        ensures width { IfOk result (λ o. o.width ≡ self.width) }
+        ensures laid { IfOk result (λ o. AreLaid o.width self.lengths o.len o.validity o.offsets) }
     {
         let OffsetsBuilder {
+            width,
             offsets,
             total: _,
             valid,
@@ -94,18 +112,11 @@ impl OffsetsBuilder {
         let len = valid.len() as u32;
         let validity = valid.finish()?;
         let offsets = Buffer::from_vec(offsets)?;
-        Ok(Laid {
+        Ok(OffsetSlots {
+            width,
             len,
             validity: buffer_of(validity),
             offsets,
         })
     }
-}
-
-/// Offsets and validity of some slots, as an array has them.
-#[derive(Drop)]
-pub(crate) struct Laid {
-    pub(crate) len: u32,
-    pub(crate) validity: Option<Buffer>,
-    pub(crate) offsets: Buffer,
 }

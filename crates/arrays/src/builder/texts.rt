@@ -4,10 +4,11 @@ ghost use Rattle.std.specs.Prelude.{◌≡◌, ◌<◌, ◌≤◌, false, [], �
 ghost use Rattle.std.specs.Option.{option_copied};
 ghost use Rattle.layout.specs.Item as item;
 ghost use Rattle.types.specs.Kind as kind;
-ghost use Rattle.arrays.specs.Lengths.{IsBuildFault, is_past, text_bytes};
+ghost use Rattle.arrays.specs.Lengths.{IsBuildFault, text_bytes};
 ghost use Rattle.arrays.specs.Shown.{shown};
 ghost use Rattle.arrays.specs.Slot.{item_of_text};
 ghost use Rattle.types.specs.Limits.{most_slots};
+ghost use Rattle.types.specs.OffsetWidth.{is_full};
 
 use super::fault::BuildFault;
 use super::offsets::OffsetsBuilder;
@@ -15,6 +16,7 @@ use crate::array::Array;
 use colbits::{Buffer, NoMemory};
 use std::alloc::Global;
 use std::marker::Model;
+use types::OffsetWidth;
 
 /// A column of texts in the making: their offsets begin at 0, and a null has no bytes.
 #[derive(Drop)]
@@ -25,42 +27,51 @@ pub struct TextBuilder {
 }
 
 impl Model for TextBuilder {
-    ghost use Rattle.std.specs.Prelude.{List};
-    ghost use Rattle.layout.specs.Item.{Item};
-    ghost use Rattle.layout.specs.Code.{items_code};
+    ghost use Rattle.std.specs.Prelude.{◌≡◌, false, length};
+    ghost use Rattle.types.specs.OffsetWidth.{is_full};
+    ghost use Rattle.arrays.specs.Column.{TextColumn, text_column_code};
     ghost use Rattle.arrays.specs.Growing.{AreTextsOf, cut_texts};
 
-    ghost Value = { List Item };
+    ghost Value = { TextColumn };
 
-    ghost coded = { items_code };
+    ghost coded = { text_column_code };
 
-    ghost view = { λ b. cut_texts b.slots b.bytes.items };
+    ghost view = { λ b. record { width = b.slots.width; items = cut_texts b.slots.lengths b.bytes.items } };
 
-    ghost invariant = { λ b. AreTextsOf b.slots b.bytes.items };
+    ghost invariant = { λ b. AreTextsOf b.slots.lengths b.bytes.items
+        × (is_full b.slots.width (length b.bytes.items) ≡ false) };
 }
 
 impl TextBuilder {
-    /// An empty column, with room for so many slots and bytes, and for the padding of the bytes.
-    pub fn with_capacity(alloc: Global, slots: usize, bytes: usize) -> Result<TextBuilder, NoMemory>
+    /// An empty column whose offsets are of this width, with room for so many slots and bytes, and for the padding of the
+    /// bytes.
+    pub fn with_capacity(
+        alloc: Global,
+        width: OffsetWidth,
+        slots: usize,
+        bytes: usize,
+    ) -> Result<TextBuilder, NoMemory>
         requires { slots ≤ most_slots }
-        ensures { IfOk result (λ b. b ≡ []) }
+        ensures width { IfOk result (λ b. b.width ≡ width) }
+        ensures empty { IfOk result (λ b. b.items ≡ []) }
     {
         Ok(TextBuilder {
             alloc,
-            slots: OffsetsBuilder::with_capacity(alloc, slots)?,
+            slots: OffsetsBuilder::with_capacity(alloc, width, slots)?,
             bytes: Vec::with_capacity(alloc, bytes.saturating_add(63))?,
         })
     }
 
     /// Adds a slot at the end: the text, or null.
     pub fn push(&mut self, text: Option<&str>) -> Result<(), BuildFault>
-        requires room { length self.old < most_slots }
-        ensures ok { OnOk result (self.new ≡ self.old ++ item_of_text (option_copied text.entry) ∷ []) }
-        ensures err { OnErr result (self.new ≡ self.old) }
+        requires room { length self.old.items < most_slots }
+        ensures width { self.new.width ≡ self.old.width }
+        ensures ok { OnOk result (self.new.items ≡ self.old.items ++ item_of_text (option_copied text.entry) ∷ []) }
+        ensures err { OnErr result (self.new.items ≡ self.old.items) }
         ensures fault { IfErr result
-            (IsBuildFault (is_past (text_bytes (self.old ++ item_of_text (option_copied text.entry) ∷ [])))) }
+            (IsBuildFault (is_full self.old.width (text_bytes (self.old.items ++ item_of_text (option_copied text.entry) ∷ [])))) }
         // What the offsets count together is what they can count.
-        ensures fits { OnOk result (is_past (text_bytes self.new) ≡ false) }
+        ensures fits { OnOk result (is_full self.new.width (text_bytes self.new.items) ≡ false) }
     {
         match text {
             Some(text) => self.push_text(text),
@@ -73,37 +84,41 @@ impl TextBuilder {
 
     /// Adds a text at the end.
     fn push_text(&mut self, text: &str) -> Result<(), BuildFault>
-        requires room { length self.old < most_slots }
-        ensures ok { OnOk result (self.new ≡ self.old ++ item.text text.now ∷ []) }
-        ensures err { OnErr result (self.new ≡ self.old) }
-        ensures fault { IfErr result (IsBuildFault (is_past (text_bytes (self.old ++ item.text text.now ∷ [])))) }
-        ensures fits { OnOk result (is_past (text_bytes self.new) ≡ false) }
+        requires room { length self.old.items < most_slots }
+        ensures width { self.new.width ≡ self.old.width }
+        ensures ok { OnOk result (self.new.items ≡ self.old.items ++ item.text text.now ∷ []) }
+        ensures err { OnErr result (self.new.items ≡ self.old.items) }
+        ensures fault { IfErr result
+            (IsBuildFault (is_full self.old.width (text_bytes (self.old.items ++ item.text text.now ∷ [])))) }
+        ensures fits { OnOk result (is_full self.new.width (text_bytes self.new.items) ≡ false) }
     {
-        if self.slots.is_full_for(text.len()) {
+        let before = self.bytes.len();
+        if self.slots.width().is_full(before + text.len()) {
             return Err(BuildFault::OffsetsFull);
         }
-        let before = self.bytes.len();
+
+        // Wide offsets count whatever bytes there is room for.
         self.bytes.extend_from_slice(text.as_bytes())?;
         match self.slots.push(Some(text.len())) {
             Ok(()) => Ok(()),
-            Err(fault) => {
+            Err(NoMemory) => {
                 self.bytes.truncate(before);
-                Err(fault)
+                Err(BuildFault::NoMemory)
             }
         }
     }
 
     /// The column as an array, with a validity only where there is a null.
     pub fn finish(self) -> Result<Array, NoMemory>
-        ensures { IfOk result (λ a. a ≡ shown kind.utf8 self) }
+        ensures { IfOk result (λ a. a ≡ shown (kind.texts self.width) self.items) }
     {
         let TextBuilder {
             alloc,
             slots,
             bytes,
         } = self;
-        let laid = slots.finish()?;
+        let slots = slots.finish()?;
         let bytes = Buffer::from_vec(bytes)?;
-        Array::from_texts(alloc, laid.len, laid.validity, laid.offsets, bytes)
+        Array::from_texts(alloc, slots, bytes)
     }
 }

@@ -4,9 +4,10 @@ ghost use Rattle.std.specs.Prelude.{◌≡◌, ◌<◌, IfSome, Some, length, sl
 ghost use Rattle.std.specs.Option.{option_copied};
 ghost use Rattle.arrays.specs.Slot.{item_of, holds_at, is_int, is_list, is_text, item_of_bool, item_of_list, item_of_text};
 ghost use Rattle.types.specs.Kind as kind;
+ghost use Rattle.types.specs.Kind.{item_kind};
 
 use crate::view::{View, ViewType};
-use types::{IntType, number_at};
+use types::{IntType, OffsetWidth, number_at};
 
 impl<'a> View<'a> {
     /// Number `i` of an integer view, none where the slot is null.
@@ -49,14 +50,14 @@ impl<'a> View<'a> {
         Some(bits.get(i))
     }
 
-    /// Text `i` of a view of texts without a dictionary, none where the slot is null. The view isn't asked for its
-    /// type, as `text_at` asks it.
-    pub fn utf8_at(&self, i: usize) -> Option<&'a str>
-        requires utf8 { self.now.kind ≡ kind.utf8 }
+    /// Text `i` of a view of texts without a dictionary whose offsets are of this width, none where the slot is null. The
+    /// view isn't asked for its type, as `text_at` asks it.
+    pub fn text_as(&self, width: OffsetWidth, i: usize) -> Option<&'a str>
+        requires text { self.now.kind ≡ kind.texts width }
         requires within { i < length self.now.items }
         ensures { slice_get self.now.items i ≡ Some (item_of_text (option_copied result)) }
     {
-        self.texts().get(i)
+        self.texts(width).get(i)
     }
 
     /// Text `i` of a view of texts, dictionary-encoded or not, none where there is no item.
@@ -66,8 +67,9 @@ impl<'a> View<'a> {
         ensures { slice_get self.now.items i ≡ Some (item_of_text (option_copied result)) }
     {
         match self.ty {
+            ViewType::Text(width) => self.text_as(width, i),
             ViewType::Dict => self.entry_at(i),
-            _ => self.utf8_at(i),
+            _ => unreachable!(),
         }
     }
 
@@ -78,7 +80,7 @@ impl<'a> View<'a> {
         ensures { slice_get self.now.items i ≡ Some (item_of_text (option_copied result)) }
     {
         match self.code_at(i) {
-            Some(code) => self.entries().utf8_at(code),
+            Some(code) => self.entries().text_as(OffsetWidth::Narrow, code),
             None => None,
         }
     }
@@ -102,7 +104,7 @@ impl<'a> View<'a> {
         requires list { is_list self.now.kind ≡ true }
         requires within { i < length self.now.items }
         ensures items { slice_get self.now.items i ≡ Some (item_of_list result) }
-        ensures kind { IfSome result (λ v. kind.list v.kind ≡ self.now.kind) }
+        ensures kind { IfSome result (λ v. item_kind self.now.kind ≡ Some v.kind) }
     {
         let lists = self.lists();
         match lists.get(i) {

@@ -68,13 +68,16 @@ impl<'a> View<'a> {
         ensures no_dict { same_kind result.child.kind kind.dict ≡ false }
         ensures depth { depth result.child.kind < 8 }
     {
+        let ViewType::List(width, _item) = self.ty else {
+            unreachable!();
+        };
         let first = buffers::bytes_at(self.buffers, 1);
         let children = self.children;
         let child = child_view(&children[0]);
         let validity = self.validity();
         let slots = self.slots();
         Lists {
-            offsets: Offsets::new(first, self.start, slots),
+            offsets: Offsets::new(width, first, self.start, slots),
             child,
             validity,
             slots,

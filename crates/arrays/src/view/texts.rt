@@ -5,6 +5,7 @@ ghost use Rattle.std.specs.Option.{option_copied};
 ghost use Rattle.std.specs.Str.{is_utf8};
 ghost use Rattle.types.specs.Kind as kind;
 ghost use Rattle.types.specs.Limits.{most_slots};
+ghost use Rattle.types.specs.OffsetWidth.{most_of};
 ghost use Rattle.layout.specs.Offsets.{AreOffsets, of_slot, start_of};
 ghost use Rattle.layout.specs.Seen.{valid_in};
 ghost use Rattle.arrays.specs.Slot.{item_at, item_of_text};
@@ -14,6 +15,7 @@ use crate::view::View;
 use colbits::Bits;
 use layout::{Offsets, buffers};
 use std::str::from_utf8_unchecked;
+use types::OffsetWidth;
 
 /// The texts of a column, one for each slot.
 #[derive(Drop)]
@@ -29,7 +31,6 @@ pub struct Texts<'a> {
     ghost bounds: { AreOffsets slots offsets (length bytes.now) },
     ghost ends: { (j : ℕ) → j ≤ slots → start_of offsets j ≤ length bytes.now },
     ghost utf8: { (j : ℕ) → j < slots → valid_in validity j ≡ true → is_utf8 (of_slot offsets bytes.now j) ≡ true },
-    ghost few: { (j : ℕ) → j ≤ slots → start_of offsets j ≤ most_slots },
     ghost short: { slots ≤ most_slots },
 }
 
@@ -66,20 +67,23 @@ impl<'a> Texts<'a> {
 impl<'a> View<'a> {
     ghost use Rattle.arrays.specs.Values.{HasTexts, items_of_texts};
 
-    /// The texts of a view of such.
-    pub fn texts(&self) -> Texts<'a>
-        requires { self.now.kind ≡ kind.utf8 }
+    /// The texts of a view of such, whose offsets are of this width.
+    pub fn texts(&self, width: OffsetWidth) -> Texts<'a>
+        requires { self.now.kind ≡ kind.texts width }
         ensures texts { HasTexts result.offsets result.bytes.now self.now }
         ensures validity { result.validity ≡ self.now.validity }
         ensures slots { result.slots ≡ length self.now.items }
         ensures items { items_of_texts result ≡ self.now.items }
+
+        // No offset is past what its width counts.
+        ensures few { (j : ℕ) → j ≤ length self.now.items → start_of result.offsets j ≤ most_of width }
     {
         let first = buffers::bytes_at(self.buffers, 1);
         let bytes = buffers::bytes_at(self.buffers, 2);
         let validity = self.validity();
         let slots = self.slots();
         Texts {
-            offsets: Offsets::new(first, self.start, slots),
+            offsets: Offsets::new(width, first, self.start, slots),
             bytes,
             validity,
             slots,

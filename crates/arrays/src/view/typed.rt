@@ -6,11 +6,11 @@ ghost use Rattle.arrays.specs.Lengths.{is_too_big};
 ghost use Rattle.arrays.specs.Typed.{IsItemOf};
 
 use crate::view::{View, ViewType};
-use types::IntType;
+use types::{IntType, OffsetWidth};
 
 impl<'a> View<'a> {
     /// Says that each item is null or of the view's kind, a text in UTF-8, and that the bytes of texts and the items of
-    /// lists are no more than offsets count. Nothing is looked at, and nothing changes.
+    /// lists are no more than may be. Nothing is looked at, and nothing changes.
     pub fn tell_items(&self)
         ensures typed { All (IsItemOf self.now.kind) self.now.items }
         ensures few { is_too_big self.now.kind self.now.items ≡ false }
@@ -20,13 +20,13 @@ impl<'a> View<'a> {
             ViewType::Bool => {
                 let _ = self.bool_bits();
             }
-            ViewType::Utf8 => {
-                let _ = self.texts();
+            ViewType::Text(width) => {
+                let _ = self.texts(width);
             }
-            ViewType::List(_) => self.lists().child.tell_items(),
+            ViewType::List(_, _) => self.lists().child.tell_items(),
             ViewType::Dict => {
                 let _ = self.codes();
-                let _ = self.entries().texts();
+                let _ = self.entries().texts(OffsetWidth::Narrow);
             }
         }
     }

@@ -1,10 +1,14 @@
-use Rattle.std.proofs.Common.{◌≡◌, ◌∙◌, [], Ok, IfErr, ap, sym, subst, rules}
+use Rattle.std.proofs.Common.{◌≡◌, ◌∙◌, ℕ, [], Result, Ok, IfErr, ap, sym, subst, rules}
 use Rattle.std.specs.Result.{MatchResult, IsErrAnd}
+use Rattle.serde_json.specs.Data.{Data}
 use Rattle.serde_json.specs.View.{view}
 use Rattle.types.specs.declared.data_type.Field.{Field, out-Field}
-use Rattle.types.proofs.ShapeLemmas.{kind_of-List}
+use Rattle.types.proofs.ShapeLemmas.{kind_of-List, kind_of-LargeList}
+use Rattle.types.specs.declared.offset_width.OffsetWidth.{OffsetWidth}
+use Rattle.types.specs.declared.offset_width.OffsetWidth.TheVariants.{Narrow, Wide}
+use Rattle.json_places.specs.declared.fault.JsonFault.{JsonFault}
 use Rattle.arrays.specs.Kind as kind
-use Rattle.arrays.specs.Kind.{kind_of}
+use Rattle.arrays.specs.Kind.{Kind, kind_of}
 use Rattle.arrays.proofs.DictionaryLemmas.{kind_of-Dict}
 use Rattle.json_places.specs.declared.fault.JsonFaultKind.TheVariants.{UnsupportedType}
 use Rattle.arrow_json.specs.JsonBatchFault.{KindFault}
@@ -16,24 +20,33 @@ use Rattle.arrow_json.proofs.JsonLists.{lists_flags, lists_offsets, lists_child}
 use Rattle.json_places.proofs.JsonResults.{error_kept, error_made}
 use Rattle.arrow_json.proofs.+columns.Goals as goal
 
+-- what is told of a column of lists is told of its field's column
+lists_told : {A : Type 0} (w : OffsetWidth) (k : Kind) (item inner : Field) (n : ℕ) (d : Data) (r : Result A JsonFault) → k ≡ kind.lists w (kind_of (out-Field inner).ty) → item ≡ inner
+    → IfErr r (Tells (KindFault (kind.lists w (kind_of (out-Field item).ty)) n d)) → IfErr r (Tells (KindFault k n d))
+lists_told w k item inner n d r is same told =
+    let kind_is : kind.lists w (kind_of (out-Field item).ty) ≡ k = ap (λ f. kind.lists w (kind_of (out-Field f).ty)) same ∙ sym is in
+    subst (λ x. IfErr r (Tells (KindFault x n d))) kind_is told
+
 pub batch::read_array-returns-in-List-clause-err : goal.batch::read_array-returns-in-List-clause-err
-batch::read_array-returns-in-List-clause-err t c =
-    let is = ap kind_of c.in-List.is ∙ (kind_of-List c.in-List.item ∙ ap (λ (f : Field). kind.list (kind_of (out-Field f).ty)) (sym c.deref.ensures)) in
-    subst (λ k. IfErr c.read_list.result (Tells (KindFault k c.args.rows (view c.args.column.now)))) (sym is) c.read_list.ensures.err
+batch::read_array-returns-in-List-clause-err t c = lists_told Narrow _ _ _ _ _ _ (ap kind_of c.in-List.is ∙ kind_of-List c.in-List.item) c.deref.ensures c.read_list.ensures.err
+
+pub batch::read_array-returns-in-LargeList-clause-err : goal.batch::read_array-returns-in-LargeList-clause-err
+batch::read_array-returns-in-LargeList-clause-err t c =
+    lists_told Wide _ _ _ _ _ _ (ap kind_of c.in-LargeList.is ∙ kind_of-LargeList c.in-LargeList.item) c.deref-in-LargeList.ensures c.read_list-in-LargeList.ensures.err
 
 pub list::read_list-returns-in_err-validity-clause-err : goal.list::read_list-returns-in_err-validity-clause-err
 list::read_list-returns-in_err-validity-clause-err t c =
-    error_kept _ _ _ c.from_residual-in_err-validity.ensures.1 (lists_flags _ _ _ _ _ _ _ _ c.in_err-validity.ensures.err c.in_ok-parts.ensures.given)
+    error_kept _ _ _ c.from_residual-in_err-validity.ensures.1 (lists_flags _ _ _ _ _ _ _ _ _ c.in_err-validity.ensures.err c.in_ok-parts.ensures.given)
 
 pub list::read_list-returns-in_err-offsets-clause-err : goal.list::read_list-returns-in_err-offsets-clause-err
 list::read_list-returns-in_err-offsets-clause-err t c =
     let cases : MatchResult c.read_offsets-read.result (λ y. c.map_err.result ≡ Ok y) (λ e. IsErrAnd c.map_err.result (IsUnder (step.Member member.Offset) e)) = search rules in
     error_made _ _ _ _ _ _ _ cases c.in_err-offsets.was c.read_offsets-read.ensures.err c.from_residual-in_err-offsets.ensures.1
-    (λ _ told under. lists_offsets _ _ _ _ _ _ _ _ _ told c.in_ok-parts.ensures.given under)
+    (λ _ told under. lists_offsets _ _ _ _ _ _ _ _ _ _ told c.in_ok-parts.ensures.given under)
 
 pub list::read_list-returns-in-Err-clause-err : goal.list::read_list-returns-in-Err-clause-err
 list::read_list-returns-in-Err-clause-err t c =
-    lists_child _ _ _ _ _ _ _ _ _ _ c.in-Err.ensures.err c.in_ok-parts.ensures.given c.under-fault.ensures c.under.ensures
+    lists_child _ _ _ _ _ _ _ _ _ _ _ c.in-Err.ensures.err c.in_ok-parts.ensures.given c.under-fault.ensures c.under.ensures
 
 pub batch::read_array-returns-in-Dict-clause-err : goal.batch::read_array-returns-in-Dict-clause-err
 batch::read_array-returns-in-Dict-clause-err t c =

@@ -4,7 +4,7 @@ ghost use Rattle.std.specs.Prelude.{◌≡◌, Some, IfSome, codes};
 ghost use Rattle.bench.specs.Outcome.{codes_of};
 
 use super::columns::{coded_texts, numbers, repeated_texts, rows, short_numbers, texts, truths};
-use arrays::{Array, View, ViewType};
+use arrays::{Array, OffsetWidth, View, ViewType};
 use kernels::{CmpOp, add, add_number, compare, compare_number, kleene_and};
 use pool::{TextPool, recode};
 use select::{filter, take};
@@ -147,7 +147,7 @@ impl Kernel {
 fn recoded(alloc: Global, view: &View<'_>) -> Option<Array>
     ensures { IfSome result (λ r. r ≡ codes_of view.now) }
 {
-    let (ViewType::Utf8 | ViewType::Dict) = view.ty() else {
+    let (ViewType::Text(OffsetWidth::Narrow) | ViewType::Dict) = view.ty() else {
         return None;
     };
     let mut pool = TextPool::new(alloc);

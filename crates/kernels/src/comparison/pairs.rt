@@ -196,14 +196,14 @@ impl<'a, 'b> Pairs for Bools<'a, 'b> {
 
 /// Texts of which neither column is dictionary-encoded.
 #[derive(Drop)]
-pub(crate) struct Utf8s<'a, 'b> {
+pub(crate) struct PlainTexts<'a, 'b> {
     pub(crate) a: Texts<'a>,
     pub(crate) b: Texts<'b>,
     pub(crate) valid: BothValid<'a, 'b>,
     ghost lengths: { a.slots ≡ b.slots },
 }
 
-impl<'a, 'b> Pairs for Utf8s<'a, 'b> {
+impl<'a, 'b> Pairs for PlainTexts<'a, 'b> {
     ghost count = { λ p. p.a.slots };
 
     ghost both = { λ p i. valid_in p.valid.a i && valid_in p.valid.b i };

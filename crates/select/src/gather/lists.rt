@@ -12,31 +12,33 @@ ghost use Rattle.types.specs.Limits.{most_slots};
 use crate::fault::SelectFault;
 use crate::picks::Picks;
 use crate::rows::Rows;
-use arrays::{ListBuilder, Lists};
+use arrays::{ListBuilder, Lists, OffsetWidth};
 use std::alloc::Global;
 
 /// Lists in the making, and the rows of the child that they hold, one list after the other.
 #[derive(Drop)]
 pub(crate) struct Spread {
-    pub(crate) lengths: ListBuilder,
+    pub(crate) lists: ListBuilder,
     pub(crate) rows: Picks,
 }
 
-/// The picked rows of a column of lists.
+/// The picked rows of a column of lists, which are to have offsets of this width.
 pub(crate) fn spread_out<R: Rows>(
     alloc: Global,
+    width: OffsetWidth,
     lists: &Lists<'_>,
     rows: &R,
 ) -> Result<Spread, SelectFault>
     requires { All (IsPick lists.now.slots) (R.picks rows.now) }
-    ensures lengths { IfOk result (λ s. s.lengths ≡ map list_length (picked (items_of_lists lists.now) (R.picks rows.now))) }
+    ensures width { IfOk result (λ s. s.lists.width ≡ width) }
+    ensures lengths { IfOk result (λ s. s.lists.lengths ≡ map list_length (picked (items_of_lists lists.now) (R.picks rows.now))) }
     ensures rows { IfOk result (λ s. picked lists.now.child.items s.rows ≡ inner_items (picked (items_of_lists lists.now) (R.picks rows.now))) }
     ensures within { IfOk result (λ s. All (IsPick (length lists.now.child.items)) s.rows) }
     ensures err { IfErr result (IsFull (is_past (length (inner_items (picked (items_of_lists lists.now) (R.picks rows.now)))))) }
 {
     let count = rows.slots() as usize;
     let mut spread = Spread {
-        lengths: ListBuilder::with_capacity(alloc, count)?,
+        lists: ListBuilder::with_capacity(alloc, width, count)?,
         rows: Picks::new(alloc),
     };
     let mut place = rows.first();
@@ -50,19 +52,20 @@ pub(crate) fn spread_out<R: Rows>(
 impl Spread {
     /// Adds a list at the end that holds neighbouring rows of the child, or null.
     fn push(&mut self, range: Option<(usize, usize)>) -> Result<(), SelectFault>
-        requires room { length self.old.lengths < most_slots }
+        requires room { length self.old.lists.lengths < most_slots }
         requires range { IsRange most_slots range }
-        ensures lengths { OnOk result (self.new.lengths ≡ self.old.lengths ++ option_map (λ r. r.1) range ∷ []) }
+        ensures width { self.new.lists.width ≡ self.old.lists.width }
+        ensures lengths { OnOk result (self.new.lists.lengths ≡ self.old.lists.lengths ++ option_map (λ r. r.1) range ∷ []) }
         ensures rows { OnOk result (self.new.rows ≡ self.old.rows ++ rows_of range) }
         ensures err { IfErr result (IsFull (is_past (length self.old.rows + length (rows_of range))
-            || is_past (total (self.old.lengths ++ option_map (λ r. r.1) range ∷ [])))) }
+            || is_past (total (self.old.lists.lengths ++ option_map (λ r. r.1) range ∷ [])))) }
     {
         match range {
             Some((start, count)) => {
                 self.rows.push_run(start, count)?;
-                self.lengths.push(Some(count))?;
+                self.lists.push(Some(count))?;
             }
-            None => self.lengths.push(None)?,
+            None => self.lists.push(None)?,
         }
         Ok(())
     }

@@ -1,47 +1,52 @@
 //! Picked texts: their offsets in one walk, their bytes in another.
 
-ghost use Rattle.std.specs.Prelude.{◌≡◌, ◌≤◌, ◌++◌, IfErr, IfOk, OnOk, length};
+ghost use Rattle.std.specs.Prelude.{◌≡◌, ◌+◌, ◌≤◌, ◌++◌, IfErr, IfOk, OnOk, length};
 ghost use Rattle.std.specs.List.{All};
 ghost use Rattle.std.specs.Option.{option_copied};
 ghost use Rattle.arrays.specs.Kind as kind;
-ghost use Rattle.arrays.specs.Lengths.{is_past, text_bytes, text_length};
+ghost use Rattle.arrays.specs.Lengths.{text_bytes, text_length};
 ghost use Rattle.arrays.specs.Shown.{shown};
 ghost use Rattle.arrays.specs.Slot.{item_of_text};
 ghost use Rattle.arrays.specs.Values.{items_of_texts};
 ghost use Rattle.select.specs.Fault.{IsFull};
 ghost use Rattle.select.specs.Picked.{IsPick, picked, picked_at};
 ghost use Rattle.select.specs.Texts.{AreOffsetsOf, all_bytes, bytes_in};
-ghost use Rattle.types.specs.Limits.{most_slots};
+ghost use Rattle.types.specs.declared.offset_width.OffsetWidth.TheVariants.{Wide};
+ghost use Rattle.types.specs.OffsetWidth.{is_full, most_of};
 
 use super::bits::picked_validity;
 use crate::fault::SelectFault;
 use crate::rows::Rows;
-use arrays::{Array, Integer, Texts, View};
+use arrays::{Array, OffsetSlots, OffsetWidth, Texts, View};
 use colbits::{Buffer, NoMemory};
 use std::alloc::Global;
-use types::MOST_SLOTS;
 
-/// The picked rows of a view of texts without a dictionary.
+/// The picked rows of a view of texts without a dictionary whose offsets are of this width.
 pub(super) fn gather<R: Rows>(
     alloc: Global,
+    width: OffsetWidth,
     view: &View<'_>,
     rows: &R,
 ) -> Result<Array, SelectFault>
-    requires kind { view.now.kind ≡ kind.utf8 }
+    requires kind { view.now.kind ≡ kind.texts width }
     requires within { All (IsPick (length view.now.items)) (R.picks rows.now) }
-    ensures ok { IfOk result (λ r. r ≡ shown kind.utf8 (picked view.now.items (R.picks rows.now))) }
-    ensures err { IfErr result (IsFull (is_past (text_bytes (picked view.now.items (R.picks rows.now))))) }
+    ensures ok { IfOk result (λ r. r ≡ shown (kind.texts width) (picked view.now.items (R.picks rows.now))) }
+    ensures err { IfErr result (IsFull (is_full width (text_bytes (picked view.now.items (R.picks rows.now))))) }
 {
-    let texts = view.texts();
-    let laid = picked_offsets(alloc, &texts, rows)?;
+    let texts = view.texts(width);
+    let laid = picked_offsets(alloc, width, &texts, rows)?;
     let filled = picked_bytes(alloc, &texts, rows, laid.end)?;
-    let validity = picked_validity(alloc, &texts.validity, rows)?;
-    let offsets = Buffer::from_vec(laid.offsets)?;
+    let slots = OffsetSlots {
+        width,
+        len: rows.slots(),
+        validity: picked_validity(alloc, &texts.validity, rows)?,
+        offsets: Buffer::from_vec(laid.offsets)?,
+    };
     let bytes = Buffer::from_vec(filled)?;
-    Ok(Array::from_texts(alloc, rows.slots(), validity, offsets, bytes)?)
+    Ok(Array::from_texts(alloc, slots, bytes)?)
 }
 
-/// Where texts begin, little-endian and of 32 bits, and where the last one ends.
+/// Where texts begin, little-endian, and where the last one ends.
 #[derive(Drop)]
 struct Laid {
     offsets: Vec<u8>,
@@ -49,28 +54,55 @@ struct Laid {
 }
 
 /// The offsets of the picked texts.
-fn picked_offsets<R: Rows>(alloc: Global, texts: &Texts<'_>, rows: &R) -> Result<Laid, SelectFault>
+fn picked_offsets<R: Rows>(
+    alloc: Global,
+    width: OffsetWidth,
+    texts: &Texts<'_>,
+    rows: &R,
+) -> Result<Laid, SelectFault>
     requires within { All (IsPick texts.now.slots) (R.picks rows.now) }
-    ensures ok { IfOk result (λ o. AreOffsetsOf (picked (items_of_texts texts.now) (R.picks rows.now)) o.offsets.items o.end) }
-    ensures err { IfErr result (IsFull (is_past (text_bytes (picked (items_of_texts texts.now) (R.picks rows.now))))) }
+    ensures ok { IfOk result (λ o. AreOffsetsOf width (picked (items_of_texts texts.now) (R.picks rows.now)) o.offsets.items o.end) }
+    ensures err { IfErr result (IsFull (is_full width (text_bytes (picked (items_of_texts texts.now) (R.picks rows.now))))) }
 {
     let count = rows.slots() as usize;
 
     // Room for the padding too, so that the offsets aren't copied again.
-    let mut offsets = Vec::with_capacity(alloc, 4 * count + 67)?;
-    offsets.extend_from_slice(&[0; 4])?;
+    let mut offsets = Vec::with_capacity(alloc, (count + 1) * width.bytes() + 63)?;
+    width.push(&mut offsets, 0)?;
     let mut end = 0;
     let mut place = rows.first();
     for _slot in 0..count {
         let row = rows.next(&mut place);
-        let size = size_of(text_at(texts, row));
-        if size > MOST_SLOTS - end {
-            return Err(SelectFault::OffsetsFull);
-        }
-        end += size;
-        <i32 as Integer>::push(&mut offsets, end as i128)?;
+        end = end_after(alloc, width, end, text_at(texts, row))?;
+        width.push(&mut offsets, end)?;
     }
     Ok(Laid { offsets, end })
+}
+
+/// Where the next text ends.
+#[inline(always)]
+fn end_after(
+    alloc: Global,
+    width: OffsetWidth,
+    end: usize,
+    text: Option<&str>,
+) -> Result<usize, SelectFault>
+    requires { end ≤ most_of width }
+    ensures ok { IfOk result (λ e. e ≡ end + text_length (item_of_text (option_copied text.entry))) }
+    ensures short { IfOk result (λ e. e ≤ most_of width) }
+    ensures err { IfErr result (IsFull (is_full width (end + text_length (item_of_text (option_copied text.entry))))) }
+{
+    let next = end + size_of(text);
+    if next <= width.most() {
+        return Ok(next);
+    }
+    if width.is_full(next) {
+        return Err(SelectFault::OffsetsFull);
+    }
+
+    // No memory holds so many bytes: it refuses them.
+    let _room = Vec::<u8>::with_capacity(alloc, next)?;
+    Err(SelectFault::NoMemory)
 }
 
 /// The bytes of the picked texts, of which there are so many.
@@ -81,7 +113,7 @@ fn picked_bytes<R: Rows>(
     size: usize,
 ) -> Result<Vec<u8>, NoMemory>
     requires within { All (IsPick texts.now.slots) (R.picks rows.now) }
-    requires size { size ≤ most_slots }
+    requires size { size ≤ most_of Wide }
     ensures { IfOk result (λ b. b.items ≡ all_bytes (picked (items_of_texts texts.now) (R.picks rows.now))) }
 {
     let count = rows.slots() as usize;

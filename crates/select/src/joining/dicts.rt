@@ -16,7 +16,7 @@ ghost use Rattle.types.specs.Limits.{most_slots};
 
 use super::{slots_of, texts};
 use crate::fault::SelectFault;
-use arrays::{Array, INT32, IntBuilder, View, Words};
+use arrays::{Array, INT32, IntBuilder, OffsetWidth, View, Words};
 use colbits::NoMemory;
 use std::alloc::Global;
 use std::sync::Arc;
@@ -33,7 +33,7 @@ pub(super) fn join(alloc: Global, views: &[View<'_>], slots: usize) -> Result<Ar
     let Some(most) = slots_of(&entries) else {
         return Err(SelectFault::OffsetsFull);
     };
-    let dictionary = texts::join(alloc, &entries, most)?;
+    let dictionary = texts::join(alloc, OffsetWidth::Narrow, &entries, most)?;
     let codes = codes_of(alloc, views, slots)?;
     Ok(Array::dict(codes, Arc::new(alloc, Words::of(dictionary))?))
 }

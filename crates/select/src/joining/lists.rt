@@ -1,9 +1,8 @@
 //! Lists one after the other: how long they are, and the rows of the children that they hold.
 
-ghost use Rattle.std.specs.Prelude.{◌≡◌, ◌+◌, ◌++◌, ◌<◌, ◌≤◌, IfErr, IfOk, OnOk, Some, length, map, slice_index_or, true};
+ghost use Rattle.std.specs.Prelude.{◌≡◌, ◌+◌, ◌++◌, ◌||◌, ◌<◌, ◌≤◌, IfErr, IfOk, OnOk, Some, length, map, slice_index_or, true};
 ghost use Rattle.std.specs.List.{All};
-ghost use Rattle.arrays.specs.Kind as kind;
-ghost use Rattle.arrays.specs.Kind.{kind_of};
+ghost use Rattle.arrays.specs.Kind.{item_kind, kind_of};
 ghost use Rattle.arrays.specs.Lengths.{inner_items, is_past, is_too_big, joined_items, list_length, total};
 ghost use Rattle.arrays.specs.Item.{null};
 ghost use Rattle.arrays.specs.Seen.{Seen};
@@ -16,23 +15,25 @@ ghost use Rattle.types.specs.Limits.{most_slots};
 use crate::fault::SelectFault;
 use crate::gather::{gather_picks, spread_out};
 use crate::rows::FirstRows;
-use arrays::{Array, Field, ListBuilder, View};
+use arrays::{Array, Field, ListBuilder, OffsetWidth, View};
 use colbits::NoMemory;
 use std::alloc::Global;
 
-/// How long the lists of views are, which have so many slots together.
+/// How long the lists of views are, which have so many slots together, with offsets of this width.
 pub(super) fn lengths(
     alloc: Global,
+    width: OffsetWidth,
     views: &[View<'_>],
     slots: usize,
 ) -> Result<ListBuilder, SelectFault>
     requires kinds { All (λ (s : Seen). is_list s.kind ≡ true) views.now }
     requires slots { slots ≡ length (joined_items views.now) }
     requires short { slots ≤ most_slots }
-    ensures ok { IfOk result (λ b. b ≡ map list_length (joined_items views.now)) }
+    ensures width { IfOk result (λ b. b.width ≡ width) }
+    ensures ok { IfOk result (λ b. b.lengths ≡ map list_length (joined_items views.now)) }
     ensures err { IfErr result (IsFull (is_past (length (inner_items (joined_items views.now))))) }
 {
-    let mut builder = ListBuilder::with_capacity(alloc, slots)?;
+    let mut builder = ListBuilder::with_capacity(alloc, width, slots)?;
     for view in views {
         push_all(&mut builder, view)?;
     }
@@ -42,9 +43,10 @@ pub(super) fn lengths(
 /// Adds the lengths of all slots of a view at the end.
 fn push_all(builder: &mut ListBuilder, view: &View<'_>) -> Result<(), SelectFault>
     requires kind { is_list view.now.kind ≡ true }
-    requires room { length builder.old + length view.now.items ≤ most_slots }
-    ensures ok { OnOk result (builder.new ≡ builder.old ++ map list_length view.now.items) }
-    ensures err { IfErr result (IsFull (is_past (total (builder.old ++ map list_length view.now.items)))) }
+    requires room { length builder.old.lengths + length view.now.items ≤ most_slots }
+    ensures width { builder.new.width ≡ builder.old.width }
+    ensures ok { OnOk result (builder.new.lengths ≡ builder.old.lengths ++ map list_length view.now.items) }
+    ensures err { IfErr result (IsFull (is_past (total (builder.old.lengths ++ map list_length view.now.items)))) }
 {
     for i in 0..view.len() {
         builder.push(length_at(view, i))?;
@@ -70,9 +72,10 @@ pub(super) fn children(
     item: &Field,
     views: &[View<'_>],
 ) -> Result<Vec<Array>, SelectFault>
-    requires { All (λ (s : Seen). s.kind ≡ kind.list (kind_of (out-Field item.now).ty)) views.now }
+    requires { All (λ (s : Seen). item_kind s.kind ≡ Some (kind_of (out-Field item.now).ty)) views.now }
     ensures ok { IfOk result (λ v. AreChildren (kind_of (out-Field item.now).ty) views.now v.items) }
-    ensures err { IfErr result (IsFull (is_too_big (kind.list (kind_of (out-Field item.now).ty)) (joined_items views.now))) }
+    ensures err { IfErr result (IsFull (is_past (length (inner_items (joined_items views.now)))
+        || is_too_big (kind_of (out-Field item.now).ty) (inner_items (joined_items views.now)))) }
 {
     let mut children = Vec::with_capacity(alloc, views.len())?;
     for view in views {
@@ -89,7 +92,7 @@ fn child_of(alloc: Global, view: &View<'_>) -> Result<Array, SelectFault>
 {
     let lists = view.lists();
     let all = FirstRows::new(view.slots());
-    let spread = spread_out(alloc, &lists, &all)?;
+    let spread = spread_out(alloc, OffsetWidth::Narrow, &lists, &all)?;
     gather_picks(alloc, &lists.child, &spread.rows)
 }
 

@@ -1,13 +1,14 @@
 //! Faults of arrays alone.
 
-use super::Held::{self, Bytes, Int32s, Nothing};
+use super::Held::{self, Bytes, Cut, Int32s, Nothing, Offsets};
 use super::Inner::{Bits, Indices, Texts};
-use super::{BOTH, SHORT, WIDE, Whole, expect_faults};
+use super::{BOTH, LONGER, SHORT, Whole, expect_faults};
 use arrays::LayoutFault::{
     self, BufferTooShort, ChildDiffers, ExtraBuffer, MissingBuffer, NotUtf8, NullCountDiffers,
     OffsetDecreases, OffsetNegative, OffsetPastEnd, TooDeep, TooLong,
 };
 use std::test::Fail;
+use test_samples::WIDTHS;
 
 /// The numbers 1, 0, 2, 4 and 8.
 const FIVE: Held = Int32s(&[1, 0, 2, 4, 8]);
@@ -24,7 +25,7 @@ const OF_NUMBERS: &[(Option<LayoutFault>, &[Whole])] = &[
                 None,
             ),
             ((0, SHORT, 0, Some(0), &[Nothing, Bytes(&[])]), &[], None),
-            ((0, WIDE, 5, Some(1), &[Bytes(&[0xfd]), FIVE]), &[], None),
+            ((0, LONGER, 5, Some(1), &[Bytes(&[0xfd]), FIVE]), &[], None),
         ],
     ),
     // A byte too few for the numbers, then for the bitmap. Short comes before the null count.
@@ -62,13 +63,17 @@ const OF_NUMBERS: &[(Option<LayoutFault>, &[Whole])] = &[
                 &[],
                 None,
             ),
-            ((0, WIDE, 5, Some(2), &[Bytes(&[0xfd]), FIVE]), &[], None),
+            ((0, LONGER, 5, Some(2), &[Bytes(&[0xfd]), FIVE]), &[], None),
         ],
     ),
     // Missing comes before the null count, and too long before short.
     (
         Some(MissingBuffer),
-        &[((0, WIDE, 5, Some(2), &[Bytes(&[0xfd]), Nothing]), &[], None)],
+        &[(
+            (0, LONGER, 5, Some(2), &[Bytes(&[0xfd]), Nothing]),
+            &[],
+            None,
+        )],
     ),
     (
         Some(TooLong),
@@ -95,7 +100,11 @@ const OF_SHAPES: &[(Option<LayoutFault>, &[Whole])] = &[
         None,
         &[
             ((0, Bits, 1, None, &[Nothing, ZEROS]), &[], None),
-            ((0, Texts, 1, None, &[ZEROS, ZEROS, ZEROS]), &[], None),
+            (
+                (0, Texts, 1, None, &[ZEROS, Offsets(&[0, 0]), ZEROS]),
+                &[],
+                None,
+            ),
         ],
     ),
     (
@@ -140,7 +149,7 @@ const OF_SHAPES: &[(Option<LayoutFault>, &[Whole])] = &[
 ];
 
 /// The offsets and the bytes of four texts, of which the second is no UTF-8.
-const SPREAD: Held = Int32s(&[0, 3, 5, 5, 9]);
+const SPREAD: Held = Offsets(&[0, 3, 5, 5, 9]);
 
 const NAMES: Held = Bytes(b"joe\xff\xffmark");
 
@@ -151,22 +160,23 @@ const OF_TEXTS: &[(Option<LayoutFault>, &[Whole])] = &[
         None,
         &[
             (
-                (0, Texts, 2, None, &[BOTH, Int32s(&[0, 1, 2]), Bytes(b"ab")]),
+                (
+                    0,
+                    Texts,
+                    2,
+                    None,
+                    &[BOTH, Offsets(&[0, 1, 2]), Bytes(b"ab")],
+                ),
                 &[],
                 None,
             ),
             (
-                (0, Texts, 0, None, &[BOTH, Int32s(&[]), Bytes(b"ab")]),
+                (0, Texts, 0, None, &[BOTH, Offsets(&[]), Bytes(b"ab")]),
                 &[],
                 None,
             ),
             (
-                (0, Texts, 0, None, &[Nothing, Int32s(&[]), Bytes(b"")]),
-                &[],
-                None,
-            ),
-            (
-                (0, Texts, 1, None, &[BOTH, Int32s(&[1, 2]), Bytes(b"\xffb")]),
+                (0, Texts, 0, None, &[Nothing, Offsets(&[]), Bytes(b"")]),
                 &[],
                 None,
             ),
@@ -176,7 +186,18 @@ const OF_TEXTS: &[(Option<LayoutFault>, &[Whole])] = &[
                     Texts,
                     1,
                     None,
-                    &[Nothing, Int32s(&[2, 5]), Bytes(b"xxjoe")],
+                    &[BOTH, Offsets(&[1, 2]), Bytes(b"\xffb")],
+                ),
+                &[],
+                None,
+            ),
+            (
+                (
+                    0,
+                    Texts,
+                    1,
+                    None,
+                    &[Nothing, Offsets(&[2, 5]), Bytes(b"xxjoe")],
                 ),
                 &[],
                 None,
@@ -187,7 +208,7 @@ const OF_TEXTS: &[(Option<LayoutFault>, &[Whole])] = &[
                     Texts,
                     2,
                     None,
-                    &[Bytes(&[2]), Int32s(&[0, 1, 2]), Bytes(b"\xffb")],
+                    &[Bytes(&[2]), Offsets(&[0, 1, 2]), Bytes(b"\xffb")],
                 ),
                 &[],
                 None,
@@ -204,22 +225,22 @@ const OF_TEXTS: &[(Option<LayoutFault>, &[Whole])] = &[
         Some(BufferTooShort),
         &[
             (
-                (0, Texts, 0, None, &[Nothing, Bytes(&[0, 0, 0]), Bytes(b"")]),
+                (0, Texts, 0, None, &[Nothing, Cut(&[0], 1), Bytes(b"")]),
                 &[],
                 None,
             ),
             (
-                (0, Texts, 1, None, &[BOTH, Int32s(&[]), Bytes(b"ab")]),
+                (0, Texts, 1, None, &[BOTH, Offsets(&[]), Bytes(b"ab")]),
                 &[],
                 None,
             ),
             (
-                (0, Texts, 2, None, &[BOTH, Int32s(&[0, 1]), Bytes(b"ab")]),
+                (0, Texts, 2, None, &[BOTH, Offsets(&[0, 1]), Bytes(b"ab")]),
                 &[],
                 None,
             ),
             (
-                (0, Texts, 2, None, &[BOTH, Int32s(&[-1, 1]), Bytes(b"ab")]),
+                (0, Texts, 2, None, &[BOTH, Offsets(&[-1, 1]), Bytes(b"ab")]),
                 &[],
                 None,
             ),
@@ -229,7 +250,7 @@ const OF_TEXTS: &[(Option<LayoutFault>, &[Whole])] = &[
                     Texts,
                     2147483647,
                     None,
-                    &[Nothing, Int32s(&[0, 0]), Bytes(b"")],
+                    &[Nothing, Offsets(&[0, 0]), Bytes(b"")],
                 ),
                 &[],
                 None,
@@ -246,18 +267,18 @@ const OF_TEXTS: &[(Option<LayoutFault>, &[Whole])] = &[
                     Texts,
                     2,
                     None,
-                    &[BOTH, Int32s(&[-1, 1, 2]), Bytes(b"ab")],
+                    &[BOTH, Offsets(&[-1, 1, 2]), Bytes(b"ab")],
                 ),
                 &[],
                 None,
             ),
             (
-                (0, Texts, 1, None, &[BOTH, Int32s(&[0, -1]), Bytes(b"ab")]),
+                (0, Texts, 1, None, &[BOTH, Offsets(&[0, -1]), Bytes(b"ab")]),
                 &[],
                 None,
             ),
             (
-                (0, Texts, 1, None, &[Nothing, Int32s(&[-1, 0]), Bytes(b"")]),
+                (0, Texts, 1, None, &[Nothing, Offsets(&[-1, 0]), Bytes(b"")]),
                 &[],
                 None,
             ),
@@ -273,13 +294,19 @@ const OF_TEXTS: &[(Option<LayoutFault>, &[Whole])] = &[
                     Texts,
                     2,
                     None,
-                    &[Bytes(&[2]), Int32s(&[1, 0, 2]), Bytes(b"ab")],
+                    &[Bytes(&[2]), Offsets(&[1, 0, 2]), Bytes(b"ab")],
                 ),
                 &[],
                 None,
             ),
             (
-                (0, Texts, 2, None, &[BOTH, Int32s(&[1, 0, 9]), Bytes(b"ab")]),
+                (
+                    0,
+                    Texts,
+                    2,
+                    None,
+                    &[BOTH, Offsets(&[1, 0, 9]), Bytes(b"ab")],
+                ),
                 &[],
                 None,
             ),
@@ -295,7 +322,7 @@ const OF_TEXTS: &[(Option<LayoutFault>, &[Whole])] = &[
                     Texts,
                     3,
                     None,
-                    &[Bytes(&[7]), Int32s(&[0, 2, 1, 0]), Bytes(b"ab")],
+                    &[Bytes(&[7]), Offsets(&[0, 2, 1, 0]), Bytes(b"ab")],
                 ),
                 &[],
                 None,
@@ -306,7 +333,7 @@ const OF_TEXTS: &[(Option<LayoutFault>, &[Whole])] = &[
                     Texts,
                     2,
                     None,
-                    &[Bytes(&[1]), Int32s(&[0, 5, 3]), Bytes(b"abcde")],
+                    &[Bytes(&[1]), Offsets(&[0, 5, 3]), Bytes(b"abcde")],
                 ),
                 &[],
                 None,
@@ -323,13 +350,8 @@ const OF_TEXTS: &[(Option<LayoutFault>, &[Whole])] = &[
                     Texts,
                     1,
                     None,
-                    &[Nothing, Int32s(&[0, 4]), Bytes(b"joe")],
+                    &[Nothing, Offsets(&[0, 4]), Bytes(b"joe")],
                 ),
-                &[],
-                None,
-            ),
-            (
-                (0, Texts, 2, None, &[BOTH, Int32s(&[0, 1, 3]), Bytes(b"ab")]),
                 &[],
                 None,
             ),
@@ -339,7 +361,18 @@ const OF_TEXTS: &[(Option<LayoutFault>, &[Whole])] = &[
                     Texts,
                     2,
                     None,
-                    &[BOTH, Int32s(&[0, 1, 3]), Bytes(b"\xff\xff")],
+                    &[BOTH, Offsets(&[0, 1, 3]), Bytes(b"ab")],
+                ),
+                &[],
+                None,
+            ),
+            (
+                (
+                    0,
+                    Texts,
+                    2,
+                    None,
+                    &[BOTH, Offsets(&[0, 1, 3]), Bytes(b"\xff\xff")],
                 ),
                 &[],
                 None,
@@ -356,7 +389,7 @@ const OF_TEXTS: &[(Option<LayoutFault>, &[Whole])] = &[
                     Texts,
                     2,
                     None,
-                    &[BOTH, Int32s(&[0, 1, 2]), Bytes(b"\xff\xff")],
+                    &[BOTH, Offsets(&[0, 1, 2]), Bytes(b"\xff\xff")],
                 ),
                 &[],
                 None,
@@ -367,7 +400,7 @@ const OF_TEXTS: &[(Option<LayoutFault>, &[Whole])] = &[
                     Texts,
                     2,
                     None,
-                    &[BOTH, Int32s(&[0, 1, 2]), Bytes(b"\xc3\xa9")],
+                    &[BOTH, Offsets(&[0, 1, 2]), Bytes(b"\xc3\xa9")],
                 ),
                 &[],
                 None,
@@ -383,7 +416,7 @@ const OF_TEXTS: &[(Option<LayoutFault>, &[Whole])] = &[
                     Texts,
                     2,
                     None,
-                    &[BOTH, Int32s(&[0, 1, 2]), Bytes(b"a\xff")],
+                    &[BOTH, Offsets(&[0, 1, 2]), Bytes(b"a\xff")],
                 ),
                 &[],
                 None,
@@ -404,7 +437,7 @@ const OF_TEXTS: &[(Option<LayoutFault>, &[Whole])] = &[
 
 #[test]
 fn tells_faults_of_arrays_alone(rt: HostRuntime) -> Result<(), Fail> {
-    expect_faults(&rt, rt.alloc(), OF_NUMBERS)?;
-    expect_faults(&rt, rt.alloc(), OF_SHAPES)?;
-    expect_faults(&rt, rt.alloc(), OF_TEXTS)
+    expect_faults(&rt, rt.alloc(), &WIDTHS, OF_NUMBERS)?;
+    expect_faults(&rt, rt.alloc(), &WIDTHS, OF_SHAPES)?;
+    expect_faults(&rt, rt.alloc(), &WIDTHS, OF_TEXTS)
 }

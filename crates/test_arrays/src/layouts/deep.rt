@@ -3,16 +3,18 @@
 use arrays::{DataType, LayoutFault, RawArray, validate};
 use std::alloc::Global;
 use std::test::Fail;
-use test_samples::{lists_of, raw};
+use test_samples::{NARROW, WIDE_IN_NARROW, lists_of, raw};
 
 const LEVELS: usize = 1_000_000;
 
 #[test]
 fn a_type_of_many_lists_is_too_deep(rt: HostRuntime) -> Result<(), Fail> {
-    let ty = lists_of(rt.alloc(), LEVELS, DataType::Bool)?;
-    let parts = raw(rt.alloc(), ty, 0, &[])?;
-    let fault = validate(rt.alloc(), parts).err();
-    assert!(rt; fault == Some(LayoutFault::TooDeep));
+    for widths in [NARROW, WIDE_IN_NARROW] {
+        let ty = lists_of(rt.alloc(), widths, LEVELS, DataType::Bool)?;
+        let parts = raw(rt.alloc(), ty, 0, &[])?;
+        let fault = validate(rt.alloc(), parts).err();
+        assert!(rt; fault == Some(LayoutFault::TooDeep), "{widths:?}");
+    }
     Ok(())
 }
 

@@ -4,6 +4,7 @@
 mod depths;
 mod dictionaries;
 mod forms;
+mod large;
 mod lengths;
 mod lists;
 mod numbers;
@@ -11,15 +12,16 @@ mod orders;
 mod texts;
 mod validity;
 
+use super::Held::{Bytes, Nothing, Offsets};
 use super::Inner::{self, Numbers};
-use super::in_lists;
+use super::{Slot, in_lists};
 use Place::{Entries, InLists, InNulls, Top};
 use arrays::{DataType, LayoutFault, RawArray, Width, validate};
 use forms::Form;
 use std::alloc::Global;
 use std::process::Abort;
 use std::test::Fail;
-use test_samples::{Positions, raw};
+use test_samples::{NARROW, Positions, WIDTHS, Widths, raw};
 
 /// What it is, and its parts.
 type Row = (&'static str, Form);
@@ -39,7 +41,7 @@ enum Place {
     Entries,
 }
 
-/// Each place of an array of no lists and no codes.
+/// Each place of an array of no lists and no codes, but for a dictionary.
 const ANYWHERE: &[Place] = &[
     Top,
     InLists(1),
@@ -59,36 +61,30 @@ const OF_LISTS: &[Place] = &[
     InNulls(7),
 ];
 
-/// Each place of an array of texts.
-const OF_TEXTS: &[Place] = &[
-    Top,
-    InLists(1),
-    InLists(2),
-    InLists(8),
-    InNulls(1),
-    InNulls(8),
-    Entries,
-];
-
 const INT8: Inner = Numbers(Width::W8, true);
 
 const INT64: Inner = Numbers(Width::W64, true);
 
+/// The limits of narrow offsets.
+const LEAST_NARROW: i64 = -2147483648;
+
+const MOST_NARROW: i64 = 2147483647;
+
 /// A list without items.
-const NO_ITEMS: Positions = &[None, Some(&[0; 8])];
+const NO_ITEMS: Slot = [Nothing, Offsets(&[0, 0])];
 
 /// The same, under a null.
-const NULL_ITEMS: Positions = &[Some(&[0]), Some(&[0; 8])];
+const NULL_ITEMS: Slot = [Bytes(&[0]), Offsets(&[0, 0])];
 
 /// A null over the code 0.
 const NULL_CODE: Positions = &[Some(&[0]), Some(&[0; 4])];
 
 /// The array at its place. What stands above it is lawful if the place is one for its type.
-fn placed(alloc: Global, place: Place, array: RawArray) -> Result<RawArray, Fail> {
+fn placed(alloc: Global, widths: Widths, place: Place, array: RawArray) -> Result<RawArray, Fail> {
     match place {
         Top => Ok(array),
-        InLists(lists) => in_lists(alloc, lists, array, NO_ITEMS),
-        InNulls(lists) => in_lists(alloc, lists, array, NULL_ITEMS),
+        InLists(lists) => in_lists(alloc, widths, lists, array, NO_ITEMS),
+        InNulls(lists) => in_lists(alloc, widths, lists, array, NULL_ITEMS),
         Entries => {
             let mut codes = raw(alloc, DataType::Dict, 1, NULL_CODE)?;
             codes.dictionary = Some(Box::new(alloc, array)?);
@@ -98,35 +94,65 @@ fn placed(alloc: Global, place: Place, array: RawArray) -> Result<RawArray, Fail
 }
 
 /// Asserts the fault of an array at each place.
-fn expect_at(
+fn expect_row(
     rt: &impl Abort,
     alloc: Global,
+    widths: Widths,
     places: &[Place],
     row: Row,
     fault: Option<LayoutFault>,
 ) -> Result<(), Fail> {
     let (name, form) = row;
     for place in places {
-        let array = placed(alloc, *place, form.parts(alloc)?)?;
+        let array = placed(alloc, widths, *place, form.parts(alloc, widths)?)?;
         let told = validate(alloc, array).err();
-        assert!(rt; told == fault, "{told:?} for {fault:?}: {name}, {place:?}");
+        assert!(rt;
+            told == fault,
+            "{told:?} for {fault:?}: {name}, {place:?}, {widths:?}"
+        );
     }
     Ok(())
 }
 
 /// Asserts the fault of each row, at each place.
-fn expect_rows(rt: &impl Abort, alloc: Global, places: &[Place], group: Group) -> Result<(), Fail> {
+fn expect_rows(
+    rt: &impl Abort,
+    alloc: Global,
+    widths: Widths,
+    places: &[Place],
+    group: Group,
+) -> Result<(), Fail> {
     let (fault, rows) = group;
     for row in rows {
-        expect_at(rt, alloc, places, *row, fault)?;
+        expect_row(rt, alloc, widths, places, *row, fault)?;
     }
     Ok(())
 }
 
 /// Asserts the fault of each row of each group, at each place.
-fn expect(rt: &impl Abort, alloc: Global, places: &[Place], groups: &[Group]) -> Result<(), Fail> {
+fn expect_at(
+    rt: &impl Abort,
+    alloc: Global,
+    widths: Widths,
+    places: &[Place],
+    groups: &[Group],
+) -> Result<(), Fail> {
     for group in groups {
-        expect_rows(rt, alloc, places, *group)?;
+        expect_rows(rt, alloc, widths, places, *group)?;
     }
     Ok(())
+}
+
+/// Asserts it at all widths.
+fn expect(rt: &impl Abort, alloc: Global, places: &[Place], groups: &[Group]) -> Result<(), Fail> {
+    for widths in WIDTHS {
+        expect_at(rt, alloc, widths, places, groups)?;
+    }
+    Ok(())
+}
+
+/// Asserts it of texts: at all widths, and of narrow ones as those of a dictionary too.
+fn expect_texts(rt: &impl Abort, alloc: Global, groups: &[Group]) -> Result<(), Fail> {
+    expect(rt, alloc, ANYWHERE, groups)?;
+    expect_at(rt, alloc, NARROW, &[Entries], groups)
 }

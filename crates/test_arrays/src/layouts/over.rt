@@ -1,15 +1,16 @@
 //! Faults of lists and of codes, and of the arrays under them.
 
-use super::Held::{self, Bytes, Int32s, Nothing};
+use super::Held::{self, Bytes, Int32s, Nothing, Offsets};
 use super::Inner::{Bits, Indices, Texts};
-use super::{BOTH, Part, SHORT, UNSIGNED, WIDE, Whole, expect_faults};
+use super::{BOTH, LONGER, Part, SHORT, UNSIGNED, Whole, expect_faults};
 use arrays::LayoutFault::{
     self, ChildDiffers, IndexPastDictionary, NotUtf8, OffsetNegative, OffsetPastEnd,
 };
 use std::test::Fail;
+use test_samples::{NARROW, NARROW_IN_WIDE, WIDTHS};
 
 /// The offsets of two texts of one byte each.
-const PAIR: Held = Int32s(&[0, 1, 2]);
+const PAIR: Held = Offsets(&[0, 1, 2]);
 
 const WORDS: Part = (0, Texts, 2, None, &[Nothing, PAIR, Bytes(b"ab")]);
 
@@ -17,7 +18,7 @@ const WORDS: Part = (0, Texts, 2, None, &[Nothing, PAIR, Bytes(b"ab")]);
 const SPOILT: Part = (0, Texts, 2, None, &[Nothing, PAIR, Bytes(b"\xffb")]);
 
 /// The offsets of three texts of one byte each.
-const THREE: Held = Int32s(&[0, 1, 2, 3]);
+const THREE: Held = Offsets(&[0, 1, 2, 3]);
 
 /// The last is no UTF-8.
 const ENDING: Part = (0, Texts, 3, None, &[Nothing, THREE, Bytes(b"ab\xff")]);
@@ -27,12 +28,12 @@ const LISTS: &[(Option<LayoutFault>, &[Whole])] = &[
         None,
         &[
             (
-                (1, Texts, 2, None, &[Nothing, Int32s(&[0, 1, 2])]),
+                (1, Texts, 2, None, &[Nothing, Offsets(&[0, 1, 2])]),
                 &[WORDS],
                 None,
             ),
             (
-                (1, Texts, 2, None, &[Nothing, Int32s(&[0, 1, 1])]),
+                (1, Texts, 2, None, &[Nothing, Offsets(&[0, 1, 1])]),
                 &[WORDS],
                 None,
             ),
@@ -41,7 +42,7 @@ const LISTS: &[(Option<LayoutFault>, &[Whole])] = &[
     (
         Some(OffsetPastEnd),
         &[(
-            (1, Texts, 2, None, &[Nothing, Int32s(&[0, 2, 3])]),
+            (1, Texts, 2, None, &[Nothing, Offsets(&[0, 2, 3])]),
             &[WORDS],
             None,
         )],
@@ -51,12 +52,12 @@ const LISTS: &[(Option<LayoutFault>, &[Whole])] = &[
         Some(OffsetNegative),
         &[
             (
-                (1, Texts, 2, None, &[Nothing, Int32s(&[-1, 1, 1])]),
+                (1, Texts, 2, None, &[Nothing, Offsets(&[-1, 1, 1])]),
                 &[WORDS],
                 None,
             ),
             (
-                (1, Texts, 2, None, &[Nothing, Int32s(&[0, -1, 1])]),
+                (1, Texts, 2, None, &[Nothing, Offsets(&[0, -1, 1])]),
                 &[SPOILT],
                 None,
             ),
@@ -66,7 +67,7 @@ const LISTS: &[(Option<LayoutFault>, &[Whole])] = &[
     (
         Some(NotUtf8 { row: 0 }),
         &[(
-            (1, Texts, 2, None, &[Nothing, Int32s(&[0, 1, 1])]),
+            (1, Texts, 2, None, &[Nothing, Offsets(&[0, 1, 1])]),
             &[SPOILT],
             None,
         )],
@@ -74,7 +75,7 @@ const LISTS: &[(Option<LayoutFault>, &[Whole])] = &[
     (
         Some(NotUtf8 { row: 2 }),
         &[(
-            (1, Texts, 1, None, &[Nothing, Int32s(&[0, 3])]),
+            (1, Texts, 1, None, &[Nothing, Offsets(&[0, 3])]),
             &[ENDING],
             None,
         )],
@@ -144,8 +145,8 @@ const CODES: &[(Option<LayoutFault>, &[Whole])] = &[
 
 #[test]
 fn tells_faults_of_arrays_over_texts(rt: HostRuntime) -> Result<(), Fail> {
-    expect_faults(&rt, rt.alloc(), LISTS)?;
-    expect_faults(&rt, rt.alloc(), CODES)
+    expect_faults(&rt, rt.alloc(), &WIDTHS, LISTS)?;
+    expect_faults(&rt, rt.alloc(), &[NARROW], CODES)
 }
 
 /// No slots.
@@ -186,7 +187,7 @@ const TYPES: &[(Option<LayoutFault>, &[Whole])] = &[
             ),
             (
                 (1, SHORT, 0, None, NO_ITEMS),
-                &[(0, WIDE, 0, None, NO_ITEMS)],
+                &[(0, LONGER, 0, None, NO_ITEMS)],
                 None,
             ),
             (
@@ -235,5 +236,5 @@ const TYPES: &[(Option<LayoutFault>, &[Whole])] = &[
 
 #[test]
 fn tells_children_that_differ(rt: HostRuntime) -> Result<(), Fail> {
-    expect_faults(&rt, rt.alloc(), TYPES)
+    expect_faults(&rt, rt.alloc(), &[NARROW, NARROW_IN_WIDE], TYPES)
 }

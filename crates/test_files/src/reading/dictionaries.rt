@@ -54,6 +54,10 @@ const FIELDS: Cases = &[
         "J4 UnsupportedType at /schema/fields/0/type",
     ),
     (
+        r#""type":{"name":"largeutf8"},"dictionary":{"id":0,"indexType":{"name":"int","bitWidth":8,"isSigned":true}}"#,
+        "J4 UnsupportedType at /schema/fields/0/type",
+    ),
+    (
         r#""dictionary":{"id":0,"indexType":{"name":"int","bitWidth":8,"isSigned":true}}"#,
         "J2 MissingMember at /schema/fields/0/type",
     ),

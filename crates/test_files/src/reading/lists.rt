@@ -1,6 +1,6 @@
 //! Columns of lists: their fields, their offsets and children, and what is told of them.
 
-use super::{Cases, expect_each};
+use super::{Cases, expect_each, expect_each_type};
 use std::alloc::Global;
 use std::test::Fail;
 
@@ -14,11 +14,20 @@ const NUMBERS: &str =
 /// A field of lists of this child's items.
 const LISTS_OF: &str = r#"{"name":"l","nullable":true,"type":{"name":"list"},"children":[CHILD]}"#;
 
-/// The field of numbers within so many lists.
+/// The same where the lists are large.
+const LARGE_LISTS_OF: &str =
+    r#"{"name":"l","nullable":true,"type":{"name":"largelist"},"children":[CHILD]}"#;
+
+/// The field of numbers within so many lists, every other one of them large.
 fn nested(alloc: Global, lists: usize) -> Result<String, Fail> {
     let mut field = String::from_str(alloc, NUMBERS)?;
-    for _ in 0..lists {
-        field = LISTS_OF.replace(alloc, "CHILD", field.as_str())?;
+    for level in 0..lists {
+        let outer = if level % 2 == 0 {
+            LISTS_OF
+        } else {
+            LARGE_LISTS_OF
+        };
+        field = outer.replace(alloc, "CHILD", field.as_str())?;
     }
     Ok(field)
 }
@@ -66,6 +75,22 @@ const FIELDS: Cases = &[
         r#"{"name":"l","nullable":true,"type":{"name":"list"},"children":[{"name":"i","nullable":true,"type":{"name":"utf8"},"dictionary":{"id":0}}]}"#,
         "J4 UnsupportedType at /schema/fields/0/children/0",
     ),
+    (
+        r#"{"name":"l","nullable":true,"type":{"name":"largelist"},"children":[{"name":"i","nullable":true,"type":{"name":"largeutf8"}}]}"#,
+        "read",
+    ),
+    (
+        r#"{"name":"l","nullable":true,"type":{"name":"largelist"}}"#,
+        "J2 MissingMember at /schema/fields/0/children",
+    ),
+    (
+        r#"{"name":"l","nullable":true,"type":{"name":"largelist"},"children":[{"name":"i","nullable":true,"type":{"name":"utf8"},"dictionary":{"id":0}}]}"#,
+        "J4 UnsupportedType at /schema/fields/0/children/0",
+    ),
+    (
+        r#"{"name":"s","nullable":true,"type":{"name":"largeutf8"},"children":[{}]}"#,
+        "J3 WrongMember at /schema/fields/0/children",
+    ),
 ];
 
 #[test]
@@ -73,9 +98,9 @@ fn tells_the_faults_of_a_list_field(rt: HostRuntime) -> Result<(), Fail> {
     expect_each(&rt, rt.alloc(), FILE_OF_FIELD, FIELDS)
 }
 
-/// A file of a column of lists of numbers, and of a batch of two slots with these members.
+/// A file of a column of such lists of numbers, and of a batch of two slots with these members.
 const FILE_OF_LISTS: &str =
-    r#"{"schema":{"fields":[{"name":"l","nullable":true,"type":{"name":"list"},"children":[{"name":"n","nullable":true,"type":{"name":"int","bitWidth":8,"isSigned":true}}]}]},"batches":[{"count":2,"columns":[{"name":"l","count":2,MEMBERS}]}]}"#;
+    r#"{"schema":{"fields":[{"name":"l","nullable":true,"type":{"name":"TYPE"},"children":[{"name":"n","nullable":true,"type":{"name":"int","bitWidth":8,"isSigned":true}}]}]},"batches":[{"count":2,"columns":[{"name":"l","count":2,MEMBERS}]}]}"#;
 
 /// The members of a column of lists.
 const LISTS: Cases = &[
@@ -114,10 +139,6 @@ const LISTS: Cases = &[
     (
         r#""OFFSET":[0,"x",3],"children":[{"count":3,"DATA":[1,2,3]}]"#,
         "J6 BadOffset at /batches/0/columns/0/OFFSET/1",
-    ),
-    (
-        r#""VALIDITY":[0,0],"OFFSET":[0,0,2147483648],"children":[{"count":3,"DATA":[1,2,3]}]"#,
-        "J6 BadOffset at /batches/0/columns/0/OFFSET/2",
     ),
     (
         r#""OFFSET":[-1,0,0],"children":[{"count":3,"DATA":[1,2,3]}]"#,
@@ -173,27 +194,76 @@ const LISTS: Cases = &[
     ),
 ];
 
+/// Offsets past 32 bits, of lists that aren't large.
+const PAST_32_BITS: Cases = &[
+    (
+        r#""VALIDITY":[0,0],"OFFSET":[0,0,2147483648],"children":[{"count":3,"DATA":[1,2,3]}]"#,
+        "J6 BadOffset at /batches/0/columns/0/OFFSET/2",
+    ),
+    (
+        r#""OFFSET":["-2147483649",0,0],"children":[{"count":3,"DATA":[1,2,3]}]"#,
+        "J6 BadOffset at /batches/0/columns/0/OFFSET/0",
+    ),
+];
+
+/// Offsets past 32 bits and past 64, of large lists.
+const PAST_64_BITS: Cases = &[
+    (
+        r#""OFFSET":[0,"9223372036854775808",3],"children":[{"count":3,"DATA":[1,2,3]}]"#,
+        "J6 BadOffset at /batches/0/columns/0/OFFSET/1",
+    ),
+    (
+        r#""OFFSET":[0,0,9223372036854775808],"children":[{"count":3,"DATA":[1,2,3]}]"#,
+        "J6 BadOffset at /batches/0/columns/0/OFFSET/2",
+    ),
+    (
+        r#""OFFSET":[0,1,4294967299],"children":[{"count":3,"DATA":[1,2,3]}]"#,
+        "J10 Layout V6 OffsetPastEnd at /batches/0/columns/0",
+    ),
+    (
+        r#""OFFSET":["0","9223372036854775807","9223372036854775807"],"children":[{"count":3,"DATA":[1,2,3]}]"#,
+        "J10 Layout V6 OffsetPastEnd at /batches/0/columns/0",
+    ),
+    (
+        r#""OFFSET":[0,4294967297,3],"children":[{"count":3,"DATA":[1,2,3]}]"#,
+        "J10 Layout V5 OffsetDecreases row=1 at /batches/0/columns/0",
+    ),
+    (
+        r#""OFFSET":["-9223372036854775808",0,0],"children":[{"count":3,"DATA":[1,2,3]}]"#,
+        "J10 Layout V4 OffsetNegative at /batches/0/columns/0",
+    ),
+    (
+        r#""OFFSET":[-4294967296,0,0],"children":[{"count":3,"DATA":[1,2,3]}]"#,
+        "J10 Layout V4 OffsetNegative at /batches/0/columns/0",
+    ),
+];
+
 #[test]
 fn reads_offsets_and_children(rt: HostRuntime) -> Result<(), Fail> {
-    expect_each(&rt, rt.alloc(), FILE_OF_LISTS, LISTS)
+    let types = [
+        ("list", LISTS),
+        ("list", PAST_32_BITS),
+        ("largelist", LISTS),
+        ("largelist", PAST_64_BITS),
+    ];
+    expect_each_type(&rt, rt.alloc(), FILE_OF_LISTS, &types)
 }
 
-/// A file of a column of lists, and of a batch without rows: its offsets are these.
+/// A file of a column of such lists, and of a batch without rows: its offsets are these.
 const FILE_OF_NO_LISTS: &str =
-    r#"{"schema":{"fields":[{"name":"l","nullable":true,"type":{"name":"list"},"children":[{"name":"n","nullable":true,"type":{"name":"bool"}}]}]},"batches":[{"count":0,"columns":[{"name":"l","count":0,"VALIDITY":[],"OFFSET":MEMBERS,"children":[{"name":"n","count":1,"DATA":[true]}]}]}]}"#;
+    r#"{"schema":{"fields":[{"name":"l","nullable":true,"type":{"name":"TYPE"},"children":[{"name":"n","nullable":true,"type":{"name":"bool"}}]}]},"batches":[{"count":0,"columns":[{"name":"l","count":0,"VALIDITY":[],"OFFSET":MEMBERS,"children":[{"name":"n","count":1,"DATA":[true]}]}]}]}"#;
+
+/// The offsets of a column without rows.
+const NO_LISTS: Cases = &[
+    ("[]", "read"),
+    ("[0]", "read"),
+    ("[1]", "read"),
+    ("[2]", "J10 Layout V6 OffsetPastEnd at /batches/0/columns/0"),
+    ("[0,0]", "J7 CountDiffers at /batches/0/columns/0/OFFSET"),
+];
 
 #[test]
 fn reads_no_lists(rt: HostRuntime) -> Result<(), Fail> {
-    expect_each(
-        &rt,
-        rt.alloc(),
-        FILE_OF_NO_LISTS,
-        &[
-            ("[]", "read"),
-            ("[0]", "read"),
-            ("[1]", "read"),
-            ("[2]", "J10 Layout V6 OffsetPastEnd at /batches/0/columns/0"),
-            ("[0,0]", "J7 CountDiffers at /batches/0/columns/0/OFFSET"),
-        ],
-    )
+    let types = [("list", NO_LISTS), ("largelist", NO_LISTS)];
+    expect_each_type(&rt, rt.alloc(), FILE_OF_NO_LISTS, &types)
 }

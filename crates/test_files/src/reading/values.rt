@@ -1,7 +1,7 @@
 //! The spellings of numbers, the values that are read, and the places and texts of faults.
 
 use super::{Cases, FILE_OF_COLUMN, expect_each, expect_each_type};
-use arrays::{Field, File, IntType, LayoutFault, ViewType};
+use arrays::{Field, File, IntType, LayoutFault, OffsetWidth, ViewType};
 use arrow_json::{
     JsonFault, JsonFaultKind, Member, Path, Step, fault_text, read_file, read_file_from_vec,
 };
@@ -129,7 +129,13 @@ const LISTS: Cases = &[(
 
 #[test]
 fn reads_flags_and_strings(rt: HostRuntime) -> Result<(), Fail> {
-    let types = [("bool", TRUTHS), ("utf8", TEXTS), ("list", LISTS)];
+    let types = [
+        ("bool", TRUTHS),
+        ("utf8", TEXTS),
+        ("largeutf8", TEXTS),
+        ("list", LISTS),
+        ("largelist", LISTS),
+    ];
     expect_each_type(&rt, rt.alloc(), FILE_OF_TYPE, &types)
 }
 
@@ -149,8 +155,12 @@ const SHARED: &str =
 const LISTS_IN_LISTS: &str =
     r#"{"schema":{"fields":[{"name":"l","nullable":true,"type":{"name":"list"},"children":[{"name":"m","nullable":true,"type":{"name":"list"},"children":[{"name":"n","nullable":true,"type":{"name":"int","bitWidth":8,"isSigned":true}}]}]}]},"batches":[{"count":3,"columns":[{"name":"l","count":3,"VALIDITY":[1,0,1],"OFFSET":[1,3,4,4],"children":[{"name":"m","count":4,"VALIDITY":[1,1,0,1],"OFFSET":[0,2,3,3,5],"children":[{"name":"n","count":5,"DATA":[1,2,3,4,5]}]}]}]}]}"#;
 
+/// A file of texts and of lists of numbers, both with offsets of 64 bits: `[1, 2]` and null.
+const LARGE: &str =
+    r#"{"schema":{"fields":[{"name":"s","nullable":false,"type":{"name":"largeutf8"},"children":[]},{"name":"l","nullable":true,"type":{"name":"largelist"},"children":[{"name":"item","nullable":true,"type":{"name":"int","bitWidth":8,"isSigned":true}}]}]},"batches":[{"count":2,"columns":[{"name":"s","count":2,"OFFSET":["0","2","2"],"DATA":["\u00e9",""]},{"name":"l","count":2,"VALIDITY":[1,0],"OFFSET":[0,"2",2],"children":[{"name":"item","count":2,"DATA":[1,2]}]}]}]}"#;
+
 /// Files, the place of a batch, the place of a column in it, and what its slots hold.
-const VALUES: [(&str, usize, usize, Shown); 9] = [
+const VALUES: [(&str, usize, usize, Shown); 11] = [
     (
         TRUTHS_AND_TEXTS,
         0,
@@ -203,6 +213,13 @@ const VALUES: [(&str, usize, usize, Shown); 9] = [
         0,
         Shown::ListsOfLists(&[Some(&[Some(&[Some(3)]), None]), None, Some(&[])]),
     ),
+    (LARGE, 0, 0, Shown::Texts(&[Some("é"), Some("")])),
+    (
+        LARGE,
+        0,
+        1,
+        Shown::Lists(&[Some(&[Some(1), Some(2)]), None]),
+    ),
 ];
 
 /// Whether this is what the slots of a column of a batch hold.
@@ -252,6 +269,39 @@ fn reads_the_fields(rt: HostRuntime) -> Result<(), Fail> {
         Ok(_) => panic!(&rt; "a part of a file was read"),
         Err(fault) => assert!(&rt; fault.kind == JsonFaultKind::NotJson),
     }
+    Ok(())
+}
+
+/// Whether a column of the first batch is of this type.
+fn is_column(file: &File, column: usize, ty: ViewType<'_>) -> bool {
+    match file.batches().get(0) {
+        Some(batch) => match batch.columns().get(column) {
+            Some(array) => array.view().ty().is_same(ty),
+            None => false,
+        },
+        None => false,
+    }
+}
+
+#[test]
+fn reads_large_texts_and_lists(rt: HostRuntime) -> Result<(), Fail> {
+    let file = read_file(rt.alloc(), LARGE.as_bytes())?;
+    let is_read = match file.schema().fields() {
+        [texts, lists] => {
+            let ty = ViewType::of(&lists.ty);
+            let is_item = match ty {
+                ViewType::List(OffsetWidth::Wide, item) => is_field(item, "item", true, INT8),
+                _ => false,
+            };
+            let wide = ViewType::Text(OffsetWidth::Wide);
+            is_item
+                && ViewType::of(&texts.ty).is_same(wide)
+                && is_column(&file, 0, wide)
+                && is_column(&file, 1, ty)
+        }
+        _ => false,
+    };
+    assert!(rt; is_read);
     Ok(())
 }
 

@@ -30,6 +30,14 @@ const LISTS_OUT: &str =
     r#"{"batches":[{"columns":[{"DATA":[1,1,0,0],"VALIDITY":[1,1,1,1],"count":4,"name":"b"},{"OFFSET":[0,1,1,1,3],"VALIDITY":[1,0,1,1],"children":[{"DATA":["b","\"d\"",""],"OFFSET":[0,1,4,4],"VALIDITY":[1,1,0],"count":3,"name":"item"}],"count":4,"name":"l"}],"count":4}],"schema":{"fields":[{"children":[],"name":"b","nullable":false,"type":{"name":"bool"}},{"children":[{"children":[],"name":"item","nullable":true,"type":{"name":"utf8"}}],"name":"l","nullable":true,"type":{"name":"list"}}]}}
 "#;
 
+/// Lists with offsets of 64 bits in both spellings, and texts with such.
+const LARGE: &str =
+    r#"{"schema":{"fields":[{"name":"l","nullable":true,"type":{"name":"largelist"},"children":[{"name":"item","nullable":true,"type":{"name":"int","bitWidth":8,"isSigned":true},"children":[]}]},{"name":"s","nullable":true,"type":{"name":"largeutf8"},"children":[]}]},"batches":[{"count":2,"columns":[{"name":"l","count":2,"VALIDITY":[1,0],"OFFSET":[0,"2",2],"children":[{"name":"item","count":2,"VALIDITY":[1,1],"DATA":[1,2]}]},{"name":"s","count":2,"VALIDITY":[0,1],"DATA":["x","fig"]}]}]}"#;
+
+const LARGE_OUT: &str =
+    r#"{"batches":[{"columns":[{"OFFSET":["0","2","2"],"VALIDITY":[1,0],"children":[{"DATA":[1,2],"VALIDITY":[1,1],"count":2,"name":"item"}],"count":2,"name":"l"},{"DATA":["","fig"],"OFFSET":["0","0","3"],"VALIDITY":[0,1],"count":2,"name":"s"}],"count":2}],"schema":{"fields":[{"children":[{"children":[],"name":"item","nullable":true,"type":{"bitWidth":8,"isSigned":true,"name":"int"}}],"name":"l","nullable":true,"type":{"name":"largelist"}},{"children":[],"name":"s","nullable":true,"type":{"name":"largeutf8"}}]}}
+"#;
+
 /// A dictionary with a text that comes twice and a null; a null by its code, and one by its entry.
 const LETTERS: &str =
     r#"{"schema":{"fields":[{"name":"s","nullable":true,"type":{"name":"utf8"},"children":[],"dictionary":{"id":7,"indexType":{"name":"int","bitWidth":8,"isSigned":true},"isOrdered":false}}]},"dictionaries":[{"id":7,"data":[{"count":4,"columns":[{"name":"x","count":4,"VALIDITY":[1,1,1,0],"OFFSET":[0,1,2,3,3],"DATA":["a","b","a",""]}]}]}],"batches":[{"count":5,"columns":[{"name":"s","count":5,"VALIDITY":[1,1,1,0,1],"DATA":[2,0,3,9,1]}]}]}"#;
@@ -62,10 +70,11 @@ const BOTH_OUT: &str =
 "#;
 
 /// One file or two, and what is exported.
-const EXPORTED: [(&str, Option<&str>, &str); 7] = [
+const EXPORTED: [(&str, Option<&str>, &str); 8] = [
     (NUMBERS, None, NUMBERS_OUT),
     (TEXTS, None, TEXTS_OUT),
     (LISTS, None, LISTS_OUT),
+    (LARGE, None, LARGE_OUT),
     (LETTERS, None, LETTERS_OUT),
     (EMPTY, None, EMPTY_OUT),
     (BARE, None, BARE_OUT),

@@ -19,6 +19,10 @@ const PAIRS: &str =
 const NO_ROWS: &str =
     r#"{"schema":{"fields":[{"name":"k","nullable":true,"type":{"name":"utf8"},"children":[]},{"name":"v","nullable":true,"type":{"name":"int","bitWidth":32,"isSigned":true},"children":[]}]},"batches":[]}"#;
 
+/// Texts with offsets of 64 bits beside such of 32: "a" and "a", null and "b", "b" and "a".
+const LARGE: &str =
+    r#"{"schema":{"fields":[{"name":"k","nullable":true,"type":{"name":"largeutf8"},"children":[]},{"name":"u","nullable":true,"type":{"name":"utf8"},"children":[]}]},"batches":[{"count":3,"columns":[{"name":"k","count":3,"VALIDITY":[1,0,1],"DATA":["a","x","b"]},{"name":"u","count":3,"DATA":["a","b","a"]}]}]}"#;
+
 /// Asserts what a query over a file tells.
 fn expect_answer(
     rt: &(impl Abort + Wait + Threads + Sync),
@@ -85,7 +89,28 @@ const OF_PAIRS: [(&str, &str); 13] = [
 ];
 
 /// Another file, a query, and what it tells.
-const OF_OTHERS: [(&str, &str, &str); 3] = [
+const OF_OTHERS: [(&str, &str, &str); 7] = [
+    // Texts of both widths compare.
+    (
+        LARGE,
+        r#"{"filter":{"op":"eq","args":[{"column":"k"},{"column":"u"}]},"by":["k"],"aggs":[{"agg":"rows"},{"agg":"least","column":"k"},{"agg":"greatest","column":"u"}]}"#,
+        "\"a\" 1 \"a\" \"a\"\n",
+    ),
+    (
+        LARGE,
+        r#"{"filter":{"op":"ge","args":[{"column":"k"},{"text":"b"}]},"aggs":[{"agg":"rows"}]}"#,
+        "1\n",
+    ),
+    (
+        LARGE,
+        r#"{"by":["k"],"aggs":[{"agg":"rows"}]}"#,
+        "\"a\" 1\nnull 1\n\"b\" 1\n",
+    ),
+    (
+        LARGE,
+        r#"{"filter":{"op":"is_null","args":[{"column":"k"}]},"aggs":[{"agg":"rows"}]}"#,
+        "1\n",
+    ),
     (
         NUMBERS,
         r#"{"aggs":[{"agg":"count","column":"n"},{"agg":"least","column":"n"},{"agg":"greatest","column":"n"}]}"#,

@@ -19,7 +19,7 @@ const OUTPUT: &str =
 const TEMPLATE: &str = r#"{"schema":{"fields":[FIELD]},"batches":[BATCHES]}"#;
 
 /// Fields, batches, and what is printed of their file.
-const PRINTED: [(&str, &str, &str); 11] = [
+const PRINTED: [(&str, &str, &str); 14] = [
     // No batch.
     (
         r#"{"name":"n","nullable":true,"type":{"name":"int","bitWidth":8,"isSigned":false},"children":[]}"#,
@@ -78,6 +78,24 @@ const PRINTED: [(&str, &str, &str); 11] = [
         r#"{"name":"l","nullable":true,"type":{"name":"list"},"children":[{"name":"item","nullable":true,"type":{"name":"list"},"children":[{"name":"item","nullable":true,"type":{"name":"utf8"},"children":[]}]}]}"#,
         r#"{"count":3,"columns":[{"name":"l","count":3,"VALIDITY":[1,0,1],"OFFSET":[0,2,2,2],"children":[{"name":"item","count":2,"VALIDITY":[1,1],"OFFSET":[0,1,2],"children":[{"name":"item","count":2,"VALIDITY":[1,1],"OFFSET":[0,1,2],"DATA":["a","b"]}]}]}]}"#,
         "rows 3\nworker 0 calls 1 rows 3\n\"l\" list<list<utf8>> rows=3 nulls=1 sum=- least=- greatest=-\n",
+    ),
+    // Texts with offsets of 64 bits, which have no dictionary.
+    (
+        r#"{"name":"s","nullable":true,"type":{"name":"largeutf8"},"children":[]}"#,
+        r#"{"count":3,"columns":[{"name":"s","count":3,"VALIDITY":[1,0,1],"DATA":["pear","x","fig"]}]},{"count":2,"columns":[{"name":"s","count":2,"DATA":["pear","quince"]}]}"#,
+        "rows 5\nworker 0 calls 2 rows 5\n\"s\" largeutf8 rows=5 nulls=1 sum=- least=\"fig\" greatest=\"quince\"\n",
+    ),
+    // Lists with such offsets, in both spellings.
+    (
+        r#"{"name":"l","nullable":true,"type":{"name":"largelist"},"children":[{"name":"item","nullable":true,"type":{"name":"int","bitWidth":8,"isSigned":true},"children":[]}]}"#,
+        r#"{"count":2,"columns":[{"name":"l","count":2,"VALIDITY":[1,0],"OFFSET":[0,"2",2],"children":[{"name":"item","count":2,"VALIDITY":[1,1],"DATA":[1,2]}]}]}"#,
+        "rows 2\nworker 0 calls 1 rows 2\n\"l\" largelist<int8> rows=2 nulls=1 sum=- least=- greatest=-\n",
+    ),
+    // Lists of both kinds in one another.
+    (
+        r#"{"name":"l","nullable":true,"type":{"name":"list"},"children":[{"name":"item","nullable":true,"type":{"name":"largelist"},"children":[{"name":"item","nullable":true,"type":{"name":"largeutf8"},"children":[]}]}]}"#,
+        r#"{"count":2,"columns":[{"name":"l","count":2,"OFFSET":[0,2,2],"children":[{"name":"item","count":2,"OFFSET":["0",1,"2"],"children":[{"name":"item","count":2,"DATA":["a","b"]}]}]}]}"#,
+        "rows 2\nworker 0 calls 1 rows 2\n\"l\" list<largelist<largeutf8>> rows=2 nulls=0 sum=- least=- greatest=-\n",
     ),
     // Truth values and texts that are told as JSON spells them.
     (

@@ -6,4 +6,4 @@ use Rattle.arrow_json.proofs.list.offset_bytes.Given as goal
 
 -- the offsets so far are read
 abbrev pub invariant-loop-index : goal.invariant-loop-index
-invariant-loop-index l = (numbers : List ℤ) × ReadsFirst Spells (items_view l.offsets) l.index numbers × (l.bytes.items ≡ offset_bytes numbers)
+invariant-loop-index l = (numbers : List ℤ) × ReadsFirst (Spells l.fn.width) (items_view l.offsets) l.index numbers × (l.bytes.items ≡ offset_bytes l.fn.width numbers)

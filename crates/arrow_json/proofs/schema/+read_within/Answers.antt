@@ -1,10 +1,10 @@
-use Rattle.std.proofs.Common.{◌≡◌, Some, codes, rules, arith}
+use Rattle.std.proofs.Common.{rules, arith}
 use Rattle.serde_json.specs.View.{view}
-use Rattle.arrow_json.specs.JsonSchema.{named_type}
-use Rattle.arrow_json.proofs.JsonFaults.{field_child}
+use Rattle.arrow_json.specs.JsonSchema.{NamesLists}
+use Rattle.arrow_json.proofs.JsonFaults.{field_child, names_lists}
 use Rattle.arrow_json.proofs.schema.+read_within.Goals as goal
 
 pub returns-in-Err-clause-err : goal.returns-in-Err-clause-err
 returns-in-Err-clause-err t c =
-    let list : named_type (view c.args.field.now) ≡ Some (codes "list") = search rules in
-    field_child c.args.within _ _ _ _ _ _ c.in-Err.ensures.err (omega arith) list c.in_ok-child.ensures.child c.under-item.ensures c.under.ensures
+    let lists : NamesLists (view c.args.field.now) = search (rules, names_lists) in
+    field_child c.args.within _ _ _ _ _ _ c.in-Err.ensures.err (omega arith) lists c.in_ok-child.ensures.child c.under-item.ensures c.under.ensures

@@ -1,6 +1,6 @@
-use Rattle.std.proofs.Common.{◌≡◌, List, arith}
+use Rattle.std.proofs.Common.{◌≡◌, List, Some, arith}
 use Rattle.std.proofs.lemmas.List.Concat.{flat_map-append}
-use Rattle.arrays.specs.Kind as kind
+use Rattle.arrays.specs.Kind.{item_kind}
 use Rattle.arrays.specs.Lengths.{inner_items, items_in, joined_items}
 use Rattle.arrays.specs.Seen.{Seen}
 use Rattle.arrow_text.proofs.Steps.{All-read, step}
@@ -14,5 +14,5 @@ loop-column-preserved c =
       items =
           step rest rest c.args.columns.now c.loop-column.column-index column _ (joined_items c.loop-column.lists.items) _ _
           (λ cs. flat_map-append items_in column.items (joined_items cs)) (omega arith) c.column-item.is c.in_ok-push_lists.ensures.items c.loop-column.invariant.items;
-      kinds = λ k all. c.in_ok-push_lists.ensures.kinds k (All-read (λ s. s.kind ≡ kind.list k) c.args.columns.now _ column all (omega arith) c.column-item.is) (c.loop-column.invariant.kinds k all);
+      kinds = λ k all. c.in_ok-push_lists.ensures.kinds k (All-read (λ s. item_kind s.kind ≡ Some k) c.args.columns.now _ column all (omega arith) c.column-item.is) (c.loop-column.invariant.kinds k all);
     }

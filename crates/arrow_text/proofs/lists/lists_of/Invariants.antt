@@ -1,6 +1,6 @@
-use Rattle.std.proofs.Common.{◌≡◌, ◌++◌, drop}
-use Rattle.arrays.specs.Kind as kind
-use Rattle.arrays.specs.Kind.{Kind}
+use Rattle.std.proofs.Common.{◌≡◌, ◌++◌, Some, drop}
+use Rattle.std.specs.List.{All}
+use Rattle.arrays.specs.Kind.{Kind, item_kind}
 use Rattle.arrays.specs.Lengths.{inner_items, joined_items}
 use Rattle.arrow_text.specs.Slots.{AreOf}
 use Rattle.arrow_text.proofs.lists.lists_of.Given as goal
@@ -9,5 +9,5 @@ use Rattle.arrow_text.proofs.lists.lists_of.Given as goal
 abbrev pub invariant-loop-column : goal.invariant-loop-column
 invariant-loop-column l = record {
   items : joined_items l.lists.items ++ inner_items (joined_items (drop l.column-index l.columns)) ≡ inner_items (joined_items l.columns);
-  kinds : (k : Kind) → AreOf (kind.list k) l.columns → AreOf k l.lists.items;
+  kinds : (k : Kind) → All (λ c. item_kind c.kind ≡ Some k) l.columns → AreOf k l.lists.items;
 }

@@ -1,6 +1,5 @@
-use Rattle.std.proofs.Common.{◌≡◌, ◌++◌, drop}
-use Rattle.arrays.specs.Kind as kind
-use Rattle.arrays.specs.Kind.{Kind}
+use Rattle.std.proofs.Common.{◌≡◌, ◌++◌, Some, drop}
+use Rattle.arrays.specs.Kind.{Kind, item_kind}
 use Rattle.arrays.specs.Lengths.{inner_items, joined_items}
 use Rattle.arrow_text.specs.Slots.{AreOf}
 use Rattle.arrow_text.proofs.lists.push_lists.Given as goal
@@ -9,5 +8,5 @@ use Rattle.arrow_text.proofs.lists.push_lists.Given as goal
 abbrev pub invariant-loop-i : goal.invariant-loop-i
 invariant-loop-i l = record {
   items : joined_items l.lists.items ++ inner_items (drop l.i l.column.items) ≡ joined_items l.fn.lists.items ++ inner_items l.column.items;
-  kinds : (k : Kind) → l.column.kind ≡ kind.list k → AreOf k l.fn.lists.items → AreOf k l.lists.items;
+  kinds : (k : Kind) → item_kind l.column.kind ≡ Some k → AreOf k l.fn.lists.items → AreOf k l.lists.items;
 }

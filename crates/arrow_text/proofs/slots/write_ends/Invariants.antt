@@ -7,4 +7,4 @@ use Rattle.arrow_text.proofs.slots.write_ends.Given as goal
 
 -- with the columns that are left all is written
 abbrev pub invariant-loop-column : goal.invariant-loop-column
-invariant-loop-column l = l.out ++ items_tokens (items_outline (offsets_data l.end (joined_items (drop l.column-index l.columns)))) ≡ l.fn.out ++ items_tokens (items_outline (offsets_data 0 (joined_items l.columns)))
+invariant-loop-column l = l.out ++ items_tokens (items_outline (offsets_data l.width l.end (joined_items (drop l.column-index l.columns)))) ≡ l.fn.out ++ items_tokens (items_outline (offsets_data l.width 0 (joined_items l.columns)))

@@ -6,6 +6,6 @@ use Rattle.arrow_text.proofs.slots.write_starts.Given as goal
 -- with the slots that are left all is written
 abbrev pub invariant-loop-i : goal.invariant-loop-i
 invariant-loop-i l = record {
-  written : l.out ++ starts_tokens l.end (drop l.i l.view.items) ≡ l.fn.out ++ starts_tokens l.start l.view.items;
+  written : l.out ++ starts_tokens l.width l.end (drop l.i l.view.items) ≡ l.fn.out ++ starts_tokens l.width l.start l.view.items;
   end : l.end + sum_by item_length (drop l.i l.view.items) ≡ l.start + sum_by item_length l.view.items;
 }

@@ -14,14 +14,14 @@ returns-in_err-bytes-clause-none c =
     (ap (λ n. is_past (c.loop-i.bytes + n)) (zero-add (length bytes)) ∙ c.in_err-bytes.ensures.none))
 
 pub loop-i-preserved : goal.loop-i-preserved
-loop-i-preserved c = elim c.match-utf8_at.branch [
+loop-i-preserved c = elim c.match-text_as.branch [
   | in-Some+in_ok-bytes w ↦ (
-    size-less kind.utf8 0 c.args.view.now.items c.loop-i.i (text w.in-Some.text.now) c.loop-i.bytes c.match-utf8_at.bytes _ w.in-Some.ensures c.loop-i.invariant.0
+    size-less kind.utf8 0 c.args.view.now.items c.loop-i.i (text w.in-Some.text.now) c.loop-i.bytes c.match-text_as.bytes _ w.in-Some.ensures c.loop-i.invariant.0
         (omega (arith, w.bytes-is, w.in_ok-bytes.ensures.some.0)),
     omega (arith, w.bytes-is, w.in_ok-bytes.ensures.some.1),
   )
   | in_default w ↦ (
-    size-less kind.utf8 0 c.args.view.now.items c.loop-i.i null c.loop-i.bytes c.match-utf8_at.bytes _ w.in_default.ensures c.loop-i.invariant.0 (omega (arith, w.bytes-is)),
+    size-less kind.utf8 0 c.args.view.now.items c.loop-i.i null c.loop-i.bytes c.match-text_as.bytes _ w.in_default.ensures c.loop-i.invariant.0 (omega (arith, w.bytes-is)),
     omega (arith, w.bytes-is, c.loop-i.invariant.1),
   )
 ]

@@ -1,7 +1,19 @@
-use Rattle.kernels.proofs.ComparisonLemmas.{items-compared}
+use Rattle.std.proofs.Common.{◌∙◌, sym}
+use Rattle.kernels.proofs.ComparisonLemmas.{items-compared, texts-compared}
 use Rattle.kernels.proofs.comparison.compare_texts.Goals as goal
+
+pub invariant_of-pairs : goal.invariant_of-pairs
+invariant_of-pairs c = record { lengths = c.texts.ensures.slots ∙ c.requires.lengths ∙ sym c.texts-in-Text-Text.ensures.slots }
+
+pub returns-in-Text-Text : goal.returns-in-Text-Text
+returns-in-Text-Text c =
+    let x = c.texts.result in
+    let y = c.texts-in-Text-Text.result in
+    let same = texts-compared c.args.op c.args.a.now c.args.b.now c.requires.lengths x.offsets x.bytes.now y.offsets y.bytes.now
+    c.texts.ensures.texts c.texts-in-Text-Text.ensures.texts c.of.result.a c.of.result.b x.slots c.of.ensures.a c.of.ensures.b c.texts.ensures.slots in
+    rw (← same) c.decided.ensures
 
 pub returns-in_default : goal.returns-in_default
 returns-in_default c =
     let same = items-compared c.args.op c.args.a.now c.args.b.now c.requires.lengths in
-    rw (← same) c.decided.ensures
+    rw (← same) c.decided-in_default.ensures

@@ -11,8 +11,8 @@ returns-in-Int c = λ h. holds_valid (λ j. int (number_at c.in-Int.ty c.numbers
 pub returns-in-Bool : goal.returns-in-Bool
 returns-in-Bool c = λ h. holds_valid (λ j. boolean (slice_index_or c.bool_bits.result j false)) c.args.view.now c.bool_bits.ensures.values (λ j. refl)
 
-pub returns-in-Utf8 : goal.returns-in-Utf8
-returns-in-Utf8 c = λ h. holds_valid (λ j. text (of_slot c.texts.result.offsets c.texts.result.bytes.now j)) c.args.view.now c.texts.ensures.texts.texts (λ j. refl)
+pub returns-in-Text : goal.returns-in-Text
+returns-in-Text c = λ h. holds_valid (λ j. text (of_slot c.texts.result.offsets c.texts.result.bytes.now j)) c.args.view.now c.texts.ensures.texts.texts (λ j. refl)
 
 pub returns-in-List : goal.returns-in-List
 returns-in-List c = λ h.

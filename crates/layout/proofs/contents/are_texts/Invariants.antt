@@ -5,4 +5,4 @@ use Rattle.layout.proofs.contents.are_texts.Given as goal
 
 -- the slots before begin where a character does
 abbrev pub invariant-loop-edge : goal.invariant-loop-edge
-invariant-loop-edge l = (k : ℕ) → k < l.edge → IsCharBoundary l.bytes (start_at l.offsets k)
+invariant-loop-edge l = (k : ℕ) → k < l.edge → IsCharBoundary l.bytes (start_at l.width l.offsets k)

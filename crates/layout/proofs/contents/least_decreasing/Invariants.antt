@@ -1,8 +1,8 @@
 use Rattle.std.proofs.Common.{◌≡◌, ℕ, ◌+◌, ◌<◌, false}
 use Rattle.std.specs.Prelude.{int_lt}
-use Rattle.types.specs.Kind.{int32}
+use Rattle.types.specs.OffsetWidth.{offset_type}
 use Rattle.types.specs.Number.{number_at}
 use Rattle.layout.proofs.contents.least_decreasing.Given as goal
 
 abbrev pub invariant-loop-j : goal.invariant-loop-j
-invariant-loop-j l = (k : ℕ) → k < l.j → int_lt (number_at int32 l.offsets (k + 1)) (number_at int32 l.offsets k) ≡ false
+invariant-loop-j l = (k : ℕ) → k < l.j → int_lt (number_at (offset_type l.width) l.offsets (k + 1)) (number_at (offset_type l.width) l.offsets k) ≡ false

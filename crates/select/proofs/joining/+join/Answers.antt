@@ -1,4 +1,5 @@
 use Rattle.std.proofs.Common.{◌∙◌, ◌<◌, ap, length, subst, sym}
+use Rattle.arrays.specs.Column.{SizedColumn}
 use Rattle.arrays.specs.Kind as kind
 use Rattle.arrays.specs.Kind.{depth, kind_of, same_kind}
 use Rattle.arrays.specs.Lengths.{joined_items, total}
@@ -19,7 +20,7 @@ returns-in_err-child-in-List-clause-err n c =
     full_of_all c.from_residual-in_err-child-in-List.result c.in_err-child-in-List.field-0.0 _ _ c.from_residual-in_err-child-in-List.ensures.1 c.in_err-child-in-List.ensures.err
     (λ big.
     ap (λ t. is_content_too_big (view_kind t) c.args.views.now) c.in-List.is
-    ∙ child-too_big k (view_kind c.of.result) c.args.views.now c.deref-in-List-2.result.now c.in_ok-children-in-List.children.items c.in_ok-children-in-List.ensures.ok c.requires.some parts c.of.ensures big)
+    ∙ child-too_big c.in-List.width k (view_kind c.of.result) c.args.views.now c.deref-in-List-2.result.now c.in_ok-children-in-List.children.items c.in_ok-children-in-List.ensures.ok c.requires.some parts c.of.ensures big)
 
 pub finish-requires-clause-total : goal.finish-requires-clause-total
 finish-requires-clause-total n c =
@@ -27,7 +28,7 @@ finish-requires-clause-total n c =
     let views = c.args.views.now in
     let parts = c.deref-in-List-2.ensures.value ∙ c.in_ok-parts-in-List.ensures ∙ c.deref.ensures.value in
     let is = child-shown k (view_kind c.of.result) views c.deref-in-List-2.result.now c.in_ok-children-in-List.children.items c.in_ok-child-in-List.child c.in_ok-children-in-List.ensures.ok c.requires.some parts c.of.ensures c.in_ok-child-in-List.ensures.ok in
-    ap total (c.lengths-in-List.view_is ∙ c.in_ok-lengths-in-List.ensures.ok)
+    ap total (ap (λ (q : SizedColumn). q.lengths) c.lengths-in-List.view_is ∙ c.in_ok-lengths-in-List.ensures.ok)
     ∙ total-lengths (joined_items views)
     ∙ ap (λ (q : Seen). length q.items) (sym is)
 
@@ -67,5 +68,6 @@ returns-in_ok-finish-in-List-clause-ok n c =
     let parts = c.deref-in-List-2.ensures.value ∙ c.in_ok-parts-in-List.ensures ∙ c.deref.ensures.value in
     let is = child-shown k (view_kind c.of.result) views c.deref-in-List-2.result.now children c.in_ok-child-in-List.child are c.requires.some parts c.of.ensures c.in_ok-child-in-List.ensures.ok in
     c.in_ok-finish-in-List.ensures
-    ∙ lists-joined k views children c.lengths-in-List.inside.slots c.in_ok-child-in-List.child are (c.lengths-in-List.view_is ∙ c.in_ok-lengths-in-List.ensures.ok) is
+    ∙ lists-joined c.in-List.width c.lengths-in-List.inside.slots.width k views children c.lengths-in-List.inside.slots.lengths c.in_ok-child-in-List.child are
+    (ap (λ (q : SizedColumn). q.width) c.lengths-in-List.view_is ∙ c.in_ok-lengths-in-List.ensures.width) (ap (λ (q : SizedColumn). q.lengths) c.lengths-in-List.view_is ∙ c.in_ok-lengths-in-List.ensures.ok) is
     ∙ ap (λ t. joined (view_kind t) views) (sym c.in-List.is)

@@ -3,7 +3,7 @@
 use super::Place::{InLists, InNulls, Top};
 use super::forms::Form::{Alone, Lists, Over, Truths, Words};
 use super::{Group, INT8, INT64, expect};
-use crate::layouts::Held::{Bytes, Int32s, Nothing};
+use crate::layouts::Held::{Bytes, Int32s, Nothing, Offsets};
 use crate::layouts::Inner::{Indices, Texts};
 use crate::layouts::Part;
 use arrays::LayoutFault::{ChildDiffers, OffsetPastEnd, TooDeep};
@@ -13,7 +13,7 @@ const NUMBER: Part = (0, INT64, 1, None, &[Nothing, Bytes(&[7; 8])]);
 
 const CODE: Part = (0, Indices, 1, None, &[Nothing, Int32s(&[0])]);
 
-const TEXT: Part = (0, Texts, 1, None, &[Nothing, Int32s(&[0, 1]), Bytes(b"a")]);
+const TEXT: Part = (0, Texts, 1, None, &[Nothing, Offsets(&[0, 1]), Bytes(b"a")]);
 
 const IN_SEVEN: &[Group] = &[
     (None, &[("a list", Lists(1, None, &[0, 1], 1))]),
@@ -56,13 +56,13 @@ const IN_MORE: &[Group] = &[(
     ],
 )];
 
-const SIX: Part = (6, INT8, 1, None, &[Nothing, Int32s(&[0, 0])]);
+const SIX: Part = (6, INT8, 1, None, &[Nothing, Offsets(&[0, 0])]);
 
-const EIGHT: Part = (8, INT8, 1, None, &[Nothing, Int32s(&[0, 0])]);
+const EIGHT: Part = (8, INT8, 1, None, &[Nothing, Offsets(&[0, 0])]);
 
-const NINE: Part = (9, INT8, 1, None, &[Nothing, Int32s(&[0, 0])]);
+const NINE: Part = (9, INT8, 1, None, &[Nothing, Offsets(&[0, 0])]);
 
-const NINE_OF_TEXTS: Part = (9, Texts, 1, None, &[Nothing, Int32s(&[0, 0])]);
+const NINE_OF_TEXTS: Part = (9, Texts, 1, None, &[Nothing, Offsets(&[0, 0])]);
 
 /// Types that differ by lists: how deep a child's type is isn't looked at.
 const TYPES: &[Group] = &[
@@ -83,7 +83,7 @@ const TYPES: &[Group] = &[
             ("9 over none", Alone(NINE)),
             (
                 "9 of codes",
-                Alone((9, Indices, 1, None, &[Nothing, Int32s(&[0, 0])])),
+                Alone((9, Indices, 1, None, &[Nothing, Offsets(&[0, 0])])),
             ),
         ],
     ),

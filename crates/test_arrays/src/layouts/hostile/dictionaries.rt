@@ -2,14 +2,16 @@
 
 use super::Place::{Entries, InLists, InNulls, Top};
 use super::forms::Form::{Alone, Codes, Over, Values};
-use super::{Group, INT8, expect};
-use crate::layouts::Held::{self, Bytes, Int32s, Nothing};
+use super::{Group, INT8, expect, expect_at};
+use crate::layouts::Held::{self, Bytes, Int32s, Nothing, Offsets};
 use crate::layouts::Inner::{Bits, Indices, Texts};
-use crate::layouts::{Part, WIDE};
+use crate::layouts::{LONGER, Part};
 use arrays::LayoutFault::{
     BufferTooShort, ChildDiffers, ExtraBuffer, IndexPastDictionary, MissingBuffer, NullCountDiffers,
 };
+use arrays::OffsetWidth;
 use std::test::Fail;
+use test_samples::{NARROW, WIDTHS};
 
 const EMPTY: Held = Bytes(&[]);
 
@@ -21,7 +23,7 @@ const THREE: Part = (
     Texts,
     3,
     Some(1),
-    &[Bytes(&[3]), Int32s(&[0, 1, 2, 2]), Bytes(b"aa")],
+    &[Bytes(&[3]), Offsets(&[0, 1, 2, 2]), Bytes(b"aa")],
 );
 
 const POSITIONS: &[Group] = &[
@@ -187,9 +189,9 @@ const NO_CODES: Part = (0, Indices, 0, None, &[Nothing, EMPTY]);
 
 const TRUTHS: Part = (0, Bits, 0, None, &[Nothing, EMPTY]);
 
-const NUMBER: Part = (0, WIDE, 1, None, &[Nothing, Bytes(&[0; 4])]);
+const NUMBER: Part = (0, LONGER, 1, None, &[Nothing, Bytes(&[0; 4])]);
 
-const LIST: Part = (1, Texts, 1, None, &[Nothing, Bytes(&[0; 8])]);
+const LIST: Part = (1, Texts, 1, None, &[Nothing, Offsets(&[0, 0])]);
 
 /// Dictionaries that aren't there or aren't texts, and children beside them.
 const PARTS: &[Group] = &[
@@ -233,20 +235,39 @@ const IN_A_LIST: &[Group] = &[(
 
 #[test]
 fn codes_have_two_positions_of_enough_bytes(rt: HostRuntime) -> Result<(), Fail> {
-    expect(&rt, rt.alloc(), &[Top], POSITIONS)?;
-    expect(&rt, rt.alloc(), &[Top], SIZES)?;
-    expect(&rt, rt.alloc(), &[Top], COUNTS)
+    expect_at(&rt, rt.alloc(), NARROW, &[Top], POSITIONS)?;
+    expect_at(&rt, rt.alloc(), NARROW, &[Top], SIZES)?;
+    expect_at(&rt, rt.alloc(), NARROW, &[Top], COUNTS)
 }
 
 #[test]
 fn codes_that_are_valid_name_an_entry(rt: HostRuntime) -> Result<(), Fail> {
-    expect(&rt, rt.alloc(), &[Top], CODES)
+    expect_at(&rt, rt.alloc(), NARROW, &[Top], CODES)
 }
 
 #[test]
 fn codes_have_a_dictionary_of_texts_and_stand_in_no_list(rt: HostRuntime) -> Result<(), Fail> {
-    expect(&rt, rt.alloc(), &[Top], PARTS)?;
-    expect(&rt, rt.alloc(), &[Entries], AS_ENTRIES)?;
+    expect_at(&rt, rt.alloc(), NARROW, &[Top], PARTS)?;
+    expect_at(&rt, rt.alloc(), NARROW, &[Entries], AS_ENTRIES)?;
     let lists = [InLists(1), InLists(2), InLists(8), InNulls(1), InNulls(8)];
     expect(&rt, rt.alloc(), &lists, IN_A_LIST)
+}
+
+/// Lawful arrays that are no dictionary, over lawful codes.
+const LARGE: &[Group] = &[(
+    Some(ChildDiffers),
+    &[
+        ("texts", Over(FIRST, &[], Some(THREE))),
+        ("no texts", Over(NO_CODES, &[], Some(TEXTS))),
+    ],
+)];
+
+#[test]
+fn large_texts_are_no_dictionary(rt: HostRuntime) -> Result<(), Fail> {
+    for widths in WIDTHS {
+        if widths.texts == OffsetWidth::Wide {
+            expect_at(&rt, rt.alloc(), widths, &[Top], LARGE)?;
+        }
+    }
+    Ok(())
 }

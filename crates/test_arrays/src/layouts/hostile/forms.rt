@@ -1,12 +1,13 @@
 //! Parts of arrays, each told in a line.
 
-use crate::layouts::Held::{Bytes, Int32s, Nothing};
+use crate::layouts::Held::{Int32s, Nothing, Offsets};
 use crate::layouts::{Inner, Part, assembled, buffer, parts};
 use Form::{Alone, Codes, Lists, Over, Truths, Values, Words};
-use arrays::{DataType, RawArray};
+use arrays::{DataType, OffsetWidth, RawArray};
+use colbits::Buffer;
 use std::alloc::Global;
 use std::test::Fail;
-use test_samples::{Positions, lists_of, raw};
+use test_samples::{Positions, Widths, list_of, raw};
 
 /// The bytes of a bitmap, none where it is absent.
 type Bitmap = Option<&'static [u8]>;
@@ -22,30 +23,45 @@ pub(super) enum Form {
     /// Truth values, of which 520 have their bytes: how many, their null count and their bitmap.
     Truths(u64, Option<u64>, Bitmap),
     /// Texts: how many, their bitmap, offsets and bytes.
-    Words(u64, Bitmap, &'static [i32], &'static [u8]),
+    Words(u64, Bitmap, &'static [i64], &'static [u8]),
     /// Lists: how many, their bitmap and offsets, and how many items there are, of which 8 have their bytes.
-    Lists(u64, Bitmap, &'static [i32], u64),
+    Lists(u64, Bitmap, &'static [i64], u64),
     /// Codes: how many, their bitmap and numbers, and how many entries there are, of which 3 have their offsets.
     Codes(u64, Bitmap, &'static [i32], u64),
 }
 
 impl Form {
-    pub(super) fn parts(self, alloc: Global) -> Result<RawArray, Fail> {
+    /// The parts, with offsets of these widths.
+    pub(super) fn parts(self, alloc: Global, widths: Widths) -> Result<RawArray, Fail> {
         match self {
-            Alone(part) => parts(alloc, part),
-            Over(own, children, dictionary) => assembled(alloc, (own, children, dictionary)),
-            Values(inner, slots, bytes) => values(alloc, inner, slots, bytes),
+            Alone(part) => parts(alloc, widths, part),
+            Over(own, children, dictionary) => {
+                assembled(alloc, widths, (own, children, dictionary))
+            }
+            Values(inner, slots, bytes) => values(alloc, widths, inner, slots, bytes),
             Truths(slots, null_count, bitmap) => truths(alloc, slots, null_count, bitmap),
-            Words(slots, bitmap, offsets, bytes) => words(alloc, slots, bitmap, offsets, bytes),
-            Lists(slots, bitmap, offsets, items) => lists(alloc, slots, bitmap, offsets, items),
+            Words(slots, bitmap, offsets, bytes) => {
+                words(alloc, widths.texts, slots, bitmap, (offsets, bytes))
+            }
+            Lists(slots, bitmap, offsets, items) => {
+                lists(alloc, widths.inner, slots, bitmap, (offsets, items))
+            }
             Codes(slots, bitmap, codes, entries) => coded(alloc, slots, bitmap, codes, entries),
         }
     }
 }
 
-fn values(alloc: Global, inner: Inner, slots: u64, bytes: &'static [u8]) -> Result<RawArray, Fail> {
-    let mut values = parts(alloc, (0, inner, slots, None, &[Nothing]))?;
-    values.buffers.push(buffer(alloc, Bytes(bytes))?)?;
+fn values(
+    alloc: Global,
+    widths: Widths,
+    inner: Inner,
+    slots: u64,
+    bytes: &'static [u8],
+) -> Result<RawArray, Fail> {
+    let mut values = parts(alloc, widths, (0, inner, slots, None, &[Nothing]))?;
+    values
+        .buffers
+        .push(Some(Buffer::from_bytes(alloc, bytes)?))?;
     Ok(values)
 }
 
@@ -60,40 +76,29 @@ fn truths(
     Ok(truths)
 }
 
-/// An array whose second position holds offsets or codes.
-fn numbered(
-    alloc: Global,
-    ty: DataType,
-    slots: u64,
-    bitmap: Bitmap,
-    numbers: &'static [i32],
-) -> Result<RawArray, Fail> {
-    let mut numbered = raw(alloc, ty, slots, &[bitmap])?;
-    numbered.buffers.push(buffer(alloc, Int32s(numbers))?)?;
-    Ok(numbered)
-}
-
 fn words(
     alloc: Global,
+    width: OffsetWidth,
     slots: u64,
     bitmap: Bitmap,
-    offsets: &'static [i32],
-    bytes: &'static [u8],
+    (offsets, bytes): (&'static [i64], &'static [u8]),
 ) -> Result<RawArray, Fail> {
-    let mut words = numbered(alloc, DataType::Utf8, slots, bitmap, offsets)?;
-    words.buffers.push(buffer(alloc, Bytes(bytes))?)?;
+    let mut words = raw(alloc, DataType::of_texts(width), slots, &[bitmap])?;
+    words.buffers.push(buffer(alloc, width, Offsets(offsets))?)?;
+    words.buffers.push(Some(Buffer::from_bytes(alloc, bytes)?))?;
     Ok(words)
 }
 
 fn lists(
     alloc: Global,
+    width: OffsetWidth,
     slots: u64,
     bitmap: Bitmap,
-    offsets: &'static [i32],
-    items: u64,
+    (offsets, items): (&'static [i64], u64),
 ) -> Result<RawArray, Fail> {
-    let ty = lists_of(alloc, 1, DataType::Bool)?;
-    let mut lists = numbered(alloc, ty, slots, bitmap, offsets)?;
+    let ty = list_of(alloc, width, DataType::Bool)?;
+    let mut lists = raw(alloc, ty, slots, &[bitmap])?;
+    lists.buffers.push(buffer(alloc, width, Offsets(offsets))?)?;
     let child = raw(alloc, DataType::Bool, items, &[None, Some(&[0x55])])?;
     lists.children.push(child)?;
     Ok(lists)
@@ -109,7 +114,9 @@ fn coded(
     codes: &'static [i32],
     entries: u64,
 ) -> Result<RawArray, Fail> {
-    let mut coded = numbered(alloc, DataType::Dict, slots, bitmap, codes)?;
+    let mut coded = raw(alloc, DataType::Dict, slots, &[bitmap])?;
+    let codes = buffer(alloc, OffsetWidth::Narrow, Int32s(codes))?;
+    coded.buffers.push(codes)?;
     let dictionary = raw(alloc, DataType::Utf8, entries, ENTRIES)?;
     coded.dictionary = Some(Box::new(alloc, dictionary)?);
     Ok(coded)

@@ -2,12 +2,16 @@
 
 use super::Place::Top;
 use super::forms::Form::{Codes, Lists, Truths, Values, Words};
-use super::{ANYWHERE, Group, INT8, INT64, OF_LISTS, OF_TEXTS, expect};
-use crate::layouts::WIDE;
+use super::{
+    ANYWHERE, Group, INT8, INT64, LEAST_NARROW, MOST_NARROW, OF_LISTS, expect, expect_at,
+    expect_texts,
+};
+use crate::layouts::LONGER;
 use arrays::LayoutFault::{
     BufferTooShort, IndexPastDictionary, OffsetNegative, OffsetPastEnd, TooLong,
 };
 use std::test::Fail;
+use test_samples::NARROW;
 
 /// The greatest length of an array.
 const MOST: u64 = 2147483647;
@@ -24,7 +28,7 @@ const NUMBERS: &[Group] = &[
             ("2^31 - 1 of 8 bytes", Values(INT64, MOST, &[0; 8])),
             ("2^31 bytes", Values(INT64, 1 << 28, &[])),
             ("2^32 bytes by 8", Values(INT64, 1 << 29, &[])),
-            ("2^32 bytes by 4", Values(WIDE, 1 << 30, &[])),
+            ("2^32 bytes by 4", Values(LONGER, 1 << 30, &[])),
             ("2^31 - 1 bits", Truths(MOST, None, None)),
             (
                 "2^31 - 1 bits, and their bitmap",
@@ -53,7 +57,8 @@ const TEXTS: &[Group] = &[
     (
         Some(BufferTooShort),
         &[
-            ("2^32 bytes of offsets", Words(1073741823, None, &[], b"")),
+            ("2^32 bytes by 4", Words(1073741823, None, &[], b"")),
+            ("2^32 bytes by 8", Words(536870911, None, &[], b"")),
             ("2^31 - 1", Words(MOST, Some(&[0; 8]), &[0, 0], b"")),
         ],
     ),
@@ -64,8 +69,12 @@ const TEXTS: &[Group] = &[
             ("2^32", Words(1 << 32, None, &[], b"")),
             ("2^32 + 1", Words(ODD, None, &[0, 0], b"")),
             (
-                "2^64 bytes of offsets",
+                "2^64 bytes by 4",
                 Words(4611686018427387903, None, &[], b""),
+            ),
+            (
+                "2^64 bytes by 8",
+                Words(2305843009213693951, None, &[], b""),
             ),
             ("2^64 - 1", Words(u64::MAX, None, &[], b"")),
         ],
@@ -77,7 +86,8 @@ const LISTS: &[Group] = &[
     (
         Some(BufferTooShort),
         &[
-            ("2^32 bytes of offsets", Lists(1073741823, None, &[], 0)),
+            ("2^32 bytes by 4", Lists(1073741823, None, &[], 0)),
+            ("2^32 bytes by 8", Lists(536870911, None, &[], 0)),
             ("2^31 - 1", Lists(MOST, None, &[0, 0], 0)),
         ],
     ),
@@ -101,20 +111,20 @@ const ITEMS: &[Group] = &[
             ("an item of none", Lists(1, None, &[0, 1], 0)),
             (
                 "one past 2^31 - 2",
-                Lists(1, None, &[0, i32::MAX], MOST - 1),
+                Lists(1, None, &[0, MOST_NARROW], MOST - 1),
             ),
         ],
     ),
     (
         Some(BufferTooShort),
-        &[("all of 2^31 - 1", Lists(1, None, &[0, i32::MAX], MOST))],
+        &[("all of 2^31 - 1", Lists(1, None, &[0, MOST_NARROW], MOST))],
     ),
     (
         Some(TooLong),
         &[
             (
                 "all but one of 2^31",
-                Lists(1, None, &[0, i32::MAX], MOST + 1),
+                Lists(1, None, &[0, MOST_NARROW], MOST + 1),
             ),
             ("one of 2^32", Lists(1, None, &[0, 1], 1 << 32)),
             ("none of 2^64 - 1", Lists(1, None, &[0, 0], u64::MAX)),
@@ -123,7 +133,10 @@ const ITEMS: &[Group] = &[
     (
         Some(OffsetNegative),
         &[
-            ("-2^31 of 2^31", Lists(1, None, &[0, i32::MIN], MOST + 1)),
+            (
+                "-2^31 of 2^31",
+                Lists(1, None, &[0, LEAST_NARROW], MOST + 1),
+            ),
             ("-1 of 2^64 - 1", Lists(1, None, &[0, -1], u64::MAX)),
         ],
     ),
@@ -177,7 +190,7 @@ const ENTRIES: &[Group] = &[
 #[test]
 fn lengths_of_numbers_and_texts_are_limited(rt: HostRuntime) -> Result<(), Fail> {
     expect(&rt, rt.alloc(), ANYWHERE, NUMBERS)?;
-    expect(&rt, rt.alloc(), OF_TEXTS, TEXTS)
+    expect_texts(&rt, rt.alloc(), TEXTS)
 }
 
 #[test]
@@ -188,6 +201,6 @@ fn lengths_of_lists_and_of_their_items_are_limited(rt: HostRuntime) -> Result<()
 
 #[test]
 fn lengths_of_codes_and_of_dictionaries_are_limited(rt: HostRuntime) -> Result<(), Fail> {
-    expect(&rt, rt.alloc(), &[Top], CODES)?;
-    expect(&rt, rt.alloc(), &[Top], ENTRIES)
+    expect_at(&rt, rt.alloc(), NARROW, &[Top], CODES)?;
+    expect_at(&rt, rt.alloc(), NARROW, &[Top], ENTRIES)
 }

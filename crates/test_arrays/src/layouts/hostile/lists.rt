@@ -1,17 +1,19 @@
 //! Lists: positions, offsets and the one child.
 
 use super::Place::{InLists, InNulls, Top};
-use super::forms::Form::{Lists, Over};
-use super::{Group, INT8, INT64, OF_LISTS, expect};
-use crate::layouts::Held::{self, Bytes, Int32s, Nothing};
-use crate::layouts::Inner::{Bits, Indices, Numbers, Texts};
-use crate::layouts::Part;
+use super::forms::Form::{self, Lists, Over, Words};
+use super::{Group, INT8, INT64, LEAST_NARROW, MOST_NARROW, OF_LISTS, expect};
+use crate::layouts::Held::{self, Bytes, Cut, Nothing, Offsets};
+use crate::layouts::Inner::{self, Bits, Indices, Numbers, Texts};
+use crate::layouts::{Part, parts};
 use arrays::LayoutFault::{
-    BufferTooShort, ChildDiffers, ExtraBuffer, MissingBuffer, NotUtf8, NullCountDiffers,
+    self, BufferTooShort, ChildDiffers, ExtraBuffer, MissingBuffer, NotUtf8, NullCountDiffers,
     OffsetDecreases, OffsetNegative, OffsetPastEnd,
 };
-use arrays::Width;
+use arrays::{Width, validate};
+use std::alloc::Global;
 use std::test::Fail;
+use test_samples::{WIDTHS, Widths};
 
 const EMPTY: Held = Bytes(&[]);
 
@@ -84,9 +86,9 @@ const SIZES: &[Group] = &[
                 ),
             ),
             (
-                "0, three bytes",
+                "0, a byte less",
                 Over(
-                    (1, INT8, 0, None, &[Nothing, Bytes(&[0; 3])]),
+                    (1, INT8, 0, None, &[Nothing, Cut(&[0], 1)]),
                     &[NUMBERS],
                     None,
                 ),
@@ -96,7 +98,7 @@ const SIZES: &[Group] = &[
             (
                 "1, a byte less",
                 Over(
-                    (1, INT8, 1, None, &[Nothing, Bytes(&[0; 7])]),
+                    (1, INT8, 1, None, &[Nothing, Cut(&[0, 0], 1)]),
                     &[NUMBERS],
                     None,
                 ),
@@ -119,9 +121,9 @@ const RISING: &[Group] = &[
         Some(OffsetNegative),
         &[
             ("-1 of none", Lists(0, None, &[-1], 2)),
-            ("-2^31 first", Lists(1, None, &[i32::MIN, 2], 2)),
-            // As an unsigned number it would be 2^31.
-            ("-2^31 last", Lists(1, None, &[0, i32::MIN], 2)),
+            ("-2^31 first", Lists(1, None, &[LEAST_NARROW, 2], 2)),
+            // As an unsigned number it would only be past the end.
+            ("-2^31 last", Lists(1, None, &[0, LEAST_NARROW], 2)),
             ("-1 between nulls", Lists(2, Some(&[0]), &[0, -1, 2], 2)),
         ],
     ),
@@ -130,14 +132,14 @@ const RISING: &[Group] = &[
         &[
             ("the first", Lists(2, None, &[1, 0, 2], 2)),
             ("each null", Lists(2, Some(&[0]), &[2, 1, 0], 2)),
-            ("from 2^31 - 1", Lists(1, None, &[i32::MAX, 0], 2)),
+            ("from 2^31 - 1", Lists(1, None, &[MOST_NARROW, 0], 2)),
         ],
     ),
     (
         Some(OffsetDecreases { row: 1 }),
         &[
             ("the last", Lists(2, None, &[0, 2, 1], 2)),
-            ("from past the end", Lists(2, None, &[0, i32::MAX, 2], 2)),
+            ("from past the end", Lists(2, None, &[0, MOST_NARROW, 2], 2)),
         ],
     ),
 ];
@@ -157,7 +159,7 @@ const PAST_END: &[Group] = &[
         &[
             ("an item more", Lists(1, None, &[0, 3], 2)),
             ("an item of none", Lists(1, None, &[0, 1], 0)),
-            ("2^31 - 1", Lists(1, None, &[0, i32::MAX], 2)),
+            ("2^31 - 1", Lists(1, None, &[0, MOST_NARROW], 2)),
             ("empty past the end", Lists(1, None, &[3, 3], 2)),
             ("null past the end", Lists(1, Some(&[0]), &[0, 3], 2)),
             ("none past the end", Lists(0, None, &[3], 2)),
@@ -175,7 +177,7 @@ const COUNTS: &[Group] = &[
             (
                 "0 without bits",
                 Over(
-                    (1, INT8, 1, Some(0), &[Nothing, Int32s(&[0, 0])]),
+                    (1, INT8, 1, Some(0), &[Nothing, Offsets(&[0, 0])]),
                     &[NULLS],
                     None,
                 ),
@@ -183,7 +185,7 @@ const COUNTS: &[Group] = &[
             (
                 "1 of two",
                 Over(
-                    (1, INT8, 2, Some(1), &[Bytes(&[2]), Int32s(&[0, 0, 2])]),
+                    (1, INT8, 2, Some(1), &[Bytes(&[2]), Offsets(&[0, 0, 2])]),
                     &[NULLS],
                     None,
                 ),
@@ -196,7 +198,7 @@ const COUNTS: &[Group] = &[
             (
                 "an empty one as null",
                 Over(
-                    (1, INT8, 1, Some(1), &[Nothing, Int32s(&[0, 0])]),
+                    (1, INT8, 1, Some(1), &[Nothing, Offsets(&[0, 0])]),
                     &[NULLS],
                     None,
                 ),
@@ -204,7 +206,7 @@ const COUNTS: &[Group] = &[
             (
                 "7 past the lists",
                 Over(
-                    (1, INT8, 2, Some(7), &[Bytes(&[2]), Int32s(&[0, 0, 2])]),
+                    (1, INT8, 2, Some(7), &[Bytes(&[2]), Offsets(&[0, 0, 2])]),
                     &[NULLS],
                     None,
                 ),
@@ -212,7 +214,7 @@ const COUNTS: &[Group] = &[
             (
                 "those of the items",
                 Over(
-                    (1, INT8, 1, Some(2), &[Bytes(&[1]), Int32s(&[0, 2])]),
+                    (1, INT8, 1, Some(2), &[Bytes(&[1]), Offsets(&[0, 2])]),
                     &[NULLS],
                     None,
                 ),
@@ -251,14 +253,14 @@ const CHILDREN: &[Group] = &[
 ];
 
 /// A list of no texts, over two.
-const OF_TEXT: Part = (1, Texts, 1, None, &[Bytes(&[0]), Int32s(&[1, 1])]);
+const OF_TEXT: Part = (1, Texts, 1, None, &[Bytes(&[0]), Offsets(&[1, 1])]);
 
 const SPOILT: Part = (
     0,
     Texts,
     2,
     None,
-    &[Nothing, Int32s(&[0, 1, 2]), Bytes(b"a\xff")],
+    &[Nothing, Offsets(&[0, 1, 2]), Bytes(b"a\xff")],
 );
 
 const COVERED: Part = (
@@ -266,7 +268,7 @@ const COVERED: Part = (
     Texts,
     2,
     None,
-    &[Bytes(&[1]), Int32s(&[0, 1, 2]), Bytes(b"a\xff")],
+    &[Bytes(&[1]), Offsets(&[0, 1, 2]), Bytes(b"a\xff")],
 );
 
 const UNNAMED: &[Group] = &[
@@ -333,4 +335,50 @@ fn lists_have_the_one_child_of_their_items(rt: HostRuntime) -> Result<(), Fail> 
         &[Top, InLists(1), InLists(6), InNulls(6)],
         DEEPER,
     )
+}
+
+const ONE_ITEM: &[Held] = &[Nothing, Offsets(&[0, 1])];
+
+/// A list of a list of truth values, and of a text: the type of its items, and the item.
+const OF_LISTS_AND_TEXTS: &[(usize, Inner, Form)] = &[
+    (2, Bits, Lists(1, None, &[0, 1], 1)),
+    (1, Texts, Words(1, None, &[0, 1], b"a")),
+];
+
+/// The fault of a list of one item, of a type of these widths, over a child of others.
+fn child_fault(
+    alloc: Global,
+    widths: Widths,
+    others: Widths,
+    (lists, inner, child): (usize, Inner, Form),
+) -> Result<Option<LayoutFault>, Fail> {
+    let mut list = parts(alloc, widths, (lists, inner, 1, None, ONE_ITEM))?;
+    list.children.push(child.parts(alloc, others)?)?;
+    Ok(validate(alloc, list).err())
+}
+
+/// Whether a child is lawful where its width is that of the items alone.
+fn is_told(
+    alloc: Global,
+    widths: Widths,
+    others: Widths,
+    case: (usize, Inner, Form),
+) -> Result<bool, Fail> {
+    let items = case.0.saturating_sub(1);
+    let is_same = widths.of_lists(items) == others.of_lists(items);
+    let fault = child_fault(alloc, widths, others, case)?;
+    Ok(fault == if is_same { None } else { Some(ChildDiffers) })
+}
+
+#[test]
+fn the_child_has_the_width_of_the_items(rt: HostRuntime) -> Result<(), Fail> {
+    for widths in WIDTHS {
+        for others in WIDTHS {
+            for case in OF_LISTS_AND_TEXTS {
+                let is_told = is_told(rt.alloc(), widths, others, *case)?;
+                assert!(rt; is_told, "{widths:?} over {others:?}");
+            }
+        }
+    }
+    Ok(())
 }

@@ -2,9 +2,9 @@
 
 use super::forms::Form::{Alone, Over, Values};
 use super::{ANYWHERE, Group, INT8, INT64, expect};
-use crate::layouts::Held::{Bytes, Nothing};
+use crate::layouts::Held::{Bytes, Nothing, Offsets};
 use crate::layouts::Inner::{self, Bits, Numbers, Texts};
-use crate::layouts::{Part, UNSIGNED, WIDE};
+use crate::layouts::{LONGER, Part, UNSIGNED};
 use arrays::LayoutFault::{BufferTooShort, ChildDiffers, ExtraBuffer, MissingBuffer};
 use arrays::Width;
 use std::test::Fail;
@@ -21,7 +21,7 @@ const WIDTHS: &[Group] = &[
         None,
         &[
             ("Int8", Values(INT8, 3, &[0x80; 3])),
-            ("Int32", Values(WIDE, 3, &[0x80; 12])),
+            ("Int32", Values(LONGER, 3, &[0x80; 12])),
             ("Int64", Values(INT64, 3, &[0x80; 24])),
             ("UInt8", Values(UINT8, 3, &[0xff; 3])),
             ("UInt16", Values(UNSIGNED, 3, &[0xff; 6])),
@@ -33,7 +33,7 @@ const WIDTHS: &[Group] = &[
         Some(BufferTooShort),
         &[
             ("Int8", Values(INT8, 3, &[0x80; 2])),
-            ("Int32", Values(WIDE, 3, &[0x80; 11])),
+            ("Int32", Values(LONGER, 3, &[0x80; 11])),
             ("Int64", Values(INT64, 3, &[0x80; 23])),
             ("UInt8", Values(UINT8, 3, &[0xff; 2])),
             ("UInt16", Values(UNSIGNED, 3, &[0xff; 5])),
@@ -49,7 +49,7 @@ const SIZES: &[Group] = &[
         &[
             ("0, no byte", Values(INT64, 0, &[])),
             ("0, three bytes", Values(INT64, 0, &[7; 3])),
-            ("a byte more", Values(WIDE, 1, &[7; 5])),
+            ("a byte more", Values(LONGER, 1, &[7; 5])),
             (
                 "a null",
                 Alone((0, INT8, 1, None, &[Bytes(&[0]), Bytes(&[7])])),
@@ -120,7 +120,7 @@ const NUMBER: Part = (0, INT8, 1, None, &[Nothing, Bytes(&[7])]);
 
 const TRUTH: Part = (0, Bits, 1, None, &[Nothing, Bytes(&[1])]);
 
-const TEXT: Part = (0, Texts, 1, None, &[Nothing, Bytes(&[0; 8]), Bytes(&[])]);
+const TEXT: Part = (0, Texts, 1, None, &[Nothing, Offsets(&[0, 0]), Bytes(&[])]);
 
 const PARTS: &[Group] = &[
     (

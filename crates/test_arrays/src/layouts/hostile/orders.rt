@@ -2,8 +2,8 @@
 
 use super::Place::Top;
 use super::forms::Form::{Alone, Over, Values, Words};
-use super::{ANYWHERE, Group, INT8, OF_LISTS, OF_TEXTS, expect};
-use crate::layouts::Held::{self, Bytes, Int32s, Nothing};
+use super::{ANYWHERE, Group, INT8, OF_LISTS, expect, expect_at, expect_texts};
+use crate::layouts::Held::{self, Bytes, Int32s, Nothing, Offsets};
 use crate::layouts::Inner::{Bits, Indices, Texts};
 use crate::layouts::Part;
 use arrays::LayoutFault::{
@@ -11,6 +11,7 @@ use arrays::LayoutFault::{
     NullCountDiffers, OffsetDecreases, OffsetNegative, OffsetPastEnd, TooDeep, TooLong,
 };
 use std::test::Fail;
+use test_samples::NARROW;
 
 const EMPTY: Held = Bytes(&[]);
 
@@ -105,7 +106,7 @@ const TEXTS: &[Group] = &[
                 Texts,
                 1,
                 Some(1),
-                &[Nothing, Int32s(&[0, 2]), Bytes(b"a")],
+                &[Nothing, Offsets(&[0, 2]), Bytes(b"a")],
             )),
         )],
     ),
@@ -118,7 +119,7 @@ const TEXTS: &[Group] = &[
                 Texts,
                 1,
                 Some(1),
-                &[Nothing, Int32s(&[0, 1]), Bytes(b"\xff")],
+                &[Nothing, Offsets(&[0, 1]), Bytes(b"\xff")],
             )),
         )],
     ),
@@ -131,7 +132,7 @@ const TEXTS: &[Group] = &[
                 Texts,
                 1,
                 Some(0),
-                &[Nothing, Int32s(&[0, 1]), Bytes(b"\xff")],
+                &[Nothing, Offsets(&[0, 1]), Bytes(b"\xff")],
             )),
         )],
     ),
@@ -145,7 +146,7 @@ const LONG: Part = (0, INT8, 1 << 31, None, &[]);
 const NUMBER: Part = (0, INT8, 1, None, &[Nothing, SEVEN]);
 
 /// A list of one item.
-const LIST: Part = (1, INT8, 1, Some(0), &[Nothing, Int32s(&[0, 1])]);
+const LIST: Part = (1, INT8, 1, Some(0), &[Nothing, Offsets(&[0, 1])]);
 
 const LISTS: &[Group] = &[
     (
@@ -175,7 +176,11 @@ const LISTS: &[Group] = &[
             ),
             (
                 "and negative",
-                Over((1, INT8, 1, None, &[Nothing, Int32s(&[-1])]), &[BARE], None),
+                Over(
+                    (1, INT8, 1, None, &[Nothing, Offsets(&[-1])]),
+                    &[BARE],
+                    None,
+                ),
             ),
         ],
     ),
@@ -184,7 +189,7 @@ const LISTS: &[Group] = &[
         &[(
             "and decreasing",
             Over(
-                (1, INT8, 1, None, &[Nothing, Int32s(&[1, -1])]),
+                (1, INT8, 1, None, &[Nothing, Offsets(&[1, -1])]),
                 &[BARE],
                 None,
             ),
@@ -195,7 +200,7 @@ const LISTS: &[Group] = &[
         &[(
             "and past the end",
             Over(
-                (1, INT8, 2, None, &[Nothing, Int32s(&[3, 0, 2])]),
+                (1, INT8, 2, None, &[Nothing, Offsets(&[3, 0, 2])]),
                 &[BARE],
                 None,
             ),
@@ -207,7 +212,7 @@ const LISTS: &[Group] = &[
             (
                 "over a bare child",
                 Over(
-                    (1, INT8, 1, None, &[Nothing, Int32s(&[0, 2])]),
+                    (1, INT8, 1, None, &[Nothing, Offsets(&[0, 2])]),
                     &[BARE],
                     None,
                 ),
@@ -215,7 +220,7 @@ const LISTS: &[Group] = &[
             (
                 "and counted",
                 Over(
-                    (1, INT8, 1, Some(1), &[Nothing, Int32s(&[0, 2])]),
+                    (1, INT8, 1, Some(1), &[Nothing, Offsets(&[0, 2])]),
                     &[BARE],
                     None,
                 ),
@@ -227,7 +232,7 @@ const LISTS: &[Group] = &[
         &[(
             "over a long child",
             Over(
-                (1, INT8, 1, Some(1), &[Nothing, Int32s(&[0, 1])]),
+                (1, INT8, 1, Some(1), &[Nothing, Offsets(&[0, 1])]),
                 &[LONG],
                 None,
             ),
@@ -246,7 +251,7 @@ const LISTS: &[Group] = &[
 /// A dictionary that lacks its bytes, and one that is lawful.
 const UNWRITTEN: Part = (0, Texts, 2, None, &[]);
 
-const WRITTEN: Part = (0, Texts, 2, None, &[Nothing, Bytes(&[0; 12]), EMPTY]);
+const WRITTEN: Part = (0, Texts, 2, None, &[Nothing, Offsets(&[0; 3]), EMPTY]);
 
 const CODE: Part = (0, Indices, 1, Some(0), &[Nothing, Int32s(&[1])]);
 
@@ -318,11 +323,11 @@ const CODES: &[Group] = &[
 #[test]
 fn the_first_of_several_faults_is_told(rt: HostRuntime) -> Result<(), Fail> {
     expect(&rt, rt.alloc(), ANYWHERE, NUMBERS)?;
-    expect(&rt, rt.alloc(), OF_TEXTS, TEXTS)
+    expect_texts(&rt, rt.alloc(), TEXTS)
 }
 
 #[test]
 fn the_fault_above_is_told_first(rt: HostRuntime) -> Result<(), Fail> {
     expect(&rt, rt.alloc(), OF_LISTS, LISTS)?;
-    expect(&rt, rt.alloc(), &[Top], CODES)
+    expect_at(&rt, rt.alloc(), NARROW, &[Top], CODES)
 }

@@ -1,8 +1,8 @@
 //! Texts: positions, offsets, and bytes that are no UTF-8.
 
 use super::forms::Form::{Alone, Over, Words};
-use super::{Group, INT8, OF_TEXTS, expect};
-use crate::layouts::Held::{self, Bytes, Nothing};
+use super::{Group, INT8, LEAST_NARROW, MOST_NARROW, expect_texts};
+use crate::layouts::Held::{self, Bytes, Cut, Nothing, Offsets};
 use crate::layouts::Inner::Texts;
 use crate::layouts::Part;
 use arrays::LayoutFault::{
@@ -47,8 +47,8 @@ const SIZES: &[Group] = &[
         &[
             ("0, an offset", Words(0, None, &[0], b"")),
             (
-                "0, and a byte",
-                Alone((0, Texts, 0, None, &[Nothing, Bytes(&[0; 5]), EMPTY])),
+                "0, an offset and more",
+                Alone((0, Texts, 0, None, &[Nothing, Bytes(&[0; 9]), EMPTY])),
             ),
             ("1, two offsets", Words(1, None, &[0, 0], b"")),
             ("15, 16 offsets", Words(15, None, &[0; 16], b"")),
@@ -65,12 +65,16 @@ const SIZES: &[Group] = &[
             ("1, an offset", Words(1, None, &[0], b"")),
             (
                 "1, a byte less",
-                Alone((0, Texts, 1, None, &[Nothing, Bytes(&[0; 7]), EMPTY])),
+                Alone((0, Texts, 1, None, &[Nothing, Cut(&[0, 0], 1), EMPTY])),
             ),
-            // 63 bytes are stored as 64.
+            (
+                "0, a byte less",
+                Alone((0, Texts, 0, None, &[Nothing, Cut(&[0], 1), EMPTY])),
+            ),
+            // 63 bytes are stored as 64, and 127 as 128.
             (
                 "15, a byte less",
-                Alone((0, Texts, 15, None, &[Nothing, Bytes(&[0; 63]), EMPTY])),
+                Alone((0, Texts, 15, None, &[Nothing, Cut(&[0; 16], 1), EMPTY])),
             ),
             ("16, 16 offsets", Words(16, None, &[0; 16], b"")),
         ],
@@ -91,11 +95,14 @@ const RISING: &[Group] = &[
         Some(OffsetNegative),
         &[
             ("-1 of none", Words(0, None, &[-1], b"")),
-            ("-2^31 of none", Words(0, None, &[i32::MIN], b"")),
-            ("-2^31 first", Words(1, None, &[i32::MIN, 1], b"a")),
-            // As an unsigned number it would be 2^31.
-            ("-2^31 last", Words(1, None, &[0, i32::MIN], b"a")),
-            ("both limits", Words(1, None, &[i32::MAX, i32::MIN], b"a")),
+            ("-2^31 of none", Words(0, None, &[LEAST_NARROW], b"")),
+            ("-2^31 first", Words(1, None, &[LEAST_NARROW, 1], b"a")),
+            // As an unsigned number it would only be past the end.
+            ("-2^31 last", Words(1, None, &[0, LEAST_NARROW], b"a")),
+            (
+                "both limits",
+                Words(1, None, &[MOST_NARROW, LEAST_NARROW], b"a"),
+            ),
             ("-1 between nulls", Words(2, Some(&[0]), &[0, -1, 1], b"a")),
             ("all negative", Words(2, Some(&[0]), &[-3, -2, -1], b"a")),
         ],
@@ -104,7 +111,7 @@ const RISING: &[Group] = &[
         Some(OffsetDecreases { row: 0 }),
         &[
             ("each", Words(3, None, &[3, 2, 1, 0], b"abc")),
-            ("from 2^31 - 1", Words(1, None, &[i32::MAX, 0], b"abc")),
+            ("from 2^31 - 1", Words(1, None, &[MOST_NARROW, 0], b"abc")),
         ],
     ),
     (
@@ -113,7 +120,7 @@ const RISING: &[Group] = &[
             ("and comes back", Words(3, None, &[0, 2, 1, 2], b"abc")),
             (
                 "from past the end",
-                Words(2, None, &[0, i32::MAX, 3], b"abc"),
+                Words(2, None, &[0, MOST_NARROW, 3], b"abc"),
             ),
         ],
     ),
@@ -145,15 +152,15 @@ const PAST_END: &[Group] = &[
         Some(OffsetPastEnd),
         &[
             ("past no bytes", Words(1, None, &[0, 1], b"")),
-            ("2^31 - 1", Words(1, None, &[0, i32::MAX], b"joe")),
+            ("2^31 - 1", Words(1, None, &[0, MOST_NARROW], b"joe")),
             ("empty past the end", Words(1, None, &[4, 4], b"joe")),
             (
                 "empty at 2^31 - 1",
-                Words(1, None, &[i32::MAX, i32::MAX], b"joe"),
+                Words(1, None, &[MOST_NARROW, MOST_NARROW], b"joe"),
             ),
             ("null past the end", Words(1, Some(&[0]), &[0, 4], b"joe")),
             ("none past the end", Words(0, None, &[4], b"joe")),
-            ("none at 2^31 - 1", Words(0, None, &[i32::MAX], b"")),
+            ("none at 2^31 - 1", Words(0, None, &[MOST_NARROW], b"")),
             ("67 of 66", Words(1, None, &[0, 67], EURO)),
             // 63 bytes are stored as 64.
             ("64 of 63", Words(1, None, &[0, 64], &[0x61; 63])),
@@ -285,7 +292,7 @@ const SLOTS: &[Group] = &[
     ),
 ];
 
-const TEXT: Part = (0, Texts, 1, None, &[Nothing, Bytes(&[0; 8]), EMPTY]);
+const TEXT: Part = (0, Texts, 1, None, &[Nothing, Offsets(&[0, 0]), EMPTY]);
 
 const NO_NUMBERS: Part = (0, INT8, 0, None, &[Nothing, EMPTY]);
 
@@ -303,19 +310,19 @@ const PARTS: &[Group] = &[
 
 #[test]
 fn texts_stand_at_three_positions_and_alone(rt: HostRuntime) -> Result<(), Fail> {
-    expect(&rt, rt.alloc(), OF_TEXTS, POSITIONS)?;
-    expect(&rt, rt.alloc(), OF_TEXTS, SIZES)?;
-    expect(&rt, rt.alloc(), OF_TEXTS, PARTS)
+    expect_texts(&rt, rt.alloc(), POSITIONS)?;
+    expect_texts(&rt, rt.alloc(), SIZES)?;
+    expect_texts(&rt, rt.alloc(), PARTS)
 }
 
 #[test]
 fn offsets_of_texts_rise_and_end_with_the_bytes(rt: HostRuntime) -> Result<(), Fail> {
-    expect(&rt, rt.alloc(), OF_TEXTS, RISING)?;
-    expect(&rt, rt.alloc(), OF_TEXTS, PAST_END)
+    expect_texts(&rt, rt.alloc(), RISING)?;
+    expect_texts(&rt, rt.alloc(), PAST_END)
 }
 
 #[test]
 fn texts_that_are_valid_are_utf8(rt: HostRuntime) -> Result<(), Fail> {
-    expect(&rt, rt.alloc(), OF_TEXTS, CHARACTERS)?;
-    expect(&rt, rt.alloc(), OF_TEXTS, SLOTS)
+    expect_texts(&rt, rt.alloc(), CHARACTERS)?;
+    expect_texts(&rt, rt.alloc(), SLOTS)
 }

@@ -1,8 +1,8 @@
 //! Bitmaps that are too short, and null counts that differ.
 
 use super::forms::Form::{Alone, Truths, Words};
-use super::{ANYWHERE, Group, INT8, OF_TEXTS, expect};
-use crate::layouts::Held::{Bytes, Int32s, Nothing};
+use super::{ANYWHERE, Group, INT8, expect, expect_texts};
+use crate::layouts::Held::{Bytes, Nothing, Offsets};
 use crate::layouts::Inner::Texts;
 use arrays::LayoutFault::{BufferTooShort, NullCountDiffers};
 use std::test::Fail;
@@ -113,7 +113,7 @@ const COUNTS_OF_TEXTS: &[Group] = &[
                     Texts,
                     2,
                     Some(1),
-                    &[Bytes(&[2]), Int32s(&[0, 1, 1]), Bytes(b"a")],
+                    &[Bytes(&[2]), Offsets(&[0, 1, 1]), Bytes(b"a")],
                 )),
             ),
             (
@@ -123,7 +123,7 @@ const COUNTS_OF_TEXTS: &[Group] = &[
                     Texts,
                     2,
                     Some(0),
-                    &[Nothing, Bytes(&[0; 12]), Bytes(&[])],
+                    &[Nothing, Offsets(&[0; 3]), Bytes(&[])],
                 )),
             ),
         ],
@@ -138,7 +138,7 @@ const COUNTS_OF_TEXTS: &[Group] = &[
                     Texts,
                     2,
                     Some(2),
-                    &[Bytes(&[2]), Int32s(&[0, 1, 1]), Bytes(b"a")],
+                    &[Bytes(&[2]), Offsets(&[0, 1, 1]), Bytes(b"a")],
                 )),
             ),
             (
@@ -148,7 +148,7 @@ const COUNTS_OF_TEXTS: &[Group] = &[
                     Texts,
                     2,
                     Some(2),
-                    &[Nothing, Bytes(&[0; 12]), Bytes(&[])],
+                    &[Nothing, Offsets(&[0; 3]), Bytes(&[])],
                 )),
             ),
             (
@@ -158,7 +158,7 @@ const COUNTS_OF_TEXTS: &[Group] = &[
                     Texts,
                     2,
                     Some(u64::MAX),
-                    &[Bytes(&[2]), Int32s(&[0, 1, 1]), Bytes(b"a")],
+                    &[Bytes(&[2]), Offsets(&[0, 1, 1]), Bytes(b"a")],
                 )),
             ),
         ],
@@ -168,11 +168,11 @@ const COUNTS_OF_TEXTS: &[Group] = &[
 #[test]
 fn bitmaps_hold_a_bit_for_each_slot(rt: HostRuntime) -> Result<(), Fail> {
     expect(&rt, rt.alloc(), ANYWHERE, BITMAPS)?;
-    expect(&rt, rt.alloc(), OF_TEXTS, BITMAPS_OF_TEXTS)
+    expect_texts(&rt, rt.alloc(), BITMAPS_OF_TEXTS)
 }
 
 #[test]
 fn stated_null_counts_are_those_of_the_bitmap(rt: HostRuntime) -> Result<(), Fail> {
     expect(&rt, rt.alloc(), ANYWHERE, COUNTS)?;
-    expect(&rt, rt.alloc(), OF_TEXTS, COUNTS_OF_TEXTS)
+    expect_texts(&rt, rt.alloc(), COUNTS_OF_TEXTS)
 }

@@ -1,16 +1,15 @@
-use Rattle.std.proofs.Common.{◌∙◌, ◌≤◌, All, ap, arith, false, subst, sym}
+use Rattle.std.proofs.Common.{◌∙◌, All, ap, arith, false, length, subst, sym}
 use Rattle.std.specs.Prelude.{slice_index_or}
 use Rattle.types.specs.Kind as kind
 use Rattle.types.specs.Kind.{Kind}
-use Rattle.types.specs.Limits.{most_slots}
 use Rattle.types.specs.Number.{number_at}
-use Rattle.layout.specs.Item.{boolean, int, list, list_of, text}
-use Rattle.layout.specs.Offsets.{of_slot, start_of}
+use Rattle.layout.specs.Item.{boolean, int, text}
+use Rattle.layout.specs.Offsets.{of_slot}
 use Rattle.layout.specs.Seen.{Seen}
 use Rattle.arrays.specs.Lengths.{is_too_big}
 use Rattle.arrays.specs.Typed.{IsItemOf}
 use Rattle.arrays.proofs.SizeLemmas.{lists-fit, texts-fit}
-use Rattle.arrays.proofs.TypedLemmas.{codes-typed, list-typed, values-typed}
+use Rattle.arrays.proofs.TypedLemmas.{codes-typed, lists-typed, values-typed}
 use Rattle.arrays.proofs.view.View.+tell_items.Goals as goal
 
 pub returns-in-Int-clause-typed : goal.returns-in-Int-clause-typed
@@ -31,28 +30,24 @@ returns-in-Bool-clause-typed t c =
 pub returns-in-Bool-clause-few : goal.returns-in-Bool-clause-few
 returns-in-Bool-clause-few t c = ap (λ k. is_too_big k c.args.self.now.items) (sym c.in-Bool.ensures)
 
-pub returns-in-Utf8-clause-typed : goal.returns-in-Utf8-clause-typed
-returns-in-Utf8-clause-typed t c =
+pub returns-in-Text-clause-typed : goal.returns-in-Text-clause-typed
+returns-in-Text-clause-typed t c =
     let s = c.args.self.now in
     let texts = c.texts.result in
-    subst (λ (k : Kind). All (IsItemOf k) s.items) c.in-Utf8.ensures
-    (values-typed kind.utf8 (λ j. text (of_slot texts.offsets texts.bytes.now j)) s c.texts.ensures.texts.texts c.texts.ensures.texts.utf8)
+    subst (λ (k : Kind). All (IsItemOf k) s.items) c.in-Text.ensures
+    (values-typed (kind.texts c.in-Text.width) (λ j. text (of_slot texts.offsets texts.bytes.now j)) s c.texts.ensures.texts.texts c.texts.ensures.texts.utf8)
 
-pub returns-in-Utf8-clause-few : goal.returns-in-Utf8-clause-few
-returns-in-Utf8-clause-few t c =
+pub returns-in-Text-clause-few : goal.returns-in-Text-clause-few
+returns-in-Text-clause-few t c =
     let s = c.args.self.now in
     let texts = c.texts.result in
-    ap (λ k. is_too_big k s.items) (sym c.in-Utf8.ensures)
-    ∙ texts-fit texts.offsets texts.bytes.now s c.texts.ensures.texts
-    (subst (λ n. start_of texts.offsets n ≤ most_slots) c.texts.ensures.slots (texts.few texts.slots (omega arith)))
+    ap (λ k. is_too_big k s.items) (sym c.in-Text.ensures)
+    ∙ texts-fit c.in-Text.width texts.offsets texts.bytes.now s c.texts.ensures.texts (c.texts.ensures.few (length s.items) (omega arith))
 
 pub returns-in-List-clause-typed : goal.returns-in-List-clause-typed
 returns-in-List-clause-typed t c =
-    let s = c.args.self.now in
     let lists = c.lists.result in
-    subst (λ (k : Kind). All (IsItemOf k) s.items) (sym c.lists.ensures.value.kind)
-    (values-typed (kind.list lists.child.kind) (λ j. list (list_of (of_slot lists.offsets lists.child.items j))) s c.lists.ensures.value.lists
-    (λ j below valid. list-typed lists.child.kind lists.offsets lists.child.items j c.tell_items.ensures.typed))
+    lists-typed lists.offsets lists.child c.args.self.now c.lists.ensures.value c.tell_items.ensures.typed
 
 pub returns-in-List-clause-few : goal.returns-in-List-clause-few
 returns-in-List-clause-few t c =

@@ -2,11 +2,11 @@ use Rattle.std.proofs.Common.{◌∙◌, All, List, ap, subst, sym}
 use Rattle.arrays.specs.Item.{Item}
 use Rattle.select.specs.Picked.{IsPick, picked}
 use Rattle.select.specs.Texts.{AreOffsetsOf, all_bytes}
-use Rattle.select.proofs.TextLemmas.{texts_done}
+use Rattle.select.proofs.TextLemmas.{most-counted, texts_done}
 use Rattle.select.proofs.gather.texts.gather.Goals as goal
 
 pub picked_bytes-requires-clause-size : goal.picked_bytes-requires-clause-size
-picked_bytes-requires-clause-size g c = c.in_ok-laid.ensures.ok.fresh.short
+picked_bytes-requires-clause-size g c = most-counted c.args.width c.in_ok-laid.laid.end c.in_ok-laid.ensures.ok.fresh.short
 
 pub from_texts-requires-clause-offsets : goal.from_texts-requires-clause-offsets
 from_texts-requires-clause-offsets g c =
@@ -14,10 +14,10 @@ from_texts-requires-clause-offsets g c =
     let same = c.texts-texts.ensures.items in
     let picks = g.R.Rows.picks c.args.rows.now in
     let done =
-    texts_done texts.offsets texts.bytes.now c.args.view.now picks c.slots.result c.in_ok-laid.laid.end c.in_ok-laid.laid.offsets.items c.in_ok-offsets.offsets c.in_ok-filled.filled.items
-    c.in_ok-bytes.bytes texts.validity c.in_ok-validity.validity c.texts-texts.ensures.texts c.requires.within
-    (subst (λ (l : List Item). AreOffsetsOf (picked l picks) c.in_ok-laid.laid.offsets.items c.in_ok-laid.laid.end) same c.in_ok-laid.ensures.ok) c.slots.ensures.count c.slots.ensures.short
-    c.texts-texts.ensures.validity c.in_ok-validity.ensures c.in_ok-offsets.ensures (c.in_ok-filled.ensures ∙ ap (λ l. all_bytes (picked l picks)) same) c.in_ok-bytes.ensures in
+    texts_done c.args.width texts.offsets texts.bytes.now c.args.view.now picks c.slots.result c.in_ok-laid.laid.end c.in_ok-laid.laid.offsets.items c.in_ok-from_vec.field-0 c.in_ok-filled.filled.items
+    c.in_ok-bytes.bytes texts.validity c.in_ok-picked_validity.field-0 c.texts-texts.ensures.texts c.requires.within
+    (subst (λ (l : List Item). AreOffsetsOf c.args.width (picked l picks) c.in_ok-laid.laid.offsets.items c.in_ok-laid.laid.end) same c.in_ok-laid.ensures.ok) c.slots.ensures.count c.slots.ensures.short
+    c.texts-texts.ensures.validity c.in_ok-picked_validity.ensures c.in_ok-from_vec.ensures (c.in_ok-filled.ensures ∙ ap (λ l. all_bytes (picked l picks)) same) c.in_ok-bytes.ensures in
     done.bounds
 
 pub from_texts-requires-clause-texts : goal.from_texts-requires-clause-texts
@@ -26,10 +26,10 @@ from_texts-requires-clause-texts g c =
     let same = c.texts-texts.ensures.items in
     let picks = g.R.Rows.picks c.args.rows.now in
     let done =
-    texts_done texts.offsets texts.bytes.now c.args.view.now picks c.slots.result c.in_ok-laid.laid.end c.in_ok-laid.laid.offsets.items c.in_ok-offsets.offsets c.in_ok-filled.filled.items
-    c.in_ok-bytes.bytes texts.validity c.in_ok-validity.validity c.texts-texts.ensures.texts c.requires.within
-    (subst (λ (l : List Item). AreOffsetsOf (picked l picks) c.in_ok-laid.laid.offsets.items c.in_ok-laid.laid.end) same c.in_ok-laid.ensures.ok) c.slots.ensures.count c.slots.ensures.short
-    c.texts-texts.ensures.validity c.in_ok-validity.ensures c.in_ok-offsets.ensures (c.in_ok-filled.ensures ∙ ap (λ l. all_bytes (picked l picks)) same) c.in_ok-bytes.ensures in
+    texts_done c.args.width texts.offsets texts.bytes.now c.args.view.now picks c.slots.result c.in_ok-laid.laid.end c.in_ok-laid.laid.offsets.items c.in_ok-from_vec.field-0 c.in_ok-filled.filled.items
+    c.in_ok-bytes.bytes texts.validity c.in_ok-picked_validity.field-0 c.texts-texts.ensures.texts c.requires.within
+    (subst (λ (l : List Item). AreOffsetsOf c.args.width (picked l picks) c.in_ok-laid.laid.offsets.items c.in_ok-laid.laid.end) same c.in_ok-laid.ensures.ok) c.slots.ensures.count c.slots.ensures.short
+    c.texts-texts.ensures.validity c.in_ok-picked_validity.ensures c.in_ok-from_vec.ensures (c.in_ok-filled.ensures ∙ ap (λ l. all_bytes (picked l picks)) same) c.in_ok-bytes.ensures in
     done.texts
 
 pub from_texts-requires-clause-validity : goal.from_texts-requires-clause-validity
@@ -38,10 +38,10 @@ from_texts-requires-clause-validity g c =
     let same = c.texts-texts.ensures.items in
     let picks = g.R.Rows.picks c.args.rows.now in
     let done =
-    texts_done texts.offsets texts.bytes.now c.args.view.now picks c.slots.result c.in_ok-laid.laid.end c.in_ok-laid.laid.offsets.items c.in_ok-offsets.offsets c.in_ok-filled.filled.items
-    c.in_ok-bytes.bytes texts.validity c.in_ok-validity.validity c.texts-texts.ensures.texts c.requires.within
-    (subst (λ (l : List Item). AreOffsetsOf (picked l picks) c.in_ok-laid.laid.offsets.items c.in_ok-laid.laid.end) same c.in_ok-laid.ensures.ok) c.slots.ensures.count c.slots.ensures.short
-    c.texts-texts.ensures.validity c.in_ok-validity.ensures c.in_ok-offsets.ensures (c.in_ok-filled.ensures ∙ ap (λ l. all_bytes (picked l picks)) same) c.in_ok-bytes.ensures in
+    texts_done c.args.width texts.offsets texts.bytes.now c.args.view.now picks c.slots.result c.in_ok-laid.laid.end c.in_ok-laid.laid.offsets.items c.in_ok-from_vec.field-0 c.in_ok-filled.filled.items
+    c.in_ok-bytes.bytes texts.validity c.in_ok-picked_validity.field-0 c.texts-texts.ensures.texts c.requires.within
+    (subst (λ (l : List Item). AreOffsetsOf c.args.width (picked l picks) c.in_ok-laid.laid.offsets.items c.in_ok-laid.laid.end) same c.in_ok-laid.ensures.ok) c.slots.ensures.count c.slots.ensures.short
+    c.texts-texts.ensures.validity c.in_ok-picked_validity.ensures c.in_ok-from_vec.ensures (c.in_ok-filled.ensures ∙ ap (λ l. all_bytes (picked l picks)) same) c.in_ok-bytes.ensures in
     done.long
 
 pub returns-clause-ok : goal.returns-clause-ok
@@ -50,10 +50,10 @@ returns-clause-ok g c =
     let same = c.texts-texts.ensures.items in
     let picks = g.R.Rows.picks c.args.rows.now in
     let done =
-    texts_done texts.offsets texts.bytes.now c.args.view.now picks c.slots.result c.in_ok-laid.laid.end c.in_ok-laid.laid.offsets.items c.in_ok-offsets.offsets c.in_ok-filled.filled.items
-    c.in_ok-bytes.bytes texts.validity c.in_ok-validity.validity c.texts-texts.ensures.texts c.requires.within
-    (subst (λ (l : List Item). AreOffsetsOf (picked l picks) c.in_ok-laid.laid.offsets.items c.in_ok-laid.laid.end) same c.in_ok-laid.ensures.ok) c.slots.ensures.count c.slots.ensures.short
-    c.texts-texts.ensures.validity c.in_ok-validity.ensures c.in_ok-offsets.ensures (c.in_ok-filled.ensures ∙ ap (λ l. all_bytes (picked l picks)) same) c.in_ok-bytes.ensures in
+    texts_done c.args.width texts.offsets texts.bytes.now c.args.view.now picks c.slots.result c.in_ok-laid.laid.end c.in_ok-laid.laid.offsets.items c.in_ok-from_vec.field-0 c.in_ok-filled.filled.items
+    c.in_ok-bytes.bytes texts.validity c.in_ok-picked_validity.field-0 c.texts-texts.ensures.texts c.requires.within
+    (subst (λ (l : List Item). AreOffsetsOf c.args.width (picked l picks) c.in_ok-laid.laid.offsets.items c.in_ok-laid.laid.end) same c.in_ok-laid.ensures.ok) c.slots.ensures.count c.slots.ensures.short
+    c.texts-texts.ensures.validity c.in_ok-picked_validity.ensures c.in_ok-from_vec.ensures (c.in_ok-filled.ensures ∙ ap (λ l. all_bytes (picked l picks)) same) c.in_ok-bytes.ensures in
     c.in_ok-from_texts.ensures ∙ done.shows
 
 pub picked_offsets-requires : goal.picked_offsets-requires

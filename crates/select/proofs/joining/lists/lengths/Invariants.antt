@@ -5,4 +5,7 @@ use Rattle.arrays.specs.Seen.{Seen}
 use Rattle.select.proofs.joining.lists.lengths.Given as goal
 
 abbrev pub invariant-loop-view : goal.invariant-loop-view
-invariant-loop-view l = l.builder ++ flat_map (λ (s : Seen). map list_length s.items) (drop l.view-index l.views) ≡ map list_length (joined_items l.views)
+invariant-loop-view l = record {
+  width : l.builder.width ≡ l.fn.width;
+  lengths : l.builder.lengths ++ flat_map (λ (s : Seen). map list_length s.items) (drop l.view-index l.views) ≡ map list_length (joined_items l.views);
+}

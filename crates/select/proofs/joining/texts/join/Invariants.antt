@@ -3,4 +3,7 @@ use Rattle.arrays.specs.Lengths.{joined_items}
 use Rattle.select.proofs.joining.texts.join.Given as goal
 
 abbrev pub invariant-loop-view : goal.invariant-loop-view
-invariant-loop-view l = l.builder ++ joined_items (drop l.view-index l.views) ≡ joined_items l.views
+invariant-loop-view l = record {
+  width : l.builder.width ≡ l.width;
+  items : l.builder.items ++ joined_items (drop l.view-index l.views) ≡ joined_items l.views;
+}

@@ -1,5 +1,6 @@
 use Rattle.std.proofs.Common.{◌∙◌, ap, subst, sym}
 use Rattle.std.proofs.lemmas.Result.{IfOk-weaker}
+use Rattle.arrays.specs.Column.{TextColumn}
 use Rattle.arrays.specs.Growing.{cut_texts}
 use Rattle.types.specs.Kind as kind
 use Rattle.arrays.specs.FromParts.{AreTexts}
@@ -10,16 +11,18 @@ use Rattle.arrays.proofs.builder.texts.TextBuilder.finish.Goals as goal
 pub from_texts-requires-clause-texts : goal.from_texts-requires-clause-texts
 from_texts-requires-clause-texts c =
     let s = c.self.inside in
-    let laid = c.in_ok-laid.laid in
-    subst (AreTexts laid.len laid.validity laid.offsets) (sym c.in_ok-bytes.ensures)
-    (texts-laid s.slots laid.len laid.validity laid.offsets s.bytes.items c.in_ok-laid.ensures c.self.invariant)
+    let slots = c.in_ok-slots.slots in
+    subst (AreTexts slots.width slots.len slots.validity slots.offsets) (sym c.in_ok-bytes.ensures)
+    (texts-laid slots.width s.slots.lengths slots.len slots.validity slots.offsets s.bytes.items c.in_ok-slots.ensures.laid c.self.invariant.0)
 
 pub returns : goal.returns
 returns c =
     let s = c.self.inside in
-    let laid = c.in_ok-laid.laid in
+    let slots = c.in_ok-slots.slots in
     IfOk-weaker c.from_texts.result _ _
     (λ a is. is
-    ∙ shown-texts s.slots laid.len laid.validity laid.offsets c.in_ok-bytes.bytes c.in_ok-laid.ensures
-    ∙ ap (shown kind.utf8) (ap (cut_texts s.slots) c.in_ok-bytes.ensures ∙ c.self.view_is))
+    ∙ shown-texts slots.width s.slots.lengths slots.len slots.validity slots.offsets c.in_ok-bytes.bytes c.in_ok-slots.ensures.laid
+    ∙ ap (λ w. shown (kind.texts w) (cut_texts s.slots.lengths c.in_ok-bytes.bytes)) c.in_ok-slots.ensures.width
+    ∙ ap (λ bytes. shown (kind.texts s.slots.width) (cut_texts s.slots.lengths bytes)) c.in_ok-bytes.ensures
+    ∙ ap (λ (q : TextColumn). shown (kind.texts q.width) q.items) c.self.view_is)
     c.from_texts.ensures

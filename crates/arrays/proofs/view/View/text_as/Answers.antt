@@ -2,7 +2,7 @@ use Rattle.std.proofs.Common.{◌∙◌, Some, ap, sym}
 use Rattle.std.proofs.lemmas.Option.{slice_get-get_or}
 use Rattle.layout.specs.Item.{null}
 use Rattle.arrays.specs.Slot.{item_at}
-use Rattle.arrays.proofs.view.View.utf8_at.Goals as goal
+use Rattle.arrays.proofs.view.View.text_as.Goals as goal
 
 pub returns : goal.returns
 returns c =
