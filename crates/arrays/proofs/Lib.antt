@@ -19,4 +19,5 @@ pub mod GrowingLemmas
 pub mod SizeLemmas
 pub mod TypedLemmas
 pub mod BatchLemmas
+pub mod NullLemmas
 pub mod SendingLemmas

@@ -12,6 +12,7 @@ ghost use Rattle.arrays.specs.Words.{read_texts};
 mod encoding;
 mod from_parts;
 mod list_parts;
+mod nulls;
 pub(crate) mod parts;
 
 use crate::array::encoding::Encoding;

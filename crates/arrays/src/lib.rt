@@ -24,7 +24,7 @@ pub use layout::{LayoutFault, Offsets, RawArray};
 pub use offset_slots::OffsetSlots;
 pub use types::{
     DataType, Field, INT32, IntType, Integer, MOST_SLOTS, OffsetWidth, Packed, Schema, SchemaFault,
-    Width,
+    Width, has_dict_in_list, is_too_deep,
 };
 pub use view::{Bools, Ints, Lists, Texts, View, ViewType};
 pub use words::Words;

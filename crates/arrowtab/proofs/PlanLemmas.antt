@@ -35,7 +35,7 @@ pub map_begun : {A B : Type 0} (f : A → B) (xs ys : List A) → IsPrefix xs ys
 map_begun f xs ys begun = (map f begun.0, sym (map-append f xs begun.0) ∙ ap (map f) begun.1)
 
 -- a beginning that is no shorter is the whole
-whole_begun : {A : Type 0} (xs ys rest : List A) → xs ++ rest ≡ ys → length ys ≤ length xs → xs ≡ ys
+pub whole_begun : {A : Type 0} (xs ys rest : List A) → xs ++ rest ≡ ys → length ys ≤ length xs → xs ≡ ys
 whole_begun xs ys [] is long = sym (append-nil xs) ∙ is
 whole_begun xs ys (r ∷ rest) is long = absurd (omega (arith, long, length-append xs (r ∷ rest), ap (λ l. length l) is))
 

@@ -9,7 +9,7 @@ use mathlib.Core.List.{IsPrefix}
 use Rattle.arrays.specs.Batch.{Batch, Table, rows_of}
 use Rattle.arrays.specs.File.{File}
 use Rattle.arrays.specs.Shape.{FieldShape}
-use Rattle.loads.specs.Loaded.{IsAlike, batches_of, pairs_of}
+use Rattle.loads.specs.Loaded.{batches_of, pairs_of}
 use Rattle.loads.specs.Plan.{planned}
 use Rattle.shared.specs.Balance.{IsOfWorkers}
 use Rattle.query.specs.declared.fault.QueryFault.{QueryFault}
@@ -37,11 +37,15 @@ added_tables worker bs = map-map table_of (λ (b : Batch). (worker, rows_of b)) 
 planned_tables : (worker : ℕ) (files : List (List Batch)) (workers : ℕ) → map table_of (pairs_of worker (planned files workers worker)) ≡ tables_of (planned (map (map batch_of) files) workers worker)
 planned_tables worker files workers = added_tables worker (planned files workers worker) ∙ ap tables_of (sym (planned-map batch_of files workers worker))
 
-alike_mapped : (fields : List FieldShape) (bs : List Batch) → AllByRecursion (IsAlike fields) bs → AllByRecursion (λ (b : FileBatch). difference fields b.fields ≡ None) (map batch_of bs)
+-- the fields of a batch are these
+abbrev pub Fits : List FieldShape → Batch → Type 0
+Fits fields b = difference fields b.fields ≡ None
+
+alike_mapped : (fields : List FieldShape) (bs : List Batch) → AllByRecursion (Fits fields) bs → AllByRecursion (λ (b : FileBatch). difference fields b.fields ≡ None) (map batch_of bs)
 alike_mapped fields [] alike = tt
 alike_mapped fields (b ∷ bs) alike = (alike.0, alike_mapped fields bs alike.1)
 
-alike_listed : (fields : List FieldShape) (files : List (List Batch)) → AllByRecursion (AllByRecursion (IsAlike fields)) files
+alike_listed : (fields : List FieldShape) (files : List (List Batch)) → AllByRecursion (AllByRecursion (Fits fields)) files
     → AllByRecursion (λ (bs : List FileBatch). All (λ b. difference fields b.fields ≡ None) bs) (map (map batch_of) files)
 alike_listed fields [] alike = tt
 alike_listed fields (bs ∷ files) alike = (
@@ -51,7 +55,7 @@ alike_listed fields (bs ∷ files) alike = (
 
 -- ---- what was loaded
 
-pub loaded_of : (workers : ℕ) (files : List File) (fields : List FieldShape) (h : History) → AllByRecursion (AllByRecursion (IsAlike fields)) (batches_of files) → IsOfWorkers workers h
+pub loaded_of : (workers : ℕ) (files : List File) (fields : List FieldShape) (h : History) → AllByRecursion (AllByRecursion (Fits fields)) (batches_of files) → IsOfWorkers workers h
     → ((w : ℕ) → w < workers → of h w ≡ pairs_of w (planned (batches_of files) workers w)) → IsLegal fields h → IsLoaded workers (listed files) fields h
 loaded_of workers files fields h alike known each legal = record {
   alike = all_from (λ (bs : List FileBatch). All (λ b. difference fields b.fields ≡ None) bs) (listed files) (alike_listed fields (batches_of files) alike);

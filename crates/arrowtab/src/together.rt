@@ -1,21 +1,22 @@
 //! The table of files that workers load together.
-ghost use Rattle.std.specs.Prelude.{◌≡◌, ◌<◌, ◌≤◌, All, IfErr, IfOk, length};
+ghost use Rattle.std.specs.Prelude.{◌≡◌, ◌+◌, ◌<◌, ◌≤◌, All, IfErr, IfOk, length, sum_by};
 ghost use Rattle.std.specs.Arc.{arc_value};
+ghost use mathlib.Core.List.{IsPrefix};
 ghost use Rattle.arrowtab.specs.Worked.{Holds, StopsLoading};
 ghost use Rattle.loads.specs.Loaded.{fields_for};
 ghost use Rattle.shared.specs.Balance.{IsOfWorkers};
-ghost use Rattle.shared.specs.Hand.{AreNew, IsWhole};
+ghost use Rattle.shared.specs.Hand.{AreNew, IsWhole, columns_of_hand};
+ghost use Rattle.shared.specs.Known.{IsLegalKnown, known_of};
 ghost use Rattle.shared.specs.Missing.{AllThere};
-ghost use Rattle.table.specs.Cause.{IsLegal};
 
 use crate::run_fault::{FileFault, RunFault};
 use answers::OpenGate;
 use arrays::File;
 use loads::{LoadFault, load_all};
-use shared::{GatherCause, Naming, Pair, Publish, SharedTable, Shown, Worker, open};
+use shared::{Blanks, GatherCause, Naming, Pair, Publish, SharedTable, Shown, Worker, open};
 use std::alloc::Global;
 use std::marker::Brand;
-use std::sync::ledger::{Blank, Ledger};
+use std::sync::ledger::Ledger;
 use std::sync::{Arc, Wait};
 use std::thread::Threads;
 use table::Version;
@@ -35,12 +36,9 @@ pub(crate) fn load_together<W: Wait + Sync, T: Threads + Sync>(
     ensures err { IfErr result (StopsLoading workers files.items) }
 {
     let pair = Pair::new(alloc, files[0].schema())?;
-    let (calls, rows) = (
-        Blank::new(u64::from(workers)),
-        Blank::new(u64::from(workers)),
-    );
-    load_under::<Brand, Brand, Brand, W, T>(
-        wait, threads, alloc, workers, &files, calls, rows, pair,
+    let blanks = Blanks::new(workers);
+    load_under::<Brand, Brand, Brand, Brand, W, T>(
+        wait, threads, alloc, workers, &files, blanks, pair,
     )
 }
 
@@ -48,6 +46,7 @@ pub(crate) fn load_together<W: Wait + Sync, T: Threads + Sync>(
 fn load_under<
     C: Ledger + Send + Sync,
     Q: Ledger + Send + Sync,
+    K: Ledger + Send + Sync,
     N: Naming + Send + Sync,
     W: Wait + Sync,
     T: Threads + Sync,
@@ -57,21 +56,21 @@ fn load_under<
     alloc: Global,
     workers: u32,
     files: &[File],
-    calls: Blank,
-    rows: Blank,
+    blanks: Blanks,
     pair: Pair,
 ) -> Result<Arc<Version>, RunFault>
     requires some { 0 < length files.now }
     requires worker { 1 ≤ workers }
     requires few { workers ≤ 64 }
-    requires calls { (calls.name ≡ C.name) × (calls.parts ≡ C.parts) × (calls.parts ≡ workers) }
-    requires rows { (rows.name ≡ Q.name) × (rows.parts ≡ Q.parts) × (rows.parts ≡ workers) }
+    requires calls { (blanks.calls.name ≡ C.name) × (blanks.calls.parts ≡ C.parts) × (blanks.calls.parts ≡ workers) }
+    requires rows { (blanks.rows.name ≡ Q.name) × (blanks.rows.parts ≡ Q.parts) × (blanks.rows.parts ≡ workers) }
+    requires columns { (blanks.columns.name ≡ K.name) × (blanks.columns.parts ≡ K.parts) × (blanks.columns.parts ≡ workers) }
     requires pair { (pair.book ≡ N.book) × (pair.fields ≡ N.fields) × (pair.fields ≡ fields_for files.now) }
     ensures ok { IfOk result (λ v. Holds workers files.now (arc_value v)) }
     ensures err { IfErr result (StopsLoading workers files.now) }
 {
     let schema = files[0].schema().copy(alloc)?;
-    match open::<C, Q, N, &W>(wait, alloc, schema, workers, 0, calls, rows, pair) {
+    match open::<C, Q, K, N, &W>(wait, alloc, schema, workers, 0, blanks, pair) {
         Ok((table, hands, _readers)) => {
             load_by(wait, threads, alloc, workers, table, hands, files)
         }
@@ -83,6 +82,7 @@ fn load_under<
 fn load_by<
     C: Ledger + Send + Sync,
     Q: Ledger + Send + Sync,
+    K: Ledger + Send + Sync,
     N: Naming + Send + Sync,
     P: Publish<Item = Shown<N>> + Send,
     W: Wait + Sync,
@@ -92,14 +92,14 @@ fn load_by<
     threads: &T,
     alloc: Global,
     workers: u32,
-    table: SharedTable<C, Q, N, P>,
-    hands: Vec<Worker<C, Q, N>>,
+    table: SharedTable<C, Q, K, N, P>,
+    hands: Vec<Worker<C, Q, K, N>>,
     files: &[File],
 ) -> Result<Arc<Version>, RunFault>
     requires worker { 1 ≤ workers }
     requires table { table ≡ workers }
     requires count { length hands.items ≡ workers }
-    requires new { AreNew 0 hands.items }
+    requires new { AreNew N.fields 0 hands.items }
     requires fields { N.fields ≡ fields_for files.now }
     ensures ok { IfOk result (λ v. Holds workers files.now (arc_value v)) }
     ensures err { IfErr result (StopsLoading workers files.now) }
@@ -140,16 +140,17 @@ fn load_by<
 }
 
 /// All that the workers of a table appended. As all of them are there, only want of memory can stand against it.
-fn gather_all<C: Ledger, Q: Ledger, N: Naming, P: Publish<Item = Shown<N>>, W: Wait>(
+fn gather_all<C: Ledger, Q: Ledger, K: Ledger, N: Naming, P: Publish<Item = Shown<N>>, W: Wait>(
     wait: &W,
-    table: SharedTable<C, Q, N, P>,
-    hands: Vec<Worker<C, Q, N>>,
+    table: SharedTable<C, Q, K, N, P>,
+    hands: Vec<Worker<C, Q, K, N>>,
 ) -> Result<Arc<Version>, RunFault>
     requires { AllThere table hands.items }
-    ensures whole { IfOk result (λ v. All (IsWhole (arc_value v).history) hands.items) }
+    ensures whole { IfOk result (λ v. All (IsWhole (known_of (arc_value v))) hands.items) }
     ensures known { IfOk result (λ v. IsOfWorkers table (arc_value v).history) }
-    ensures legal { IfOk result (λ v. IsLegal N.fields (arc_value v).history) }
-    ensures fields { IfOk result (λ v. (arc_value v).fields ≡ N.fields) }
+    ensures legal { IfOk result (λ v. IsLegalKnown (known_of (arc_value v))) }
+    ensures columns { IfOk result (λ v. length (arc_value v).fields ≡ length N.fields + sum_by columns_of_hand hands.items) }
+    ensures opened { IfOk result (λ v. IsPrefix N.fields (arc_value v).fields) }
     ensures err { IfErr result (λ e. e ≡ RunFault.NoMemory) }
 {
     match table.gather(wait, hands) {

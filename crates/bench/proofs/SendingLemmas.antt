@@ -20,22 +20,22 @@ use Rattle.shared.specs.declared.naming.Naming as naming
 use Rattle.shared.specs.declared.shown.Publish as publish
 use Rattle.table.specs.Contents.{Contents}
 
-module _ (C Q N : RattleType) (c : ledger.Ghosts C.Denot) (q : ledger.Ghosts Q.Denot) (n : naming.Ghosts N.Denot) (m : names.Ghosts N.Denot) where
-  pub hand-send : IsSend (hand.the_row C Q N c q n m)
+module _ (C Q K N : RattleType) (c : ledger.Ghosts C.Denot) (q : ledger.Ghosts Q.Denot) (k : ledger.Ghosts K.Denot) (n : naming.Ghosts N.Denot) (m : names.Ghosts N.Denot) where
+  pub hand-send : IsSend (hand.the_row C Q K N c q k n m)
   hand-send =
-      let T = hand.the_type C Q N c q n m in
+      let T = hand.the_type C Q K N c q k n m in
       recorded_send (Enum (variants T)) T.D T.to T.to_one
       (enum_send (variants T) ((search (worker.the_send, crosses, sendable) depth 20, tt), ((search (reader-send N n m, crosses, sendable) depth 20, tt), tt)))
 
-module _ (C Q N P : RattleType) (c : ledger.Ghosts C.Denot) (q : ledger.Ghosts Q.Denot) (n : naming.Ghosts N.Denot) (m : names.Ghosts N.Denot) (p : publish.Ghosts P.Denot Contents) (send-P : IsSend P) where
-  pub looking-sync : (ℓ : NamedLft) (W : RattleType) → IsSync W → IsSync (looking.the_row ℓ C Q N P W c q n m p)
+module _ (C Q K N P : RattleType) (c : ledger.Ghosts C.Denot) (q : ledger.Ghosts Q.Denot) (k : ledger.Ghosts K.Denot) (n : naming.Ghosts N.Denot) (m : names.Ghosts N.Denot) (p : publish.Ghosts P.Denot Contents) (send-P : IsSend P) where
+  pub looking-sync : (ℓ : NamedLft) (W : RattleType) → IsSync W → IsSync (looking.the_row ℓ C Q K N P W c q k n m p)
   looking-sync ℓ W w =
-      let T = looking.the_type ℓ C Q N P W c q n m p in
+      let T = looking.the_type ℓ C Q K N P W c q k n m p in
       recorded_sync (Struct (shape T)) T.D T.to T.to_one
       (struct_sync (shape T) (
         search (w, sendable) depth 20,
         (
-          shr_sync ℓ.mir ℓ.lft (table.the_row C Q N P c q n m p) (table-sync C Q N P c q n m p send-P),
+          shr_sync ℓ.mir ℓ.lft (table.the_row C Q K N P c q k n m p) (table-sync C Q K N P c q k n m p send-P),
           (
             search (batch-sync, crosses, sendable) depth 20,
             (search sendable depth 20, (search sendable depth 20, (search sendable depth 20, (search (crosses, sendable) depth 20, tt)))),

@@ -2,7 +2,8 @@
 //! prints how many slots of the last result are null. KERNEL is `add`, `less`, `equal` (of texts), `and`, `filter`, `take`,
 //! `take-texts`, `recode-few`, `recode-many`, `recode-codes`, `add-number` or `greater-number`. `bench kernels concat ROWS TIMES` puts
 //! sixteen columns of so many rows together behind one another, `bench kernels stats-of ROWS TIMES` prints the
-//! statistics of one column, and `bench kernels null-count ROWS TIMES` how many of its slots are null.
+//! statistics of one column, and `bench kernels null-count ROWS TIMES` how many of its slots are null. `bench kernels nulls ROWS TIMES` makes a column of nulls,
+//! and prints how many.
 //! `bench kernels BITS ROWS TIMES`, with `bits-and`, `bits-or`, `bits-not` or `bits-and-within` (a byte) for BITS, makes a bitmap
 //! of two of so many bits, and prints how many bits of the last are 1. `bench kernels PARTS ROWS TIMES`, with `validate-numbers` or
 //! `validate-texts` for PARTS, checks the parts of a column, and prints how many nulls they state. `bench kernels admit ROWS TIMES` makes
@@ -15,6 +16,7 @@ mod appending;
 mod bitmaps;
 mod columns;
 mod kernel;
+mod nulls;
 mod pieces;
 mod statistics;
 mod validation;
@@ -32,7 +34,7 @@ use validation::Parts;
 const FEW: u32 = 1000;
 
 /// All that can be run.
-const EACH: [&str; 23] = [
+const EACH: [&str; 24] = [
     "add",
     "less",
     "equal",
@@ -54,6 +56,7 @@ const EACH: [&str; 23] = [
     "validate-texts",
     "concat",
     "stats-of",
+    "nulls",
     "admit",
     "gather",
 ];
@@ -79,6 +82,7 @@ fn run_one(rt: &HostRuntime, name: &str, rows: u32, times: u32) -> Result<(), Fa
     match name {
         "stats-of" => tell_stats(rt, rows, times),
         "concat" => tell(rt, pieces::nulls_after(rt.alloc(), rows, times)),
+        "nulls" => tell(rt, nulls::nulls_made(rt.alloc(), rows, times)),
         "null-count" => tell(rt, nulls_counted(rt.alloc(), rows, times)),
         "admit" => tell(rt, rows_admitted(rt.alloc(), rows, times)),
         "gather" => tell(rt, rows_gathered(rt.alloc(), rows, times)),

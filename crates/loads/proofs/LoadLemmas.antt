@@ -7,15 +7,22 @@ use Rattle.std.proofs.lemmas.Bool.Decides.{nat_tests}
 use Rattle.std.proofs.lemmas.Grind.{flat_map-append}
 use Rattle.std.proofs.lemmas.List.{get_or-map as at_any, append-nil, length-take-le, map-append, take_more}
 use Rattle.std.proofs.lemmas.List.Elements.{All-append, All-push, filter-append}
+use Rattle.std.proofs.lemmas.Option.{slice_get-get_or, slice_get-map}
+use Rattle.std.proofs.Math.Seq.{take-length}
 use Rattle.std.proofs.lemmas.List.Sums.{sum_by-append}
-use Rattle.arrays.specs.Batch.{Batch, rows_of}
+use Rattle.arrays.specs.Batch.{Batch, Table, rows_of}
 use Rattle.arrays.specs.File.{File}
 use Rattle.arrays.specs.First.{first}
 use Rattle.arrays.specs.Shape.{FieldShape}
-use Rattle.histories.proofs.PrefixLemmas.{prefix_trans}
+use mathlib.Core.List.{IsPrefix}
+use Rattle.histories.proofs.PrefixLemmas.{prefix_length, prefix_trans}
 use Rattle.shared.specs.Hand.{Hand, HasAdded, HasSeen, IsKept, IsRaised, calls_of_hand}
-use Rattle.table.specs.Cause.{cause, difference}
+use Rattle.shared.specs.Known.{IsLegalKnown, Known}
+use Rattle.shared.proofs.KnownLemmas.{begins_self, begins_trans, last_typed, wide_again}
+use Rattle.table.specs.Cause.{IsLegal, IsTableOf, cause, difference}
 use Rattle.table.specs.History.{History}
+use Rattle.table.specs.Widened.{widened}
+use Rattle.table.proofs.WidenedLemmas.{widened-again, widened-append}
 use Rattle.table.specs.declared.refusal.Refusal.{Refusal}
 use Rattle.table.specs.declared.refusal.Refusal.TheVariants.{SchemaDiffers}
 use Rattle.loads.specs.Loaded.{HasLast, IsAlike, IsNewest, IsStopped, Loaded, StandsFor, batches_of, pairs_of}
@@ -41,55 +48,124 @@ no_difference : (o : Option ℕ) (rest : Option Refusal) → first (option_map (
 no_difference None rest none = refl
 no_difference (Some c) rest none = absurd (cc none)
 
-one_alike : (fields : List FieldShape) (b : Batch) → IsAlike fields b → All (IsAlike fields) (b ∷ [])
-one_alike fields b is = All-push (IsAlike fields) [] b (λ k d below. absurd (omega (arith, below))) is
+no_batch : (P : Batch → Type 0) → All P []
+no_batch P = λ k d below. absurd (omega (arith, below))
 
-pub loaded_one : (fields : List FieldShape) (b : Batch) (old new : Hand) → IsRaised b.rows old new → HasAdded fields b old new → Loaded fields (b ∷ []) old new
-loaded_one fields b old new raised is = record {
-  number = is.number;
-  calls = omega (arith, raised.calls);
-  rows = omega (arith, raised.rows);
-  mine = is.mine;
-  begun = prefix_trans old.seen is.before new.seen is.begun (((old.number, rows_of b) ∷ []), sym is.seen);
-  alike = one_alike fields b (no_difference (difference fields b.fields) (cause fields is.before (rows_of b)) is.allowed);
-}
+one_batch : (P : Batch → Type 0) (b : Batch) → P b → All P (b ∷ [])
+one_batch P b is = All-push P [] b (no_batch P) is
 
-pub loaded_none : (fields : List FieldShape) (old new : Hand) → IsKept old new → HasSeen fields old new → Loaded fields [] old new
-loaded_none fields old new kept is = record {
+each_batch : (P Q : Batch → Type 0) (bs : List Batch) → ((b : Batch) → P b → Q b) → All P bs → All Q bs
+each_batch P Q bs f all = λ k d below. f (get_or bs k d) (all k d below)
+
+-- the worker's pair behind all others has as many items in a row as there are fields
+pair_wide : (old new : Hand) (b : Batch) → HasAdded b old new → IsTableOf new.seen.fields (rows_of b)
+pair_wide old new b is =
+    last_typed new.seen.fields is.before.history old.number (rows_of b) (subst (IsLegal new.seen.fields) is.history is.legal)
+
+pub loaded_one : (b : Batch) (old new : Hand) → IsRaised b.rows old new → HasAdded b old new → Loaded (b ∷ []) old new
+loaded_one b old new raised is =
+    let n = length new.seen.fields in
+    let typed = pair_wide old new b is in
+    let wide : widened n ((old.number, rows_of b) ∷ []) ≡ (old.number, rows_of b) ∷ [] = ap (λ (t : Table). (old.number, t) ∷ []) (wide_again new.seen.fields (rows_of b) typed) in
+    let same = ap (λ (fs : List FieldShape). length fs) is.fields in
+    record {
+      number = is.number;
+      calls = omega (arith, raised.calls);
+      rows = omega (arith, raised.rows);
+      mine = is.mine
+          ∙ ap (λ m. widened m old.mine ++ (old.number, rows_of b) ∷ []) (sym same)
+          ∙ ap (λ (h : History). widened n old.mine ++ h) (sym wide)
+          ∙ sym (widened-append n old.mine ((old.number, rows_of b) ∷ []));
+      columns = is.columns;
+      begun = record {
+        fields = subst (λ (fs : List FieldShape). IsPrefix old.seen.fields fs) (sym is.fields) is.begun.fields;
+        history = prefix_trans (widened n old.seen.history) is.before.history new.seen.history
+            (subst (λ m. IsPrefix (widened m old.seen.history) is.before.history) (sym same) is.begun.history)
+            (((old.number, rows_of b) ∷ []), sym is.history);
+      };
+      alike = one_batch (IsAlike old.seen new.seen) b (record {
+        fields = is.before.fields;
+        begun = is.begun.fields;
+        ended = ([], append-nil is.before.fields ∙ sym is.fields);
+        same = no_difference (difference is.before.fields b.fields) (cause is.before.fields is.before.history (rows_of b)) is.allowed;
+        shaped = subst (λ (fs : List FieldShape). IsTableOf fs (rows_of b)) is.fields typed;
+      });
+    }
+
+pub loaded_none : (old new : Hand) → IsKept old new → HasSeen old new → Loaded [] old new
+loaded_none old new kept is = record {
   number = is.number;
   calls = omega (arith, kept.calls);
   rows = omega (arith, kept.rows);
-  mine = is.mine ∙ sym (append-nil old.mine);
+  mine = is.mine ∙ ap (widened (length new.seen.fields)) (sym (append-nil old.mine));
+  columns = is.columns;
   begun = is.begun;
-  alike = λ k d below. absurd (omega (arith, below));
+  alike = no_batch (IsAlike old.seen new.seen);
+}
+
+-- it did nothing
+pub loaded_nothing : (h : Hand) → IsLegalKnown h.seen → widened (length h.seen.fields) h.mine ≡ h.mine → Loaded [] h h
+loaded_nothing h legal wide = record {
+  number = refl;
+  calls = omega arith;
+  rows = omega arith;
+  mine = sym wide ∙ ap (widened (length h.seen.fields)) (sym (append-nil h.mine));
+  columns = refl;
+  begun = begins_self h.seen legal;
+  alike = no_batch (IsAlike h.seen h.seen);
 }
 
 pairs-append : (worker : ℕ) (bs cs : List Batch) → pairs_of worker (bs ++ cs) ≡ pairs_of worker bs ++ pairs_of worker cs
 pairs-append worker bs cs = map-append (λ (b : Batch). (worker, rows_of b)) bs cs
 
-pub loaded_then : (fields : List FieldShape) (bs cs : List Batch) (old mid new : Hand) → Loaded fields bs old mid → Loaded fields cs mid new → Loaded fields (bs ++ cs) old new
-loaded_then fields bs cs old mid new one two = record {
-  number = two.number ∙ one.number;
-  calls = omega (arith, one.calls, two.calls, length-append bs cs);
-  rows = omega (arith, one.rows, two.rows, sum_by-append (λ (b : Batch). b.rows) bs cs);
-  mine = two.mine
-      ∙ ap (λ (l : History). l ++ pairs_of mid.number cs) one.mine
-      ∙ ap (λ n. (old.mine ++ pairs_of old.number bs) ++ pairs_of n cs) one.number
-      ∙ append_assoc old.mine (pairs_of old.number bs) (pairs_of old.number cs)
-      ∙ ap (λ (l : History). old.mine ++ l) (sym (pairs-append old.number bs cs));
-  begun = prefix_trans old.seen mid.seen new.seen one.begun two.begun;
-  alike = All-append (IsAlike fields) bs cs one.alike two.alike;
-}
+-- what was added under fewer fields and then under more is added under these
+mine_then : (m n w : ℕ) (old : History) (bs cs : List Batch) (mid new : History) → m ≤ n → mid ≡ widened m (old ++ pairs_of w bs) → new ≡ widened n (mid ++ pairs_of w cs)
+    → new ≡ widened n (old ++ pairs_of w (bs ++ cs))
+mine_then m n w old bs cs mid new few one two =
+    two
+    ∙ ap (λ (h : History). widened n (h ++ pairs_of w cs)) one
+    ∙ widened-append n (widened m (old ++ pairs_of w bs)) (pairs_of w cs)
+    ∙ ap (λ (h : History). h ++ widened n (pairs_of w cs)) (widened-again m n few (old ++ pairs_of w bs))
+    ∙ sym (widened-append n (old ++ pairs_of w bs) (pairs_of w cs))
+    ∙ ap (widened n) (append_assoc old (pairs_of w bs) (pairs_of w cs) ∙ ap (λ (h : History). old ++ h) (sym (pairs-append w bs cs)))
 
-pub loaded_same : (fields : List FieldShape) (bs cs : List Batch) (old new : Hand) → bs ≡ cs → Loaded fields bs old new → Loaded fields cs old new
-loaded_same fields bs cs old new same is = subst (λ xs. Loaded fields xs old new) same is
+pub loaded_then : (bs cs : List Batch) (old mid new : Hand) → Loaded bs old mid → Loaded cs mid new → Loaded (bs ++ cs) old new
+loaded_then bs cs old mid new one two =
+    let few = prefix_length mid.seen.fields new.seen.fields two.begun.fields in
+    record {
+      number = two.number ∙ one.number;
+      calls = omega (arith, one.calls, two.calls, length-append bs cs);
+      rows = omega (arith, one.rows, two.rows, sum_by-append (λ (b : Batch). b.rows) bs cs);
+      mine = mine_then (length mid.seen.fields) (length new.seen.fields) old.number old.mine bs cs mid.mine new.mine few one.mine
+          (two.mine ∙ ap (λ w. widened (length new.seen.fields) (mid.mine ++ pairs_of w cs)) one.number);
+      columns = two.columns ∙ one.columns;
+      begun = begins_trans old.seen mid.seen new.seen one.begun two.begun;
+      alike = All-append (IsAlike old.seen new.seen) bs cs
+          (each_batch (IsAlike old.seen mid.seen) (IsAlike old.seen new.seen) bs
+          (λ b is. record { fields = is.fields; begun = is.begun; ended = prefix_trans is.fields mid.seen.fields new.seen.fields is.ended two.begun.fields; same = is.same; shaped = is.shaped })
+          one.alike)
+          (each_batch (IsAlike mid.seen new.seen) (IsAlike old.seen new.seen) cs
+          (λ b is. record { fields = is.fields; begun = prefix_trans old.seen.fields mid.seen.fields is.fields one.begun.fields is.begun; ended = is.ended; same = is.same; shaped = is.shaped })
+          two.alike);
+    }
+
+pub loaded_same : (bs cs : List Batch) (old new : Hand) → bs ≡ cs → Loaded bs old new → Loaded cs old new
+loaded_same bs cs old new same is = subst (λ xs. Loaded xs old new) same is
+
+-- nothing more
+pub loaded_stay : (bs : List Batch) (old mid new : Hand) → Loaded bs old mid → Loaded [] mid new → Loaded bs old new
+loaded_stay bs old mid new one two = loaded_same (bs ++ []) bs old new (append-nil bs) (loaded_then bs [] old mid new one two)
+
+-- all of a list
+pub loaded_end : (bs : List Batch) (n : ℕ) (old new : Hand) → n ≡ length bs → Loaded (take n bs) old new → Loaded bs old new
+loaded_end bs n old new end is = loaded_same (take n bs) bs old new (ap (λ m. take m bs) end ∙ take-length bs) is
 
 -- one batch of a list more
-pub loaded_more : (fields : List FieldShape) (bs : List Batch) (n : ℕ) (b : Batch) (old mid new : Hand) → n < length bs → get_or bs n b ≡ b
-    → Loaded fields (take n bs) old mid → Loaded fields (b ∷ []) mid new → Loaded fields (take (n + 1) bs) old new
-loaded_more fields bs n b old mid new below is one two =
-    loaded_same fields (take n bs ++ b ∷ []) (take (n + 1) bs) old new (ap (λ x. take n bs ++ x ∷ []) (sym is) ∙ sym (take_more bs n b below))
-    (loaded_then fields (take n bs) (b ∷ []) old mid new one two)
+pub loaded_more : (bs : List Batch) (n : ℕ) (b : Batch) (old mid new : Hand) → n < length bs → get_or bs n b ≡ b
+    → Loaded (take n bs) old mid → Loaded (b ∷ []) mid new → Loaded (take (n + 1) bs) old new
+loaded_more bs n b old mid new below is one two =
+    loaded_same (take n bs ++ b ∷ []) (take (n + 1) bs) old new (ap (λ x. take n bs ++ x ∷ []) (sym is) ∙ sym (take_more bs n b below))
+    (loaded_then (take n bs) (b ∷ []) old mid new one two)
 
 pub mapped_at : {A B : Type 0} (v : A → B) (xs : List A) (n : ℕ) (x : A) (y : B) → x ≡ get_or xs n x → y ≡ v x → get_or (map v xs) n y ≡ y
 mapped_at v xs n x y is same = ap (λ z. get_or (map v xs) n z) same ∙ get_or-map v xs n x ∙ ap v (sym is) ∙ sym same
@@ -106,15 +182,23 @@ there [] n below = absurd (omega (arith, below))
 there (x ∷ xs) zero below = (x, refl)
 there (x ∷ xs) (suc n) below = there xs n (omega (arith, below))
 
+-- what stands for a batch stands for the one at its place
+pub stands_at : {A : Type 0} (v : A → Batch) (xs : List A) (n : ℕ) (x : A) (b : Batch) (k : Known) (e : Refusal) → n < length xs → x ≡ get_or xs n x → b ≡ v x → StandsFor k b e
+    → (c : Batch) → slice_get (map v xs) n ≡ Some c → StandsFor k c e
+stands_at v xs n x b k e below is same stands c at =
+    let found : Some (v (get_or xs n x)) ≡ Some c = sym (slice_get-map v xs n ∙ ap (option_map v) (slice_get-get_or xs n x below)) ∙ at in
+    let one : b ≡ c = same ∙ ap v is ∙ cc found in
+    subst (λ (y : Batch). StandsFor k y e) one stands
+
 -- ---- the last receipt
 
-pub last_some : (fields : List FieldShape) (first : ℕ) (b : Batch) (old new : Hand) (r : History) → first ≤ calls_of_hand old → Loaded fields (b ∷ []) old new → HasLast first new (Some r)
-last_some fields first b old new r before is = let more : first < calls_of_hand new = omega (arith, before, is.calls) in grind (arith, nat_tests)
+pub last_some : (first : ℕ) (b : Batch) (old new : Hand) (r : Known) → first ≤ calls_of_hand old → Loaded (b ∷ []) old new → HasLast first new (Some r)
+last_some first b old new r before is = let more : first < calls_of_hand new = omega (arith, before, is.calls) in grind (arith, nat_tests)
 
-pub last_moved : (first : ℕ) (old new : Hand) (before last : Option History) → new ≡ old → last ≡ before → HasLast first old before → HasLast first new last
-last_moved first old new before last same is has = ap (λ (p : Option History). is_some p) is ∙ has ∙ ap (λ (h : Hand). nat_lt first (calls_of_hand h)) (sym same)
+pub last_moved : (first : ℕ) (old new : Hand) (before last : Option Known) → new ≡ old → last ≡ before → HasLast first old before → HasLast first new last
+last_moved first old new before last same is has = ap (λ (p : Option Known). is_some p) is ∙ has ∙ ap (λ (h : Hand). nat_lt first (calls_of_hand h)) (sym same)
 
-pub newest_moved : (old new : Hand) (before last : Option History) → new ≡ old → last ≡ before → IsNewest old before → IsNewest new last
+pub newest_moved : (old new : Hand) (before last : Option Known) → new ≡ old → last ≡ before → IsNewest old before → IsNewest new last
 newest_moved old new before last same is newest =
     subst (λ (h : Hand). IsNewest h last) (sym same) (subst (λ o. IsNewest old o) (sym is) newest)
 
@@ -169,30 +253,30 @@ module _ {B : Type 0} where
       ∙ append-nil (planned (take n files) workers place)
 
 -- a file of the place more, and one of another place
-pub loaded_file : (fields : List FieldShape) (files : List (List Batch)) (workers place n : ℕ) (bs : List Batch) (old mid new : Hand) → n < length files → n % workers ≡ place → get_or files n [] ≡ bs
-    → Loaded fields (planned (take n files) workers place) old mid → Loaded fields bs mid new → Loaded fields (planned (take (n + 1) files) workers place) old new
-loaded_file fields files workers place n bs old mid new below mine is one two =
-    loaded_same fields (planned (take n files) workers place ++ bs) (planned (take (n + 1) files) workers place) old new
+pub loaded_file : (files : List (List Batch)) (workers place n : ℕ) (bs : List Batch) (old mid new : Hand) → n < length files → n % workers ≡ place → get_or files n [] ≡ bs
+    → Loaded (planned (take n files) workers place) old mid → Loaded bs mid new → Loaded (planned (take (n + 1) files) workers place) old new
+loaded_file files workers place n bs old mid new below mine is one two =
+    loaded_same (planned (take n files) workers place ++ bs) (planned (take (n + 1) files) workers place) old new
     (ap (λ xs. planned (take n files) workers place ++ xs) (sym is) ∙ sym (planned_mine files workers place n below mine))
-    (loaded_then fields (planned (take n files) workers place) bs old mid new one two)
+    (loaded_then (planned (take n files) workers place) bs old mid new one two)
 
-pub loaded_other : (fields : List FieldShape) (files : List (List Batch)) (workers place n : ℕ) (old new : Hand) → n < length files → n % workers ≢ place
-    → Loaded fields (planned (take n files) workers place) old new → Loaded fields (planned (take (n + 1) files) workers place) old new
-loaded_other fields files workers place n old new below other is =
-    loaded_same fields (planned (take n files) workers place) (planned (take (n + 1) files) workers place) old new (sym (planned_other files workers place n below other)) is
+pub loaded_other : (files : List (List Batch)) (workers place n : ℕ) (old new : Hand) → n < length files → n % workers ≢ place
+    → Loaded (planned (take n files) workers place) old new → Loaded (planned (take (n + 1) files) workers place) old new
+loaded_other files workers place n old new below other is =
+    loaded_same (planned (take n files) workers place) (planned (take (n + 1) files) workers place) old new (sym (planned_other files workers place n below other)) is
 
 -- stopped in a file of the place
-pub loaded_stopped : (fields : List FieldShape) (files : List (List Batch)) (workers place n k : ℕ) (bs : List Batch) (old mid new : Hand) → get_or files n [] ≡ bs
-    → Loaded fields (planned (take n files) workers place) old mid → Loaded fields (take k bs) mid new
-    → Loaded fields (planned (take n files) workers place ++ take k (get_or files n [])) old new
-loaded_stopped fields files workers place n k bs old mid new is one two =
-    loaded_same fields (planned (take n files) workers place ++ take k bs) (planned (take n files) workers place ++ take k (get_or files n [])) old new
+pub loaded_stopped : (files : List (List Batch)) (workers place n k : ℕ) (bs : List Batch) (old mid new : Hand) → get_or files n [] ≡ bs
+    → Loaded (planned (take n files) workers place) old mid → Loaded (take k bs) mid new
+    → Loaded (planned (take n files) workers place ++ take k (get_or files n [])) old new
+loaded_stopped files workers place n k bs old mid new is one two =
+    loaded_same (planned (take n files) workers place ++ take k bs) (planned (take n files) workers place ++ take k (get_or files n [])) old new
     (ap (λ xs. planned (take n files) workers place ++ take k xs) (sym is))
-    (loaded_then fields (planned (take n files) workers place) (take k bs) old mid new one two)
+    (loaded_then (planned (take n files) workers place) (take k bs) old mid new one two)
 
-pub is_stopped : (fields : List FieldShape) (files : List (List Batch)) (workers place n k : ℕ) (bs : List Batch) (seen : History) (e : Refusal) → n < length files → n % workers ≡ place
-    → get_or files n [] ≡ bs → k < length bs → ((b : Batch) → slice_get bs k ≡ Some b → StandsFor fields seen b e) → IsStopped fields files workers place seen (n, k, e)
-is_stopped fields files workers place n k bs seen e below own is inside stands =
+pub is_stopped : (files : List (List Batch)) (workers place n k : ℕ) (bs : List Batch) (seen : Known) (e : Refusal) → n < length files → n % workers ≡ place
+    → get_or files n [] ≡ bs → k < length bs → ((b : Batch) → slice_get bs k ≡ Some b → StandsFor seen b e) → IsStopped files workers place seen (n, k, e)
+is_stopped files workers place n k bs seen e below own is inside stands =
     let at = there bs k inside in record {
       file = below;
       own = own;

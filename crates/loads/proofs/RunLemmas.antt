@@ -3,30 +3,31 @@ use Rattle.std.proofs.Common.{◌≡◌, ◌∙◌, ℕ, zero, suc, ◌<◌, Lis
 use Rattle.std.specs.List.{AllZip, cons_option, filter_map, zip}
 use Rattle.std.proofs.lemmas.List.{get_or-map}
 use Rattle.std.proofs.lemmas.List.Elements.{AllZip-get_or}
-use Rattle.std.specs.Prelude.{is_some, unwrap_or}
+use Rattle.std.specs.Prelude.{All, is_some, unwrap_or}
 use Rattle.arrays.specs.Batch.{Batch}
-use Rattle.arrays.specs.Shape.{FieldShape}
 use Rattle.shared.specs.Hand.{Hand, IsLeft, calls_of_hand}
+use Rattle.shared.specs.Known.{Begins, Known}
 use Rattle.shared.specs.Left.{Left}
-use mathlib.Core.List.{IsPrefix}
 use Rattle.table.specs.History.{History, rows}
-use Rattle.loads.specs.Loaded.{AllLoaded, AreRun, HasLast, IsDone, IsNewest, IsRun, IsStopped, Loaded, before_stop, outcome_of}
+use Rattle.table.specs.Widened.{widened}
+use Rattle.loads.specs.Loaded.{AllLoaded, AreRun, HasLast, IsAlike, IsDone, IsNewest, IsRun, IsStopped, Loaded, before_stop, outcome_of, pairs_of}
 use Rattle.loads.specs.Told.{AllFinished, AreNewest, last_receipts, seen_of}
 
-run_left : (fields : List FieldShape) (files : List (List Batch)) (workers place : ℕ) (old mid new : Hand) (o : Left) → IsRun fields files workers place old mid o → IsLeft None mid new
-    → IsRun fields files workers place old new o
-run_left fields files workers place old mid new o is left = record {
-  stopped = subst (λ (h : History). IfSome o.stop (IsStopped fields files workers place h)) (sym left.seen) is.stopped;
+run_left : (files : List (List Batch)) (workers place : ℕ) (old mid new : Hand) (o : Left) → IsRun files workers place old mid o → IsLeft None mid new
+    → IsRun files workers place old new o
+run_left files workers place old mid new o is left = record {
+  stopped = subst (λ (k : Known). IfSome o.stop (IsStopped files workers place k)) (sym left.seen) is.stopped;
   loaded = record {
     number = left.number ∙ is.loaded.number;
     calls = ap (λ (h : History). length h) left.mine ∙ is.loaded.calls;
     rows = ap (λ (h : History). length (rows h)) left.mine ∙ is.loaded.rows;
-    mine = left.mine ∙ is.loaded.mine;
-    begun = subst (λ (h : History). IsPrefix old.seen h) (sym left.seen) is.loaded.begun;
-    alike = is.loaded.alike;
+    mine = left.mine ∙ is.loaded.mine ∙ ap (λ (k : Known). widened (length k.fields) (old.mine ++ pairs_of old.number (before_stop files workers place o.stop))) (sym left.seen);
+    columns = left.columns ∙ is.loaded.columns;
+    begun = subst (λ (k : Known). Begins old.seen k) (sym left.seen) is.loaded.begun;
+    alike = subst (λ (k : Known). All (IsAlike old.seen k) (before_stop files workers place o.stop)) (sym left.seen) is.loaded.alike;
   };
   last = is.last ∙ ap (λ (h : History). nat_lt (calls_of_hand old) (length h)) (sym left.mine);
-  newest = λ none. subst (λ (h : History). IfSome o.last (λ r. r ≡ h)) (sym left.seen) (is.newest none);
+  newest = λ none. subst (λ (k : Known). IfSome o.last (λ r. r ≡ k)) (sym left.seen) (is.newest none);
 }
 
 length_map : {A B : Type 0} (f : A → B) (xs : List A) → length (map f xs) ≡ length xs
@@ -39,10 +40,10 @@ zipped_length R [] (y ∷ ys) all = absurd all
 zipped_length R (x ∷ xs) [] all = absurd all
 zipped_length R (x ∷ xs) (y ∷ ys) all = ap (λ (n : ℕ). suc n) (zipped_length R xs ys all.1)
 
-are_run : (fields : List FieldShape) (files : List (List Batch)) (old mid new : List Hand) (outcomes : List Left) → length mid ≡ length old → outcomes ≡ map outcome_of mid
-    → ((place : ℕ) (d : Hand) → place < length old → IsDone fields files (length old) place (get_or old place d) (get_or mid place d))
-    → AllZip (IsLeft None) mid new → AreRun fields files old new outcomes
-are_run fields files old mid new outcomes size same done taken =
+are_run : (files : List (List Batch)) (old mid new : List Hand) (outcomes : List Left) → length mid ≡ length old → outcomes ≡ map outcome_of mid
+    → ((place : ℕ) (d : Hand) → place < length old → IsDone files (length old) place (get_or old place d) (get_or mid place d))
+    → AllZip (IsLeft None) mid new → AreRun files old new outcomes
+are_run files old mid new outcomes size same done taken =
     let none : Left = record { last = None; stop = None } in
     let left_at : (place : ℕ) (d : Hand) → place < length old → IsLeft None (get_or mid place d) (get_or new place d)
     = λ place d below. AllZip-get_or (IsLeft None) mid new place d d taken (omega (arith, below, size)) in
@@ -55,35 +56,35 @@ are_run fields files old mid new outcomes size same done taken =
           ap (λ (os : List Left). get_or os place o) same
           ∙ get_or-map outcome_of mid place d o (omega (arith, below, size))
           ∙ ap (λ p. unwrap_or p none) one.left in
-          run_left fields files (length old) place (get_or old place d) (get_or mid place d) (get_or new place d) (get_or outcomes place o)
-          (subst (IsRun fields files (length old) place (get_or old place d) (get_or mid place d)) (sym is) one.run) (left_at place d below);
+          run_left files (length old) place (get_or old place d) (get_or mid place d) (get_or new place d) (get_or outcomes place o)
+          (subst (IsRun files (length old) place (get_or old place d) (get_or mid place d)) (sym is) one.run) (left_at place d below);
       left = λ place d below. (left_at place d below).rest;
     }
 
 -- the outcomes, in a list that was empty, tell how far the workers came
-pub are_told : (fields : List FieldShape) (files : List (List Batch)) (old mid new : List Hand) (first all shown : List Left) → length mid ≡ length old → first ≡ []
+pub are_told : (files : List (List Batch)) (old mid new : List Hand) (first all shown : List Left) → length mid ≡ length old → first ≡ []
     → all ≡ first ++ map outcome_of mid → shown ≡ all
-    → ((place : ℕ) (d : Hand) → place < length old → IsDone fields files (length old) place (get_or old place d) (get_or mid place d))
-    → AllZip (IsLeft None) mid new → AreRun fields files old new shown
-are_told fields files old mid new first all shown size empty is same =
-    are_run fields files old mid new shown size (same ∙ is ∙ ap (λ (xs : List Left). xs ++ map outcome_of mid) empty)
+    → ((place : ℕ) (d : Hand) → place < length old → IsDone files (length old) place (get_or old place d) (get_or mid place d))
+    → AllZip (IsLeft None) mid new → AreRun files old new shown
+are_told files old mid new first all shown size empty is same =
+    are_run files old mid new shown size (same ∙ is ∙ ap (λ (xs : List Left). xs ++ map outcome_of mid) empty)
 
 -- where nobody was stopped, the whole plan is loaded
-pub all_loaded : (fields : List FieldShape) (files : List (List Batch)) (old new : List Hand) (outcomes : List Left) → AreRun fields files old new outcomes → AllFinished outcomes → AllLoaded fields files old new
-all_loaded fields files old new outcomes are finished =
+pub all_loaded : (files : List (List Batch)) (old new : List Hand) (outcomes : List Left) → AreRun files old new outcomes → AllFinished outcomes → AllLoaded files old new
+all_loaded files old new outcomes are finished =
     let none : Left = record { last = None; stop = None } in
     record {
       kept = are.kept;
-      each = λ place d below. subst (λ p. Loaded fields (before_stop files (length old) place p) (get_or old place d) (get_or new place d))
+      each = λ place d below. subst (λ p. Loaded (before_stop files (length old) place p) (get_or old place d) (get_or new place d))
           (finished place none (omega (arith, below, are.count))) (are.each place d none below).loaded;
       left = are.left;
     }
 
 -- ---- what was seen by those who appended
 
-newest_one : (b : Bool) (last : Option History) (seen : History) → is_some last ≡ b → IfSome last (λ r. r ≡ seen) → last ≡ cond b (Some seen) None
+newest_one : (b : Bool) (last : Option Known) (seen : Known) → is_some last ≡ b → IfSome last (λ r. r ≡ seen) → last ≡ cond b (Some seen) None
 newest_one true None seen is same = absurd (cc is)
-newest_one true (Some r) seen is same = ap (λ (h : History). Some h) same
+newest_one true (Some r) seen is same = ap (λ (k : Known). Some k) same
 newest_one false None seen is same = refl
 newest_one false (Some r) seen is same = absurd (cc is)
 
@@ -119,9 +120,9 @@ newest_at o old new new' old' same last newest =
     (last ∙ ap (λ (h : Hand). nat_lt (calls_of_hand old) (calls_of_hand h)) same)
     (subst (λ (h : Hand). IfSome o.last (λ r. r ≡ h.seen)) same newest)
 
-pub all_newest : (fields : List FieldShape) (files : List (List Batch)) (old new : List Hand) (outcomes : List Left) → AreRun fields files old new outcomes → AllFinished outcomes
+pub all_newest : (files : List (List Batch)) (old new : List Hand) (outcomes : List Left) → AreRun files old new outcomes → AllFinished outcomes
     → AreNewest (last_receipts outcomes) old new
-all_newest fields files old new outcomes are finished =
+all_newest files old new outcomes are finished =
     filter_same (λ (o : Left). o.last) seen_of outcomes (zip old new) (are.count ∙ sym (zip_length old new are.kept))
     (λ i o p below.
     let inside : i < length old = omega (arith, below, are.count) in

@@ -4,8 +4,8 @@ use Rattle.std.specs.Prelude.{if◌then◌else◌, is_ok}
 use Rattle.std.specs.List.{Any, cons_option}
 use Rattle.std.proofs.lemmas.List.{append-nil, get_or_append_left, take_more}
 use Rattle.std.proofs.lemmas.List.Elements.{All-push, filter_map-append}
+use Rattle.shared.specs.Known.{Known}
 use Rattle.shared.specs.Left.{Left}
-use Rattle.table.specs.History.{History}
 use Rattle.loads.specs.Loaded.{Stop}
 use Rattle.loads.specs.Told.{IsLeastStop, IsWantOfMemory, last_receipts}
 
@@ -36,14 +36,14 @@ least_same least next outcomes i o below same none is = least_more least next ou
 
 -- ---- the last receipts
 
-receipts_more : (outcomes : List Left) (i : ℕ) (o : Left) (last : Option History) → i < length outcomes → (get_or outcomes i o).last ≡ last
+receipts_more : (outcomes : List Left) (i : ℕ) (o : Left) (last : Option Known) → i < length outcomes → (get_or outcomes i o).last ≡ last
     → last_receipts (take (i + 1) outcomes) ≡ last_receipts (take i outcomes) ++ cons_option last []
 receipts_more outcomes i o last below is =
     ap last_receipts (take_more outcomes i o below)
     ∙ filter_map-append (λ (x : Left). x.last) (take i outcomes) (get_or outcomes i o ∷ [])
     ∙ ap (λ p. last_receipts (take i outcomes) ++ cons_option p []) is
 
-pub receipt_more : (outcomes : List Left) (i : ℕ) (o : Left) (before : List History) (receipt : History) → i < length outcomes
+pub receipt_more : (outcomes : List Left) (i : ℕ) (o : Left) (before : List Known) (receipt : Known) → i < length outcomes
     → (get_or outcomes i o).last ≡ Some receipt → (before ++ last_receipts (take i outcomes)) ++ receipt ∷ [] ≡ before ++ last_receipts (take (i + 1) outcomes)
 receipt_more outcomes i o before receipt below is =
     append_assoc before (last_receipts (take i outcomes)) (receipt ∷ []) ∙ ap (λ xs. before ++ xs) (sym (receipts_more outcomes i o (Some receipt) below is))

@@ -5,10 +5,12 @@ use Rattle.arrays.specs.Batch.{Batch, rows_of}
 use Rattle.arrays.specs.File.{File}
 use Rattle.arrays.specs.Shape.{FieldShape}
 use Rattle.shared.specs.Hand.{Hand, calls_of_hand, rows_of_hand}
+use Rattle.shared.specs.Known.{Begins, Known}
 use Rattle.shared.specs.Left.{Left}
-use Rattle.table.specs.Cause.{batch_cause, difference}
+use Rattle.table.specs.Cause.{IsTableOf, batch_cause, difference}
 use Rattle.table.specs.History.{History}
 use Rattle.table.specs.Stored.{stored_fields}
+use Rattle.table.specs.Widened.{widened}
 use Rattle.table.specs.declared.refusal.Refusal.{Refusal}
 use Rattle.table.specs.declared.refusal.Refusal.TheVariants.{NoMemory}
 use Rattle.loads.specs.Plan.{planned}
@@ -26,22 +28,28 @@ fields_for (file ∷ files) = stored_fields file.fields
 abbrev pub pairs_of : ℕ → List Batch → History
 pairs_of worker bs = map (λ b. (worker, rows_of b)) bs
 
--- The names and the stored types of its fields are those of the table.
-abbrev pub IsAlike : List FieldShape → Batch → Type 0
-IsAlike fields b = difference fields b.fields ≡ None
+-- The names and the stored types of the batch's fields were those of the table when it was added, between what was known before
+-- and what is known since; and its rows were rows of these.
+pub record IsAlike (old new : Known) (b : Batch) : Type 0 where
+  pub fields : List FieldShape
+  pub begun : IsPrefix old.fields fields
+  pub ended : IsPrefix fields new.fields
+  pub same : difference fields b.fields ≡ None
+  pub shaped : IsTableOf fields (rows_of b)
 
 -- It appended these batches more, each by a call of its own, and nothing else.
-pub record Loaded (fields : List FieldShape) (bs : List Batch) (old new : Hand) : Type 0 where
+pub record Loaded (bs : List Batch) (old new : Hand) : Type 0 where
   pub number : new.number ≡ old.number
   pub calls : calls_of_hand new ≡ calls_of_hand old + length bs
   pub rows : rows_of_hand new ≡ rows_of_hand old + sum_by (λ b. b.rows) bs
-  pub mine : new.mine ≡ old.mine ++ pairs_of old.number bs
-  pub begun : IsPrefix old.seen new.seen
-  pub alike : All (IsAlike fields) bs
+  pub mine : new.mine ≡ widened (length new.seen.fields) (old.mine ++ pairs_of old.number bs)
+  pub columns : new.columns ≡ old.columns
+  pub begun : Begins old.seen new.seen
+  pub alike : All (IsAlike old.seen new.seen) bs
 
--- Want of memory is told, or what stands for the batch after the history.
-abbrev pub StandsFor : List FieldShape → History → Batch → Refusal → Type 0
-StandsFor fields h b refusal = (refusal ≡ NoMemory) ⊎ (batch_cause fields h b ≡ Some refusal)
+-- Want of memory is told, or what stands for the batch after all that is known.
+abbrev pub StandsFor : Known → Batch → Refusal → Type 0
+StandsFor k b refusal = (refusal ≡ NoMemory) ⊎ (batch_cause k.fields k.history b ≡ Some refusal)
 
 -- Where it was stopped: the file, the batch in it, and the refusal.
 abbrev pub Stop : Type 0
@@ -53,19 +61,19 @@ before_stop files workers place None = planned files workers place
 before_stop files workers place (Some s) = planned (take s.0 files) workers place ++ take s.1 (slice_index_or files s.0 [])
 
 -- The batch that stopped it is there, in one of its files, and what was told stands for it after all that it has seen.
-pub record IsStopped (fields : List FieldShape) (files : List (List Batch)) (workers place : ℕ) (seen : History) (s : Stop) : Type 0 where
+pub record IsStopped (files : List (List Batch)) (workers place : ℕ) (seen : Known) (s : Stop) : Type 0 where
   pub file : s.0 < length files
   pub own : s.0 % workers ≡ place
   pub batch : Batch
   pub there : slice_get (slice_index_or files s.0 []) s.1 ≡ Some batch
-  pub stands : StandsFor fields seen batch s.2
+  pub stands : StandsFor seen batch s.2
 
 -- It has a last receipt exactly where it appended anything since it had so many calls.
-abbrev pub HasLast : ℕ → Hand → Option History → Type 0
+abbrev pub HasLast : ℕ → Hand → Option Known → Type 0
 HasLast first h last = is_some last ≡ nat_lt first (calls_of_hand h)
 
 -- A receipt that it has is of all that it has seen.
-abbrev pub IsNewest : Hand → Option History → Type 0
+abbrev pub IsNewest : Hand → Option Known → Type 0
 IsNewest h last = IfSome last (λ r. r ≡ h.seen)
 
 -- What is left with it, or else an outcome without receipt and without stop.
@@ -73,28 +81,28 @@ abbrev pub outcome_of : Hand → Left
 outcome_of h = unwrap_or h.left (record { last = None; stop = None })
 
 -- A worker came as far as the outcome tells.
-pub record IsRun (fields : List FieldShape) (files : List (List Batch)) (workers place : ℕ) (old new : Hand) (outcome : Left) : Type 0 where
-  pub stopped : IfSome outcome.stop (IsStopped fields files workers place new.seen)
-  pub loaded : Loaded fields (before_stop files workers place outcome.stop) old new
+pub record IsRun (files : List (List Batch)) (workers place : ℕ) (old new : Hand) (outcome : Left) : Type 0 where
+  pub stopped : IfSome outcome.stop (IsStopped files workers place new.seen)
+  pub loaded : Loaded (before_stop files workers place outcome.stop) old new
   pub last : HasLast (calls_of_hand old) new outcome.last
   pub newest : outcome.stop ≡ None → IsNewest new outcome.last
 
 -- The same, and the outcome is left with it.
-pub record IsDone (fields : List FieldShape) (files : List (List Batch)) (workers place : ℕ) (old new : Hand) : Type 0 where
+pub record IsDone (files : List (List Batch)) (workers place : ℕ) (old new : Hand) : Type 0 where
   pub outcome : Left
   pub left : new.left ≡ Some outcome
-  pub run : IsRun fields files workers place old new outcome
+  pub run : IsRun files workers place old new outcome
 
 -- Each worker came as far as its outcome tells, and nothing is left with it.
-pub record AreRun (fields : List FieldShape) (files : List (List Batch)) (old new : List Hand) (outcomes : List Left) : Type 0 where
+pub record AreRun (files : List (List Batch)) (old new : List Hand) (outcomes : List Left) : Type 0 where
   pub count : length outcomes ≡ length old
   pub kept : length new ≡ length old
   pub each : (place : ℕ) (d : Hand) (o : Left) → place < length old
-      → IsRun fields files (length old) place (slice_index_or old place d) (slice_index_or new place d) (slice_index_or outcomes place o)
+      → IsRun files (length old) place (slice_index_or old place d) (slice_index_or new place d) (slice_index_or outcomes place o)
   pub left : (place : ℕ) (d : Hand) → place < length old → (slice_index_or new place d).left ≡ None
 
 -- Each worker appended the whole of its list in the plan, and nothing is left with it.
-pub record AllLoaded (fields : List FieldShape) (files : List (List Batch)) (old new : List Hand) : Type 0 where
+pub record AllLoaded (files : List (List Batch)) (old new : List Hand) : Type 0 where
   pub kept : length new ≡ length old
-  pub each : (place : ℕ) (d : Hand) → place < length old → Loaded fields (planned files (length old) place) (slice_index_or old place d) (slice_index_or new place d)
+  pub each : (place : ℕ) (d : Hand) → place < length old → Loaded (planned files (length old) place) (slice_index_or old place d) (slice_index_or new place d)
   pub left : (place : ℕ) (d : Hand) → place < length old → (slice_index_or new place d).left ≡ None

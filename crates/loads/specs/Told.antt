@@ -2,17 +2,16 @@
 use Rattle.std.specs.Prelude.{◌≡◌, ◌≢◌, ◌⊎◌, ◌≤◌, All, IfSome, List, Option, None, Some, nat_lt, if◌then◌else◌}
 use Rattle.std.specs.List.{Any, filter_map, zip}
 use Rattle.arrays.specs.Batch.{Batch}
-use Rattle.arrays.specs.Shape.{FieldShape}
 use Rattle.shared.specs.Hand.{Hand, calls_of_hand}
+use Rattle.shared.specs.Known.{Known}
 use Rattle.shared.specs.Left.{Left}
-use Rattle.table.specs.History.{History}
 use Rattle.table.specs.declared.refusal.Refusal.TheVariants as refusal
 use Rattle.loads.specs.Loaded.{AreRun, Stop}
 use Rattle.loads.specs.declared.fault.LoadFault.{LoadFault}
 use Rattle.loads.specs.declared.fault.LoadFault.TheVariants.{NoMemory, Refused}
 
 -- The receipts of the last batches, without those who have none.
-abbrev pub last_receipts : List Left → List History
+abbrev pub last_receipts : List Left → List Known
 last_receipts outcomes = filter_map (λ o. o.last) outcomes
 
 abbrev pub IsWantOfMemory : Stop → Type 0
@@ -48,17 +47,17 @@ IsTold None outcomes = AllFinished outcomes
 IsTold (Some fault) outcomes = IsToldOf fault outcomes
 
 -- What stands against loading: what the outcomes tell, or that there was no room for the answer and nothing was begun.
-abbrev pub Stands : LoadFault → List FieldShape → List (List Batch) → List Hand → List Hand → Type 0
-Stands fault fields files old new = ((outcomes : List Left) × AreRun fields files old new outcomes × IsToldOf fault outcomes) ⊎ ((fault ≡ NoMemory) × (new ≡ old))
+abbrev pub Stands : LoadFault → List (List Batch) → List Hand → List Hand → Type 0
+Stands fault files old new = ((outcomes : List Left) × AreRun files old new outcomes × IsToldOf fault outcomes) ⊎ ((fault ≡ NoMemory) × (new ≡ old))
 
 -- The receipts are the last of each worker that appended, in order.
-abbrev pub AreReceipts : List History → List FieldShape → List (List Batch) → List Hand → List Hand → Type 0
-AreReceipts receipts fields files old new = (outcomes : List Left) × AreRun fields files old new outcomes × (receipts ≡ last_receipts outcomes)
+abbrev pub AreReceipts : List Known → List (List Batch) → List Hand → List Hand → Type 0
+AreReceipts receipts files old new = (outcomes : List Left) × AreRun files old new outcomes × (receipts ≡ last_receipts outcomes)
 
 -- What a worker has seen, where it appended anything.
-abbrev pub seen_of : Hand × Hand → Option History
+abbrev pub seen_of : Hand × Hand → Option Known
 seen_of p = if nat_lt (calls_of_hand p.0) (calls_of_hand p.1) then Some p.1.seen else None
 
 -- The receipts are of all that the workers that appended have seen, in order.
-abbrev pub AreNewest : List History → List Hand → List Hand → Type 0
+abbrev pub AreNewest : List Known → List Hand → List Hand → Type 0
 AreNewest receipts old new = receipts ≡ filter_map seen_of (zip old new)

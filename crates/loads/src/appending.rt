@@ -10,20 +10,20 @@ use std::sync::Wait;
 use std::sync::ledger::Ledger;
 
 /// What takes the batches of workers.
-pub(crate) trait Append<C: Ledger, Q: Ledger, N: Naming> {
+pub(crate) trait Append<C: Ledger, Q: Ledger, K: Ledger, N: Naming> {
     /// Takes a batch of the worker at a place, whose append number `call` it is. After a refusal the worker has seen more at
     /// the most.
     fn append(
         &self,
         place: usize,
         call: u32,
-        worker: &mut Worker<C, Q, N>,
+        worker: &mut Worker<C, Q, K, N>,
         batch: &RecordBatch,
     ) -> Result<Receipt<N>, Refusal>
-        ensures raised { OnOk result (Loaded N.fields (batch.now ∷ []) worker.old worker.new) }
+        ensures raised { OnOk result (Loaded (batch.now ∷ []) worker.old worker.new) }
         ensures receipt { IfOk result (λ r. r ≡ worker.new.seen) }
-        ensures kept { OnErr result (Loaded N.fields [] worker.old worker.new) }
-        ensures cause { IfErr result (StandsFor N.fields worker.new.seen batch.now) };
+        ensures kept { OnErr result (Loaded [] worker.old worker.new) }
+        ensures cause { IfErr result (StandsFor worker.new.seen batch.now) };
 }
 
 /// A table behind a gate.
@@ -32,27 +32,33 @@ pub(crate) struct Gated<
     'a,
     C: Ledger,
     Q: Ledger,
+    K: Ledger,
     N: Naming,
     P: Publish<Item = Shown<N>>,
     W: Wait,
     G: Gate,
 > {
     pub(crate) wait: &'a W,
-    pub(crate) table: &'a SharedTable<C, Q, N, P>,
+    pub(crate) table: &'a SharedTable<C, Q, K, N, P>,
     pub(crate) gate: &'a G,
 }
 
-impl<'a, C: Ledger, Q: Ledger, N: Naming, P: Publish<Item = Shown<N>>, W: Wait, G: Gate> Append<
-    C,
-    Q,
-    N,
-> for Gated<'a, C, Q, N, P, W, G> {
+impl<
+    'a,
+    C: Ledger,
+    Q: Ledger,
+    K: Ledger,
+    N: Naming,
+    P: Publish<Item = Shown<N>>,
+    W: Wait,
+    G: Gate,
+> Append<C, Q, K, N> for Gated<'a, C, Q, K, N, P, W, G> {
     /// A place over 2^32 - 1 is that number to the gate.
     fn append(
         &self,
         place: usize,
         call: u32,
-        worker: &mut Worker<C, Q, N>,
+        worker: &mut Worker<C, Q, K, N>,
         batch: &RecordBatch,
     ) -> Result<Receipt<N>, Refusal> {
         let place = u32::try_from(place).unwrap_or(u32::MAX);

@@ -20,15 +20,15 @@ pub(crate) struct FileLoading<'a, A> {
     count: usize,
 }
 
-impl<'a, C: Ledger, Q: Ledger, N: Naming, A: Append<C, Q, N>> Task<Worker<C, Q, N>>
+impl<'a, C: Ledger, Q: Ledger, K: Ledger, N: Naming, A: Append<C, Q, K, N>> Task<Worker<C, Q, K, N>>
     for FileLoading<'a, A> {
     ghost use Rattle.loads.specs.Loaded.{IsDone, batches_of};
 
     ghost count = { λ l. l.count };
 
-    ghost does = { λ l place old new. IsDone N.fields (batches_of l.files.now) l.count place old new };
+    ghost does = { λ l place old new. IsDone (batches_of l.files.now) l.count place old new };
 
-    fn work(&self, place: usize, worker: &mut Worker<C, Q, N>) {
+    fn work(&self, place: usize, worker: &mut Worker<C, Q, K, N>) {
         work(self.table, self.files, self.count, place, worker);
     }
 }
@@ -37,12 +37,13 @@ impl<'a, C: Ledger, Q: Ledger, N: Naming, A: Append<C, Q, N>> Task<Worker<C, Q, 
 pub(crate) fn append_files<
     C: Ledger + Send + Sync,
     Q: Ledger + Send + Sync,
+    K: Ledger + Send + Sync,
     N: Naming + Send + Sync,
     T: Threads + Sync,
-    A: Append<C, Q, N> + Sync,
->(threads: &T, table: &A, files: &[File], workers: &mut [Worker<C, Q, N>])
+    A: Append<C, Q, K, N> + Sync,
+>(threads: &T, table: &A, files: &[File], workers: &mut [Worker<C, Q, K, N>])
     ensures { (place : ℕ) (d : Hand) → place < length workers.old
-        → IsDone N.fields (batches_of files.now) (length workers.old) place (slice_index_or workers.old place d) (slice_index_or workers.new place d) }
+        → IsDone (batches_of files.now) (length workers.old) place (slice_index_or workers.old place d) (slice_index_or workers.new place d) }
 {
     let count = workers.len();
     let loading = FileLoading {

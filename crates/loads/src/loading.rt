@@ -31,6 +31,7 @@ use std::thread::Threads;
 pub fn load_all<
     C: Ledger + Send + Sync,
     Q: Ledger + Send + Sync,
+    K: Ledger + Send + Sync,
     N: Naming + Send + Sync,
     P: Publish<Item = Shown<N>> + Send,
     W: Wait + Sync,
@@ -40,16 +41,16 @@ pub fn load_all<
     wait: &W,
     threads: &T,
     alloc: Global,
-    table: &SharedTable<C, Q, N, P>,
-    workers: &mut [Worker<C, Q, N>],
+    table: &SharedTable<C, Q, K, N, P>,
+    workers: &mut [Worker<C, Q, K, N>],
     files: &[File],
     gate: &G,
 ) -> Result<Vec<Receipt<N>>, LoadFault>
     requires some { 0 < length workers.old }
-    ensures loaded { OnOk result (AllLoaded N.fields (batches_of files.now) workers.old workers.new) }
-    ensures receipts { IfOk result (λ v. AreReceipts v.items N.fields (batches_of files.now) workers.old workers.new) }
+    ensures loaded { OnOk result (AllLoaded (batches_of files.now) workers.old workers.new) }
+    ensures receipts { IfOk result (λ v. AreReceipts v.items (batches_of files.now) workers.old workers.new) }
     ensures newest { IfOk result (λ v. AreNewest v.items workers.old workers.new) }
-    ensures err { IfErr result (λ e. Stands e N.fields (batches_of files.now) workers.old workers.new) }
+    ensures err { IfErr result (λ e. Stands e (batches_of files.now) workers.old workers.new) }
 {
     let count = workers.len();
     let mut receipts = Vec::with_capacity(alloc, count)?;

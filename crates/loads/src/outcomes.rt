@@ -13,8 +13,8 @@ use std::sync::ledger::Ledger;
 
 /// Takes what was left with each worker, in order, into a list that has room for it. Of a worker with whom nothing was left, it
 /// is an outcome without receipt and without stop.
-pub(crate) fn take_outcomes<C: Ledger, Q: Ledger, N: Naming>(
-    workers: &mut [Worker<C, Q, N>],
+pub(crate) fn take_outcomes<C: Ledger, Q: Ledger, K: Ledger, N: Naming>(
+    workers: &mut [Worker<C, Q, K, N>],
     outcomes: &mut Vec<Outcome<N>>,
 )
     requires { vec_len outcomes.old + length workers.old ≤ vec_capacity outcomes.old }

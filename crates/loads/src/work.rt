@@ -13,15 +13,15 @@ use std::sync::Arc;
 use std::sync::ledger::Ledger;
 
 /// Appends the files of a place of so many, and leaves with the worker how far it came.
-pub(crate) fn work<C: Ledger, Q: Ledger, N: Naming, A: Append<C, Q, N>>(
+pub(crate) fn work<C: Ledger, Q: Ledger, K: Ledger, N: Naming, A: Append<C, Q, K, N>>(
     table: &A,
     files: &[File],
     count: usize,
     place: usize,
-    worker: &mut Worker<C, Q, N>,
+    worker: &mut Worker<C, Q, K, N>,
 )
     requires { place < count }
-    ensures { IsDone N.fields (batches_of files.now) count place worker.old worker.new }
+    ensures { IsDone (batches_of files.now) count place worker.old worker.new }
 {
     let first = worker.calls();
     let mut last = None;
@@ -31,24 +31,25 @@ pub(crate) fn work<C: Ledger, Q: Ledger, N: Naming, A: Append<C, Q, N>>(
 
 /// Appends the files of a place, in order, up to the first refusal, and answers where that was. The worker had `first` calls
 /// when it began.
-fn add_files<C: Ledger, Q: Ledger, N: Naming, A: Append<C, Q, N>>(
+fn add_files<C: Ledger, Q: Ledger, K: Ledger, N: Naming, A: Append<C, Q, K, N>>(
     table: &A,
     files: &[File],
     count: usize,
     place: usize,
     first: u32,
-    worker: &mut Worker<C, Q, N>,
+    worker: &mut Worker<C, Q, K, N>,
     last: &mut Option<Receipt<N>>,
 ) -> Option<(usize, usize, Refusal)>
     requires place { place < count }
     requires first { first ≤ calls_of_hand worker.old }
     requires last { HasLast first worker.old last.old }
     requires newest { IsNewest worker.old last.old }
-    ensures stopped { IfSome result (IsStopped N.fields (batches_of files.now) count place worker.new.seen) }
-    ensures loaded { Loaded N.fields (before_stop (batches_of files.now) count place result) worker.old worker.new }
+    ensures stopped { IfSome result (IsStopped (batches_of files.now) count place worker.new.seen) }
+    ensures loaded { Loaded (before_stop (batches_of files.now) count place result) worker.old worker.new }
     ensures last { HasLast first worker.new last.new }
     ensures newest { result ≡ None → IsNewest worker.new last.new }
 {
+    worker.tell();
     for (number, file) in files.iter().enumerate() {
         if number % count == place {
             let added = add_batches(table, file.batches(), place, first, worker, last);
@@ -61,24 +62,25 @@ fn add_files<C: Ledger, Q: Ledger, N: Naming, A: Append<C, Q, N>>(
 }
 
 /// Appends batches, in order, up to the first refusal, and answers at which of them that was.
-fn add_batches<C: Ledger, Q: Ledger, N: Naming, A: Append<C, Q, N>>(
+fn add_batches<C: Ledger, Q: Ledger, K: Ledger, N: Naming, A: Append<C, Q, K, N>>(
     table: &A,
     batches: &[Arc<RecordBatch>],
     place: usize,
     first: u32,
-    worker: &mut Worker<C, Q, N>,
+    worker: &mut Worker<C, Q, K, N>,
     last: &mut Option<Receipt<N>>,
 ) -> Result<(), (usize, Refusal)>
     requires first { first ≤ calls_of_hand worker.old }
     requires last { HasLast first worker.old last.old }
     requires newest { IsNewest worker.old last.old }
-    ensures loaded { OnOk result (Loaded N.fields (map arc_value batches.now) worker.old worker.new) }
+    ensures loaded { OnOk result (Loaded (map arc_value batches.now) worker.old worker.new) }
     ensures there { IfErr result (λ s. s.0 < length batches.now) }
-    ensures stopped { IfErr result (λ s. Loaded N.fields (take s.0 (map arc_value batches.now)) worker.old worker.new) }
-    ensures stands { IfErr result (λ s. (b : Batch) → slice_get (map arc_value batches.now) s.0 ≡ Some b → StandsFor N.fields worker.new.seen b s.1) }
+    ensures stopped { IfErr result (λ s. Loaded (take s.0 (map arc_value batches.now)) worker.old worker.new) }
+    ensures stands { IfErr result (λ s. (b : Batch) → slice_get (map arc_value batches.now) s.0 ≡ Some b → StandsFor worker.new.seen b s.1) }
     ensures last { HasLast first worker.new last.new }
     ensures newest { OnOk result (IsNewest worker.new last.new) }
 {
+    worker.tell();
     for (number, batch) in batches.iter().enumerate() {
         match table.append(place, worker.calls() - first, worker, batch) {
             Ok(receipt) => *last = Some(receipt),

@@ -1,11 +1,13 @@
 -- A history with one pair more.
-use Rattle.std.proofs.Common.{◌≡◌, ℕ, ◌+◌, ◌<◌, ◌∷◌, ◌++◌, [], length, ap, sym, subst, arith, length-append}
-use Rattle.std.proofs.lemmas.List.Elements.{All-push}
+use Rattle.std.proofs.Common.{◌≡◌, ℕ, ◌+◌, ◌<◌, ◌∷◌, ◌++◌, [], length, ◌∙◌, ap, sym, subst, arith, length-append}
+use Rattle.std.proofs.lemmas.List.Elements.{All-map, All-push}
 use Rattle.arrays.specs.Batch.{Batch, rows_of, Table}
 use Rattle.shared.specs.Balance.{IsBalanced, IsOfWorkers}
 use Rattle.table.specs.History.{History, rows}
+use Rattle.table.specs.Widened.{widened, widened_table}
 use Rattle.table.proofs.BatchLemmas.{length-rows_of}
 use Rattle.table.proofs.HistoryLemmas.{rows-push}
+use Rattle.table.proofs.WidenedLemmas.{length-table, length-widened, rows-widened}
 
 -- it is counted where one call and the batch's rows are
 pub balanced_push : (h next : History) (worker : ℕ) (b : Batch) (calls row_count more_calls more_rows added : ℕ) → IsBalanced calls row_count h
@@ -37,3 +39,15 @@ rows_pushed mine next worker b same = omega (
   length-append (rows mine) (rows_of b),
   length-rows_of b,
 )
+
+-- it has as many rows where they end with nulls
+pub rows_widened : (n : ℕ) (h : History) → length (rows (widened n h)) ≡ length (rows h)
+rows_widened n h = ap (λ (t : Table). length t) (rows-widened n h) ∙ length-table n (rows h)
+
+pub balanced_wider : (n calls row_count : ℕ) (h next : History) → IsBalanced calls row_count h → next ≡ widened n h → IsBalanced calls row_count next
+balanced_wider n calls row_count h next is same =
+    subst (IsBalanced calls row_count) (sym same) (record { pairs = is.pairs ∙ sym (length-widened n h); held = is.held ∙ sym (rows_widened n h) })
+
+pub workers_wider : (n count : ℕ) (h next : History) → IsOfWorkers count h → next ≡ widened n h → IsOfWorkers count next
+workers_wider n count h next all same =
+    subst (IsOfWorkers count) (sym same) (All-map (λ (e : ℕ × Table). e.0 < count) (λ (e : ℕ × Table). (e.0, widened_table n e.1)) h all)

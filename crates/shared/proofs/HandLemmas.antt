@@ -3,6 +3,7 @@ use Rattle.std.proofs.Common.{◌≡◌, ◌∙◌, ℕ, zero, suc, ◌++◌, �
 use Rattle.std.specs.Prelude.{◌==◌, ◌||◌, nat_lt}
 use Rattle.std.proofs.lemmas.Bool.{false≢true}
 use Rattle.std.proofs.lemmas.Bool.Decides.{nat_tests}
+use Rattle.arrays.specs.Shape.{FieldShape}
 use Rattle.shared.specs.Hand.{AreNew, Hand, IsNew}
 use Rattle.shared.specs.Missing.{AllThere, is_there}
 
@@ -48,6 +49,7 @@ pub enough : (n : ℕ) (hands : List Hand) → AllThere n hands → n ≤ length
 enough n hands all = omega (arith, many n hands all, within n hands)
 
 -- a new worker more
-pub new_push : (first : ℕ) (hands : List Hand) (h : Hand) → AreNew first hands → IsNew (first + length hands) h → AreNew first (hands ++ h ∷ [])
-new_push first [] h all one = (record { numbered = one.numbered ∙ omega arith; seen = one.seen; mine = one.mine; left = one.left }, tt)
-new_push first (x ∷ hands) h all one = (all.0, new_push (first + 1) hands h all.1 (record { numbered = one.numbered ∙ omega arith; seen = one.seen; mine = one.mine; left = one.left }))
+pub new_push : (fields : List FieldShape) (first : ℕ) (hands : List Hand) (h : Hand) → AreNew fields first hands → IsNew fields (first + length hands) h → AreNew fields first (hands ++ h ∷ [])
+new_push fields first [] h all one = (record { numbered = one.numbered ∙ omega arith; seen = one.seen; mine = one.mine; columns = one.columns; left = one.left }, tt)
+new_push fields first (x ∷ hands) h all one =
+    (all.0, new_push fields (first + 1) hands h all.1 (record { numbered = one.numbered ∙ omega arith; seen = one.seen; mine = one.mine; columns = one.columns; left = one.left }))

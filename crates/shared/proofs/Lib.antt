@@ -1,7 +1,9 @@
 -- What the proofs of this crate share.
 pub mod HandLemmas
 pub mod BalanceLemmas
+pub mod KnownLemmas
 pub mod PartLemmas
+pub mod ViewLemmas
 pub mod SeenLemmas
 pub mod SendingLemmas
 pub mod PublisherLemmas

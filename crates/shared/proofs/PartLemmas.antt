@@ -1,5 +1,5 @@
 -- The parts that workers have of a history.
-use Rattle.std.proofs.Common.{◌≡◌, ◌∙◌, ◌⊎◌, inl, inr, ℕ, zero, suc, ◌+◌, ◌<◌, ◌≤◌, List, [], ◌∷◌, ◌++◌, length, get_or, Bool, true, false, cond, refl, ap, sym, subst, arith, length-append}
+use Rattle.std.proofs.Common.{◌≡◌, ◌∙◌, ◌⊎◌, inl, inr, ℕ, zero, suc, ◌+◌, ◌<◌, ◌≤◌, List, [], ◌∷◌, ◌++◌, length, get_or, Bool, true, false, cond, map, refl, ap, sym, subst, arith, length-append}
 use Rattle.std.specs.Prelude.{◌==◌, All, nat_lt, sum_by}
 use Rattle.std.proofs.lemmas.Bool.Decides.{nat_tests}
 use Rattle.std.proofs.lemmas.List.{append-nil}
@@ -7,13 +7,17 @@ use Rattle.std.proofs.lemmas.List.Elements.{filter-append}
 use Rattle.std.proofs.lemmas.List.Sums.{sum_by-append}
 use mathlib.Core.List.{IsPrefix}
 use Rattle.arrays.specs.Batch.{Table}
-use Rattle.histories.proofs.PrefixLemmas.{prefix_trans}
+use Rattle.histories.proofs.PrefixLemmas.{prefix_length}
 use Rattle.shared.proofs.HandLemmas.{count_of, some as some_of}
+use Rattle.shared.proofs.KnownLemmas.{begins_trans}
 use Rattle.shared.specs.Balance.{IsOfWorkers}
 use Rattle.shared.specs.Hand.{Hand, IsPartOf, IsWhole, calls_of_hand}
+use Rattle.shared.specs.Known.{Begins, Known}
 use Rattle.shared.specs.Missing.{AllThere}
 use Rattle.shared.specs.Parts.{InOrder, sum_below}
 use Rattle.table.specs.History.{History, of}
+use Rattle.table.specs.Widened.{widened, widened_table}
+use Rattle.table.proofs.WidenedLemmas.{length-widened, of-widened, widened-again}
 
 -- ---- items in their order
 
@@ -45,6 +49,12 @@ module _ {A : Type 0} where
   order_push (x ∷ xs) (y ∷ ys) z (inl p) = inl (p.0, order_push xs ys z p.1)
   order_push (x ∷ xs) (y ∷ ys) z (inr p) = inr (order_push (x ∷ xs) ys z p)
 
+order_map : {A B : Type 0} (f : A → B) (xs ys : List A) → InOrder xs ys → InOrder (map f xs) (map f ys)
+order_map f [] ys o = tt
+order_map f (x ∷ xs) [] o = absurd o
+order_map f (x ∷ xs) (y ∷ ys) (inl p) = inl (ap f p.0, order_map f xs ys p.1)
+order_map f (x ∷ xs) (y ∷ ys) (inr p) = inr (order_map f (x ∷ xs) ys p)
+
 -- ---- a worker's part
 
 abbrev is_of : ℕ → ℕ × Table → Bool
@@ -68,11 +78,23 @@ part_pushed mine h w t o =
     (sym (filter-append (is_of w) h ((w, t) ∷ []) ∙ ap (λ (l : History). of h w ++ l) own))
     (order_push mine (of h w) (w, t) o)
 
-pub part_more : (count : ℕ) (h k : History) (w : Hand) → IsPartOf count h w → IsPrefix h k → IsPartOf count k w
-part_more count h k w is begun = record {
+-- the same, where more fields may be known
+pub part_wider : (k l : Known) (mine : History) (w : ℕ) → Begins k l → InOrder (widened (length k.fields) mine) (of k.history w) → InOrder (widened (length l.fields) mine) (of l.history w)
+part_wider k l mine w begun o =
+    let m = length k.fields in
+    let n = length l.fields in
+    let few : m ≤ n = prefix_length k.fields l.fields begun.fields in
+    let wide : InOrder (widened n (widened m mine)) (widened n (of k.history w)) =
+    order_map (λ (e : ℕ × Table). (e.0, widened_table n e.1)) (widened m mine) (of k.history w) o in
+    part_begun (widened n mine) (widened n k.history) l.history w begun.history
+    (subst (λ (h : History). InOrder h (of (widened n k.history) w)) (widened-again m n few mine)
+    (subst (λ (h : History). InOrder (widened n (widened m mine)) h) (sym (of-widened n k.history w)) wide))
+
+pub part_more : (count : ℕ) (k l : Known) (w : Hand) → IsPartOf count k w → Begins k l → IsPartOf count l w
+part_more count k l w is begun = record {
   below = is.below;
-  begun = prefix_trans w.seen h k is.begun begun;
-  ordered = part_begun w.mine h k w.number begun is.ordered;
+  begun = begins_trans w.seen k l is.begun begun;
+  ordered = part_wider k l w.mine w.number begun is.ordered;
 }
 
 -- ---- sums
@@ -153,97 +175,102 @@ each_owns count h m all ordered sum w below =
 
 -- ---- hands
 
--- the pairs of all hands of a number
-abbrev mines : ℕ → List Hand → History
-mines w [] = []
-mines w (x ∷ hands) = cond (x.number == w) x.mine [] ++ mines w hands
+-- the pairs of all hands of a number, with so many items in a row
+abbrev mines : ℕ → ℕ → List Hand → History
+mines n w [] = []
+mines n w (x ∷ hands) = cond (x.number == w) (widened n x.mine) [] ++ mines n w hands
 
-length_cond : (b : Bool) (xs : History) → length (cond b xs []) ≡ cond b (length xs) 0
-length_cond true xs = refl
-length_cond false xs = refl
+length_cond : (b : Bool) (n : ℕ) (h : History) → length (cond b (widened n h) []) ≡ cond b (length h) 0
+length_cond true n h = length-widened n h
+length_cond false n h = refl
 
-mines_sum : (count : ℕ) (h : History) (hands : List Hand) → All (IsPartOf count h) hands → sum_below count (λ w. length (mines w hands)) ≡ sum_by calls_of_hand hands
-mines_sum count h [] all = sum_none count
-mines_sum count h (x ∷ hands) all =
-    let rest : All (IsPartOf count h) hands = λ i d below. all (suc i) d (omega (arith, below)) in
+mines_sum : (count : ℕ) (k : Known) (n : ℕ) (hands : List Hand) → All (IsPartOf count k) hands → sum_below count (λ w. length (mines n w hands)) ≡ sum_by calls_of_hand hands
+mines_sum count k n [] all = sum_none count
+mines_sum count k n (x ∷ hands) all =
+    let rest : All (IsPartOf count k) hands = λ i d below. all (suc i) d (omega (arith, below)) in
     let split : sum_by calls_of_hand (x ∷ hands) ≡ (0 + length x.mine) + sum_by calls_of_hand hands = sum_by-append calls_of_hand (x ∷ []) hands in
     omega (
       arith,
       split,
-      sum_same count (λ w. length (mines w (x ∷ hands))) (λ w. cond (x.number == w) (length x.mine) 0 + length (mines w hands))
-          (λ w. length-append (cond (x.number == w) x.mine []) (mines w hands) ∙ ap (λ n. n + length (mines w hands)) (length_cond (x.number == w) x.mine)),
-      sum_both count (λ w. cond (x.number == w) (length x.mine) 0) (λ w. length (mines w hands)),
+      sum_same count (λ w. length (mines n w (x ∷ hands))) (λ w. cond (x.number == w) (length x.mine) 0 + length (mines n w hands))
+          (λ w. length-append (cond (x.number == w) (widened n x.mine) []) (mines n w hands) ∙ ap (λ m. m + length (mines n w hands)) (length_cond (x.number == w) n x.mine)),
+      sum_both count (λ w. cond (x.number == w) (length x.mine) 0) (λ w. length (mines n w hands)),
       sum_of_one count x.number (length x.mine) (all 0 x (omega arith)).below,
-      mines_sum count h hands rest,
+      mines_sum count k n hands rest,
     )
 
-counts_sum : (count : ℕ) (h : History) (hands : List Hand) → All (IsPartOf count h) hands → sum_below count (λ w. count_of w hands) ≡ length hands
-counts_sum count h [] all = sum_none count
-counts_sum count h (x ∷ hands) all =
-    let rest : All (IsPartOf count h) hands = λ i d below. all (suc i) d (omega (arith, below)) in
+counts_sum : (count : ℕ) (k : Known) (hands : List Hand) → All (IsPartOf count k) hands → sum_below count (λ w. count_of w hands) ≡ length hands
+counts_sum count k [] all = sum_none count
+counts_sum count k (x ∷ hands) all =
+    let rest : All (IsPartOf count k) hands = λ i d below. all (suc i) d (omega (arith, below)) in
     omega (
       arith,
       sum_both count (λ w. cond (x.number == w) 1 0) (λ w. count_of w hands),
       sum_of_one count x.number 1 (all 0 x (omega arith)).below,
-      counts_sum count h hands rest,
+      counts_sum count k hands rest,
     )
 
-none_first : (w : ℕ) (x : Hand) (hands : List Hand) (b : Bool) → cond b 1 0 + count_of w hands ≤ 0 → (count_of w hands ≤ 0 → mines w hands ≡ []) → cond b x.mine [] ++ mines w hands ≡ []
-none_first w x hands true none rest = absurd (omega (arith, none))
-none_first w x hands false none rest = rest (omega (arith, none))
+none_first : (n w : ℕ) (x : Hand) (hands : List Hand) (b : Bool) → cond b 1 0 + count_of w hands ≤ 0 → (count_of w hands ≤ 0 → mines n w hands ≡ [])
+    → cond b (widened n x.mine) [] ++ mines n w hands ≡ []
+none_first n w x hands true none rest = absurd (omega (arith, none))
+none_first n w x hands false none rest = rest (omega (arith, none))
 
-mines_none : (w : ℕ) (hands : List Hand) → count_of w hands ≤ 0 → mines w hands ≡ []
-mines_none w [] none = refl
-mines_none w (x ∷ hands) none = none_first w x hands (x.number == w) none (λ few. mines_none w hands few)
+mines_none : (n w : ℕ) (hands : List Hand) → count_of w hands ≤ 0 → mines n w hands ≡ []
+mines_none n w [] none = refl
+mines_none n w (x ∷ hands) none = none_first n w x hands (x.number == w) none (λ few. mines_none n w hands few)
 
 -- the one hand of a number
-mine_first : (w : ℕ) (x : Hand) (hands : List Hand) → count_of w (x ∷ hands) ≤ 1 → (x.number == w) ≡ true → mines w (x ∷ hands) ≡ x.mine
-mine_first w x hands one is =
+mine_first : (n w : ℕ) (x : Hand) (hands : List Hand) → count_of w (x ∷ hands) ≤ 1 → (x.number == w) ≡ true → mines n w (x ∷ hands) ≡ widened n x.mine
+mine_first n w x hands one is =
     let none : count_of w hands ≤ 0 = let first = ap {B = ℕ} (λ b. cond b 1 0) is in omega (arith, one, first) in
-    ap (λ b. cond b x.mine [] ++ mines w hands) is ∙ ap (λ (l : History). x.mine ++ l) (mines_none w hands none) ∙ append-nil x.mine
+    ap (λ b. cond b (widened n x.mine) [] ++ mines n w hands) is ∙ ap (λ (l : History). widened n x.mine ++ l) (mines_none n w hands none) ∙ append-nil (widened n x.mine)
 
 counted_at : (w : ℕ) (hands : List Hand) (i : ℕ) (d : Hand) → i < length hands → (get_or hands i d).number ≡ w → 1 ≤ count_of w hands
 counted_at w [] i d below is = absurd (omega (arith, below))
 counted_at w (x ∷ hands) zero d below is = let one = ap {B = ℕ} (λ b. cond b 1 0) (same_test x.number w is) in omega (arith, one)
 counted_at w (x ∷ hands) (suc i) d below is = let tail = counted_at w hands i d (omega (arith, below)) is in omega (arith, tail)
 
-other_first : (w : ℕ) (x : Hand) (hands : List Hand) (mine : History) (b : Bool) → cond b 1 0 + count_of w hands ≤ 1 → 1 ≤ count_of w hands → mines w hands ≡ mine → cond b x.mine [] ++ mines w hands ≡ mine
-other_first w x hands mine true one there rest = absurd (omega (arith, one, there))
-other_first w x hands mine false one there rest = rest
+other_first : (n w : ℕ) (x : Hand) (hands : List Hand) (mine : History) (b : Bool) → cond b 1 0 + count_of w hands ≤ 1 → 1 ≤ count_of w hands → mines n w hands ≡ mine
+    → cond b (widened n x.mine) [] ++ mines n w hands ≡ mine
+other_first n w x hands mine true one there rest = absurd (omega (arith, one, there))
+other_first n w x hands mine false one there rest = rest
 
-mine_at : (w : ℕ) (hands : List Hand) (i : ℕ) (d : Hand) → i < length hands → (get_or hands i d).number ≡ w → count_of w hands ≤ 1 → mines w hands ≡ (get_or hands i d).mine
-mine_at w [] i d below is one = absurd (omega (arith, below))
-mine_at w (x ∷ hands) zero d below is one = mine_first w x hands one (same_test x.number w is)
-mine_at w (x ∷ hands) (suc i) d below is one =
-    other_first w x hands (get_or hands i d).mine (x.number == w) one (counted_at w hands i d (omega (arith, below)) is)
-    (mine_at w hands i d (omega (arith, below)) is (omega (arith, one)))
+mine_at : (n w : ℕ) (hands : List Hand) (i : ℕ) (d : Hand) → i < length hands → (get_or hands i d).number ≡ w → count_of w hands ≤ 1 → mines n w hands ≡ widened n (get_or hands i d).mine
+mine_at n w [] i d below is one = absurd (omega (arith, below))
+mine_at n w (x ∷ hands) zero d below is one = mine_first n w x hands one (same_test x.number w is)
+mine_at n w (x ∷ hands) (suc i) d below is one =
+    other_first n w x hands (widened n (get_or hands i d).mine) (x.number == w) one (counted_at w hands i d (omega (arith, below)) is)
+    (mine_at n w hands i d (omega (arith, below)) is (omega (arith, one)))
 
-first_ordered : (count : ℕ) (h : History) (w : ℕ) (x : Hand) (hands : List Hand) → IsPartOf count h x → count_of w (x ∷ hands) ≤ 1 → InOrder (mines w hands) (of h w) → (b : Bool) → (x.number == w) ≡ b
-    → InOrder (mines w (x ∷ hands)) (of h w)
-first_ordered count h w x hands is one rest true test =
+first_ordered : (count : ℕ) (k : Known) (w : ℕ) (x : Hand) (hands : List Hand) → IsPartOf count k x → count_of w (x ∷ hands) ≤ 1 → InOrder (mines (length k.fields) w hands) (of k.history w)
+    → (b : Bool) → (x.number == w) ≡ b → InOrder (mines (length k.fields) w (x ∷ hands)) (of k.history w)
+first_ordered count k w x hands is one rest true test =
     let number : x.number ≡ w = grind (arith, nat_tests) in
-    subst (λ (l : History). InOrder l (of h w)) (sym (mine_first w x hands one test)) (subst (λ n. InOrder x.mine (of h n)) number is.ordered)
-first_ordered count h w x hands is one rest false test =
-    subst (λ (l : History). InOrder l (of h w)) (sym (ap (λ b. cond b x.mine [] ++ mines w hands) test)) rest
+    subst (λ (l : History). InOrder l (of k.history w)) (sym (mine_first (length k.fields) w x hands one test))
+    (subst (λ n. InOrder (widened (length k.fields) x.mine) (of k.history n)) number is.ordered)
+first_ordered count k w x hands is one rest false test =
+    subst (λ (l : History). InOrder l (of k.history w)) (sym (ap (λ b. cond b (widened (length k.fields) x.mine) [] ++ mines (length k.fields) w hands) test)) rest
 
-mines_ordered : (count : ℕ) (h : History) (w : ℕ) (hands : List Hand) → All (IsPartOf count h) hands → count_of w hands ≤ 1 → InOrder (mines w hands) (of h w)
-mines_ordered count h w [] all one = tt
-mines_ordered count h w (x ∷ hands) all one =
-    first_ordered count h w x hands (all 0 x (omega arith)) one
-    (mines_ordered count h w hands (λ i d below. all (suc i) d (omega (arith, below))) (omega (arith, one)))
+mines_ordered : (count : ℕ) (k : Known) (w : ℕ) (hands : List Hand) → All (IsPartOf count k) hands → count_of w hands ≤ 1 → InOrder (mines (length k.fields) w hands) (of k.history w)
+mines_ordered count k w [] all one = tt
+mines_ordered count k w (x ∷ hands) all one =
+    first_ordered count k w x hands (all 0 x (omega arith)) one
+    (mines_ordered count k w hands (λ i d below. all (suc i) d (omega (arith, below))) (omega (arith, one)))
     (x.number == w) refl
 
 -- all hands of so many workers, who together made all calls, have each its own part
-pub all_whole : (count : ℕ) (h : History) (hands : List Hand) → IsOfWorkers count h → AllThere count hands → length hands ≤ count → All (IsPartOf count h) hands
-    → length h ≡ sum_by calls_of_hand hands → All (IsWhole h) hands
-all_whole count h hands workers there few all sum =
+pub all_whole : (count : ℕ) (k : Known) (hands : List Hand) → IsOfWorkers count k.history → AllThere count hands → length hands ≤ count → All (IsPartOf count k) hands
+    → length k.history ≡ sum_by calls_of_hand hands → All (IsWhole k) hands
+all_whole count k hands workers there few all sum =
+    let n = length k.fields in
     let some = λ (w : ℕ) (below : w < count). some_of w hands (there w below) in
-    let one = sum_each count (λ w. 1) (λ w. count_of w hands) some (omega (arith, counts_sum count h hands all, sum_ones count, few)) in
-    let owns = each_owns count h (λ w. mines w hands) workers (λ w below. mines_ordered count h w hands all (one w below)) (omega (arith, mines_sum count h hands all, sum)) in
+    let one = sum_each count (λ w. 1) (λ w. count_of w hands) some (omega (arith, counts_sum count k hands all, sum_ones count, few)) in
+    let owns =
+    each_owns count k.history (λ w. mines n w hands) workers (λ w below. mines_ordered count k w hands all (one w below)) (omega (arith, mines_sum count k n hands all, sum)) in
     λ i d below.
     let x = get_or hands i d in
     let is = all i d below in
     record {
       begun = is.begun;
-      whole = sym (owns x.number is.below) ∙ mine_at x.number hands i d below refl (one x.number is.below);
+      whole = sym (owns x.number is.below) ∙ mine_at n x.number hands i d below refl (one x.number is.below);
     }

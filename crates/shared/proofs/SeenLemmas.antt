@@ -1,21 +1,24 @@
 -- What stands of each answer that is there, and what readers are shown next.
-use Rattle.std.proofs.Common.{◌≡◌, ◌∙◌, ◌⊎◌, inl, inr, ℕ, ◌+◌, ◌≤◌, ◌^◌, List, ◌∷◌, ◌++◌, [], refl, Bool, true, false, Option, Some, None, IfSome, IfErr, IfOk, OnOk, Result, Ok, Err, ap, length, length-append, sym, subst, arith}
-use Rattle.std.specs.Prelude.{is_some, option_map}
+use Rattle.std.proofs.Common.{◌≡◌, ◌∙◌, ◌⊎◌, inl, inr, ℕ, ◌+◌, ◌≤◌, ◌^◌, List, ◌∷◌, ◌++◌, [], refl, Bool, true, false, Option, Some, None, IfSome, IfErr, IfOk, OnErr, OnOk, Result, Ok, Err, ap, length, length-append, sym, subst, arith}
+use Rattle.std.specs.Prelude.{MatchBool, is_some, option_map}
 use Rattle.std.specs.Bool.{then_some}
 use Rattle.std.specs.Result.{MatchResult, result_ok}
-use mathlib.Core.List.{IsPrefix}
 use Rattle.std.proofs.lemmas.Bool.Decides.{nat_tests}
 use Rattle.arrays.specs.Batch.{Batch, rows_of}
 use Rattle.arrays.specs.First.{first}
 use Rattle.arrays.specs.Shape.{FieldShape}
-use Rattle.shared.specs.Hand.{Hand, HasAdded, IsRaised, having_added, having_seen}
-use Rattle.shared.proofs.BalanceLemmas.{rows_pushed}
+use Rattle.shared.specs.Hand.{Hand, HasAdded, HasSeen, HasWidened, IsKept, IsRaised, calls_of_hand, having_added, having_counted, having_seen, rows_of_hand}
+use Rattle.shared.specs.Known.{Begins, IsLegalKnown, Known, known_of, with_column}
+use Rattle.shared.proofs.BalanceLemmas.{rows_pushed, rows_widened}
 use Rattle.table.specs.Cause.{IsLegal, batch_cause, difference, is_book_full, is_table_full, null_cause, texts_cause}
+use Rattle.table.specs.Compacted.{IsCompacted}
 use Rattle.table.specs.Contents.{Contents, admitted}
 use Rattle.table.specs.History.{History, rows}
 use Rattle.table.specs.declared.refusal.Refusal.{Refusal}
 use Rattle.table.specs.declared.refusal.Refusal.TheVariants.{BookFull, SchemaDiffers, TableFull}
+use Rattle.table.specs.Widened.{widened, with_field}
 use Rattle.table.proofs.BatchLemmas.{length-rows_of}
+use Rattle.table.proofs.WidenedLemmas.{length-widened, widened-again}
 
 pub ok_each : {A E : Type 0} {P Q : A → Type 0} (r : Result A E) → ((x : A) → P x → Q x) → IfOk r P → IfOk r Q
 ok_each (Ok x) f is = f x is
@@ -76,32 +79,108 @@ pub ok_all : {A E P Q : Type 0} (r : Result A E) → (P → Q) → OnOk r P → 
 ok_all (Ok x) f is = f is
 ok_all (Err e) f is = tt
 
+-- of two the first, where the second can't be
+pub true_of : {P Q : Type 0} (b : Bool) → (Q → ⊥) → MatchBool b P Q → P
+true_of true never is = is
+true_of false never is = absurd (never is)
+
+pub err_all : {A E P Q : Type 0} (r : Result A E) → (P → Q) → OnErr r P → OnErr r Q
+err_all (Ok x) f is = tt
+err_all (Err e) f is = f is
+
+-- nothing else is known of a table whose batches were joined
+pub known_joined : (max_rows : ℕ) (before after : Contents) → IsCompacted max_rows before after → known_of after ≡ known_of before
+known_joined max_rows before after is =
+    ap (λ (fs : List FieldShape). record { fields = fs; history = after.history }) is.fields
+    ∙ ap (λ (h : History). record { fields = before.fields; history = h }) is.history
+
+-- a worker that saw what begins with what it had seen
+pub seen : (k : Known) (old new : Hand) → Begins old.seen k → IsLegalKnown k → new ≡ having_seen k old → HasSeen old new
+seen k old new begun legal is = subst (HasSeen old) (sym is) (record { number = refl; begun = begun; legal = legal; mine = refl; columns = refl; left = refl })
+
+-- it appended nothing more
+pub seen_kept : (old new : Hand) → HasSeen old new → IsKept old new
+seen_kept old new is =
+    let n = length new.seen.fields in
+    record {
+      number = is.number;
+      calls = ap (λ (h : History). length h) is.mine ∙ length-widened n old.mine;
+      rows = ap (λ (h : History). length (rows h)) is.mine ∙ rows_widened n old.mine;
+      columns = is.columns;
+      left = is.left;
+    }
+
 -- a worker that added a batch has one call more, and the batch's rows
-pub added_raised : (fields : List FieldShape) (b : Batch) (old new : Hand) → HasAdded fields b old new → IsRaised b.rows old new
-added_raised fields b old new is = record {
-  number = is.number;
-  calls = ap (λ (h : History). length h) is.mine ∙ length-append old.mine ((old.number, rows_of b) ∷ []);
-  rows = rows_pushed old.mine new.mine old.number b is.mine;
-  left = is.left;
-}
+pub added_raised : (b : Batch) (old new : Hand) → HasAdded b old new → IsRaised b.rows old new
+added_raised b old new is =
+    let n = length is.before.fields in
+    record {
+      number = is.number;
+      calls = ap (λ (h : History). length h) is.mine
+          ∙ length-append (widened n old.mine) ((old.number, rows_of b) ∷ [])
+          ∙ ap (λ m. m + 1) (length-widened n old.mine);
+      rows = rows_pushed (widened n old.mine) new.mine old.number b is.mine ∙ ap (λ m. m + b.rows) (rows_widened n old.mine);
+      columns = is.columns;
+      left = is.left;
+    }
+
+-- what is known of a table with the batch is what the worker that added it then has seen
+pub seen_added : (k : Known) (s next : Contents) (b ready : Batch) (number : ℕ) (mid : Hand) → k ≡ known_of s → mid.seen ≡ k → number ≡ mid.number → ready ≡ b → next ≡ admitted s number ready
+    → known_of next ≡ (having_added (rows_of b) mid).seen
+seen_added k s next b ready number mid known mid_is numbered same next_is =
+    ap known_of next_is
+    ∙ ap (λ m. record { fields = s.fields; history = s.history ++ (m, rows_of ready) ∷ [] }) numbered
+    ∙ ap (λ (x : Batch). record { fields = s.fields; history = s.history ++ (mid.number, rows_of x) ∷ [] }) same
+    ∙ ap (λ (i : Known). record { fields = i.fields; history = i.history ++ (mid.number, rows_of b) ∷ [] }) (sym known ∙ sym mid_is)
 
 -- a worker has added the batch that the table admitted behind all that the worker then saw
-pub added : (fields : List FieldShape) (s next : Contents) (b ready : Batch) (number : ℕ) (old new : Hand) → ready ≡ b → number ≡ old.number → s.fields ≡ fields → IsPrefix old.seen s.history
-    → batch_cause s.fields s.history ready ≡ None → next ≡ admitted s number ready → IsLegal next.fields next.history → new ≡ having_added (rows_of b) (having_seen s.history old) → HasAdded fields b old new
-added fields s next b ready number old new same numbered typed begun allowed next_is legal is =
+pub added : (k : Known) (s next : Contents) (b ready : Batch) (number : ℕ) (old mid new : Hand) → ready ≡ b → number ≡ mid.number → k ≡ known_of s → Begins old.seen k → mid ≡ having_seen k old
+    → batch_cause s.fields s.history ready ≡ None → next ≡ admitted s number ready → IsLegal next.fields next.history → new ≡ having_added (rows_of b) mid → HasAdded b old new
+added k s next b ready number old mid new same numbered known begun mid_is allowed next_is legal new_is =
+    let is : new ≡ having_added (rows_of b) (having_seen (known_of s) old) =
+    new_is ∙ ap (λ (w : Hand). having_added (rows_of b) w) mid_is ∙ ap (λ (i : Known). having_added (rows_of b) (having_seen i old)) known in
+    let own : number ≡ old.number = numbered ∙ ap (λ (w : Hand). w.number) mid_is in
     let pushed : IsLegal s.fields (s.history ++ (number, rows_of ready) ∷ []) = subst (λ (t : Contents). IsLegal t.fields t.history) next_is legal in
-    let named : IsLegal fields (s.history ++ (old.number, rows_of ready) ∷ []) =
-    subst (λ n. IsLegal fields (s.history ++ (n, rows_of ready) ∷ [])) numbered (subst (λ (fs : List FieldShape). IsLegal fs (s.history ++ (number, rows_of ready) ∷ [])) typed pushed) in
-    record {
-      number = ap (λ (w : Hand). w.number) is;
-      before = s.history;
+    let named : IsLegal s.fields (s.history ++ (old.number, rows_of ready) ∷ []) = subst (λ n. IsLegal s.fields (s.history ++ (n, rows_of ready) ∷ [])) own pushed in
+    subst (HasAdded b old) (sym is) (record {
+      number = refl;
+      before = known_of s;
+      begun = subst (Begins old.seen) known begun;
+      allowed = subst (λ (x : Batch). batch_cause s.fields s.history x ≡ None) same allowed;
+      fields = refl;
+      history = refl;
+      legal = subst (λ (x : Batch). IsLegal s.fields (s.history ++ (old.number, rows_of x) ∷ [])) same named;
+      mine = refl;
+      columns = refl;
+      left = refl;
+    })
+
+-- a worker has added the column that the table has behind all that the worker then saw
+pub widened_by : (k l : Known) (s next : Contents) (f : FieldShape) (old mid later new : Hand) → k ≡ known_of s → l ≡ known_of next → next ≡ with_field s f → IsLegal next.fields next.history
+    → Begins old.seen k → mid ≡ having_seen k old → later ≡ having_seen l mid → new ≡ having_counted later → HasWidened f old new
+widened_by k l s next f old mid later new k_is l_is added legal begun mid_is later_is new_is =
+    let is : new ≡ having_counted (having_seen l (having_seen k old)) =
+    new_is ∙ ap having_counted later_is ∙ ap (λ (w : Hand). having_counted (having_seen l w)) mid_is in
+    let wide : l ≡ with_column k f = l_is ∙ ap known_of added ∙ ap (λ (i : Known). with_column i f) (sym k_is) in
+    let few : length k.fields ≤ length l.fields = omega (arith, ap (λ (i : Known). length i.fields) wide, length-append k.fields (f ∷ [])) in
+    subst (HasWidened f old) (sym is) (record {
+      number = refl;
+      before = k;
       begun = begun;
-      allowed = subst (λ (x : Batch). batch_cause fields s.history x ≡ None) same (subst (λ (fs : List FieldShape). batch_cause fs s.history ready ≡ None) typed allowed);
-      seen = ap (λ (w : Hand). w.seen) is;
-      legal = subst (λ (w : Hand). IsLegal fields w.seen) (sym is) (subst (λ (x : Batch). IsLegal fields (s.history ++ (old.number, rows_of x) ∷ [])) same named);
-      mine = ap (λ (w : Hand). w.mine) is;
-      left = ap (λ (w : Hand). w.left) is;
-    }
+      seen = wide;
+      legal = subst IsLegalKnown (sym l_is) legal;
+      mine = widened-again (length k.fields) (length l.fields) few old.mine;
+      columns = refl;
+      left = refl;
+    })
+
+-- it has as many pairs and rows of its own as before
+pub widened_same : (f : FieldShape) (old new : Hand) → HasWidened f old new → (calls_of_hand new ≡ calls_of_hand old) × (rows_of_hand new ≡ rows_of_hand old)
+widened_same f old new is =
+    let n = length new.seen.fields in (
+      ap (λ (h : History). length h) is.mine ∙ length-widened n old.mine,
+      ap (λ (h : History). length (rows h)) is.mine ∙ rows_widened n old.mine,
+    )
 
 -- of one fact the first half alone
 pub fewer : {A B C : Type 0} → (A × B) ⊎ C → A ⊎ C

@@ -5,9 +5,9 @@ use denote.Struct.Struct.{Struct}
 use denote.RattleType.{RattleType}
 use Rattle.std.proofs.Crossing.{crosses}
 use Rattle.std.proofs.sync.Mutex.TheSendSync as mutex
-use Rattle.std.proofs.sync.ledger.Book.TheSendSync as book
-use Rattle.std.proofs.sync.ledger.Share.TheSendSync as share
 use Rattle.std.specs.declared.sync.ledger.Ledger as ledger
+use Rattle.shared.proofs.ledgers.Books.TheSendSync as books
+use Rattle.shared.proofs.ledgers.Shares.TheSendSync as shares
 use Rattle.histories.proofs.front.Front.TheSendSync as front
 use Rattle.histories.proofs.head.Head.TheSendSync as head
 use Rattle.histories.specs.declared.naming.Naming as names
@@ -19,10 +19,10 @@ use Rattle.shared.specs.declared.shown.Publish as publish
 use Rattle.table.specs.Contents.{Contents}
 use Rattle.table.proofs.SendingLemmas.{state-send, version-send, version-sync}
 
-module _ (C Q N P : RattleType) (c : ledger.Ghosts C.Denot) (q : ledger.Ghosts Q.Denot) (n : naming.Ghosts N.Denot) (m : names.Ghosts N.Denot) (p : publish.Ghosts P.Denot Contents) (send-P : IsSend P) where
-  inside-send : IsSend (inside.the_row C Q N P m c q n p)
+module _ (C Q K N P : RattleType) (c : ledger.Ghosts C.Denot) (q : ledger.Ghosts Q.Denot) (k : ledger.Ghosts K.Denot) (n : naming.Ghosts N.Denot) (m : names.Ghosts N.Denot) (p : publish.Ghosts P.Denot Contents) (send-P : IsSend P) where
+  inside-send : IsSend (inside.the_row C Q K N P m c q k n p)
   inside-send =
-      let T = inside.the_type C Q N P m c q n p in
+      let T = inside.the_type C Q K N P m c q k n p in
       recorded_send (Struct (shape T)) T.D T.to T.to_one
       (struct_send (shape T) (
         search (state-send, crosses, sendable) depth 20,
@@ -37,16 +37,10 @@ module _ (C Q N P : RattleType) (c : ledger.Ghosts C.Denot) (q : ledger.Ghosts Q
                 (
                   search sendable depth 20,
                   (
-                    search (book.the_send, crosses, sendable) depth 20,
+                    search (books.the_field_send, crosses, sendable) depth 20,
                     (
-                      search (book.the_send, crosses, sendable) depth 20,
-                      (
-                        search (share.the_send, crosses, sendable) depth 20,
-                        (
-                          search (share.the_send, crosses, sendable) depth 20,
-                          tt,
-                        ),
-                      ),
+                      search (shares.the_field_send, crosses, sendable) depth 20,
+                      tt,
                     ),
                   ),
                 ),
@@ -56,8 +50,8 @@ module _ (C Q N P : RattleType) (c : ledger.Ghosts C.Denot) (q : ledger.Ghosts Q
         ),
       ))
 
-  pub locked-send : IsSend (locked.the_field C Q N P m c q n p).row
+  pub locked-send : IsSend (locked.the_field C Q K N P m c q k n p).row
   locked-send = search (inside-send, crosses, sendable) depth 20
 
-  pub table-sync : IsSync (table.the_row C Q N P c q n m p)
+  pub table-sync : IsSync (table.the_row C Q K N P c q k n m p)
   table-sync = search (locked-send, mutex.the_sync, crosses, sendable) depth 40

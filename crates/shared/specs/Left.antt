@@ -1,13 +1,13 @@
 -- What is left with a worker.
 use Rattle.std.specs.Prelude.{ℕ, Option, refl}
 use Rattle.std.specs.Coded.{Coded, code_by, coded_ℕ, coded_option, coded×}
-use Rattle.shared.specs.Code.{history_code, refusal_code}
-use Rattle.table.specs.History.{History}
+use Rattle.shared.specs.Code.{refusal_code}
+use Rattle.shared.specs.Known.{Known, known_code}
 use Rattle.table.specs.declared.refusal.Refusal.{Refusal}
 
--- The history of its last receipt; the file, the batch in it and the refusal that stopped it.
+-- What its last receipt tells of; the file, the batch in it and the refusal that stopped it.
 pub record Left : Type 0 where
-  pub last : Option History
+  pub last : Option Known
   pub stop : Option (ℕ × ℕ × Refusal)
 
 abbrev stop_code : Coded (ℕ × ℕ × Refusal)
@@ -19,8 +19,8 @@ stop_code =
 
 abbrev pub left_code : Coded Left
 left_code =
-    code_by (Option History × Option (ℕ × ℕ × Refusal))
-    (coded× (coded_option history_code) (coded_option stop_code))
+    code_by (Option Known × Option (ℕ × ℕ × Refusal))
+    (coded× (coded_option known_code) (coded_option stop_code))
     (λ l. (l.last, l.stop))
     (λ p. record { last = p.0; stop = p.1 })
     (λ _. refl)

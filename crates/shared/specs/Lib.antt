@@ -1,4 +1,6 @@
 pub mod Code
+pub mod Known
+pub mod Changes
 pub mod Left
 pub mod Named
 pub mod Parts

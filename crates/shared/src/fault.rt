@@ -72,8 +72,8 @@ pub enum GatherCause {
 
 /// Why a table isn't gathered, with the table and the workers as they were handed in.
 #[derive(Drop)]
-pub struct GatherFault<C: Ledger, Q: Ledger, N: Naming, P: Publish<Item = Shown<N>>> {
+pub struct GatherFault<C: Ledger, Q: Ledger, K: Ledger, N: Naming, P: Publish<Item = Shown<N>>> {
     pub cause: GatherCause,
-    pub table: SharedTable<C, Q, N, P>,
-    pub workers: Vec<Worker<C, Q, N>>,
+    pub table: SharedTable<C, Q, K, N, P>,
+    pub workers: Vec<Worker<C, Q, K, N>>,
 }

@@ -1,33 +1,36 @@
 //! The shares of all workers put together, and given back.
 
 ghost use Rattle.std.specs.Prelude.{◌≡◌, ◌+◌, ◌≤◌, length, sum_by};
-ghost use Rattle.shared.specs.Hand.{calls_of_hand, rows_of_hand};
+ghost use Rattle.shared.specs.Hand.{calls_of_hand, columns_of_hand, rows_of_hand};
 
+use crate::ledgers::{Books, Shares};
 use crate::naming::Naming;
 use crate::worker::Worker;
-use std::sync::ledger::{Book, Ledger, Share};
+use std::sync::ledger::Ledger;
 
 /// Tells what the books' totals are, where the shares and those of the workers have all parts. Nothing changes: each worker
 /// lends what it has, and gets it back.
-pub(crate) fn tell_totals<C: Ledger, Q: Ledger, N: Naming>(
-    call_book: &mut Book<C>,
-    row_book: &mut Book<Q>,
-    calls: &mut Share<C>,
-    rows: &mut Share<Q>,
-    workers: &mut [Worker<C, Q, N>],
+pub(crate) fn tell_totals<C: Ledger, Q: Ledger, K: Ledger, N: Naming>(
+    books: &mut Books<C, Q, K>,
+    shares: &mut Shares<C, Q, K>,
+    workers: &mut [Worker<C, Q, K, N>],
 )
-    requires call_parts { (calls.old.parts ≤ C.parts) × (C.parts ≤ calls.old.parts + length workers.old) }
-    requires row_parts { (rows.old.parts ≤ Q.parts) × (Q.parts ≤ rows.old.parts + length workers.old) }
+    requires call_parts { (shares.old.calls.parts ≤ C.parts) × (C.parts ≤ shares.old.calls.parts + length workers.old) }
+    requires row_parts { (shares.old.rows.parts ≤ Q.parts) × (Q.parts ≤ shares.old.rows.parts + length workers.old) }
+    requires column_parts { (shares.old.columns.parts ≤ K.parts) × (K.parts ≤ shares.old.columns.parts + length workers.old) }
     ensures workers { workers.new ≡ workers.old }
-    ensures few { calls.old.parts + length workers.old ≤ C.parts }
-    ensures call_share { (calls.new.parts ≡ calls.old.parts) × (calls.new.amount ≡ calls.old.amount) }
-    ensures row_share { (rows.new.parts ≡ rows.old.parts) × (rows.new.amount ≡ rows.old.amount) }
-    ensures totals { (call_book.new.total ≡ call_book.old.total) × (row_book.new.total ≡ row_book.old.total) }
-    ensures call_total { call_book.old.total ≡ calls.old.amount + sum_by calls_of_hand workers.old }
-    ensures row_total { row_book.old.total ≡ rows.old.amount + sum_by rows_of_hand workers.old }
+    ensures few { shares.old.calls.parts + length workers.old ≤ C.parts }
+    ensures call_share { (shares.new.calls.parts ≡ shares.old.calls.parts) × (shares.new.calls.amount ≡ shares.old.calls.amount) }
+    ensures row_share { (shares.new.rows.parts ≡ shares.old.rows.parts) × (shares.new.rows.amount ≡ shares.old.rows.amount) }
+    ensures column_share { (shares.new.columns.parts ≡ shares.old.columns.parts) × (shares.new.columns.amount ≡ shares.old.columns.amount) }
+    ensures totals { (books.new.calls.total ≡ books.old.calls.total) × (books.new.rows.total ≡ books.old.rows.total) × (books.new.columns.total ≡ books.old.columns.total) }
+    ensures call_total { books.old.calls.total ≡ shares.old.calls.amount + sum_by calls_of_hand workers.old }
+    ensures row_total { books.old.rows.total ≡ shares.old.rows.amount + sum_by rows_of_hand workers.old }
+    ensures column_total { books.old.columns.total ≡ shares.old.columns.amount + sum_by columns_of_hand workers.old }
 {
-    call_book.audit(calls);
-    row_book.audit(rows);
+    books.calls.audit(&mut shares.calls);
+    books.rows.audit(&mut shares.rows);
+    books.columns.audit(&mut shares.columns);
     let Some((first, rest)) = workers.split_first_mut() else {
         return;
     };
@@ -35,13 +38,16 @@ pub(crate) fn tell_totals<C: Ledger, Q: Ledger, N: Naming>(
         number: _,
         call_count,
         row_count,
-        call_share,
-        row_share,
+        column_count,
+        shares: own,
         ..
     } = first;
-    call_share.give(calls, 1, u64::from(*call_count));
-    row_share.give(rows, 1, *row_count);
-    tell_totals(call_book, row_book, calls, rows, rest);
-    calls.give(call_share, 1, u64::from(*call_count));
-    rows.give(row_share, 1, *row_count);
+    let (call_count, row_count, column_count) = (u64::from(*call_count), *row_count, *column_count);
+    own.calls.give(&mut shares.calls, 1, call_count);
+    own.rows.give(&mut shares.rows, 1, row_count);
+    own.columns.give(&mut shares.columns, 1, column_count);
+    tell_totals(books, shares, rest);
+    shares.calls.give(&mut own.calls, 1, call_count);
+    shares.rows.give(&mut own.rows, 1, row_count);
+    shares.columns.give(&mut own.columns, 1, column_count);
 }

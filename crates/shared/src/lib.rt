@@ -3,6 +3,7 @@
 
 pub mod fault;
 pub mod laws;
+pub mod ledgers;
 mod lending;
 mod locked;
 mod missing;
@@ -17,6 +18,7 @@ pub mod shown;
 pub mod worker;
 
 pub use fault::{GatherCause, GatherFault, OpenFault};
+pub use ledgers::Blanks;
 pub use naming::{Event, Naming};
 pub use opening::open;
 pub use outcome::{Outcome, Receipt};
@@ -24,5 +26,5 @@ pub use pair::Pair;
 pub use reader::Reader;
 pub use shared_table::{Gathered, SharedTable};
 pub use shown::{Publish, Publisher, Shown};
-pub use table::{Entry, Refusal, TableState, Version};
+pub use table::{AddFault, Entry, Refusal, TableState, Version};
 pub use worker::Worker;

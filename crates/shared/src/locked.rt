@@ -1,36 +1,42 @@
 //! What lies under the lock.
 
-ghost use Rattle.std.specs.Prelude.{◌≡◌, ◌⊎◌, ◌++◌, ◌∷◌, ◌<◌, ◌≤◌, ◌^◌, [], All, IfErr, IfOk, IfSome, None, OnErr, OnOk, Some, is_some, length, sum_by};
-ghost use mathlib.Core.List.{IsPrefix};
-ghost use Rattle.arrays.specs.Batch.{rows_of};
+ghost use Rattle.std.specs.Prelude.{◌≡◌, ◌⊎◌, ◌+◌, ◌++◌, ◌∷◌, ◌<◌, ◌≤◌, ◌^◌, [], All, IfErr, IfOk, IfSome, None, OnErr, OnOk, Some, is_some, length, sum_by};
 ghost use Rattle.std.specs.Arc.{arc_value};
+ghost use mathlib.Core.List.{IsPrefix};
+ghost use Rattle.arrays.specs.Shape.{field_of};
 ghost use Rattle.shared.specs.Missing.{AllThere};
 ghost use Rattle.shared.specs.Balance.{IsOfWorkers};
-ghost use Rattle.shared.specs.Hand.{HasAdded, HasSeen, IsPartOf, IsWhole, calls_of_hand, rows_of_hand};
+ghost use Rattle.shared.specs.Changes.{known_after};
+ghost use Rattle.shared.specs.Hand.{HasAdded, HasSeen, HasWidened, IsPartOf, IsWhole, calls_of_hand, columns_of_hand, rows_of_hand};
+ghost use Rattle.shared.specs.Known.{IsLegalKnown, known_of};
 ghost use Rattle.table.specs.Cause.{IsLegal, batch_cause, early_cause};
 ghost use Rattle.table.specs.Compacted.{IsCompacted};
 ghost use Rattle.table.specs.Contents.{Contents, admitted};
 ghost use Rattle.table.specs.History.{rows};
+ghost use Rattle.table.specs.Stored.{stored_field};
+ghost use Rattle.table.specs.Widened.{add_fault, with_field};
 
+use crate::ledgers::{Books, Shares};
 use crate::lending::tell_totals;
-use crate::naming::{Accepted, Event, Naming};
+use crate::naming::{Accepted, Added, Event, Naming};
 use crate::outcome::Receipt;
 use crate::seal::Seal;
 use crate::shown::{Publish, Shown};
-use crate::worker::Worker;
-use arrays::RecordBatch;
+use crate::worker::{Worker, begin};
+use arrays::{Field, RecordBatch};
 use colbits::NoMemory;
-use histories::{Front, Head};
+use histories::{Front, Head, Noted};
 use std::marker::Model;
-use std::sync::ledger::{Book, Ledger, Share};
+use std::sync::ledger::Ledger;
 use std::sync::{Arc, Wait};
-use table::{Ready, Refusal, TableState, Version};
+use table::{AddFault, Ready, Refusal, TableState, Version};
 
 /// A table with its history, the ledgers of its workers' calls and rows, the version of it that was asked for last, and who
-/// shows versions to readers. Each time that its lock is got, the history is the table's, each entry of it is of one of the
-/// table's workers, the first ledger counts its entries and the second its rows, and readers are shown the table.
+/// shows versions to readers. Each time that its lock is got, what is known by the front is what the table holds, each entry of
+/// its history is of one of the table's workers, the ledgers count its entries, its rows and the fields that came since it was opened, and readers are
+/// shown the table.
 #[derive(Drop)]
-pub(crate) struct Locked<C: Ledger, Q: Ledger, N: Naming, P: Publish<Item = Shown<N>>> {
+pub(crate) struct Locked<C: Ledger, Q: Ledger, K: Ledger, N: Naming, P: Publish<Item = Shown<N>>> {
     pub(crate) state: TableState,
     /// The last version that was asked for, where nothing was added or joined since.
     pub(crate) newest: Option<Arc<Version>>,
@@ -40,64 +46,71 @@ pub(crate) struct Locked<C: Ledger, Q: Ledger, N: Naming, P: Publish<Item = Show
     pub(crate) publisher: Option<P>,
     /// Which of those that were shown is shown.
     pub(crate) number: u64,
-    pub(crate) call_book: Book<C>,
-    pub(crate) row_book: Book<Q>,
-    /// No part of the ledger; the workers lend it theirs.
-    pub(crate) no_calls: Share<C>,
-    /// The same of the ledger of rows.
-    pub(crate) no_rows: Share<Q>,
+    pub(crate) books: Books<C, Q, K>,
+    /// No part of any ledger; the workers lend it theirs.
+    pub(crate) nothing: Shares<C, Q, K>,
 }
 
-impl<C: Ledger, Q: Ledger, N: Naming, P: Publish<Item = Shown<N>>> Model for Locked<C, Q, N, P> {
+impl<C: Ledger, Q: Ledger, K: Ledger, N: Naming, P: Publish<Item = Shown<N>>> Model
+    for Locked<C, Q, K, N, P> {
     ghost use Rattle.table.specs.Contents.{Contents, contents_code};
 
     ghost Value = { Contents };
 
     ghost coded = { contents_code };
 
-    ghost use Rattle.std.specs.Prelude.{◌≡◌, IfSome, length};
+    ghost use Rattle.std.specs.Prelude.{◌≡◌, ◌+◌, IfSome, length};
     ghost use Rattle.std.specs.Arc.{arc_value};
     ghost use Rattle.shared.specs.Balance.{IsBalanced, IsOfWorkers};
-    ghost use Rattle.table.specs.Cause.{IsLegal};
+    ghost use Rattle.shared.specs.Changes.{known_after};
+    ghost use Rattle.shared.specs.Known.{IsLegalKnown, known_of};
 
     ghost view = { λ l. l.state };
 
-    ghost invariant = { λ l. IsBalanced l.call_book.total l.row_book.total l.state.history
+    ghost invariant = { λ l. IsBalanced l.books.calls.total l.books.rows.total l.state.history
         × IsOfWorkers C.parts l.state.history
         × (Q.parts ≡ C.parts)
-        × (l.no_calls.parts ≡ 0)
-        × (l.no_calls.amount ≡ 0)
-        × (l.no_rows.parts ≡ 0)
-        × (l.no_rows.amount ≡ 0)
+        × (l.nothing.calls.parts ≡ 0)
+        × (l.nothing.calls.amount ≡ 0)
+        × (l.nothing.rows.parts ≡ 0)
+        × (l.nothing.rows.amount ≡ 0)
         × IfSome l.newest (λ v. arc_value v ≡ l.state)
-        × (l.front ≡ l.state.history)
-        × (l.state.fields ≡ N.fields)
-        × IsLegal N.fields l.state.history
-        × IfSome l.publisher (λ p. P.shows p l.state) };
+        × (known_after N.fields l.front ≡ known_of l.state)
+        × (length l.state.fields ≡ length N.fields + l.books.columns.total)
+        × IsLegalKnown (known_of l.state)
+        × IfSome l.publisher (λ p. P.shows p l.state)
+        × (K.parts ≡ C.parts)
+        × (l.nothing.columns.parts ≡ 0)
+        × (l.nothing.columns.amount ≡ 0) };
 }
 
-impl<C: Ledger, Q: Ledger, N: Naming, P: Publish<Item = Shown<N>>> Locked<C, Q, N, P> {
+impl<C: Ledger, Q: Ledger, K: Ledger, N: Naming, P: Publish<Item = Shown<N>>> Locked<
+    C,
+    Q,
+    K,
+    N,
+    P,
+> {
     /// Adds a batch of a worker, which it counts, as `TableState::admit_ready` does, and shows it to readers. The worker sees the
-    /// table's history, up to its own batch where it was added. After a refusal nothing else is changed.
+    /// table's fields and history, up to its own batch where it was added. After a refusal nothing else is changed.
     pub(crate) fn append<W: Wait>(
         &mut self,
         wait: &W,
-        worker: &mut Worker<C, Q, N>,
+        worker: &mut Worker<C, Q, K, N>,
         batch: &RecordBatch,
         ready: Ready,
     ) -> Result<Receipt<N>, Refusal>
         requires { ready ≡ batch.now }
         ensures added { OnOk result (self.new ≡ admitted self.old worker.old.number batch.now) }
         ensures kept { OnErr result (self.new ≡ self.old) }
-        ensures appended { OnOk result (HasAdded N.fields batch.now worker.old worker.new) }
+        ensures appended { OnOk result (HasAdded batch.now worker.old worker.new) }
         ensures receipt { IfOk result (λ r. r ≡ worker.new.seen) }
-        ensures seen { OnErr result (HasSeen N.fields worker.old worker.new) }
-        ensures cause { IfErr result (λ e. ((e ≡ Refusal.NoMemory) × (early_cause N.fields worker.new.seen batch.now ≡ None))
-            ⊎ (batch_cause N.fields worker.new.seen batch.now ≡ Some e)) }
+        ensures seen { OnErr result (HasSeen worker.old worker.new) }
+        ensures cause { IfErr result (λ e. ((e ≡ Refusal.NoMemory) × (early_cause worker.new.seen.fields worker.new.seen.history batch.now ≡ None))
+            ⊎ (batch_cause worker.new.seen.fields worker.new.seen.history batch.now ≡ Some e)) }
     {
-        begin(wait, &worker.seen, &self.front);
-        worker.see(&self.front);
-        let next = admit(
+        worker.see(wait, &self.front);
+        let (entry, next) = admit(
             &mut self.state,
             self.publisher.is_some(),
             worker.number,
@@ -116,60 +129,81 @@ impl<C: Ledger, Q: Ledger, N: Naming, P: Publish<Item = Shown<N>>> Locked<C, Q, 
             &self.front,
             &mut self.number,
         );
-        worker.raise(
-            &mut self.call_book,
-            &mut self.row_book,
-            &self.front,
-            &accepted,
-        );
-        Ok(Receipt::new(self.front.again()))
+        worker.raise(&mut self.books, &self.front, &accepted);
+        Ok(Receipt::new(entry, self.front.again()))
     }
 
-    /// The table as it is, with its history seen by the worker.
+    /// The table as it is, with its fields and its history seen by the worker.
     pub(crate) fn snapshot<W: Wait>(
         &mut self,
         wait: &W,
-        worker: &mut Worker<C, Q, N>,
+        worker: &mut Worker<C, Q, K, N>,
     ) -> Result<Arc<Version>, NoMemory>
         ensures same { self.new ≡ self.old }
-        ensures seen { HasSeen N.fields worker.old worker.new }
-        ensures all { worker.new.seen ≡ self.old.history }
+        ensures seen { HasSeen worker.old worker.new }
+        ensures all { worker.new.seen ≡ known_of self.old }
         ensures version { IfOk result (λ v. arc_value v ≡ self.old) }
-        ensures fields { self.old.fields ≡ N.fields }
     {
-        begin(wait, &worker.seen, &self.front);
-        worker.see(&self.front);
+        worker.see(wait, &self.front);
         self.version()
     }
 
     /// Joins neighbouring batches, as `TableState::compact` does, shows that to readers, and gives the table as it is then, which
-    /// is kept for the next who asks. The worker sees the table's history. After a refusal nothing else is changed.
+    /// is kept for the next who asks. The worker sees the table's fields and history. After a refusal nothing else is changed.
     pub(crate) fn compact<W: Wait>(
         &mut self,
         wait: &W,
-        worker: &mut Worker<C, Q, N>,
+        worker: &mut Worker<C, Q, K, N>,
         max_rows: u32,
     ) -> Result<Arc<Version>, NoMemory>
         ensures compacted { OnOk result (IsCompacted max_rows self.old self.new) }
         ensures kept { OnErr result (self.new ≡ self.old) }
-        ensures seen { HasSeen N.fields worker.old worker.new }
-        ensures all { worker.new.seen ≡ self.old.history }
+        ensures seen { HasSeen worker.old worker.new }
+        ensures all { worker.new.seen ≡ known_of self.old }
         ensures version { IfOk result (λ v. arc_value v ≡ self.new) }
-        ensures fields { self.old.fields ≡ N.fields }
     {
-        begin(wait, &worker.seen, &self.front);
-        worker.see(&self.front);
+        worker.see(wait, &self.front);
         let (version, second) = self.state.compact_shown(max_rows)?;
         self.newest = version.clone().ok();
-        let shown = self.publisher.is_some().then_some(second);
-        show(
+        show_version(
             wait,
             &mut self.publisher,
-            shown,
+            second,
             &self.front,
             &mut self.number,
         );
         Ok(version)
+    }
+
+    /// Adds a column of the field, as `TableState::add_column` does, which the worker counts, and shows the table with it to
+    /// readers. The worker sees the table's fields and history, with the field behind them. A refusal changes nothing.
+    pub(crate) fn add_column<W: Wait>(
+        &mut self,
+        wait: &W,
+        worker: &mut Worker<C, Q, K, N>,
+        field: &Field,
+    ) -> Result<(), AddFault>
+        ensures allowed { OnOk result (add_fault (field_of field.now) ≡ None) }
+        ensures added { OnOk result (self.new ≡ with_field self.old (stored_field (field_of field.now))) }
+        ensures widened { OnOk result (HasWidened (stored_field (field_of field.now)) worker.old worker.new) }
+        ensures err { IfErr result (λ e. ((e ≡ AddFault.NoMemory) × (add_fault (field_of field.now) ≡ None))
+            ⊎ (add_fault (field_of field.now) ≡ Some e)) }
+        ensures kept { OnErr result ((self.new ≡ self.old) × (worker.new ≡ worker.old)) }
+    {
+        let (version, second) = self.state.add_column_shown(field)?;
+        worker.see(wait, &self.front);
+        add(wait, &self.head, &mut self.front, &Added { field });
+        self.newest = Some(version);
+        show_version(
+            wait,
+            &mut self.publisher,
+            second,
+            &self.front,
+            &mut self.number,
+        );
+        worker.see(wait, &self.front);
+        worker.count_column(&mut self.books.columns);
+        Ok(())
     }
 
     /// The table as it is: the version that is kept, else a new one, which is kept for the next who asks.
@@ -189,7 +223,7 @@ impl<C: Ledger, Q: Ledger, N: Naming, P: Publish<Item = Shown<N>>> Locked<C, Q, 
     pub(crate) fn gather<W: Wait>(
         &mut self,
         wait: &W,
-        workers: &mut [Worker<C, Q, N>],
+        workers: &mut [Worker<C, Q, K, N>],
     ) -> Result<Arc<Version>, NoMemory>
         requires all { AllThere C.parts workers.old }
         requires enough { C.parts ≤ length workers.old }
@@ -198,41 +232,25 @@ impl<C: Ledger, Q: Ledger, N: Naming, P: Publish<Item = Shown<N>>> Locked<C, Q, 
         ensures version { IfOk result (λ v. arc_value v ≡ self.old) }
         ensures calls { length self.old.history ≡ sum_by calls_of_hand workers.old }
         ensures rows { length (rows self.old.history) ≡ sum_by rows_of_hand workers.old }
-        ensures fields { self.old.fields ≡ N.fields }
+        ensures columns { length self.old.fields ≡ length N.fields + sum_by columns_of_hand workers.old }
+        ensures opened { IsPrefix N.fields self.old.fields }
         ensures known { IsOfWorkers C.parts self.old.history }
-        ensures legal { IsLegal N.fields self.old.history }
-        ensures whole { All (IsWhole self.old.history) workers.old }
+        ensures legal { IsLegalKnown (known_of self.old) }
+        ensures whole { All (IsWhole (known_of self.old)) workers.old }
     {
-        tell_totals(
-            &mut self.call_book,
-            &mut self.row_book,
-            &mut self.no_calls,
-            &mut self.no_rows,
-            workers,
-        );
+        tell_totals(&mut self.books, &mut self.nothing, workers);
         begin_all(wait, workers, &self.front);
         self.version()
     }
 }
 
-/// Returns once the first front begins the second, as the shorter of two fronts does at once.
-pub(crate) fn begin<W: Wait, N: Naming>(wait: &W, seen: &Front<Event, N>, front: &Front<Event, N>)
-    ensures { IsPrefix seen.now front.now }
-{
-    for _ in wait.forever() {
-        if seen.begins(front) {
-            break;
-        }
-    }
-}
-
-/// The same of what each worker has seen.
-fn begin_all<C: Ledger, Q: Ledger, N: Naming, W: Wait>(
+/// Returns once what each worker has seen begins what is known by the front, as it does at once where it isn't more.
+fn begin_all<C: Ledger, Q: Ledger, K: Ledger, N: Naming, W: Wait>(
     wait: &W,
-    workers: &[Worker<C, Q, N>],
+    workers: &[Worker<C, Q, K, N>],
     front: &Front<Event, N>,
 )
-    ensures { All (IsPartOf C.parts front.now) workers.now }
+    ensures { All (IsPartOf C.parts (known_after N.fields front.now)) workers.now }
 {
     for worker in workers {
         begin_worker(wait, worker, front);
@@ -241,43 +259,48 @@ fn begin_all<C: Ledger, Q: Ledger, N: Naming, W: Wait>(
 
 /// The same of what one worker has seen.
 #[tactic(auto, using(crate::proofs::PartLemmas::part_more))]
-fn begin_worker<C: Ledger, Q: Ledger, N: Naming, W: Wait>(
+fn begin_worker<C: Ledger, Q: Ledger, K: Ledger, N: Naming, W: Wait>(
     wait: &W,
-    worker: &Worker<C, Q, N>,
+    worker: &Worker<C, Q, K, N>,
     front: &Front<Event, N>,
 )
-    ensures { IsPartOf C.parts front.now worker.now }
+    ensures { IsPartOf C.parts (known_after N.fields front.now) worker.now }
 {
     worker.tell();
     begin(wait, &worker.seen, front);
 }
 
-/// Adds a worker's batch to all that the front has. It's tried again where the history is longer, which the lock rules out.
-fn add<W: Wait, N: Naming>(
+/// No history has so many changes.
+const MOST_CHANGES: u64 = 1 << 62;
+
+/// Adds an entry to all that the front has. It's tried again where the history is longer, which the lock rules out, or has as
+/// many changes as none has.
+fn add<X: Noted<Event>, W: Wait, N: Naming>(
     wait: &W,
     head: &Head<Event, N>,
     front: &mut Front<Event, N>,
-    accepted: &Accepted<'_>,
+    entry: &X,
 )
-    requires { length front.old < 2 ^ 62 }
-    ensures { front.new ≡ front.old ++ (accepted.now.worker, rows_of accepted.now.batch.now) ∷ [] }
+    ensures added { front.new ≡ front.old ++ X.noted entry.now ∷ [] }
+    ensures few { length front.old < 2 ^ 62 }
 {
     for _ in wait.forever() {
-        if front.add(head, accepted) {
+        if front.len() < MOST_CHANGES && front.add(head, entry) {
             break;
         }
     }
 }
 
-/// Admits a worker's batch, with the version of the table with it where somebody can see it.
+/// Admits a worker's batch, with the number of its entry, and the version of the table with it where somebody can see it.
 fn admit(
     state: &mut TableState,
     is_shown: bool,
     worker: u32,
     ready: Ready,
-) -> Result<Option<Arc<Version>>, Refusal>
-    ensures shown { IfOk result (λ v. is_some v ≡ is_shown) }
-    ensures version { IfOk result (λ o. IfSome o (λ v. arc_value v ≡ state.new)) }
+) -> Result<(u32, Option<Arc<Version>>), Refusal>
+    ensures number { IfOk result (λ r. r.0 ≡ length state.old.history) }
+    ensures shown { IfOk result (λ r. is_some r.1 ≡ is_shown) }
+    ensures version { IfOk result (λ r. IfSome r.1 (λ v. arc_value v ≡ state.new)) }
     ensures room { OnOk result (length state.old.history < 2 ^ 32) }
     ensures allowed { OnOk result (batch_cause state.old.fields state.old.history ready ≡ None) }
     ensures added { OnOk result (state.new ≡ admitted state.old worker ready) }
@@ -287,12 +310,27 @@ fn admit(
     ensures legal { IsLegal state.new.fields state.new.history }
 {
     if is_shown {
-        let (_entry, version) = state.admit_shown(worker, ready)?;
-        Ok(Some(version))
+        let (entry, version) = state.admit_shown(worker, ready)?;
+        Ok((entry, Some(version)))
     } else {
-        let _entry = state.admit_ready(worker, ready)?;
-        Ok(None)
+        let entry = state.admit_ready(worker, ready)?;
+        Ok((entry, None))
     }
+}
+
+/// Shows readers a version, where anybody shows it.
+fn show_version<W: Wait, N: Naming, P: Publish<Item = Shown<N>>>(
+    wait: &W,
+    publisher: &mut Option<P>,
+    version: Arc<Version>,
+    front: &Front<Event, N>,
+    number: &mut u64,
+)
+    requires { known_after N.fields front.now ≡ known_of (arc_value version) }
+    ensures { IfSome publisher.new (λ p. P.shows p (arc_value version)) }
+{
+    let next = publisher.is_some().then_some(version);
+    show(wait, publisher, next, front, number);
 }
 
 /// Shows readers the next version, which there is where anybody shows it, and counts it.
@@ -304,7 +342,7 @@ fn show<W: Wait, N: Naming, P: Publish<Item = Shown<N>>>(
     number: &mut u64,
 )
     requires there { is_some next ≡ is_some publisher.old }
-    requires version { IfSome next (λ v. (front.now ≡ (arc_value v).history) × ((arc_value v).fields ≡ N.fields)) }
+    requires version { IfSome next (λ v. known_after N.fields front.now ≡ known_of (arc_value v)) }
     ensures shown { IfSome next (λ v. IfSome publisher.new (λ p. P.shows p (arc_value v))) }
     ensures same { is_some publisher.new ≡ is_some publisher.old }
 {

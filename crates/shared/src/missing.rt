@@ -9,8 +9,8 @@ use std::sync::ledger::Ledger;
 
 /// The least number below the count that none of the workers has. Where there is none, there are as many workers.
 #[tactic(auto, using(crate::proofs::HandLemmas::enough))]
-pub(crate) fn first_missing<C: Ledger, Q: Ledger, N: Naming>(
-    workers: &[Worker<C, Q, N>],
+pub(crate) fn first_missing<C: Ledger, Q: Ledger, K: Ledger, N: Naming>(
+    workers: &[Worker<C, Q, K, N>],
     count: u32,
 ) -> Option<u32>
     ensures told { MatchOption result (AllThere count workers.now) (IsMissing count workers.now) }
@@ -25,7 +25,10 @@ pub(crate) fn first_missing<C: Ledger, Q: Ledger, N: Naming>(
 }
 
 /// Whether one of the workers has the number.
-fn is_there<C: Ledger, Q: Ledger, N: Naming>(workers: &[Worker<C, Q, N>], number: u32) -> bool
+fn is_there<C: Ledger, Q: Ledger, K: Ledger, N: Naming>(
+    workers: &[Worker<C, Q, K, N>],
+    number: u32,
+) -> bool
     ensures { result ≡ is_there workers.now number }
 {
     for worker in workers {

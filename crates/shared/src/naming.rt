@@ -1,16 +1,16 @@
 //! The name of a table's history, and what its entries are.
 
-use arrays::RecordBatch;
+use arrays::{Field, RecordBatch};
 use histories::Noted;
 use std::marker::{Brand, Model};
 
-/// The name of a table's history, which fixes the table's stored fields too. A caller is a function over the name that is
-/// handed the pair of which it is the name.
+/// The name of a table's history, which fixes the stored fields that it is opened with too. A caller is a function over the
+/// name that is handed the pair of which it is the name.
 pub trait Naming: histories::Naming {
     ghost use Rattle.std.specs.Prelude.{List};
     ghost use Rattle.arrays.specs.Shape.{FieldShape};
 
-    /// The stored fields.
+    /// The stored fields at opening.
     ghost fields: { List FieldShape };
 }
 
@@ -22,21 +22,19 @@ impl Naming for Brand {
 
 /// An entry of a history. No value of it is made.
 ///
-/// Clauses see a worker, and the rows that it added.
+/// Clauses see a change of the table: a worker with the rows that it added, or a field.
 #[derive(Drop)]
 pub struct Event;
 
 impl Model for Event {
-    ghost use Rattle.std.specs.Prelude.{ℕ, []};
-    ghost use Rattle.std.specs.Coded.{coded_ℕ, coded×};
-    ghost use Rattle.arrays.specs.Batch.{Table};
-    ghost use Rattle.table.specs.Contents.{table_code};
+    ghost use Rattle.std.specs.Prelude.{[]};
+    ghost use Rattle.shared.specs.Changes.{Change, change_code, pair_added};
 
-    ghost Value = { ℕ × Table };
+    ghost Value = { Change };
 
-    ghost coded = { coded× coded_ℕ table_code };
+    ghost coded = { change_code };
 
-    ghost view = { λ e. (0, []) };
+    ghost view = { λ e. pair_added (0, []) };
 }
 
 /// A worker's batch that the table took.
@@ -48,6 +46,21 @@ pub(crate) struct Accepted<'a> {
 
 impl<'a> Noted<Event> for Accepted<'a> {
     ghost use Rattle.arrays.specs.Batch.{rows_of};
+    ghost use Rattle.shared.specs.Changes.{pair_added};
 
-    ghost noted = { λ a. (a.worker, rows_of a.batch.now) };
+    ghost noted = { λ a. pair_added (a.worker, rows_of a.batch.now) };
+}
+
+/// A field that came behind the others, as it was given.
+#[derive(Drop)]
+pub(crate) struct Added<'a> {
+    pub(crate) field: &'a Field,
+}
+
+impl<'a> Noted<Event> for Added<'a> {
+    ghost use Rattle.arrays.specs.Shape.{field_of};
+    ghost use Rattle.shared.specs.Changes.{field_added};
+    ghost use Rattle.table.specs.Stored.{stored_field};
+
+    ghost noted = { λ a. field_added (stored_field (field_of a.field.now)) };
 }

@@ -3,15 +3,18 @@
 ghost use Rattle.std.specs.Prelude.{◌≡◌, ◌⊎◌, ◌≤◌, [], IfErr, IfOk, IfSome, OnOk, length, replicate};
 ghost use Rattle.left_right.specs.Handles.{pending, published};
 ghost use Rattle.std.specs.Arc.{arc_value};
+ghost use Rattle.shared.specs.Changes.{known_after};
 ghost use Rattle.shared.specs.Hand.{AreNew};
+ghost use Rattle.shared.specs.Known.{known_of};
 ghost use Rattle.shared.specs.Opened.{IsCount, IsFew, IsOpenFault};
 ghost use Rattle.table.specs.Stored.{stored_fields};
 
 use crate::fault::OpenFault;
+use crate::ledgers::Blanks;
 use crate::naming::{Event, Naming};
 use crate::pair::Pair;
 use crate::reader::Reader;
-use crate::shared_table::{Books, SharedTable};
+use crate::shared_table::SharedTable;
 use crate::shown::{Publisher, Shown};
 use crate::worker::{Worker, new_workers};
 use arrays::Schema;
@@ -19,7 +22,7 @@ use colbits::NoMemory;
 use histories::Front;
 use left_right::WriteHandle;
 use std::alloc::Global;
-use std::sync::ledger::{Blank, Ledger};
+use std::sync::ledger::Ledger;
 use std::sync::{Arc, Wait};
 use table::{TableState, Version};
 
@@ -27,36 +30,36 @@ use table::{TableState, Version};
 const MOST: u32 = 64;
 
 /// What `open` gives: the table, its workers and its readers.
-pub type Opened<C, Q, N, R> = (
-    SharedTable<C, Q, N, Publisher<N, R>>,
-    Vec<Worker<C, Q, N>>,
+pub type Opened<C, Q, K, N, R> = (
+    SharedTable<C, Q, K, N, Publisher<N, R>>,
+    Vec<Worker<C, Q, K, N>>,
     Vec<Reader<N>>,
 );
 
 /// A table of so many workers, from 1 to 64, and readers, up to 64, for batches of the schema; the workers, numbered from 0,
-/// and the readers. The blanks are of the ledgers of the workers' calls and of their rows, each with a part for each worker,
-/// and the pair was made of the same schema; a caller is a function over their names that is handed them.
+/// and the readers. The blanks are of the ledgers of the workers' calls, of their rows and of their columns, each with a part
+/// for each worker, and the pair was made of the same schema; a caller is a function over their names that is handed them.
 ///
 /// # Errors
 /// `NoWorkers`, `TooMany` by the numbers; `NoMemory` where a growth was refused; `NoPlace` where a reader was given no place,
 /// which may be without cause.
-pub fn open<C: Ledger, Q: Ledger, N: Naming, R: Wait + Drop>(
+pub fn open<C: Ledger, Q: Ledger, K: Ledger, N: Naming, R: Wait + Drop>(
     wait: R,
     alloc: Global,
     schema: Schema,
     workers: u32,
     readers: u32,
-    calls: Blank,
-    rows: Blank,
+    blanks: Blanks,
     pair: Pair,
-) -> Result<Opened<C, Q, N, R>, OpenFault>
-    requires calls { (calls.name ≡ C.name) × (calls.parts ≡ C.parts) × (calls.parts ≡ workers) }
-    requires rows { (rows.name ≡ Q.name) × (rows.parts ≡ Q.parts) × (rows.parts ≡ workers) }
+) -> Result<Opened<C, Q, K, N, R>, OpenFault>
+    requires calls { (blanks.calls.name ≡ C.name) × (blanks.calls.parts ≡ C.parts) × (blanks.calls.parts ≡ workers) }
+    requires rows { (blanks.rows.name ≡ Q.name) × (blanks.rows.parts ≡ Q.parts) × (blanks.rows.parts ≡ workers) }
+    requires columns { (blanks.columns.name ≡ K.name) × (blanks.columns.parts ≡ K.parts) × (blanks.columns.parts ≡ workers) }
     requires pair { (pair.book ≡ N.book) × (pair.fields ≡ N.fields) × (pair.fields ≡ stored_fields schema) }
     ensures table { IfOk result (λ r. r.0 ≡ workers) }
     ensures count { IfOk result (λ r. length r.1.items ≡ workers) }
-    ensures new { IfOk result (λ r. AreNew 0 r.1.items) }
-    ensures readers { IfOk result (λ r. r.2.items ≡ replicate readers []) }
+    ensures new { IfOk result (λ r. AreNew N.fields 0 r.1.items) }
+    ensures readers { IfOk result (λ r. r.2.items ≡ replicate readers (record { fields = N.fields; history = [] })) }
     ensures few { OnOk result (IsCount workers × IsFew readers) }
     ensures err { IfErr result (IsOpenFault workers readers) }
 {
@@ -69,21 +72,15 @@ pub fn open<C: Ledger, Q: Ledger, N: Naming, R: Wait + Drop>(
     let state = TableState::new(alloc, schema)?;
     let (opened, version) = pair.into_parts();
     let (head, front) = opened.named::<N>();
-    let (call_book, mut no_calls) = calls.open::<C>();
-    let (row_book, mut no_rows) = rows.open::<Q>();
-    let hands = new_workers(alloc, workers, &mut no_calls, &mut no_rows, &front)?;
+    let (books, mut shares) = blanks.open::<C, Q, K>();
+    let hands = new_workers(alloc, workers, &mut shares, &front)?;
     let (publisher, all) = new_readers(wait, alloc, readers, version, &front)?;
-    let books = Books {
-        call_book,
-        row_book,
-        no_calls,
-        no_rows,
-    };
-    let table = SharedTable::new(alloc, state, (head, front), publisher, books, workers);
+    let ledgers = (books, shares);
+    let table = SharedTable::new(alloc, state, (head, front), publisher, ledgers, workers);
     Ok((table, hands, all))
 }
 
-/// So many readers, who know nothing yet, and who shows versions to them: nobody where there is no reader.
+/// So many readers, who know of the opening fields alone, and who shows versions to them: nobody where there is no reader.
 fn new_readers<N: Naming, R: Wait + Drop>(
     wait: R,
     alloc: Global,
@@ -95,7 +92,7 @@ fn new_readers<N: Naming, R: Wait + Drop>(
     requires front { front.now ≡ [] }
     requires version { ((arc_value version).history ≡ []) × ((arc_value version).fields ≡ N.fields) }
     ensures shown { IfOk result (λ r. IfSome r.0 (λ p. (published p ≡ arc_value version) × (pending p ≡ []))) }
-    ensures readers { IfOk result (λ r. r.1.items ≡ replicate count []) }
+    ensures readers { IfOk result (λ r. r.1.items ≡ replicate count (record { fields = N.fields; history = [] })) }
     ensures err { IfErr result (λ e. (e ≡ OpenFault.NoMemory) ⊎ ((e ≡ OpenFault.NoPlace) × (1 ≤ count))) }
 {
     let mut readers = Vec::with_capacity(alloc, count as usize)?;
@@ -119,8 +116,7 @@ fn new_publisher<N: Naming, R: Wait + Drop>(
     version: &Arc<Version>,
     front: &Front<Event, N>,
 ) -> Result<Publisher<N, R>, NoMemory>
-    requires front { front.now ≡ (arc_value version.now).history }
-    requires fields { (arc_value version.now).fields ≡ N.fields }
+    requires { known_after N.fields front.now ≡ known_of (arc_value version.now) }
     ensures { IfOk result (λ p. (published p ≡ arc_value version.now) × (pending p ≡ [])) }
 {
     let first = Shown::new(version, front, 0)?;
@@ -137,8 +133,7 @@ fn publish_twice<N: Naming, R: Wait + Drop>(
     version: &Arc<Version>,
     front: &Front<Event, N>,
 ) -> Result<(), NoMemory>
-    requires front { front.now ≡ (arc_value version.now).history }
-    requires fields { (arc_value version.now).fields ≡ N.fields }
+    requires front { known_after N.fields front.now ≡ known_of (arc_value version.now) }
     requires nothing { pending publisher.old ≡ [] }
     ensures { OnOk result ((published publisher.new ≡ arc_value version.now) × (pending publisher.new ≡ [])) }
 {

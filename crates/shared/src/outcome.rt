@@ -1,6 +1,7 @@
 //! What a worker is told of its batches, and what it leaves of them.
 
-ghost use Rattle.std.specs.Prelude.{◌≡◌, ◌+◌, ◌≤◌, ◌^◌, length, option_map};
+ghost use Rattle.std.specs.Prelude.{◌≡◌, ◌+◌, length, option_map};
+ghost use Rattle.shared.specs.Changes.{known_after};
 
 use crate::naming::{Event, Naming};
 use histories::Front;
@@ -9,48 +10,49 @@ use table::Refusal;
 
 /// That a batch was appended.
 ///
-/// Clauses see the table's history up to the batch, which is its last entry.
+/// Clauses see the table's fields, and its history up to the batch, which is its last entry.
 #[derive(Drop)]
 pub struct Receipt<N: Naming> {
+    entry: u32,
     pub(crate) front: Front<Event, N>,
 }
 
 impl<N: Naming> Model for Receipt<N> {
-    ghost use Rattle.table.specs.History.{History};
-    ghost use Rattle.shared.specs.Code.{history_code};
+    ghost use Rattle.shared.specs.Changes.{known_after};
+    ghost use Rattle.shared.specs.Known.{Known, known_code};
 
-    ghost Value = { History };
+    ghost Value = { Known };
 
-    ghost coded = { history_code };
+    ghost coded = { known_code };
 
-    ghost use Rattle.std.specs.Prelude.{◌≤◌, ◌^◌, length};
+    ghost use Rattle.std.specs.Prelude.{◌≡◌, ◌+◌, length};
 
-    ghost view = { λ r. r.front };
+    ghost view = { λ r. known_after N.fields r.front };
 
-    ghost invariant = { λ r. (1 ≤ length r.front) × (length r.front ≤ 2 ^ 32) };
+    ghost invariant = { λ r. r.entry + 1 ≡ length (known_after N.fields r.front).history };
 }
 
 impl<N: Naming> Receipt<N> {
-    /// The receipt of the last entry of a history.
-    pub(crate) fn new(front: Front<Event, N>) -> Receipt<N>
-        requires { (1 ≤ length front) × (length front ≤ 2 ^ 32) }
-        ensures { result ≡ front }
+    /// The receipt of the last entry of a history, which has the number.
+    pub(crate) fn new(entry: u32, front: Front<Event, N>) -> Receipt<N>
+        requires { entry + 1 ≡ length (known_after N.fields front).history }
+        ensures { result ≡ known_after N.fields front }
     {
-        Receipt { front }
+        Receipt { entry, front }
     }
 
     /// The number of its entry in the book, from 0.
     pub fn entry(&self) -> u32
-        ensures { result + 1 ≡ length self.now }
+        ensures { result + 1 ≡ length self.now.history }
     {
-        (self.front.len() - 1) as u32
+        self.entry
     }
 
     /// A copy.
     pub fn again(&self) -> Receipt<N>
         ensures { result ≡ self.now }
     {
-        Receipt::new(self.front.again())
+        Receipt::new(self.entry, self.front.again())
     }
 }
 

@@ -1,9 +1,9 @@
 //! Those who read a table without waiting for anyone.
 
 ghost use Rattle.std.specs.Prelude.{◌≡◌, ◌⊎◌, IfOk, OnErr};
-ghost use mathlib.Core.List.{IsPrefix};
 ghost use Rattle.std.specs.Arc.{arc_value};
-ghost use Rattle.table.specs.Cause.{IsLegal};
+ghost use Rattle.shared.specs.Changes.{known_after};
+ghost use Rattle.shared.specs.Known.{Begins, IsLegalKnown, known_of};
 
 use crate::naming::{Event, Naming};
 use crate::outcome::Receipt;
@@ -18,7 +18,7 @@ use table::Version;
 
 /// One of those who read a table, each in a thread of its own. It takes no lock and waits for nobody.
 ///
-/// Clauses see the history that it knows: the longest of those that it has seen or was told of, which the others begin.
+/// Clauses see the fields and the history that it knows: the most of what it has seen or was told of, which the rest begins.
 #[derive(Drop)]
 pub struct Reader<N: Naming> {
     alloc: Global,
@@ -29,24 +29,24 @@ pub struct Reader<N: Naming> {
 }
 
 impl<N: Naming> Model for Reader<N> {
-    ghost use Rattle.table.specs.History.{History};
-    ghost use Rattle.shared.specs.Code.{history_code};
+    ghost use Rattle.shared.specs.Changes.{known_after};
+    ghost use Rattle.shared.specs.Known.{Known, known_code};
 
-    ghost Value = { History };
+    ghost Value = { Known };
 
-    ghost coded = { history_code };
+    ghost coded = { known_code };
 
-    ghost view = { λ r. r.known };
+    ghost view = { λ r. known_after N.fields r.known };
 }
 
 impl<N: Naming> Reader<N> {
-    /// A reader that knows nothing yet.
+    /// A reader that knows what the front tells.
     pub(crate) fn new(
         alloc: Global,
         handle: ReadHandle<Shown<N>>,
         known: Front<Event, N>,
     ) -> Reader<N>
-        ensures { result ≡ known }
+        ensures { result ≡ known_after N.fields known }
     {
         Reader {
             alloc,
@@ -56,16 +56,15 @@ impl<N: Naming> Reader<N> {
         }
     }
 
-    /// A version of the table that shows all that the reader knows; then it knows the version's history. The reader keeps the
-    /// version, and gives it again until there is a newer one.
+    /// A version of the table that shows all that the reader knows; then it knows the version's fields and history. The reader
+    /// keeps the version, and gives it again until there is a newer one.
     ///
     /// # Errors
     /// `NoMemory` where the copy of the version was refused, and where the table has ended. What is known stays.
     pub fn latest(&mut self) -> Result<Arc<Version>, NoMemory>
-        ensures begun { IfOk result (λ v. IsPrefix self.old (arc_value v).history) }
-        ensures known { IfOk result (λ v. self.new ≡ (arc_value v).history) }
-        ensures fields { IfOk result (λ v. (arc_value v).fields ≡ N.fields) }
-        ensures legal { IfOk result (λ v. IsLegal N.fields (arc_value v).history) }
+        ensures begun { IfOk result (λ v. Begins self.old (known_of (arc_value v))) }
+        ensures known { IfOk result (λ v. self.new ≡ known_of (arc_value v)) }
+        ensures legal { IfOk result (λ v. IsLegalKnown (known_of (arc_value v))) }
         ensures kept { OnErr result (self.new ≡ self.old) }
     {
         self.look()?;
@@ -84,8 +83,8 @@ impl<N: Naming> Reader<N> {
 
     /// Learns of a batch that was appended: versions show it from now on.
     pub fn learn(&mut self, receipt: &Receipt<N>)
-        ensures old { IsPrefix self.old self.new }
-        ensures told { IsPrefix receipt.now self.new }
+        ensures old { Begins self.old self.new }
+        ensures told { Begins receipt.now self.new }
         ensures one { (self.new ≡ self.old) ⊎ (self.new ≡ receipt.now) }
     {
         if self.known.begins(&receipt.front) {

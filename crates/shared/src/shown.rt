@@ -3,6 +3,8 @@
 ghost use Rattle.std.specs.Prelude.{◌≡◌, ◌++◌, ◌∷◌, [], IfOk, fold};
 ghost use Rattle.left_right.specs.Handles.{pending, published};
 ghost use Rattle.std.specs.Arc.{arc_value};
+ghost use Rattle.shared.specs.Changes.{known_after};
+ghost use Rattle.shared.specs.Known.{known_of};
 ghost use Rattle.table.specs.Contents.{Contents};
 
 use crate::naming::{Event, Naming};
@@ -15,7 +17,7 @@ use std::marker::Model;
 use std::sync::{Arc, Wait};
 use table::Version;
 
-/// A version with its history. No value of it leaves this crate.
+/// A version with the changes up to it. No value of it leaves this crate.
 ///
 /// Clauses see the version.
 #[derive(Drop)]
@@ -35,21 +37,22 @@ impl<N: Naming> Model for Shown<N> {
 
     ghost use Rattle.std.specs.Prelude.{◌≡◌};
     ghost use Rattle.std.specs.Arc.{arc_value};
+    ghost use Rattle.shared.specs.Changes.{known_after};
+    ghost use Rattle.shared.specs.Known.{known_of};
 
     ghost view = { λ s. arc_value s.version };
 
-    ghost invariant = { λ s. (s.front ≡ (arc_value s.version).history) × ((arc_value s.version).fields ≡ N.fields) };
+    ghost invariant = { λ s. known_after N.fields s.front ≡ known_of (arc_value s.version) };
 }
 
 impl<N: Naming> Shown<N> {
-    /// A copy of a version with its history.
+    /// A copy of a version with the changes up to it.
     pub(crate) fn new(
         version: &Arc<Version>,
         front: &Front<Event, N>,
         number: u64,
     ) -> Result<Shown<N>, AllocError>
-        requires front { front.now ≡ (arc_value version.now).history }
-        requires fields { (arc_value version.now).fields ≡ N.fields }
+        requires { known_after N.fields front.now ≡ known_of (arc_value version.now) }
         ensures { IfOk result (λ s. s ≡ arc_value version.now) }
     {
         let version = version.clone()?;

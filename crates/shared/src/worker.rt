@@ -1,35 +1,40 @@
 //! Those who append to a table.
 
-ghost use Rattle.std.specs.Prelude.{◌≡◌, ◌+◌, ◌-◌, ◌<◌, ◌^◌, ◌++◌, ◌∷◌, [], IfOk, None, OnOk, Some, length};
+ghost use Rattle.std.specs.Prelude.{◌≡◌, ◌+◌, ◌-◌, ◌<◌, ◌^◌, [], IfOk, None, OnOk, Some, length};
 ghost use mathlib.Core.List.{IsPrefix};
 ghost use Rattle.arrays.specs.Batch.{rows_of};
-ghost use Rattle.shared.specs.Hand.{AreNew, Hand, IsLeft, IsNew, IsPartOf, calls_of_hand, having_added, having_seen, rows_of_hand};
-ghost use Rattle.table.specs.Cause.{IsLegal};
+ghost use Rattle.shared.specs.Changes.{known_after};
+ghost use Rattle.shared.specs.Hand.{AreNew, Hand, IsLeft, IsNew, IsPartOf, calls_of_hand, having_added, having_counted, having_seen, rows_of_hand};
+ghost use Rattle.shared.specs.Known.{Begins, IsLegalKnown};
+ghost use Rattle.table.specs.Widened.{widened};
 
+use crate::ledgers::{Books, Shares};
 use crate::naming::{Accepted, Event, Naming};
 use crate::outcome::Outcome;
 use colbits::NoMemory;
 use histories::{Front, Own};
 use std::alloc::Global;
 use std::marker::Model;
-use std::sync::ledger::{Book, Ledger, Share};
+use std::sync::Wait;
+use std::sync::ledger::{Book, Ledger};
 
 /// One of those who append to a table, each in a thread of its own.
 ///
-/// Clauses see its number, the history that it has seen, the entries of it that it added itself, and what was left with it.
+/// Clauses see its number, the fields and the history that it has seen, the entries of it that it added itself, under these
+/// fields, and what was left with it.
 #[derive(Drop)]
-pub struct Worker<C: Ledger, Q: Ledger, N: Naming> {
+pub struct Worker<C: Ledger, Q: Ledger, K: Ledger, N: Naming> {
     pub(crate) number: u32,
     pub(crate) call_count: u32,
     pub(crate) row_count: u64,
-    pub(crate) call_share: Share<C>,
-    pub(crate) row_share: Share<Q>,
+    pub(crate) column_count: u64,
+    pub(crate) shares: Shares<C, Q, K>,
     pub(crate) seen: Front<Event, N>,
     pub(crate) mine: Own<Event>,
     pub(crate) left: Option<Outcome<N>>,
 }
 
-impl<C: Ledger, Q: Ledger, N: Naming> Model for Worker<C, Q, N> {
+impl<C: Ledger, Q: Ledger, K: Ledger, N: Naming> Model for Worker<C, Q, K, N> {
     ghost use Rattle.shared.specs.Hand.{Hand, hand_code};
 
     ghost Value = { Hand };
@@ -37,43 +42,49 @@ impl<C: Ledger, Q: Ledger, N: Naming> Model for Worker<C, Q, N> {
     ghost coded = { hand_code };
 
     ghost use Rattle.std.specs.Prelude.{◌≡◌, ◌<◌, length};
+    ghost use Rattle.shared.specs.Changes.{fields_after, known_after, pairs_in};
+    ghost use Rattle.shared.specs.Known.{IsLegalKnown};
     ghost use Rattle.shared.specs.Parts.{InOrder};
-    ghost use Rattle.table.specs.Cause.{IsLegal};
     ghost use Rattle.table.specs.History.{of, rows};
+    ghost use Rattle.table.specs.Widened.{widened};
 
-    ghost view = { λ w. record { number = w.number; seen = w.seen; mine = w.mine; left = w.left } };
+    ghost view = { λ w. record {
+      number = w.number;
+      seen = known_after N.fields w.seen;
+      mine = widened (length (fields_after N.fields w.seen)) (pairs_in w.mine);
+      columns = w.column_count;
+      left = w.left;
+    } };
 
-    ghost invariant = { λ w. (w.call_count ≡ w.call_share.amount)
-        × (w.row_count ≡ w.row_share.amount)
-        × (w.call_share.parts ≡ 1)
-        × (w.row_share.parts ≡ 1)
+    ghost invariant = { λ w. (w.call_count ≡ w.shares.calls.amount)
+        × (w.row_count ≡ w.shares.rows.amount)
+        × (w.shares.calls.parts ≡ 1)
+        × (w.shares.rows.parts ≡ 1)
         × (w.number < C.parts)
-        × (length w.mine ≡ w.call_share.amount)
-        × (length (rows w.mine) ≡ w.row_share.amount)
-        × InOrder w.mine (of w.seen w.number)
-        × IsLegal N.fields w.seen };
+        × (length (pairs_in w.mine) ≡ w.shares.calls.amount)
+        × (length (rows (pairs_in w.mine)) ≡ w.shares.rows.amount)
+        × InOrder (widened (length (fields_after N.fields w.seen)) (pairs_in w.mine)) (of (known_after N.fields w.seen).history w.number)
+        × IsLegalKnown (known_after N.fields w.seen)
+        × (w.column_count ≡ w.shares.columns.amount)
+        × (w.shares.columns.parts ≡ 1) };
 }
 
-impl<C: Ledger, Q: Ledger, N: Naming> Worker<C, Q, N> {
-    /// A worker that appended nothing yet, with a part of either ledger.
-    fn new(
-        number: u32,
-        call_share: Share<C>,
-        row_share: Share<Q>,
-        seen: Front<Event, N>,
-    ) -> Worker<C, Q, N>
+impl<C: Ledger, Q: Ledger, K: Ledger, N: Naming> Worker<C, Q, K, N> {
+    /// A worker that added nothing yet, with a part of each ledger, and that knows of the opening fields alone.
+    fn new(number: u32, shares: Shares<C, Q, K>, seen: Front<Event, N>) -> Worker<C, Q, K, N>
         requires number { number < C.parts }
-        requires calls { (call_share.parts ≡ 1) × (call_share.amount ≡ 0) }
-        requires rows { (row_share.parts ≡ 1) × (row_share.amount ≡ 0) }
+        requires calls { (shares.calls.parts ≡ 1) × (shares.calls.amount ≡ 0) }
+        requires rows { (shares.rows.parts ≡ 1) × (shares.rows.amount ≡ 0) }
+        requires columns { (shares.columns.parts ≡ 1) × (shares.columns.amount ≡ 0) }
         requires seen { seen ≡ [] }
-        ensures { IsNew number result }
+        ensures { IsNew N.fields number result }
     {
         Worker {
             number,
             call_count: 0,
             row_count: 0,
-            call_share,
-            row_share,
+            column_count: 0,
+            shares,
             seen,
             mine: Own::new(),
             left: None,
@@ -116,75 +127,100 @@ impl<C: Ledger, Q: Ledger, N: Naming> Worker<C, Q, N> {
         self.left.take()
     }
 
-    /// What stands of it always: the history that it has seen is legal, and its own entries stand in it in their order.
+    /// What stands of it always: the fields that it has seen begin with those at opening, the history that it has seen is
+    /// legal, and its own entries stand in it in their order, with as many items in a row as it has seen fields.
     pub fn tell(&self)
-        ensures legal { IsLegal N.fields self.now.seen }
+        ensures opened { IsPrefix N.fields self.now.seen.fields }
+        ensures legal { IsLegalKnown self.now.seen }
         ensures part { IsPartOf C.parts self.now.seen self.now }
+        ensures wide { widened (length self.now.seen.fields) self.now.mine ≡ self.now.mine }
     {
         let _number = self.number;
     }
 
-    /// Sees a history that begins with all that it has seen.
-    pub(crate) fn see(&mut self, front: &Front<Event, N>)
-        requires begun { IsPrefix self.old.seen front.now }
-        requires legal { IsLegal N.fields front.now }
-        ensures { self.new ≡ having_seen front.now self.old }
+    /// Sees what is known by a front, once it begins with all that the worker has seen, as it does at once where it isn't
+    /// shorter.
+    pub(crate) fn see<W: Wait>(&mut self, wait: &W, front: &Front<Event, N>)
+        requires { IsLegalKnown (known_after N.fields front.now) }
+        ensures begun { Begins self.old.seen (known_after N.fields front.now) }
+        ensures seen { self.new ≡ having_seen (known_after N.fields front.now) self.old }
     {
+        begin(wait, &self.seen, front);
         self.seen = front.again();
     }
 
-    /// Counts an accepted batch, in the books too. The history has it behind all that the worker has seen.
+    /// Counts an accepted batch, in the books too. By the front it stands behind all that the worker has seen.
     pub(crate) fn raise(
         &mut self,
-        call_book: &mut Book<C>,
-        row_book: &mut Book<Q>,
+        books: &mut Books<C, Q, K>,
         front: &Front<Event, N>,
         accepted: &Accepted<'_>,
     )
-        requires calls { call_book.old.total < 2 ^ 32 - 1 }
-        requires rows { row_book.old.total + accepted.now.batch.now.rows < 2 ^ 64 }
+        requires calls { books.old.calls.total < 2 ^ 32 - 1 }
+        requires rows { books.old.rows.total + accepted.now.batch.now.rows < 2 ^ 64 }
         requires number { accepted.now.worker ≡ self.old.number }
-        requires front { front.now ≡ self.old.seen ++ (self.old.number, rows_of accepted.now.batch.now) ∷ [] }
-        requires legal { IsLegal N.fields front.now }
+        requires front { known_after N.fields front.now ≡ (having_added (rows_of accepted.now.batch.now) self.old).seen }
+        requires legal { IsLegalKnown (known_after N.fields front.now) }
         ensures raised { self.new ≡ having_added (rows_of accepted.now.batch.now) self.old }
-        ensures call_total { call_book.new.total ≡ call_book.old.total + 1 }
-        ensures row_total { row_book.new.total ≡ row_book.old.total + accepted.now.batch.now.rows }
+        ensures call_total { books.new.calls.total ≡ books.old.calls.total + 1 }
+        ensures row_total { books.new.rows.total ≡ books.old.rows.total + accepted.now.batch.now.rows }
+        ensures column_total { books.new.columns.total ≡ books.old.columns.total }
     {
         let rows = u64::from(accepted.batch.rows());
-        call_book.audit(&mut self.call_share);
-        row_book.audit(&mut self.row_share);
-        call_book.add(&mut self.call_share, 1);
-        row_book.add(&mut self.row_share, rows);
+        books.calls.audit(&mut self.shares.calls);
+        books.rows.audit(&mut self.shares.rows);
+        books.calls.add(&mut self.shares.calls, 1);
+        books.rows.add(&mut self.shares.rows, rows);
         self.call_count += 1;
         self.row_count += rows;
         self.mine.add(accepted);
         self.seen = front.again();
     }
+
+    /// Counts a column that it added, in the book too.
+    pub(crate) fn count_column(&mut self, book: &mut Book<K>)
+        requires { book.old.total < 2 ^ 62 }
+        ensures counted { self.new ≡ having_counted self.old }
+        ensures total { book.new.total ≡ book.old.total + 1 }
+    {
+        book.audit(&mut self.shares.columns);
+        book.add(&mut self.shares.columns, 1);
+        self.column_count += 1;
+    }
 }
 
-/// So many workers, each with a part of either share, that have seen as much as the front.
+/// Returns once the first front begins the second, as the shorter of two fronts does at once.
+pub(crate) fn begin<W: Wait, N: Naming>(wait: &W, seen: &Front<Event, N>, front: &Front<Event, N>)
+    ensures { IsPrefix seen.now front.now }
+{
+    for _ in wait.forever() {
+        if seen.begins(front) {
+            break;
+        }
+    }
+}
+
+/// So many workers, each with a part of each share, that know of the opening fields alone.
 #[tactic(auto, using(crate::proofs::HandLemmas::new_push))]
-pub(crate) fn new_workers<C: Ledger, Q: Ledger, N: Naming>(
+pub(crate) fn new_workers<C: Ledger, Q: Ledger, K: Ledger, N: Naming>(
     alloc: Global,
     count: u32,
-    calls: &mut Share<C>,
-    rows: &mut Share<Q>,
+    shares: &mut Shares<C, Q, K>,
     front: &Front<Event, N>,
-) -> Result<Vec<Worker<C, Q, N>>, NoMemory>
-    requires call_parts { (calls.old.parts ≡ count) × (count ≡ C.parts) }
-    requires row_parts { rows.old.parts ≡ count }
-    requires nothing { (calls.old.amount ≡ 0) × (rows.old.amount ≡ 0) }
+) -> Result<Vec<Worker<C, Q, K, N>>, NoMemory>
+    requires parts { (shares.old.calls.parts ≡ count) × (shares.old.rows.parts ≡ count) × (shares.old.columns.parts ≡ count) }
+    requires count { count ≡ C.parts }
+    requires nothing { (shares.old.calls.amount ≡ 0) × (shares.old.rows.amount ≡ 0) × (shares.old.columns.amount ≡ 0) }
     requires front { front.now ≡ [] }
     ensures count { IfOk result (λ v. length v.items ≡ count) }
-    ensures new { IfOk result (λ v. AreNew 0 v.items) }
-    ensures no_parts { OnOk result ((calls.new.parts ≡ 0) × (rows.new.parts ≡ 0)) }
-    ensures no_amounts { OnOk result ((calls.new.amount ≡ 0) × (rows.new.amount ≡ 0)) }
+    ensures new { IfOk result (λ v. AreNew N.fields 0 v.items) }
+    ensures no_parts { OnOk result ((shares.new.calls.parts ≡ 0) × (shares.new.rows.parts ≡ 0) × (shares.new.columns.parts ≡ 0)) }
+    ensures no_amounts { OnOk result ((shares.new.calls.amount ≡ 0) × (shares.new.rows.amount ≡ 0) × (shares.new.columns.amount ≡ 0)) }
 {
     let mut workers = Vec::with_capacity(alloc, count as usize)?;
     for number in 0..count {
-        let call_share = calls.split_off(1, 0);
-        let row_share = rows.split_off(1, 0);
-        workers.push(Worker::new(number, call_share, row_share, front.again()))?;
+        let own = shares.split_one();
+        workers.push(Worker::new(number, own, front.again()))?;
     }
     Ok(workers)
 }

@@ -28,7 +28,7 @@ use Rattle.group.proofs.ColumnsLemmas.{all_zip-push}
 
 -- ---- no texts
 
-none_if : (b : Bool) → cond {A = List (List ℕ)} b [] [] ≡ []
+pub none_if : (b : Bool) → cond {A = List (List ℕ)} b [] [] ≡ []
 none_if true = refl
 none_if false = refl
 
@@ -54,7 +54,7 @@ pub fields-more : (fields : List Field) (i : ℕ) (f : Field) → i < length fie
 fields-more fields i f below is =
     ap fields_of (take_more fields i f below ∙ ap (λ x. take i fields ++ x ∷ []) (sym is)) ∙ map-append field_of (take i fields) (f ∷ [])
 
-enumerate_from-push : (n : ℕ) (fields : List FieldShape) (f : FieldShape) → enumerate_from n (fields ++ f ∷ []) ≡ enumerate_from n fields ++ (n + length fields, f) ∷ []
+pub enumerate_from-push : (n : ℕ) (fields : List FieldShape) (f : FieldShape) → enumerate_from n (fields ++ f ∷ []) ≡ enumerate_from n fields ++ (n + length fields, f) ∷ []
 enumerate_from-push n [] f = ap (λ m. (m, f) ∷ []) (omega arith)
 enumerate_from-push n (x ∷ fields) f =
     ap (λ xs. (n, x) ∷ xs) (enumerate_from-push (n + 1) fields f)

@@ -89,7 +89,7 @@ kept-from u n (f ∷ fields) (c ∷ columns) count kinds at =
           (λ k d below. let there : n + 1 + k ≡ n + suc k = omega arith in ap (column u) there ∙ at (suc k) d (omega (arith, below))),
     )
 
-kept-batch : (fields : List FieldShape) (b : Batch) → b.fields ≡ fields → batch_fault b.fields b.rows b.columns ≡ None → AllZip (Kept (rows_of b)) (enumerate_from 0 fields) b.columns
+pub kept-batch : (fields : List FieldShape) (b : Batch) → b.fields ≡ fields → batch_fault b.fields b.rows b.columns ≡ None → AllZip (Kept (rows_of b)) (enumerate_from 0 fields) b.columns
 kept-batch fields b same lawful =
     let is = whole b.fields b.rows b.columns lawful in
     subst (λ (fs : List FieldShape). AllZip (Kept (rows_of b)) (enumerate_from 0 fs) b.columns) same
@@ -318,15 +318,15 @@ texts-same h other pools same are =
     ∙ ap (λ (f : List FieldShape). map (texts_in (table_of (batches_of other))) (enumerate_from 0 f)) (sym same.0)
 
 -- whether the change was committed or not
-pub after-commit : {L : Type 0} (r : Result L NoMemory) (h next new : Held) (olds pools : List (List (List ℕ))) → IsHeld h → AreTexts h (table_of (batches_of h)) olds
+pub after-commit : {L : Type 0} (r : Result L NoMemory) (h next new : Held) (olds pools : Vec (List (List ℕ)) Global) → IsHeld h → AreTexts h (table_of (batches_of h)) olds.items
     → IsHeld next → (arc_value next.schema ≡ arc_value h.schema) × (table_of (batches_of next) ≡ table_of (batches_of h))
-    → OnOk r (IsSame next new) → OnOk r (pools ≡ olds) → OnErr r (new ≡ h) → OnErr r (AreTexts h (table_of (batches_of h)) pools)
-    → IsHeld new × AreTexts new (table_of (batches_of new)) pools
+    → OnOk r (IsSame next new) → OnOk r (pools ≡ olds) → OnErr r (new ≡ h) → OnErr r (AreTexts h (table_of (batches_of h)) pools.items)
+    → IsHeld new × AreTexts new (table_of (batches_of new)) pools.items
 after-commit (Ok seen) h next new olds pools is are stands same committed kept unchanged back = (
   Held-same next new committed stands,
-  texts-same h new pools (committed.schema ∙ same.0, ap table_of committed.batches ∙ same.1) (kept ∙ are),
+  texts-same h new pools.items (committed.schema ∙ same.0, ap table_of committed.batches ∙ same.1) (ap (λ (v : Vec (List (List ℕ)) Global). v.items) kept ∙ are),
 )
 after-commit (Err e) h next new olds pools is are stands same committed kept unchanged back = (
   subst IsHeld (sym unchanged) is,
-  subst (λ (x : Held). AreTexts x (table_of (batches_of x)) pools) (sym unchanged) back,
+  subst (λ (x : Held). AreTexts x (table_of (batches_of x)) pools.items) (sym unchanged) back,
 )

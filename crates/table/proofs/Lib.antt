@@ -23,3 +23,6 @@ pub mod ExportLemmas
 pub mod AnswerLemmas
 pub mod SendingLemmas
 pub mod JoinedLemmas
+pub mod WidenedLemmas
+pub mod WiderLemmas
+pub mod AddLemmas

@@ -9,7 +9,7 @@ use Rattle.types.specs.declared.schema.SchemaFault.TheVariants.{DictInList, TooD
 use Rattle.types.proofs.SchemaLemmas.{position-map}
 use Rattle.table.specs.Stored.{stored_field, stored_fields}
 
-same_deep : (f : FieldShape) → is_deep (stored_field f) ≡ is_deep f
+pub same_deep : (f : FieldShape) → is_deep (stored_field f) ≡ is_deep f
 same_deep (field name nullable (int t)) = refl
 same_deep (field name nullable boolean) = refl
 same_deep (field name nullable (texts Narrow)) = refl
@@ -17,7 +17,7 @@ same_deep (field name nullable (texts Wide)) = refl
 same_deep (field name nullable (lists w f)) = refl
 same_deep (field name nullable dict) = refl
 
-same_dict : (f : FieldShape) → holds_dict (stored_field f) ≡ holds_dict f
+pub same_dict : (f : FieldShape) → holds_dict (stored_field f) ≡ holds_dict f
 same_dict (field name nullable (int t)) = refl
 same_dict (field name nullable boolean) = refl
 same_dict (field name nullable (texts Narrow)) = refl

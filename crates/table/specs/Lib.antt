@@ -10,3 +10,5 @@ pub mod Ready
 pub mod Export
 pub mod Change
 pub mod Compacted
+pub mod Widened
+pub mod Widening

@@ -91,7 +91,7 @@ pub(crate) fn commit<L: Look>(
     requires begun { BeginWithTexts held.old (table_of (batches_of held.old)) pools.old.items }
     ensures next { OnOk result (IsNext change held.old held.new) }
     ensures seen { IfOk result (λ l. L.sees l (show held.new)) }
-    ensures pools { OnOk result (pools.new.items ≡ pools.old.items) }
+    ensures pools { OnOk result (pools.new ≡ pools.old) }
     ensures kept { OnErr result (held.new ≡ held.old) }
     ensures back { OnErr result (AreTexts held.old (table_of (batches_of held.old)) pools.new.items) }
 {

@@ -4,7 +4,7 @@ ghost use Rattle.std.specs.Prelude.{◌≡◌, ◌+◌, ◌^◌, ◌≤◌, IfOk
 ghost use Rattle.std.specs.Arc.{arc_value};
 ghost use Rattle.table.specs.Held.{HasRoom, IsPut, IsSame, IsWith};
 
-mod empty;
+pub(crate) mod empty;
 
 use crate::change::Addition;
 use crate::entry::Entry;

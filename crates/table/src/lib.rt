@@ -1,6 +1,7 @@
 //! The table of one thread: batches admitted one after the other, and versions that show what was admitted.
 #![tactic(auto)]
 
+pub mod add_fault;
 mod admission;
 mod cause;
 mod change;
@@ -17,7 +18,9 @@ pub mod refusal;
 pub mod state;
 mod stored;
 pub mod version;
+mod widening;
 
+pub use add_fault::AddFault;
 pub use entry::Entry;
 pub use ready::Ready;
 pub use refusal::Refusal;

@@ -4,10 +4,13 @@ ghost use Rattle.std.specs.Prelude.{◌≡◌, ◌⊎◌, [], IfErr, IfOk, None,
 ghost use Rattle.std.specs.Arc.{arc_value};
 ghost use Rattle.table.specs.Cause.{IsLegal, batch_cause, early_cause};
 ghost use Rattle.table.specs.Contents.{Contents, admitted};
+ghost use Rattle.arrays.specs.Shape.{field_of};
 ghost use Rattle.group.specs.Columns.{AreTheirs};
 ghost use Rattle.table.specs.Compacted.{IsCompacted};
-ghost use Rattle.table.specs.Stored.{stored_fields};
+ghost use Rattle.table.specs.Stored.{stored_field, stored_fields};
+ghost use Rattle.table.specs.Widened.{add_fault, with_field};
 
+use crate::add_fault::AddFault;
 use crate::cause::early_refusal;
 use crate::change::{Change, commit};
 use crate::held::Held;
@@ -15,8 +18,9 @@ use crate::look::Look;
 use crate::ready::{Ready, shared_stats};
 use crate::refusal::Refusal;
 use crate::version::Version;
-use crate::{admission, joining};
-use arrays::{RecordBatch, Schema};
+use crate::widening::fault_of;
+use crate::{admission, joining, widening};
+use arrays::{Field, RecordBatch, Schema};
 use colbits::NoMemory;
 use group::ColumnStats;
 use pool::TextPool;
@@ -190,6 +194,58 @@ impl TableState {
             &mut self.pools,
             Change::Whole(next),
         )
+    }
+
+    /// Adds a column of the field behind the others: the rows that are there show null in it. A text gets a dictionary, as in
+    /// `new`. Book, the rows of the batches and the statistics of the other columns stay, and what stands is shared. After a
+    /// refusal the table is as it was.
+    pub fn add_column(&mut self, field: Field) -> Result<(), AddFault>
+        ensures allowed { OnOk result (add_fault (field_of field) ≡ None) }
+        ensures added { OnOk result (self.new ≡ with_field self.old (stored_field (field_of field))) }
+        ensures err { IfErr result (λ e. ((e ≡ AddFault.NoMemory) × (add_fault (field_of field) ≡ None))
+            ⊎ (add_fault (field_of field) ≡ Some e)) }
+        ensures kept { OnErr result (self.new ≡ self.old) }
+        ensures legal { IsLegal self.new.fields self.new.history }
+    {
+        self.widen(&field)
+    }
+
+    /// Does what `add_column` does, and gives the version of the table with the column, for two who look at it. It is made
+    /// before the column is added.
+    pub fn add_column_shown(
+        &mut self,
+        field: &Field,
+    ) -> Result<(Arc<Version>, Arc<Version>), AddFault>
+        ensures shown { IfOk result (λ v. (arc_value v.0 ≡ self.new) × (arc_value v.1 ≡ self.new)) }
+        ensures allowed { OnOk result (add_fault (field_of field.now) ≡ None) }
+        ensures added { OnOk result (self.new ≡ with_field self.old (stored_field (field_of field.now))) }
+        ensures err { IfErr result (λ e. ((e ≡ AddFault.NoMemory) × (add_fault (field_of field.now) ≡ None))
+            ⊎ (add_fault (field_of field.now) ≡ Some e)) }
+        ensures kept { OnErr result (self.new ≡ self.old) }
+        ensures legal { IsLegal self.new.fields self.new.history }
+    {
+        self.widen(field)
+    }
+
+    /// Adds a column of the field behind the others, and gives what is made of the table as it is then.
+    fn widen<L: Look>(&mut self, field: &Field) -> Result<L, AddFault>
+        ensures seen { IfOk result (λ l. L.sees l self.new) }
+        ensures allowed { OnOk result (add_fault (field_of field.now) ≡ None) }
+        ensures added { OnOk result (self.new ≡ with_field self.old (stored_field (field_of field.now))) }
+        ensures err { IfErr result (λ e. ((e ≡ AddFault.NoMemory) × (add_fault (field_of field.now) ≡ None))
+            ⊎ (add_fault (field_of field.now) ≡ Some e)) }
+        ensures kept { OnErr result (self.new ≡ self.old) }
+        ensures legal { IsLegal self.new.fields self.new.history }
+    {
+        let alloc = self.alloc;
+        if let Some(fault) = fault_of(field) {
+            return Err(fault);
+        }
+        self.pools.reserve(1)?;
+        let next = Change::Whole(widening::stage(alloc, &self.held, field)?);
+        let seen = commit(alloc, &mut self.held, &mut self.pools, next)?;
+        self.pools.push_reserved(TextPool::new(alloc));
+        Ok(seen)
     }
 
     /// The table as it is, to be shared and read. No column is copied.

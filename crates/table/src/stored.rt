@@ -31,7 +31,7 @@ fn stored_all(alloc: Global, fields: &[Field]) -> Result<Vec<Field>, NoMemory>
 }
 
 /// A field as it is stored.
-fn stored_one(alloc: Global, field: &Field) -> Result<Field, NoMemory>
+pub(crate) fn stored_one(alloc: Global, field: &Field) -> Result<Field, NoMemory>
     ensures { IfOk result (λ f. field_of f ≡ stored_field (field_of field.now)) }
 {
     Ok(Field {

@@ -10,6 +10,8 @@ mod layouts;
 #[cfg(test)]
 mod makers;
 #[cfg(test)]
+mod nulls;
+#[cfg(test)]
 mod schemas;
 #[cfg(test)]
 mod testing;

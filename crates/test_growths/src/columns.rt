@@ -1,10 +1,10 @@
 //! Columns that calls are tried on.
 
-use arrays::{Array, RawArray};
+use arrays::{Array, Field, RawArray};
 use std::alloc::Global;
 use std::test::Fail;
 use test_samples::{
-    Flat, INT8, NAMES, NARROW, Sample, WIDE, WIDE_IN_NARROW, Widths, raw_sample, sampled_at,
+    Flat, INT8, NAMES, NARROW, Sample, WIDE, WIDE_IN_NARROW, Widths, field, raw_sample, sampled_at,
 };
 
 /// A column: how wide its offsets are, and what it holds.
@@ -43,6 +43,11 @@ impl Column {
     pub(crate) fn array(self, alloc: Global) -> Result<Array, Fail> {
         let Column(widths, sample) = self;
         sampled_at(alloc, widths, sample)
+    }
+
+    /// A field of the column's type, in which there may be nulls.
+    pub(crate) fn field(self, alloc: Global) -> Result<Field, Fail> {
+        field(alloc, "added", true, self.array(alloc)?.ty().copy(alloc)?)
     }
 
     /// The parts of the column.

@@ -12,16 +12,28 @@ use std::test::Fail;
 
 /// A table, until it is gathered, and its workers.
 #[derive(Drop)]
-pub(crate) struct Gathering<C: Ledger, Q: Ledger, N: Naming, P: Publish<Item = Shown<N>>> {
-    table: Option<SharedTable<C, Q, N, P>>,
-    workers: Option<Vec<Worker<C, Q, N>>>,
+pub(crate) struct Gathering<
+    C: Ledger,
+    Q: Ledger,
+    K: Ledger,
+    N: Naming,
+    P: Publish<Item = Shown<N>>,
+> {
+    table: Option<SharedTable<C, Q, K, N, P>>,
+    workers: Option<Vec<Worker<C, Q, K, N>>>,
 }
 
-impl<C: Ledger, Q: Ledger, N: Naming, P: Publish<Item = Shown<N>>> Gathering<C, Q, N, P> {
+impl<C: Ledger, Q: Ledger, K: Ledger, N: Naming, P: Publish<Item = Shown<N>>> Gathering<
+    C,
+    Q,
+    K,
+    N,
+    P,
+> {
     pub(crate) fn new(
-        table: SharedTable<C, Q, N, P>,
-        workers: Vec<Worker<C, Q, N>>,
-    ) -> Gathering<C, Q, N, P> {
+        table: SharedTable<C, Q, K, N, P>,
+        workers: Vec<Worker<C, Q, K, N>>,
+    ) -> Gathering<C, Q, K, N, P> {
         Gathering {
             table: Some(table),
             workers: Some(workers),
@@ -29,8 +41,8 @@ impl<C: Ledger, Q: Ledger, N: Naming, P: Publish<Item = Shown<N>>> Gathering<C, 
     }
 }
 
-impl<C: Ledger, Q: Ledger, N: Naming, P: Publish<Item = Shown<N>>, R: Wait> Scene<R>
-    for Gathering<C, Q, N, P> {
+impl<C: Ledger, Q: Ledger, K: Ledger, N: Naming, P: Publish<Item = Shown<N>>, R: Wait> Scene<R>
+    for Gathering<C, Q, K, N, P> {
     type Answer = Arc<Version>;
 
     fn call(&mut self, rt: &R, _alloc: Global) -> Result<Arc<Version>, Stop> {

@@ -14,11 +14,13 @@ use crate::sweep::Trial;
 use crate::tell::tell_rows;
 use arrays::Schema;
 use loads::{OpenGate, load_all};
-use shared::{Naming, Pair, Publish, Reader, Receipt, SharedTable, Shown, Version, Worker, open};
+use shared::{
+    Blanks, Naming, Pair, Publish, Reader, Receipt, SharedTable, Shown, Version, Worker, open,
+};
 use std::alloc::Global;
 use std::marker::Brand;
 use std::sync::Wait;
-use std::sync::ledger::{Blank, Ledger};
+use std::sync::ledger::Ledger;
 use std::test::Fail;
 use std::thread::Threads;
 
@@ -69,14 +71,15 @@ fn load<R: Threads + Wait + Sync>(
     let file = file(alloc, TWO_BATCHES)?;
     let pair = Pair::new(alloc, file.schema())?;
     let schema = file.schema().copy(alloc)?;
-    let (calls, rows) = (Blank::new(2), Blank::new(2));
-    load_under::<Brand, Brand, Brand, R>(rt, alloc, schema, readers, calls, rows, pair, refused)
+    let blanks = Blanks::new(2);
+    load_under::<Brand, Brand, Brand, Brand, R>(rt, alloc, schema, readers, blanks, pair, refused)
 }
 
 /// The same, under the names of two ledgers and of a history.
 fn load_under<
     C: Ledger + Send + Sync,
     Q: Ledger + Send + Sync,
+    K: Ledger + Send + Sync,
     N: Naming + Send + Sync,
     R: Threads + Wait + Sync,
 >(
@@ -84,16 +87,16 @@ fn load_under<
     alloc: Global,
     schema: Schema,
     readers: u32,
-    calls: Blank,
-    rows: Blank,
+    blanks: Blanks,
     pair: Pair,
     refused: Option<Refused>,
 ) -> Result<(Loaded, bool), Fail>
-    requires calls { (calls.name ≡ C.name) × (calls.parts ≡ C.parts) × (calls.parts ≡ 2) }
-    requires rows { (rows.name ≡ Q.name) × (rows.parts ≡ Q.parts) × (rows.parts ≡ 2) }
+    requires calls { (blanks.calls.name ≡ C.name) × (blanks.calls.parts ≡ C.parts) × (blanks.calls.parts ≡ 2) }
+    requires rows { (blanks.rows.name ≡ Q.name) × (blanks.rows.parts ≡ Q.parts) × (blanks.rows.parts ≡ 2) }
+    requires columns { (blanks.columns.name ≡ K.name) × (blanks.columns.parts ≡ K.parts) × (blanks.columns.parts ≡ 2) }
     requires pair { (pair.book ≡ N.book) × (pair.fields ≡ N.fields) × (pair.fields ≡ stored_fields schema) }
 {
-    let opened = open::<C, Q, N, &R>(rt, alloc, schema, 2, readers, calls, rows, pair)?;
+    let opened = open::<C, Q, K, N, &R>(rt, alloc, schema, 2, readers, blanks, pair)?;
     load_by(rt, alloc, opened, refused)
 }
 
@@ -101,6 +104,7 @@ fn load_under<
 fn load_by<
     C: Ledger + Send + Sync,
     Q: Ledger + Send + Sync,
+    K: Ledger + Send + Sync,
     N: Naming + Send + Sync,
     P: Publish<Item = Shown<N>> + Send,
     R: Threads + Wait + Sync,
@@ -108,8 +112,8 @@ fn load_by<
     rt: &R,
     alloc: Global,
     opened: (
-        SharedTable<C, Q, N, P>,
-        Vec<Worker<C, Q, N>>,
+        SharedTable<C, Q, K, N, P>,
+        Vec<Worker<C, Q, K, N>>,
         Vec<Reader<N>>,
     ),
     refused: Option<Refused>,
@@ -135,9 +139,9 @@ fn load_by<
 }
 
 /// Whether each worker made as many calls as it has batches in the table.
-fn are_counted<C: Ledger, Q: Ledger, N: Naming>(
+fn are_counted<C: Ledger, Q: Ledger, K: Ledger, N: Naming>(
     version: &Version,
-    workers: &[Worker<C, Q, N>],
+    workers: &[Worker<C, Q, K, N>],
 ) -> bool {
     for worker in workers {
         let mut batches: u32 = 0;
@@ -155,11 +159,11 @@ fn are_counted<C: Ledger, Q: Ledger, N: Naming>(
 
 /// What is seen whoever was first: how many receipts there are and up to which entry, what each worker appended, and how many
 /// rows each reader sees.
-fn told<C: Ledger, Q: Ledger, N: Naming>(
+fn told<C: Ledger, Q: Ledger, K: Ledger, N: Naming>(
     alloc: Global,
     receipts: &[Receipt<N>],
     version: &Version,
-    workers: &[Worker<C, Q, N>],
+    workers: &[Worker<C, Q, K, N>],
     readers: &mut [Reader<N>],
 ) -> Result<String, Fail> {
     let mut told = String::new(alloc);

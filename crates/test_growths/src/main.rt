@@ -12,6 +12,7 @@ mod fault;
 mod gathering;
 mod kernels_of;
 mod loading;
+mod nulls;
 mod opening;
 mod permit;
 mod pools;
@@ -30,6 +31,7 @@ mod tables;
 mod tally;
 mod tell;
 mod texts;
+mod widening;
 
 use std::alloc::Global;
 use std::io::Print;
@@ -56,6 +58,7 @@ fn main(rt: HostRuntime) -> Result<ExitCode, Fail> {
 fn sweep_columns<R: Print>(rt: &R, alloc: Global, tally: &mut Tally) -> Result<(), Fail> {
     sweep_all(rt, alloc, &bits::MAKERS, tally)?;
     sweep_all(rt, alloc, &builders::BUILDS, tally)?;
+    sweep_all(rt, alloc, &nulls::CASES, tally)?;
     sweep_all(rt, alloc, &kernels_of::CASES, tally)?;
     sweep_all(rt, alloc, &selections::CASES, tally)?;
     sweep_all(rt, alloc, &statistics::CASES, tally)?;
@@ -70,6 +73,7 @@ fn sweep_tables<R: Print + Threads + Wait + Sync>(
     tally: &mut Tally,
 ) -> Result<(), Fail> {
     sweep_all(rt, alloc, &tables::CASES, tally)?;
+    sweep_all(rt, alloc, &widening::CASES, tally)?;
     sweep_all(rt, alloc, &queries::CASES, tally)?;
     sweep_all(rt, alloc, &opening::CASES, tally)?;
     sweep_all(rt, alloc, &shared_tables::CASES, tally)?;

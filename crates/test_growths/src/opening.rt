@@ -10,11 +10,11 @@ use crate::samples::{TWO_BATCHES, file};
 use crate::stop::Stop;
 use crate::sweep::Trial;
 use arrays::Schema;
-use shared::{Naming, Pair, open};
+use shared::{Blanks, Naming, Pair, open};
 use std::alloc::Global;
 use std::marker::Brand;
 use std::sync::Wait;
-use std::sync::ledger::{Blank, Ledger};
+use std::sync::ledger::Ledger;
 use std::test::Fail;
 
 /// A table of two workers and so many readers is opened.
@@ -55,27 +55,29 @@ fn opened<R: Wait>(
     let file = file(alloc, TWO_BATCHES)?;
     let pair = Pair::new(alloc, file.schema())?;
     let schema = file.schema().copy(alloc)?;
-    let (calls, rows) = (Blank::new(2), Blank::new(2));
-    Ok(opened_so::<Brand, Brand, Brand, R>(rt, alloc, schema, readers, calls, rows, pair, refused))
+    let blanks = Blanks::new(2);
+    Ok(opened_so::<Brand, Brand, Brand, Brand, R>(
+        rt, alloc, schema, readers, blanks, pair, refused,
+    ))
 }
 
 /// The same, under the names of two ledgers and of a history.
-fn opened_so<C: Ledger, Q: Ledger, N: Naming, R: Wait>(
+fn opened_so<C: Ledger, Q: Ledger, K: Ledger, N: Naming, R: Wait>(
     rt: &R,
     alloc: Global,
     schema: Schema,
     readers: u32,
-    calls: Blank,
-    rows: Blank,
+    blanks: Blanks,
     pair: Pair,
     refused: Option<Refused>,
 ) -> (Result<(usize, usize), Stop>, bool)
-    requires calls { (calls.name ≡ C.name) × (calls.parts ≡ C.parts) × (calls.parts ≡ 2) }
-    requires rows { (rows.name ≡ Q.name) × (rows.parts ≡ Q.parts) × (rows.parts ≡ 2) }
+    requires calls { (blanks.calls.name ≡ C.name) × (blanks.calls.parts ≡ C.parts) × (blanks.calls.parts ≡ 2) }
+    requires rows { (blanks.rows.name ≡ Q.name) × (blanks.rows.parts ≡ Q.parts) × (blanks.rows.parts ≡ 2) }
+    requires columns { (blanks.columns.name ≡ K.name) × (blanks.columns.parts ≡ K.parts) × (blanks.columns.parts ≡ 2) }
     requires pair { (pair.book ≡ N.book) × (pair.fields ≡ N.fields) × (pair.fields ≡ stored_fields schema) }
 {
     begin(alloc, refused);
-    let opened = open::<C, Q, N, &R>(rt, alloc, schema, 2, readers, calls, rows, pair);
+    let opened = open::<C, Q, K, N, &R>(rt, alloc, schema, 2, readers, blanks, pair);
     let met = end(alloc);
     match opened {
         Ok((_table, workers, readers)) => (Ok((workers.len(), readers.len())), met),

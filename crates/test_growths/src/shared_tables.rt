@@ -10,11 +10,11 @@ use crate::samples::{ONE_MORE, TWO_BATCHES, file, first_batch};
 use crate::stage::{Call, Stage};
 use crate::sweep::Trial;
 use arrays::Schema;
-use shared::{Naming, Pair, Publish, Reader, SharedTable, Shown, Worker, open};
+use shared::{Blanks, Naming, Pair, Publish, Reader, SharedTable, Shown, Worker, open};
 use std::alloc::Global;
 use std::marker::Brand;
 use std::sync::Wait;
-use std::sync::ledger::{Blank, Ledger};
+use std::sync::ledger::Ledger;
 use std::test::Fail;
 
 /// What is tried on a table of two workers.
@@ -24,7 +24,7 @@ enum Play {
     Gather,
 }
 
-pub(crate) const CASES: [(&str, Case); 9] = [
+pub(crate) const CASES: [(&str, Case); 11] = [
     ("SharedTable::append", Case(Play::Call(Call::Append), 1)),
     (
         "SharedTable::append, no readers",
@@ -36,9 +36,17 @@ pub(crate) const CASES: [(&str, Case); 9] = [
         "SharedTable::compact, no readers",
         Case(Play::Call(Call::Compact), 0),
     ),
+    (
+        "SharedTable::add_column",
+        Case(Play::Call(Call::AddColumn), 1),
+    ),
+    (
+        "SharedTable::add_column, no readers",
+        Case(Play::Call(Call::AddColumn), 0),
+    ),
     ("Reader::latest", Case(Play::Call(Call::Latest), 1)),
     (
-        "append, compact and latest in turn",
+        "append, compact, add_column and latest in turn",
         Case(Play::Call(Call::InTurn), 1),
     ),
     ("SharedTable::gather", Case(Play::Gather, 1)),
@@ -53,13 +61,12 @@ impl<R: Wait> Trial<R> for Case {
     fn run(&self, rt: &R, alloc: Global, refused: Option<Refused>) -> Result<Ran, Fail> {
         let file = file(alloc, TWO_BATCHES)?;
         let pair = Pair::new(alloc, file.schema())?;
-        let (calls, rows) = (Blank::new(2), Blank::new(2));
-        played::<Brand, Brand, Brand, R>(
+        let blanks = Blanks::new(2);
+        played::<Brand, Brand, Brand, Brand, R>(
             rt,
             alloc,
             file.schema(),
-            calls,
-            rows,
+            blanks,
             pair,
             *self,
             refused,
@@ -68,33 +75,33 @@ impl<R: Wait> Trial<R> for Case {
 }
 
 /// The same, under the names of two ledgers and of a history.
-fn played<C: Ledger, Q: Ledger, N: Naming, R: Wait>(
+fn played<C: Ledger, Q: Ledger, K: Ledger, N: Naming, R: Wait>(
     rt: &R,
     alloc: Global,
     schema: &Schema,
-    calls: Blank,
-    rows: Blank,
+    blanks: Blanks,
     pair: Pair,
     case: Case,
     refused: Option<Refused>,
 ) -> Result<Ran, Fail>
-    requires calls { (calls.name ≡ C.name) × (calls.parts ≡ C.parts) × (calls.parts ≡ 2) }
-    requires rows { (rows.name ≡ Q.name) × (rows.parts ≡ Q.parts) × (rows.parts ≡ 2) }
+    requires calls { (blanks.calls.name ≡ C.name) × (blanks.calls.parts ≡ C.parts) × (blanks.calls.parts ≡ 2) }
+    requires rows { (blanks.rows.name ≡ Q.name) × (blanks.rows.parts ≡ Q.parts) × (blanks.rows.parts ≡ 2) }
+    requires columns { (blanks.columns.name ≡ K.name) × (blanks.columns.parts ≡ K.parts) × (blanks.columns.parts ≡ 2) }
     requires pair { (pair.book ≡ N.book) × (pair.fields ≡ N.fields) × (pair.fields ≡ stored_fields schema.now) }
 {
     let Case(play, readers) = case;
     let schema = schema.copy(alloc)?;
-    let opened = open::<C, Q, N, &R>(rt, alloc, schema, 2, readers, calls, rows, pair)?;
+    let opened = open::<C, Q, K, N, &R>(rt, alloc, schema, 2, readers, blanks, pair)?;
     ran(rt, alloc, opened, play, refused)
 }
 
 /// What comes of a play on a table that nothing was appended to.
-fn ran<C: Ledger, Q: Ledger, N: Naming, P: Publish<Item = Shown<N>>, R: Wait>(
+fn ran<C: Ledger, Q: Ledger, K: Ledger, N: Naming, P: Publish<Item = Shown<N>>, R: Wait>(
     rt: &R,
     alloc: Global,
     opened: (
-        SharedTable<C, Q, N, P>,
-        Vec<Worker<C, Q, N>>,
+        SharedTable<C, Q, K, N, P>,
+        Vec<Worker<C, Q, K, N>>,
         Vec<Reader<N>>,
     ),
     play: Play,
@@ -113,11 +120,11 @@ fn ran<C: Ledger, Q: Ledger, N: Naming, P: Publish<Item = Shown<N>>, R: Wait>(
 }
 
 /// Has each worker append two batches, and each reader learn of them.
-fn append_two<C: Ledger, Q: Ledger, N: Naming, P: Publish<Item = Shown<N>>, R: Wait>(
+fn append_two<C: Ledger, Q: Ledger, K: Ledger, N: Naming, P: Publish<Item = Shown<N>>, R: Wait>(
     rt: &R,
     alloc: Global,
-    table: &SharedTable<C, Q, N, P>,
-    workers: &mut [Worker<C, Q, N>],
+    table: &SharedTable<C, Q, K, N, P>,
+    workers: &mut [Worker<C, Q, K, N>],
     readers: &mut [Reader<N>],
 ) -> Result<(), Fail> {
     let file = file(alloc, TWO_BATCHES)?;

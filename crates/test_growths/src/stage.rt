@@ -1,14 +1,18 @@
 //! A table with its workers and readers.
 
+use crate::columns::TEXTS;
 use crate::scene::Scene;
 use crate::stop::Stop;
 use crate::tell::tell_version;
-use arrays::RecordBatch;
+use arrays::{Field, RecordBatch};
 use shared::{Naming, Publish, Reader, SharedTable, Shown, Version, Worker};
 use std::alloc::Global;
 use std::sync::ledger::Ledger;
 use std::sync::{Arc, Wait};
 use std::test::Fail;
+
+/// How many calls there are before the reader looks.
+const TURNS: u32 = 4;
 
 /// A call of a table, a worker or a reader.
 #[derive(Clone, Copy, PartialEq, Eq)]
@@ -16,34 +20,38 @@ pub(crate) enum Call {
     Append,
     Snapshot,
     Compact,
+    AddColumn,
     Latest,
-    /// Each worker appends, the batches are joined, and the reader looks.
+    /// Each worker appends, the batches are joined, a column is added, and the reader looks.
     InTurn,
 }
 
-/// A call with a table, its workers and its readers, and a batch that is to be appended.
+/// A call with a table, its workers and its readers, a batch that is to be appended, and the field of a column that is to be
+/// added.
 #[derive(Drop)]
-pub(crate) struct Stage<C: Ledger, Q: Ledger, N: Naming, P: Publish<Item = Shown<N>>> {
+pub(crate) struct Stage<C: Ledger, Q: Ledger, K: Ledger, N: Naming, P: Publish<Item = Shown<N>>> {
     call: Call,
     batch: Arc<RecordBatch>,
-    table: SharedTable<C, Q, N, P>,
-    workers: Vec<Worker<C, Q, N>>,
+    field: Option<Field>,
+    table: SharedTable<C, Q, K, N, P>,
+    workers: Vec<Worker<C, Q, K, N>>,
     readers: Vec<Reader<N>>,
     /// How many of several calls are behind.
     turns: u32,
 }
 
-impl<C: Ledger, Q: Ledger, N: Naming, P: Publish<Item = Shown<N>>> Stage<C, Q, N, P> {
+impl<C: Ledger, Q: Ledger, K: Ledger, N: Naming, P: Publish<Item = Shown<N>>> Stage<C, Q, K, N, P> {
     pub(crate) fn new(
         call: Call,
         batch: Arc<RecordBatch>,
-        table: SharedTable<C, Q, N, P>,
-        workers: Vec<Worker<C, Q, N>>,
+        table: SharedTable<C, Q, K, N, P>,
+        workers: Vec<Worker<C, Q, K, N>>,
         readers: Vec<Reader<N>>,
-    ) -> Stage<C, Q, N, P> {
+    ) -> Stage<C, Q, K, N, P> {
         Stage {
             call,
             batch,
+            field: None,
             table,
             workers,
             readers,
@@ -71,6 +79,17 @@ impl<C: Ledger, Q: Ledger, N: Naming, P: Publish<Item = Shown<N>>> Stage<C, Q, N
         }
     }
 
+    /// Has the first worker add a column.
+    fn add_column<R: Wait>(&mut self, rt: &R) -> Result<Seen, Stop> {
+        match (self.workers.first_mut(), self.field.take()) {
+            (Some(worker), Some(field)) => {
+                self.table.add_column(rt, worker, field)?;
+                Ok(Seen::Nothing)
+            }
+            _ => Err(Stop::Other),
+        }
+    }
+
     /// Has the reader look.
     fn latest(&mut self) -> Result<Seen, Stop> {
         match self.readers.first_mut() {
@@ -81,11 +100,12 @@ impl<C: Ledger, Q: Ledger, N: Naming, P: Publish<Item = Shown<N>>> Stage<C, Q, N
 
     /// Makes those of several calls that aren't behind yet.
     fn go_on<R: Wait>(&mut self, rt: &R) -> Result<Seen, Stop> {
-        for turn in self.turns..3 {
+        for turn in self.turns..TURNS {
             let _seen = match turn {
                 0 => self.append(rt, 0)?,
                 1 => self.append(rt, 1)?,
-                _ => self.compact(rt, true)?,
+                2 => self.compact(rt, true)?,
+                _ => self.add_column(rt)?,
             };
             self.turns = turn + 1;
         }
@@ -96,19 +116,26 @@ impl<C: Ledger, Q: Ledger, N: Naming, P: Publish<Item = Shown<N>>> Stage<C, Q, N
 /// What a call gave.
 #[derive(Drop)]
 pub(crate) enum Seen {
+    Nothing,
     Entry(u32),
     Version(Arc<Version>),
 }
 
-impl<C: Ledger, Q: Ledger, N: Naming, P: Publish<Item = Shown<N>>, R: Wait> Scene<R>
-    for Stage<C, Q, N, P> {
+impl<C: Ledger, Q: Ledger, K: Ledger, N: Naming, P: Publish<Item = Shown<N>>, R: Wait> Scene<R>
+    for Stage<C, Q, K, N, P> {
     type Answer = Seen;
+
+    fn renew(&mut self, alloc: Global) -> Result<(), Fail> {
+        self.field = Some(TEXTS.field(alloc)?);
+        Ok(())
+    }
 
     fn call(&mut self, rt: &R, _alloc: Global) -> Result<Seen, Stop> {
         match self.call {
             Call::Append => self.append(rt, 0),
             Call::Snapshot => self.compact(rt, false),
             Call::Compact => self.compact(rt, true),
+            Call::AddColumn => self.add_column(rt),
             Call::Latest => self.latest(),
             Call::InTurn => self.go_on(rt),
         }
@@ -117,7 +144,7 @@ impl<C: Ledger, Q: Ledger, N: Naming, P: Publish<Item = Shown<N>>, R: Wait> Scen
     /// Of several calls some may be behind. A version that was taken is kept until there is a newer one, and isn't taken before a
     /// call that takes one.
     fn tell(&mut self, rt: &R, told: &mut String) -> Result<(), Fail> {
-        if self.call == Call::InTurn && self.turns < 3 {
+        if self.call == Call::InTurn && self.turns < TURNS {
             return Ok(());
         }
         tell_workers(told, &self.workers)?;
@@ -133,6 +160,7 @@ impl<C: Ledger, Q: Ledger, N: Naming, P: Publish<Item = Shown<N>>, R: Wait> Scen
 
     fn tell_answer(told: &mut String, answer: &Seen) -> Result<(), Fail> {
         match answer {
+            Seen::Nothing => {}
             Seen::Entry(number) => write!(told, "{number} ")?,
             Seen::Version(version) => tell_version(told, version)?,
         }
@@ -141,9 +169,9 @@ impl<C: Ledger, Q: Ledger, N: Naming, P: Publish<Item = Shown<N>>, R: Wait> Scen
 }
 
 /// Tells how much each worker appended.
-pub(crate) fn tell_workers<C: Ledger, Q: Ledger, N: Naming>(
+pub(crate) fn tell_workers<C: Ledger, Q: Ledger, K: Ledger, N: Naming>(
     told: &mut String,
-    workers: &[Worker<C, Q, N>],
+    workers: &[Worker<C, Q, K, N>],
 ) -> Result<(), Fail> {
     for worker in workers {
         let (number, calls, rows) = (worker.number(), worker.calls(), worker.rows());

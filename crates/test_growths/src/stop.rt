@@ -13,7 +13,7 @@ use query::QueryFault;
 use select::SelectFault;
 use shared::OpenFault;
 use std::alloc::AllocError;
-use table::Refusal;
+use table::{AddFault, Refusal};
 
 /// Why a call had no answer.
 #[derive(Clone, Copy, Debug, PartialEq, Eq)]
@@ -84,6 +84,12 @@ impl From<QueryFault> for Stop {
 impl From<Refusal> for Stop {
     fn from(refusal: Refusal) -> Stop {
         Stop::of(refusal == Refusal::NoMemory)
+    }
+}
+
+impl From<AddFault> for Stop {
+    fn from(fault: AddFault) -> Stop {
+        Stop::of(fault == AddFault::NoMemory)
     }
 }
 

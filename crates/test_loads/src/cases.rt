@@ -3,6 +3,7 @@
 use crate::loading::{alone, in_turn, refused, whole};
 use crate::looking_on::look_on;
 use crate::soaking::soak;
+use crate::widening::widen;
 use shared::{Naming, Publish, Reader, SharedTable, Shown, Worker};
 use std::alloc::Global;
 use std::process::Abort;
@@ -21,12 +22,14 @@ pub(crate) enum Case {
     Soak,
     /// Each of so many workers appends so many batches; the others join them, and each reader looks, as often.
     LookOn { count: u32, turns: u32 },
+    Widen,
 }
 
 /// Plays a case.
 pub(crate) fn play_case<
     C: Ledger + Send + Sync,
     Q: Ledger + Send + Sync,
+    K: Ledger + Send + Sync,
     N: Naming + Send + Sync,
     P: Publish<Item = Shown<N>> + Send,
     W: Wait + Sync,
@@ -35,8 +38,8 @@ pub(crate) fn play_case<
     wait: &W,
     rt: &T,
     alloc: Global,
-    table: SharedTable<C, Q, N, P>,
-    workers: Vec<Worker<C, Q, N>>,
+    table: SharedTable<C, Q, K, N, P>,
+    workers: Vec<Worker<C, Q, K, N>>,
     readers: Vec<Reader<N>>,
     case: Case,
 ) -> Result<(), Fail> {
@@ -49,5 +52,6 @@ pub(crate) fn play_case<
         Case::LookOn { count, turns } => {
             look_on(wait, rt, alloc, table, workers, readers, count, turns)
         }
+        Case::Widen => widen(wait, rt, alloc, table, workers, readers),
     }
 }

@@ -15,3 +15,5 @@ mod looking_on;
 mod soaking;
 #[cfg(test)]
 mod testing;
+#[cfg(test)]
+mod widening;

@@ -40,6 +40,7 @@ fn files_go_to_the_workers_in_turn(rt: HostRuntime) -> Result<(), Fail> {
 pub(crate) fn in_turn<
     C: Ledger + Send + Sync,
     Q: Ledger + Send + Sync,
+    K: Ledger + Send + Sync,
     N: Naming + Send + Sync,
     P: Publish<Item = Shown<N>> + Send,
     W: Wait + Sync,
@@ -48,8 +49,8 @@ pub(crate) fn in_turn<
     wait: &W,
     rt: &T,
     alloc: Global,
-    table: SharedTable<C, Q, N, P>,
-    workers: Vec<Worker<C, Q, N>>,
+    table: SharedTable<C, Q, K, N, P>,
+    workers: Vec<Worker<C, Q, K, N>>,
 ) -> Result<(), Fail> {
     let mut workers = workers;
     let gate = Holding::new();
@@ -78,6 +79,7 @@ fn a_worker_without_a_file_appends_nothing(rt: HostRuntime) -> Result<(), Fail> 
 pub(crate) fn alone<
     C: Ledger + Send + Sync,
     Q: Ledger + Send + Sync,
+    K: Ledger + Send + Sync,
     N: Naming + Send + Sync,
     P: Publish<Item = Shown<N>> + Send,
     W: Wait + Sync,
@@ -86,8 +88,8 @@ pub(crate) fn alone<
     wait: &W,
     rt: &T,
     alloc: Global,
-    table: SharedTable<C, Q, N, P>,
-    workers: Vec<Worker<C, Q, N>>,
+    table: SharedTable<C, Q, K, N, P>,
+    workers: Vec<Worker<C, Q, K, N>>,
 ) -> Result<(), Fail> {
     let mut workers = workers;
     let gate = Counting::new();
@@ -120,6 +122,7 @@ fn the_least_file_that_was_refused_is_told(rt: HostRuntime) -> Result<(), Fail> 
 pub(crate) fn refused<
     C: Ledger + Send + Sync,
     Q: Ledger + Send + Sync,
+    K: Ledger + Send + Sync,
     N: Naming + Send + Sync,
     P: Publish<Item = Shown<N>> + Send,
     W: Wait + Sync,
@@ -128,8 +131,8 @@ pub(crate) fn refused<
     wait: &W,
     rt: &T,
     alloc: Global,
-    table: SharedTable<C, Q, N, P>,
-    workers: Vec<Worker<C, Q, N>>,
+    table: SharedTable<C, Q, K, N, P>,
+    workers: Vec<Worker<C, Q, K, N>>,
 ) -> Result<(), Fail> {
     let mut workers = workers;
     let gate = Counting::new();
@@ -165,6 +168,7 @@ fn one_worker_loads_all(rt: HostRuntime) -> Result<(), Fail> {
 pub(crate) fn whole<
     C: Ledger + Send + Sync,
     Q: Ledger + Send + Sync,
+    K: Ledger + Send + Sync,
     N: Naming + Send + Sync,
     P: Publish<Item = Shown<N>> + Send,
     W: Wait + Sync,
@@ -173,8 +177,8 @@ pub(crate) fn whole<
     wait: &W,
     rt: &T,
     alloc: Global,
-    table: SharedTable<C, Q, N, P>,
-    workers: Vec<Worker<C, Q, N>>,
+    table: SharedTable<C, Q, K, N, P>,
+    workers: Vec<Worker<C, Q, K, N>>,
 ) -> Result<(), Fail> {
     let mut workers = workers;
     let files = [FOUR, ONE_TO_THREE, OTHER_NAME, FIVE_SIX_NULL];

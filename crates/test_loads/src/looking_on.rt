@@ -2,10 +2,10 @@
 //! seen goes.
 
 use crate::cases::Case;
-use crate::hands::{Hand, all_hands, workers_of};
+use crate::hands::{Hand, all_hands, work_at_once, workers_of};
 use crate::testing::play;
 use arrays::{RecordBatch, Schema};
-use crews::{Task, run_all};
+use crews::Task;
 use shared::{Naming, Publish, Reader, Receipt, SharedTable, Shown, Version, Worker};
 use std::alloc::Global;
 use std::process::Abort;
@@ -48,12 +48,13 @@ pub(crate) struct Soaking<
     'a,
     C: Ledger,
     Q: Ledger,
+    K: Ledger,
     N: Naming,
     P: Publish<Item = Shown<N>>,
     W: Wait,
 > {
     wait: &'a W,
-    table: &'a SharedTable<C, Q, N, P>,
+    table: &'a SharedTable<C, Q, K, N, P>,
     batch: &'a RecordBatch,
     count: usize,
     turns: u32,
@@ -63,13 +64,14 @@ pub(crate) struct Soaking<
     is_wrong: AtomicBool,
 }
 
-impl<'a, C: Ledger, Q: Ledger, N: Naming, P: Publish<Item = Shown<N>>, W: Wait> Task<Hand<C, Q, N>>
-    for Soaking<'a, C, Q, N, P, W> {
+impl<'a, C: Ledger, Q: Ledger, K: Ledger, N: Naming, P: Publish<Item = Shown<N>>, W: Wait> Task<
+    Hand<C, Q, K, N>,
+> for Soaking<'a, C, Q, K, N, P, W> {
     ghost count = { λ s. s.count };
 
     ghost does = { λ _ _ _ _. Unit };
 
-    fn work(&self, _place: usize, hand: &mut Hand<C, Q, N>) {
+    fn work(&self, _place: usize, hand: &mut Hand<C, Q, K, N>) {
         let is_right = match hand {
             Hand::Appends(worker) => self.append(worker),
             Hand::Joins(worker) => self.join(worker),
@@ -81,16 +83,17 @@ impl<'a, C: Ledger, Q: Ledger, N: Naming, P: Publish<Item = Shown<N>>, W: Wait> 
     }
 }
 
-impl<'a, C: Ledger, Q: Ledger, N: Naming, P: Publish<Item = Shown<N>>, W: Wait> Soaking<
+impl<'a, C: Ledger, Q: Ledger, K: Ledger, N: Naming, P: Publish<Item = Shown<N>>, W: Wait> Soaking<
     'a,
     C,
     Q,
+    K,
     N,
     P,
     W,
 > {
     /// Whether the worker's batches were all taken. It tells of each.
-    fn append(&self, worker: &mut Worker<C, Q, N>) -> bool {
+    fn append(&self, worker: &mut Worker<C, Q, K, N>) -> bool {
         for _turn in 0..self.turns {
             match self.table.append(self.wait, worker, self.batch) {
                 Ok(receipt) => *self.told.lock(self.wait) = Some(receipt),
@@ -101,7 +104,7 @@ impl<'a, C: Ledger, Q: Ledger, N: Naming, P: Publish<Item = Shown<N>>, W: Wait> 
     }
 
     /// Whether all batches could be joined, and no row was lost by that.
-    fn join(&self, worker: &mut Worker<C, Q, N>) -> bool {
+    fn join(&self, worker: &mut Worker<C, Q, K, N>) -> bool {
         let mut rows = 0;
         for _turn in 0..self.turns {
             match self.table.compact(self.wait, worker, MOST_ROWS) {
@@ -146,6 +149,7 @@ impl<'a, C: Ledger, Q: Ledger, N: Naming, P: Publish<Item = Shown<N>>, W: Wait> 
 pub(crate) fn look_on<
     C: Ledger + Send + Sync,
     Q: Ledger + Send + Sync,
+    K: Ledger + Send + Sync,
     N: Naming + Send + Sync,
     P: Publish<Item = Shown<N>> + Send,
     W: Wait + Sync,
@@ -154,8 +158,8 @@ pub(crate) fn look_on<
     wait: &W,
     rt: &T,
     alloc: Global,
-    table: SharedTable<C, Q, N, P>,
-    workers: Vec<Worker<C, Q, N>>,
+    table: SharedTable<C, Q, K, N, P>,
+    workers: Vec<Worker<C, Q, K, N>>,
     readers: Vec<Reader<N>>,
     count: u32,
     turns: u32,
@@ -182,6 +186,7 @@ pub(crate) fn look_on<
 fn work_together<
     C: Ledger + Send + Sync,
     Q: Ledger + Send + Sync,
+    K: Ledger + Send + Sync,
     N: Naming + Send + Sync,
     P: Publish<Item = Shown<N>> + Send,
     W: Wait + Sync,
@@ -189,8 +194,8 @@ fn work_together<
 >(
     wait: &W,
     threads: &T,
-    table: &SharedTable<C, Q, N, P>,
-    hands: &mut [Hand<C, Q, N>],
+    table: &SharedTable<C, Q, K, N, P>,
+    hands: &mut [Hand<C, Q, K, N>],
     batch: &RecordBatch,
     turns: u32,
 ) -> bool {
@@ -203,12 +208,12 @@ fn work_together<
         told: Mutex::new(None),
         is_wrong: AtomicBool::new(false),
     };
-    run_all(threads, hands, &soaking);
+    work_at_once(threads, hands, &soaking);
     !soaking.is_wrong.load(Ordering::SeqCst)
 }
 
 /// How many entries of the book are a worker's.
-fn entries_of(version: &Version, worker: u32) -> u32 {
+pub(crate) fn entries_of(version: &Version, worker: u32) -> u32 {
     let mut count: u32 = 0;
     for entry in 0..version.book_len() {
         if version.book_at(entry).worker == worker {

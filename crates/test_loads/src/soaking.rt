@@ -28,6 +28,7 @@ fn sixteen_workers_append_ten_thousand_batches(rt: HostRuntime) -> Result<(), Fa
 pub(crate) fn soak<
     C: Ledger + Send + Sync,
     Q: Ledger + Send + Sync,
+    K: Ledger + Send + Sync,
     N: Naming + Send + Sync,
     P: Publish<Item = Shown<N>> + Send,
     W: Wait + Sync,
@@ -36,8 +37,8 @@ pub(crate) fn soak<
     wait: &W,
     rt: &T,
     alloc: Global,
-    table: SharedTable<C, Q, N, P>,
-    workers: Vec<Worker<C, Q, N>>,
+    table: SharedTable<C, Q, K, N, P>,
+    workers: Vec<Worker<C, Q, K, N>>,
 ) -> Result<(), Fail> {
     let mut workers = workers;
     let mut files = Vec::new(alloc);
@@ -51,7 +52,10 @@ pub(crate) fn soak<
     let version = &*gathered.version;
     assert!(rt; version.rows() == 10_000 && version.book_len() == 10_000);
     for place in 0..16u32 {
-        assert!(rt; has_appended(version, place, 1000 * place), "for {place}");
+        assert!(rt;
+            has_appended(version, place, 1000 * place, EACH),
+            "for {place}"
+        );
     }
     Ok(())
 }
@@ -74,8 +78,8 @@ fn numbers_from(alloc: Global, first: u32) -> Result<File, Fail> {
     Ok(read_file(alloc, text.as_bytes())?)
 }
 
-/// Whether a worker's batches are a number each, from the first one on.
-fn has_appended(version: &Version, worker: u32, first: u32) -> bool {
+/// Whether a worker's batches are so many of a number each, from the first one on.
+pub(crate) fn has_appended(version: &Version, worker: u32, first: u32, count: u32) -> bool {
     let mut next: u32 = 0;
     for (place, batch) in version.batches().iter().enumerate() {
         if place < version.book_len() as usize && version.book_at(place as u32).worker == worker {
@@ -89,5 +93,5 @@ fn has_appended(version: &Version, worker: u32, first: u32) -> bool {
             next = next.wrapping_add(1);
         }
     }
-    next == EACH
+    next == count
 }

@@ -8,12 +8,12 @@ use arrays::{File, Schema};
 use arrow_json::read_file;
 use crews::Gate;
 use loads::{LoadFault, load_all};
-use shared::{Naming, Pair, Publish, Receipt, SharedTable, Shown, Worker, open};
+use shared::{Blanks, Naming, Pair, Publish, Receipt, SharedTable, Shown, Worker, open};
 use std::alloc::Global;
 use std::marker::Brand;
 use std::process::Abort;
 use std::sync::Wait;
-use std::sync::ledger::{Blank, Ledger};
+use std::sync::ledger::Ledger;
 use std::test::Fail;
 use std::thread::Threads;
 use test_samples::shows_numbers;
@@ -36,10 +36,9 @@ pub(crate) fn play<W: Wait + Sync, T: Threads + Abort + Sync>(
     case: Case,
 ) -> Result<(), Fail> {
     let pair = Pair::new(alloc, schema)?;
-    let calls = Blank::new(u64::from(workers));
-    let rows = Blank::new(u64::from(workers));
-    play_under::<Brand, Brand, Brand, W, T>(
-        wait, threads, alloc, schema, workers, readers, calls, rows, pair, case,
+    let blanks = Blanks::new(workers);
+    play_under::<Brand, Brand, Brand, Brand, W, T>(
+        wait, threads, alloc, schema, workers, readers, blanks, pair, case,
     )
 }
 
@@ -47,6 +46,7 @@ pub(crate) fn play<W: Wait + Sync, T: Threads + Abort + Sync>(
 fn play_under<
     C: Ledger + Send + Sync,
     Q: Ledger + Send + Sync,
+    K: Ledger + Send + Sync,
     N: Naming + Send + Sync,
     W: Wait + Sync,
     T: Threads + Abort + Sync,
@@ -57,17 +57,17 @@ fn play_under<
     schema: &Schema,
     workers: u32,
     readers: u32,
-    calls: Blank,
-    rows: Blank,
+    blanks: Blanks,
     pair: Pair,
     case: Case,
 ) -> Result<(), Fail>
-    requires calls { (calls.name ≡ C.name) × (calls.parts ≡ C.parts) × (calls.parts ≡ workers) }
-    requires rows { (rows.name ≡ Q.name) × (rows.parts ≡ Q.parts) × (rows.parts ≡ workers) }
+    requires calls { (blanks.calls.name ≡ C.name) × (blanks.calls.parts ≡ C.parts) × (blanks.calls.parts ≡ workers) }
+    requires rows { (blanks.rows.name ≡ Q.name) × (blanks.rows.parts ≡ Q.parts) × (blanks.rows.parts ≡ workers) }
+    requires columns { (blanks.columns.name ≡ K.name) × (blanks.columns.parts ≡ K.parts) × (blanks.columns.parts ≡ workers) }
     requires pair { (pair.book ≡ N.book) × (pair.fields ≡ N.fields) × (pair.fields ≡ stored_fields schema.now) }
 {
     let schema = schema.copy(alloc)?;
-    match open::<C, Q, N, &W>(wait, alloc, schema, workers, readers, calls, rows, pair) {
+    match open::<C, Q, K, N, &W>(wait, alloc, schema, workers, readers, blanks, pair) {
         Ok((table, hands, eyes)) => play_case(wait, threads, alloc, table, hands, eyes, case),
         Err(_) => not_opened(),
     }
@@ -84,6 +84,7 @@ fn not_opened() -> Result<(), Fail> {
 pub(crate) fn load<
     C: Ledger + Send + Sync,
     Q: Ledger + Send + Sync,
+    K: Ledger + Send + Sync,
     N: Naming + Send + Sync,
     P: Publish<Item = Shown<N>> + Send,
     W: Wait + Sync,
@@ -93,8 +94,8 @@ pub(crate) fn load<
     wait: &W,
     threads: &T,
     alloc: Global,
-    table: &SharedTable<C, Q, N, P>,
-    workers: &mut [Worker<C, Q, N>],
+    table: &SharedTable<C, Q, K, N, P>,
+    workers: &mut [Worker<C, Q, K, N>],
     texts: &[&str],
     gate: &G,
 ) -> Result<Result<Vec<Receipt<N>>, LoadFault>, Fail> {
@@ -116,6 +117,7 @@ fn read_all(alloc: Global, texts: &[&str]) -> Result<Vec<File>, Fail> {
 pub(crate) fn expect_added<
     C: Ledger,
     Q: Ledger,
+    K: Ledger,
     N: Naming,
     P: Publish<Item = Shown<N>>,
     W: Wait,
@@ -124,8 +126,8 @@ pub(crate) fn expect_added<
     wait: &W,
     rt: &T,
     alloc: Global,
-    table: SharedTable<C, Q, N, P>,
-    workers: Vec<Worker<C, Q, N>>,
+    table: SharedTable<C, Q, K, N, P>,
+    workers: Vec<Worker<C, Q, K, N>>,
     expected: &[&[Numbers]],
 ) -> Result<(), Fail> {
     assert!(rt; workers.len() == expected.len());

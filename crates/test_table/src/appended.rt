@@ -46,11 +46,18 @@ pub(crate) const FIVE_AND_NULL: Batch = (
 );
 
 /// Appends a batch, and gives the number of the entry.
-pub(crate) fn append<C: Ledger, Q: Ledger, N: Naming, P: Publish<Item = Shown<N>>, R: Wait + Abort>(
+pub(crate) fn append<
+    C: Ledger,
+    Q: Ledger,
+    K: Ledger,
+    N: Naming,
+    P: Publish<Item = Shown<N>>,
+    R: Wait + Abort,
+>(
     rt: &R,
     alloc: Global,
-    table: &SharedTable<C, Q, N, P>,
-    worker: &mut Worker<C, Q, N>,
+    table: &SharedTable<C, Q, K, N, P>,
+    worker: &mut Worker<C, Q, K, N>,
     batch: Batch,
 ) -> Result<u32, Fail> {
     let batch = batch_of(alloc, batch)?;

@@ -30,14 +30,15 @@ impl Scene for TwoOfThree {
     fn play<
         C: Ledger + Send + Sync,
         Q: Ledger + Send + Sync,
+        K: Ledger + Send + Sync,
         N: Naming + Send + Sync,
         P: Publish<Item = Shown<N>> + Send,
         R: Wait + Threads + Abort + Sync,
     >(
         rt: &R,
         alloc: Global,
-        table: SharedTable<C, Q, N, P>,
-        workers: Vec<Worker<C, Q, N>>,
+        table: SharedTable<C, Q, K, N, P>,
+        workers: Vec<Worker<C, Q, K, N>>,
         _readers: Vec<Reader<N>>,
     ) -> Result<(), Fail> {
         let mut workers = workers;
@@ -48,11 +49,18 @@ impl Scene for TwoOfThree {
 }
 
 /// Two of the workers append 5 rows, and the third sees them.
-fn append_five<C: Ledger, Q: Ledger, N: Naming, P: Publish<Item = Shown<N>>, R: Wait + Abort>(
+fn append_five<
+    C: Ledger,
+    Q: Ledger,
+    K: Ledger,
+    N: Naming,
+    P: Publish<Item = Shown<N>>,
+    R: Wait + Abort,
+>(
     rt: &R,
     alloc: Global,
-    table: &SharedTable<C, Q, N, P>,
-    workers: &mut [Worker<C, Q, N>],
+    table: &SharedTable<C, Q, K, N, P>,
+    workers: &mut [Worker<C, Q, K, N>],
 ) -> Result<(), Fail> {
     assert!(rt; workers.len() == 3);
     assert!(rt; append(rt, alloc, table, &mut workers[0], SEVEN_AND_NINE)? == 0);
@@ -65,10 +73,17 @@ fn append_five<C: Ledger, Q: Ledger, N: Naming, P: Publish<Item = Shown<N>>, R: 
 }
 
 /// Without the workers behind its first the table isn't gathered; with them it is.
-fn gather_late<C: Ledger, Q: Ledger, N: Naming, P: Publish<Item = Shown<N>>, R: Wait + Abort>(
+fn gather_late<
+    C: Ledger,
+    Q: Ledger,
+    K: Ledger,
+    N: Naming,
+    P: Publish<Item = Shown<N>>,
+    R: Wait + Abort,
+>(
     rt: &R,
-    table: SharedTable<C, Q, N, P>,
-    workers: Vec<Worker<C, Q, N>>,
+    table: SharedTable<C, Q, K, N, P>,
+    workers: Vec<Worker<C, Q, K, N>>,
 ) -> Result<Arc<Version>, Fail> {
     let mut workers = workers;
     let count = workers.len();
@@ -100,14 +115,15 @@ impl Scene for OneOfTwo {
     fn play<
         C: Ledger + Send + Sync,
         Q: Ledger + Send + Sync,
+        K: Ledger + Send + Sync,
         N: Naming + Send + Sync,
         P: Publish<Item = Shown<N>> + Send,
         R: Wait + Threads + Abort + Sync,
     >(
         rt: &R,
         alloc: Global,
-        table: SharedTable<C, Q, N, P>,
-        workers: Vec<Worker<C, Q, N>>,
+        table: SharedTable<C, Q, K, N, P>,
+        workers: Vec<Worker<C, Q, K, N>>,
         _readers: Vec<Reader<N>>,
     ) -> Result<(), Fail> {
         let mut workers = workers;
@@ -143,14 +159,15 @@ impl Scene for OtherName {
     fn play<
         C: Ledger + Send + Sync,
         Q: Ledger + Send + Sync,
+        K: Ledger + Send + Sync,
         N: Naming + Send + Sync,
         P: Publish<Item = Shown<N>> + Send,
         R: Wait + Threads + Abort + Sync,
     >(
         rt: &R,
         alloc: Global,
-        table: SharedTable<C, Q, N, P>,
-        workers: Vec<Worker<C, Q, N>>,
+        table: SharedTable<C, Q, K, N, P>,
+        workers: Vec<Worker<C, Q, K, N>>,
         _readers: Vec<Reader<N>>,
     ) -> Result<(), Fail> {
         let mut workers = workers;
@@ -163,11 +180,18 @@ impl Scene for OtherName {
 }
 
 /// Appends a batch with another name in vain, and then one with the table's name.
-fn append_other<C: Ledger, Q: Ledger, N: Naming, P: Publish<Item = Shown<N>>, R: Wait + Abort>(
+fn append_other<
+    C: Ledger,
+    Q: Ledger,
+    K: Ledger,
+    N: Naming,
+    P: Publish<Item = Shown<N>>,
+    R: Wait + Abort,
+>(
     rt: &R,
     alloc: Global,
-    table: &SharedTable<C, Q, N, P>,
-    worker: &mut Worker<C, Q, N>,
+    table: &SharedTable<C, Q, K, N, P>,
+    worker: &mut Worker<C, Q, K, N>,
 ) -> Result<(), Fail> {
     let other = table.append(rt, worker, &batch_of(alloc, OTHER_NAME)?);
     assert!(rt; other.err() == Some(Refusal::SchemaDiffers { column: 0 }));
@@ -190,14 +214,15 @@ impl Scene for Snapshots {
     fn play<
         C: Ledger + Send + Sync,
         Q: Ledger + Send + Sync,
+        K: Ledger + Send + Sync,
         N: Naming + Send + Sync,
         P: Publish<Item = Shown<N>> + Send,
         R: Wait + Threads + Abort + Sync,
     >(
         rt: &R,
         alloc: Global,
-        table: SharedTable<C, Q, N, P>,
-        workers: Vec<Worker<C, Q, N>>,
+        table: SharedTable<C, Q, K, N, P>,
+        workers: Vec<Worker<C, Q, K, N>>,
         _readers: Vec<Reader<N>>,
     ) -> Result<(), Fail> {
         let mut workers = workers;
@@ -206,11 +231,18 @@ impl Scene for Snapshots {
 }
 
 /// The second of three workers looks before the others append, after that, and again.
-fn see_all<C: Ledger, Q: Ledger, N: Naming, P: Publish<Item = Shown<N>>, R: Wait + Abort>(
+fn see_all<
+    C: Ledger,
+    Q: Ledger,
+    K: Ledger,
+    N: Naming,
+    P: Publish<Item = Shown<N>>,
+    R: Wait + Abort,
+>(
     rt: &R,
     alloc: Global,
-    table: &SharedTable<C, Q, N, P>,
-    workers: &mut [Worker<C, Q, N>],
+    table: &SharedTable<C, Q, K, N, P>,
+    workers: &mut [Worker<C, Q, K, N>],
 ) -> Result<(), Fail> {
     assert!(rt; workers.len() == 3);
     append(rt, alloc, table, &mut workers[1], (1, &[]))?;

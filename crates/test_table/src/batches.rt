@@ -21,8 +21,12 @@ pub(crate) fn batch_of(alloc: Global, batch: Batch) -> Result<RecordBatch, Fail>
     Ok(RecordBatch::new(Schema::new(fields)?, rows, arrays)?)
 }
 
+/// The fields of this batch.
+pub(crate) fn fields_of(alloc: Global, batch: Batch) -> Result<Schema, Fail> {
+    Ok(batch_of(alloc, batch)?.schema().copy(alloc)?)
+}
+
 /// A table for batches of the fields of this one.
 pub(crate) fn table_for(alloc: Global, batch: Batch) -> Result<TableState, Fail> {
-    let schema = batch_of(alloc, batch)?.schema().copy(alloc)?;
-    Ok(TableState::new(alloc, schema)?)
+    Ok(TableState::new(alloc, fields_of(alloc, batch)?)?)
 }

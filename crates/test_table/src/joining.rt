@@ -2,10 +2,9 @@
 
 use crate::admitting::shows_all;
 use crate::appended::{append, expect_entry};
-use crate::batches::{Batch, batch_of};
+use crate::batches::{Batch, fields_of};
 use crate::compacting::{JOINED_TEXTS, ONE_B, TEXTS, has_sizes};
 use crate::scenes::{Scene, play};
-use arrays::Schema;
 use shared::{Entry, Naming, Publish, Reader, SharedTable, Shown, Version, Worker};
 use std::alloc::Global;
 use std::process::Abort;
@@ -36,17 +35,19 @@ const CODED_B_AND_X: Slots = Slots::Encoded(
     &[Some("b"), Some("x")],
 );
 
-/// A schema with one column of texts.
-fn schema_of_texts(alloc: Global) -> Result<Schema, Fail> {
-    Ok(batch_of(alloc, ONE_B)?.schema().copy(alloc)?)
-}
-
 /// Two workers append the batches by turns.
-fn append_by_turns<C: Ledger, Q: Ledger, N: Naming, P: Publish<Item = Shown<N>>, R: Wait + Abort>(
+fn append_by_turns<
+    C: Ledger,
+    Q: Ledger,
+    K: Ledger,
+    N: Naming,
+    P: Publish<Item = Shown<N>>,
+    R: Wait + Abort,
+>(
     rt: &R,
     alloc: Global,
-    table: &SharedTable<C, Q, N, P>,
-    workers: &mut [Worker<C, Q, N>],
+    table: &SharedTable<C, Q, K, N, P>,
+    workers: &mut [Worker<C, Q, K, N>],
 ) -> Result<(), Fail> {
     assert!(rt; workers.len() == 2);
     for (place, batch) in TEXTS.iter().enumerate() {
@@ -68,7 +69,7 @@ fn expect_joined(rt: &impl Abort, version: &Version) {
 
 #[test]
 fn a_reader_and_a_worker_see_what_was_joined(rt: HostRuntime) -> Result<(), Fail> {
-    play::<Seen, _>(&rt, rt.alloc(), &schema_of_texts(rt.alloc())?, 2, 1)
+    play::<Seen, _>(&rt, rt.alloc(), &fields_of(rt.alloc(), ONE_B)?, 2, 1)
 }
 
 /// A reader looks, a worker joins the batches, the reader looks again, and then the other worker does.
@@ -78,14 +79,15 @@ impl Scene for Seen {
     fn play<
         C: Ledger + Send + Sync,
         Q: Ledger + Send + Sync,
+        K: Ledger + Send + Sync,
         N: Naming + Send + Sync,
         P: Publish<Item = Shown<N>> + Send,
         R: Wait + Threads + Abort + Sync,
     >(
         rt: &R,
         alloc: Global,
-        table: SharedTable<C, Q, N, P>,
-        workers: Vec<Worker<C, Q, N>>,
+        table: SharedTable<C, Q, K, N, P>,
+        workers: Vec<Worker<C, Q, K, N>>,
         readers: Vec<Reader<N>>,
     ) -> Result<(), Fail> {
         let (mut workers, mut readers) = (workers, readers);
@@ -107,7 +109,7 @@ impl Scene for Seen {
 
 #[test]
 fn a_table_goes_on_after_its_batches_were_joined(rt: HostRuntime) -> Result<(), Fail> {
-    play::<GoingOn, _>(&rt, rt.alloc(), &schema_of_texts(rt.alloc())?, 2, 1)
+    play::<GoingOn, _>(&rt, rt.alloc(), &fields_of(rt.alloc(), ONE_B)?, 2, 1)
 }
 
 /// A worker joins the batches twice, and the second time changes nothing; the other worker appends, and a reader looks.
@@ -117,14 +119,15 @@ impl Scene for GoingOn {
     fn play<
         C: Ledger + Send + Sync,
         Q: Ledger + Send + Sync,
+        K: Ledger + Send + Sync,
         N: Naming + Send + Sync,
         P: Publish<Item = Shown<N>> + Send,
         R: Wait + Threads + Abort + Sync,
     >(
         rt: &R,
         alloc: Global,
-        table: SharedTable<C, Q, N, P>,
-        workers: Vec<Worker<C, Q, N>>,
+        table: SharedTable<C, Q, K, N, P>,
+        workers: Vec<Worker<C, Q, K, N>>,
         readers: Vec<Reader<N>>,
     ) -> Result<(), Fail> {
         let (mut workers, mut readers) = (workers, readers);

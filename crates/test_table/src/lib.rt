@@ -10,6 +10,8 @@ mod appending;
 #[cfg(test)]
 mod batches;
 #[cfg(test)]
+mod columns;
+#[cfg(test)]
 mod compacting;
 #[cfg(test)]
 mod joining;
@@ -23,3 +25,5 @@ mod reading;
 mod scenes;
 #[cfg(test)]
 mod showing;
+#[cfg(test)]
+mod widening;

@@ -4,12 +4,12 @@ ghost use Rattle.std.specs.Prelude.{◌≡◌};
 ghost use Rattle.table.specs.Stored.{stored_fields};
 
 use arrays::Schema;
-use shared::{Naming, OpenFault, Pair, open};
+use shared::{Blanks, Naming, OpenFault, Pair, open};
 use std::alloc::Global;
 use std::marker::Brand;
 use std::process::Abort;
 use std::sync::Wait;
-use std::sync::ledger::{Blank, Ledger};
+use std::sync::ledger::Ledger;
 use std::test::Fail;
 
 #[test]
@@ -33,27 +33,26 @@ fn opened<R: Wait + Abort>(
     readers: u32,
 ) -> Result<Option<OpenFault>, Fail> {
     let pair = Pair::new(alloc, schema)?;
-    let calls = Blank::new(u64::from(workers));
-    let rows = Blank::new(u64::from(workers));
-    opened_under::<Brand, Brand, Brand, R>(rt, alloc, schema, workers, readers, calls, rows, pair)
+    let blanks = Blanks::new(workers);
+    opened_under::<Brand, Brand, Brand, Brand, R>(rt, alloc, schema, workers, readers, blanks, pair)
 }
 
 /// The same, under the names of two ledgers and of a history.
-fn opened_under<C: Ledger, Q: Ledger, N: Naming, R: Wait + Abort>(
+fn opened_under<C: Ledger, Q: Ledger, K: Ledger, N: Naming, R: Wait + Abort>(
     rt: &R,
     alloc: Global,
     schema: &Schema,
     workers: u32,
     readers: u32,
-    calls: Blank,
-    rows: Blank,
+    blanks: Blanks,
     pair: Pair,
 ) -> Result<Option<OpenFault>, Fail>
-    requires calls { (calls.name ≡ C.name) × (calls.parts ≡ C.parts) × (calls.parts ≡ workers) }
-    requires rows { (rows.name ≡ Q.name) × (rows.parts ≡ Q.parts) × (rows.parts ≡ workers) }
+    requires calls { (blanks.calls.name ≡ C.name) × (blanks.calls.parts ≡ C.parts) × (blanks.calls.parts ≡ workers) }
+    requires rows { (blanks.rows.name ≡ Q.name) × (blanks.rows.parts ≡ Q.parts) × (blanks.rows.parts ≡ workers) }
+    requires columns { (blanks.columns.name ≡ K.name) × (blanks.columns.parts ≡ K.parts) × (blanks.columns.parts ≡ workers) }
     requires pair { (pair.book ≡ N.book) × (pair.fields ≡ N.fields) × (pair.fields ≡ stored_fields schema.now) }
 {
     let schema = schema.copy(alloc)?;
-    let opened = open::<C, Q, N, &R>(rt, alloc, schema, workers, readers, calls, rows, pair);
+    let opened = open::<C, Q, K, N, &R>(rt, alloc, schema, workers, readers, blanks, pair);
     Ok(opened.err())
 }

@@ -27,14 +27,15 @@ impl Scene for Learning {
     fn play<
         C: Ledger + Send + Sync,
         Q: Ledger + Send + Sync,
+        K: Ledger + Send + Sync,
         N: Naming + Send + Sync,
         P: Publish<Item = Shown<N>> + Send,
         R: Wait + Threads + Abort + Sync,
     >(
         rt: &R,
         alloc: Global,
-        table: SharedTable<C, Q, N, P>,
-        workers: Vec<Worker<C, Q, N>>,
+        table: SharedTable<C, Q, K, N, P>,
+        workers: Vec<Worker<C, Q, K, N>>,
         readers: Vec<Reader<N>>,
     ) -> Result<(), Fail> {
         let (mut workers, mut readers) = (workers, readers);
@@ -54,11 +55,18 @@ impl Scene for Learning {
 }
 
 /// Two workers append a batch each; the reader learns of the second, sees both, and no less once it learns of the first.
-fn learn_both<C: Ledger, Q: Ledger, N: Naming, P: Publish<Item = Shown<N>>, R: Wait + Abort>(
+fn learn_both<
+    C: Ledger,
+    Q: Ledger,
+    K: Ledger,
+    N: Naming,
+    P: Publish<Item = Shown<N>>,
+    R: Wait + Abort,
+>(
     rt: &R,
     alloc: Global,
-    table: &SharedTable<C, Q, N, P>,
-    workers: &mut [Worker<C, Q, N>],
+    table: &SharedTable<C, Q, K, N, P>,
+    workers: &mut [Worker<C, Q, K, N>],
     reader: &mut Reader<N>,
 ) -> Result<(), Fail> {
     assert!(rt; workers.len() == 2);
@@ -82,11 +90,18 @@ fn expect_both(rt: &impl Abort, version: &Version) {
 }
 
 /// A null is refused, and the reader sees what it saw.
-fn look_again<C: Ledger, Q: Ledger, N: Naming, P: Publish<Item = Shown<N>>, R: Wait + Abort>(
+fn look_again<
+    C: Ledger,
+    Q: Ledger,
+    K: Ledger,
+    N: Naming,
+    P: Publish<Item = Shown<N>>,
+    R: Wait + Abort,
+>(
     rt: &R,
     alloc: Global,
-    table: &SharedTable<C, Q, N, P>,
-    workers: &mut [Worker<C, Q, N>],
+    table: &SharedTable<C, Q, K, N, P>,
+    workers: &mut [Worker<C, Q, K, N>],
     reader: &mut Reader<N>,
 ) -> Result<(), Fail> {
     assert!(rt; workers.len() == 2);
@@ -98,11 +113,18 @@ fn look_again<C: Ledger, Q: Ledger, N: Naming, P: Publish<Item = Shown<N>>, R: W
 }
 
 /// A batch is appended, and the reader sees it at its next look.
-fn look_untold<C: Ledger, Q: Ledger, N: Naming, P: Publish<Item = Shown<N>>, R: Wait + Abort>(
+fn look_untold<
+    C: Ledger,
+    Q: Ledger,
+    K: Ledger,
+    N: Naming,
+    P: Publish<Item = Shown<N>>,
+    R: Wait + Abort,
+>(
     rt: &R,
     alloc: Global,
-    table: &SharedTable<C, Q, N, P>,
-    workers: &mut [Worker<C, Q, N>],
+    table: &SharedTable<C, Q, K, N, P>,
+    workers: &mut [Worker<C, Q, K, N>],
     reader: &mut Reader<N>,
 ) -> Result<(), Fail> {
     assert!(rt; workers.len() == 2);
@@ -125,14 +147,15 @@ impl Scene for Many {
     fn play<
         C: Ledger + Send + Sync,
         Q: Ledger + Send + Sync,
+        K: Ledger + Send + Sync,
         N: Naming + Send + Sync,
         P: Publish<Item = Shown<N>> + Send,
         R: Wait + Threads + Abort + Sync,
     >(
         rt: &R,
         alloc: Global,
-        table: SharedTable<C, Q, N, P>,
-        workers: Vec<Worker<C, Q, N>>,
+        table: SharedTable<C, Q, K, N, P>,
+        workers: Vec<Worker<C, Q, K, N>>,
         readers: Vec<Reader<N>>,
     ) -> Result<(), Fail> {
         let (mut workers, mut readers) = (workers, readers);

@@ -6,10 +6,10 @@ ghost use Rattle.loads.specs.Loaded.{fields_for};
 use answers::OpenGate;
 use arrays::File;
 use loads::load_all;
-use shared::{Naming, Pair, Publish, SharedTable, Shown, Version, Worker, open};
+use shared::{Blanks, Naming, Pair, Publish, SharedTable, Shown, Version, Worker, open};
 use std::alloc::Global;
 use std::marker::Brand;
-use std::sync::ledger::{Blank, Ledger};
+use std::sync::ledger::Ledger;
 use std::sync::{Arc, Wait};
 use std::thread::Threads;
 
@@ -25,17 +25,17 @@ pub(crate) fn load_with<W: Wait + Sync, T: Threads + Sync>(
         return None;
     }
     let pair = Pair::new(alloc, files[0].schema()).ok()?;
-    let (calls, rows) = (
-        Blank::new(u64::from(workers)),
-        Blank::new(u64::from(workers)),
-    );
-    load_under::<Brand, Brand, Brand, W, T>(wait, threads, alloc, workers, files, calls, rows, pair)
+    let blanks = Blanks::new(workers);
+    load_under::<Brand, Brand, Brand, Brand, W, T>(
+        wait, threads, alloc, workers, files, blanks, pair,
+    )
 }
 
 /// The same, under the names of two ledgers and of a history.
 fn load_under<
     C: Ledger + Send + Sync,
     Q: Ledger + Send + Sync,
+    K: Ledger + Send + Sync,
     N: Naming + Send + Sync,
     W: Wait + Sync,
     T: Threads + Sync,
@@ -45,17 +45,17 @@ fn load_under<
     alloc: Global,
     workers: u32,
     files: &[File],
-    calls: Blank,
-    rows: Blank,
+    blanks: Blanks,
     pair: Pair,
 ) -> Option<Arc<Version>>
     requires some { 0 < length files.now }
-    requires calls { (calls.name ≡ C.name) × (calls.parts ≡ C.parts) × (calls.parts ≡ workers) }
-    requires rows { (rows.name ≡ Q.name) × (rows.parts ≡ Q.parts) × (rows.parts ≡ workers) }
+    requires calls { (blanks.calls.name ≡ C.name) × (blanks.calls.parts ≡ C.parts) × (blanks.calls.parts ≡ workers) }
+    requires rows { (blanks.rows.name ≡ Q.name) × (blanks.rows.parts ≡ Q.parts) × (blanks.rows.parts ≡ workers) }
+    requires columns { (blanks.columns.name ≡ K.name) × (blanks.columns.parts ≡ K.parts) × (blanks.columns.parts ≡ workers) }
     requires pair { (pair.book ≡ N.book) × (pair.fields ≡ N.fields) × (pair.fields ≡ fields_for files.now) }
 {
     let schema = files[0].schema().copy(alloc).ok()?;
-    match open::<C, Q, N, &W>(wait, alloc, schema, workers, 0, calls, rows, pair) {
+    match open::<C, Q, K, N, &W>(wait, alloc, schema, workers, 0, blanks, pair) {
         Ok((table, hands, _readers)) => load_by(wait, threads, alloc, table, hands, files),
         Err(_) => None,
     }
@@ -65,6 +65,7 @@ fn load_under<
 fn load_by<
     C: Ledger + Send + Sync,
     Q: Ledger + Send + Sync,
+    K: Ledger + Send + Sync,
     N: Naming + Send + Sync,
     P: Publish<Item = Shown<N>> + Send,
     W: Wait + Sync,
@@ -73,8 +74,8 @@ fn load_by<
     wait: &W,
     threads: &T,
     alloc: Global,
-    table: SharedTable<C, Q, N, P>,
-    hands: Vec<Worker<C, Q, N>>,
+    table: SharedTable<C, Q, K, N, P>,
+    hands: Vec<Worker<C, Q, K, N>>,
     files: &[File],
 ) -> Option<Arc<Version>> {
     let mut hands = hands;

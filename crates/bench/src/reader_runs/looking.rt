@@ -15,12 +15,13 @@ pub(crate) struct Looking<
     'a,
     C: Ledger,
     Q: Ledger,
+    K: Ledger,
     N: Naming,
     P: Publish<Item = Shown<N>>,
     W: Wait + Clock,
 > {
     pub(crate) wait: &'a W,
-    pub(crate) table: &'a SharedTable<C, Q, N, P>,
+    pub(crate) table: &'a SharedTable<C, Q, K, N, P>,
     pub(crate) batch: &'a RecordBatch,
     pub(crate) count: usize,
     pub(crate) appends: u32,
@@ -28,14 +29,20 @@ pub(crate) struct Looking<
     pub(crate) pause: Duration,
 }
 
-impl<'a, C: Ledger, Q: Ledger, N: Naming, P: Publish<Item = Shown<N>>, W: Wait + Clock> Task<
-    Hand<C, Q, N>,
-> for Looking<'a, C, Q, N, P, W> {
+impl<
+    'a,
+    C: Ledger,
+    Q: Ledger,
+    K: Ledger,
+    N: Naming,
+    P: Publish<Item = Shown<N>>,
+    W: Wait + Clock,
+> Task<Hand<C, Q, K, N>> for Looking<'a, C, Q, K, N, P, W> {
     ghost count = { λ s. s.count };
 
     ghost does = { λ _ _ _ _. Unit };
 
-    fn work(&self, _place: usize, hand: &mut Hand<C, Q, N>) {
+    fn work(&self, _place: usize, hand: &mut Hand<C, Q, K, N>) {
         match hand {
             Hand::Appends(worker) => append(
                 self.wait,
@@ -54,12 +61,19 @@ impl<'a, C: Ledger, Q: Ledger, N: Naming, P: Publish<Item = Shown<N>>, W: Wait +
 }
 
 /// Appends a batch so often. Where one is refused, it stops.
-pub(crate) fn append<C: Ledger, Q: Ledger, N: Naming, P: Publish<Item = Shown<N>>, W: Wait>(
+pub(crate) fn append<
+    C: Ledger,
+    Q: Ledger,
+    K: Ledger,
+    N: Naming,
+    P: Publish<Item = Shown<N>>,
+    W: Wait,
+>(
     wait: &W,
-    table: &SharedTable<C, Q, N, P>,
+    table: &SharedTable<C, Q, K, N, P>,
     batch: &RecordBatch,
     times: u32,
-    worker: &mut Worker<C, Q, N>,
+    worker: &mut Worker<C, Q, K, N>,
 ) {
     for _ in 0..times {
         if table.append(wait, worker, batch).is_err() {

@@ -8,11 +8,11 @@ use super::looking::{Looking, append};
 use crate::making::{Nulls, field, long, long_column};
 use arrays::{RecordBatch, Schema};
 use crews::run_all;
-use shared::{Naming, Pair, Publish, Reader, SharedTable, Shown, Worker, open};
+use shared::{Blanks, Naming, Pair, Publish, Reader, SharedTable, Shown, Worker, open};
 use std::alloc::Global;
 use std::marker::Brand;
 use std::sync::Wait;
-use std::sync::ledger::{Blank, Ledger};
+use std::sync::ledger::Ledger;
 use std::thread::Threads;
 use std::time::{Clock, Duration};
 
@@ -39,9 +39,9 @@ pub(crate) fn measure<W: Wait + Clock + Sync, T: Threads + Sync>(
     let batch = batch(alloc)?;
     let schema = batch.schema().copy(alloc).ok()?;
     let pair = Pair::new(alloc, &schema).ok()?;
-    let (calls, rows) = (Blank::new(1), Blank::new(1));
-    measure_under::<Brand, Brand, Brand, W, T>(
-        rt, wait, threads, alloc, shape, &batch, schema, calls, rows, pair,
+    let blanks = Blanks::new(1);
+    measure_under::<Brand, Brand, Brand, Brand, W, T>(
+        rt, wait, threads, alloc, shape, &batch, schema, blanks, pair,
     )
 }
 
@@ -49,6 +49,7 @@ pub(crate) fn measure<W: Wait + Clock + Sync, T: Threads + Sync>(
 fn measure_under<
     C: Ledger + Send + Sync,
     Q: Ledger + Send + Sync,
+    K: Ledger + Send + Sync,
     N: Naming + Send + Sync,
     W: Wait + Clock + Sync,
     T: Threads + Sync,
@@ -60,15 +61,15 @@ fn measure_under<
     shape: Shape,
     batch: &RecordBatch,
     schema: Schema,
-    calls: Blank,
-    rows: Blank,
+    blanks: Blanks,
     pair: Pair,
 ) -> Option<()>
-    requires calls { (calls.name ≡ C.name) × (calls.parts ≡ C.parts) × (calls.parts ≡ 1) }
-    requires rows { (rows.name ≡ Q.name) × (rows.parts ≡ Q.parts) × (rows.parts ≡ 1) }
+    requires calls { (blanks.calls.name ≡ C.name) × (blanks.calls.parts ≡ C.parts) × (blanks.calls.parts ≡ 1) }
+    requires rows { (blanks.rows.name ≡ Q.name) × (blanks.rows.parts ≡ Q.parts) × (blanks.rows.parts ≡ 1) }
+    requires columns { (blanks.columns.name ≡ K.name) × (blanks.columns.parts ≡ K.parts) × (blanks.columns.parts ≡ 1) }
     requires pair { (pair.book ≡ N.book) × (pair.fields ≡ N.fields) × (pair.fields ≡ stored_fields schema) }
 {
-    match open::<C, Q, N, &W>(wait, alloc, schema, 1, shape.readers, calls, rows, pair) {
+    match open::<C, Q, K, N, &W>(wait, alloc, schema, 1, shape.readers, blanks, pair) {
         Ok((table, workers, readers)) => {
             work_on(
                 rt, wait, threads, alloc, shape, batch, &table, workers, readers,
@@ -82,6 +83,7 @@ fn measure_under<
 fn work_on<
     C: Ledger + Send + Sync,
     Q: Ledger + Send + Sync,
+    K: Ledger + Send + Sync,
     N: Naming + Send + Sync,
     P: Publish<Item = Shown<N>> + Send,
     W: Wait + Clock + Sync,
@@ -93,8 +95,8 @@ fn work_on<
     alloc: Global,
     shape: Shape,
     batch: &RecordBatch,
-    table: &SharedTable<C, Q, N, P>,
-    workers: Vec<Worker<C, Q, N>>,
+    table: &SharedTable<C, Q, K, N, P>,
+    workers: Vec<Worker<C, Q, K, N>>,
     readers: Vec<Reader<N>>,
 ) -> Option<()> {
     let mut hands = Vec::new(alloc);

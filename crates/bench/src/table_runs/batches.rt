@@ -14,10 +14,28 @@ use table::{TableState, Version};
 /// How many rows a batch has.
 const ROWS: u32 = 1000;
 
+/// A table of so many batches with so many columns more; none where memory ran out.
+pub(crate) fn widened(alloc: Global, batches: u32, fresh: u32, columns: u32) -> Option<Arc<Version>>
+    ensures { IfSome result (λ v. length (arc_value v).history ≡ batches) }
+{
+    let mut table = filled(alloc, batches, fresh)?;
+    for _column in 0..columns {
+        add_numbers(alloc, &mut table)?;
+    }
+    table.version().ok()
+}
+
+/// Adds a column of numbers, none where memory ran out.
+fn add_numbers(alloc: Global, table: &mut TableState) -> Option<()>
+    ensures { OnSome result (length table.new.history ≡ length table.old.history) }
+{
+    table.add_column(field(alloc, "c", long())?).ok()
+}
+
 /// A table of so many batches, each with so many new texts; none where memory ran out. Where no text is new it is one
 /// batch that is admitted again and again, so that making it takes no time.
-pub(crate) fn filled(alloc: Global, batches: u32, fresh: u32) -> Option<Arc<Version>>
-    ensures { IfSome result (λ v. length (arc_value v).history ≡ batches) }
+fn filled(alloc: Global, batches: u32, fresh: u32) -> Option<TableState>
+    ensures { IfSome result (λ t. length t.history ≡ batches) }
 {
     let mut table = TableState::new(alloc, schema(alloc)?).ok()?;
     let again = batch(alloc, 0, 0)?;
@@ -28,7 +46,7 @@ pub(crate) fn filled(alloc: Global, batches: u32, fresh: u32) -> Option<Arc<Vers
             add(&mut table, &batch(alloc, place, fresh)?)?;
         }
     }
-    table.version().ok()
+    Some(table)
 }
 
 /// Admits a batch, none where it was refused.

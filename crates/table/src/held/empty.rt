@@ -3,12 +3,14 @@
 ghost use Rattle.std.specs.Prelude.{◌≡◌, [], IfOk, map, option_map};
 ghost use Rattle.std.specs.Arc.{arc_value};
 ghost use Rattle.arrays.specs.Kind as kind;
+ghost use Rattle.arrays.specs.Kind.{kind_of};
 ghost use Rattle.arrays.specs.Shape.{fields_of};
 ghost use Rattle.arrays.specs.Shown.{shown};
 ghost use Rattle.table.specs.Held.{IsHeld, show};
 ghost use Rattle.table.specs.Lawful.{dictionaries_of};
 ghost use Rattle.compaction.specs.Statistics.{AreStatsOf};
 ghost use Rattle.table.specs.Stored.{stored_fields};
+ghost use Rattle.table.specs.Widening.{no_texts};
 
 use super::Held;
 use crate::stored::stored_schema;
@@ -57,12 +59,19 @@ fn no_entries(alloc: Global, fields: &[Field]) -> Result<Vec<Option<Arc<Words>>>
 {
     let mut dictionaries = Vec::with_capacity(alloc, fields.len())?;
     for field in fields {
-        dictionaries.push(match field.ty {
-            DataType::Dict => Some(no_words(alloc)?),
-            _ => None,
-        })?;
+        dictionaries.push(no_entry(alloc, &field.ty)?)?;
     }
     Ok(dictionaries)
+}
+
+/// A dictionary without texts for a stored column of texts, and none for another.
+pub(crate) fn no_entry(alloc: Global, ty: &DataType) -> Result<Option<Arc<Words>>, NoMemory>
+    ensures { IfOk result (λ o. option_map arc_value o ≡ no_texts (kind_of ty.now)) }
+{
+    match ty {
+        DataType::Dict => Ok(Some(no_words(alloc)?)),
+        _ => Ok(None),
+    }
 }
 
 /// A dictionary without texts.

@@ -1,9 +1,10 @@
-use Rattle.std.proofs.Common.{◌≡◌, ◌∙◌, ◌++◌, ◌%◌, List, ap, drop, get_or, length, subst, sym, take}
+use Rattle.std.proofs.Common.{◌≡◌, ◌∙◌, ◌+◌, ◌++◌, ◌%◌, List, ap, drop, get_or, length, subst, sym, take}
 use Rattle.std.specs.Arc.{arc_value}
 use Rattle.shared.specs.Balance.{IsOfWorkers}
-use Rattle.shared.specs.Hand.{AreNew, Hand, IsWhole}
-use Rattle.std.specs.Prelude.{All}
-use Rattle.arrowtab.proofs.TogetherLemmas.{loaded_there, ok_holds, stopped_all, stopped_there, written_back}
+use Rattle.shared.specs.Hand.{AreNew, Hand, IsWhole, columns_of_hand}
+use Rattle.shared.specs.Known.{known_of}
+use Rattle.std.specs.Prelude.{All, sum_by}
+use Rattle.arrowtab.proofs.TogetherLemmas.{loaded_there, ok_holds, stopped_all, stopped_stay, stopped_there, written_back}
 use Rattle.arrowtab.proofs.together.load_by.Goals as goal
 
 pub returns-in-Ok-clause-ok : goal.returns-in-Ok-clause-ok
@@ -15,8 +16,8 @@ returns-in-Ok-clause-ok g c =
     let size : length old ≡ c.args.workers = ap (λ (hands : List Hand). length hands) same ∙ c.requires.count in
     let kept : length new ≡ length items = c.in-Ok.ensures.loaded.kept ∙ ap (λ (hands : List Hand). length hands) same in
     ok_holds c.args.workers c.args.table c.args.files.now g.N.Naming-1.fields old new (take c.args.hands.len (new ++ drop (length new) items)) c.gather_all.result arc_value c.requires.worker c.requires.table
-    size c.requires.fields (subst (AreNew 0) (sym same) c.requires.new) c.in-Ok.ensures.loaded (written_back c.args.hands.len items new c.args.hands.ok.0 kept)
-    c.gather_all.ensures.whole c.gather_all.ensures.known c.gather_all.ensures.legal c.gather_all.ensures.fields
+    size c.requires.fields (subst (AreNew g.N.Naming-1.fields 0) (sym same) c.requires.new) c.in-Ok.ensures.loaded (written_back c.args.hands.len items new c.args.hands.ok.0 kept)
+    c.gather_all.ensures.whole c.gather_all.ensures.known c.gather_all.ensures.legal c.gather_all.ensures.opened c.gather_all.ensures.columns
 
 pub returns-in-Ok-gather_all-clause-err : goal.returns-in-Ok-gather_all-clause-err
 returns-in-Ok-gather_all-clause-err g c =
@@ -29,14 +30,18 @@ returns-in-Ok-gather_all-clause-err g c =
     let is : take c.args.hands.len (new ++ drop (length new) items) ≡ new = written_back c.args.hands.len items new len (c.load_all.auto.workers ∙ ap (λ (hands : List Hand). length hands) same) in
     let own = c.index.result.now in
     let count : c.len.result ≡ length old = c.len.ensures ∙ len ∙ sym (ap (λ (hands : List Hand). length hands) same) in
-    let h = (arc_value c.in-Ok-gather_all.field-0).history in
-    stopped_all c.args.workers c.args.files.now g.N.Naming-1.fields old new h c.in-Err-Refused.file c.in-Err-Refused.batch g.C.Ledger.parts c.in-Err-Refused.refusal own c.requires.worker
-    size c.requires.fields (subst (AreNew 0) (sym same) c.requires.new)
+    let v = arc_value c.in-Ok-gather_all.field-0 in
+    let first = g.N.Naming-1.fields in
+    let stay = stopped_stay c.args.files.now first old new v c.in-Err-Refused.file c.in-Err-Refused.batch c.in-Err-Refused.refusal (subst (AreNew first 0) (sym same) c.requires.new)
+    (rw c.in-Err-Refused.field-0-is at c.in-Err-Refused.ensures.err) c.in-Ok-gather_all.ensures.opened
+    (subst (λ (hands : List Hand). length v.fields ≡ length first + sum_by columns_of_hand hands) is c.in-Ok-gather_all.ensures.columns) in
+    stopped_all c.args.workers c.args.files.now g.N.Naming-1.fields old new v c.in-Err-Refused.file c.in-Err-Refused.batch g.C.Ledger.parts c.in-Err-Refused.refusal own c.requires.worker
+    size c.requires.fields stay (subst (AreNew g.N.Naming-1.fields 0) (sym same) c.requires.new)
     (rw c.in-Err-Refused.field-0-is at c.in-Err-Refused.ensures.err)
     (c.index.ensures ∙ ap (λ (hands : List Hand). get_or hands (c.in-Err-Refused.file % c.len.result) own) is ∙ ap (λ n. get_or new (c.in-Err-Refused.file % n) own) count)
     c.tell.ensures.part c.tell.ensures.legal
-    (subst (λ (hands : List Hand). All (IsWhole h) hands) is c.in-Ok-gather_all.ensures.whole)
-    (subst (λ n. IsOfWorkers n h) c.requires.table c.in-Ok-gather_all.ensures.known)
+    (subst (λ (hands : List Hand). All (IsWhole (known_of v)) hands) is c.in-Ok-gather_all.ensures.whole)
+    (subst (λ n. IsOfWorkers n v.history) c.requires.table c.in-Ok-gather_all.ensures.known)
 
 pub gather_all-requires : goal.gather_all-requires
 gather_all-requires g c =
@@ -47,7 +52,7 @@ gather_all-requires g c =
     let is : take c.args.hands.len (new ++ drop (length new) items) ≡ new =
     written_back c.args.hands.len items new c.args.hands.ok.0 (c.load_all.auto.workers ∙ ap (λ (hands : List Hand). length hands) same) in
     loaded_there c.args.workers c.args.table c.args.files.now g.N.Naming-1.fields old new (take c.args.hands.len (new ++ drop (length new) items)) c.requires.table
-    (ap (λ (hands : List Hand). length hands) same ∙ c.requires.count) (subst (AreNew 0) (sym same) c.requires.new) c.in-Ok.ensures.loaded is
+    (ap (λ (hands : List Hand). length hands) same ∙ c.requires.count) (subst (AreNew g.N.Naming-1.fields 0) (sym same) c.requires.new) c.in-Ok.ensures.loaded is
 
 pub gather_all-requires-in-Err-Refused : goal.gather_all-requires-in-Err-Refused
 gather_all-requires-in-Err-Refused g c =
@@ -58,4 +63,4 @@ gather_all-requires-in-Err-Refused g c =
     let is : take c.args.hands.len (new ++ drop (length new) items) ≡ new =
     written_back c.args.hands.len items new c.args.hands.ok.0 (c.load_all.auto.workers ∙ ap (λ (hands : List Hand). length hands) same) in
     stopped_there c.args.workers c.args.table c.args.files.now g.N.Naming-1.fields old new (take c.args.hands.len (new ++ drop (length new) items)) c.in-Err-Refused.file c.in-Err-Refused.batch c.in-Err-Refused.refusal
-    c.requires.table (ap (λ (hands : List Hand). length hands) same ∙ c.requires.count) (subst (AreNew 0) (sym same) c.requires.new) (rw c.in-Err-Refused.field-0-is at c.in-Err-Refused.ensures.err) is
+    c.requires.table (ap (λ (hands : List Hand). length hands) same ∙ c.requires.count) (subst (AreNew g.N.Naming-1.fields 0) (sym same) c.requires.new) (rw c.in-Err-Refused.field-0-is at c.in-Err-Refused.ensures.err) is

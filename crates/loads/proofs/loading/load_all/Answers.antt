@@ -1,6 +1,6 @@
 use mir.Syntax.{erased}
 use Rattle.std.proofs.Common.{◌∙◌, ◌++◌, List, ap, inl, sym}
-use Rattle.table.specs.History.{History}
+use Rattle.shared.specs.Known.{Known}
 use Rattle.loads.specs.Loaded.{batches_of}
 use Rattle.loads.specs.Told.{last_receipts}
 use Rattle.loads.proofs.RunLemmas.{all_loaded, all_newest, are_told}
@@ -10,16 +10,16 @@ use Rattle.loads.proofs.loading.load_all.Goals as goal
 
 pub append_files-requires-sync-A : goal.append_files-requires-sync-A
 append_files-requires-sync-A g c κs within =
-    let P = P-row g.row.C g.row.Q g.row.N g.row.P g.row.W g.row.T g.row.G in
+    let P = P-row g.row.C g.row.Q g.row.K g.row.N g.row.P g.row.W g.row.T g.row.G in
     record {
-      shared = (gated-sync g.row.C g.row.Q g.row.N P g.C.Ledger g.Q.Ledger g.N.Naming-1 g.N.Naming-2 g.P.Publish c.type_bounds.send-P
+      shared = (gated-sync g.row.C g.row.Q g.row.K g.row.N P g.C.Ledger g.Q.Ledger g.K.Ledger g.N.Naming-1 g.N.Naming-2 g.P.Publish c.type_bounds.send-P
           (record { mir = erased; lft = _ }) g.row.W g.row.G (record { shared = c.type_bounds.sync-W.shared }) (record { shared = c.type_bounds.sync-G.shared })).shared;
     }
 
 pub returns-in-Some-clause-err : goal.returns-in-Some-clause-err
 returns-in-Some-clause-err g c =
     let shown = c.deref.result.now in
-    let told = are_told g.N.Naming-1.fields (batches_of c.args.files.now) c.args.workers.now c.append_files.new.workers c.take_outcomes.new.workers c.in_ok-outcomes.outcomes.items
+    let told = are_told (batches_of c.args.files.now) c.args.workers.now c.append_files.new.workers c.take_outcomes.new.workers c.in_ok-outcomes.outcomes.items
     c.take_outcomes.new.outcomes.items shown c.append_files.auto.workers c.in_ok-outcomes.ensures.items c.take_outcomes.ensures.outcomes c.deref.ensures.value c.append_files.ensures
     c.take_outcomes.ensures.taken in
     inl (shown, told, c.in-Some.ensures)
@@ -27,27 +27,27 @@ returns-in-Some-clause-err g c =
 pub returns-clause-loaded : goal.returns-clause-loaded
 returns-clause-loaded g c =
     let shown = c.deref.result.now in
-    let told = are_told g.N.Naming-1.fields (batches_of c.args.files.now) c.args.workers.now c.append_files.new.workers c.take_outcomes.new.workers c.in_ok-outcomes.outcomes.items
+    let told = are_told (batches_of c.args.files.now) c.args.workers.now c.append_files.new.workers c.take_outcomes.new.workers c.in_ok-outcomes.outcomes.items
     c.take_outcomes.new.outcomes.items shown c.append_files.auto.workers c.in_ok-outcomes.ensures.items c.take_outcomes.ensures.outcomes c.deref.ensures.value c.append_files.ensures
     c.take_outcomes.ensures.taken in
-    all_loaded g.N.Naming-1.fields (batches_of c.args.files.now) c.args.workers.now c.take_outcomes.new.workers shown told c.in_default.ensures
+    all_loaded (batches_of c.args.files.now) c.args.workers.now c.take_outcomes.new.workers shown told c.in_default.ensures
 
 pub returns-clause-receipts : goal.returns-clause-receipts
 returns-clause-receipts g c =
     let shown = c.deref-2.result.now in
-    let told = are_told g.N.Naming-1.fields (batches_of c.args.files.now) c.args.workers.now c.append_files.new.workers c.take_outcomes.new.workers c.in_ok-outcomes.outcomes.items
+    let told = are_told (batches_of c.args.files.now) c.args.workers.now c.append_files.new.workers c.take_outcomes.new.workers c.in_ok-outcomes.outcomes.items
     c.take_outcomes.new.outcomes.items shown c.append_files.auto.workers c.in_ok-outcomes.ensures.items c.take_outcomes.ensures.outcomes c.deref-2.ensures.value c.append_files.ensures
     c.take_outcomes.ensures.taken in
-    (shown, told, c.push_receipts.ensures ∙ ap (λ (xs : List History). xs ++ last_receipts shown) c.in_ok-receipts.ensures.items)
+    (shown, told, c.push_receipts.ensures ∙ ap (λ (xs : List Known). xs ++ last_receipts shown) c.in_ok-receipts.ensures.items)
 
 pub returns-clause-newest : goal.returns-clause-newest
 returns-clause-newest g c =
     let shown = c.deref.result.now in
     let again = c.deref-2.result.now in
-    let told = are_told g.N.Naming-1.fields (batches_of c.args.files.now) c.args.workers.now c.append_files.new.workers c.take_outcomes.new.workers c.in_ok-outcomes.outcomes.items
+    let told = are_told (batches_of c.args.files.now) c.args.workers.now c.append_files.new.workers c.take_outcomes.new.workers c.in_ok-outcomes.outcomes.items
     c.take_outcomes.new.outcomes.items shown c.append_files.auto.workers c.in_ok-outcomes.ensures.items c.take_outcomes.ensures.outcomes c.deref.ensures.value c.append_files.ensures
     c.take_outcomes.ensures.taken in
     c.push_receipts.ensures
-    ∙ ap (λ (xs : List History). xs ++ last_receipts again) c.in_ok-receipts.ensures.items
+    ∙ ap (λ (xs : List Known). xs ++ last_receipts again) c.in_ok-receipts.ensures.items
     ∙ ap last_receipts (c.deref-2.ensures.value ∙ sym c.deref.ensures.value)
-    ∙ all_newest g.N.Naming-1.fields (batches_of c.args.files.now) c.args.workers.now c.take_outcomes.new.workers shown told c.in_default.ensures
+    ∙ all_newest (batches_of c.args.files.now) c.args.workers.now c.take_outcomes.new.workers shown told c.in_default.ensures

@@ -1,7 +1,7 @@
 use Rattle.std.proofs.Common.{◌∙◌, ◌++◌, ◌∷◌, [], Some, ap, arith, sym, vec_capacity, vec_len}
 use Rattle.std.specs.Prelude.{option_map}
 use Rattle.shared.specs.Left.{Left}
-use Rattle.table.specs.History.{History}
+use Rattle.shared.specs.Known.{Known}
 use Rattle.loads.proofs.ToldLemmas.{pushed_items, receipt_more, receipts_same}
 use Rattle.loads.proofs.outcomes.push_receipts.Goals as goal
 use Rattle.loads.proofs.outcomes.push_receipts.Goals.{in-Some, in_default}
@@ -19,7 +19,7 @@ loop-outcome-preserved g c =
         items = ap (λ v. v.items) w.receipts-is
             ∙ pushed_items w.push.result w.unwrap.result c.loop-outcome.receipts.items w.push.new.self.items w.again.result w.unwrap.ensures w.push.ensures.items
             ∙ ap (λ xs. xs ++ w.again.result ∷ []) c.loop-outcome.invariant.items
-            ∙ receipt_more all i item before w.again.result below (last ∙ ap (option_map (λ r. r.now)) w.in-Some.is ∙ ap (λ (h : History). Some h) (sym w.again.ensures));
+            ∙ receipt_more all i item before w.again.result below (last ∙ ap (option_map (λ r. r.now)) w.in-Some.is ∙ ap (λ (k : Known). Some k) (sym w.again.ensures));
         room = omega (arith, c.loop-outcome.invariant.room, w.push.ensures.upper_bound, w.push.ensures.capacity, ap vec_len w.receipts-is, ap vec_capacity w.receipts-is);
       }
       | in_default w ↦ record {

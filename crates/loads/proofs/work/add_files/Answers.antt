@@ -11,7 +11,6 @@ use Rattle.loads.proofs.work.add_files.Goals.{then-number-count+in_default, else
 
 pub loop-number-preserved : goal.loop-number-preserved
 loop-number-preserved g c =
-    let fields = g.N.Naming-1.fields in
     let files = batches_of c.args.files.now in
     let n = c.loop-number.number in
     let old = c.args.worker.now in
@@ -19,20 +18,20 @@ loop-number-preserved g c =
     let count = c.args.count in
     let place = c.args.place in
     let below : n < length files = omega (arith, c.loop-number-test.true, length-map c.args.files.now (λ (f : File). f.batches)) in
-    let is_new : Hand → Type 0 = λ h. Loaded fields (planned (take (n + 1) files) count place) old h in
+    let is_new : Hand → Type 0 = λ h. Loaded (planned (take (n + 1) files) count place) old h in
     elim c.if-number-count.branch [
       | then-number-count+in_default w ↦
           let bs = map arc_value w.batches.result.now in
           let new = w.add_batches-added.new.worker in record {
             loaded = subst is_new (sym w.worker-is)
-                (loaded_file fields files count place n bs old mid new below w.if-number-count.true
+                (loaded_file files count place n bs old mid new below w.if-number-count.true
                 (batches_at c.args.files.now n c.index-files-number.result bs c.loop-number-test.true c.index-files-number.is w.batches.ensures.value)
                 c.loop-number.invariant.loaded w.in_default.ensures.loaded);
             last = last_moved c.args.first new c.if-number-count.worker w.add_batches-added.new.last c.if-number-count.last w.worker-is w.last-is w.add_batches-added.ensures.last;
             newest = newest_moved new c.if-number-count.worker w.add_batches-added.new.last c.if-number-count.last w.worker-is w.last-is w.in_default.ensures.newest;
           }
       | else-number-count w ↦ record {
-        loaded = subst is_new (sym w.worker-is) (loaded_other fields files count place n old mid below w.if-number-count.false c.loop-number.invariant.loaded);
+        loaded = subst is_new (sym w.worker-is) (loaded_other files count place n old mid below w.if-number-count.false c.loop-number.invariant.loaded);
         last = last_moved c.args.first mid c.if-number-count.worker c.loop-number.last c.if-number-count.last w.worker-is w.last-is c.loop-number.invariant.last;
         newest = newest_moved mid c.if-number-count.worker c.loop-number.last c.if-number-count.last w.worker-is w.last-is c.loop-number.invariant.newest;
       }
@@ -46,7 +45,7 @@ returns-in-Err-clause-stopped g c =
     let below : n < length files = omega (arith, c.loop-number-test.true, length-map c.args.files.now (λ (f : File). f.batches)) in
     let at = batches_at c.args.files.now n c.index-files-number.result bs c.loop-number-test.true c.index-files-number.is c.batches.ensures.value in
     let inside : c.in-Err.batch < length bs = omega (arith, c.in-Err.ensures.there, mapped_length arc_value c.batches.result.now) in
-    is_stopped g.N.Naming-1.fields files c.args.count c.args.place n c.in-Err.batch bs c.add_batches-added.new.worker.seen c.in-Err.refusal below c.if-number-count.true at inside c.in-Err.ensures.stands
+    is_stopped files c.args.count c.args.place n c.in-Err.batch bs c.add_batches-added.new.worker.seen c.in-Err.refusal below c.if-number-count.true at inside c.in-Err.ensures.stands
 
 pub returns-in-Err-clause-loaded : goal.returns-in-Err-clause-loaded
 returns-in-Err-clause-loaded g c =
@@ -54,4 +53,4 @@ returns-in-Err-clause-loaded g c =
     let n = c.loop-number.number in
     let bs = map arc_value c.batches.result.now in
     let at = batches_at c.args.files.now n c.index-files-number.result bs c.loop-number-test.true c.index-files-number.is c.batches.ensures.value in
-    loaded_stopped g.N.Naming-1.fields files c.args.count c.args.place n c.in-Err.batch bs c.args.worker.now c.loop-number.worker c.add_batches-added.new.worker at c.loop-number.invariant.loaded c.in-Err.ensures.stopped
+    loaded_stopped files c.args.count c.args.place n c.in-Err.batch bs c.args.worker.now c.loop-number.worker c.add_batches-added.new.worker at c.loop-number.invariant.loaded c.in-Err.ensures.stopped

@@ -5,7 +5,7 @@ use Rattle.loads.proofs.work.add_files.Given as goal
 
 abbrev pub invariant-loop-number : goal.invariant-loop-number
 invariant-loop-number g l = record {
-  loaded : Loaded g.N.Naming-1.fields (planned (take l.number (batches_of l.files)) l.count l.place) l.fn.worker l.worker;
+  loaded : Loaded (planned (take l.number (batches_of l.files)) l.count l.place) l.fn.worker l.worker;
   last : HasLast l.first l.worker l.last;
   newest : IsNewest l.worker l.last;
 }

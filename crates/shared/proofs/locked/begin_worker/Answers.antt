@@ -1,11 +1,15 @@
-use Rattle.std.proofs.Common.{ap, subst}
-use mathlib.Core.List.{IsPrefix}
+use Rattle.std.proofs.Common.{subst}
+use Rattle.shared.specs.Changes.{known_after}
 use Rattle.shared.specs.Hand.{Hand}
+use Rattle.shared.specs.Known.{Begins}
+use Rattle.shared.proofs.KnownLemmas.{known_begins}
 use Rattle.shared.proofs.PartLemmas.{part_more}
-use Rattle.table.specs.History.{History}
 use Rattle.shared.proofs.locked.begin_worker.Goals as goal
 
 pub returns : goal.returns
 returns g c =
-    let begun : IsPrefix c.args.worker.now.seen c.args.front.now = subst (λ (h : History). IsPrefix h c.args.front.now) (ap (λ (h : Hand). h.seen) c.worker.view_is) c.begin.ensures in
-    part_more g.C.Ledger.parts c.args.worker.now.seen c.args.front.now c.args.worker.now c.tell.ensures.part begun
+    let first = g.N.Naming-1.fields in
+    let known = known_after first c.args.front.now in
+    let begun : Begins c.args.worker.now.seen known =
+    subst (λ (h : Hand). Begins h.seen known) c.worker.view_is (known_begins first c.worker.inside.seen c.args.front.now c.begin.ensures) in
+    part_more g.C.Ledger.parts c.args.worker.now.seen known c.args.worker.now c.tell.ensures.part begun

@@ -27,28 +27,18 @@ use mir.Syntax.{erased}
 use Rattle.test_loads.specs.contracts.looking_on.work_together.{P-row}
 use Rattle.test_loads.proofs.looking_on.work_together.Goals as goal
 
-module _ (C Q N : RattleType) (c : ledger.Ghosts C.Denot) (q : ledger.Ghosts Q.Denot) (n : naming.Ghosts N.Denot) (m : names.Ghosts N.Denot) where
-  hand-send : IsSend (hand.the_row C Q N c q n m)
-  hand-send =
-      let T = hand.the_type C Q N c q n m in
-      recorded_send (Enum (variants T)) T.D T.to T.to_one
-      (enum_send (variants T) (
-        (search (worker.the_send, crosses, sendable) depth 20, tt),
-        ((search (worker.the_send, crosses, sendable) depth 20, tt), ((search (reader-send N n m, crosses, sendable) depth 20, tt), tt)),
-      ))
-
-module _ (C Q N P : RattleType) (c : ledger.Ghosts C.Denot) (q : ledger.Ghosts Q.Denot) (n : naming.Ghosts N.Denot) (m : names.Ghosts N.Denot) (p : publish.Ghosts P.Denot Contents) (send-P : IsSend P) where
+module _ (C Q K N P : RattleType) (c : ledger.Ghosts C.Denot) (q : ledger.Ghosts Q.Denot) (k : ledger.Ghosts K.Denot) (n : naming.Ghosts N.Denot) (m : names.Ghosts N.Denot) (p : publish.Ghosts P.Denot Contents) (send-P : IsSend P) where
   receipt-send : IsSend (receipt.the_row N n m)
   receipt-send = search (front.the_send, crosses, sendable) depth 20
 
-  soaking-sync : (ℓ : NamedLft) (W : RattleType) → IsSync W → IsSync (soaking.the_row ℓ C Q N P W c q n m p)
+  soaking-sync : (ℓ : NamedLft) (W : RattleType) → IsSync W → IsSync (soaking.the_row ℓ C Q K N P W c q k n m p)
   soaking-sync ℓ W w =
-      let T = soaking.the_type ℓ C Q N P W c q n m p in
+      let T = soaking.the_type ℓ C Q K N P W c q k n m p in
       recorded_sync (Struct (shape T)) T.D T.to T.to_one
       (struct_sync (shape T) (
         search (w, sendable) depth 20,
         (
-          shr_sync ℓ.mir ℓ.lft (table.the_row C Q N P c q n m p) (table-sync C Q N P c q n m p send-P),
+          shr_sync ℓ.mir ℓ.lft (table.the_row C Q K N P c q k n m p) (table-sync C Q K N P c q k n m p send-P),
           (
             search (batch-sync, crosses, sendable) depth 20,
             (search sendable depth 20, (search sendable depth 20, (search (receipt-send, mutex.the_sync, crosses, sendable) depth 20, (search (word.the_sync, crosses, sendable) depth 20, tt)))),
@@ -56,15 +46,10 @@ module _ (C Q N P : RattleType) (c : ledger.Ghosts C.Denot) (q : ledger.Ghosts Q
         ),
       ))
 
-pub run_all-requires-sync-J : goal.run_all-requires-sync-J
-run_all-requires-sync-J g c κs within =
-    let P = P-row g.row.C g.row.Q g.row.N g.row.P g.row.W g.row.T in
+pub work_at_once-requires-sync-J : goal.work_at_once-requires-sync-J
+work_at_once-requires-sync-J g c κs within =
+    let P = P-row g.row.C g.row.Q g.row.K g.row.N g.row.P g.row.W g.row.T in
     record {
-      shared = (soaking-sync g.row.C g.row.Q g.row.N P g.C.Ledger g.Q.Ledger g.N.Naming-1 g.N.Naming-2 g.P.Publish c.type_bounds.send-P
+      shared = (soaking-sync g.row.C g.row.Q g.row.K g.row.N P g.C.Ledger g.Q.Ledger g.K.Ledger g.N.Naming-1 g.N.Naming-2 g.P.Publish c.type_bounds.send-P
           (record { mir = erased; lft = _ }) g.row.W (record { shared = c.type_bounds.sync-W.shared })).shared;
     }
-
-pub run_all-requires-send-H : goal.run_all-requires-send-H
-run_all-requires-send-H g c κs within =
-    let all = hand-send g.row.C g.row.Q g.row.N g.C.Ledger g.Q.Ledger g.N.Naming-1 g.N.Naming-2 in
-    record { owned = all.owned; leaving = (param_send 0 _ all).leaving }

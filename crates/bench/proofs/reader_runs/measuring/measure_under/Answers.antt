@@ -9,7 +9,7 @@ use Rattle.bench.proofs.reader_runs.measuring.measure_under.Goals as goal
 pub work_on-requires-send-P : goal.work_on-requires-send-P
 work_on-requires-send-P g c κs within =
     let wait : IsSync g.row.W = record { shared = c.type_bounds.sync-W.shared } in
-    let reference = shr_send (named 11) κs.1.1.1.1.1.1.1.1.1.1.1.0 g.row.W wait in
+    let reference = shr_send (named 12) κs.1.1.1.1.1.1.1.1.1.1.1.1.0 g.row.W wait in
     let all =
-    publisher-send g.row.N g.N.Naming-1 g.N.Naming-2 (ShrRef (named 11) κs.1.1.1.1.1.1.1.1.1.1.1.0 g.row.W) version.the_row (absorbs.ghosts g.row.N g.N.Naming-1 g.N.Naming-1-dict g.N.Naming-2 g.N.Naming-2-dict) reference in
-    record { owned = all.owned; leaving = (param_send 3 _ all).leaving }
+    publisher-send g.row.N g.N.Naming-1 g.N.Naming-2 (ShrRef (named 12) κs.1.1.1.1.1.1.1.1.1.1.1.1.0 g.row.W) version.the_row (absorbs.ghosts g.row.N g.N.Naming-1 g.N.Naming-1-dict g.N.Naming-2 g.N.Naming-2-dict) reference in
+    record { owned = all.owned; leaving = (param_send 4 _ all).leaving }

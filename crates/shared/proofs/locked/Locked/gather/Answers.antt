@@ -1,6 +1,9 @@
 use Rattle.std.proofs.Common.{arith, subst}
+use mathlib.Core.List.{IsPrefix}
 use Rattle.std.specs.Prelude.{All}
 use Rattle.shared.specs.Hand.{IsPartOf, IsWhole}
+use Rattle.shared.specs.Known.{Known, known_of}
+use Rattle.shared.proofs.KnownLemmas.{opened_first}
 use Rattle.shared.proofs.PartLemmas.{all_whole}
 use Rattle.table.specs.Contents.{Contents}
 use Rattle.shared.proofs.locked.Locked.gather.Goals as goal
@@ -8,11 +11,16 @@ use Rattle.shared.proofs.locked.Locked.gather.Goals as goal
 pub returns-clause-whole : goal.returns-clause-whole
 returns-clause-whole g c =
     let is = c.self.invariant in
-    let h = c.self.inside.state.history in
+    let known : Known = known_of c.self.inside.state in
     let count = g.C.Ledger.parts in
     let totals = c.tell_totals.ensures in
     let workers = c.args.workers.now in
-    let parts : All (IsPartOf count h) workers =
-    subst (λ ws. All (IsPartOf count h) ws) totals.workers (subst (λ k. All (IsPartOf count k) c.tell_totals.new.workers) is.8 c.begin_all.ensures) in
-    let whole = all_whole count h workers is.1 c.requires.all (omega (arith, totals.few, is.3)) parts (omega (arith, totals.call_total, is.4, is.0.pairs)) in
-    subst (λ (s : Contents). All (IsWhole s.history) workers) c.self.view_is whole
+    let parts : All (IsPartOf count known) workers =
+    subst (λ ws. All (IsPartOf count known) ws) totals.workers (subst (λ (k : Known). All (IsPartOf count k) c.tell_totals.new.workers) is.8 c.begin_all.ensures) in
+    let whole = all_whole count known workers is.1 c.requires.all (omega (arith, totals.few, is.3)) parts (omega (arith, totals.call_total, is.4, is.0.pairs)) in
+    subst (λ (s : Contents). All (IsWhole (known_of s)) workers) c.self.view_is whole
+
+pub returns-clause-opened : goal.returns-clause-opened
+returns-clause-opened g c =
+    let first = g.N.Naming-1.fields in
+    subst (λ (s : Contents). IsPrefix first s.fields) c.self.view_is (subst (λ (k : Known). IsPrefix first k.fields) c.self.invariant.8 (opened_first first c.self.inside.front))

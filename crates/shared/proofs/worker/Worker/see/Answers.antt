@@ -1,17 +1,22 @@
-use Rattle.std.proofs.Common.{ap, subst, sym}
-use mathlib.Core.List.{IsPrefix}
-use Rattle.shared.specs.Hand.{Hand}
+use Rattle.std.proofs.Common.{List, ap, length, subst, sym, ◌∙◌}
+use Rattle.shared.specs.Changes.{Change, fields_after, known_after, pairs_in}
+use Rattle.shared.specs.Hand.{Hand, having_seen}
+use Rattle.shared.specs.Known.{Begins, IsLegalKnown}
 use Rattle.shared.specs.Parts.{InOrder}
-use Rattle.shared.proofs.PartLemmas.{part_begun}
-use Rattle.table.specs.Cause.{IsLegal}
-use Rattle.table.specs.History.{History, of}
+use Rattle.shared.proofs.KnownLemmas.{known_begins}
+use Rattle.shared.proofs.PartLemmas.{part_wider}
+use Rattle.shared.proofs.ViewLemmas.{hand_after, seen_after}
+use Rattle.table.specs.History.{of}
+use Rattle.table.specs.Widened.{widened}
 use Rattle.shared.proofs.worker.Worker.see.Goals as goal
 
 pub invariant_of-self : goal.invariant_of-self
 invariant_of-self g c =
     let is = c.self.invariant in
     let w = c.self.inside in
-    let begun : IsPrefix w.seen c.args.front.now = subst (λ (h : History). IsPrefix h c.args.front.now) (sym (ap (λ (h : Hand). h.seen) c.self.view_is)) c.requires.begun in (
+    let first = g.N.Naming-1.fields in
+    let front = c.args.front.now in
+    let begun : Begins (known_after first w.seen) (known_after first front) = known_begins first w.seen front c.begin.ensures in (
       is.0,
       is.1,
       is.2,
@@ -19,6 +24,23 @@ invariant_of-self g c =
       is.4,
       is.5,
       is.6,
-      subst (λ (h : History). InOrder w.mine (of h w.number)) (sym c.again.ensures) (part_begun w.mine w.seen c.args.front.now w.number begun is.7),
-      subst (λ (h : History). IsLegal g.N.Naming-1.fields h) (sym c.again.ensures) c.requires.legal,
+      subst (λ (l : List Change). InOrder (widened (length (fields_after first l)) (pairs_in w.mine)) (of (known_after first l).history w.number)) (sym c.again.ensures)
+          (part_wider (known_after first w.seen) (known_after first front) (pairs_in w.mine) w.number begun is.7),
+      subst (λ (l : List Change). IsLegalKnown (known_after first l)) (sym c.again.ensures) c.requires,
+      is.9,
+      is.10,
     )
+
+pub returns-clause-begun : goal.returns-clause-begun
+returns-clause-begun g c =
+    let first = g.N.Naming-1.fields in
+    subst (λ (h : Hand). Begins h.seen (known_after first c.args.front.now)) c.self.view_is (known_begins first c.self.inside.seen c.args.front.now c.begin.ensures)
+
+pub returns-clause-seen : goal.returns-clause-seen
+returns-clause-seen g c =
+    let first = g.N.Naming-1.fields in
+    let w = c.self.inside in
+    let front = c.args.front.now in
+    ap (λ (l : List Change). hand_after first w.number l w.mine w.column_count w.left) c.again.ensures
+    ∙ seen_after first w.number w.seen front w.mine w.column_count w.left (known_begins first w.seen front c.begin.ensures)
+    ∙ ap (having_seen (known_after first front)) c.self.view_is

@@ -1,4 +1,6 @@
 use Rattle.std.proofs.Common.{◌≡◌, ◌∙◌, ℕ, List, None, ap, arith, length, subst, sym}
+use Rattle.std.specs.declared.alloc.Global.{Global}
+use Rattle.std.specs.declared.vec.Vec.{Vec}
 use Rattle.arrays.specs.Batch.{Batch}
 use Rattle.table.specs.Cause.{early_cause}
 use Rattle.table.specs.Contents.{Contents, admitted}
@@ -32,7 +34,7 @@ invariant_of-self-2 g c =
     let is = Held-same c.self.inside.held c.reserve.new.self c.reserve.ensures.same c.self.invariant.0 in (
       put-held c.reserve.new.self c.commit.new.held c.args.batch.now c.args.worker c.in_ok-addition.addition is c.in_ok-addition.ensures.ok c.in_ok-seen.ensures.next,
       put-texts c.reserve.new.self c.commit.new.held c.args.batch.now c.args.worker c.in_ok-addition.addition is c.in_ok-addition.ensures.ok c.in_ok-seen.ensures.next c.commit.new.pools.items
-          (◌∙◌ {A = List (List (List ℕ))} c.in_ok-seen.ensures.pools c.in_ok-addition.ensures.pools),
+          (◌∙◌ {A = List (List (List ℕ))} (ap (λ (v : Vec (List (List ℕ)) Global). v.items) c.in_ok-seen.ensures.pools) c.in_ok-addition.ensures.pools),
     )
 
 pub returns-clause-number : goal.returns-clause-number

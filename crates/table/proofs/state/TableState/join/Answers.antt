@@ -13,7 +13,7 @@ commit-requires-clause-lawful g c = λ h next. Held-same c.in_ok-next.next h nex
 
 pub invariant_of-self : goal.invariant_of-self
 invariant_of-self g c =
-    after-commit c.commit.result c.self.inside.held c.in_ok-next.next c.commit.new.held c.self.inside.pools.items c.commit.new.pools.items c.self.invariant.0 c.self.invariant.1
+    after-commit c.commit.result c.self.inside.held c.in_ok-next.next c.commit.new.held c.self.inside.pools c.commit.new.pools c.self.invariant.0 c.self.invariant.1
     c.in_ok-next.ensures.lawful
     (c.in_ok-next.ensures.compacted.fields, compacted-table c.self.inside.held c.in_ok-next.next c.args.max_rows c.in_ok-next.ensures.compacted)
     c.commit.ensures.next c.commit.ensures.pools c.commit.ensures.kept c.commit.ensures.back

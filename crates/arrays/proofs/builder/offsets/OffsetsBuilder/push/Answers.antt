@@ -1,4 +1,4 @@
-use Rattle.std.proofs.Common.{◌∙◌, ◌∷◌, ◌++◌, ◌+◌, ◌≤◌, [], ap, arith, length, subst, sym}
+use Rattle.std.proofs.Common.{◌∷◌, ◌++◌, ◌+◌, ◌≤◌, [], ap, arith, length, subst, sym}
 use Rattle.types.specs.OffsetWidth.{most_of}
 use Rattle.arrays.specs.Column.{SizedColumn}
 use Rattle.arrays.specs.Lengths.{total}

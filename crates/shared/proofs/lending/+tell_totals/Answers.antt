@@ -1,0 +1,14 @@
+use Rattle.std.proofs.Common.{◌≡◌, ◌∙◌, arith, length, subst, sym}
+use Rattle.std.proofs.lemmas.Grind.{common_steps}
+use Rattle.shared.specs.Changes.{fields_after, pairs_in}
+use Rattle.shared.specs.Hand.{Hand, rows_of_hand}
+use Rattle.shared.proofs.BalanceLemmas.{rows_widened}
+use Rattle.shared.proofs.lending.+tell_totals.Goals as goal
+
+pub returns-clause-row_total : goal.returns-clause-row_total
+returns-clause-row_total g t c =
+    let is = c.first.invariant in
+    let w = c.first.inside in
+    let one : w.row_count ≡ rows_of_hand c.in-Some.first.now =
+    subst (λ (h : Hand). w.row_count ≡ rows_of_hand h) c.first.view_is (is.1 ∙ sym is.6 ∙ sym (rows_widened (length (fields_after g.N.Naming-1.fields w.seen)) (pairs_in w.mine))) in
+    grind (arith, common_steps, one)

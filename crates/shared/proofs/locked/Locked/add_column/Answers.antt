@@ -1,0 +1,71 @@
+use Rattle.std.proofs.Common.{◌∙◌, ◌+◌, ap, arith, length, length-append, subst, sym, ◌∷◌, []}
+use Rattle.arrays.specs.Shape.{field_of}
+use Rattle.shared.proofs.BalanceLemmas.{balanced_wider, workers_wider}
+use Rattle.shared.proofs.KnownLemmas.{few_added, known_widened}
+use Rattle.shared.proofs.SeenLemmas.{some_each, widened_by}
+use Rattle.shared.specs.Changes.{known_after}
+use Rattle.shared.specs.Known.{IsLegalKnown, known_of}
+use Rattle.table.specs.Contents.{Contents}
+use Rattle.table.specs.Stored.{stored_field}
+use Rattle.shared.proofs.locked.Locked.add_column.Goals as goal
+
+pub see-requires : goal.see-requires
+see-requires g c = subst IsLegalKnown (sym c.self.invariant.8) c.self.invariant.10
+
+pub see-requires-2 : goal.see-requires-2
+see-requires-2 g c =
+    let told = c.in_ok-version.ensures in
+    let w = c.self.inside in
+    let f = stored_field (field_of c.args.field.now) in
+    subst IsLegalKnown (sym (known_widened g.N.Naming-1.fields w.front c.add.new.front w.state c.add_column_shown.new.self f c.self.invariant.8 c.add.ensures.added told.added)) told.legal
+
+pub count_column-requires : goal.count_column-requires
+count_column-requires g c =
+    let w = c.self.inside in
+    few_added g.N.Naming-1.fields w.front w.state w.books.columns.total c.self.invariant.8 c.self.invariant.9 c.add.ensures.few
+
+pub show_version-requires : goal.show_version-requires
+show_version-requires g c =
+    let told = c.in_ok-version.ensures in
+    let w = c.self.inside in
+    known_widened g.N.Naming-1.fields w.front c.add.new.front w.state c.add_column_shown.new.self (stored_field (field_of c.args.field.now)) c.self.invariant.8 c.add.ensures.added told.added
+    ∙ ap known_of (sym told.shown.1)
+
+pub invariant_of-self-2 : goal.invariant_of-self-2
+invariant_of-self-2 g c =
+    let is = c.self.invariant in
+    let told = c.in_ok-version.ensures in
+    let w = c.self.inside in
+    let s = w.state in
+    let next = c.add_column_shown.new.self in
+    let f = stored_field (field_of c.args.field.now) in
+    let n = length s.fields + 1 in
+    let same = ap (λ (t : Contents). t.history) told.added in (
+      balanced_wider n w.books.calls.total w.books.rows.total s.history next.history is.0 same,
+      workers_wider n g.C.Ledger.parts s.history next.history is.1 same,
+      is.2,
+      is.3,
+      is.4,
+      is.5,
+      is.6,
+      told.shown.0,
+      known_widened g.N.Naming-1.fields w.front c.add.new.front s next f is.8 c.add.ensures.added told.added,
+      omega (arith, ap (λ (t : Contents). length t.fields) told.added, length-append s.fields (f ∷ []), is.9, c.count_column.ensures.total),
+      told.legal,
+      some_each c.show_version.new.publisher (λ p is_shown. subst (g.P.Publish.shows p) told.shown.1 is_shown) c.show_version.ensures,
+      is.12,
+      is.13,
+      is.14,
+    )
+
+pub returns-clause-widened : goal.returns-clause-widened
+returns-clause-widened g c =
+    let told = c.in_ok-version.ensures in
+    let w = c.self.inside in
+    let first = g.N.Naming-1.fields in
+    let s = w.state in
+    let next = c.add_column_shown.new.self in
+    let f = stored_field (field_of c.args.field.now) in
+    let known = known_widened first w.front c.add.new.front s next f c.self.invariant.8 c.add.ensures.added told.added in
+    widened_by (known_after first w.front) (known_after first c.add.new.front) s next f c.args.worker.now c.see.new.self c.see-2.new.self c.count_column.new.self
+    c.self.invariant.8 known told.added told.legal c.see.ensures.begun c.see.ensures.seen c.see-2.ensures.seen c.count_column.ensures.counted

@@ -1,0 +1,26 @@
+use Rattle.std.proofs.Common.{◌∙◌, List, [], ap, length, subst, sym}
+use Rattle.shared.specs.Changes.{Change, fields_after, known_after, pairs_in}
+use Rattle.shared.specs.Known.{IsLegalKnown}
+use Rattle.shared.specs.Parts.{InOrder}
+use Rattle.shared.proofs.KnownLemmas.{legal_none}
+use Rattle.table.specs.History.{of, rows}
+use Rattle.table.specs.Widened.{widened}
+use Rattle.shared.proofs.worker.Worker.new.Goals as goal
+
+pub invariant_of-result : goal.invariant_of-result
+invariant_of-result g c =
+    let first = g.N.Naming-1.fields in
+    let seen = c.args.seen in
+    let none = c.new.ensures in (
+      sym c.requires.calls.1,
+      sym c.requires.rows.1,
+      c.requires.calls.0,
+      c.requires.rows.0,
+      c.requires.number,
+      ap (λ (l : List Change). length (pairs_in l)) none ∙ sym c.requires.calls.1,
+      ap (λ (l : List Change). length (rows (pairs_in l))) none ∙ sym c.requires.rows.1,
+      subst (λ (l : List Change). InOrder (widened (length (fields_after first seen)) (pairs_in l)) (of (known_after first seen).history c.args.number)) (sym none) tt,
+      subst (λ (l : List Change). IsLegalKnown (known_after first l)) (sym c.requires.seen) (legal_none (fields_after first [])),
+      sym c.requires.columns.1,
+      c.requires.columns.0,
+    )

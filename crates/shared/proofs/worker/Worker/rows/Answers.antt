@@ -1,0 +1,11 @@
+use Rattle.std.proofs.Common.{◌≡◌, ◌∙◌, length, subst, sym}
+use Rattle.shared.specs.Changes.{fields_after, pairs_in}
+use Rattle.shared.specs.Hand.{Hand, rows_of_hand}
+use Rattle.shared.proofs.BalanceLemmas.{rows_widened}
+use Rattle.shared.proofs.worker.Worker.rows.Goals as goal
+
+pub returns : goal.returns
+returns g c =
+    let is = c.self.invariant in
+    let w = c.self.inside in
+    subst (λ (h : Hand). w.row_count ≡ rows_of_hand h) c.self.view_is (is.1 ∙ sym is.6 ∙ sym (rows_widened (length (fields_after g.N.Naming-1.fields w.seen)) (pairs_in w.mine)))

@@ -1,0 +1,50 @@
+-- What a table holds with a column more, which is null in each row that is there.
+use Rattle.std.specs.Prelude.{◌≡◌, ◌∷◌, ◌++◌, [], ℕ, List, map, replicate, Option, Some, None, if◌then◌else◌}
+use Rattle.std.specs.Arc.{arc_value}
+use Rattle.std.specs.List.{AllZip, zip}
+use Rattle.arrays.specs.Batch.{Batch}
+use Rattle.arrays.specs.Item.{null}
+use Rattle.arrays.specs.Kind as kind
+use Rattle.arrays.specs.Kind.{Kind, same_kind}
+use Rattle.arrays.specs.Nulls.{nulls}
+use Rattle.arrays.specs.Seen.{Seen}
+use Rattle.arrays.specs.Shape.{FieldShape, kind_of_field}
+use Rattle.arrays.specs.Shown.{shown}
+use Rattle.group.specs.Summary.{AreSame, AreStats}
+use Rattle.group.specs.declared.stats.ColumnStats.{ColumnStats}
+use Rattle.table.specs.Held.{batches_of, book_of, dictionaries_in, pieces_in}
+use Rattle.table.specs.declared.held.Held.{Held}
+
+-- The batch with a column of nulls behind the others.
+abbrev pub with_nulls : FieldShape → Batch → Batch
+with_nulls f b = record {
+  fields = b.fields ++ f ∷ [];
+  rows = b.rows;
+  columns = b.columns ++ nulls (kind_of_field f) b.rows ∷ [];
+}
+
+-- The second has what the first says, and behind it the statistics of so many nulls of the kind.
+pub record AreWider (k : Kind) (rows : ℕ) (before after : List ColumnStats) : Type 0 where
+  pub front : List ColumnStats
+  pub added : ColumnStats
+  pub whole : after ≡ front ++ added ∷ []
+  pub same : AllZip AreSame front before
+  pub nulls : AreStats added k (replicate rows null)
+
+-- The dictionary of a column of the kind without texts.
+abbrev pub no_texts : Kind → Option Seen
+no_texts k = if same_kind k kind.dict then Some (shown kind.utf8 []) else None
+
+-- The statistics of batches, each with those of its nulls.
+abbrev pub AreAllWider : Kind → List Batch → List (List ColumnStats) → List (List ColumnStats) → Type 0
+AreAllWider k batches before after = AllZip (λ p s. AreWider k p.0.rows p.1 s) (zip batches before) after
+
+-- The second is the first with the field behind the others.
+pub record IsWider (f : FieldShape) (h other : Held) : Type 0 where
+  pub schema : arc_value other.schema ≡ arc_value h.schema ++ f ∷ []
+  pub rows : other.rows ≡ h.rows
+  pub batches : batches_of other ≡ map (with_nulls f) (batches_of h)
+  pub pieces : AreAllWider (kind_of_field f) (batches_of h) (pieces_in h) (pieces_in other)
+  pub stats : AreWider (kind_of_field f) h.rows (arc_value h.stats).items (arc_value other.stats).items
+  pub dictionaries : dictionaries_in other ≡ dictionaries_in h ++ no_texts (kind_of_field f) ∷ []
+  pub book : book_of other ≡ book_of h
