@@ -170,6 +170,27 @@ FILES = [
     ("a mark of the order of bytes", "\ufeff" + A, "J1 NotJson"),
 ]
 
+
+
+def lists_of(depth):
+    """A field of so many lists in one another."""
+    if depth == 0:
+        return {"name": "m", "nullable": True, "type": {"name": "bool"}}
+    return {"name": "m", "nullable": True, "type": {"name": "list"}, "children": [lists_of(depth - 1)]}
+
+
+# What it is, a field of a column that is to be added, and what is told.
+FIELDS = [
+    ("a field of eight lists", json.dumps(lists_of(8)), STATS_OF_A + '"m" ' + "list<" * 8 + "bool" + ">" * 8 + " rows=3 nulls=3 sum=- least=- greatest=-\n"),
+    ("a field of nine lists", json.dumps(lists_of(9)), "J4 UnsupportedType at " + "/children/0" * 8),
+    ("a field of 60 lists", json.dumps(lists_of(60)), "J4 UnsupportedType at " + "/children/0" * 8),
+    ("100,000 arrays for a field", "[" * 100000, "J1 NotJson"),
+    ("a field of a long name", '{"name":"' + "m" * 100000 + '","nullable":true,"type":{"name":"bool"}}',
+     STATS_OF_A + '"' + "m" * 100000 + '" bool rows=3 nulls=3 sum=- least=- greatest=-\n'),
+    ("two fields", "{} {}", "J1 NotJson"),
+    ("no field", "", "J1 NotJson"),
+]
+
 # ---- runs
 
 
@@ -249,6 +270,14 @@ class Runs:
         self.expect("a pipe with a name", self.run([pipe]), pipe, STATS_OF_A)
         writer.wait()
 
+    def columns(self):
+        """Fields of a column that is to be added."""
+        path = self.file(A)
+        for name, field, wanted in FIELDS:
+            self.expect(name, self.run(["--add-column", field, path]), "column", wanted)
+        run = self.run([b"--add-column", b"\xff", path.encode()])
+        self.tell("a field that is no text", None if (run.returncode, run.stdout, run.stderr) == (2, b"", b"arrowtab: bad arguments\n") else run.stderr)
+
 
 def outcome(path, wanted):
     """The status of a run, its output and the line of its fault."""
@@ -272,6 +301,7 @@ def main():
             runs.expect(name, runs.run([path]), path, told)
         runs.cuts()
         runs.ends()
+        runs.columns()
     print(f"{runs.passed} passed, {runs.failed} failed")
     return 1 if runs.failed else 0
 

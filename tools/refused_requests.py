@@ -30,7 +30,11 @@ def cases():
     for name in ("primitive.json", "mixed.json", "lists.json", "dictionaries.json", "large.json"):
         yield ["stats", example(name)]
         yield ["export", example(name)]
+    lists = '{"name":"l","nullable":true,"type":{"name":"list"},"children":[{"name":"item","nullable":true,"type":{"name":"utf8"}}]}'
+    texts = '{"name":"m","nullable":true,"type":{"name":"utf8"}}'
+    yield ["export", "--add-column", lists, example("mixed.json")]
     for workers in ("1", "2", "4"):
+        yield ["query", "--workers", workers, "--query", '{"by":["m"],"aggs":[{"agg":"rows"}]}', "--add-column", texts, example("mixed.json")]
         yield ["stats", "--workers", workers, example("mixed.json"), example("mixed.json")]
         yield ["export", "--workers", workers, example("dictionaries.json")]
         yield ["query", "--workers", workers, "--query", query, example("mixed.json")]

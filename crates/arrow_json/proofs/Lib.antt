@@ -15,6 +15,7 @@ pub mod JsonBatches
 pub mod JsonRecordBatches
 pub mod JsonFiles
 pub mod SchemaLaws
+pub mod FieldTexts
 pub mod ColumnLaws
 pub mod CatalogLaws
 pub mod JsonLaws

@@ -166,7 +166,7 @@ encoded_field_law d bytes b k p h w =
 plain_of : (d : Data) (f : FieldShape) → IsFieldOf d f → is_without (member_of member.Dictionary d) ≡ true
 plain_of d (field bytes b s) h = h.0.plain
 
-field_law : (d : Data) (f : FieldShape) (k : JsonFaultKind) (p : List Step) → ReadsField d f → TopFault d k p → ⊥
+pub field_law : (d : Data) (f : FieldShape) (k : JsonFaultKind) (p : List Step) → ReadsField d f → TopFault d k p → ⊥
 field_law d f k p (plain_field g object shallow) (bad_top k' p' w) = within_law 0 d f _ _ object (shallow_room (depth (kind_of_field f)) shallow) w
 field_law d f k p (plain_field g object shallow) (bad_encoded k' p' w) = encoded_law d None _ _ (plain_of d f object) w
 field_law d f k p (plain_field g object shallow) (other_values e bytes at is_object named other) = without_law d e (plain_of d f object) at (no_null e is_object)
@@ -240,7 +240,7 @@ not_plain d f e h g =
 one_way : (d : Data) (f : FieldShape) (bytes : List ℕ) (b : Bool) → IsFieldOf d f → IsEncodedField d bytes b → ⊥
 one_way d f bytes b h g = not_plain d f g.encoded_as h g.encoding
 
-same_field : (d : Data) (f g : FieldShape) → ReadsField d f → ReadsField d g → f ≡ g
+pub same_field : (d : Data) (f g : FieldShape) → ReadsField d f → ReadsField d g → f ≡ g
 same_field d f g (plain_field f' h shallow) (plain_field g' k shallow') = same_within d f g h k
 same_field d f g (plain_field f' h shallow) (encoded_field bytes b k) = absurd (one_way d f bytes b h k)
 same_field d f g (encoded_field bytes b h) (plain_field g' k shallow) = absurd (one_way d g bytes b k h)

@@ -6,6 +6,7 @@ pub mod JsonEncoding
 pub mod JsonEncodingFault
 pub mod JsonFields
 pub mod JsonFieldsFault
+pub mod JsonField
 pub mod EncodingParts
 pub mod JsonColumn
 pub mod JsonColumnFault

@@ -1,5 +1,7 @@
-//! What holds of files whatever program reads them.
+//! What holds of files and fields whatever program reads them.
 ghost use Rattle.std.specs.Prelude.{◌≡◌, ℕ, List};
+ghost use Rattle.arrays.specs.Shape.{FieldShape};
+ghost use Rattle.arrow_json.specs.JsonField.{FieldTextFault, IsFieldText};
 ghost use Rattle.arrow_json.specs.JsonFile.{BytesFault, Reads};
 ghost use Rattle.json_places.specs.JsonTable.{FileData};
 ghost use Rattle.json_places.specs.declared.path.Step.{Step};
@@ -14,4 +16,15 @@ pub fn read_has_no_fault()
 /// The bytes decide what is read.
 pub fn bytes_decide_the_file()
     ensures { (bytes : List ℕ) (f g : FileData) → Reads bytes f → Reads bytes g → f ≡ g }
+{}
+
+/// Where a fault stands, no field is read.
+pub fn read_field_has_no_fault()
+    ensures { (bytes : List ℕ) (f : FieldShape) (kind : JsonFaultKind) (path : List Step) →
+        IsFieldText bytes f → FieldTextFault bytes kind path → ⊥ }
+{}
+
+/// The bytes decide which field is read.
+pub fn bytes_decide_the_field()
+    ensures { (bytes : List ℕ) (f g : FieldShape) → IsFieldText bytes f → IsFieldText bytes g → f ≡ g }
 {}

@@ -7,6 +7,7 @@ mod codes;
 mod column;
 mod dictionary;
 mod encoding;
+pub mod field;
 pub mod file;
 pub mod laws;
 mod list;
@@ -14,5 +15,6 @@ mod place;
 mod schema;
 mod type_object;
 
+pub use field::read_field;
 pub use file::{read_file, read_file_from_vec};
 pub use json_places::{JsonFault, JsonFaultKind, Member, Path, Step, fault_text};

@@ -231,14 +231,14 @@ fn read_encoded_field(alloc: Global, field: &Value) -> Result<Field, JsonFault>
 
 /// A field of a schema, and how its column is encoded.
 #[derive(Drop)]
-struct TopField {
-    field: Field,
+pub(crate) struct TopField {
+    pub(crate) field: Field,
     encoding: Option<Encoding>,
 }
 
 /// The field of a schema.
 #[tactic(auto, using(crate::proofs::JsonFields::top_told))]
-fn read_field(alloc: Global, field: &Value) -> Result<TopField, JsonFault>
+pub(crate) fn read_top(alloc: Global, field: &Value) -> Result<TopField, JsonFault>
     ensures ok { IfOk result (λ t. ReadsField (view field.now) (field_of t.field)) }
     ensures encoding { IfOk result (λ t. HasEncoding (view field.now) (option_map parts_of t.encoding)) }
     ensures err { IfErr result (Tells (TopFault (view field.now))) }
@@ -280,7 +280,7 @@ fn read_fields(alloc: Global, values: &[Value]) -> Result<TopFields, JsonFault>
     let mut fields = Vec::new(alloc);
     let mut encodings = Vec::new(alloc);
     for (index, value) in values.iter().enumerate() {
-        let read = read_field(alloc, value);
+        let read = read_top(alloc, value);
         let top = read.map_err(|fault| fault.under(alloc, Step::Item(index)))?;
         push(alloc, &mut fields, top.field)?;
         push(alloc, &mut encodings, top.encoding)?;

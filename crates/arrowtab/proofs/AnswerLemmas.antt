@@ -1,5 +1,5 @@
 -- What was made of the files, as an answer of the sources' bytes.
-use Rattle.std.proofs.Common.{Result, Ok, Err, IfOk, IfErr, ◌≡◌, ◌∙◌, ℕ, List, [], ◌∷◌, length, get_or, map, ap, sym, refl, subst}
+use Rattle.std.proofs.Common.{Result, Ok, Err, IfOk, IfErr, ◌≡◌, ◌∙◌, ℕ, List, [], ◌∷◌, length, get_or, map, Option, None, Some, option_map, ap, sym, refl, subst}
 use Rattle.std.proofs.lemmas.List.{length-map}
 use Rattle.std.proofs.lemmas.Simd.{map-map}
 use Rattle.std.proofs.lemmas.Slice.Zip.{AllZip-long}
@@ -9,26 +9,32 @@ use Rattle.arrays.specs.Batch.{Batch}
 use Rattle.arrays.specs.File.{File}
 use Rattle.arrays.specs.Item.{Item, null}
 use Rattle.arrays.specs.Seen.{Seen}
-use Rattle.arrays.specs.Shape.{FieldShape}
+use Rattle.arrays.specs.Shape.{FieldShape, field_of}
+use Rattle.arrow_json.specs.JsonField.{IsFieldText}
 use Rattle.arrow_json.specs.JsonFile.{AreUnder, file_of}
 use Rattle.json_places.specs.JsonTable as read
 use Rattle.json_places.specs.JsonTable.{FileData, table_of}
 use Rattle.job.specs.declared.asked.Command.{Command}
 use Rattle.job.specs.declared.asked.Command.TheVariants as command
+use Rattle.job.specs.declared.asked.Job.{Job}
 use Rattle.query.specs.Resolved.{named}
 use Rattle.query.specs.declared.fault.QueryFault.{QueryFault}
 use Rattle.table.specs.History.{History}
 use Rattle.table.specs.declared.refusal.Refusal.{Refusal}
-use Rattle.arrowtab.specs.Explained.{Explains, ExplainsFiles}
+use Rattle.arrowtab.specs.Column.{IsColumn, column_text, fields_with, history_with}
+use Rattle.arrowtab.specs.Explained.{Explains, ExplainsColumn, ExplainsFiles, ExplainsText}
 use Rattle.arrowtab.specs.Loaded.{FileBatch, IsLoaded, IsStopped, batches_of}
 use Rattle.arrowtab.specs.Output.{Prints, PrintsNothing}
 use Rattle.arrowtab.specs.Run.{Answers, AreRead, Inputs, Refuses, RefusesQuery, table_fields}
-use Rattle.arrowtab.specs.Wanted.{IsWanted, PrintsWanted, RefusesWanted}
-use Rattle.arrowtab.specs.Worked.{IsRefusedOver, Shows, StopsWanted, batch_of, listed}
+use Rattle.arrowtab.specs.Wanted.{IsColumnUnread, IsRequest, IsUnread, IsWanted, PrintsWanted, RefusesWanted}
+use Rattle.arrowtab.specs.Worked.{IsRefusedOver, Shows, StopsColumn, StopsWanted, batch_of, listed}
 use Rattle.loads.specs.Loaded.{fields_for}
+use Rattle.arrowtab.specs.declared.run_fault.ColumnFault.{ColumnFault}
+use Rattle.arrowtab.specs.declared.run_fault.ColumnFault.TheVariants as column
 use Rattle.arrowtab.specs.declared.run_fault.FileFault.TheVariants.{CannotRead, Json, Refused}
 use Rattle.arrowtab.specs.declared.run_fault.RunFault.{RunFault}
-use Rattle.arrowtab.specs.declared.run_fault.RunFault.TheVariants.{NoMemory, OfFile, QueryUnread, QueryRefused}
+use Rattle.arrowtab.specs.declared.run_fault.RunFault.TheVariants.{NoMemory, OfColumn, OfFile, QueryUnread, QueryRefused}
+use Rattle.arrowtab.specs.declared.wanted.Request.{Request}
 use Rattle.arrowtab.specs.declared.wanted.Wanted.{Wanted}
 
 -- ---- batches of files, as the files' bytes say them
@@ -76,16 +82,25 @@ module _ (workers : ℕ) (inputs : Inputs) (files : List File) (are_read : AreRe
   prints_command command.Export wanted fields h text is prints = subst (λ w. PrintsWanted w workers fields h text) is prints
   prints_command (command.Query bytes) wanted fields h text is prints = (named is.0, is.2, subst (λ w. PrintsWanted w workers fields h text) is.1 prints)
 
-  answers_shown : (command : Command) (wanted : Wanted) (text : List ℕ) → IsWanted command wanted → Shows wanted workers files text → Answers command workers inputs text
-  answers_shown command wanted text is shows = record {
-    files = data_of files;
-    read = are_read;
-    history = shows.history;
-    loaded = loaded_data shows.history shows.loaded;
-    prints =
-        subst (λ (fs : List FieldShape). Prints command workers fs shows.history text) (sym (fields-same files))
-        (prints_command command wanted (fields_for files) shows.history text is shows.prints);
-  }
+  answers_shown : (job : Job) (request : Request) (text : List ℕ) → IsRequest job request → job.workers ≡ workers → Shows request.wanted workers files (option_map field_of request.column) text
+      → Answers job inputs text
+  answers_shown job request text is same shows =
+      let column = option_map field_of request.column in
+      let fields = fields_for files in
+      let there = sym (fields-same files) in
+      record {
+        files = data_of files;
+        read = are_read;
+        column = column;
+        given = is.column;
+        allowed = shows.allowed;
+        history = shows.history;
+        loaded = subst (λ n. IsLoaded n (map batches_of (data_of files)) (table_fields (data_of files)) shows.history) (sym same) (loaded_data shows.history shows.loaded);
+        prints =
+            subst (λ n. Prints job.command n (fields_with column (table_fields (data_of files))) (history_with column (table_fields (data_of files)) shows.history) text) (sym same)
+            (subst (λ (fs : List FieldShape). Prints job.command workers (fields_with column fs) (history_with column fs shows.history) text) there
+            (prints_command job.command request.wanted (fields_with column fields) (history_with column fields shows.history) text is.wanted shows.prints));
+      }
 
   -- ---- a query that is refused
 
@@ -95,16 +110,23 @@ module _ (workers : ℕ) (inputs : Inputs) (files : List File) (are_read : AreRe
   refuses_command command.Export wanted fields h fault is refuses = subst (λ w. RefusesWanted w fields h fault) is refuses
   refuses_command (command.Query bytes) wanted fields h fault is refuses = (named is.0, is.2, subst (λ w. RefusesWanted w fields h fault) is.1 refuses)
 
-  refuses_over : (command : Command) (wanted : Wanted) (fault : QueryFault) → IsWanted command wanted → IsRefusedOver wanted workers files fault → RefusesQuery command workers inputs fault
-  refuses_over command wanted fault is over = record {
-    files = data_of files;
-    read = are_read;
-    history = over.history;
-    loaded = loaded_data over.history over.loaded;
-    refused =
-        subst (λ (fs : List FieldShape). PrintsNothing command fs over.history fault) (sym (fields-same files))
-        (refuses_command command wanted (fields_for files) over.history fault is over.refused);
-  }
+  refuses_over : (job : Job) (request : Request) (fault : QueryFault) → IsRequest job request → job.workers ≡ workers
+      → IsRefusedOver request.wanted workers files (option_map field_of request.column) fault → RefusesQuery job inputs fault
+  refuses_over job request fault is same over =
+      let column = option_map field_of request.column in
+      let fields = fields_for files in
+      record {
+        files = data_of files;
+        read = are_read;
+        column = column;
+        given = is.column;
+        allowed = over.allowed;
+        history = over.history;
+        loaded = subst (λ n. IsLoaded n (map batches_of (data_of files)) (table_fields (data_of files)) over.history) (sym same) (loaded_data over.history over.loaded);
+        refused =
+            subst (λ (fs : List FieldShape). PrintsNothing job.command (fields_with column fs) (history_with column fs over.history) fault) (sym (fields-same files))
+            (refuses_command job.command request.wanted (fields_with column fields) (history_with column fields over.history) fault is.wanted over.refused);
+      }
 
   -- ---- what stopped it
 
@@ -117,33 +139,72 @@ module _ (workers : ℕ) (inputs : Inputs) (files : List File) (are_read : AreRe
         (subst (λ (ls : List (List FileBatch)). IsStopped workers ls (fields_for files) file number refusal) (sym (files-listed files kept)) stopped);
   }
 
-  explains_stopped : (command : Command) (wanted : Wanted) (before after : List ℕ) (fault : RunFault) → IsWanted command wanted → StopsWanted wanted workers files fault
-      → Explains command workers inputs before after fault
-  explains_stopped command wanted before after NoMemory is stops = tt
-  explains_stopped command wanted before after (OfFile f CannotRead) is stops = absurd stops
-  explains_stopped command wanted before after (OfFile f (Json g)) is stops = absurd stops
-  explains_stopped command wanted before after (OfFile f (Refused number refusal)) is stops = refuses_stopped f number refusal stops
-  explains_stopped command wanted before after (QueryUnread f) is stops = absurd stops
-  explains_stopped command wanted before after (QueryRefused f) is stops = refuses_over command wanted f is stops
+  refused_column : (text : Option (List ℕ)) (column : Option FieldShape) (f : FieldShape) → IsColumn text column → column ≡ Some f → (bytes : List ℕ) × (text ≡ Some bytes) × IsFieldText bytes f
+  refused_column None None f is same = absurd (cc same)
+  refused_column None (Some g) f is same = absurd is
+  refused_column (Some bytes) None f is same = absurd is
+  refused_column (Some bytes) (Some g) f is same = let one : g ≡ f = cc same in (bytes, refl, subst (IsFieldText bytes) one is)
 
-  pub ok_answers : {A : Type 0} (command : Command) (wanted : Wanted) (r : Result A RunFault) (text : A → List ℕ) → IsWanted command wanted
-      → IfOk r (λ t. Shows wanted workers files (text t)) → IfOk r (λ t. Answers command workers inputs (text t))
-  ok_answers command wanted (Ok t) text is shows = answers_shown command wanted (text t) is shows
-  ok_answers command wanted (Err fault) text is shows = tt
+  explains_column : (job : Job) (request : Request) (fault : ColumnFault) → IsRequest job request → StopsColumn (option_map field_of request.column) fault → ExplainsColumn job fault
+  explains_column job request (column.Unread f) is stops = absurd stops
+  explains_column job request (column.Refused fault) is stops =
+      let read = refused_column (column_text job) (option_map field_of request.column) stops.0 is.column stops.1 in
+      record { text = read.0; field = stops.0; given = read.1; read = read.2; stands = stops.2 }
 
-  pub err_explains : {A : Type 0} (command : Command) (wanted : Wanted) (before after : List ℕ) (r : Result A RunFault) → IsWanted command wanted
-      → IfErr r (StopsWanted wanted workers files) → IfErr r (Explains command workers inputs before after)
-  err_explains command wanted before after (Ok t) is stops = tt
-  err_explains command wanted before after (Err fault) is stops = explains_stopped command wanted before after fault is stops
+  explains_stopped : (job : Job) (request : Request) (before after : List ℕ) (fault : RunFault) → IsRequest job request → job.workers ≡ workers
+      → StopsWanted request.wanted workers files (option_map field_of request.column) fault → Explains job inputs before after fault
+  explains_stopped job request before after NoMemory is same stops = tt
+  explains_stopped job request before after (OfFile f CannotRead) is same stops = absurd stops
+  explains_stopped job request before after (OfFile f (Json g)) is same stops = absurd stops
+  explains_stopped job request before after (OfFile f (Refused number refusal)) is same stops =
+      subst (λ n. Refuses n inputs f number refusal) (sym same) (refuses_stopped f number refusal stops)
+  explains_stopped job request before after (QueryUnread f) is same stops = absurd stops
+  explains_stopped job request before after (QueryRefused f) is same stops = refuses_over job request f is same stops
+  explains_stopped job request before after (OfColumn f) is same stops = explains_column job request f is stops
+
+  pub ok_answers : {A : Type 0} (job : Job) (request : Request) (r : Result A RunFault) (text : A → List ℕ) → IsRequest job request → job.workers ≡ workers
+      → IfOk r (λ t. Shows request.wanted workers files (option_map field_of request.column) (text t)) → IfOk r (λ t. Answers job inputs (text t))
+  ok_answers job request (Ok t) text is same shows = answers_shown job request (text t) is same shows
+  ok_answers job request (Err fault) text is same shows = tt
+
+  pub err_explains : {A : Type 0} (job : Job) (request : Request) (before after : List ℕ) (r : Result A RunFault) → IsRequest job request → job.workers ≡ workers
+      → IfErr r (StopsWanted request.wanted workers files (option_map field_of request.column)) → IfErr r (Explains job inputs before after)
+  err_explains job request before after (Ok t) is same stops = tt
+  err_explains job request before after (Err fault) is same stops = explains_stopped job request before after fault is same stops
 
 -- what explains a fault of reading the files explains it
-pub files_explain : (command : Command) (workers : ℕ) (inputs : Inputs) (before after : List ℕ) (fault : RunFault) → ExplainsFiles inputs before after fault → Explains command workers inputs before after fault
-files_explain command workers inputs before after NoMemory why = tt
-files_explain command workers inputs before after (OfFile file CannotRead) why = why
-files_explain command workers inputs before after (OfFile file (Json f)) why = why
-files_explain command workers inputs before after (OfFile file (Refused number refusal)) why = absurd why
-files_explain command workers inputs before after (QueryUnread f) why = absurd why
-files_explain command workers inputs before after (QueryRefused f) why = absurd why
+pub files_explain : (job : Job) (inputs : Inputs) (before after : List ℕ) (fault : RunFault) → ExplainsFiles inputs before after fault → Explains job inputs before after fault
+files_explain job inputs before after NoMemory why = tt
+files_explain job inputs before after (OfFile file CannotRead) why = why
+files_explain job inputs before after (OfFile file (Json f)) why = why
+files_explain job inputs before after (OfFile file (Refused number refusal)) why = absurd why
+files_explain job inputs before after (QueryUnread f) why = absurd why
+files_explain job inputs before after (QueryRefused f) why = absurd why
+files_explain job inputs before after (OfColumn f) why = absurd why
+
+-- what explains a fault of reading the job's texts explains it
+pub text_explains : (job : Job) (inputs : Inputs) (before after : List ℕ) (fault : RunFault) → ExplainsText job fault → Explains job inputs before after fault
+text_explains job inputs before after NoMemory why = tt
+text_explains job inputs before after (OfFile file fault) why = absurd why
+text_explains job inputs before after (QueryUnread f) why = why
+text_explains job inputs before after (QueryRefused f) why = absurd why
+text_explains job inputs before after (OfColumn (column.Unread f)) why = why
+text_explains job inputs before after (OfColumn (column.Refused fault)) why = absurd why
+
+pub query_unread : (job : Job) (fault : RunFault) → IsUnread job.command fault → ExplainsText job fault
+query_unread job NoMemory why = tt
+query_unread job (OfFile file fault) why = absurd why
+query_unread job (QueryUnread f) why = why
+query_unread job (QueryRefused f) why = absurd why
+query_unread job (OfColumn f) why = absurd why
+
+pub column_unread : (job : Job) (fault : RunFault) → IsColumnUnread (column_text job) fault → ExplainsText job fault
+column_unread job NoMemory why = tt
+column_unread job (OfFile file fault) why = absurd why
+column_unread job (QueryUnread f) why = absurd why
+column_unread job (QueryRefused f) why = absurd why
+column_unread job (OfColumn (column.Unread f)) why = record { text = why.0; given = why.1; stands = why.2 }
+column_unread job (OfColumn (column.Refused fault)) why = absurd why
 
 -- there are as many files as sources
 pub some_files : (inputs : Inputs) (files : List File) → AreRead inputs (data_of files) → length files ≡ length inputs

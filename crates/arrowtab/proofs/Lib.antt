@@ -11,5 +11,6 @@ mod ExportLemmas
 mod GroupLineLemmas
 mod QueryLemmas
 mod TogetherLemmas
+mod WideLemmas
 mod SettledLemmas
 mod OneLemmas

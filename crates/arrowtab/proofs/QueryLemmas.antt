@@ -10,7 +10,7 @@ use Rattle.table.specs.History.{History}
 use Rattle.arrowtab.specs.Queried.{PrintsGroups, PrintsPlaced, RefusesGroups, at_row, under_fields}
 use Rattle.arrowtab.specs.Wanted.{IsUnanswered, IsUnplaced}
 use Rattle.arrowtab.specs.declared.run_fault.RunFault.{RunFault}
-use Rattle.arrowtab.specs.declared.run_fault.RunFault.TheVariants.{NoMemory, OfFile, QueryUnread, QueryRefused}
+use Rattle.arrowtab.specs.declared.run_fault.RunFault.TheVariants.{NoMemory, OfColumn, OfFile, QueryUnread, QueryRefused}
 
 -- a fault that isn't want of memory stands under the fields
 pub refused_under : {X : Type 0} (query : Asked (List ℕ)) (seen fields : List FieldShape) (h : History) (e : QueryFault) → seen ≡ fields → (e ≡ fault.NoMemory → ⊥) → (resolved seen query ≡ Err e) ⊎ ((e ≡ fault.NoMemory) × X)
@@ -28,6 +28,7 @@ module _ (query : Asked (List ℕ)) (placed : Asked ℕ) (fields : List FieldSha
   unanswered (OfFile file e) is = is
   unanswered (QueryUnread e) is = is
   unanswered (QueryRefused e) is = subst (RefusesGroups query fields h) (sym is.2) (at_row placed is.0 resolves is.1)
+  unanswered (OfColumn e) is = is
 
   pub unanswered_of : {A : Type 0} (r : Result A RunFault) → IfErr r (IsUnplaced placed fields h) → IfErr r (IsUnanswered query fields h)
   unanswered_of (Ok t) is = tt

@@ -20,7 +20,7 @@ use Rattle.arrowtab.specs.Parsed.{AddsFiles, IsFirstUnread, IsTextOf, StopsParsi
 use Rattle.arrowtab.specs.Run.{AreRead, Inputs}
 use Rattle.arrowtab.specs.declared.run_fault.FileFault.TheVariants.{CannotRead, Json, Refused}
 use Rattle.arrowtab.specs.declared.run_fault.RunFault.{RunFault}
-use Rattle.arrowtab.specs.declared.run_fault.RunFault.TheVariants.{NoMemory, OfFile, QueryUnread, QueryRefused}
+use Rattle.arrowtab.specs.declared.run_fault.RunFault.TheVariants.{NoMemory, OfColumn, OfFile, QueryUnread, QueryRefused}
 
 -- ---- lists beside one another
 
@@ -251,6 +251,7 @@ module _ {S : Type 0} where
       parsing_explained after (OfFile file (Refused number refusal)) why = absurd why
       parsing_explained after (QueryUnread f) why = absurd why
       parsing_explained after (QueryRefused f) why = absurd why
+      parsing_explained after (OfColumn f) why = absurd why
 
       pub parsing_first : (after : List ℕ) (fault : RunFault) → ((i : ℕ) → i < n → slice_get after i ≡ slice_get (map failures olds) i) → StopsParsing texts (length files) fault
           → IsOfFirst (map remaining olds) (map failures olds) after fault
@@ -263,6 +264,7 @@ module _ {S : Type 0} where
       parsing_first after (OfFile file (Refused number refusal)) quiet why = absurd why
       parsing_first after (QueryUnread f) quiet why = tt
       parsing_first after (QueryRefused f) quiet why = tt
+      parsing_first after (OfColumn f) quiet why = tt
 
       -- ---- a source that isn't read, of number n: the files before it are
 

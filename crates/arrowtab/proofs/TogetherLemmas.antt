@@ -5,6 +5,7 @@ use Rattle.std.proofs.lemmas.List.Elements.{filter-append}
 use Rattle.std.proofs.lemmas.List.Sums.{sum_by-append}
 use Rattle.std.proofs.lemmas.Option.{slice_get-get_or}
 use Rattle.std.specs.Prelude.{All, ◌==◌, ◌||◌, sum_by}
+use Rattle.std.specs.List.{AllByRecursion}
 use mathlib.Core.List.{IsPrefix}
 use Rattle.arrays.specs.Batch.{Batch, Table, rows_of}
 use Rattle.arrays.specs.File.{File}
@@ -33,7 +34,7 @@ use Rattle.arrowtab.specs.declared.run_fault.RunFault.{RunFault}
 use Rattle.arrowtab.proofs.PlanLemmas.{all_begun, by_recursion, each_planned, map_begun, order_begun, planned_front, same_test, whole_begun}
 use Rattle.arrowtab.proofs.WorkedLemmas.{Fits, loaded_of, stopped_of}
 
-nobody : Hand
+pub nobody : Hand
 nobody = record { number = 0; seen = record { fields = []; history = [] }; mine = []; columns = 0; left = None }
 
 same_at : {A : Type 0} (xs : List A) (i : ℕ) (c d : A) → i < length xs → get_or xs i c ≡ get_or xs i d
@@ -47,7 +48,7 @@ of_begun h k w begun = (of begun.0 w, sym (filter-append (λ e. e.0 == w) h begu
 
 -- ---- a worker that was new
 
-new_at : (fields : List FieldShape) (first : ℕ) (hands : List Hand) (place n : ℕ) (d : Hand) → AreNew fields first hands → place < length hands → n ≡ first + place → IsNew fields n (get_or hands place d)
+pub new_at : (fields : List FieldShape) (first : ℕ) (hands : List Hand) (place n : ℕ) (d : Hand) → AreNew fields first hands → place < length hands → n ≡ first + place → IsNew fields n (get_or hands place d)
 new_at fields first [] place n d are below is = absurd (omega (arith, below))
 new_at fields first (h ∷ hands) zero n d are below is = subst (λ m. IsNew fields m h) (sym (is ∙ add-zero first)) are.0
 new_at fields first (h ∷ hands) (suc k) n d are below is = new_at fields (first + 1) hands k n d are.1 (omega (arith, below)) (omega (arith, is))
@@ -111,7 +112,7 @@ added_new fields k place bs old new same was is whole =
 
 -- ---- no column was added
 
-none_added : (hands : List Hand) → ((w : ℕ) → w < length hands → (get_or hands w nobody).columns ≡ 0) → sum_by columns_of_hand hands ≡ 0
+pub none_added : (hands : List Hand) → ((w : ℕ) → w < length hands → (get_or hands w nobody).columns ≡ 0) → sum_by columns_of_hand hands ≡ 0
 none_added [] none = refl
 none_added (h ∷ hands) none =
     let split : sum_by columns_of_hand (h ∷ hands) ≡ (0 + h.columns) + sum_by columns_of_hand hands = sum_by-append columns_of_hand (h ∷ []) hands in
@@ -152,14 +153,27 @@ loaded_all files fields old new k some same are all whole known legal =
 
 holds_all : (workers : ℕ) (files : List File) (fields : List FieldShape) (old new : List Hand) (v : Contents) → 1 ≤ workers → length old ≡ workers → fields ≡ fields_for files
     → AreNew fields 0 old → AllLoaded (batches_of files) old new
-    → All (IsWhole (known_of v)) new → IsOfWorkers workers v.history → IsLegal fields v.history → v.fields ≡ fields → Holds workers files v
+    → All (IsWhole (known_of v)) new → IsOfWorkers workers v.history → IsLegal fields v.history → v.fields ≡ fields → Holds workers files None v
 holds_all workers files fields old new v some count same are all whole known legal is = record {
+  allowed = tt;
   fields = is ∙ same;
+  history = v.history;
   loaded =
       subst (λ (fs : List FieldShape). IsLoaded workers (listed files) fs v.history) same
       (subst (λ n. IsLoaded n (listed files) fields v.history) count
       (loaded_all files fields old new (known_of v) (omega (arith, some, count)) is are all whole (subst (λ n. IsOfWorkers n v.history) (sym count) known) legal));
+  held = refl;
 }
+
+-- each batch fits the fields
+pub all_fit : (files : List File) (fields : List FieldShape) (old new : List Hand) (v : Contents) → 1 ≤ length old → AreNew fields 0 old → AllLoaded (batches_of files) old new
+    → All (IsWhole (known_of v)) new → IsPrefix fields v.fields → length v.fields ≡ length fields + sum_by columns_of_hand new → AllByRecursion (AllByRecursion (Fits fields)) (batches_of files)
+all_fit files fields old new v some are all whole opened counted =
+    let stay = fields_stay fields old new v are all.kept (λ w below. (all.each w nobody below).columns) opened counted in
+    each_planned (Fits fields) (length old) (batches_of files) some (λ w below.
+    by_recursion (Fits fields) (planned (batches_of files) (length old) w)
+    (added_new fields (known_of v) w (planned (batches_of files) (length old) w) (get_or old w nobody) (get_or new w nobody) stay
+    (new_at fields 0 old w w nobody are below (sym (zero-add w))) (all.each w nobody below) (whole w nobody (omega (arith, below, all.kept)))).fits)
 
 -- ---- what stopped one of them
 
@@ -292,7 +306,7 @@ there_at (h ∷ hands) (suc k) n d below is = later (h.number == n) (is_there ha
     later true rest is = refl
     later false rest is = is
 
-all_there : (workers : ℕ) (fields : List FieldShape) (old new back : List Hand) → length old ≡ workers → length new ≡ length old → AreNew fields 0 old → back ≡ new
+pub all_there : (workers : ℕ) (fields : List FieldShape) (old new back : List Hand) → length old ≡ workers → length new ≡ length old → AreNew fields 0 old → back ≡ new
     → ((w : ℕ) → w < length old → (get_or new w nobody).number ≡ (get_or old w nobody).number) → AllThere workers back
 all_there workers fields old new back size kept are is numbered n below =
     let inside : n < length old = omega (arith, below, size) in
@@ -318,7 +332,7 @@ written_back len old new size kept = take_at new (drop (length new) old) len (om
 pub ok_holds : {A : Type 0} (workers table : ℕ) (files : List File) (fields : List FieldShape) (old new back : List Hand) (r : Result A RunFault) (seen : A → Contents) → 1 ≤ workers → table ≡ workers
     → length old ≡ workers → fields ≡ fields_for files → AreNew fields 0 old → AllLoaded (batches_of files) old new → back ≡ new
     → IfOk r (λ v. All (IsWhole (known_of (seen v))) back) → IfOk r (λ v. IsOfWorkers table (seen v).history) → IfOk r (λ v. IsLegalKnown (known_of (seen v)))
-    → IfOk r (λ v. IsPrefix fields (seen v).fields) → IfOk r (λ v. length (seen v).fields ≡ length fields + sum_by columns_of_hand back) → IfOk r (λ v. Holds workers files (seen v))
+    → IfOk r (λ v. IsPrefix fields (seen v).fields) → IfOk r (λ v. length (seen v).fields ≡ length fields + sum_by columns_of_hand back) → IfOk r (λ v. Holds workers files None (seen v))
 ok_holds workers table files fields old new back (Ok v) seen some same size stored are all is whole known legal opened counted =
     let stay = fields_stay fields old new (seen v) are all.kept (λ w below. (all.each w nobody below).columns) opened
     (subst (λ (hands : List Hand). length (seen v).fields ≡ length fields + sum_by columns_of_hand hands) is counted) in

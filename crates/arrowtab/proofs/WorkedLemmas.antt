@@ -1,5 +1,5 @@
 -- What workers loaded and what stopped them, from the pairs that each added.
-use Rattle.std.proofs.Common.{◌≡◌, ◌≢◌, ◌∙◌, IfOk, IfErr, Result, Ok, Err, ℕ, ◌%◌, ◌<◌, List, [], ◌∷◌, ◌++◌, None, Some, option_map, map, take, slice_get, ap, sym, subst}
+use Rattle.std.proofs.Common.{◌≡◌, ◌≢◌, ◌∙◌, IfOk, IfErr, Result, Ok, Err, ℕ, ◌%◌, ◌<◌, List, [], ◌∷◌, ◌++◌, Option, None, Some, option_map, map, take, slice_get, ap, sym, subst}
 use Rattle.std.proofs.lemmas.List.{map-append, take-map}
 use Rattle.std.proofs.lemmas.Option.{slice_get-map}
 use Rattle.std.proofs.lemmas.Simd.{map-map}
@@ -9,7 +9,7 @@ use mathlib.Core.List.{IsPrefix}
 use Rattle.arrays.specs.Batch.{Batch, Table, rows_of}
 use Rattle.arrays.specs.File.{File}
 use Rattle.arrays.specs.Shape.{FieldShape}
-use Rattle.loads.specs.Loaded.{batches_of, pairs_of}
+use Rattle.loads.specs.Loaded.{batches_of, fields_for, pairs_of}
 use Rattle.loads.specs.Plan.{planned}
 use Rattle.shared.specs.Balance.{IsOfWorkers}
 use Rattle.query.specs.declared.fault.QueryFault.{QueryFault}
@@ -17,11 +17,12 @@ use Rattle.table.specs.Cause.{IsLegal, batch_cause, difference}
 use Rattle.table.specs.Contents.{Contents}
 use Rattle.table.specs.History.{History, of}
 use Rattle.table.specs.declared.refusal.Refusal.{Refusal}
+use Rattle.arrowtab.specs.Column.{fields_with}
 use Rattle.arrowtab.specs.Loaded.{FileBatch, IsLoaded, IsStopped, added_by, tables_of}
 use Rattle.arrowtab.specs.Wanted.{IsUnprinted, PrintsWanted, RefusesWanted}
 use Rattle.arrowtab.specs.Worked.{Holds, IsRefusedOver, Shows, StopsLoading, StopsWanted, batch_of, listed}
 use Rattle.arrowtab.specs.declared.run_fault.RunFault.{RunFault}
-use Rattle.arrowtab.specs.declared.run_fault.RunFault.TheVariants.{NoMemory, OfFile, QueryUnread, QueryRefused}
+use Rattle.arrowtab.specs.declared.run_fault.RunFault.TheVariants.{NoMemory, OfColumn, OfFile, QueryUnread, QueryRefused}
 use Rattle.arrowtab.specs.declared.wanted.Wanted.{Wanted}
 use Rattle.arrowtab.specs.declared.wanted.Wanted.TheVariants as wanted
 use Rattle.arrowtab.proofs.PlanLemmas.{all_from, map_begun, planned-map}
@@ -100,41 +101,52 @@ stopped_of workers files fields file number refusal bs b h there inside known ow
 
 -- ---- what is printed of a table
 
-shows_held : (wanted : Wanted) (workers : ℕ) (files : List File) (v : Contents) (text : List ℕ) → Holds workers files v → PrintsWanted wanted workers v.fields v.history text → Shows wanted workers files text
-shows_held wanted workers files v text holds prints = record {
-  history = v.history;
-  loaded = holds.loaded;
-  prints = subst (λ (fs : List FieldShape). PrintsWanted wanted workers fs v.history text) holds.fields prints;
-}
+module _ (wanted : Wanted) (workers : ℕ) (files : List File) (column : Option FieldShape) where
+  module _ (v : Contents) (holds : Holds workers files column v) where
+    shows_held : (text : List ℕ) → PrintsWanted wanted workers v.fields v.history text → Shows wanted workers files column text
+    shows_held text prints = record {
+      allowed = holds.allowed;
+      history = holds.history;
+      loaded = holds.loaded;
+      prints =
+          subst (λ (h : History). PrintsWanted wanted workers (fields_with column (fields_for files)) h text) holds.held
+          (subst (λ (fs : List FieldShape). PrintsWanted wanted workers fs v.history text) holds.fields prints);
+    }
 
-refused_held : (wanted : Wanted) (workers : ℕ) (files : List File) (v : Contents) (fault : QueryFault) → Holds workers files v → RefusesWanted wanted v.fields v.history fault → IsRefusedOver wanted workers files fault
-refused_held wanted workers files v fault holds refused = record {
-  history = v.history;
-  loaded = holds.loaded;
-  refused = subst (λ (fs : List FieldShape). RefusesWanted wanted fs v.history fault) holds.fields refused;
-}
+    refused_held : (fault : QueryFault) → RefusesWanted wanted v.fields v.history fault → IsRefusedOver wanted workers files column fault
+    refused_held fault refused = record {
+      allowed = holds.allowed;
+      history = holds.history;
+      loaded = holds.loaded;
+      refused =
+          subst (λ (h : History). RefusesWanted wanted (fields_with column (fields_for files)) h fault) holds.held
+          (subst (λ (fs : List FieldShape). RefusesWanted wanted fs v.history fault) holds.fields refused);
+    }
 
-unprinted_held : (wanted : Wanted) (workers : ℕ) (files : List File) (v : Contents) (fault : RunFault) → Holds workers files v → IsUnprinted wanted v.fields v.history fault → StopsWanted wanted workers files fault
-unprinted_held wanted.Stats workers files v fault holds why = subst (StopsWanted wanted.Stats workers files) (sym why) tt
-unprinted_held wanted.Export workers files v fault holds why = subst (StopsWanted wanted.Export workers files) (sym why) tt
-unprinted_held (wanted.Groups query) workers files v NoMemory holds why = tt
-unprinted_held (wanted.Groups query) workers files v (OfFile file fault) holds why = absurd why
-unprinted_held (wanted.Groups query) workers files v (QueryUnread fault) holds why = absurd why
-unprinted_held (wanted.Groups query) workers files v (QueryRefused fault) holds why = refused_held (wanted.Groups query) workers files v fault holds why
+  -- what stops the loading stops what is wanted
+  pub loading_stops : (fault : RunFault) → StopsLoading workers files column fault → StopsWanted wanted workers files column fault
+  loading_stops NoMemory stops = tt
+  loading_stops (OfFile file fault) stops = stops
+  loading_stops (QueryUnread fault) stops = absurd stops
+  loading_stops (QueryRefused fault) stops = absurd stops
+  loading_stops (OfColumn fault) stops = stops
 
-pub output_shows : {A : Type 0} (wanted : Wanted) (workers : ℕ) (files : List File) (v : Contents) (r : Result A RunFault) (text : A → List ℕ) → Holds workers files v
-    → IfOk r (λ t. PrintsWanted wanted workers v.fields v.history (text t)) → IfOk r (λ t. Shows wanted workers files (text t))
-output_shows wanted workers files v (Ok t) text holds prints = shows_held wanted workers files v (text t) holds prints
-output_shows wanted workers files v (Err fault) text holds prints = tt
+unprinted_held : (wanted : Wanted) (workers : ℕ) (files : List File) (column : Option FieldShape) (v : Contents) (fault : RunFault) → Holds workers files column v
+    → IsUnprinted wanted v.fields v.history fault → StopsWanted wanted workers files column fault
+unprinted_held wanted.Stats workers files column v fault holds why = subst (StopsWanted wanted.Stats workers files column) (sym why) tt
+unprinted_held wanted.Export workers files column v fault holds why = subst (StopsWanted wanted.Export workers files column) (sym why) tt
+unprinted_held (wanted.Groups query) workers files column v NoMemory holds why = tt
+unprinted_held (wanted.Groups query) workers files column v (OfFile file fault) holds why = absurd why
+unprinted_held (wanted.Groups query) workers files column v (QueryUnread fault) holds why = absurd why
+unprinted_held (wanted.Groups query) workers files column v (QueryRefused fault) holds why = refused_held (wanted.Groups query) workers files column v holds fault why
+unprinted_held (wanted.Groups query) workers files column v (OfColumn fault) holds why = absurd why
 
-pub output_stops : {A : Type 0} (wanted : Wanted) (workers : ℕ) (files : List File) (v : Contents) (r : Result A RunFault) → Holds workers files v
-    → IfErr r (IsUnprinted wanted v.fields v.history) → IfErr r (StopsWanted wanted workers files)
-output_stops wanted workers files v (Ok t) holds why = tt
-output_stops wanted workers files v (Err fault) holds why = unprinted_held wanted workers files v fault holds why
+pub output_shows : {A : Type 0} (wanted : Wanted) (workers : ℕ) (files : List File) (column : Option FieldShape) (v : Contents) (r : Result A RunFault) (text : A → List ℕ)
+    → Holds workers files column v → IfOk r (λ t. PrintsWanted wanted workers v.fields v.history (text t)) → IfOk r (λ t. Shows wanted workers files column (text t))
+output_shows wanted workers files column v (Ok t) text holds prints = shows_held wanted workers files column v holds (text t) prints
+output_shows wanted workers files column v (Err fault) text holds prints = tt
 
--- what stops the loading stops what is wanted
-pub loading_stops : (wanted : Wanted) (workers : ℕ) (files : List File) (fault : RunFault) → StopsLoading workers files fault → StopsWanted wanted workers files fault
-loading_stops wanted workers files NoMemory stops = tt
-loading_stops wanted workers files (OfFile file fault) stops = stops
-loading_stops wanted workers files (QueryUnread fault) stops = absurd stops
-loading_stops wanted workers files (QueryRefused fault) stops = absurd stops
+pub output_stops : {A : Type 0} (wanted : Wanted) (workers : ℕ) (files : List File) (column : Option FieldShape) (v : Contents) (r : Result A RunFault) → Holds workers files column v
+    → IfErr r (IsUnprinted wanted v.fields v.history) → IfErr r (StopsWanted wanted workers files column)
+output_stops wanted workers files column v (Ok t) holds why = tt
+output_stops wanted workers files column v (Err fault) holds why = unprinted_held wanted workers files column v fault holds why

@@ -2,11 +2,15 @@
 use Rattle.std.specs.Prelude.{◌≡◌, ◌<◌, ℕ, List, slice_get, take, ⊤}
 use Rattle.arrowtab.specs.Run.{AreRead, FailedFile, FailedQuery, FailedRead, Inputs, Refuses, RefusesQuery}
 use Rattle.json_places.specs.JsonTable.{FileData}
-use Rattle.job.specs.declared.asked.Command.{Command}
+use Rattle.job.specs.declared.asked.Job.{Job}
+use Rattle.arrowtab.specs.Column.{FailedColumn, RefusesColumn}
+use Rattle.arrowtab.specs.declared.run_fault.ColumnFault.{ColumnFault}
+use Rattle.arrowtab.specs.declared.run_fault.ColumnFault.TheVariants as column
+use Rattle.arrowtab.specs.declared.run_fault.ColumnFault.TheVariants.{Unread}
 use Rattle.arrowtab.specs.declared.run_fault.FileFault.{FileFault}
 use Rattle.arrowtab.specs.declared.run_fault.FileFault.TheVariants.{CannotRead, Json, Refused}
 use Rattle.arrowtab.specs.declared.run_fault.RunFault.{RunFault}
-use Rattle.arrowtab.specs.declared.run_fault.RunFault.TheVariants.{NoMemory, OfFile, QueryUnread, QueryRefused}
+use Rattle.arrowtab.specs.declared.run_fault.RunFault.TheVariants.{NoMemory, OfColumn, OfFile, QueryUnread, QueryRefused}
 
 -- The cause of a fault of reading a file: a failure of its source in this call, or a fault of its bytes.
 abbrev pub ExplainsRead : Inputs → List ℕ → List ℕ → ℕ → FileFault → Type 0
@@ -20,6 +24,7 @@ ExplainsFiles inputs before after NoMemory = ⊤
 ExplainsFiles inputs before after (OfFile file fault) = ExplainsRead inputs before after file fault
 ExplainsFiles inputs before after (QueryUnread f) = ⊥
 ExplainsFiles inputs before after (QueryRefused f) = ⊥
+ExplainsFiles inputs before after (OfColumn f) = ⊥
 
 -- The cause of a file's fault, for so many workers: one of reading it, or a refusal of one of its batches.
 abbrev pub ExplainsFile : ℕ → Inputs → List ℕ → List ℕ → ℕ → FileFault → Type 0
@@ -27,12 +32,27 @@ ExplainsFile workers inputs before after file CannotRead = FailedRead before aft
 ExplainsFile workers inputs before after file (Json f) = FailedFile inputs file f.kind f.path
 ExplainsFile workers inputs before after file (Refused number refusal) = Refuses workers inputs file number refusal
 
--- The cause of a fault: of a file, of the query's bytes, or of the query over the files' table.
-abbrev pub Explains : Command → ℕ → Inputs → List ℕ → List ℕ → RunFault → Type 0
-Explains command workers inputs before after NoMemory = ⊤
-Explains command workers inputs before after (OfFile file fault) = ExplainsFile workers inputs before after file fault
-Explains command workers inputs before after (QueryUnread f) = FailedQuery command f.kind f.path
-Explains command workers inputs before after (QueryRefused f) = RefusesQuery command workers inputs f
+-- The cause of a fault of a job's column.
+abbrev pub ExplainsColumn : Job → ColumnFault → Type 0
+ExplainsColumn job (Unread f) = FailedColumn job f.kind f.path
+ExplainsColumn job (column.Refused fault) = RefusesColumn job fault
+
+-- The cause of a fault: of a file, of the query's bytes, of the query over the files' table, or of the column.
+abbrev pub Explains : Job → Inputs → List ℕ → List ℕ → RunFault → Type 0
+Explains job inputs before after NoMemory = ⊤
+Explains job inputs before after (OfFile file fault) = ExplainsFile job.workers inputs before after file fault
+Explains job inputs before after (QueryUnread f) = FailedQuery job.command f.kind f.path
+Explains job inputs before after (QueryRefused f) = RefusesQuery job inputs f
+Explains job inputs before after (OfColumn f) = ExplainsColumn job f
+
+-- The cause of a fault of reading a job's texts.
+abbrev pub ExplainsText : Job → RunFault → Type 0
+ExplainsText job NoMemory = ⊤
+ExplainsText job (OfFile file fault) = ⊥
+ExplainsText job (QueryUnread f) = FailedQuery job.command f.kind f.path
+ExplainsText job (QueryRefused f) = ⊥
+ExplainsText job (OfColumn (Unread f)) = FailedColumn job f.kind f.path
+ExplainsText job (OfColumn (column.Refused fault)) = ⊥
 
 -- No file before the fault's has one: no failure of their sources is counted, and their bytes are read.
 abbrev pub IsOfFirst : Inputs → List ℕ → List ℕ → RunFault → Type 0
@@ -40,3 +60,4 @@ IsOfFirst inputs before after NoMemory = ⊤
 IsOfFirst inputs before after (OfFile file fault) = ((i : ℕ) → i < file → slice_get after i ≡ slice_get before i) × ((files : List FileData) × AreRead (take file inputs) files)
 IsOfFirst inputs before after (QueryUnread f) = ⊤
 IsOfFirst inputs before after (QueryRefused f) = ⊤
+IsOfFirst inputs before after (OfColumn f) = ⊤

@@ -6,6 +6,8 @@ pub mod GroupLines
 pub mod Queried
 pub mod Output
 pub mod Loaded
+pub mod Column
+pub mod AddFaultText
 pub mod Lines
 pub mod Told
 pub mod Run

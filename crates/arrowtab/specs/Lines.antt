@@ -27,5 +27,8 @@ file_line name kind path = message (told_name name ++ codes ": " ++ fault_text k
 abbrev pub query_line : List ℕ → List ℕ
 query_line what = message (codes "query: " ++ what)
 
+abbrev pub column_line : List ℕ → List ℕ
+column_line what = message (codes "column: " ++ what)
+
 abbrev pub refusal_line : List ℕ → ℕ → Refusal → List ℕ
 refusal_line name number refusal = message (told_name name ++ codes ": batch " ++ decimal number ++ codes ": " ++ refusal_text refusal)

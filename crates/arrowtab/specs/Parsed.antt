@@ -7,7 +7,7 @@ use Rattle.json_places.specs.JsonFault.{Tells}
 use Rattle.json_places.specs.declared.fault.JsonFault.{JsonFault}
 use Rattle.arrowtab.specs.declared.run_fault.FileFault.TheVariants.{CannotRead, Json, Refused}
 use Rattle.arrowtab.specs.declared.run_fault.RunFault.{RunFault}
-use Rattle.arrowtab.specs.declared.run_fault.RunFault.TheVariants.{NoMemory, OfFile, QueryUnread, QueryRefused}
+use Rattle.arrowtab.specs.declared.run_fault.RunFault.TheVariants.{NoMemory, OfColumn, OfFile, QueryUnread, QueryRefused}
 
 -- The text is read as the file, each of whose batches is under its schema.
 abbrev pub IsTextOf : List ℕ → File → Type 0
@@ -40,3 +40,4 @@ StopsParsing texts before (OfFile file (Json f)) = IsFirstUnread texts before fi
 StopsParsing texts before (OfFile file (Refused number refusal)) = ⊥
 StopsParsing texts before (QueryUnread f) = ⊥
 StopsParsing texts before (QueryRefused f) = ⊥
+StopsParsing texts before (OfColumn f) = ⊥

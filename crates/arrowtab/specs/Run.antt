@@ -7,17 +7,22 @@ use Rattle.ends.specs.Sink.{AppendsFront}
 use Rattle.arrays.specs.Shape.{FieldShape}
 use Rattle.table.specs.History.{History}
 use Rattle.table.specs.Stored.{stored_fields}
+use Rattle.job.specs.Asked.{names_of}
 use Rattle.job.specs.declared.asked.Command.{Command}
 use Rattle.job.specs.declared.asked.Command.TheVariants.{Stats, Export, Query}
+use Rattle.job.specs.declared.asked.Job.{Job}
 use Rattle.query.specs.FaultText.{query_fault_text}
 use Rattle.query.specs.declared.fault.QueryFault.{QueryFault}
 use Rattle.query_json.specs.QueryAskedFault.{QueryBytesFault}
+use Rattle.arrowtab.specs.AddFaultText.{add_fault_text}
+use Rattle.arrowtab.specs.Column.{FailedColumn, IsAllowed, IsColumn, RefusesColumn, column_text, fields_with, history_with}
 use Rattle.arrowtab.specs.Output.{Prints, PrintsNothing}
-use Rattle.arrowtab.specs.Lines.{unread_line, file_line, query_line, refusal_line}
+use Rattle.arrowtab.specs.Lines.{column_line, unread_line, file_line, query_line, refusal_line}
 use Rattle.arrowtab.specs.Loaded.{IsLoaded, IsStopped, batches_of}
 use Rattle.arrow_json.specs.JsonFile.{Reads, BytesFault}
 use Rattle.json_places.specs.JsonFaultText.{fault_text}
 use Rattle.json_places.specs.JsonTable.{FileData}
+use Rattle.table.specs.declared.add_fault.AddFault.{AddFault}
 use Rattle.table.specs.declared.refusal.Refusal.{Refusal}
 use Rattle.json_places.specs.declared.path.Step.{Step}
 use Rattle.json_places.specs.declared.fault.JsonFaultKind.{JsonFaultKind}
@@ -35,14 +40,17 @@ abbrev pub table_fields : List FileData → List FieldShape
 table_fields [] = []
 table_fields (file ∷ files) = stored_fields file.fields
 
--- The text is the command's output for the files of these sources and so many workers: a legal history has each worker add
--- its list of their batches, in order.
-pub record Answers (command : Command) (workers : ℕ) (inputs : Inputs) (text : List ℕ) : Type 0 where
+-- The text is the job's output for the files of these sources: a legal history has each of its workers add its list of their
+-- batches, in order, and behind all of them comes the job's column, where it has one.
+pub record Answers (job : Job) (inputs : Inputs) (text : List ℕ) : Type 0 where
   pub files : List FileData
   pub read : AreRead inputs files
+  pub column : Option FieldShape
+  pub given : IsColumn (column_text job) column
+  pub allowed : IsAllowed column
   pub history : History
-  pub loaded : IsLoaded workers (map batches_of files) (table_fields files) history
-  pub prints : Prints command workers (table_fields files) history text
+  pub loaded : IsLoaded job.workers (map batches_of files) (table_fields files) history
+  pub prints : Prints job.command job.workers (fields_with column (table_fields files)) (history_with column (table_fields files) history) text
 
 -- The sources' bytes are read, and a cause stands for a batch of a file, after those that its worker adds before it.
 pub record Refuses (workers : ℕ) (inputs : Inputs) (file number : ℕ) (refusal : Refusal) : Type 0 where
@@ -56,24 +64,28 @@ FailedQuery Stats kind path = ⊥
 FailedQuery Export kind path = ⊥
 FailedQuery (Query bytes) kind path = QueryBytesFault (string_bytes bytes) kind path
 
--- The files of these sources are loaded as for an answer, and the command's query is refused over their table.
-pub record RefusesQuery (command : Command) (workers : ℕ) (inputs : Inputs) (fault : QueryFault) : Type 0 where
+-- The files of these sources are loaded as for an answer, with the job's column behind all of them, and its query is refused
+-- over their table.
+pub record RefusesQuery (job : Job) (inputs : Inputs) (fault : QueryFault) : Type 0 where
   pub files : List FileData
   pub read : AreRead inputs files
+  pub column : Option FieldShape
+  pub given : IsColumn (column_text job) column
+  pub allowed : IsAllowed column
   pub history : History
-  pub loaded : IsLoaded workers (map batches_of files) (table_fields files) history
-  pub refused : PrintsNothing command (table_fields files) history fault
+  pub loaded : IsLoaded job.workers (map batches_of files) (table_fields files) history
+  pub refused : PrintsNothing job.command (fields_with column (table_fields files)) (history_with column (table_fields files) history) fault
 
 -- ---- a run, where its ends tell their bytes. An end that doesn't tell them is none here.
 
 -- The whole output was written.
-abbrev pub Wrote : Command → ℕ → Inputs → Option (List ℕ) → Option (List ℕ) → Type 0
-Wrote command workers inputs old new = (text : List ℕ) × Answers command workers inputs text × Appends old new text
+abbrev pub Wrote : Job → Inputs → Option (List ℕ) → Option (List ℕ) → Type 0
+Wrote job inputs old new = (text : List ℕ) × Answers job inputs text × Appends old new text
 
 -- The output took nothing, or a beginning of the text and a write failed.
-pub data WroteFront (command : Command) (workers : ℕ) (inputs : Inputs) (old new : Option (List ℕ)) (failed failures : ℕ) : Type 0 where
-  nothing : Keeps old new → WroteFront command workers inputs old new failed failures
-  front : (text : List ℕ) → Answers command workers inputs text → AppendsFront old new text → failed < failures → WroteFront command workers inputs old new failed failures
+pub data WroteFront (job : Job) (inputs : Inputs) (old new : Option (List ℕ)) (failed failures : ℕ) : Type 0 where
+  nothing : Keeps old new → WroteFront job inputs old new failed failures
+  front : (text : List ℕ) → Answers job inputs text → AppendsFront old new text → failed < failures → WroteFront job inputs old new failed failures
 
 -- A file's source failed in this call.
 pub record FailedRead (before after : List ℕ) (file : ℕ) : Type 0 where
@@ -90,19 +102,23 @@ pub record FailedFile (inputs : Inputs) (file : ℕ) (kind : JsonFaultKind) (pat
   pub stands : IfSome input (λ bytes. BytesFault bytes kind path)
 
 -- Why a run ends with status 1, and the line that the error sink then took.
-pub data Excuse (command : Command) (workers : ℕ) (names : List (List ℕ)) (inputs : Inputs) (before after : List ℕ) (out_old out_new err_old err_new : ℕ) (old new : Option (List ℕ)) : Type 0 where
+pub data Excuse (job : Job) (inputs : Inputs) (before after : List ℕ) (out_old out_new err_old err_new : ℕ) (old new : Option (List ℕ)) : Type 0 where
   -- the error sink failed
-  error_failed : err_old < err_new → Excuse command workers names inputs before after out_old out_new err_old err_new old new
+  error_failed : err_old < err_new → Excuse job inputs before after out_old out_new err_old err_new old new
   -- the output can't be this: its line takes no memory
-  no_memory : out_new ≡ out_old → Appends old new memory_line → Excuse command workers names inputs before after out_old out_new err_old err_new old new
-  output_failed : out_old < out_new → Appends old new output_line → Excuse command workers names inputs before after out_old out_new err_old err_new old new
-  source_failed : (file : ℕ) (name : List ℕ) → slice_get names file ≡ Some name → FailedRead before after file
-      → Appends old new (unread_line name) → Excuse command workers names inputs before after out_old out_new err_old err_new old new
-  not_read : (file : ℕ) (name : List ℕ) (kind : JsonFaultKind) (path : List Step) → slice_get names file ≡ Some name → FailedFile inputs file kind path
-      → Appends old new (file_line name kind path) → Excuse command workers names inputs before after out_old out_new err_old err_new old new
-  refused : (file number : ℕ) (name : List ℕ) (refusal : Refusal) → slice_get names file ≡ Some name → Refuses workers inputs file number refusal
-      → Appends old new (refusal_line name number refusal) → Excuse command workers names inputs before after out_old out_new err_old err_new old new
-  query_not_read : (kind : JsonFaultKind) (path : List Step) → FailedQuery command kind path
-      → Appends old new (query_line (fault_text kind path)) → Excuse command workers names inputs before after out_old out_new err_old err_new old new
-  query_refused : (fault : QueryFault) → RefusesQuery command workers inputs fault
-      → Appends old new (query_line (query_fault_text fault)) → Excuse command workers names inputs before after out_old out_new err_old err_new old new
+  no_memory : out_new ≡ out_old → Appends old new memory_line → Excuse job inputs before after out_old out_new err_old err_new old new
+  output_failed : out_old < out_new → Appends old new output_line → Excuse job inputs before after out_old out_new err_old err_new old new
+  source_failed : (file : ℕ) (name : List ℕ) → slice_get (names_of job.names.items) file ≡ Some name → FailedRead before after file
+      → Appends old new (unread_line name) → Excuse job inputs before after out_old out_new err_old err_new old new
+  not_read : (file : ℕ) (name : List ℕ) (kind : JsonFaultKind) (path : List Step) → slice_get (names_of job.names.items) file ≡ Some name → FailedFile inputs file kind path
+      → Appends old new (file_line name kind path) → Excuse job inputs before after out_old out_new err_old err_new old new
+  refused : (file number : ℕ) (name : List ℕ) (refusal : Refusal) → slice_get (names_of job.names.items) file ≡ Some name → Refuses job.workers inputs file number refusal
+      → Appends old new (refusal_line name number refusal) → Excuse job inputs before after out_old out_new err_old err_new old new
+  query_not_read : (kind : JsonFaultKind) (path : List Step) → FailedQuery job.command kind path
+      → Appends old new (query_line (fault_text kind path)) → Excuse job inputs before after out_old out_new err_old err_new old new
+  query_refused : (fault : QueryFault) → RefusesQuery job inputs fault
+      → Appends old new (query_line (query_fault_text fault)) → Excuse job inputs before after out_old out_new err_old err_new old new
+  column_not_read : (kind : JsonFaultKind) (path : List Step) → FailedColumn job kind path
+      → Appends old new (column_line (fault_text kind path)) → Excuse job inputs before after out_old out_new err_old err_new old new
+  column_refused : (fault : AddFault) → RefusesColumn job fault
+      → Appends old new (column_line (add_fault_text fault)) → Excuse job inputs before after out_old out_new err_old err_new old new

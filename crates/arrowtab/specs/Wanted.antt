@@ -1,9 +1,11 @@
 -- What a job wants to be printed, its query being read.
-use Rattle.std.specs.Prelude.{◌≡◌, ℕ, List, Err, string_bytes, ⊤}
+use Rattle.std.specs.Prelude.{◌≡◌, ℕ, List, Err, Option, Some, option_map, string_bytes, ⊤}
 use Rattle.answers.specs.Groups.{groups}
-use Rattle.arrays.specs.Shape.{FieldShape}
+use Rattle.arrays.specs.Shape.{FieldShape, field_of}
+use Rattle.arrow_json.specs.JsonField.{FieldTextFault}
 use Rattle.job.specs.declared.asked.Command.{Command}
 use Rattle.job.specs.declared.asked.Command.TheVariants as command
+use Rattle.job.specs.declared.asked.Job.{Job}
 use Rattle.query.specs.Asked.{Asked}
 use Rattle.query.specs.Resolved.{named}
 use Rattle.query.specs.declared.fault.QueryFault.{QueryFault}
@@ -11,12 +13,15 @@ use Rattle.query.specs.declared.fault.QueryFault.TheVariants.{Overflow}
 use Rattle.query.specs.declared.queries.QueryText.{QueryText}
 use Rattle.query_json.specs.QueryAsked.{ReadsQueryText}
 use Rattle.table.specs.History.{History, rows}
+use Rattle.arrowtab.specs.Column.{IsColumn, column_text}
 use Rattle.arrowtab.specs.Output.{exported}
 use Rattle.arrowtab.specs.Queried.{PrintsGroups, RefusesGroups}
 use Rattle.arrowtab.specs.Run.{FailedQuery}
 use Rattle.arrowtab.specs.Shown.{shown}
+use Rattle.arrowtab.specs.declared.run_fault.ColumnFault.TheVariants as column
 use Rattle.arrowtab.specs.declared.run_fault.RunFault.{RunFault}
-use Rattle.arrowtab.specs.declared.run_fault.RunFault.TheVariants.{NoMemory, OfFile, QueryUnread, QueryRefused}
+use Rattle.arrowtab.specs.declared.run_fault.RunFault.TheVariants.{NoMemory, OfColumn, OfFile, QueryUnread, QueryRefused}
+use Rattle.arrowtab.specs.declared.wanted.Request.{Request}
 use Rattle.arrowtab.specs.declared.wanted.Wanted.{Wanted}
 use Rattle.arrowtab.specs.declared.wanted.Wanted.TheVariants.{Stats, Export, Groups}
 
@@ -32,6 +37,22 @@ IsUnread command NoMemory = ⊤
 IsUnread command (OfFile file fault) = ⊥
 IsUnread command (QueryUnread f) = FailedQuery command f.kind f.path
 IsUnread command (QueryRefused f) = ⊥
+IsUnread command (OfColumn f) = ⊥
+
+-- What the job asks for: what is printed, the column, and how many workers there are.
+pub record IsRequest (job : Job) (request : Request) : Type 0 where
+  pub wanted : IsWanted job.command request.wanted
+  pub column : IsColumn (column_text job) (option_map field_of request.column)
+  pub workers : request.workers ≡ job.workers
+
+-- The fault of reading the column's field.
+abbrev pub IsColumnUnread : Option (List ℕ) → RunFault → Type 0
+IsColumnUnread text NoMemory = ⊤
+IsColumnUnread text (OfFile file fault) = ⊥
+IsColumnUnread text (QueryUnread f) = ⊥
+IsColumnUnread text (QueryRefused f) = ⊥
+IsColumnUnread text (OfColumn (column.Unread f)) = (bytes : List ℕ) × (text ≡ Some bytes) × FieldTextFault bytes f.kind f.path
+IsColumnUnread text (OfColumn (column.Refused fault)) = ⊥
 
 -- The text is what is wanted, for so many workers.
 abbrev pub PrintsWanted : Wanted → ℕ → List FieldShape → History → List ℕ → Type 0
@@ -50,6 +71,7 @@ IsUnplaced placed fields h NoMemory = ⊤
 IsUnplaced placed fields h (OfFile file fault) = ⊥
 IsUnplaced placed fields h (QueryUnread f) = ⊥
 IsUnplaced placed fields h (QueryRefused f) = (row : ℕ) × (groups fields placed (rows h) ≡ Err row) × (f ≡ Overflow row)
+IsUnplaced placed fields h (OfColumn f) = ⊥
 
 -- The fault of answering a query by names.
 abbrev pub IsUnanswered : Asked (List ℕ) → List FieldShape → History → RunFault → Type 0
@@ -57,6 +79,7 @@ IsUnanswered query fields h NoMemory = ⊤
 IsUnanswered query fields h (OfFile file fault) = ⊥
 IsUnanswered query fields h (QueryUnread f) = ⊥
 IsUnanswered query fields h (QueryRefused f) = RefusesGroups query fields h f
+IsUnanswered query fields h (OfColumn f) = ⊥
 
 -- The fault of printing what is wanted.
 abbrev pub IsUnprinted : Wanted → List FieldShape → History → RunFault → Type 0

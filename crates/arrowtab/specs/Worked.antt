@@ -1,16 +1,22 @@
 -- What so many workers make of files, and what stops them.
-use Rattle.std.specs.Prelude.{◌≡◌, ℕ, List, map, ⊤}
+use Rattle.std.specs.Prelude.{◌≡◌, ℕ, All, List, ◌∷◌, length, map, Option, Some, ⊤}
 use Rattle.arrays.specs.Batch.{Batch, rows_of}
 use Rattle.arrays.specs.File.{File}
-use Rattle.loads.specs.Loaded.{batches_of, fields_for}
+use Rattle.arrays.specs.Shape.{FieldShape}
+use Rattle.loads.specs.Loaded.{AllLoaded, batches_of, fields_for}
 use Rattle.query.specs.declared.fault.QueryFault.{QueryFault}
+use Rattle.shared.specs.Hand.{AreNew, Hand, HasWidened}
 use Rattle.table.specs.Contents.{Contents}
 use Rattle.table.specs.History.{History}
+use Rattle.table.specs.Widened.{add_fault}
+use Rattle.arrowtab.specs.Column.{IsAllowed, fields_with, history_with}
 use Rattle.arrowtab.specs.Loaded.{FileBatch, IsLoaded, IsStopped}
 use Rattle.arrowtab.specs.Wanted.{PrintsWanted, RefusesWanted}
+use Rattle.arrowtab.specs.declared.run_fault.ColumnFault.{ColumnFault}
+use Rattle.arrowtab.specs.declared.run_fault.ColumnFault.TheVariants as column
 use Rattle.arrowtab.specs.declared.run_fault.FileFault.TheVariants.{CannotRead, Json, Refused}
 use Rattle.arrowtab.specs.declared.run_fault.RunFault.{RunFault}
-use Rattle.arrowtab.specs.declared.run_fault.RunFault.TheVariants.{NoMemory, OfFile, QueryUnread, QueryRefused}
+use Rattle.arrowtab.specs.declared.run_fault.RunFault.TheVariants.{NoMemory, OfColumn, OfFile, QueryUnread, QueryRefused}
 use Rattle.arrowtab.specs.declared.wanted.Wanted.{Wanted}
 
 abbrev pub batch_of : Batch → FileBatch
@@ -20,35 +26,67 @@ batch_of b = record { fields = b.fields; rows = rows_of b }
 abbrev pub listed : List File → List (List FileBatch)
 listed files = map (map batch_of) (batches_of files)
 
--- The table has the first file's fields, and all batches.
-pub record Holds (workers : ℕ) (files : List File) (table : Contents) : Type 0 where
-  pub fields : table.fields ≡ fields_for files
-  pub loaded : IsLoaded workers (listed files) (fields_for files) table.history
-
--- The fault of loading the files.
-abbrev pub StopsLoading : ℕ → List File → RunFault → Type 0
-StopsLoading workers files NoMemory = ⊤
-StopsLoading workers files (OfFile file CannotRead) = ⊥
-StopsLoading workers files (OfFile file (Json fault)) = ⊥
-StopsLoading workers files (OfFile file (Refused number refusal)) = IsStopped workers (listed files) (fields_for files) file number refusal
-StopsLoading workers files (QueryUnread f) = ⊥
-StopsLoading workers files (QueryRefused f) = ⊥
-
--- The text is what is wanted of the files.
-pub record Shows (wanted : Wanted) (workers : ℕ) (files : List File) (text : List ℕ) : Type 0 where
+-- The table has the first file's fields, and all batches; behind them came the column, where there is one.
+pub record Holds (workers : ℕ) (files : List File) (column : Option FieldShape) (table : Contents) : Type 0 where
+  pub allowed : IsAllowed column
+  pub fields : table.fields ≡ fields_with column (fields_for files)
   pub history : History
   pub loaded : IsLoaded workers (listed files) (fields_for files) history
-  pub prints : PrintsWanted wanted workers (fields_for files) history text
+  pub held : table.history ≡ history_with column (fields_for files) history
 
--- The query that is wanted is refused over the files.
-pub record IsRefusedOver (wanted : Wanted) (workers : ℕ) (files : List File) (fault : QueryFault) : Type 0 where
+-- So many new workers loaded the files.
+pub record HaveLoaded (fields : List FieldShape) (count : ℕ) (files : List File) (hands : List Hand) : Type 0 where
+  pub old : List Hand
+  pub many : length old ≡ count
+  pub new : AreNew fields 0 old
+  pub loaded : AllLoaded (batches_of files) old hands
+
+-- Each batch has so many columns.
+abbrev pub AreAsWide : ℕ → List File → Type 0
+AreAsWide count files = All (All (λ b. length b.fields ≡ count)) (batches_of files)
+
+-- The first of the workers added a column of the stored field, and the others nothing.
+pub record IsWidenedFirst (f : FieldShape) (old new : List Hand) : Type 0 where
+  pub first : Hand
+  pub next : Hand
+  pub rest : List Hand
+  pub was : old ≡ first ∷ rest
+  pub becomes : new ≡ next ∷ rest
+  pub widened : HasWidened f first next
+
+-- The fault of adding the column.
+abbrev pub StopsColumn : Option FieldShape → ColumnFault → Type 0
+StopsColumn wanted (column.Unread f) = ⊥
+StopsColumn wanted (column.Refused fault) = (f : FieldShape) × (wanted ≡ Some f) × (add_fault f ≡ Some fault)
+
+-- The fault of loading the files, or of adding the column.
+abbrev pub StopsLoading : ℕ → List File → Option FieldShape → RunFault → Type 0
+StopsLoading workers files column NoMemory = ⊤
+StopsLoading workers files column (OfFile file CannotRead) = ⊥
+StopsLoading workers files column (OfFile file (Json fault)) = ⊥
+StopsLoading workers files column (OfFile file (Refused number refusal)) = IsStopped workers (listed files) (fields_for files) file number refusal
+StopsLoading workers files column (QueryUnread f) = ⊥
+StopsLoading workers files column (QueryRefused f) = ⊥
+StopsLoading workers files column (OfColumn f) = StopsColumn column f
+
+-- The text is what is wanted of the files, with the column behind them.
+pub record Shows (wanted : Wanted) (workers : ℕ) (files : List File) (column : Option FieldShape) (text : List ℕ) : Type 0 where
+  pub allowed : IsAllowed column
   pub history : History
   pub loaded : IsLoaded workers (listed files) (fields_for files) history
-  pub refused : RefusesWanted wanted (fields_for files) history fault
+  pub prints : PrintsWanted wanted workers (fields_with column (fields_for files)) (history_with column (fields_for files) history) text
 
--- The fault of loading the files, or of printing what is wanted of them.
-abbrev pub StopsWanted : Wanted → ℕ → List File → RunFault → Type 0
-StopsWanted wanted workers files NoMemory = ⊤
-StopsWanted wanted workers files (OfFile file fault) = StopsLoading workers files (OfFile file fault)
-StopsWanted wanted workers files (QueryUnread f) = ⊥
-StopsWanted wanted workers files (QueryRefused f) = IsRefusedOver wanted workers files f
+-- The query that is wanted is refused over them.
+pub record IsRefusedOver (wanted : Wanted) (workers : ℕ) (files : List File) (column : Option FieldShape) (fault : QueryFault) : Type 0 where
+  pub allowed : IsAllowed column
+  pub history : History
+  pub loaded : IsLoaded workers (listed files) (fields_for files) history
+  pub refused : RefusesWanted wanted (fields_with column (fields_for files)) (history_with column (fields_for files) history) fault
+
+-- The fault of loading the files, of adding the column, or of printing what is wanted of them.
+abbrev pub StopsWanted : Wanted → ℕ → List File → Option FieldShape → RunFault → Type 0
+StopsWanted wanted workers files column NoMemory = ⊤
+StopsWanted wanted workers files column (OfFile file fault) = StopsLoading workers files column (OfFile file fault)
+StopsWanted wanted workers files column (QueryUnread f) = ⊥
+StopsWanted wanted workers files column (QueryRefused f) = IsRefusedOver wanted workers files column f
+StopsWanted wanted workers files column (OfColumn f) = StopsColumn column f

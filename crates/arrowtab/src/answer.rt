@@ -1,5 +1,6 @@
 //! The output of a job, or why there is none.
-ghost use Rattle.std.specs.Prelude.{◌^◌, ◌-◌, ◌<◌, ◌≤◌, All, IfErr, IfOk, length, map, string_bytes};
+ghost use Rattle.std.specs.Prelude.{◌^◌, ◌-◌, ◌<◌, ◌≤◌, All, IfErr, IfOk, length, map, option_map, string_bytes};
+ghost use Rattle.arrays.specs.Shape.{field_of};
 ghost use Rattle.arrowtab.specs.Explained.{Explains};
 ghost use Rattle.arrowtab.specs.Run.{Answers};
 ghost use Rattle.arrowtab.specs.Wanted.{IsUnprinted, PrintsWanted};
@@ -11,7 +12,7 @@ use crate::reading::read_files;
 use crate::report::stats_text;
 use crate::run_fault::RunFault;
 use crate::together::load_together;
-use crate::wanted::{Wanted, wanted_of};
+use crate::wanted::{Request, Wanted, request_of};
 use arrays::File;
 use ends::Source;
 use job::Job;
@@ -20,8 +21,8 @@ use std::sync::Wait;
 use std::thread::Threads;
 use table::Version;
 
-/// Reads the job's query, then all sources, one after the other, has the job's workers load their files, and makes the
-/// command's output.
+/// Reads the job's query and its column's field, then all sources, one after the other, has the job's workers load their
+/// files, adds the column, and makes the command's output.
 pub(crate) fn answer<W: Wait + Sync, T: Threads + Sync, S: Source>(
     wait: &W,
     threads: &T,
@@ -33,36 +34,40 @@ pub(crate) fn answer<W: Wait + Sync, T: Threads + Sync, S: Source>(
     requires worker { 1 ≤ job.now.workers }
     requires few { job.now.workers ≤ 64 }
     requires room { All (λ s. S.failures s < 2 ^ 64 - 1) sources.old }
-    ensures ok { IfOk result (λ text. Answers job.now.command job.now.workers (map S.remaining sources.old) (string_bytes text)) }
-    ensures err { IfErr result (Explains job.now.command job.now.workers (map S.remaining sources.old)
+    ensures ok { IfOk result (λ text. Answers job.now (map S.remaining sources.old) (string_bytes text)) }
+    ensures err { IfErr result (Explains job.now (map S.remaining sources.old)
         (map S.failures sources.old) (map S.failures sources.new)) }
 {
-    match wanted_of(alloc, &job.command) {
-        Ok(wanted) => match read_files(threads, alloc, job.workers, sources) {
-            Ok(files) => answer_files(wait, threads, alloc, job.workers, &wanted, files),
+    match request_of(alloc, job) {
+        Ok(request) => match read_files(threads, alloc, job.workers, sources) {
+            Ok(files) => answer_files(wait, threads, alloc, request, files),
             Err(fault) => Err(fault),
         },
         Err(fault) => Err(fault),
     }
 }
 
-/// What is wanted, for files that so many workers load.
+/// What is requested of files.
 fn answer_files<W: Wait + Sync, T: Threads + Sync>(
     wait: &W,
     threads: &T,
     alloc: Global,
-    workers: u32,
-    wanted: &Wanted,
+    request: Request,
     files: Vec<File>,
 ) -> Result<String, RunFault>
     requires some { 0 < length files.items }
-    requires worker { 1 ≤ workers }
-    requires few { workers ≤ 64 }
-    ensures ok { IfOk result (λ text. Shows wanted.now workers files.items (string_bytes text)) }
-    ensures err { IfErr result (StopsWanted wanted.now workers files.items) }
+    requires worker { 1 ≤ request.workers }
+    requires few { request.workers ≤ 64 }
+    ensures ok { IfOk result (λ text. Shows request.wanted request.workers files.items (option_map field_of request.column) (string_bytes text)) }
+    ensures err { IfErr result (StopsWanted request.wanted request.workers files.items (option_map field_of request.column)) }
 {
-    match load_together(wait, threads, alloc, workers, files) {
-        Ok(version) => output_of(threads, alloc, wanted, workers, &version),
+    let Request {
+        wanted,
+        column,
+        workers,
+    } = request;
+    match load_together(wait, threads, alloc, workers, files, column) {
+        Ok(version) => output_of(threads, alloc, &wanted, workers, &version),
         Err(fault) => Err(fault),
     }
 }

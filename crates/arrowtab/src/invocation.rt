@@ -1,7 +1,6 @@
 //! The program over any sources and any two sinks.
 ghost use Rattle.std.specs.Prelude.{◌≡◌, ◌^◌, ◌-◌, ◌<◌, ◌≤◌, All, length, map};
 ghost use Rattle.arrowtab.specs.Run.{Excuse, Wrote, WroteFront};
-ghost use Rattle.job.specs.Asked.{names_of};
 
 use crate::answer::answer;
 use crate::tell::tell;
@@ -11,8 +10,8 @@ use std::alloc::Global;
 use std::sync::Wait;
 use std::thread::Threads;
 
-/// Does the job: reads its query, where it has one, and then all sources in order, loads their files, writes the output, and
-/// answers the status: 0 where all of the output was written, 1 where a fault was told to `err` instead.
+/// Does the job: reads its query and its column's field, where it has them, and then all sources in order, loads their files,
+/// adds the column, writes the output, and answers the status: 0 where all of the output was written, 1 where a fault was told to `err` instead.
 ///
 /// Nothing goes to `out` before the whole answer is there. Where the ends tell their bytes, the
 /// contract says which they are; the count of failures of each end is to have room for one more. Several workers load
@@ -37,15 +36,15 @@ pub fn run<W: Wait + Sync, T: Threads + Sync, S: Source, O: Sink, E: Sink>(
     ensures status { result < 2 }
 
     // Status 0: all of the output was written, and nothing was told.
-    ensures done { result ≡ 0 → Wrote job.now.command job.now.workers (map S.remaining sources.old) (O.taken out.old) (O.taken out.new) }
+    ensures done { result ≡ 0 → Wrote job.now (map S.remaining sources.old) (O.taken out.old) (O.taken out.new) }
     ensures silent { result ≡ 0 → err.new ≡ err.old }
 
     // Status 1: none of it was, or a beginning of it where the output failed ..
-    ensures quiet { result ≡ 1 → WroteFront job.now.command job.now.workers (map S.remaining sources.old)
+    ensures quiet { result ≡ 1 → WroteFront job.now (map S.remaining sources.old)
         (O.taken out.old) (O.taken out.new) (O.failures out.old) (O.failures out.new) }
 
     // .. and there is a cause, whose line the error sink took.
-    ensures excused { result ≡ 1 → Excuse job.now.command job.now.workers (names_of job.now.names.items) (map S.remaining sources.old)
+    ensures excused { result ≡ 1 → Excuse job.now (map S.remaining sources.old)
         (map S.failures sources.old) (map S.failures sources.new)
         (O.failures out.old) (O.failures out.new) (E.failures err.old) (E.failures err.new)
         (E.taken err.old) (E.taken err.new) }

@@ -2,7 +2,7 @@ use arrow_json::JsonFault;
 use colbits::NoMemory;
 use query::QueryFault;
 use std::alloc::AllocFailed;
-use table::Refusal;
+use table::{AddFault, Refusal};
 
 /// Why there is no output.
 #[derive(Debug, Drop)]
@@ -14,6 +14,17 @@ pub(crate) enum RunFault {
     QueryUnread(JsonFault),
     /// The query is refused over the table.
     QueryRefused(QueryFault),
+    /// A fault of the column that is to be added.
+    OfColumn(ColumnFault),
+}
+
+/// Why no column is added.
+#[derive(Debug, Drop)]
+pub(crate) enum ColumnFault {
+    /// Its text is no field.
+    Unread(JsonFault),
+    /// No column of the field may be added.
+    Refused(AddFault),
 }
 
 /// Why a file can't be loaded.

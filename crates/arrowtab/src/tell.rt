@@ -1,18 +1,19 @@
 //! Faults as lines on the error sink.
-ghost use Rattle.std.specs.Prelude.{◌≡◌, ◌^◌, ◌-◌, ◌<◌, IfOk, length, string_bytes};
-ghost use Rattle.arrowtab.specs.Lines.{unread_line, file_line, query_line, refusal_line};
-ghost use Rattle.arrowtab.specs.Told.{IsLineOf, IsOfFile, TookFault, fault_line};
+ghost use Rattle.std.specs.Prelude.{◌≡◌, ◌++◌, ◌^◌, ◌-◌, ◌<◌, IfOk, codes, length, string_bytes};
+ghost use Rattle.arrowtab.specs.AddFaultText.{add_fault_text};
+ghost use Rattle.arrowtab.specs.Lines.{column_line, unread_line, file_line, query_line, refusal_line};
+ghost use Rattle.arrowtab.specs.Told.{IsLineOf, IsOfFile, TookFault, column_fault_text, fault_line};
 ghost use Rattle.job.specs.Asked.{names_of};
 
 use crate::name::push_name;
 use crate::refusal::refusal_text;
-use crate::run_fault::{FileFault, RunFault};
+use crate::run_fault::{ColumnFault, FileFault, RunFault};
 use arrow_json::{JsonFault, fault_text};
 use colbits::NoMemory;
 use ends::{Sink, tell_memory, write_line};
 use query::query_fault_text;
 use std::alloc::Global;
-use table::Refusal;
+use table::{AddFault, Refusal};
 
 /// Writes the line of a fault, with the name of its file where it is one of a file, or that memory ran out where there was
 /// none for the line. A failure of the sink can't be told any more; it stands in the sink's count.
@@ -40,6 +41,7 @@ fn line_of(alloc: Global, names: &[String], fault: &RunFault) -> Result<String, 
         RunFault::QueryRefused(fault) => {
             query_line(alloc, query_fault_text(alloc, *fault)?.as_str())
         }
+        RunFault::OfColumn(fault) => column_fault_line(alloc, fault),
     }
 }
 
@@ -99,8 +101,44 @@ fn refusal_line(
 fn query_line(alloc: Global, what: &str) -> Result<String, NoMemory>
     ensures { IfOk result (λ text. string_bytes text ≡ query_line what.now) }
 {
-    let mut text = String::from_str(alloc, "arrowtab: query: ")?;
+    line_behind(alloc, "arrowtab: query: ", what)
+}
+
+/// The line of a fault of the column.
+fn column_fault_line(alloc: Global, fault: &ColumnFault) -> Result<String, NoMemory>
+    ensures { IfOk result (λ text. string_bytes text ≡ column_line (column_fault_text fault.now)) }
+{
+    match fault {
+        ColumnFault::Unread(fault) => column_line(alloc, fault_text(alloc, fault)?.as_str()),
+        ColumnFault::Refused(fault) => column_line(alloc, add_fault_text(*fault)),
+    }
+}
+
+/// The line that says what is wrong with the column.
+fn column_line(alloc: Global, what: &str) -> Result<String, NoMemory>
+    ensures { IfOk result (λ text. string_bytes text ≡ column_line what.now) }
+{
+    line_behind(alloc, "arrowtab: column: ", what)
+}
+
+/// A line of two texts.
+fn line_behind(alloc: Global, head: &str, what: &str) -> Result<String, NoMemory>
+    ensures { IfOk result (λ text. string_bytes text ≡ head.now ++ what.now ++ codes "\n") }
+{
+    let mut text = String::from_str(alloc, head)?;
     text.push_str(what)?;
     text.push_str("\n")?;
     Ok(text)
+}
+
+/// Why no column is added, as it is told.
+fn add_fault_text(fault: AddFault) -> &'static str
+    ensures { result.now ≡ add_fault_text fault }
+{
+    match fault {
+        AddFault::NotNullable => "N1 NotNullable",
+        AddFault::TooDeep => "N2 TooDeep",
+        AddFault::DictInList => "N3 DictInList",
+        AddFault::NoMemory => "N4 NoMemory",
+    }
 }

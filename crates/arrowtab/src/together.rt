@@ -1,17 +1,22 @@
 //! The table of files that workers load together.
-ghost use Rattle.std.specs.Prelude.{◌≡◌, ◌+◌, ◌<◌, ◌≤◌, All, IfErr, IfOk, length, sum_by};
+ghost use Rattle.std.specs.Prelude.{◌≡◌, ◌≢◌, ◌⊎◌, ◌+◌, ◌<◌, ◌≤◌, All, IfErr, IfOk, IsFalse, IsTrue, None, OnOk, Some, length, map, option_map, sum_by};
 ghost use Rattle.std.specs.Arc.{arc_value};
+ghost use Rattle.std.specs.List.{Any};
 ghost use mathlib.Core.List.{IsPrefix};
-ghost use Rattle.arrowtab.specs.Worked.{Holds, StopsLoading};
-ghost use Rattle.loads.specs.Loaded.{fields_for};
+ghost use Rattle.arrays.specs.Batch.{Batch};
+ghost use Rattle.arrays.specs.Shape.{field_of};
+ghost use Rattle.arrowtab.specs.Worked.{AreAsWide, HaveLoaded, Holds, IsWidenedFirst, StopsLoading};
+ghost use Rattle.loads.specs.Loaded.{batches_of, fields_for};
 ghost use Rattle.shared.specs.Balance.{IsOfWorkers};
 ghost use Rattle.shared.specs.Hand.{AreNew, IsWhole, columns_of_hand};
 ghost use Rattle.shared.specs.Known.{IsLegalKnown, known_of};
 ghost use Rattle.shared.specs.Missing.{AllThere};
+ghost use Rattle.table.specs.Stored.{stored_field};
+ghost use Rattle.table.specs.Widened.{add_fault};
 
-use crate::run_fault::{FileFault, RunFault};
+use crate::run_fault::{ColumnFault, FileFault, RunFault};
 use answers::OpenGate;
-use arrays::File;
+use arrays::{Field, File, RecordBatch};
 use loads::{LoadFault, load_all};
 use shared::{Blanks, GatherCause, Naming, Pair, Publish, SharedTable, Shown, Worker, open};
 use std::alloc::Global;
@@ -19,26 +24,28 @@ use std::marker::Brand;
 use std::sync::ledger::Ledger;
 use std::sync::{Arc, Wait};
 use std::thread::Threads;
-use table::Version;
+use table::{AddFault, Version};
 
-/// The table of the files, which so many workers load at once: it has the first file's schema.
+/// The table of the files, which so many workers load at once: it has the first file's schema. Behind all of them comes the
+/// column, where there is one.
 pub(crate) fn load_together<W: Wait + Sync, T: Threads + Sync>(
     wait: &W,
     threads: &T,
     alloc: Global,
     workers: u32,
     files: Vec<File>,
+    column: Option<Field>,
 ) -> Result<Arc<Version>, RunFault>
     requires some { 0 < length files.items }
     requires worker { 1 ≤ workers }
     requires few { workers ≤ 64 }
-    ensures ok { IfOk result (λ v. Holds workers files.items (arc_value v)) }
-    ensures err { IfErr result (StopsLoading workers files.items) }
+    ensures ok { IfOk result (λ v. Holds workers files.items (option_map field_of column) (arc_value v)) }
+    ensures err { IfErr result (StopsLoading workers files.items (option_map field_of column)) }
 {
     let pair = Pair::new(alloc, files[0].schema())?;
     let blanks = Blanks::new(workers);
     load_under::<Brand, Brand, Brand, Brand, W, T>(
-        wait, threads, alloc, workers, &files, blanks, pair,
+        wait, threads, alloc, workers, &files, column, blanks, pair,
     )
 }
 
@@ -56,6 +63,7 @@ fn load_under<
     alloc: Global,
     workers: u32,
     files: &[File],
+    column: Option<Field>,
     blanks: Blanks,
     pair: Pair,
 ) -> Result<Arc<Version>, RunFault>
@@ -66,13 +74,13 @@ fn load_under<
     requires rows { (blanks.rows.name ≡ Q.name) × (blanks.rows.parts ≡ Q.parts) × (blanks.rows.parts ≡ workers) }
     requires columns { (blanks.columns.name ≡ K.name) × (blanks.columns.parts ≡ K.parts) × (blanks.columns.parts ≡ workers) }
     requires pair { (pair.book ≡ N.book) × (pair.fields ≡ N.fields) × (pair.fields ≡ fields_for files.now) }
-    ensures ok { IfOk result (λ v. Holds workers files.now (arc_value v)) }
-    ensures err { IfErr result (StopsLoading workers files.now) }
+    ensures ok { IfOk result (λ v. Holds workers files.now (option_map field_of column) (arc_value v)) }
+    ensures err { IfErr result (StopsLoading workers files.now (option_map field_of column)) }
 {
     let schema = files[0].schema().copy(alloc)?;
     match open::<C, Q, K, N, &W>(wait, alloc, schema, workers, 0, blanks, pair) {
         Ok((table, hands, _readers)) => {
-            load_by(wait, threads, alloc, workers, table, hands, files)
+            load_by(wait, threads, alloc, workers, table, hands, files, column)
         }
         Err(_) => Err(RunFault::NoMemory),
     }
@@ -95,14 +103,16 @@ fn load_by<
     table: SharedTable<C, Q, K, N, P>,
     hands: Vec<Worker<C, Q, K, N>>,
     files: &[File],
+    column: Option<Field>,
 ) -> Result<Arc<Version>, RunFault>
+    requires some { 0 < length files.now }
     requires worker { 1 ≤ workers }
     requires table { table ≡ workers }
     requires count { length hands.items ≡ workers }
     requires new { AreNew N.fields 0 hands.items }
     requires fields { N.fields ≡ fields_for files.now }
-    ensures ok { IfOk result (λ v. Holds workers files.now (arc_value v)) }
-    ensures err { IfErr result (StopsLoading workers files.now) }
+    ensures ok { IfOk result (λ v. Holds workers files.now (option_map field_of column) (arc_value v)) }
+    ensures err { IfErr result (StopsLoading workers files.now (option_map field_of column)) }
 {
     let mut hands = hands;
     match load_all(
@@ -114,7 +124,10 @@ fn load_by<
         files,
         &OpenGate,
     ) {
-        Ok(_) => gather_all(wait, table, hands),
+        Ok(_) => match column {
+            None => gather_all(wait, table, hands),
+            Some(field) => gather_with(wait, table, hands, files, field),
+        },
         Err(LoadFault::NoMemory) => {
             table.close(wait);
             Err(RunFault::NoMemory)
@@ -137,6 +150,94 @@ fn load_by<
             }
         }
     }
+}
+
+/// All that the workers of a table appended, with a column of the field behind it, which the first of them adds. Only where
+/// each batch has as many columns as the first file is it known that no column came before: any other batch is refused.
+fn gather_with<C: Ledger, Q: Ledger, K: Ledger, N: Naming, P: Publish<Item = Shown<N>>, W: Wait>(
+    wait: &W,
+    table: SharedTable<C, Q, K, N, P>,
+    hands: Vec<Worker<C, Q, K, N>>,
+    files: &[File],
+    field: Field,
+) -> Result<Arc<Version>, RunFault>
+    requires worker { 1 ≤ table }
+    requires some { 0 < length files.now }
+    requires loaded { HaveLoaded N.fields table files.now hands.items }
+    requires fields { N.fields ≡ fields_for files.now }
+    ensures ok { IfOk result (λ v. Holds table files.now (Some (field_of field)) (arc_value v)) }
+    ensures err { IfErr result (StopsLoading table files.now (Some (field_of field))) }
+{
+    if !are_as_wide(files, files[0].schema().len()) {
+        return match gather_all(wait, table, hands) {
+            Ok(_) => unreachable!(),
+            Err(fault) => Err(fault),
+        };
+    }
+    let mut hands = hands;
+    match widen_by_first(wait, &table, hands.as_mut_slice(), field) {
+        Ok(()) => gather_all(wait, table, hands),
+        Err(fault) => {
+            table.close(wait);
+            Err(add_fault_of(fault))
+        }
+    }
+}
+
+/// Has the first worker add a column of the field.
+fn widen_by_first<C: Ledger, Q: Ledger, K: Ledger, N: Naming, P: Publish<Item = Shown<N>>, W: Wait>(
+    wait: &W,
+    table: &SharedTable<C, Q, K, N, P>,
+    hands: &mut [Worker<C, Q, K, N>],
+    field: Field,
+) -> Result<(), AddFault>
+    requires { 0 < length hands.old }
+    ensures allowed { OnOk result (add_fault (field_of field) ≡ None) }
+    ensures first { OnOk result (IsWidenedFirst (stored_field (field_of field)) hands.old hands.new) }
+    ensures err { IfErr result (λ e. ((e ≡ AddFault.NoMemory) × (add_fault (field_of field) ≡ None))
+        ⊎ (add_fault (field_of field) ≡ Some e)) }
+{
+    match hands.split_first_mut() {
+        Some((first, _rest)) => table.add_column(wait, first, field),
+        None => unreachable!(),
+    }
+}
+
+/// Why no column was added, as a fault of the run.
+fn add_fault_of(fault: AddFault) -> RunFault
+    ensures memory { fault ≡ AddFault.NoMemory → result ≡ RunFault.NoMemory }
+    ensures other { fault ≢ AddFault.NoMemory → result ≡ RunFault.OfColumn (ColumnFault.Refused fault) }
+{
+    match fault {
+        AddFault::NoMemory => RunFault::NoMemory,
+        _ => RunFault::OfColumn(ColumnFault::Refused(fault)),
+    }
+}
+
+/// Whether each batch of the files has so many columns.
+fn are_as_wide(files: &[File], count: usize) -> bool
+    ensures all { IsTrue result → AreAsWide count files.now }
+    ensures other { IsFalse result → Any (Any (λ b. length b.fields ≢ count)) (batches_of files.now) }
+{
+    for file in files {
+        if !is_as_wide(file.batches(), count) {
+            return false;
+        }
+    }
+    true
+}
+
+/// Whether each of the batches has so many columns.
+fn is_as_wide(batches: &[Arc<RecordBatch>], count: usize) -> bool
+    ensures all { IsTrue result → All (λ (b : Batch). length b.fields ≡ count) (map arc_value batches.now) }
+    ensures other { IsFalse result → Any (λ (b : Batch). length b.fields ≢ count) (map arc_value batches.now) }
+{
+    for batch in batches {
+        if batch.schema().len() != count {
+            return false;
+        }
+    }
+    true
 }
 
 /// All that the workers of a table appended. As all of them are there, only want of memory can stand against it.

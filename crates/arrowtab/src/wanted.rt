@@ -1,9 +1,14 @@
-//! What a job wants to be printed: its query is read before any source is.
-ghost use Rattle.std.specs.Prelude.{IfErr, IfOk};
-ghost use Rattle.arrowtab.specs.Wanted.{IsUnread, IsWanted};
+//! What a job asks for: its query and its column's field are read before any source is.
+ghost use Rattle.std.specs.Prelude.{IfErr, IfOk, option_map, string_bytes};
+ghost use Rattle.arrays.specs.Shape.{field_of};
+ghost use Rattle.arrowtab.specs.Column.{IsColumn};
+ghost use Rattle.arrowtab.specs.Explained.{ExplainsText};
+ghost use Rattle.arrowtab.specs.Wanted.{IsColumnUnread, IsRequest, IsUnread, IsWanted};
 
-use crate::run_fault::RunFault;
-use job::Command;
+use crate::run_fault::{ColumnFault, RunFault};
+use arrays::Field;
+use arrow_json::read_field;
+use job::{Command, Job};
 use query::QueryText;
 use query_json::{JsonFaultKind, read_query};
 use std::alloc::Global;
@@ -14,6 +19,50 @@ pub(crate) enum Wanted {
     Stats,
     Export,
     Groups(QueryText),
+}
+
+/// A job whose texts are read.
+#[derive(Drop)]
+pub(crate) struct Request {
+    pub(crate) wanted: Wanted,
+    /// The field of the column that is added once the files are loaded.
+    pub(crate) column: Option<Field>,
+    pub(crate) workers: u32,
+}
+
+/// What a job asks for, or why one of its texts isn't read. The query comes first.
+pub(crate) fn request_of(alloc: Global, job: &Job) -> Result<Request, RunFault>
+    ensures ok { IfOk result (IsRequest job.now) }
+    ensures err { IfErr result (ExplainsText job.now) }
+{
+    match wanted_of(alloc, &job.command) {
+        Ok(wanted) => match column_of(alloc, &job.column) {
+            Ok(column) => Ok(Request {
+                wanted,
+                column,
+                workers: job.workers,
+            }),
+            Err(fault) => Err(fault),
+        },
+        Err(fault) => Err(fault),
+    }
+}
+
+/// The field that a column's text is read as, where there is one.
+fn column_of(alloc: Global, text: &Option<String>) -> Result<Option<Field>, RunFault>
+    ensures ok { IfOk result (λ field. IsColumn (option_map string_bytes text.now) (option_map field_of field)) }
+    ensures err { IfErr result (IsColumnUnread (option_map string_bytes text.now)) }
+{
+    let Some(text) = text else {
+        return Ok(None);
+    };
+    match read_field(alloc, text.as_str().as_bytes()) {
+        Ok(field) => Ok(Some(field)),
+        Err(fault) => match fault.kind {
+            JsonFaultKind::NoMemory => Err(RunFault::NoMemory),
+            _ => Err(RunFault::OfColumn(ColumnFault::Unread(fault))),
+        },
+    }
 }
 
 /// What a command asks for, or why its query isn't read.

@@ -1,5 +1,5 @@
 -- Which job the words of the command line ask for, and why they ask for none. `clap` has functions of the words for both.
-use Rattle.std.specs.Prelude.{◌≡◌, ◌≢◌, ◌<◌, ◌≤◌, ℕ, List, [], length, map, Option, Some, false, ⊤, codes, string_bytes, String}
+use Rattle.std.specs.Prelude.{◌≡◌, ◌≢◌, ◌<◌, ◌≤◌, ℕ, List, [], length, map, Option, option_map, Some, false, ⊤, codes, string_bytes, String}
 use Rattle.std.specs.Str.Parse.{IsNumeral, digits_value, without_leading_plus}
 use Rattle.std.specs.declared.alloc.Global.{Global}
 use Rattle.clap.specs.Words.{IsAmong, Row, Text, all_of, fault_of, first_of, kind_of, one_of, subcommand_of, takes}
@@ -24,6 +24,10 @@ HasQuery rows Stats = ⊤
 HasQuery rows Export = ⊤
 HasQuery rows (Query text) = first_of (codes "QUERY") rows ≡ Some (string_bytes text)
 
+-- The text of a column's field is the value of --add-column, where there is one.
+abbrev pub HasColumn : List Row → Option (String Global) → Type 0
+HasColumn rows column = option_map string_bytes column ≡ first_of (codes "FIELD") rows
+
 -- The names of the files.
 abbrev pub names_of : List (String Global) → List Text
 names_of names = map string_bytes names
@@ -36,13 +40,14 @@ IsNumber text number = IsNumeral 10 (without_leading_plus text) × (digits_value
 abbrev pub HasWorkers : List Row → ℕ → Type 0
 HasWorkers rows workers = (text : Text) × (one_of (codes "N") rows ≡ Some text) × IsNumber text workers
 
--- What `clap` finds in the words is the command with its query, the names of the files, and the number of workers.
+-- What `clap` finds in the words is the command with its query, the names of the files, the number of workers, and the column.
 pub record Finds (found : Option (Text × List Row)) (job : Job) : Type 0 where
   pub rows : List Row
   pub command : found ≡ Some (word_of job.command, rows)
   pub query : HasQuery rows job.command
   pub names : all_of (codes "FILE") rows ≡ Some (names_of job.names.items)
   pub workers : HasWorkers rows job.workers
+  pub column : HasColumn rows job.column
 
 -- `clap` takes the words, and finds the job in them.
 pub record Asks (words : List Text) (job : Job) : Type 0 where

@@ -20,15 +20,19 @@ workers = record (new_rule (codes "N")) {
   parser = Some (parser.Signed (pos 1) (pos 64));
 }
 
--- NAME --workers N FILE..
+-- --add-column FIELD
+abbrev pub column : Rule
+column = record (new_rule (codes "FIELD")) { long = Some (codes "add-column") }
+
+-- NAME --workers N --add-column FIELD FILE..
 abbrev pub over_files : List ℕ → App
-over_files name = with_rule (with_rule (new_app name) files) workers
+over_files name = with_rule (with_rule (with_rule (new_app name) files) workers) column
 
 -- --query QUERY
 abbrev pub query : Rule
 query = record (new_rule (codes "QUERY")) { long = Some (codes "query"); required = true }
 
--- query --query QUERY --workers N FILE..
+-- query --query QUERY --workers N --add-column FIELD FILE..
 abbrev pub with_query : App
 with_query = with_rule (over_files (codes "query")) query
 
@@ -36,6 +40,6 @@ with_query = with_rule (over_files (codes "query")) query
 abbrev pub alone : App
 alone = on_top (λ top. record top { arg_required_else_help = true; subcommand_required = true }) (new_app (codes "arrowtab"))
 
--- stats FILE.., export FILE.., and query --query QUERY FILE.., each with --workers N.
+-- stats FILE.., export FILE.., and query --query QUERY FILE.., each with --workers N and --add-column FIELD.
 abbrev pub arrowtab : App
 arrowtab = with_subcommand (with_subcommand (with_subcommand alone (over_files (codes "stats")).top) (over_files (codes "export")).top) with_query.top

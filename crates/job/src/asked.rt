@@ -19,4 +19,6 @@ pub struct Job {
     pub names: Vec<String>,
     /// How many workers load the files, from 1 to 64.
     pub workers: u32,
+    /// The field of the column that is added once the files are loaded, as its object of JSON.
+    pub column: Option<String>,
 }

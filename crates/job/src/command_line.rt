@@ -1,7 +1,7 @@
 //! The commands of the program, as `clap` reads them.
 ghost use Rattle.std.specs.Prelude.{◌≡◌, IfOk, false};
 ghost use Rattle.clap.specs.Words.{app_of, rule_of};
-ghost use Rattle.job.specs.CommandLine.{arrowtab, files, over_files, query, with_query, workers};
+ghost use Rattle.job.specs.CommandLine.{arrowtab, column, files, over_files, query, with_query, workers};
 ghost use Rattle.clap.specs.declared.builder.command.Command.TheViews.{out-Command};
 
 use clap::{Arg, Command, value_parser};
@@ -36,7 +36,7 @@ pub(crate) fn arrowtab<'a>(alloc: Global) -> Result<Command<'a>, AllocError>
     with_export.subcommand(query)
 }
 
-/// `query --query QUERY --workers N FILE..`
+/// `query --query QUERY --workers N --add-column FIELD FILE..`
 fn with_query<'a>(alloc: Global) -> Result<Command<'a>, AllocError>
     ensures line { IfOk result (λ command. app_of command ≡ with_query) }
     ensures local { IfOk result (λ command. (out-Command command).has_globals ≡ false) }
@@ -50,7 +50,7 @@ fn with_query<'a>(alloc: Global) -> Result<Command<'a>, AllocError>
     over.arg(query)
 }
 
-/// `NAME --workers N FILE..`
+/// `NAME --workers N --add-column FIELD FILE..`
 fn over_files<'a>(alloc: Global, name: &'a str, about: &'a str) -> Result<Command<'a>, AllocError>
     ensures line { IfOk result (λ command. app_of command ≡ over_files name.now) }
     ensures local { IfOk result (λ command. (out-Command command).has_globals ≡ false) }
@@ -60,7 +60,20 @@ fn over_files<'a>(alloc: Global, name: &'a str, about: &'a str) -> Result<Comman
     let bare = Command::new(alloc, name);
     let described = bare.about(about);
     let over = described.arg(files)?;
-    over.arg(workers)
+    let by_workers = over.arg(workers)?;
+    by_workers.arg(column(alloc))
+}
+
+/// `--add-column FIELD`
+fn column<'a>(alloc: Global) -> Arg<'a>
+    ensures rule { rule_of result ≡ column }
+    ensures local { result.global ≡ false }
+{
+    let field = Arg::new(alloc, "FIELD");
+    let named = field.long("add-column");
+    named.help(
+        "A column to add once the files are loaded, null in each row: a field as an object of JSON",
+    )
 }
 
 /// `--query QUERY`

@@ -1,7 +1,7 @@
 //! The words of the command line as a job.
 ghost use Rattle.std.specs.Prelude.{◌≡◌, ◌≤◌, IfErr, IfOk, IfSome, None, codes, map, option_map};
 ghost use Rattle.clap.specs.Words.{all_of, first_of, found_of, rows_of, subcommand_rows_of};
-ghost use Rattle.job.specs.Asked.{Asks, Finds, HasNoWorkers, HasQuery, HasWorkers, IsFaultOf, IsNoCommand, IsReady, IsUnfound, names_of, word_of};
+ghost use Rattle.job.specs.Asked.{Asks, Finds, HasColumn, HasNoWorkers, HasQuery, HasWorkers, IsFaultOf, IsNoCommand, IsReady, IsUnfound, names_of, word_of};
 
 use crate::asked::{Command, Job};
 use crate::command_line::arrowtab;
@@ -50,10 +50,14 @@ fn job_of(alloc: Global, matches: &ArgMatches<'_>) -> Result<Job, JobFault>
     let Ok(names) = names_of(alloc, files) else {
         return Err(JobFault::NoMemory);
     };
+    let Ok(column) = column_of(alloc, found) else {
+        return Err(JobFault::NoMemory);
+    };
     Ok(Job {
         command,
         names,
         workers,
+        column,
     })
 }
 
@@ -91,6 +95,23 @@ fn text_of<'a>(found: &ArgMatches<'a>) -> Option<&'a str>
     ensures { option_map (λ text. text.now) result ≡ first_of (codes "QUERY") (rows_of (found_of found.now)) }
 {
     found.get_str("QUERY")
+}
+
+/// A copy of what stands for `--add-column`, where it is there.
+fn column_of(alloc: Global, found: &ArgMatches<'_>) -> Result<Option<String>, AllocError>
+    ensures { IfOk result (HasColumn (rows_of (found_of found.now))) }
+{
+    match field_of(found) {
+        Some(field) => Ok(Some(String::from_str(alloc, field)?)),
+        None => Ok(None),
+    }
+}
+
+/// What stands for `--add-column`.
+fn field_of<'a>(found: &ArgMatches<'a>) -> Option<&'a str>
+    ensures { option_map (λ text. text.now) result ≡ first_of (codes "FIELD") (rows_of (found_of found.now)) }
+{
+    found.get_str("FIELD")
 }
 
 /// What stands for `FILE..`

@@ -4,7 +4,8 @@ mod dictionaries;
 mod lists;
 mod values;
 
-use arrow_json::{fault_text, read_file};
+use arrays::{DataType, Field};
+use arrow_json::{fault_text, read_field, read_file};
 use std::alloc::Global;
 use std::process::Abort;
 use std::test::Fail;
@@ -159,6 +160,73 @@ const FIELDS: Cases = &[
 #[test]
 fn tells_the_faults_of_a_field(rt: HostRuntime) -> Result<(), Fail> {
     expect_each(&rt, rt.alloc(), FILE_OF_FIELD, FIELDS)
+}
+
+/// The same field by itself.
+const FIELD: &str = r#"{"name":"n"MEMBERS}"#;
+
+#[test]
+fn tells_the_faults_of_a_field_by_itself(rt: HostRuntime) -> Result<(), Fail> {
+    for (members, wanted) in FIELDS {
+        let text = FIELD.replace(rt.alloc(), "MEMBERS", *members)?;
+        let wanted = wanted.replace(rt.alloc(), "/schema/fields/0", "")?;
+        expect_field(&rt, rt.alloc(), text.as_bytes(), wanted.as_str())?;
+    }
+    for text in ["", "{", "{} {}", "nul"] {
+        expect_field(&rt, rt.alloc(), text.as_bytes(), "J1 NotJson")?;
+    }
+    expect_field(&rt, rt.alloc(), &[34, 255, 34], "J1 NotJson")?;
+    expect_field(&rt, rt.alloc(), b"[]", "J3 WrongMember")?;
+    expect_field(&rt, rt.alloc(), b"{}", "J2 MissingMember at /name")
+}
+
+/// Asserts what is told of a field, `read` where nothing is wrong.
+fn expect_field(rt: &impl Abort, alloc: Global, text: &[u8], wanted: &str) -> Result<(), Fail> {
+    let told = match read_field(alloc, text) {
+        Ok(_) => String::from_str(alloc, "read")?,
+        Err(fault) => fault_text(alloc, &fault)?,
+    };
+    assert!(rt; told.as_str() == wanted, "{told} for {text:?}");
+    Ok(())
+}
+
+#[test]
+fn a_field_is_read_by_itself(rt: HostRuntime) -> Result<(), Fail> {
+    let texts =
+        r#"{"name":"m","nullable":false,"type":{"name":"utf8"},"dictionary":{"id":7,"indexType":{"name":"int","bitWidth":8,"isSigned":true}}}"#;
+    let encoded = read_field(rt.alloc(), texts.as_bytes())?;
+    assert!(&rt; is_field(&encoded, "m", false) && is_dict(&encoded.ty));
+    let lists =
+        r#"{"name":"l","nullable":true,"type":{"name":"largelist"},"children":[{"name":"item","nullable":true,"type":{"name":"bool"}}]}"#;
+    let listed = read_field(rt.alloc(), lists.as_bytes())?;
+    assert!(&rt; is_field(&listed, "l", true) && is_list_of_truths(&listed.ty));
+    Ok(())
+}
+
+fn is_field(field: &Field, name: &str, nullable: bool) -> bool {
+    field.name.as_str() == name && field.nullable == nullable
+}
+
+fn is_dict(ty: &DataType) -> bool {
+    match ty {
+        DataType::Dict => true,
+        _ => false,
+    }
+}
+
+fn is_bool(ty: &DataType) -> bool {
+    match ty {
+        DataType::Bool => true,
+        _ => false,
+    }
+}
+
+/// Whether it is the type of lists of nullable items, with offsets of 64 bits.
+fn is_list_of_truths(ty: &DataType) -> bool {
+    match ty {
+        DataType::LargeList(item) => is_field(item, "item", true) && is_bool(&item.ty),
+        _ => false,
+    }
 }
 
 /// A file of one field of such an integer type, and of one batch of two slots with these members.

@@ -7,8 +7,8 @@ use crate::scene::Scene;
 use crate::stop::Stop;
 use crate::sweep::Trial;
 use crate::tell::tell_file;
-use arrays::File;
-use arrow_json::{read_file, read_file_from_vec};
+use arrays::{Field, File};
+use arrow_json::{read_field, read_file, read_file_from_vec};
 use arrow_text::print_file;
 use ends::memory::MemorySource;
 use ends::read_whole;
@@ -25,27 +25,35 @@ pub(crate) enum Reading {
     ReadFile,
     ReadFileFromVec,
     ReadQuery,
+    ReadField,
     ReadWhole,
     Job,
     PrintFile,
 }
 
-pub(crate) const CALLS: [(&str, Reading); 6] = [
+pub(crate) const CALLS: [(&str, Reading); 7] = [
     ("read_file", Reading::ReadFile),
     ("read_file_from_vec", Reading::ReadFileFromVec),
     ("read_query", Reading::ReadQuery),
+    ("read_field", Reading::ReadField),
     ("read_whole", Reading::ReadWhole),
     ("job", Reading::Job),
     ("print_file", Reading::PrintFile),
 ];
 
-const WORDS: [&str; 7] = [
+/// A field of lists in lists.
+const FIELD: &str =
+    r#"{"name":"l","nullable":true,"type":{"name":"list"},"children":[{"name":"item","nullable":true,"type":{"name":"largelist"},"children":[{"name":"item","nullable":false,"type":{"name":"utf8"}}]}]}"#;
+
+const WORDS: [&str; 9] = [
     "arrowtab",
     "query",
     "--workers",
     "2",
     "--query",
     "{}",
+    "--add-column",
+    "[]",
     "towns.json",
 ];
 
@@ -80,6 +88,7 @@ struct Text {
 enum Read {
     File(File),
     Query(QueryText),
+    Field(Field),
     Bytes(Vec<u8>),
     Job(Job),
     Text(String),
@@ -102,6 +111,7 @@ impl<R> Scene<R> for Text {
                 Ok(Read::File(read_file_from_vec(alloc, bytes)?))
             }
             Reading::ReadQuery => Ok(Read::Query(read_query(alloc, BY_TEXT.as_bytes())?)),
+            Reading::ReadField => Ok(Read::Field(read_field(alloc, FIELD.as_bytes())?)),
             Reading::ReadWhole if self.source.failures() == 0 => {
                 Ok(Read::Bytes(read_whole(alloc, &mut self.source)?))
             }
@@ -120,6 +130,7 @@ impl<R> Scene<R> for Text {
         match answer {
             Read::File(file) => tell_file(told, file)?,
             Read::Query(query) => write!(told, "{query:?}")?,
+            Read::Field(field) => write!(told, "{field:?}")?,
             Read::Bytes(bytes) => write!(told, "{bytes:?}")?,
             Read::Job(job) => write!(told, "{job:?}")?,
             Read::Text(text) => told.push_str(text.as_str())?,

@@ -4,6 +4,7 @@
 ghost use Rattle.std.specs.Prelude.{◌≡◌, ◌^◌, ◌-◌, ◌<◌, All, IfOk};
 
 mod bytes;
+mod columns;
 mod exports;
 mod failing;
 mod names;

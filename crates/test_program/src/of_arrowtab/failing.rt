@@ -14,19 +14,22 @@ const NUMBERS: &str =
 const NUMBER: &str =
     r#"{"schema":{"fields":[{"name":"n","nullable":true,"type":{"name":"int","bitWidth":64,"isSigned":true},"children":[]}]},"batches":[{"count":1,"columns":[{"name":"n","count":1,"DATA":[7]}]}]}"#;
 
+const COLUMN: &str = r#"{"name":"m","nullable":true,"type":{"name":"utf8"}}"#;
+
 const SUM: &str = r#"{"aggs":[{"agg":"rows"},{"agg":"sum","column":"n"}]}"#;
 
 /// The words of runs over one file.
-const ALONE: [&[&str]; 5] = [
+const ALONE: [&[&str]; 6] = [
     &["arrowtab", "stats", "A"],
     &["arrowtab", "stats", "--workers", "2", "A"],
     &["arrowtab", "export", "A"],
     &["arrowtab", "export", "--workers", "2", "A"],
     &["arrowtab", "query", "--query", SUM, "A"],
+    &["arrowtab", "export", "--add-column", COLUMN, "A"],
 ];
 
 /// The words of runs over two files, which print the same whichever worker is first.
-const BESIDE: [&[&str]; 5] = [
+const BESIDE: [&[&str]; 6] = [
     &["arrowtab", "stats", "A", "B"],
     &["arrowtab", "stats", "--workers", "2", "A", "B"],
     &["arrowtab", "export", "A", "B"],
@@ -38,6 +41,16 @@ const BESIDE: [&[&str]; 5] = [
         "2",
         "--query",
         SUM,
+        "A",
+        "B",
+    ],
+    &[
+        "arrowtab",
+        "stats",
+        "--workers",
+        "2",
+        "--add-column",
+        COLUMN,
         "A",
         "B",
     ],

@@ -9,7 +9,7 @@ use std::thread::Threads;
 const STATS: &[&str] = &["arrowtab", "stats", "A"];
 
 /// A file of the three numbers 9223372036854775807, null and -1.
-const FILE: &str =
+pub(super) const FILE: &str =
     r#"{"schema":{"fields":[{"name":"n","nullable":true,"type":{"name":"int","bitWidth":64,"isSigned":true},"children":[]}]},"batches":[{"count":3,"columns":[{"name":"n","count":3,"VALIDITY":[1,0,1],"DATA":["9223372036854775807","x",-1]}]}]}"#;
 
 const OUTPUT: &str =

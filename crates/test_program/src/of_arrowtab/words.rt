@@ -89,6 +89,33 @@ fn workers_of(alloc: Global, line: &str) -> u32 {
     }
 }
 
+/// Words, and the text of the column that they ask for, a dash where they ask for none.
+const COLUMNS: [(&str, &str); 4] = [
+    ("arrowtab stats --add-column {} A", "{}"),
+    ("arrowtab export A --add-column=", ""),
+    ("arrowtab query --add-column [] --query {} A", "[]"),
+    ("arrowtab stats -- --add-column", "-"),
+];
+
+#[test]
+fn a_command_takes_a_column(rt: HostRuntime) {
+    for (line, column) in COLUMNS {
+        let is_right = has_column(rt.alloc(), line, column);
+        assert_case(&rt, is_right, &[line], column);
+    }
+}
+
+/// Whether a line asks for a column of this text, where it's a dash for none.
+fn has_column(alloc: Global, line: &str, wanted: &str) -> bool {
+    let Ok(job) = job_of(alloc, line) else {
+        return false;
+    };
+    match &job.column {
+        Some(column) => column.as_str() == wanted,
+        None => wanted == "-",
+    }
+}
+
 const HELP: &str = "Tells what files in Apache Arrow's JSON integration format hold, as one table
 
 Usage: arrowtab <COMMAND>
@@ -114,8 +141,9 @@ Arguments:
   <FILE>...  Files of one table, which has the first one's schema
 
 Options:
-      --workers <N>  How many workers load the files and answer the query at once, from 1 to 64 [default: 1]
-  -h, --help         Print help
+      --workers <N>         How many workers load the files and answer the query at once, from 1 to 64 [default: 1]
+      --add-column <FIELD>  A column to add once the files are loaded, null in each row: a field as an object of JSON
+  -h, --help                Print help
 ";
 
 const EXPORT_HELP: &str = "Print the table as one file, each text once in its dictionary
@@ -126,8 +154,9 @@ Arguments:
   <FILE>...  Files of one table, which has the first one's schema
 
 Options:
-      --workers <N>  How many workers load the files and answer the query at once, from 1 to 64 [default: 1]
-  -h, --help         Print help
+      --workers <N>         How many workers load the files and answer the query at once, from 1 to 64 [default: 1]
+      --add-column <FIELD>  A column to add once the files are loaded, null in each row: a field as an object of JSON
+  -h, --help                Print help
 ";
 
 const QUERY_HELP: &str = "Print a line for each group of rows, as a query asks
@@ -138,9 +167,10 @@ Arguments:
   <FILE>...  Files of one table, which has the first one's schema
 
 Options:
-      --workers <N>    How many workers load the files and answer the query at once, from 1 to 64 [default: 1]
-      --query <QUERY>  The query, an object of JSON with the members filter, by and aggs
-  -h, --help           Print help
+      --workers <N>         How many workers load the files and answer the query at once, from 1 to 64 [default: 1]
+      --add-column <FIELD>  A column to add once the files are loaded, null in each row: a field as an object of JSON
+      --query <QUERY>       The query, an object of JSON with the members filter, by and aggs
+  -h, --help                Print help
 ";
 
 /// Prints a fault to this output.
@@ -173,7 +203,7 @@ fn tells_that_help_failed(alloc: Global) -> bool {
 }
 
 /// Words that are no job, what `clap` says of them, and whether that is the help that was asked for.
-const NO_JOBS: [(&str, &str, bool); 15] = [
+const NO_JOBS: [(&str, &str, bool); 16] = [
     ("arrowtab --help", HELP, true),
     ("bin/arrowtab -h", HELP, true),
     ("arrowtab help", HELP, true),
@@ -237,6 +267,16 @@ For more information, try '--help'.
     (
         "arrowtab export --workers 65 A",
         "error: invalid value '65' for '--workers <N>': 65 is not in 1..=64
+
+For more information, try '--help'.
+",
+        false,
+    ),
+    (
+        "arrowtab stats --add-column {} --add-column {} A",
+        "error: the argument '--add-column <FIELD>' cannot be used multiple times
+
+Usage: arrowtab stats [OPTIONS] <FILE>...
 
 For more information, try '--help'.
 ",

@@ -15,14 +15,14 @@ use Rattle.arrow_json.proofs.schema.read_fields.Goals as goal
 
 pub returns-in_err-top-clause-err : goal.returns-in_err-top-clause-err
 returns-in_err-top-clause-err c =
-    let cases : MatchResult c.read_field-read.result (λ y. c.map_err.result ≡ Ok y) (λ e. IsErrAnd c.map_err.result (IsUnder (step.Item c.loop-index.index-counter) e)) = search rules in
-    error_made _ _ _ _ _ _ _ cases c.in_err-top.was c.read_field-read.ensures.err c.from_residual.ensures.1
+    let cases : MatchResult c.read_top-read.result (λ y. c.map_err.result ≡ Ok y) (λ e. IsErrAnd c.map_err.result (IsUnder (step.Item c.loop-index.index-counter) e)) = search rules in
+    error_made _ _ _ _ _ _ _ cases c.in_err-top.was c.read_top-read.ensures.err c.from_residual.ensures.1
     (λ _ told under. tells_item_at TopFault _ _ _ _ _ told (omega arith) c.index-values-index.is under)
 
 pub loop-index-preserved : goal.loop-index-preserved
 loop-index-preserved c =
-    let field = value_kept _ _ c.read_field-read.result c.map_err.result c.in_ok-top.top c.map_err.ensures.cases c.in_ok-top.was c.read_field-read.ensures.ok in
-    let encoding = value_kept _ _ c.read_field-read.result c.map_err.result c.in_ok-top.top c.map_err.ensures.cases c.in_ok-top.was c.read_field-read.ensures.encoding in (
+    let field = value_kept _ _ c.read_top-read.result c.map_err.result c.in_ok-top.top c.map_err.ensures.cases c.in_ok-top.was c.read_top-read.ensures.ok in
+    let encoding = value_kept _ _ c.read_top-read.result c.map_err.result c.in_ok-top.top c.map_err.ensures.cases c.in_ok-top.was c.read_top-read.ensures.encoding in (
       rw (c.in_ok-push.ensures.ok, fields_of-push) (each_pushed ReadsField _ _ _ _ _ c.loop-index.invariant.0 (omega arith) c.index-values-index.is field),
       rw (c.in_ok-push-2.ensures.ok, map-append (option_map parts_of) c.loop-index.encodings.items (c.in_ok-top.top.encoding ∷ []))
           (each_pushed HasEncoding _ _ _ _ _ c.loop-index.invariant.1 (omega arith) c.index-values-index.is encoding),

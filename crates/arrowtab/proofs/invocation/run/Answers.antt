@@ -15,13 +15,13 @@ returns-in-Ok-clause-quiet g c = λ _.
 
 pub tell-requires-clause-named : goal.tell-requires-clause-named
 tell-requires-clause-named g c =
-    named c.args.job.now.command c.args.job.now.workers (length c.deref.result.now) _ _ _ c.in-Err.fault
+    named c.args.job.now (length c.deref.result.now) _ _ _ c.in-Err.fault
     (length-map c.args.sources.now g.S.Source.remaining ∙ sym c.requires.named ∙ sym (ap (λ (names : List (String Global)). length names) c.deref.ensures.value))
     (length-map c.args.sources.now g.S.Source.failures ∙ sym c.requires.named ∙ sym (ap (λ (names : List (String Global)). length names) c.deref.ensures.value))
     c.in-Err.ensures.err
 
 pub returns-clause-excused : goal.returns-clause-excused
 returns-clause-excused g c = λ _.
-    excuse_told c.args.job.now.command c.args.job.now.workers (names_of c.args.job.now.names.items) _ _ _ _ _ _ _ _ c.in-Err.fault
+    excuse_told c.args.job.now _ _ _ _ _ _ _ _ c.in-Err.fault
     (subst (λ (names : List (String Global)). TookFault (names_of names) c.in-Err.fault (g.E.Sink.failures c.args.err.now) (g.E.Sink.failures c.tell.new.err) (g.E.Sink.taken c.args.err.now) (g.E.Sink.taken c.tell.new.err)) c.deref.ensures.value c.tell.ensures)
     c.in-Err.ensures.err

@@ -1,23 +1,27 @@
-use Rattle.std.proofs.Common.{◌≡◌, ◌∙◌, ◌+◌, ◌++◌, ◌%◌, List, ap, drop, get_or, length, subst, sym, take}
+use Rattle.std.proofs.Common.{◌≡◌, ◌∙◌, ◌+◌, ◌++◌, ◌%◌, IfOk, List, Option, option_map, ap, drop, get_or, length, subst, sym, take}
 use Rattle.std.specs.Arc.{arc_value}
+use Rattle.arrays.specs.Shape.{field_of}
 use Rattle.shared.specs.Balance.{IsOfWorkers}
 use Rattle.shared.specs.Hand.{AreNew, Hand, IsWhole, columns_of_hand}
 use Rattle.shared.specs.Known.{known_of}
 use Rattle.std.specs.Prelude.{All, sum_by}
+use Rattle.types.specs.declared.data_type.Field.{Field}
+use Rattle.arrowtab.specs.Worked.{Holds}
 use Rattle.arrowtab.proofs.TogetherLemmas.{loaded_there, ok_holds, stopped_all, stopped_stay, stopped_there, written_back}
 use Rattle.arrowtab.proofs.together.load_by.Goals as goal
 
-pub returns-in-Ok-clause-ok : goal.returns-in-Ok-clause-ok
-returns-in-Ok-clause-ok g c =
+pub returns-in-None-clause-ok : goal.returns-in-None-clause-ok
+returns-in-None-clause-ok g c =
     let items = c.args.hands.items in
     let old = c.as_mut_slice.result.now in
     let new = c.load_all.new.workers in
     let same : old ≡ items = c.as_mut_slice.ensures.value in
     let size : length old ≡ c.args.workers = ap (λ (hands : List Hand). length hands) same ∙ c.requires.count in
     let kept : length new ≡ length items = c.in-Ok.ensures.loaded.kept ∙ ap (λ (hands : List Hand). length hands) same in
-    ok_holds c.args.workers c.args.table c.args.files.now g.N.Naming-1.fields old new (take c.args.hands.len (new ++ drop (length new) items)) c.gather_all.result arc_value c.requires.worker c.requires.table
+    subst (λ (column : Option Field). IfOk c.gather_all.result (λ v. Holds c.args.workers c.args.files.now (option_map field_of column) (arc_value v))) (sym c.in-None.is)
+    (ok_holds c.args.workers c.args.table c.args.files.now g.N.Naming-1.fields old new (take c.args.hands.len (new ++ drop (length new) items)) c.gather_all.result arc_value c.requires.worker c.requires.table
     size c.requires.fields (subst (AreNew g.N.Naming-1.fields 0) (sym same) c.requires.new) c.in-Ok.ensures.loaded (written_back c.args.hands.len items new c.args.hands.ok.0 kept)
-    c.gather_all.ensures.whole c.gather_all.ensures.known c.gather_all.ensures.legal c.gather_all.ensures.opened c.gather_all.ensures.columns
+    c.gather_all.ensures.whole c.gather_all.ensures.known c.gather_all.ensures.legal c.gather_all.ensures.opened c.gather_all.ensures.columns)
 
 pub returns-in-Ok-gather_all-clause-err : goal.returns-in-Ok-gather_all-clause-err
 returns-in-Ok-gather_all-clause-err g c =

@@ -14,4 +14,5 @@ returns-clause-found c = record {
   query = c.in_ok-command.ensures.query;
   names = search rules;
   workers = c.in-Some-workers_of.ensures.value;
+  column = c.in-Ok-column_of.ensures;
 }

@@ -1,0 +1,50 @@
+-- A column that is added once the files are loaded.
+use Rattle.std.specs.Prelude.{◌≡◌, ◌+◌, ◌++◌, ℕ, List, [], ◌∷◌, length, Option, None, Some, IfSome, option_map, string_bytes, ⊤}
+use Rattle.arrays.specs.Shape.{FieldShape}
+use Rattle.arrow_json.specs.JsonField.{FieldTextFault, IsFieldText}
+use Rattle.job.specs.declared.asked.Job.{Job}
+use Rattle.json_places.specs.declared.path.Step.{Step}
+use Rattle.json_places.specs.declared.fault.JsonFaultKind.{JsonFaultKind}
+use Rattle.table.specs.History.{History}
+use Rattle.table.specs.Stored.{stored_field}
+use Rattle.table.specs.Widened.{add_fault, widened}
+use Rattle.table.specs.declared.add_fault.AddFault.{AddFault}
+
+-- The text of a job's column, where it has one.
+abbrev pub column_text : Job → Option (List ℕ)
+column_text job = option_map string_bytes job.column
+
+-- The field that the text is read as; none without a text.
+abbrev pub IsColumn : Option (List ℕ) → Option FieldShape → Type 0
+IsColumn None None = ⊤
+IsColumn None (Some f) = ⊥
+IsColumn (Some text) None = ⊥
+IsColumn (Some text) (Some f) = IsFieldText text f
+
+-- A column of the field may be added.
+abbrev pub IsAllowed : Option FieldShape → Type 0
+IsAllowed column = IfSome column (λ f. add_fault f ≡ None)
+
+-- The fields with the column's behind them, as it is stored.
+abbrev pub fields_with : Option FieldShape → List FieldShape → List FieldShape
+fields_with None fields = fields
+fields_with (Some f) fields = fields ++ stored_field f ∷ []
+
+-- A history of rows of the fields, under those with the column's: its rows then end with null.
+abbrev pub history_with : Option FieldShape → List FieldShape → History → History
+history_with None fields h = h
+history_with (Some f) fields h = widened (length fields + 1) h
+
+-- The text isn't read as a field: this fault of it stands.
+pub record FailedColumn (job : Job) (kind : JsonFaultKind) (path : List Step) : Type 0 where
+  pub text : List ℕ
+  pub given : column_text job ≡ Some text
+  pub stands : FieldTextFault text kind path
+
+-- It is read, and no column of the field may be added.
+pub record RefusesColumn (job : Job) (fault : AddFault) : Type 0 where
+  pub text : List ℕ
+  pub field : FieldShape
+  pub given : column_text job ≡ Some text
+  pub read : IsFieldText text field
+  pub stands : add_fault field ≡ Some fault
