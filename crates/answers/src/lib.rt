@@ -1,4 +1,8 @@
 //! Answers of queries over record batches: which rows, by which keys, and what of each group of them.
+//!
+//! Start with these: [`answer`] looks at the rows in several pieces, each in a thread of its own, and [`answer_alone`] in one and
+//! without a thread. Both give an [`Answer`], whose [`Group`]s stand in order of first appearance. A [`Gate`] is passed before
+//! the first row of each piece; [`OpenGate`] lets each pass. Over a table call `Version::answer`, which takes the same.
 #![tactic(auto)]
 
 mod answering;

@@ -166,6 +166,8 @@ impl Array {
 
     /// An array of codes and their dictionary, which may be shared: 32-bit numbers, each of them null or
     /// the index of an entry. No memory is taken, and nothing is copied or checked.
+    ///
+    /// Codes `[1, null, 0]` over the entries `["a", "b"]` show `["b", null, "a"]`.
     pub fn dict(codes: Array, dictionary: Arc<Words>) -> Array
         requires numbers { codes.kind ≡ kind.int int32 }
         requires codes { All (λ c. is_code (length (arc_value dictionary).items) c ≡ true) codes.items }

@@ -1,5 +1,15 @@
 //! Arrow arrays, checked once: views, builders and record batches. The types of columns and the parts of an array come
 //! from `types` and `layout`, and are passed on.
+//!
+//! Start with these:
+//!
+//! - [`validate`] makes an [`Array`] of parts that come from elsewhere ([`RawArray`]), or returns the first fault.
+//! - [`IntBuilder`], [`BoolBuilder`], [`TextBuilder`] and [`ListBuilder`] make arrays slot by slot, [`Array::nulls`] one of nulls.
+//! - [`Array::view`] shows the slots: [`View::int_at`], [`View::bool_at`], [`View::text_at`] and [`View::list_at`] one of them,
+//!   [`View::slice`] a part.
+//! - [`RecordBatch::new`] puts columns of one length under a [`Schema`].
+//!
+//! The other public items are for the crates above, the typed views ([`Ints`], [`Bools`], [`Texts`], [`Lists`]) for those that compute.
 #![tactic(auto)]
 
 pub mod array;

@@ -16,6 +16,8 @@ use std::alloc::Global;
 use types::with_integer;
 
 /// The statistics of a column.
+///
+/// Of `[3, null, -1]` they are 3 rows, 1 null, the sum 2, the least number -1 and the greatest 3.
 pub fn stats_of(alloc: Global, view: &View<'_>) -> Result<ColumnStats, NoMemory>
     ensures { IfOk result (λ s. AreStats s view.now.kind view.now.items) }
 {

@@ -15,11 +15,13 @@ pub(crate) fn arrowtab<'a>(alloc: Global) -> Result<Command<'a>, AllocError>
         alloc,
         "stats",
         "Print rows, nulls, sum, least and greatest of each column",
+        "Output: the rows; of each worker its calls and rows; of each column its name, type, rows, nulls, sum,\nleast and greatest, and - where its type has none.\n\nExample: arrowtab stats --workers 2 january.json february.json",
     )?;
     let export = over_files(
         alloc,
         "export",
         "Print the table as one file, each text once in its dictionary",
+        "Output: an object of JSON with the schema, the batches as they were loaded, and a dictionary for each\ncolumn of texts.\n\nExample: arrowtab export cities.json > table.json",
     )?;
     let query = with_query(alloc)?;
     let bare = Command::new(alloc, "arrowtab");
@@ -27,7 +29,7 @@ pub(crate) fn arrowtab<'a>(alloc: Global) -> Result<Command<'a>, AllocError>
         "Tells what files in Apache Arrow's JSON integration format hold, as one table",
     );
     let explained = described.after_help(
-        "Exit status: 0 if all was done; 1 for a fault in a file, the output or memory;\n2 for a mistake in the arguments.",
+        "Exit status: 0 if all was done; 1 for a fault in a file, the query, the column, the output or memory;\n2 for a mistake in the arguments.",
     );
     let required = explained.subcommand_required(true);
     let helpful = required.arg_required_else_help(true);
@@ -46,12 +48,18 @@ fn with_query<'a>(alloc: Global) -> Result<Command<'a>, AllocError>
         alloc,
         "query",
         "Print a line for each group of rows, as a query asks",
+        "Output: of each group, in order of first appearance, the items of its key and then its aggregates, as JSON.\n\nExample: arrowtab query --query '{\"by\":[\"city\"],\"aggs\":[{\"agg\":\"rows\"}]}' cities.json",
     )?;
     over.arg(query)
 }
 
 /// `NAME --workers N --add-column FIELD FILE..`
-fn over_files<'a>(alloc: Global, name: &'a str, about: &'a str) -> Result<Command<'a>, AllocError>
+fn over_files<'a>(
+    alloc: Global,
+    name: &'a str,
+    about: &'a str,
+    example: &'a str,
+) -> Result<Command<'a>, AllocError>
     ensures line { IfOk result (λ command. app_of command ≡ over_files name.now) }
     ensures local { IfOk result (λ command. (out-Command command).has_globals ≡ false) }
 {
@@ -59,7 +67,8 @@ fn over_files<'a>(alloc: Global, name: &'a str, about: &'a str) -> Result<Comman
     let workers = workers(alloc);
     let bare = Command::new(alloc, name);
     let described = bare.about(about);
-    let over = described.arg(files)?;
+    let explained = described.after_help(example);
+    let over = explained.arg(files)?;
     let by_workers = over.arg(workers)?;
     by_workers.arg(column(alloc))
 }

@@ -26,6 +26,8 @@ use types::with_integer;
 /// the type. `TypesDiffer` unless both columns are of one integer type; else `LengthsDiffer` unless they are of one
 /// length; else `Overflow` at the least row where both have a number and the sum is outside the type. What lies
 /// under a null is never looked at. `NoMemory` where a growth was refused.
+///
+/// `[1, null, 3]` and `[4, 5, 6]` give `[5, null, 9]`; of 8-bit numbers `[1, 100]` and `[1, 100]` are an `Overflow` at row 1.
 pub fn add(alloc: Global, a: &View<'_>, b: &View<'_>) -> Result<Array, KernelFault>
     ensures ok { IfOk result (λ r. (arithmetic_fault ◌+ℤ◌ a.now b.now ≡ None)
         × (r ≡ shown a.now.kind (results ◌+ℤ◌ a.now.items b.now.items))) }

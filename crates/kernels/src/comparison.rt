@@ -40,6 +40,8 @@ pub enum CmpOp {
 /// what it begins. The result is null where either item is. The columns are of one integer type, both of truth
 /// values, or both of texts, dictionary-encoded or not: else it fails with `TypesDiffer`. Where the types suit and
 /// the lengths aren't equal it fails with `LengthsDiffer`, and with `NoMemory` only where both suit.
+///
+/// By `Lt` the columns `[1, 2, null]` and `[2, 2, 2]` give `[true, false, null]`.
 pub fn compare(alloc: Global, op: CmpOp, a: &View<'_>, b: &View<'_>) -> Result<Array, KernelFault>
     ensures ok { IfOk result (λ r. (comparison_fault a.now b.now ≡ None)
         × (r ≡ shown kind.boolean (compared op a.now.items b.now.items))) }

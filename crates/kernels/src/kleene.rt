@@ -20,6 +20,8 @@ use truths::{Truths, array_of};
 
 /// False where either is false, true where both are true, else null. It fails where the views aren't both of
 /// truth values, then where their lengths differ, and else for want of memory alone.
+///
+/// `[null, null, true]` and `[false, true, true]` give `[false, null, true]`.
 pub fn kleene_and(alloc: Global, a: &View<'_>, b: &View<'_>) -> Result<Array, KernelFault>
     ensures ok { IfOk result (λ r. (truths_fault a.now b.now ≡ None)
         × (r ≡ shown kind.boolean (conjunction a.now.items b.now.items))) }

@@ -19,6 +19,8 @@ use truths::{Truths, array_of};
 
 /// True where the view has no item: where the slot isn't valid, and of a dictionary-encoded view also where its
 /// entry isn't. It fails for want of memory alone.
+///
+/// `[1, null]` gives `[false, true]`.
 pub fn is_null(alloc: Global, a: &View<'_>) -> Result<Array, KernelFault>
     ensures ok { IfOk result (λ r. r ≡ shown kind.boolean (nulls a.now.items)) }
     ensures err { IfErr result (λ e. e ≡ KernelFault.NoMemory) }

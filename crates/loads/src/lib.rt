@@ -1,4 +1,7 @@
 //! Files loaded into one table by many workers.
+//!
+//! Start with [`load_all`]: each worker appends the batches of its files in a thread of its own. A [`Gate`] is passed before each
+//! append; [`OpenGate`] lets each pass. A [`LoadFault`] tells which batch of which file was refused, and why.
 #![tactic(auto)]
 
 mod appending;

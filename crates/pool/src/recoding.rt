@@ -19,6 +19,8 @@ use std::alloc::Global;
 /// The places of a column's texts in a pool, to which its new texts are added: null for null. It fails where the
 /// pool would be too full, and for want of memory; then the pool is as it was. Of a dictionary with no more entries
 /// than there are rows, an entry's text is looked up where a row names it first.
+///
+/// In a pool without texts `["b", "a", null, "b"]` has the codes `[0, 1, null, 0]`, and the pool then holds `"b"` and `"a"`.
 #[tactic(auto, using(crate::proofs::PrefixLemmas::prefix_length, crate::proofs::PrefixLemmas::prefix_take))]
 pub fn recode(alloc: Global, view: &View<'_>, pool: &mut TextPool) -> Result<Array, PoolFault>
     requires { is_recodable view.now.kind ≡ true }

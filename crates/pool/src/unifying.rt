@@ -16,6 +16,8 @@ use std::alloc::Global;
 
 /// One dictionary of the texts of some columns, in order of first appearance, and for each column its codes into it:
 /// null for null. It fails where the dictionary would be too full, and for want of memory.
+///
+/// `["b", "a"]` and `["c", "b"]` have the dictionary `["b", "a", "c"]` and the codes `[0, 1]` and `[2, 0]`.
 pub fn unify(alloc: Global, views: &[View<'_>]) -> Result<(Array, Vec<Array>), PoolFault>
     requires { All (λ v. is_recodable v.kind ≡ true) views.now }
     ensures dictionary { IfOk result (λ r. r.0 ≡ shown kind.utf8 (map item.text (all_texts views.now))) }

@@ -19,6 +19,8 @@ use std::alloc::Global;
 /// The items where the mask is true; where it is false or null they are dropped. A dictionary-encoded view keeps
 /// its kind and shares its dictionary. `WrongKind` unless the mask is of truth values, else `LengthsDiffer` unless it
 /// is as long as the view. `NoMemory` where a growth was refused.
+///
+/// Of `["a", "b", "c"]` the mask `[true, false, null]` keeps `["a"]`.
 pub fn filter(alloc: Global, view: &View<'_>, mask: &View<'_>) -> Result<Array, SelectFault>
     ensures ok { IfOk result (λ r. (filter_fault view.now mask.now ≡ None)
         × (r ≡ chosen view.now.kind (λ items. kept items mask.now.items) view.now)) }

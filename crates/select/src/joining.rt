@@ -26,6 +26,8 @@ use types::MOST_SLOTS;
 /// entries there, so that doubles may stand among them. `TypesDiffer` unless all views are of one type. `OffsetsFull`
 /// where the slots, texts, items of lists or dictionaries are past 2^31 - 1 together. `NoMemory` where a growth was
 /// refused.
+///
+/// `[1, 2]` and `[null]` give `[1, 2, null]`.
 pub fn concat(alloc: Global, views: &[View<'_>]) -> Result<Array, SelectFault>
     requires { 1 ≤ length views.now }
     ensures ok { IfOk result (λ r. (concat_fault views.now ≡ None) × (r ≡ joined (kind_of_first views.now) views.now)) }

@@ -18,6 +18,8 @@ use types::with_integer;
 /// dictionary-encoded view keeps its kind and shares its dictionary. `WrongKind` unless the indices are integers;
 /// else `IndexOutOfRange` at the least row whose index is there and names no slot of the view. `OffsetsFull` where
 /// the taken texts or items of lists are past 2^31 - 1. `NoMemory` where a growth was refused.
+///
+/// Of `["a", null, "c"]` the indices `[2, null, 0, 0]` take `["c", null, "a", "a"]`.
 pub fn take(alloc: Global, view: &View<'_>, indices: &View<'_>) -> Result<Array, SelectFault>
     ensures ok { IfOk result (λ r. (take_fault view.now indices.now ≡ None)
         × (r ≡ chosen view.now.kind (λ items. taken items indices.now.items) view.now)) }

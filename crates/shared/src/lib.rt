@@ -1,4 +1,14 @@
 //! A table that many workers append to at once, each from a thread of its own, and that readers read without waiting.
+//!
+//! Start with these:
+//!
+//! - [`open`] makes a [`SharedTable`] with its [`Worker`]s and [`Reader`]s; [`Blanks`] are what it makes ledgers of.
+//! - [`SharedTable::append`] adds a batch for a worker and returns a [`Receipt`]; [`SharedTable::snapshot`] gives the newest [`Version`].
+//! - [`Reader::latest`] gives the newest version without the lock; [`Reader::learn`] has it see what a receipt tells of.
+//! - [`SharedTable::compact`] joins neighbouring batches, [`SharedTable::add_column`] adds a nullable column.
+//! - [`SharedTable::gather`] takes all workers back and gives the version of the end; [`SharedTable::close`] is for who needs none.
+//!
+//! `loads::load_all` has the workers append lists of batches in threads of their own.
 #![tactic(auto)]
 
 pub mod fault;

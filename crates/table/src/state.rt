@@ -161,6 +161,8 @@ impl TableState {
     /// Joins neighbouring batches. From the first on, a batch is joined to those before it where all of them together have at
     /// most `max_rows` rows, no more than an array holds, and no offset is past 2^31 - 1. Rows, book, dictionaries and the
     /// statistics of columns stay; a batch that stays alone is shared. After a refusal the table is as it was.
+    ///
+    /// With `max_rows` 100, batches of 60, 30, 20 and 200 rows become batches of 90, 20 and 200 rows.
     pub fn compact(&mut self, max_rows: u32) -> Result<(), NoMemory>
         ensures compacted { OnOk result (IsCompacted max_rows self.old self.new) }
         ensures kept { OnErr result (self.new ≡ self.old) }

@@ -18,6 +18,8 @@ impl Array {
     ///
     /// The first fault of the other parts is told, in the order of the faults' table; the parts are gone then. Want
     /// of memory may be told in its stead.
+    ///
+    /// Offsets `[0, 2, 2, 3]` over the child `[1, 2, 3]` hold `[[1, 2], [], [3]]`.
     pub fn try_list(
         alloc: Global,
         item: Field,

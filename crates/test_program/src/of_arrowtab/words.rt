@@ -129,7 +129,7 @@ Commands:
 Options:
   -h, --help  Print help
 
-Exit status: 0 if all was done; 1 for a fault in a file, the output or memory;
+Exit status: 0 if all was done; 1 for a fault in a file, the query, the column, the output or memory;
 2 for a mistake in the arguments.
 ";
 
@@ -144,6 +144,11 @@ Options:
       --workers <N>         How many workers load the files and answer the query at once, from 1 to 64 [default: 1]
       --add-column <FIELD>  A column to add once the files are loaded, null in each row: a field as an object of JSON
   -h, --help                Print help
+
+Output: the rows; of each worker its calls and rows; of each column its name, type, rows, nulls, sum,
+least and greatest, and - where its type has none.
+
+Example: arrowtab stats --workers 2 january.json february.json
 ";
 
 const EXPORT_HELP: &str = "Print the table as one file, each text once in its dictionary
@@ -157,6 +162,11 @@ Options:
       --workers <N>         How many workers load the files and answer the query at once, from 1 to 64 [default: 1]
       --add-column <FIELD>  A column to add once the files are loaded, null in each row: a field as an object of JSON
   -h, --help                Print help
+
+Output: an object of JSON with the schema, the batches as they were loaded, and a dictionary for each
+column of texts.
+
+Example: arrowtab export cities.json > table.json
 ";
 
 const QUERY_HELP: &str = "Print a line for each group of rows, as a query asks
@@ -171,6 +181,10 @@ Options:
       --add-column <FIELD>  A column to add once the files are loaded, null in each row: a field as an object of JSON
       --query <QUERY>       The query, an object of JSON with the members filter, by and aggs
   -h, --help                Print help
+
+Output: of each group, in order of first appearance, the items of its key and then its aggregates, as JSON.
+
+Example: arrowtab query --query '{\"by\":[\"city\"],\"aggs\":[{\"agg\":\"rows\"}]}' cities.json
 ";
 
 /// Prints a fault to this output.
