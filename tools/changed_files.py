@@ -101,10 +101,10 @@ def main():
         changed.append(data)
     failed = 0
     with tempfile.TemporaryDirectory() as room, concurrent.futures.ThreadPoolExecutor(os.cpu_count()) as pool:
-        for number, told in enumerate(pool.map(lambda it: fault(program, room, *it), enumerate(changed))):
-            if told:
+        for number, found in enumerate(pool.map(lambda it: fault(program, room, *it), enumerate(changed))):
+            if found:
                 failed += 1
-                print(f"file {number}: {told}", flush=True)
+                print(f"file {number}: {found}", flush=True)
     print(f"{count - failed} passed, {failed} failed")
     return 1 if failed else 0
 

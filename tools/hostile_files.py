@@ -67,7 +67,7 @@ def field(name):
 
 
 def stated_columns():
-    """The type, how many rows the batch states, the column, and what is told of it."""
+    """The type, how many rows the batch states, the column, and what is reported of it."""
     for name in ("int", "bool", "utf8", "largeutf8"):
         yield name, MOST, {"count": MOST, "DATA": []}, f"J7 CountDiffers at {PLACE}/DATA"
         yield name, MOST, {"count": MOST, "VALIDITY": [], "DATA": []}, f"J7 CountDiffers at {PLACE}/VALIDITY"
@@ -89,7 +89,7 @@ def stated_columns():
 
 
 def stated_dictionaries():
-    """The batch of a dictionary, and what is told of it."""
+    """The batch of a dictionary, and what is reported of it."""
     place = "/dictionaries/0/data/columns"
     yield [{"count": MOST, "DATA": []}], f"J7 CountDiffers at {place}/0/DATA"
     yield [{"count": MOST, "VALIDITY": [], "DATA": []}], f"J7 CountDiffers at {place}/0/VALIDITY"
@@ -99,18 +99,18 @@ def stated_dictionaries():
 
 
 def stated_files():
-    """A file that states so many, and what is told of it."""
-    for name, rows, column, told in stated_columns():
-        yield {"schema": {"fields": [field(name)]}, "batches": [{"count": rows, "columns": [column]}]}, told
+    """A file that states so many, and what is reported of it."""
+    for name, rows, column, wanted in stated_columns():
+        yield {"schema": {"fields": [field(name)]}, "batches": [{"count": rows, "columns": [column]}]}, wanted
     schema = {"fields": [text_field("s", 7)]}
-    for columns, told in stated_dictionaries():
+    for columns, wanted in stated_dictionaries():
         data = {"count": MOST, "columns": columns}
-        yield {"schema": schema, "dictionaries": [{"id": 7, "data": data}], "batches": []}, told
-    for rows, column, told in [
+        yield {"schema": schema, "dictionaries": [{"id": 7, "data": data}], "batches": []}, wanted
+    for rows, column, wanted in [
         (MOST, {"count": MOST, "DATA": []}, f"J7 CountDiffers at {PLACE}/DATA"),
         (1, {"count": 1, "DATA": [MOST]}, f"J10 Layout V9 IndexPastDictionary row=0 at {PLACE}"),
     ]:
-        yield {"schema": schema, "dictionaries": [entry(7, 1)], "batches": [{"count": rows, "columns": [column]}]}, told
+        yield {"schema": schema, "dictionaries": [entry(7, 1)], "batches": [{"count": rows, "columns": [column]}]}, wanted
     yield {"schema": {"fields": [field("int")]}, "batches": [{"count": MOST, "columns": []}]}, "J7 CountDiffers at /batches/0/columns"
     yield {"schema": {"fields": []}, "batches": [{"count": MOST + 1, "columns": []}]}, "J3 WrongMember at /batches/0/count"
 
@@ -141,7 +141,7 @@ def one_list(offsets):
     return put(E, ('[{"count":0', '[{"count":1'), ('"name":"l","count":0,"VALIDITY":[],"OFFSET":[]', '"name":"l","count":1,"VALIDITY":[1],"OFFSET":' + offsets))
 
 
-# What it is, the text or the bytes, and what is told: the output, or the fault of the file, or several, one of which is told.
+# What it is, the text or the bytes, and what is reported: the output, or the fault of the file, or several, one of which is reported.
 FILES = [
     ("a file of three numbers", A, STATS_OF_A),
     ("a file with a dictionary", D, STATS_OF_D),
@@ -179,7 +179,7 @@ def lists_of(depth):
     return {"name": "m", "nullable": True, "type": {"name": "list"}, "children": [lists_of(depth - 1)]}
 
 
-# What it is, a field of a column that is to be added, and what is told.
+# What it is, a field of a column that is to be added, and what is reported.
 FIELDS = [
     ("a field of eight lists", json.dumps(lists_of(8)), STATS_OF_A + '"m" ' + "list<" * 8 + "bool" + ">" * 8 + " rows=3 nulls=3 sum=- least=- greatest=-\n"),
     ("a field of nine lists", json.dumps(lists_of(9)), "J4 UnsupportedType at " + "/children/0" * 8),
@@ -222,10 +222,10 @@ class Runs:
         return subprocess.run([self.program, "stats", *names], preexec_fn=lambda: limited(megabytes, seconds), timeout=60, **streams)
 
     def expect(self, name, run, path, wanted):
-        """Tells whether a run gave this output, or this fault of the file, or one of these."""
-        told = (run.returncode, run.stdout, run.stderr)
+        """Says whether a run gave this output, or this fault of the file, or one of these."""
+        given = (run.returncode, run.stdout, run.stderr)
         lawful = [outcome(path, one) for one in ([wanted] if isinstance(wanted, str) else wanted)]
-        self.tell(name, None if told in lawful else f"{told[0]} {told[1][:100]!r} {told[2][:200]!r}")
+        self.tell(name, None if given in lawful else f"{given[0]} {given[1][:100]!r} {given[2][:200]!r}")
 
     def costs(self, name, make, megabytes, seconds):
         document, columns = make()
@@ -293,12 +293,12 @@ def main():
         runs = Runs(program, room)
         for cost in COSTS:
             runs.costs(*cost)
-        for number, (document, told) in enumerate(stated_files()):
+        for number, (document, wanted) in enumerate(stated_files()):
             path = runs.file(json.dumps(document, separators=(",", ":")))
-            runs.expect(f"file {number} that states 2147483647", runs.run([path]), path, told)
-        for name, data, told in FILES:
+            runs.expect(f"file {number} that states 2147483647", runs.run([path]), path, wanted)
+        for name, data, wanted in FILES:
             path = runs.file(data)
-            runs.expect(name, runs.run([path]), path, told)
+            runs.expect(name, runs.run([path]), path, wanted)
         runs.cuts()
         runs.ends()
         runs.columns()

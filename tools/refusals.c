@@ -1,13 +1,13 @@
 /* Refuses requests for memory of the program that it is loaded into (LD_PRELOAD). Which ones is said in one of two ways.
 
    From outside, by the environment: request REFUSED, counted from 1 over all threads, and with REFUSED_ON all from there on. Each
-   refusal writes a byte to descriptor REFUSED_TOLD.
+   refusal writes a byte to descriptor REFUSED_REPORT.
 
    From inside, by requests for so many bytes as nobody wants in earnest:
 
      2^62 + n         From here on request n, counted from 1 over all threads, is refused.
      2^62 + 2^32 + n  The same, and all behind it.
-     2^61             Nothing is refused any more. It is granted where nothing was since this was asked last, or ever.
+     2^61             Nothing is refused any more. It is granted where nothing was since this was called last, or ever.
      2^60             How many blocks are in use is kept in mind.
      2^60 + 1         It is granted where as many are in use as were kept in mind.
 
@@ -27,7 +27,7 @@ enum { EINVAL = 22, ENOMEM = 12 };
 
 static const size ALONE = 1UL << 62, AND_ALL_BEHIND = 1UL << 32, WAS_NONE_REFUSED = 1UL << 61, KEEP_IN_MIND = 1UL << 60, ARE_AS_MANY = (1UL << 60) + 1;
 
-static long first, told = -1;
+static long first, report = -1;
 static int from_there_on, any_refused;
 static long requests, in_use, kept_in_mind;
 
@@ -41,8 +41,8 @@ static long number(const char *name) {
 
 /* Requests before this, of the loader's own, aren't counted. */
 __attribute__((constructor)) static void begin(void) {
-  if (getenv("REFUSED_TOLD"))
-    told = number("REFUSED_TOLD");
+  if (getenv("REFUSED_REPORT"))
+    report = number("REFUSED_REPORT");
   from_there_on = getenv("REFUSED_ON") != 0;
   first = number("REFUSED");
 }
@@ -81,8 +81,8 @@ static int is_refused(void) {
   if (request < first || (request > first && !from_there_on))
     return 0;
   __atomic_store_n(&any_refused, 1, __ATOMIC_RELAXED);
-  if (told >= 0)
-    write(told, "!", 1);
+  if (report >= 0)
+    write(report, "!", 1);
   return 1;
 }
 

@@ -48,7 +48,7 @@ class Sweep:
         """What a run gives in which this request is refused, and whether it was."""
         read, write = os.pipe()
         os.set_blocking(read, False)
-        names = {"LD_PRELOAD": self.library, "REFUSED": str(number), "REFUSED_TOLD": str(write)}
+        names = {"LD_PRELOAD": self.library, "REFUSED": str(number), "REFUSED_REPORT": str(write)}
         if on:
             names["REFUSED_ON"] = "1"
         try:
@@ -86,14 +86,14 @@ def main():
         sweep = Sweep(program, built(room))
         tasks = [(words, on, pool.submit(sweep.fault, words, on)) for words in cases() for on in (False, True)]
         for words, on, task in tasks:
-            told, number = task.result()
+            found, number = task.result()
             count += 1
             refused += number
             if number == 0:
-                told = told or "nothing was refused: the library wasn't loaded"
-            if told:
+                found = found or "nothing was refused: the library wasn't loaded"
+            if found:
                 failed += 1
-                print(f"{' '.join(words)}{', all from there on' if on else ''}: {told}", flush=True)
+                print(f"{' '.join(words)}{', all from there on' if on else ''}: {found}", flush=True)
     print(f"{refused} requests for memory were refused, one in each run or all from one on")
     print(f"{count - failed} passed, {failed} failed")
     return 1 if failed else 0

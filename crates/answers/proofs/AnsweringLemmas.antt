@@ -9,7 +9,7 @@ use Rattle.std.proofs.lemmas.List.Elements.{All-get_or, All-head, All-tail}
 use mathlib.Core.Path.{fun_ext}
 use Rattle.arrays.specs.Batch.{Batch, Row, Table, rows_of}
 use Rattle.types.specs.Shape.{FieldShape, kind_of_field}
-use Rattle.query.specs.Asked.{asked}
+use Rattle.query.specs.QueryShape.{query_shape}
 use Rattle.query.specs.Tree.{Tree}
 use Rattle.query.specs.declared.queries.Query.{Query}
 use Rattle.answers.specs.Answers.{all_rows}
@@ -64,7 +64,7 @@ module _ (fs gs : List FieldShape) (same : map kind_of_field fs ≡ map kind_of_
 
 pub has_kept_alike : (fs gs : List FieldShape) (q : Query) (rows : Table) (g : Grouping) → map kind_of_field fs ≡ map kind_of_field gs → HasKept fs q rows g → HasKept gs q rows g
 has_kept_alike fs gs q rows g same h =
-    (subst (λ (p : Row → Bool). IsGrouped q.by.items q.aggs.items (filter p rows) g.keys (map show_column g.columns.items)) (kept_alike fs gs same (asked q).filter) h.0, h.1)
+    (subst (λ (p : Row → Bool). IsGrouped q.by.items q.aggs.items (filter p rows) g.keys (map show_column g.columns.items)) (kept_alike fs gs same (query_shape q).filter) h.0, h.1)
 
 -- ---- the next batch
 

@@ -13,7 +13,7 @@ use Rattle.query.specs.Tree.{Tree, Trees}
 use Rattle.query.specs.declared.fault.QueryFault.{QueryFault}
 use Rattle.query.specs.declared.fault.QueryFault.TheVariants.{NoColumn}
 use Rattle.query.specs.declared.sort.Sort.{Sort}
-use Rattle.evaluate.specs.Value.{held_in, of_operands, value, values}
+use Rattle.evaluate.specs.Value.{bounded_in, of_operands, value, values}
 
 by_kind : Option Kind → Result Sort QueryFault
 by_kind (Some k) = Ok (sort_of_kind k)
@@ -36,8 +36,8 @@ module _ (fs gs : List FieldShape) (same : sort_at fs ≡ sort_at gs) (row : Row
     same_value (tree.int z) = refl
     same_value (tree.text s) = refl
     same_value (tree.op o ts) =
-        ap (λ f. option_and_then (λ xs. held_in (checked f (tree.op o ts)) (of_operands o xs)) (values fs row ts)) same
-        ∙ ap (option_and_then (λ xs. held_in (checked (sort_at gs) (tree.op o ts)) (of_operands o xs))) (same_values ts)
+        ap (λ f. option_and_then (λ xs. bounded_in (checked f (tree.op o ts)) (of_operands o xs)) (values fs row ts)) same
+        ∙ ap (option_and_then (λ xs. bounded_in (checked (sort_at gs) (tree.op o ts)) (of_operands o xs))) (same_values ts)
 
     pub same_values : (ts : Trees ℕ) → values fs row ts ≡ values gs row ts
     same_values tree.none = refl

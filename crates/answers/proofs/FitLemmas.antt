@@ -5,7 +5,7 @@ use Rattle.std.proofs.lemmas.List.Elements.{All-nil, All-cons}
 use Rattle.types.proofs.FirstLemmas.{first-none}
 use Rattle.types.specs.First.{first}
 use Rattle.types.specs.Shape.{FieldShape}
-use Rattle.query.specs.Asked.{Asked}
+use Rattle.query.specs.QueryShape.{QueryShape}
 use Rattle.query.specs.Columns.{sort_at}
 use Rattle.query.specs.Fault.{agg_fault, filter_fault, fits, is_too_deep, key_fault, query_fault}
 use Rattle.query.specs.declared.fault.QueryFault.{QueryFault}
@@ -22,12 +22,12 @@ nothing None h = refl
 nothing (Some e) h = absurd cc
 
 -- Its filter is a truth value, its keys are plain, and its aggregates are over columns of the kinds that they take.
-pub record Fits (fields : List FieldShape) (q : Asked ℕ) : Type 0 where
+pub record Fits (fields : List FieldShape) (q : QueryShape ℕ) : Type 0 where
   pub filter : filter_fault (sort_at fields) q.filter ≡ None
   pub by : All (λ c. key_fault (sort_at fields) c ≡ None) q.by
   pub aggs : All (λ a. agg_fault (sort_at fields) a ≡ None) q.aggs
 
-pub what_fits : (fields : List FieldShape) (q : Asked ℕ) → fits fields q ≡ true → Fits fields q
+pub what_fits : (fields : List FieldShape) (q : QueryShape ℕ) → fits fields q ≡ true → Fits fields q
 what_fits fields q h =
     let none = nothing (query_fault (sort_at fields) q) (both_true (not (is_too_deep q.filter)) (is_none (query_fault (sort_at fields) q)) h).1 in
     let p = first-none (filter_fault (sort_at fields) q.filter) _ none in

@@ -8,7 +8,7 @@ use Rattle.arrays.specs.Item.{Item, int}
 use Rattle.query.specs.declared.expr.Agg.{Agg}
 use Rattle.query.specs.declared.expr.Agg.TheVariants as agg
 use Rattle.answers.specs.Groups.{cell, GroupShape, first_keys, group_of, grouped, keys_of, rows_of_key}
-use Rattle.tallies.specs.Tallies.{items_for, tally_of, told, counted}
+use Rattle.tallies.specs.Tallies.{items_for, tally_of, cell_of, counted}
 use Rattle.keys.proofs.SameLemmas.{either, same_key-Decides, same_key_equiv}
 use Rattle.std.specs.Prelude.{All, slice_get, slice_index_or, slice_set}
 use Rattle.std.specs.Bool.{Decides}
@@ -18,7 +18,7 @@ use Rattle.std.proofs.lemmas.List.Folds.{list_any-append}
 use Rattle.std.proofs.lemmas.Map.Keys.{IsDistinct-head, IsDistinct-tail, IsDistinct-from_apart}
 use Rattle.std.proofs.lemmas.Option.{slice_get_within, get_or_from_slice_get}
 use Rattle.indexmap.specs.IndexSet.{insert_key}
-use Rattle.tallies.specs.Columns.{ColumnShape, column_of, show_column, told_at, IsColumnOf}
+use Rattle.tallies.specs.Columns.{ColumnShape, column_of, show_column, cell_of_group, IsColumnOf}
 use Rattle.keys.specs.Keys.{key_of, AreIds, with_keys}
 use Rattle.answers.specs.Grouping.{IsGrouped, tables_of}
 use Rattle.keys.specs.Same.{firsts, same_key}
@@ -195,43 +195,43 @@ grouped_more by aggs rows more keys new columns changed numbers h is at changes 
 
 -- ---- what the groups tell
 
-pub told-tally_of : (rows : Table) (a : Agg ℕ) → told a (tally_of a (items_for a rows)) ≡ cell rows a
-told-tally_of rows agg.Rows = ap (λ n. int (pos n)) (length-nulls rows) where
+pub cell_of-tally_of : (rows : Table) (a : Agg ℕ) → cell_of a (tally_of a (items_for a rows)) ≡ cell rows a
+cell_of-tally_of rows agg.Rows = ap (λ n. int (pos n)) (length-nulls rows) where
   length-nulls : (rows : Table) → length (items_for agg.Rows rows) ≡ length rows
   length-nulls [] = refl
   length-nulls (row ∷ rows) = ap suc (length-nulls rows)
-told-tally_of rows (agg.Count c) = refl
-told-tally_of rows (agg.Sum c) = refl
-told-tally_of rows (agg.Least c) = refl
-told-tally_of rows (agg.Greatest c) = refl
+cell_of-tally_of rows (agg.Count c) = refl
+cell_of-tally_of rows (agg.Sum c) = refl
+cell_of-tally_of rows (agg.Least c) = refl
+cell_of-tally_of rows (agg.Greatest c) = refl
 
-told_of : (tables : List Table) (n : ℕ) (a : Agg ℕ) (t : Table) → n < length tables → t ≡ get_or tables n t → told_at n (column_of tables a) ≡ cell t a
-told_of tables n a t below at =
-    ap (told a) (get_or-map (λ (rows : Table). tally_of a (items_for a rows)) tables n t (counted 0) below ∙ ap (λ (r : Table). tally_of a (items_for a r)) (sym at)) ∙ told-tally_of t a
+group_at : (tables : List Table) (n : ℕ) (a : Agg ℕ) (t : Table) → n < length tables → t ≡ get_or tables n t → cell_of_group n (column_of tables a) ≡ cell t a
+group_at tables n a t below at =
+    ap (cell_of a) (get_or-map (λ (rows : Table). tally_of a (items_for a rows)) tables n t (counted 0) below ∙ ap (λ (r : Table). tally_of a (items_for a r)) (sym at)) ∙ cell_of-tally_of t a
 
-all_told : (tables : List Table) (n : ℕ) (t : Table) (aggs : List (Agg ℕ)) → n < length tables → t ≡ get_or tables n t → map (told_at n) (map (column_of tables) aggs) ≡ map (cell t) aggs
-all_told tables n t [] below at = refl
-all_told tables n t (a ∷ aggs) below at =
-    let h = told_of tables n a t below at in
-    let r : map (told_at n) (map (column_of tables) aggs) ≡ map (cell t) aggs = all_told tables n t aggs below at in
+all_reported : (tables : List Table) (n : ℕ) (t : Table) (aggs : List (Agg ℕ)) → n < length tables → t ≡ get_or tables n t → map (cell_of_group n) (map (column_of tables) aggs) ≡ map (cell t) aggs
+all_reported tables n t [] below at = refl
+all_reported tables n t (a ∷ aggs) below at =
+    let h = group_at tables n a t below at in
+    let r : map (cell_of_group n) (map (column_of tables) aggs) ≡ map (cell t) aggs = all_reported tables n t aggs below at in
     cc (h, r)
 
 abbrev make : List Item → List Item → GroupShape
 make k cells = record { keys = k; cells = cells }
 
-pub told_group : (by : List ℕ) (aggs : List (Agg ℕ)) (rows : Table) (keys : Keys) (columns : List ColumnShape) (n : ℕ) (k : List Item) → IsGrouped by aggs rows keys columns
-    → slice_get keys n ≡ Some k → make k (map (told_at n) columns) ≡ group_of by aggs rows k
-told_group by aggs rows keys columns n k h at =
+pub group_reported : (by : List ℕ) (aggs : List (Agg ℕ)) (rows : Table) (keys : Keys) (columns : List ColumnShape) (n : ℕ) (k : List Item) → IsGrouped by aggs rows keys columns
+    → slice_get keys n ≡ Some k → make k (map (cell_of_group n) columns) ≡ group_of by aggs rows k
+group_reported by aggs rows keys columns n k h at =
     let below : n < length keys = slice_get_within keys n k at in
     let here : rows_of_key by rows k ≡ get_or (tables_of by rows keys) n (rows_of_key by rows k) =
     sym (get_or-map (rows_of_key by rows) keys n k (rows_of_key by rows k) below ∙ ap (rows_of_key by rows) (get_or_from_slice_get keys n k k at)) in
-    ap (make k) (ap (map (told_at n)) h.columns_are
-    ∙ all_told (tables_of by rows keys) n (rows_of_key by rows k) aggs (omega (arith, below, length-map keys (rows_of_key by rows))) here)
+    ap (make k) (ap (map (cell_of_group n)) h.columns_are
+    ∙ all_reported (tables_of by rows keys) n (rows_of_key by rows k) aggs (omega (arith, below, length-map keys (rows_of_key by rows))) here)
 
-pub told_more : (by : List ℕ) (aggs : List (Agg ℕ)) (rows : Table) (keys : Keys) (columns : List ColumnShape) (n : ℕ) (k cells : List Item) (front new : List GroupShape) → IsGrouped by aggs rows keys columns
-    → slice_get keys n ≡ Some k → cells ≡ map (told_at n) columns → front ≡ take n (grouped by aggs rows)
+pub reported_more : (by : List ℕ) (aggs : List (Agg ℕ)) (rows : Table) (keys : Keys) (columns : List ColumnShape) (n : ℕ) (k cells : List Item) (front new : List GroupShape) → IsGrouped by aggs rows keys columns
+    → slice_get keys n ≡ Some k → cells ≡ map (cell_of_group n) columns → front ≡ take n (grouped by aggs rows)
     → new ≡ front ++ make k cells ∷ [] → new ≡ take (n + 1) (grouped by aggs rows)
-told_more by aggs rows keys columns n k cells front new h at are so more =
+reported_more by aggs rows keys columns n k cells front new h at are so more =
     let g = group_of by aggs rows k in
     let all = grouped by aggs rows in
     let whole : map (group_of by aggs rows) keys ≡ all = ap (map (group_of by aggs rows)) h.keys_are in
@@ -240,12 +240,12 @@ told_more by aggs rows keys columns n k cells front new h at are so more =
     let here : get_or all n g ≡ g =
     ap (λ l. get_or l n g) (sym whole) ∙ get_or-map (group_of by aggs rows) keys n k g below ∙ ap (group_of by aggs rows) (get_or_from_slice_get keys n k k at) in
     more ∙ ap (λ l. l ++ make k cells ∷ []) so
-    ∙ ap (λ x. take n all ++ x ∷ []) (ap (make k) are ∙ told_group by aggs rows keys columns n k h at ∙ sym here)
+    ∙ ap (λ x. take n all ++ x ∷ []) (ap (make k) are ∙ group_reported by aggs rows keys columns n k h at ∙ sym here)
     ∙ sym (take_more all n g inside)
 
-pub told_whole : (by : List ℕ) (aggs : List (Agg ℕ)) (rows : Table) (keys : Keys) (columns : List ColumnShape) (n : ℕ) → IsGrouped by aggs rows keys columns → length keys ≤ n
+pub reported_whole : (by : List ℕ) (aggs : List (Agg ℕ)) (rows : Table) (keys : Keys) (columns : List ColumnShape) (n : ℕ) → IsGrouped by aggs rows keys columns → length keys ≤ n
     → take n (grouped by aggs rows) ≡ grouped by aggs rows
-told_whole by aggs rows keys columns n h past =
+reported_whole by aggs rows keys columns n h past =
     take_all n (grouped by aggs rows) (omega (arith, past, length-map (keys_of by rows) (group_of by aggs rows), ap length h.keys_are))
 
 -- A column has a cell for each key.

@@ -57,16 +57,16 @@ merged_into_none q rows more g other none h k =
 
 pub same_aggs_twice : (tables others : List Table) (aggs : List (Agg ℕ)) (cs ds : List TallyColumn) → map show_column cs ≡ map (column_of tables) aggs → map show_column ds ≡ map (column_of others) aggs
     → map (λ c. (show_column c).agg) ds ≡ map (λ c. (show_column c).agg) cs
-same_aggs_twice tables others aggs cs ds h g = told_aggs others aggs ds g ∙ sym (told_aggs tables aggs cs h) where
-  told_aggs : (tables : List Table) (aggs : List (Agg ℕ)) (cs : List TallyColumn) → map show_column cs ≡ map (column_of tables) aggs → map (λ c. (show_column c).agg) cs ≡ aggs
-  told_aggs tables [] [] h = refl
-  told_aggs tables (a ∷ aggs) [] h = absurd cc
-  told_aggs tables [] (c ∷ cs) h = absurd cc
-  told_aggs tables (a ∷ aggs) (c ∷ cs) h =
+same_aggs_twice tables others aggs cs ds h g = cells_reported others aggs ds g ∙ sym (cells_reported tables aggs cs h) where
+  cells_reported : (tables : List Table) (aggs : List (Agg ℕ)) (cs : List TallyColumn) → map show_column cs ≡ map (column_of tables) aggs → map (λ c. (show_column c).agg) cs ≡ aggs
+  cells_reported tables [] [] h = refl
+  cells_reported tables (a ∷ aggs) [] h = absurd cc
+  cells_reported tables [] (c ∷ cs) h = absurd cc
+  cells_reported tables (a ∷ aggs) (c ∷ cs) h =
       let head : show_column c ≡ column_of tables a = cc in
       let tail : map show_column cs ≡ map (column_of tables) aggs = cc in
       let first : (show_column c).agg ≡ a = ap (λ (s : ColumnShape). s.agg) head in
-      ap (λ x. x ∷ map (λ c. (show_column c).agg) cs) first ∙ ap (λ l. a ∷ l) (told_aggs tables aggs cs tail)
+      ap (λ x. x ∷ map (λ c. (show_column c).agg) cs) first ∙ ap (λ l. a ∷ l) (cells_reported tables aggs cs tail)
 
 pub agg_there : (cs ds : List TallyColumn) (i : ℕ) (c d : TallyColumn) → map (λ x. (show_column x).agg) ds ≡ map (λ x. (show_column x).agg) cs → i < length cs
     → (show_column (get_or ds i d)).agg ≡ (show_column (get_or cs i c)).agg

@@ -13,5 +13,5 @@ pub mod MergeLemmas
 pub mod JoinLemmas
 pub mod PieceLemmas
 pub mod WholeLemmas
-pub mod ToldLemmas
+pub mod ReportedLemmas
 pub mod SendingLemmas

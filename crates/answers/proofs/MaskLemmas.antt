@@ -87,13 +87,13 @@ shifted test p first n a (suc m) same =
 -- a word more
 pub places-more : (test : ℕ → Bool) (first n word : ℕ) → ((j : ℕ) → j < 64 → bit_in word j ≡ test (n + j))
     → map (λ i. first + i) (filter test (range_with_len 0 (n + 64))) ≡ map (λ i. first + i) (filter test (range_with_len 0 n)) ++ map (λ j. first + n + j) (ones_of word)
-places-more test first n word told =
+places-more test first n word reported =
     let before = map (λ i. first + i) (filter test (range_with_len 0 n)) in
     ap (λ l. map (λ i. first + i) (filter test l)) (range-append 0 n 64)
     ∙ ap (map (λ i. first + i)) (filter-append test (range_with_len 0 n) (range_with_len (0 + n) 64))
     ∙ map-append (λ i. first + i) (filter test (range_with_len 0 n)) (filter test (range_with_len (0 + n) 64))
     ∙ ap (λ m. before ++ map (λ i. first + i) (filter test (range_with_len m 64))) (zero-add n ∙ sym (add-zero n))
-    ∙ ap (λ l. before ++ l) (shifted test (bit_in word) first n 0 64 (λ j low high. told j (omega (arith, high))))
+    ∙ ap (λ l. before ++ l) (shifted test (bit_in word) first n 0 64 (λ j low high. reported j (omega (arith, high))))
 
 -- what comes past the last that passes
 pub places-whole : (test : ℕ → Bool) (len m : ℕ) → len ≤ m → ((i : ℕ) → len ≤ i → test i ≡ false) → filter test (range_with_len 0 m) ≡ filter test (range_with_len 0 len)
@@ -118,8 +118,8 @@ first_one word some fits =
     let is = bit_at-trailing_zeros w64 word some fits in
     record { inside = is.0; here = ap (λ b. nat_eq b 1) is.1; before = λ i below. ap (λ b. nat_eq b 1) (is.2 i below) }
 
-pub one_told : (word j : ℕ) → IsFirstOne word j → ones_of word ≡ j ∷ ones_of (bit_and word (bit_not w64 (1 * 2 ^ j % 2 ^ 64)))
-one_told word j first =
+pub one_reported : (word j : ℕ) → IsFirstOne word j → ones_of word ≡ j ∷ ones_of (bit_and word (bit_not w64 (1 * 2 ^ j % 2 ^ 64)))
+one_reported word j first =
     let less = bit_and word (bit_not w64 (1 * 2 ^ j % 2 ^ 64)) in
     filter-first (bit_in word) (bit_in less) 0 64 j (omega arith) (omega (arith, first.inside)) first.here
     (ap (λ b. nat_eq b 1) (bit_at_clear_same w64 word j first.inside))
@@ -135,7 +135,7 @@ pub one_put : (first word j : ℕ) (before places : List ℕ) → IsFirstOne wor
 one_put first word j before places is put =
     let rest = map (λ i. first + i) (ones_of (bit_and word (bit_not w64 (1 * 2 ^ j % 2 ^ 64)))) in
     ap (λ l. l ++ rest) put ∙ append_assoc before ((first + j) ∷ []) rest
-    ∙ ap (λ l. before ++ map (λ i. first + i) l) (sym (one_told word j is))
+    ∙ ap (λ l. before ++ map (λ i. first + i) l) (sym (one_reported word j is))
 
 -- ---- rows that are set
 
@@ -147,14 +147,14 @@ not_set validity bits i past = ap (λ b. valid_in validity i && b) (get_or_past 
     by false = refl
 
 -- Whether each row is true.
-abbrev pub told : Option (List Bool) → List Bool → List Bool
-told validity bits = map (is_set validity bits) (range_with_len 0 (length bits))
+abbrev pub reported : Option (List Bool) → List Bool → List Bool
+reported validity bits = map (is_set validity bits) (range_with_len 0 (length bits))
 
-pub told_at : (validity : Option (List Bool)) (bits : List Bool) (i : ℕ) → is_set validity bits i ≡ bit_of (told validity bits) i
-told_at validity bits i =
+pub cell_of_group : (validity : Option (List Bool)) (bits : List Bool) (i : ℕ) → is_set validity bits i ≡ bit_of (reported validity bits) i
+cell_of_group validity bits i =
     elim (cases_lt i (length bits)) [
       | inl below ↦ sym (get_or-map-range_with_len (is_set validity bits) 0 (length bits) i i false below (zero-add i))
-      | inr past ↦ not_set validity bits i past ∙ sym (get_or_past (told validity bits) i false (omega (arith, past, length-map-range_with_len (is_set validity bits) 0 (length bits))))
+      | inr past ↦ not_set validity bits i past ∙ sym (get_or_past (reported validity bits) i false (omega (arith, past, length-map-range_with_len (is_set validity bits) 0 (length bits))))
     ]
 
 ones-filtered : (f : ℕ → Bool) (xs : List ℕ) → length (filter (λ b. b) (map f xs)) ≡ length (filter f xs)
@@ -165,9 +165,9 @@ ones-filtered f (x ∷ xs) = by (f x) (ones-filtered f xs)
     by true same = omega (arith, same)
     by false same = same
 
-pub told-count : (validity : Option (List Bool)) (bits : List Bool) → count_by (λ b. b) (told validity bits) ≡ length (set_rows validity bits)
-told-count validity bits =
-    sym (length-filter (λ b. b) (told validity bits)) ∙ ones-filtered (is_set validity bits) (range_with_len 0 (length bits))
+pub reported-count : (validity : Option (List Bool)) (bits : List Bool) → count_by (λ b. b) (reported validity bits) ≡ length (set_rows validity bits)
+reported-count validity bits =
+    sym (length-filter (λ b. b) (reported validity bits)) ∙ ones-filtered (is_set validity bits) (range_with_len 0 (length bits))
 
 -- the ones of the whole words, and those of the last
 pub all-ones : (xs : List Bool) (len w ones word : ℕ) → len ≡ length xs → len / 64 ≤ w → ones ≡ count_by (λ b. b) (take (64 * w) xs)

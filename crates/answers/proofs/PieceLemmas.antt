@@ -12,7 +12,7 @@ use Rattle.colbits.proofs.BitLemmas.{map-range-same}
 use Rattle.arrays.specs.Batch.{Batch, Row, Table, row_of, rows_of}
 use Rattle.evaluate.specs.Slices.{row_in}
 use Rattle.types.specs.Shape.{FieldShape, kind_of_field}
-use Rattle.query.specs.Asked.{asked}
+use Rattle.query.specs.QueryShape.{query_shape}
 use Rattle.query.specs.Tree.{Tree}
 use Rattle.query.specs.declared.queries.Query.{Query}
 use Rattle.answers.specs.Answers.{all_rows}
@@ -156,10 +156,10 @@ piece_whole bs i from to fields q g past run = subst (λ (l : List Batch). HasRu
 pub piece_run : (bs : List Batch) (i : ℕ) (b : Batch) (below : i < length bs) (is : b ≡ get_or bs i b) (from to start n : ℕ)
     (first : start ≡ min (from - length (all_rows (take i bs))) b.rows) (count : n ≡ min (to - length (all_rows (take i bs))) b.rows - start)
     (fields : List FieldShape) (q : Query) (old new : Grouping) → map kind_of_field b.fields ≡ map kind_of_field fields
-    → HasRun fields q (between from to (all_rows (take i bs))) old → AreSound b start n (asked q).filter
+    → HasRun fields q (between from to (all_rows (take i bs))) old → AreSound b start n (query_shape q).filter
     → HasKept b.fields q (between from to (all_rows (take i bs)) ++ rows_in b start n) new → HasRun fields q (between from to (all_rows (take (i + 1) bs))) new
 piece_run bs i b below is from to start n first count fields q old new same run sound kept = record {
-  good = piece_good bs i b below is from to start n first count (asked q).filter fields same sound run.good;
+  good = piece_good bs i b below is from to start n first count (query_shape q).filter fields same sound run.good;
   kept =
       subst (λ (rows : Table). HasKept fields q rows new) (sym (piece_next bs i b below is from to start n first count))
       (has_kept_alike b.fields fields q (between from to (all_rows (take i bs)) ++ rows_in b start n) new same kept);
@@ -174,13 +174,13 @@ cuts_rise rows pieces from to one order =
 
 pub are_looked : (fields : List FieldShape) (q : Query) (rows : Table) (pieces from to first last : ℕ) (r : Result Grouping QueryFault)
     → first ≡ cut_at (length rows) pieces from → last ≡ cut_at (length rows) pieces to
-    → IfOk r (HasRun fields q (between first last rows)) → IfErr r (IsPieceRefusal fields (asked q).filter first (between first last rows))
+    → IfOk r (HasRun fields q (between first last rows)) → IfErr r (IsPieceRefusal fields (query_shape q).filter first (between first last rows))
     → AreLooked fields q rows pieces from to r
 are_looked fields q rows pieces from to first last (Ok g) low high ok err =
     subst (λ n. HasRun fields q (between n (cut_at (length rows) pieces to) rows) g) low (subst (λ n. HasRun fields q (between first n rows) g) high ok)
 are_looked fields q rows pieces from to first last (Err e) low high ok err =
-    subst (λ n. IsPieceRefusal fields (asked q).filter n (between n (cut_at (length rows) pieces to) rows) e) low
-    (subst (λ n. IsPieceRefusal fields (asked q).filter first (between first n rows) e) high err)
+    subst (λ n. IsPieceRefusal fields (query_shape q).filter n (between n (cut_at (length rows) pieces to) rows) e) low
+    (subst (λ n. IsPieceRefusal fields (query_shape q).filter first (between first n rows) e) high err)
 
 pub first_cut : (rows pieces : ℕ) → cut_at rows pieces 0 ≡ 0
 first_cut rows pieces = ap (λ n. n / pieces) (mul-zero rows) ∙ zero-div pieces

@@ -109,17 +109,17 @@ counted_up start n k d below =
     ap (λ l. get_or (map (λ i. start + i) l) k d) (each_kept (range_with_len 0 n)) ∙ get_or-map-range_with_len (λ i. start + i) 0 n k k d below (zero-add k)
 
 module _ (b : Batch) (start : ℕ) (f : Option (Tree ℕ)) (o : Option Values) where
-  abbrev Told : ℕ → Type 0
-  Told i = verdict b.fields f (row_in b start i) ≡ Some (keeps o i)
+  abbrev Reported : ℕ → Type 0
+  Reported i = verdict b.fields f (row_in b start i) ≡ Some (keeps o i)
 
   abbrev placed : List ℕ → Table
   placed xs = map (row_of b.columns) (map (λ i. start + i) xs)
 
-  kept_rows : (xs : List ℕ) → All Told xs → placed (filter (keeps o) xs) ≡ filter (is_kept b.fields f) (map (row_in b start) xs)
+  kept_rows : (xs : List ℕ) → All Reported xs → placed (filter (keeps o) xs) ≡ filter (is_kept b.fields f) (map (row_in b start) xs)
   kept_rows [] h = refl
   kept_rows (i ∷ xs) h =
-      let rest : placed (filter (keeps o) xs) ≡ filter (is_kept b.fields f) (map (row_in b start) xs) = kept_rows xs (All-tail Told i xs h) in
-      let is : is_kept b.fields f (row_in b start i) ≡ keeps o i = ap (λ d. unwrap_or d false) (All-head Told i xs h) in
+      let rest : placed (filter (keeps o) xs) ≡ filter (is_kept b.fields f) (map (row_in b start) xs) = kept_rows xs (All-tail Reported i xs h) in
+      let is : is_kept b.fields f (row_in b start i) ≡ keeps o i = ap (λ d. unwrap_or d false) (All-head Reported i xs h) in
       let row = row_in b start i in
       let kept = filter (is_kept b.fields f) (map (row_in b start) xs) in
       either (keeps o i)
@@ -129,7 +129,7 @@ module _ (b : Batch) (start : ℕ) (f : Option (Tree ℕ)) (o : Option Values) w
       ∙ sym (ap (λ k. cond k (row ∷ kept) kept) (is ∙ no)))
 
   pub kept_are : (n : ℕ) → AreVerdicts b start n f o → map (row_of b.columns) (kept_in o start n) ≡ filter (is_kept b.fields f) (rows_in b start n)
-  kept_are n v = kept_rows (range_with_len 0 n) (all_range Told 0 n (λ i low high. v.each i (omega (arith, high))))
+  kept_are n v = kept_rows (range_with_len 0 n) (all_range Reported 0 n (λ i low high. v.each i (omega (arith, high))))
 
 -- They are rows of the batch, and no more than there are rows.
 pub kept_within : (o : Option Values) (start n rows : ℕ) → start + n ≤ rows → All (λ r. r < rows) (kept_in o start n)

@@ -5,7 +5,7 @@ use Rattle.std.proofs.lemmas.List.Elements.{All-append, All-filter, filter-appen
 use Rattle.arrays.specs.Batch.{Table}
 use Rattle.arrays.specs.Kind.{Kind}
 use Rattle.types.specs.Shape.{FieldShape}
-use Rattle.query.specs.Asked.{asked}
+use Rattle.query.specs.QueryShape.{query_shape}
 use Rattle.query.specs.declared.fault.QueryFault.{QueryFault}
 use Rattle.query.specs.declared.fault.QueryFault.TheVariants.{Overflow}
 use Rattle.query.specs.declared.queries.Query.{Query}
@@ -36,7 +36,7 @@ module _ (fields : List FieldShape) (q : Query) (rows : Table) (few : length row
   both = rows_between pieces from to rows
 
   abbrev kept : Table → Table
-  kept t = filter (is_kept fields (asked q).filter) t
+  kept t = filter (is_kept fields (query_shape q).filter) t
 
   together : both ≡ front ++ part
   together = both_parts rows (at from) (at middle) (at to) (cuts_rise (length rows) pieces from middle one low) (cuts_rise (length rows) pieces middle to one high)
@@ -47,12 +47,12 @@ module _ (fields : List FieldShape) (q : Query) (rows : Table) (few : length row
 
   front_comparable : All (AreComparable (kind_at fields) q.aggs.items) (kept front)
   front_comparable =
-      All-filter (is_kept fields (asked q).filter) (AreComparable (kind_at fields) q.aggs.items) front
+      All-filter (is_kept fields (query_shape q).filter) (AreComparable (kind_at fields) q.aggs.items) front
       (all_between (AreComparable (kind_at fields) q.aggs.items) (at from) (at middle) rows comparable)
 
   part_comparable : All (AreComparable (kind_at fields) q.aggs.items) (kept part)
   part_comparable =
-      All-filter (is_kept fields (asked q).filter) (AreComparable (kind_at fields) q.aggs.items) part
+      All-filter (is_kept fields (query_shape q).filter) (AreComparable (kind_at fields) q.aggs.items) part
       (all_between (AreComparable (kind_at fields) q.aggs.items) (at middle) (at to) rows comparable)
 
   -- The pieces behind may be added.
@@ -61,7 +61,7 @@ module _ (fields : List FieldShape) (q : Query) (rows : Table) (few : length row
       × HasGroups q rows whole × HasGroups q more g
       × All (AreComparable kinds q.aggs.items) rows × All (AreComparable kinds q.aggs.items) more
   pieces_room whole g h k =
-      (q, kind_at fields, kept front, kept part, kept_few fields (asked q).filter front part (2 ^ 40) both_few, h.kept, k.kept, front_comparable, part_comparable)
+      (q, kind_at fields, kept front, kept part, kept_few fields (query_shape q).filter front part (2 ^ 40) both_few, h.kept, k.kept, front_comparable, part_comparable)
 
   -- And then their rows are among those so far.
   pub pieces_joined : (whole g new : Grouping) → HasRun fields q front whole → HasRun fields q part g
@@ -69,22 +69,22 @@ module _ (fields : List FieldShape) (q : Query) (rows : Table) (few : length row
       → All (AreComparable kinds q.aggs.items) rows → All (AreComparable kinds q.aggs.items) more → HasGroups q (rows ++ more) new)
       → HasRun fields q both new
   pieces_joined whole g new h k merges = record {
-    good = subst (All (IsGood fields (asked q).filter)) (sym together) (All-append (IsGood fields (asked q).filter) front part h.good k.good);
+    good = subst (All (IsGood fields (query_shape q).filter)) (sym together) (All-append (IsGood fields (query_shape q).filter) front part h.good k.good);
     kept =
         subst (λ (t : Table). HasKept fields q t new) (sym together)
-        (subst (λ (t : Table). HasGroups q t new) (sym (filter-append (is_kept fields (asked q).filter) front part))
+        (subst (λ (t : Table). HasGroups q t new) (sym (filter-append (is_kept fields (query_shape q).filter) front part))
         (merges q (kind_at fields) (kept front) (kept part) h.kept k.kept front_comparable part_comparable));
   }
 
   -- A refusal of the pieces in front is one of all.
-  pub front_refused : (e : QueryFault) → IsPieceRefusal fields (asked q).filter (at from) front e → IsPieceRefusal fields (asked q).filter (at from) both e
+  pub front_refused : (e : QueryFault) → IsPieceRefusal fields (query_shape q).filter (at from) front e → IsPieceRefusal fields (query_shape q).filter (at from) both e
   front_refused e (inr memory) = inr memory
   front_refused e (inl bad) =
-      inl (bad.0, ap (position (is_bad fields (asked q).filter)) together ∙ found_in_front (is_bad fields (asked q).filter) front part bad.0 bad.1, bad.2)
+      inl (bad.0, ap (position (is_bad fields (query_shape q).filter)) together ∙ found_in_front (is_bad fields (query_shape q).filter) front part bad.0 bad.1, bad.2)
 
   -- So is one of those behind, where those in front are not refused.
-  pub part_refused : (whole : Grouping) (e : QueryFault) → HasRun fields q front whole → IsPieceRefusal fields (asked q).filter (at middle) part e
-      → IsPieceRefusal fields (asked q).filter (at from) both e
+  pub part_refused : (whole : Grouping) (e : QueryFault) → HasRun fields q front whole → IsPieceRefusal fields (query_shape q).filter (at middle) part e
+      → IsPieceRefusal fields (query_shape q).filter (at from) both e
   part_refused whole e h (inr memory) = inr memory
   part_refused whole e h (inl bad) =
       let place : at middle + bad.0 ≡ at from + (length front + bad.0) =
@@ -96,7 +96,7 @@ module _ (fields : List FieldShape) (q : Query) (rows : Table) (few : length row
       ) in
       inl (
         length front + bad.0,
-        ap (position (is_bad fields (asked q).filter)) together ∙ found_behind (is_bad fields (asked q).filter) front part bad.0 h.good bad.1,
+        ap (position (is_bad fields (query_shape q).filter)) together ∙ found_behind (is_bad fields (query_shape q).filter) front part bad.0 h.good bad.1,
         bad.2 ∙ ap Overflow place,
       )
 
@@ -111,19 +111,19 @@ module _ (fields : List FieldShape) (q : Query) (rows : Table) where
 
   -- ---- what is answered
 
-  pub is_refusal : (pieces : ℕ) (e : QueryFault) → 1 ≤ pieces → IsPieceRefusal fields (asked q).filter (cut_at (length rows) pieces 0) (rows_between pieces 0 (0 + pieces) rows) e
-      → IsRefusal fields (asked q) rows e
+  pub is_refusal : (pieces : ℕ) (e : QueryFault) → 1 ≤ pieces → IsPieceRefusal fields (query_shape q).filter (cut_at (length rows) pieces 0) (rows_between pieces 0 (0 + pieces) rows) e
+      → IsRefusal fields (query_shape q) rows e
   is_refusal pieces e one (inr memory) = inr memory
   is_refusal pieces e one (inl bad) =
       inl (
         bad.0,
-        ap (λ o. unless_bad o (grouped (asked q).by (asked q).aggs (filter (is_kept fields (asked q).filter) rows)))
-            (ap (position (is_bad fields (asked q).filter)) (sym (whole_between pieces one)) ∙ bad.1),
+        ap (λ o. unless_bad o (grouped (query_shape q).by (query_shape q).aggs (filter (is_kept fields (query_shape q).filter) rows)))
+            (ap (position (is_bad fields (query_shape q).filter)) (sym (whole_between pieces one)) ∙ bad.1),
         bad.2 ∙ ap Overflow (ap (λ m. m + bad.0) (first_cut (length rows) pieces) ∙ zero-add bad.0),
       )
 
-  pub is_answer : (g : Grouping) (told : List GroupShape) → HasRun fields q rows g → told ≡ grouped q.by.items q.aggs.items (filter (is_kept fields (asked q).filter) rows)
-      → groups fields (asked q) rows ≡ Ok told
-  is_answer g told h tells =
-      ap (λ o. unless_bad o (grouped (asked q).by (asked q).aggs (filter (is_kept fields (asked q).filter) rows))) (nowhere (is_bad fields (asked q).filter) rows h.good)
+  pub is_answer : (g : Grouping) (reported : List GroupShape) → HasRun fields q rows g → reported ≡ grouped q.by.items q.aggs.items (filter (is_kept fields (query_shape q).filter) rows)
+      → groups fields (query_shape q) rows ≡ Ok reported
+  is_answer g reported h tells =
+      ap (λ o. unless_bad o (grouped (query_shape q).by (query_shape q).aggs (filter (is_kept fields (query_shape q).filter) rows))) (nowhere (is_bad fields (query_shape q).filter) rows h.good)
       ∙ ap Ok (sym tells)

@@ -2,7 +2,7 @@
 use Rattle.std.specs.Prelude.{◌≡◌, ◌⊎◌, ℕ, List, [], ◌∷◌, map, flat_map, Ok, Err}
 use Rattle.arrays.specs.Batch.{Batch, Table, rows_of}
 use Rattle.types.specs.Shape.{FieldShape}
-use Rattle.query.specs.Asked.{Asked}
+use Rattle.query.specs.QueryShape.{QueryShape}
 use Rattle.query.specs.declared.fault.QueryFault.{QueryFault}
 use Rattle.query.specs.declared.fault.QueryFault.TheVariants.{Overflow, NoMemory}
 use Rattle.answers.specs.Groups.{GroupShape, groups}
@@ -23,9 +23,9 @@ first_fields [] = []
 first_fields (b ∷ batches) = b.fields
 
 -- The answer says what the query asks of the rows.
-abbrev pub IsAnswer : List FieldShape → Asked ℕ → Table → Answer → Type 0
+abbrev pub IsAnswer : List FieldShape → QueryShape ℕ → Table → Answer → Type 0
 IsAnswer fields q rows a = groups fields q rows ≡ Ok (map shape_of a.groups.items)
 
 -- The query is refused at the least row where its filter is bad, or a growth was refused.
-abbrev pub IsRefusal : List FieldShape → Asked ℕ → Table → QueryFault → Type 0
+abbrev pub IsRefusal : List FieldShape → QueryShape ℕ → Table → QueryFault → Type 0
 IsRefusal fields q rows e = ((row : ℕ) × (groups fields q rows ≡ Err row) × (e ≡ Overflow row)) ⊎ (e ≡ NoMemory)

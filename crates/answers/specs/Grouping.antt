@@ -9,7 +9,7 @@ use Rattle.query.specs.declared.queries.Query.{Query}
 use Rattle.answers.specs.Groups.{GroupShape, keys_of, rows_of_key}
 use Rattle.keys.specs.Memo.{KnowsEntries, Remembers}
 use Rattle.keys.specs.Same.{same_key}
-use Rattle.tallies.specs.Columns.{ColumnShape, column_of, show_column, told_at}
+use Rattle.tallies.specs.Columns.{ColumnShape, column_of, show_column, cell_of_group}
 use Rattle.answers.specs.declared.grouping.Grouping.{Grouping}
 
 -- The rows of each key.
@@ -44,9 +44,9 @@ abbrev pub IsFull : Grouping → Type 0
 IsFull g = All (λ c. length (show_column c).tallies ≡ length g.keys) g.columns.items
 
 -- What is answered of a group: its key, and what the columns tell.
-abbrev pub told_of : Grouping → ℕ → GroupShape
-told_of g n = record { keys = slice_index_or g.keys n []; cells = map (told_at n) (map show_column g.columns.items) }
+abbrev pub group_at : Grouping → ℕ → GroupShape
+group_at g n = record { keys = slice_index_or g.keys n []; cells = map (cell_of_group n) (map show_column g.columns.items) }
 
 -- What is answered of so many groups, from one on.
-abbrev pub told_from : Grouping → ℕ → ℕ → List GroupShape
-told_from g from count = map (told_of g) (range_with_len from count)
+abbrev pub groups_from : Grouping → ℕ → ℕ → List GroupShape
+groups_from g from count = map (group_at g) (range_with_len from count)

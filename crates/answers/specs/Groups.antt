@@ -5,7 +5,7 @@ use Rattle.arrays.specs.Batch.{Row, Table, column}
 use Rattle.arrays.specs.Item.{Item, null, int, boolean, text, list, is_null}
 use Rattle.arrays.specs.Slot.{item_of}
 use Rattle.types.specs.Shape.{FieldShape}
-use Rattle.query.specs.Asked.{Asked}
+use Rattle.query.specs.QueryShape.{QueryShape}
 use Rattle.query.specs.Tree.{Tree}
 use Rattle.query.specs.declared.expr.Agg.{Agg}
 use Rattle.query.specs.declared.expr.Agg.TheVariants.{Rows, Count, Sum, Least, Greatest}
@@ -37,7 +37,7 @@ is_bad fields filter row = is_none (verdict fields filter row)
 abbrev pub is_kept : List FieldShape → Option (Tree ℕ) → Row → Bool
 is_kept fields filter row = unwrap_or (verdict fields filter row) false
 
--- ---- what is told of the rows of a group
+-- ---- the aggregates over the rows of a group
 
 -- The items of the column that aren't null.
 abbrev pub values : Table → ℕ → List Item
@@ -65,7 +65,7 @@ first_keys (c ∷ by) = []
 abbrev pub keys_of : List ℕ → Table → List (List Item)
 keys_of by rows = firsts same_key (first_keys by ++ map (key_of by) rows)
 
--- The items of a key, and what is told of its rows.
+-- The items of a key, and its aggregates.
 pub record GroupShape : Type 0 where
   pub keys : List Item
   pub cells : List Item
@@ -81,5 +81,5 @@ unless_bad None groups = Ok groups
 unless_bad (Some row) groups = Err row
 
 -- The groups of the rows whose filter is true, or the least row where the filter is bad.
-abbrev pub groups : List FieldShape → Asked ℕ → Table → Result (List GroupShape) ℕ
+abbrev pub groups : List FieldShape → QueryShape ℕ → Table → Result (List GroupShape) ℕ
 groups fields q rows = unless_bad (position (is_bad fields q.filter) rows) (grouped q.by q.aggs (filter (is_kept fields q.filter) rows))

@@ -3,7 +3,7 @@ use Rattle.std.specs.Prelude.{◌≡◌, ◌⊎◌, ◌≤◌, ◌^◌, ℕ, ◌
 use Rattle.std.specs.Arc.{arc_value}
 use Rattle.arrays.specs.Batch.{Batch, Row, Table}
 use Rattle.types.specs.Shape.{FieldShape, kind_of_field}
-use Rattle.query.specs.Asked.{asked}
+use Rattle.query.specs.QueryShape.{query_shape}
 use Rattle.query.specs.Fault.{fits}
 use Rattle.query.specs.Tree.{Tree}
 use Rattle.query.specs.declared.fault.QueryFault.{QueryFault}
@@ -27,7 +27,7 @@ IsGood fields f row = is_bad fields f row ≡ false
 
 -- The groups of the rows that the filter keeps; it is bad at none of these rows.
 pub record HasRun (fields : List FieldShape) (q : Query) (rows : Table) (g : Grouping) : Type 0 where
-  pub good : All (IsGood fields (asked q).filter) rows
+  pub good : All (IsGood fields (query_shape q).filter) rows
   pub kept : HasKept fields q rows g
 
 -- The rows, of which the first is at this place, are refused at the least of them where the filter is bad, or a growth was refused.
@@ -45,7 +45,7 @@ rows_between pieces from to rows = between (cut_at (length rows) pieces from) (c
 -- What is known of them once all of their rows were looked at.
 abbrev pub AreLooked : List FieldShape → Query → Table → ℕ → ℕ → ℕ → Result Grouping QueryFault → Type 0
 AreLooked fields q rows pieces from to (Ok g) = HasRun fields q (rows_between pieces from to rows) g
-AreLooked fields q rows pieces from to (Err e) = IsPieceRefusal fields (asked q).filter (cut_at (length rows) pieces from) (rows_between pieces from to rows) e
+AreLooked fields q rows pieces from to (Err e) = IsPieceRefusal fields (query_shape q).filter (cut_at (length rows) pieces from) (rows_between pieces from to rows) e
 
 -- What is known of pieces from one up to another, and of those right behind them.
 pub record AreNeighbours (fields : List FieldShape) (q : Query) (rows : Table) (pieces from middle to : ℕ) (both : Neighbours) : Type 0 where
@@ -75,9 +75,9 @@ ArePieces s from to r = AreLooked (fields_of s) s.query.now (rows_of s) s.cuts.p
 
 -- The batches are of the same types, the query fits each of them, and their items can be compared. There are so many rows as are cut, no
 -- more than a table may have, and from 1 to 64 pieces.
-pub record IsAsked {G : Type 0} (s : Scan G) : Type 0 where
+pub record IsScan {G : Type 0} (s : Scan G) : Type 0 where
   pub types : All (λ (b : Batch). map kind_of_field b.fields ≡ map kind_of_field (fields_of s)) (batches_of s)
-  pub fits : All (λ (b : Batch). fits b.fields (asked s.query.now) ≡ true) (batches_of s)
+  pub fits : All (λ (b : Batch). fits b.fields (query_shape s.query.now) ≡ true) (batches_of s)
   pub comparable : All (AreComparable (kind_at (fields_of s)) s.query.now.aggs.items) (rows_of s)
   pub counted : s.cuts.rows ≡ length (rows_of s)
   pub few : length (rows_of s) ≤ 2 ^ 40

@@ -4,7 +4,7 @@ use Rattle.std.specs.List.{range_with_len}
 use Rattle.arrays.specs.Batch.{Batch, Table}
 use Rattle.arrays.specs.Item.{Item}
 use Rattle.types.specs.Shape.{FieldShape}
-use Rattle.query.specs.Asked.{asked}
+use Rattle.query.specs.QueryShape.{query_shape}
 use Rattle.query.specs.Tree.{Tree}
 use Rattle.query.specs.declared.queries.Query.{Query}
 use Rattle.query.specs.declared.sort.Sort.TheVariants.{Truth}
@@ -58,7 +58,7 @@ StopsAt b start n filter NoMemory = ⊤
 
 -- The groups of the rows that the filter keeps.
 abbrev pub HasKept : List FieldShape → Query → Table → Grouping → Type 0
-HasKept fields q rows g = HasGroups q (filter (is_kept fields (asked q).filter) rows) g
+HasKept fields q rows g = HasGroups q (filter (is_kept fields (query_shape q).filter) rows) g
 
 -- There are so many rows more than have come, and together no more than a table may have.
 abbrev pub HasRoomFor : List FieldShape → Query → ℕ → Grouping → Type 0

@@ -4,7 +4,7 @@ ghost use Rattle.std.specs.Prelude.{◌≡◌, ◌≤◌, ◌^◌, All, IfErr, I
 ghost use Rattle.std.specs.Arc.{arc_value};
 ghost use Rattle.arrays.specs.Batch.{Batch};
 ghost use Rattle.types.specs.Shape.{kind_of_field};
-ghost use Rattle.query.specs.Asked.{asked};
+ghost use Rattle.query.specs.QueryShape.{query_shape};
 ghost use Rattle.query.specs.Fault.{fits};
 ghost use Rattle.answers.specs.Answers.{IsAnswer, IsRefusal, all_rows, first_fields};
 
@@ -43,14 +43,14 @@ pub fn answer<T: Threads + Sync, G: Gate>(
 ) -> Result<Answer, QueryFault>
     requires types { All (λ (b : Batch). map kind_of_field b.fields ≡ map kind_of_field (first_fields (map arc_value batches.now)))
         (map arc_value batches.now) }
-    requires fits { All (λ (b : Batch). fits b.fields (asked query.now) ≡ true) (map arc_value batches.now) }
+    requires fits { All (λ (b : Batch). fits b.fields (query_shape query.now) ≡ true) (map arc_value batches.now) }
     requires few { length (all_rows (map arc_value batches.now)) ≤ 2 ^ 40 }
     requires one { 1 ≤ pieces }
     requires most { pieces ≤ 64 }
     ensures ok { IfOk result (IsAnswer (first_fields (map arc_value batches.now))
-        (asked query.now) (all_rows (map arc_value batches.now))) }
+        (query_shape query.now) (all_rows (map arc_value batches.now))) }
     ensures err { IfErr result (IsRefusal (first_fields (map arc_value batches.now))
-        (asked query.now) (all_rows (map arc_value batches.now))) }
+        (query_shape query.now) (all_rows (map arc_value batches.now))) }
 {
     if pieces == 1 {
         return answer_alone(alloc, batches, query, gate);
@@ -83,12 +83,12 @@ pub fn answer_alone<G: Gate>(
 ) -> Result<Answer, QueryFault>
     requires types { All (λ (b : Batch). map kind_of_field b.fields ≡ map kind_of_field (first_fields (map arc_value batches.now)))
         (map arc_value batches.now) }
-    requires fits { All (λ (b : Batch). fits b.fields (asked query.now) ≡ true) (map arc_value batches.now) }
+    requires fits { All (λ (b : Batch). fits b.fields (query_shape query.now) ≡ true) (map arc_value batches.now) }
     requires few { length (all_rows (map arc_value batches.now)) ≤ 2 ^ 40 }
     ensures ok { IfOk result (IsAnswer (first_fields (map arc_value batches.now))
-        (asked query.now) (all_rows (map arc_value batches.now))) }
+        (query_shape query.now) (all_rows (map arc_value batches.now))) }
     ensures err { IfErr result (IsRefusal (first_fields (map arc_value batches.now))
-        (asked query.now) (all_rows (map arc_value batches.now))) }
+        (query_shape query.now) (all_rows (map arc_value batches.now))) }
 {
     let rows = count_all(batches, query);
     let common = common_texts(alloc, batches, query)?;

@@ -4,7 +4,7 @@ ghost use Rattle.std.specs.Prelude.{◌≡◌, ◌≤◌, ◌^◌, All, None, le
 ghost use Rattle.std.specs.Arc.{arc_value};
 ghost use Rattle.arrays.specs.Batch.{Batch, rows_of};
 ghost use Rattle.types.specs.Shape.{kind_of_field};
-ghost use Rattle.query.specs.Asked.{asked};
+ghost use Rattle.query.specs.QueryShape.{query_shape};
 ghost use Rattle.query.specs.Columns.{sort_at};
 ghost use Rattle.query.specs.Fault.{agg_fault, fits};
 ghost use Rattle.answers.specs.Answers.{all_rows, first_fields};
@@ -17,12 +17,12 @@ use evaluate::column::column_at;
 use query::{Agg, Query};
 use std::sync::Arc;
 
-/// How many rows there are in all batches. The items of each column whose least or greatest is asked for are null or of one kind, which
+/// How many rows there are in all batches. The items of each column whose least or greatest is requested are null or of one kind, which
 /// isn't one of lists.
 pub(crate) fn count_all(batches: &[Arc<RecordBatch>], query: &Query) -> u64
     requires types { All (λ (b : Batch). map kind_of_field b.fields ≡ map kind_of_field (first_fields (map arc_value batches.now)))
         (map arc_value batches.now) }
-    requires fits { All (λ (b : Batch). fits b.fields (asked query.now) ≡ true) (map arc_value batches.now) }
+    requires fits { All (λ (b : Batch). fits b.fields (query_shape query.now) ≡ true) (map arc_value batches.now) }
     requires few { length (all_rows (map arc_value batches.now)) ≤ 2 ^ 40 }
     ensures count { result ≡ length (all_rows (map arc_value batches.now)) }
     ensures comparable { let bs = map arc_value batches.now in
@@ -36,7 +36,7 @@ pub(crate) fn count_all(batches: &[Arc<RecordBatch>], query: &Query) -> u64
     rows
 }
 
-/// Says that the items of each column whose least or greatest is asked for are null or of the column's kind, which isn't one of lists.
+/// Says that the items of each column whose least or greatest is requested are null or of the column's kind, which isn't one of lists.
 /// Nothing is looked at, and nothing changes.
 fn tell_comparable(batch: &RecordBatch, aggs: &[Agg<u32>])
     requires { All (λ a. agg_fault (sort_at batch.now.fields) a ≡ None) aggs.now }

@@ -2,7 +2,7 @@
 
 ghost use Rattle.std.specs.Prelude.{◌≡◌, ◌<◌, ◌+◌, ◌^◌, ℕ, IfOk, IfErr, None, OnOk, Some, filter, length, true};
 ghost use Rattle.std.specs.List.{range_with_len};
-ghost use Rattle.query.specs.Asked.{asked};
+ghost use Rattle.query.specs.QueryShape.{query_shape};
 ghost use Rattle.query.specs.Fault.{fits};
 ghost use Rattle.answers.specs.Masks.{set_rows};
 ghost use Rattle.answers.specs.Runs.{AreTruths, AreVerdicts, StopsAt, keeps, kept_in};
@@ -23,9 +23,9 @@ pub(crate) fn filter_values<'a>(
     query: &'a Query,
     slice: Slice<'a>,
 ) -> Result<Option<Values<'a>>, Stop>
-    requires { fits slice.batch.now.fields (asked query.now) ≡ true }
-    ensures ok { IfOk result (AreVerdicts slice.entry.batch.now slice.entry.start slice.entry.len (asked query.now).filter) }
-    ensures err { IfErr result (StopsAt slice.entry.batch.now slice.entry.start slice.entry.len (asked query.now).filter) }
+    requires { fits slice.batch.now.fields (query_shape query.now) ≡ true }
+    ensures ok { IfOk result (AreVerdicts slice.entry.batch.now slice.entry.start slice.entry.len (query_shape query.now).filter) }
+    ensures err { IfErr result (StopsAt slice.entry.batch.now slice.entry.start slice.entry.len (query_shape query.now).filter) }
 {
     evaluate_filter(alloc, query, slice)
 }

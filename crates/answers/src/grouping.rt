@@ -3,7 +3,7 @@
 ghost use Rattle.std.specs.Prelude.{◌≡◌, ◌<◌, ◌≤◌, ◌+◌, ◌^◌, ◌++◌, [], All, IfOk, List, None, OnOk, ℕ, length, map, true};
 ghost use Rattle.arrays.specs.Batch.{Batch, Table, row_of};
 ghost use Rattle.arrays.specs.Kind.{Kind};
-ghost use Rattle.query.specs.Asked.{asked};
+ghost use Rattle.query.specs.QueryShape.{query_shape};
 ghost use Rattle.query.specs.Columns.{sort_at};
 ghost use Rattle.query.specs.Fault.{agg_fault, fits};
 ghost use Rattle.tallies.specs.Columns.{column_of, show_column, IsColumnOf};
@@ -55,7 +55,7 @@ impl<'a> Grouping<'a> {
 
     /// Has the rows of another batch come next.
     pub(crate) fn begin(&mut self, query: &Query, batch: &RecordBatch) -> Result<(), NoMemory>
-        requires { fits batch.now.fields (asked query.now) ≡ true }
+        requires { fits batch.now.fields (query_shape query.now) ≡ true }
         ensures kept { (rows : Table) → HasGroups query.now rows self.old → OnOk result (HasGroups query.now rows self.new) }
         ensures ready { (rows : Table) → HasGroups query.now rows self.old → OnOk result (IsReadyFor batch.now query.now self.new) }
     {
@@ -71,7 +71,7 @@ impl<'a> Grouping<'a> {
         batch: &RecordBatch,
         rows: &[usize],
     ) -> Result<(), NoMemory>
-        requires fits { fits batch.now.fields (asked query.now) ≡ true }
+        requires fits { fits batch.now.fields (query_shape query.now) ≡ true }
         requires within { All (λ r. r < batch.now.rows) rows.now }
         requires room { HasRoom query.now (length rows.now) self.old }
         requires ready { IsReadyFor batch.now query.now self.old }

@@ -13,6 +13,6 @@ pub struct Answer {
 pub struct Group {
     /// The items of the key, in the order of the query's columns; none is null, which is a key like another.
     pub keys: Vec<Option<Scalar>>,
-    /// What is told of the rows, in the order of the query's aggregates; none is null.
+    /// The aggregates of the rows, in the order of the query's aggregates; none is null.
     pub cells: Vec<Option<Scalar>>,
 }

@@ -2,8 +2,8 @@
 
 ghost use Rattle.std.specs.Prelude.{◌≡◌, ◌+◌, ◌<◌, ◌≤◌, ◌-◌, IfErr, IfOk, min};
 ghost use Rattle.std.specs.Thread.{IsSync};
-ghost use Rattle.query.specs.Asked.{asked};
-ghost use Rattle.answers.specs.Pieces.{ArePieces, HasRun, IsAsked, IsPieceRefusal, between, fields_of, rows_of};
+ghost use Rattle.query.specs.QueryShape.{query_shape};
+ghost use Rattle.answers.specs.Pieces.{ArePieces, HasRun, IsScan, IsPieceRefusal, between, fields_of, rows_of};
 
 use crate::grouping::Grouping;
 use crate::neighbours::{Looked, Neighbours};
@@ -18,10 +18,10 @@ use std::thread::{Threads, join};
 /// The groups of the rows from one place up to another: `Overflow` with the least of these rows where the filter is bad, or `NoMemory`
 /// where a growth was refused.
 fn look_at_rows<'a, G: Gate>(scan: &Scan<'a, '_, G>, from: u64, to: u64) -> Looked<'a>
-    requires asked { IsAsked scan.now }
+    requires scan { IsScan scan.now }
     requires order { from ≤ to }
     ensures ok { IfOk result (HasRun (fields_of scan.now) scan.now.query.now (between from to (rows_of scan.now))) }
-    ensures err { IfErr result (IsPieceRefusal (fields_of scan.now) (asked scan.now.query.now).filter from
+    ensures err { IfErr result (IsPieceRefusal (fields_of scan.now) (query_shape scan.now.query.now).filter from
         (between from to (rows_of scan.now))) }
 {
     let mut grouping = Grouping::new(scan.alloc, scan.query, scan.common)?;
@@ -68,7 +68,7 @@ pub(crate) fn look_at_pieces<'a, T: Threads + Sync, G: Gate>(
     from: u32,
     count: u32,
 ) -> Looked<'a>
-    requires asked { IsAsked scan.now }
+    requires scan { IsScan scan.now }
     requires some { 0 < count }
     requires within { from + count ≤ scan.now.cuts.pieces }
     ensures { ArePieces scan.now from (from + count) result }
@@ -80,11 +80,11 @@ pub(crate) fn look_at_pieces<'a, T: Threads + Sync, G: Gate>(
     let low = count - high;
     let middle = from + low;
     let front = move || -> Looked<'_>
-        requires { IsSync T.row × IsSync G.row × IsAsked scan.now × (0 < low) × (from + low ≤ scan.now.cuts.pieces) }
+        requires { IsSync T.row × IsSync G.row × IsScan scan.now × (0 < low) × (from + low ≤ scan.now.cuts.pieces) }
         ensures { ArePieces scan.entry.now from (from + low) result }
     { look_at_pieces(threads, scan, from, low) };
     let back = move || -> Looked<'_>
-        requires { IsSync T.row × IsSync G.row × IsAsked scan.now × (0 < high) × (middle + high ≤ scan.now.cuts.pieces) }
+        requires { IsSync T.row × IsSync G.row × IsScan scan.now × (0 < high) × (middle + high ≤ scan.now.cuts.pieces) }
         ensures { ArePieces scan.entry.now middle (middle + high) result }
     { look_at_pieces(threads, scan, middle, high) };
     let (late, early) = join(threads, back, front);
@@ -93,7 +93,7 @@ pub(crate) fn look_at_pieces<'a, T: Threads + Sync, G: Gate>(
 
 /// The groups of the rows of one piece, whose thread passes the gate before its first row.
 pub(crate) fn look_at_one<'a, G: Gate>(scan: &Scan<'a, '_, G>, place: u32) -> Looked<'a>
-    requires asked { IsAsked scan.now }
+    requires scan { IsScan scan.now }
     requires within { place + 1 ≤ scan.now.cuts.pieces }
     ensures { ArePieces scan.now place (place + 1) result }
 {

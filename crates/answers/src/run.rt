@@ -2,7 +2,7 @@
 
 ghost use Rattle.std.specs.Prelude.{◌≡◌, ◌+◌, ◌<◌, ◌≤◌, ◌^◌, ◌++◌, IfErr, IfOk, None, OnOk, true};
 ghost use Rattle.arrays.specs.Batch.{Table};
-ghost use Rattle.query.specs.Asked.{asked};
+ghost use Rattle.query.specs.QueryShape.{query_shape};
 ghost use Rattle.query.specs.Fault.{fits};
 ghost use Rattle.answers.specs.Grouping.{CountsRows, IsReadyFor};
 ghost use Rattle.answers.specs.Runs.{AreSound, HasKept, HasRoomFor, StopsAt, rows_in};
@@ -36,13 +36,13 @@ pub(crate) fn add_part<G: Gate>(
     rows: usize,
     kept: &mut Vec<usize>,
 ) -> Result<(), Stop>
-    requires fits { fits batch.now.fields (asked scan.now.query.now) ≡ true }
+    requires fits { fits batch.now.fields (query_shape scan.now.query.now) ≡ true }
     requires within { start + rows ≤ batch.now.rows }
     requires room { HasRoomFor batch.now.fields scan.now.query.now rows grouping.old }
     ensures ok { (before : Table) → HasKept batch.now.fields scan.now.query.now before grouping.old
         → OnOk result (HasKept batch.now.fields scan.now.query.now (before ++ rows_in batch.now start rows) grouping.new) }
-    ensures sound { IfOk result (λ done. AreSound batch.now start rows (asked scan.now.query.now).filter) }
-    ensures err { IfErr result (StopsAt batch.now start rows (asked scan.now.query.now).filter) }
+    ensures sound { IfOk result (λ done. AreSound batch.now start rows (query_shape scan.now.query.now).filter) }
+    ensures err { IfErr result (StopsAt batch.now start rows (query_shape scan.now.query.now).filter) }
 {
     let query = scan.query;
     if rows == 0 {
@@ -99,7 +99,7 @@ fn add_slice(
     slice: Slice<'_>,
     kept: &mut Vec<usize>,
 ) -> Result<(), Stop>
-    requires fits { fits slice.batch.now.fields (asked query.now) ≡ true }
+    requires fits { fits slice.batch.now.fields (query_shape query.now) ≡ true }
     requires short { slice.start + slice.len < 2 ^ 40 }
     requires room { HasRoomFor slice.batch.now.fields query.now slice.len grouping.old }
     requires ready { IsReadyFor slice.batch.now query.now grouping.old }
@@ -107,8 +107,8 @@ fn add_slice(
     ensures ok { let b = slice.entry.batch.now in
         (rows : Table) → HasKept b.fields query.now rows grouping.old
         → OnOk result (HasKept b.fields query.now (rows ++ rows_in b slice.entry.start slice.entry.len) grouping.new) }
-    ensures sound { IfOk result (λ done. AreSound slice.entry.batch.now slice.entry.start slice.entry.len (asked query.now).filter) }
-    ensures err { IfErr result (StopsAt slice.entry.batch.now slice.entry.start slice.entry.len (asked query.now).filter) }
+    ensures sound { IfOk result (λ done. AreSound slice.entry.batch.now slice.entry.start slice.entry.len (query_shape query.now).filter) }
+    ensures err { IfErr result (StopsAt slice.entry.batch.now slice.entry.start slice.entry.len (query_shape query.now).filter) }
 {
     let values = filter_values(alloc, query, slice)?;
     if counts_rows(query) {
@@ -122,7 +122,7 @@ fn add_slice(
 
 /// Whether the query only asks how many rows there are, whatever stands in them.
 fn counts_all(query: &Query) -> bool
-    ensures { result ≡ true → CountsRows query.now × ((asked query.now).filter ≡ None) }
+    ensures { result ≡ true → CountsRows query.now × ((query_shape query.now).filter ≡ None) }
 {
     query.filter.is_none() && counts_rows(query)
 }

@@ -1,4 +1,4 @@
-//! What is asked, and of which rows.
+//! What is requested, and of which rows.
 
 use crate::cuts::Cuts;
 use arrays::RecordBatch;

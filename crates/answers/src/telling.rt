@@ -4,8 +4,8 @@ ghost use Rattle.std.specs.Prelude.{◌≡◌, ◌-◌, ◌<◌, ◌≤◌, All,
 ghost use Rattle.std.specs.Thread.{IsSync};
 ghost use Rattle.group.specs.Scalars.{item_of_scalar};
 ghost use Rattle.answers.specs.Answers.{shape_of};
-ghost use Rattle.tallies.specs.Columns.{show_column, told_at};
-ghost use Rattle.answers.specs.Grouping.{IsFull, told_from};
+ghost use Rattle.tallies.specs.Columns.{show_column, cell_of_group};
+ghost use Rattle.answers.specs.Grouping.{IsFull, groups_from};
 
 use crate::grouping::Grouping;
 use crate::groups::Group;
@@ -16,10 +16,10 @@ use std::alloc::Global;
 use std::thread::{Threads, join};
 use tallies::TallyColumn;
 
-/// How many groups are told before others are told beside them.
+/// How many groups are made before others are made beside them.
 const FEW_GROUPS: usize = 4096;
 
-/// The groups from one up to another: of each its key, and what is told of its rows. Many are told in so many parts, side by side.
+/// The groups from one up to another: of each its key, and its aggregates. Many are made in so many parts, side by side.
 #[cycle(telling)]
 pub(crate) fn tell_groups<T: Threads + Sync>(
     threads: &T,
@@ -32,7 +32,7 @@ pub(crate) fn tell_groups<T: Threads + Sync>(
     requires order { from ≤ to }
     requires within { to ≤ length grouping.now.keys }
     requires full { IsFull grouping.now }
-    ensures { IfOk result (λ v. map shape_of v.items ≡ told_from grouping.now from (to - from)) }
+    ensures { IfOk result (λ v. map shape_of v.items ≡ groups_from grouping.now from (to - from)) }
 {
     let count = to - from;
     if count <= FEW_GROUPS || parts <= 1 {
@@ -43,11 +43,11 @@ pub(crate) fn tell_groups<T: Threads + Sync>(
     let middle = to - share_of(count, parts);
     let front = move || -> Result<Vec<Group>, NoMemory>
         requires { IsSync T.row × (from ≤ middle) × (middle ≤ length grouping.now.keys) × IsFull grouping.now }
-        ensures { IfOk result (λ v. map shape_of v.items ≡ told_from grouping.entry.now from (middle - from)) }
+        ensures { IfOk result (λ v. map shape_of v.items ≡ groups_from grouping.entry.now from (middle - from)) }
     { tell_groups(threads, alloc, grouping, from, middle, more) };
     let back = move || -> Result<Vec<Group>, NoMemory>
         requires { IsSync T.row × (middle ≤ to) × (to ≤ length grouping.now.keys) × IsFull grouping.now }
-        ensures { IfOk result (λ v. map shape_of v.items ≡ told_from grouping.entry.now middle (to - middle)) }
+        ensures { IfOk result (λ v. map shape_of v.items ≡ groups_from grouping.entry.now middle (to - middle)) }
     { tell_groups(threads, alloc, grouping, middle, to, fewer) };
     let (late, early) = join(threads, back, front);
     let mut groups = early?;
@@ -65,7 +65,7 @@ pub(crate) fn tell_in_turn(
     requires order { from ≤ to }
     requires within { to ≤ length grouping.now.keys }
     requires full { IsFull grouping.now }
-    ensures { IfOk result (λ v. map shape_of v.items ≡ told_from grouping.now from (to - from)) }
+    ensures { IfOk result (λ v. map shape_of v.items ≡ groups_from grouping.now from (to - from)) }
 {
     let mut groups = Vec::with_capacity(alloc, to - from)?;
     for id in from..to {
@@ -83,7 +83,7 @@ fn tell_all(
     group: usize,
 ) -> Result<Vec<Option<Scalar>>, NoMemory>
     requires { All (λ c. group < length (show_column c).tallies) columns.now }
-    ensures { IfOk result (λ v. map item_of_scalar v.items ≡ map (told_at group) (map show_column columns.now)) }
+    ensures { IfOk result (λ v. map item_of_scalar v.items ≡ map (cell_of_group group) (map show_column columns.now)) }
 {
     let mut cells = Vec::with_capacity(alloc, columns.len())?;
     for column in columns {

@@ -18,7 +18,7 @@ use Rattle.layout.specs.Seen.{Seen}
 use Rattle.layout.specs.Reading.{Reading, inner_of, read_parts}
 use Rattle.layout.specs.Checked.{checked_texts}
 use Rattle.layout.proofs.FirstFaultLemmas.{IsWhole, own_fault-whole}
-use Rattle.layout.proofs.LawfulLemmas.{texts_of, either_false, none_held, no_dictionary}
+use Rattle.layout.proofs.LawfulLemmas.{texts_of, either_false, none_present, no_dictionary}
 use Rattle.layout.proofs.ListLemmas.{map-range-below}
 use Rattle.layout.proofs.RowLemmas.{least_none}
 use Rattle.arrays.proofs.SlotLemmas.{whole}
@@ -46,7 +46,7 @@ numbers_alone : (n : ℕ) (buffers : Buffers) (children : List Reading) (words :
     → (read_parts (kind.int int32) n None buffers children words).fault ≡ None → (children ≡ []) × (words ≡ None)
 numbers_alone n buffers children words h =
     let parts = either_false _ _ (whole (kind.int int32) n None buffers children words h).parts_agree in
-    (none_held children parts.0, no_dictionary words parts.1)
+    (none_present children parts.0, no_dictionary words parts.1)
 
 -- a code that is null or within the entries breaks no rule
 code_kept : (valid : Bool) (z : _) (entries : ℕ) → is_code entries (cond valid (int z) null) ≡ true → (valid && (is_negative z || not (int_lt z (pos entries)))) ≡ false
@@ -135,26 +135,26 @@ makes_alone n buffers words lawful all = record {
   shows = dict_shows n buffers (checked_texts words);
 }
 
-makes_numbers : (n : ℕ) (buffers : Buffers) (children : List Reading) (held_words : Option Reading) (words : Seen) → children ≡ [] → held_words ≡ None
-    → (read_parts (kind.int int32) n None buffers children held_words).fault ≡ None
-    → All (λ c. is_code (length words.items) c ≡ true) (read_parts (kind.int int32) n None buffers children held_words).seen.items
-    → MakesDict n buffers children (read_parts (kind.int int32) n None buffers children held_words).seen words
+makes_numbers : (n : ℕ) (buffers : Buffers) (children : List Reading) (present_words : Option Reading) (words : Seen) → children ≡ [] → present_words ≡ None
+    → (read_parts (kind.int int32) n None buffers children present_words).fault ≡ None
+    → All (λ c. is_code (length words.items) c ≡ true) (read_parts (kind.int int32) n None buffers children present_words).seen.items
+    → MakesDict n buffers children (read_parts (kind.int int32) n None buffers children present_words).seen words
 makes_numbers n buffers [] None words childless wordless lawful all = makes_alone n buffers words lawful all
 makes_numbers n buffers [] (Some d) words childless wordless lawful all = cc
-makes_numbers n buffers (c ∷ cs) held_words words childless wordless lawful all = cc
+makes_numbers n buffers (c ∷ cs) present_words words childless wordless lawful all = cc
 
-pub MakesDict-array : (k : Kind) (n : ℕ) (buffers : Buffers) (children : List Reading) (held_words : Option Reading) (shown words : Seen)
-    → (read_parts k n None buffers children held_words).fault ≡ None → (read_parts k n None buffers children held_words).seen ≡ shown
+pub MakesDict-array : (k : Kind) (n : ℕ) (buffers : Buffers) (children : List Reading) (present_words : Option Reading) (shown words : Seen)
+    → (read_parts k n None buffers children present_words).fault ≡ None → (read_parts k n None buffers children present_words).seen ≡ shown
     → shown.kind ≡ kind.int int32 → All (λ c. is_code (length words.items) c ≡ true) shown.items
     → MakesDict n buffers children shown words
-MakesDict-array k n buffers children held_words shown words lawful shows numbers all =
-    let is : k ≡ kind.int int32 = sym (seen-kind k n None buffers children held_words) ∙ ap (λ (q : Seen). q.kind) shows ∙ numbers in
-    let same = ap (λ q. read_parts q n None buffers children held_words) is in
+MakesDict-array k n buffers children present_words shown words lawful shows numbers all =
+    let is : k ≡ kind.int int32 = sym (seen-kind k n None buffers children present_words) ∙ ap (λ (q : Seen). q.kind) shows ∙ numbers in
+    let same = ap (λ q. read_parts q n None buffers children present_words) is in
     let lawful_int = sym (ap (λ (q : Reading). q.fault) same) ∙ lawful in
     let shows_int = sym (ap (λ (q : Reading). q.seen) same) ∙ shows in
-    let alone = numbers_alone n buffers children held_words lawful_int in
+    let alone = numbers_alone n buffers children present_words lawful_int in
     subst (λ (s : Seen). MakesDict n buffers children s words) shows_int
-    (makes_numbers n buffers children held_words words alone.0 alone.1 lawful_int (subst (λ (s : Seen). All (λ c. is_code (length words.items) c ≡ true) s.items) (sym shows_int) all))
+    (makes_numbers n buffers children present_words words alone.0 alone.1 lawful_int (subst (λ (s : Seen). All (λ c. is_code (length words.items) c ≡ true) s.items) (sym shows_int) all))
 
 pub kind_of-Dict : kind_of Dict ≡ kind.dict
 kind_of-Dict = fold_out-DataType Kind Kind kind_step (λ f. f.ty) Dict ∙ ap (λ o. kind_step (map-DataType DataType Field Kind Kind kind_of (fold-Field Kind Kind kind_step (λ f. f.ty)) o)) outs-Dict

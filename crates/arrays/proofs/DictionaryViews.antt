@@ -33,14 +33,14 @@ use Rattle.layout.proofs.FirstFaultLemmas.{IsWhole, own_fault-whole}
 use Rattle.layout.proofs.OffsetLemmas.{fails-least_none}
 use Rattle.arrays.proofs.PartLemmas.{kind_shown, valid_slot, null_slot}
 use Rattle.arrays.proofs.SlotLemmas.{slice-column, whole}
-use Rattle.layout.proofs.LawfulLemmas.{either_false, none_held}
+use Rattle.layout.proofs.LawfulLemmas.{either_false, none_present}
 
 -- ---- the codes are a lawful array of their own
 
 childless : (n : ℕ) (buffers : Buffers) (children : List Reading) (dictionary : Option Reading)
     → (read_parts kind.dict n None buffers children dictionary).fault ≡ None → children ≡ []
 childless n buffers children dictionary lawful =
-    none_held children (either_false _ _ (whole kind.dict n None buffers children dictionary lawful).parts_agree).0
+    none_present children (either_false _ _ (whole kind.dict n None buffers children dictionary lawful).parts_agree).0
 
 codes_whole : (n : ℕ) (buffers : Buffers) (dictionary : Option Inner) → IsWhole kind.dict n None buffers [] dictionary → IsWhole (kind.int int32) n None buffers [] None
 codes_whole n buffers dictionary w = record {

@@ -19,7 +19,7 @@ use Rattle.layout.specs.Inner.{inner_children, inner_dictionary, own_fault_of}
 use Rattle.arrays.specs.FromParts.{show_lists, list_parts}
 use Rattle.arrays.specs.declared.array.Array.TheInside.{Inside}
 use Rattle.layout.specs.Layout.{Buffers, column}
-use Rattle.layout.proofs.FirstFaultLemmas.{own_fault-whole, held-reading}
+use Rattle.layout.proofs.FirstFaultLemmas.{own_fault-whole, present-reading}
 use Rattle.arrays.proofs.FromPartsLemmas.{offsets_pass}
 use Rattle.arrays.proofs.PartsLemmas.{kind-array, kind-plain}
 use Rattle.layout.proofs.LawfulLemmas.{either_false, no_dictionary, parts_agree, reading-again}
@@ -27,13 +27,13 @@ use Rattle.types.specs.Limits.{most_slots}
 
 -- ---- the parts of an array that has no dictionary
 
-none_held : (k : Kind) (children : List Inner) (dictionary : Option Reading) → same_kind k kind.dict ≡ false
+none_present : (k : Kind) (children : List Inner) (dictionary : Option Reading) → same_kind k kind.dict ≡ false
     → do_parts_differ k children (option_map inner_of dictionary) ≡ false → dictionary ≡ None
-none_held (kind.int t) children dictionary other h = no_dictionary dictionary (either_false _ _ h).1
-none_held kind.boolean children dictionary other h = no_dictionary dictionary (either_false _ _ h).1
-none_held (kind.texts w) children dictionary other h = no_dictionary dictionary (either_false _ _ h).1
-none_held (kind.lists w k) children dictionary other h = no_dictionary dictionary (either_false _ _ h).1
-none_held kind.dict children dictionary other h = cc
+none_present (kind.int t) children dictionary other h = no_dictionary dictionary (either_false _ _ h).1
+none_present kind.boolean children dictionary other h = no_dictionary dictionary (either_false _ _ h).1
+none_present (kind.texts w) children dictionary other h = no_dictionary dictionary (either_false _ _ h).1
+none_present (kind.lists w k) children dictionary other h = no_dictionary dictionary (either_false _ _ h).1
+none_present kind.dict children dictionary other h = cc
 
 -- the parts of an array are read without its words
 pub read-wordless : (a : Inside) → (read_array a).fault ≡ None → same_kind (show_array a).kind kind.dict ≡ false
@@ -44,7 +44,7 @@ read-wordless a lawful other =
     let children = map reading p.children.items in
     let words = option_map checked_texts (words_with a.encoding) in
     let not_dict : same_kind k kind.dict ≡ false = ap (λ k. same_kind k kind.dict) (sym (kind-array a)) ∙ other in
-    let wordless = none_held k (map inner_of children) words not_dict (parts_agree k p.length None p.buffers.items children words lawful) in
+    let wordless = none_present k (map inner_of children) words not_dict (parts_agree k p.length None p.buffers.items children words lawful) in
     ap (λ k. read_parts k p.length None p.buffers.items children None) (sym (kind-plain (kind_of p.ty) a.encoding not_dict))
     ∙ ap (read_parts k p.length None p.buffers.items children) (sym wordless)
     ∙ sym (reading-again k p.length None p.buffers.items children words lawful)
@@ -136,5 +136,5 @@ own_over w r below k n validity offsets child kind_is len_is unstated buffers_ar
     ∙ ap (λ b. own_fault (kind.lists w k) n None b (inner_children r.children.items) (inner_dictionary r.dictionary)) buffers_are
     ∙ ap (λ cs. own_fault (kind.lists w k) n None parts (inner_children cs) (inner_dictionary r.dictionary)) one
     ∙ ap (λ d. own_fault (kind.lists w k) n None parts (inner_children (below ∷ [])) (inner_dictionary d)) wordless
-    ∙ ap (λ c. own_fault (kind.lists w k) n None parts (c ∷ []) None) (sym (held-reading below) ∙ ap inner_of is)
+    ∙ ap (λ c. own_fault (kind.lists w k) n None parts (c ∷ []) None) (sym (present-reading below) ∙ ap inner_of is)
     ∙ alone (own_fault (kind.lists w k) n None parts (inner_of (checked child) ∷ []) None)

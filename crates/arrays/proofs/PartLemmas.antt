@@ -330,9 +330,9 @@ no_null (kind.texts w) buffers child entries j h = refl
 no_null (kind.lists w k) buffers child entries j h = refl
 no_null kind.dict buffers child entries j h = cc
 
-held_where_valid : (b : Bool) (x : Item) → is_null x ≡ false → not (is_null (cond b x null)) ≡ b
-held_where_valid true x h = ap not h
-held_where_valid false x h = refl
+present_where_valid : (b : Bool) (x : Item) → is_null x ≡ false → not (is_null (cond b x null)) ≡ b
+present_where_valid true x h = ap not h
+present_where_valid false x h = refl
 
 -- its items are null exactly where its slots aren't valid
 pub holds_plain : (v : Inside) (s : Seen) (i : ℕ) → show_view v ≡ s → same_kind s.kind kind.dict ≡ false → v.start + v.len ≤ v.total → i < length s.items → holds_at s i ≡ valid_at s i
@@ -343,4 +343,4 @@ holds_plain v s i shows plain within below =
     let is : s.items ≡ valid_values value s = subst (λ (q : Seen). q.items ≡ valid_values value q) shows (items-view v value within (λ j h. refl)) in
     let plain_view = subst (λ k. same_kind k kind.dict ≡ false) (sym (kind_shown v s shows)) plain in
     ap (λ x. not (is_null x)) (get_or_from_slice_get s.items i (cond (valid_at s i) (value i) null) null (item_slot value s i is below))
-    ∙ held_where_valid (valid_at s i) (value i) (no_null (view_kind v.ty) v.buffers.now child entries (v.start + i) plain_view)
+    ∙ present_where_valid (valid_at s i) (value i) (no_null (view_kind v.ty) v.buffers.now child entries (v.start + i) plain_view)

@@ -35,16 +35,16 @@ some-none : (d : Reading) → Some d ≢ None
 some-none d e = cc
 
 -- parts that have a dictionary are of its kind
-held-dict : (k : Kind) (children : List Inner) (d : Reading) → do_parts_differ k children (Some (inner_of d)) ≡ false → k ≡ kind.dict
-held-dict (kind.int t) children d h = let e : Some d ≡ None = no_dictionary (Some d) (either_false _ _ h).1 in absurd (some-none d e)
-held-dict kind.boolean children d h = let e : Some d ≡ None = no_dictionary (Some d) (either_false _ _ h).1 in absurd (some-none d e)
-held-dict (kind.texts w) children d h = let e : Some d ≡ None = no_dictionary (Some d) (either_false _ _ h).1 in absurd (some-none d e)
-held-dict (kind.lists w k) children d h = let e : Some d ≡ None = no_dictionary (Some d) (either_false _ _ h).1 in absurd (some-none d e)
-held-dict kind.dict children d h = refl
+present-dict : (k : Kind) (children : List Inner) (d : Reading) → do_parts_differ k children (Some (inner_of d)) ≡ false → k ≡ kind.dict
+present-dict (kind.int t) children d h = let e : Some d ≡ None = no_dictionary (Some d) (either_false _ _ h).1 in absurd (some-none d e)
+present-dict kind.boolean children d h = let e : Some d ≡ None = no_dictionary (Some d) (either_false _ _ h).1 in absurd (some-none d e)
+present-dict (kind.texts w) children d h = let e : Some d ≡ None = no_dictionary (Some d) (either_false _ _ h).1 in absurd (some-none d e)
+present-dict (kind.lists w k) children d h = let e : Some d ≡ None = no_dictionary (Some d) (either_false _ _ h).1 in absurd (some-none d e)
+present-dict kind.dict children d h = refl
 
 pub dict-lawful : (k : Kind) (n : ℕ) (buffers : Buffers) (children : List Reading) (d : Reading)
     → (read_parts k n None buffers children (Some d)).fault ≡ None → k ≡ kind.dict
-dict-lawful k n buffers children d h = held-dict k (map inner_of children) d (parts_agree k n None buffers children (Some d) h)
+dict-lawful k n buffers children d h = present-dict k (map inner_of children) d (parts_agree k n None buffers children (Some d) h)
 
 -- an array that isn't of the kind of dictionaries names none
 pub kind-plain : (k : Kind) (e : Option Encoding) → same_kind (kind_with k e) kind.dict ≡ false → kind_with k e ≡ k

@@ -1,4 +1,4 @@
--- Valid slots, then those that are told.
+-- Valid slots, then those that are given.
 use Rattle.std.proofs.Common.{◌≡◌, ◌∙◌, ℕ, ◌+◌, List, [], ◌∷◌, ◌++◌, Bool, true, length, replicate, None, Result, Ok, Err, OnOk, OnErr, ◌≤◌, ap, sym, refl, arith, length-append}
 use Rattle.std.proofs.lemmas.List.{append-nil, replicate-append-replicate, length-replicate}
 use Rattle.std.proofs.lemmas.List.Elements.{All-replicate}
@@ -22,9 +22,9 @@ kept-valid before (x ∷ xs) none = absurd (omega arith)
 -- ---- many slots
 
 -- no more slots than there is room for, whether they are added or not
-pub short_still : {T E : Type 0} (r : Result T E) (before count most : ℕ) (after new told now : List Bool) → replicate before true ++ after ≡ now → length told ≡ count → length now + count ≤ most
-    → OnOk r (new ≡ after ++ told) → OnErr r (new ≡ after) → before + length new ≤ most
-short_still (Ok value) before count most after new told now is size room grows same =
-    omega (arith, ap length is, length-append (replicate before true) after, length-replicate before true, ap length grows, length-append after told)
-short_still (Err error) before count most after new told now is size room grows same =
+pub short_still : {T E : Type 0} (r : Result T E) (before count most : ℕ) (after new reported now : List Bool) → replicate before true ++ after ≡ now → length reported ≡ count → length now + count ≤ most
+    → OnOk r (new ≡ after ++ reported) → OnErr r (new ≡ after) → before + length new ≤ most
+short_still (Ok value) before count most after new reported now is size room grows same =
+    omega (arith, ap length is, length-append (replicate before true) after, length-replicate before true, ap length grows, length-append after reported)
+short_still (Err error) before count most after new reported now is size room grows same =
     omega (arith, ap length is, length-append (replicate before true) after, length-replicate before true, ap length same)

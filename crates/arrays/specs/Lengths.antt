@@ -58,4 +58,4 @@ is_too_big k items = false
 
 -- Why a slot is refused: with it the offsets would be past what they count, or, where they aren't, a growth was refused.
 abbrev pub IsBuildFault : Bool → BuildFault → Type 0
-IsBuildFault past told = ((told ≡ OffsetsFull) × (past ≡ true)) ⊎ ((told ≡ NoMemory) × (past ≡ false))
+IsBuildFault past reported = ((reported ≡ OffsetsFull) × (past ≡ true)) ⊎ ((reported ≡ NoMemory) × (past ≡ false))

@@ -54,7 +54,7 @@ impl Model for Array {
 
 /// Checks the parts of an array once, and keeps them: from then on nothing of them is checked again.
 ///
-/// The first fault is told, in the order of the faults' table, and the parts are gone then. Want of
+/// The first fault is reported, in the order of the faults' table, and the parts are gone then. Want of
 /// memory comes only where no fault stands.
 pub fn validate(alloc: Global, raw: RawArray) -> Result<Array, LayoutFault>
     ensures ok { IfOk result (λ a. (fault raw ≡ None) × (a ≡ (reading raw).seen)) }

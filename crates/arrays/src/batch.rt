@@ -53,7 +53,7 @@ impl Model for RecordBatch {
 }
 
 impl RecordBatch {
-    /// The batch of the columns. The first fault is told: of their number, of a type, of a length.
+    /// The batch of the columns. The first fault is reported: of their number, of a type, of a length.
     /// What was handed in is gone then.
     pub fn new(schema: Schema, rows: u32, columns: Vec<Array>) -> Result<RecordBatch, BatchFault>
         ensures ok { IfOk result (λ b. (b.fields ≡ schema) × (b.rows ≡ rows) × (b.columns ≡ columns.items)

@@ -81,7 +81,7 @@ impl IntBuilder {
         }
     }
 
-    /// The same for a type that is known to the compiler, so that no slot is asked for its type.
+    /// The same for a type that is known to the compiler, so that no slot's type is looked at.
     #[inline(always)]
     pub fn push_as<T: Integer>(&mut self, number: Option<i128>) -> Result<(), NoMemory>
         requires ty { T.ty ≡ self.old.ty }

@@ -1,30 +1,12 @@
-//! What holds of files and fields whatever program reads them.
-ghost use Rattle.std.specs.Prelude.{◌≡◌, ℕ, List};
-ghost use Rattle.arrays.specs.Shape.{FieldShape};
-ghost use Rattle.arrow_json.specs.JsonField.{FieldTextFault, IsFieldText};
-ghost use Rattle.arrow_json.specs.JsonFile.{BytesFault, Reads};
-ghost use Rattle.json_places.specs.JsonTable.{FileData};
-ghost use Rattle.json_places.specs.declared.path.Step.{Step};
-ghost use Rattle.json_places.specs.declared.fault.JsonFaultKind.{JsonFaultKind};
+//! What holds of reading and printing, by definitions alone.
 
-/// Where a fault stands, nothing is read.
-pub fn read_has_no_fault()
-    ensures { (bytes : List ℕ) (f : FileData) (kind : JsonFaultKind) (path : List Step) →
-        Reads bytes f → BytesFault bytes kind path → ⊥ }
-{}
-
-/// The bytes decide what is read.
-pub fn bytes_decide_the_file()
-    ensures { (bytes : List ℕ) (f g : FileData) → Reads bytes f → Reads bytes g → f ≡ g }
-{}
-
-/// Where a fault stands, no field is read.
-pub fn read_field_has_no_fault()
-    ensures { (bytes : List ℕ) (f : FieldShape) (kind : JsonFaultKind) (path : List Step) →
-        IsFieldText bytes f → FieldTextFault bytes kind path → ⊥ }
-{}
-
-/// The bytes decide which field is read.
-pub fn bytes_decide_the_field()
-    ensures { (bytes : List ℕ) (f g : FieldShape) → IsFieldText bytes f → IsFieldText bytes g → f ≡ g }
-{}
+pub use json_laws::laws::{
+    batches_are_plain, columns_are_plain, columns_are_shallow, columns_read_back, files_fit,
+    schemas_are_plain, schemas_read_back, texts_are_read_as_documents, texts_are_utf8,
+    what_is_printed_reads_back,
+};
+pub use json_print::laws::plain_values_read_back;
+pub use json_query::laws::{bytes_decide_the_query, read_query_has_no_fault};
+pub use json_read::laws::{
+    bytes_decide_the_field, bytes_decide_the_file, read_field_has_no_fault, read_has_no_fault,
+};

@@ -10,13 +10,13 @@ use Rattle.arrays.specs.File.{File}
 use Rattle.arrays.specs.Item.{Item, null}
 use Rattle.arrays.specs.Seen.{Seen}
 use Rattle.arrays.specs.Shape.{FieldShape, field_of}
-use Rattle.arrow_json.specs.JsonField.{IsFieldText}
-use Rattle.arrow_json.specs.JsonFile.{AreUnder, file_of}
-use Rattle.json_places.specs.JsonTable as read
-use Rattle.json_places.specs.JsonTable.{FileData, table_of}
-use Rattle.job.specs.declared.asked.Command.{Command}
-use Rattle.job.specs.declared.asked.Command.TheVariants as command
-use Rattle.job.specs.declared.asked.Job.{Job}
+use Rattle.json_read.specs.JsonField.{IsFieldText}
+use Rattle.json_read.specs.JsonFile.{AreUnder, file_of}
+use Rattle.json_base.specs.JsonTable as read
+use Rattle.json_base.specs.JsonTable.{FileData, table_of}
+use Rattle.job.specs.declared.jobs.Command.{Command}
+use Rattle.job.specs.declared.jobs.Command.TheVariants as command
+use Rattle.job.specs.declared.jobs.Job.{Job}
 use Rattle.query.specs.Resolved.{named}
 use Rattle.query.specs.declared.fault.QueryFault.{QueryFault}
 use Rattle.table.specs.History.{History}

@@ -74,11 +74,11 @@ pub none_by : (xs : List (Option Scalar)) (n : ℕ) → n ≡ length xs → true
 none_by [] n long none = omega arith
 none_by (x ∷ xs) n long none = grind (arith, nat_tests)
 
-module _ (keys cells : List (Option Scalar)) (old told new : List ℕ) (first : told ≡ old ++ cells_text keys) where
+module _ (keys cells : List (Option Scalar)) (old reported new : List ℕ) (first : reported ≡ old ++ cells_text keys) where
   abbrev Line : Type 0
   Line = new ++ 10 ∷ [] ≡ old ++ (join_with_byte 32 (map cell (map item_of_scalar keys ++ map item_of_scalar cells)) ++ 10 ∷ [])
 
-  pub both_line : 0 < length keys → 0 < length cells → new ≡ (told ++ 32 ∷ []) ++ cells_text cells → Line
+  pub both_line : 0 < length keys → 0 < length cells → new ≡ (reported ++ 32 ∷ []) ++ cells_text cells → Line
   both_line some more added =
       ap (λ t. t ++ 10 ∷ []) (added ∙ ap (λ t. (t ++ 32 ∷ []) ++ cells_text cells) first
       ∙ ap (λ t. t ++ cells_text cells) (append_assoc old (cells_text keys) (32 ∷ []))
@@ -86,7 +86,7 @@ module _ (keys cells : List (Option Scalar)) (old told new : List ℕ) (first : 
       ∙ ap (λ t. old ++ t) (sym (both keys cells some more)))
       ∙ append_assoc old (join_with_byte 32 (map cell (map item_of_scalar keys ++ map item_of_scalar cells))) (10 ∷ [])
 
-  pub either_line : (0 < length keys → length cells ≤ 0) → new ≡ told ++ cells_text cells → Line
+  pub either_line : (0 < length keys → length cells ≤ 0) → new ≡ reported ++ cells_text cells → Line
   either_line none added =
       ap (λ t. t ++ 10 ∷ []) (added ∙ ap (λ t. t ++ cells_text cells) first
       ∙ append_assoc old (cells_text keys) (cells_text cells)

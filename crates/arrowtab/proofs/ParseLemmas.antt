@@ -1,14 +1,14 @@
--- Texts that are parsed at once, and told in order.
+-- Texts that are parsed at once, and reported in order.
 use Rattle.std.proofs.Common.{◌≡◌, ◌∙◌, ℕ, suc, ◌<◌, List, [], ◌∷◌, ◌++◌, append_assoc, append-nil, length, map, Result, Ok, Err, inl, inr, slice_index_or, ap, sym, refl, subst, arith}
 use Rattle.std.proofs.lemmas.List.{length-append}
 use Rattle.std.proofs.lemmas.Slice.Zip.{AllZip-long}
 use Rattle.std.specs.Prelude.{◌⊎◌}
 use Rattle.std.specs.List.{AllZip}
 use Rattle.arrays.specs.File.{File}
-use Rattle.arrow_json.specs.JsonFile.{BytesFault}
-use Rattle.json_places.specs.JsonFault.{Tells, stands, wants}
-use Rattle.json_places.specs.declared.fault.JsonFault.{JsonFault}
-use Rattle.json_places.specs.declared.fault.JsonFaultKind.TheVariants.{NoMemory as wanting}
+use Rattle.json_read.specs.JsonFile.{BytesFault}
+use Rattle.json_base.specs.JsonFault.{Tells, stands, wants}
+use Rattle.json_base.specs.declared.fault.JsonFault.{JsonFault}
+use Rattle.json_base.specs.declared.fault.JsonFaultKind.TheVariants.{NoMemory as wanting}
 use Rattle.arrowtab.specs.Parsed.{AddsFiles, IsFirstUnread, IsParsed, IsTextOf, StopsParsing}
 use Rattle.arrowtab.specs.declared.run_fault.FileFault.TheVariants.{Json}
 use Rattle.arrowtab.specs.declared.run_fault.RunFault.{RunFault}
@@ -70,9 +70,9 @@ AddsSoFar-more texts old files new rest later f so_far next pushed =
     }
 
 -- what stands of a fault that isn't want of memory
-told_stands : (text : List ℕ) (e : JsonFault) → (e.kind ≡ wanting → ⊥) → Tells (BytesFault text) e → BytesFault text e.kind e.path
-told_stands text e other (stands s) = s
-told_stands text e other (wants is) = absurd (other (ap (λ (f : JsonFault). f.kind) is))
+reported_stands : (text : List ℕ) (e : JsonFault) → (e.kind ≡ wanting → ⊥) → Tells (BytesFault text) e → BytesFault text e.kind e.path
+reported_stands text e other (stands s) = s
+reported_stands text e other (wants is) = absurd (other (ap (λ (f : JsonFault). f.kind) is))
 
 pub AddsSoFar-stops : (texts : List (List ℕ)) (old files : List File) (rest later : List Parsed) (e : JsonFault) → AddsSoFar texts old files rest → rest ≡ Err e ∷ later → (e.kind ≡ wanting → ⊥)
     → IsFirstUnread texts (length old) (length files) e
@@ -86,13 +86,13 @@ AddsSoFar-stops texts old files rest later e so_far next other =
       is = so_far.is ∙ ap (λ l. so_far.front ++ l) first.2;
       read = so_far.read;
       place = omega (arith, ap (λ l. length l) so_far.files_are, length-append old so_far.added, AllZip-long _ so_far.front so_far.added so_far.read);
-      stands = told_stands first.0 e other first.3;
+      stands = reported_stands first.0 e other first.3;
     }
 
-pub told_stops : (texts : List (List ℕ)) (old files : List File) (rest later : List Parsed) (e : JsonFault) (place : ℕ) (told : RunFault) → AddsSoFar texts old files rest → rest ≡ Err e ∷ later → place ≡ length files
-    → (told ≡ NoMemory) ⊎ ((e.kind ≡ wanting → ⊥) × (told ≡ OfFile place (Json e))) → StopsParsing texts (length old) told
-told_stops texts old files rest later e place told so_far next here (inl is) = subst (StopsParsing texts (length old)) (sym is) tt
-told_stops texts old files rest later e place told so_far next here (inr is) =
+pub reported_stops : (texts : List (List ℕ)) (old files : List File) (rest later : List Parsed) (e : JsonFault) (place : ℕ) (reported : RunFault) → AddsSoFar texts old files rest → rest ≡ Err e ∷ later → place ≡ length files
+    → (reported ≡ NoMemory) ⊎ ((e.kind ≡ wanting → ⊥) × (reported ≡ OfFile place (Json e))) → StopsParsing texts (length old) reported
+reported_stops texts old files rest later e place reported so_far next here (inl is) = subst (StopsParsing texts (length old)) (sym is) tt
+reported_stops texts old files rest later e place reported so_far next here (inr is) =
     subst (StopsParsing texts (length old)) (sym is.1) (subst (λ k. IsFirstUnread texts (length old) k e) (sym here) (AddsSoFar-stops texts old files rest later e so_far next is.0))
 
 -- nothing is left: all were added

@@ -2,7 +2,7 @@
 use Rattle.std.proofs.Common.{◌≡◌, ◌∙◌, ℕ, List, Result, Ok, Err, IfOk, IfErr, inl, inr, ap, sym, subst}
 use Rattle.std.specs.Prelude.{◌⊎◌}
 use Rattle.arrays.specs.Shape.{FieldShape}
-use Rattle.query.specs.Asked.{Asked}
+use Rattle.query.specs.QueryShape.{QueryShape}
 use Rattle.query.specs.Resolved.{resolved}
 use Rattle.query.specs.declared.fault.QueryFault.{QueryFault}
 use Rattle.query.specs.declared.fault.QueryFault.TheVariants as fault
@@ -13,12 +13,12 @@ use Rattle.arrowtab.specs.declared.run_fault.RunFault.{RunFault}
 use Rattle.arrowtab.specs.declared.run_fault.RunFault.TheVariants.{NoMemory, OfColumn, OfFile, QueryUnread, QueryRefused}
 
 -- a fault that isn't want of memory stands under the fields
-pub refused_under : {X : Type 0} (query : Asked (List ℕ)) (seen fields : List FieldShape) (h : History) (e : QueryFault) → seen ≡ fields → (e ≡ fault.NoMemory → ⊥) → (resolved seen query ≡ Err e) ⊎ ((e ≡ fault.NoMemory) × X)
+pub refused_under : {X : Type 0} (query : QueryShape (List ℕ)) (seen fields : List FieldShape) (h : History) (e : QueryFault) → seen ≡ fields → (e ≡ fault.NoMemory → ⊥) → (resolved seen query ≡ Err e) ⊎ ((e ≡ fault.NoMemory) × X)
     → RefusesGroups query fields h e
 refused_under query seen fields h e same other (inl stands) = under_fields e (ap (λ fs. resolved fs query) (sym same) ∙ stands)
 refused_under query seen fields h e same other (inr wants) = absurd (other wants.0)
 
-module _ (query : Asked (List ℕ)) (placed : Asked ℕ) (fields : List FieldShape) (h : History) (resolves : resolved fields query ≡ Ok placed) where
+module _ (query : QueryShape (List ℕ)) (placed : QueryShape ℕ) (fields : List FieldShape) (h : History) (resolves : resolved fields query ≡ Ok placed) where
   pub prints_of : {A : Type 0} (r : Result A RunFault) (text : A → List ℕ) → IfOk r (λ t. PrintsPlaced placed fields h (text t)) → IfOk r (λ t. PrintsGroups query fields h (text t))
   prints_of (Ok t) text prints = record { placed = placed; resolves = resolves; prints = prints }
   prints_of (Err e) text prints = tt

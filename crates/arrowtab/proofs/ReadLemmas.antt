@@ -7,13 +7,13 @@ use Rattle.std.proofs.lemmas.Slice.Zip.{AllZip-long}
 use Rattle.std.specs.Prelude.{◌⊎◌, All, Err, is_some}
 use Rattle.std.specs.List.{AllByRecursion, AllZip}
 use Rattle.arrays.specs.File.{File}
-use Rattle.arrow_json.specs.JsonFile.{AreUnder, BytesFault, Reads, file_of}
+use Rattle.json_read.specs.JsonFile.{AreUnder, BytesFault, Reads, file_of}
 use Rattle.ends.specs.Source.{CountsReads}
 use Rattle.ends.specs.declared.source.SourceFault.{SourceFault}
 use Rattle.ends.specs.declared.source.SourceFault.TheVariants.{ReadFailed}
 use Rattle.json.proofs.Found.{Some_inj}
-use Rattle.json_places.specs.JsonTable.{FileData}
-use Rattle.json_places.specs.declared.fault.JsonFault.{JsonFault}
+use Rattle.json_base.specs.JsonTable.{FileData}
+use Rattle.json_base.specs.declared.fault.JsonFault.{JsonFault}
 use Rattle.arrowtab.proofs.ParseLemmas.{zip_more}
 use Rattle.arrowtab.specs.Explained.{ExplainsFiles, IsOfFirst}
 use Rattle.arrowtab.specs.Parsed.{AddsFiles, IsFirstUnread, IsTextOf, StopsParsing}
@@ -48,25 +48,25 @@ some_next [] [] y at = absurd (false≢true (ap is_some at))
 some_next [] (z ∷ ys) y at = (ys, ap (λ x. x ∷ ys) (Some_inj z y at))
 some_next (x ∷ xs) ys y at = some_next xs ys y at
 
--- ---- texts that sources told, and what they are read as
+-- ---- texts that sources reported, and what they are read as
 
 -- The text is all that its source has to give, where it tells it.
-abbrev pub IsTold : Option (List ℕ) → List ℕ → Type 0
-IsTold input text = IfSome input (λ bytes. text ≡ bytes)
+abbrev pub IsRead : Option (List ℕ) → List ℕ → Type 0
+IsRead input text = IfSome input (λ bytes. text ≡ bytes)
 
-one_read : (input : Option (List ℕ)) (text : List ℕ) (f : File) → IsTold input text → IsTextOf text f → IfSome input (λ bytes. Reads bytes (file_of f))
-one_read None text f told is = tt
-one_read (Some bytes) text f told is = subst (λ b. Reads b (file_of f)) told is.0
+one_read : (input : Option (List ℕ)) (text : List ℕ) (f : File) → IsRead input text → IsTextOf text f → IfSome input (λ bytes. Reads bytes (file_of f))
+one_read None text f reported is = tt
+one_read (Some bytes) text f reported is = subst (λ b. Reads b (file_of f)) reported is.0
 
-told_read : (inputs : Inputs) (texts : List (List ℕ)) (files : List File) → AllZip IsTold inputs texts → AllZip IsTextOf texts files → AreRead inputs (map file_of files)
-told_read [] [] [] told read = tt
-told_read [] [] (f ∷ files) told read = absurd read
-told_read [] (t ∷ texts) [] told read = absurd told
-told_read [] (t ∷ texts) (f ∷ files) told read = absurd told
-told_read (i ∷ inputs) [] [] told read = absurd told
-told_read (i ∷ inputs) [] (f ∷ files) told read = absurd told
-told_read (i ∷ inputs) (t ∷ texts) [] told read = absurd read
-told_read (i ∷ inputs) (t ∷ texts) (f ∷ files) told read = (one_read i t f told.0 read.0, told_read inputs texts files told.1 read.1)
+reported_read : (inputs : Inputs) (texts : List (List ℕ)) (files : List File) → AllZip IsRead inputs texts → AllZip IsTextOf texts files → AreRead inputs (map file_of files)
+reported_read [] [] [] reported read = tt
+reported_read [] [] (f ∷ files) reported read = absurd read
+reported_read [] (t ∷ texts) [] reported read = absurd reported
+reported_read [] (t ∷ texts) (f ∷ files) reported read = absurd reported
+reported_read (i ∷ inputs) [] [] reported read = absurd reported
+reported_read (i ∷ inputs) [] (f ∷ files) reported read = absurd reported
+reported_read (i ∷ inputs) (t ∷ texts) [] reported read = absurd read
+reported_read (i ∷ inputs) (t ∷ texts) (f ∷ files) reported read = (one_read i t f reported.0 read.0, reported_read inputs texts files reported.1 read.1)
 
 texts_under : (texts : List (List ℕ)) (files : List File) → AllZip IsTextOf texts files → AllByRecursion (λ f. AreUnder f.fields f.batches) files
 texts_under [] [] read = tt
@@ -74,9 +74,9 @@ texts_under [] (f ∷ files) read = absurd read
 texts_under (t ∷ texts) [] read = absurd read
 texts_under (t ∷ texts) (f ∷ files) read = (read.0.1, texts_under texts files read.1)
 
-told_stands : (input : Option (List ℕ)) (text : List ℕ) (f : JsonFault) → IsTold input text → BytesFault text f.kind f.path → IfSome input (λ bytes. BytesFault bytes f.kind f.path)
-told_stands None text f told stands = tt
-told_stands (Some bytes) text f told stands = subst (λ b. BytesFault b f.kind f.path) told stands
+reported_stands : (input : Option (List ℕ)) (text : List ℕ) (f : JsonFault) → IsRead input text → BytesFault text f.kind f.path → IfSome input (λ bytes. BytesFault bytes f.kind f.path)
+reported_stands None text f reported stands = tt
+reported_stands (Some bytes) text f reported stands = subst (λ b. BytesFault b f.kind f.path) reported stands
 
 -- The sources of some texts, of the one behind them, and of the rest.
 record Parted (inputs : Inputs) (front : List (List ℕ)) (text : List ℕ) : Type 0 where
@@ -84,16 +84,16 @@ record Parted (inputs : Inputs) (front : List (List ℕ)) (text : List ℕ) : Ty
   input : Option (List ℕ)
   aft : Inputs
   are : inputs ≡ fore ++ input ∷ aft
-  told : AllZip IsTold fore front
-  tells : IsTold input text
+  reported : AllZip IsRead fore front
+  tells : IsRead input text
 
-parted : (inputs : Inputs) (front : List (List ℕ)) (text : List ℕ) (rest : List (List ℕ)) → AllZip IsTold inputs (front ++ text ∷ rest) → Parted inputs front text
-parted [] [] text rest told = absurd told
-parted (i ∷ inputs) [] text rest told = record { fore = []; input = i; aft = inputs; are = refl; told = tt; tells = told.0 }
-parted [] (u ∷ front) text rest told = absurd told
-parted (i ∷ inputs) (u ∷ front) text rest told =
-    let p = parted inputs front text rest told.1 in
-    record { fore = i ∷ p.fore; input = p.input; aft = p.aft; are = ap (λ l. i ∷ l) p.are; told = (told.0, p.told); tells = p.tells }
+parted : (inputs : Inputs) (front : List (List ℕ)) (text : List ℕ) (rest : List (List ℕ)) → AllZip IsRead inputs (front ++ text ∷ rest) → Parted inputs front text
+parted [] [] text rest reported = absurd reported
+parted (i ∷ inputs) [] text rest reported = record { fore = []; input = i; aft = inputs; are = refl; reported = tt; tells = reported.0 }
+parted [] (u ∷ front) text rest reported = absurd reported
+parted (i ∷ inputs) (u ∷ front) text rest reported =
+    let p = parted inputs front text rest reported.1 in
+    record { fore = i ∷ p.fore; input = p.input; aft = p.aft; are = ap (λ l. i ∷ l) p.are; reported = (reported.0, p.reported); tells = p.tells }
 
 module _ {S : Type 0} where
   set_here : (xs : List S) (n : ℕ) (y : S) → n < length xs → slice_get (set xs n y) n ≡ Some y
@@ -128,11 +128,11 @@ module _ {S : Type 0} where
     pub count : length front + length back ≡ n
     pub read : AreRead front (map file_of files)
     pub under : AllByRecursion (λ f. AreUnder f.fields f.batches) files
-    pub told : AllZip IsTold back texts
+    pub reported : AllZip IsRead back texts
 
   module _ (remaining : S → Option (List ℕ)) (failures : S → ℕ) (olds : List S) where
     pub ReadSoFar-none : ReadSoFar remaining failures olds olds [] [] 0
-    ReadSoFar-none = record { same = refl; untouched = λ i h. refl; quiet = λ i h. refl; front = []; back = []; rest = map remaining olds; are = refl; count = refl; read = tt; under = tt; told = tt }
+    ReadSoFar-none = record { same = refl; untouched = λ i h. refl; quiet = λ i h. refl; front = []; back = []; rest = map remaining olds; are = refl; count = refl; read = tt; under = tt; reported = tt }
 
     module _ (sources : List S) (files : List File) (texts : List (List ℕ)) (n : ℕ) (so_far : ReadSoFar remaining failures olds sources files texts n) where
       pub still : (i : ℕ) (new : S) → i < n → slice_get (map failures (set sources n new)) i ≡ slice_get (map failures olds) i
@@ -155,7 +155,7 @@ module _ {S : Type 0} where
       all_read : (new : List File) → AddsFiles texts files new → AreRead (so_far.front ++ so_far.back) (map file_of new)
       all_read new adds =
           subst (λ fs. AreRead (so_far.front ++ so_far.back) fs) (sym (ap (map file_of) adds.1 ∙ map-append file_of files adds.0))
-          (zip_append (λ input file. IfSome input (λ bytes. Reads bytes file)) so_far.front so_far.back (map file_of files) (map file_of adds.0) so_far.read (told_read so_far.back texts adds.0 so_far.told adds.2))
+          (zip_append (λ input file. IfSome input (λ bytes. Reads bytes file)) so_far.front so_far.back (map file_of files) (map file_of adds.0) so_far.read (reported_read so_far.back texts adds.0 so_far.reported adds.2))
 
       next_input : (d : S) → n < length olds → (later : Inputs) × (so_far.rest ≡ remaining (get_or sources n d) ∷ later)
       next_input d within =
@@ -164,9 +164,9 @@ module _ {S : Type 0} where
           (subst (λ l. slice_get l n ≡ Some (remaining (get_or sources n d))) whole (shown_at remaining olds n _ (first_at d within))))
 
       -- one source more is read
-      pub ReadSoFar-told : (d new : S) (text : List ℕ) → n < length olds → failures new ≡ failures (get_or sources n d) → IsTold (remaining (get_or sources n d)) text
+      pub ReadSoFar-reported : (d new : S) (text : List ℕ) → n < length olds → failures new ≡ failures (get_or sources n d) → IsRead (remaining (get_or sources n d)) text
           → ReadSoFar remaining failures olds (set sources n new) files (texts ++ text ∷ []) (n + 1)
-      ReadSoFar-told d new text within kept told =
+      ReadSoFar-reported d new text within kept reported =
           let s = get_or sources n d in
           let next = next_input d within in
           record {
@@ -184,7 +184,7 @@ module _ {S : Type 0} where
             count = omega (arith, so_far.count, length-append so_far.back (remaining s ∷ []));
             read = so_far.read;
             under = so_far.under;
-            told = zip_more IsTold so_far.back texts (remaining s) text so_far.told told;
+            reported = zip_more IsRead so_far.back texts (remaining s) text so_far.reported reported;
           }
 
       -- the texts are parsed
@@ -200,7 +200,7 @@ module _ {S : Type 0} where
         count = omega (arith, long);
         read = all_read new adds;
         under = subst (AllByRecursion (λ f. AreUnder f.fields f.batches)) (sym adds.1) (all_append (λ f. AreUnder f.fields f.batches) files adds.0 so_far.under (texts_under texts adds.0 adds.2));
-        told = tt;
+        reported = tt;
       }
 
       -- ---- a text that is no file
@@ -218,7 +218,7 @@ module _ {S : Type 0} where
 
       unread : (file : ℕ) (f : JsonFault) → IsFirstUnread texts (length files) file f → Unread file f
       unread file f u =
-          let p = parted so_far.back u.front u.text u.rest (subst (AllZip IsTold so_far.back) u.is so_far.told) in
+          let p = parted so_far.back u.front u.text u.rest (subst (AllZip IsRead so_far.back) u.is so_far.reported) in
           record {
             fore = so_far.front ++ p.fore;
             input = p.input;
@@ -226,20 +226,20 @@ module _ {S : Type 0} where
             split =
                 so_far.are ∙ ap (λ l. so_far.front ++ (l ++ so_far.rest)) p.are ∙ ap (λ l. so_far.front ++ l) (append_assoc p.fore (p.input ∷ p.aft) so_far.rest)
                 ∙ sym (append_assoc so_far.front p.fore (p.input ∷ (p.aft ++ so_far.rest)));
-            place = omega (arith, u.place, length-append so_far.front p.fore, AllZip-long _ so_far.front (map file_of files) so_far.read, length-map files file_of, AllZip-long IsTold p.fore u.front p.told);
+            place = omega (arith, u.place, length-append so_far.front p.fore, AllZip-long _ so_far.front (map file_of files) so_far.read, length-map files file_of, AllZip-long IsRead p.fore u.front p.reported);
             within = omega (
               arith,
               u.place,
               so_far.count,
               AllZip-long _ so_far.front (map file_of files) so_far.read,
               length-map files file_of,
-              AllZip-long IsTold p.fore u.front p.told,
+              AllZip-long IsRead p.fore u.front p.reported,
               ap (λ l. length l) p.are,
               length-append p.fore (p.input ∷ p.aft),
             );
             data_before = map file_of files ++ map file_of u.files;
-            read_before = zip_append (λ input file. IfSome input (λ bytes. Reads bytes file)) so_far.front p.fore (map file_of files) (map file_of u.files) so_far.read (told_read p.fore u.front u.files p.told u.read);
-            fails = told_stands p.input u.text f p.tells u.stands;
+            read_before = zip_append (λ input file. IfSome input (λ bytes. Reads bytes file)) so_far.front p.fore (map file_of files) (map file_of u.files) so_far.read (reported_read p.fore u.front u.files p.reported u.read);
+            fails = reported_stands p.input u.text f p.tells u.stands;
           }
 
       pub parsing_explained : (after : List ℕ) (fault : RunFault) → StopsParsing texts (length files) fault → ExplainsFiles (map remaining olds) (map failures olds) after fault
@@ -268,10 +268,10 @@ module _ {S : Type 0} where
 
       -- ---- a source that isn't read, of number n: the files before it are
 
-      pub source_explained : (d new : S) (fault : SourceFault) (told : RunFault) → n < length olds → (fault ≡ ReadFailed → failures (get_or sources n d) < failures new)
-          → (told ≡ NoMemory) ⊎ ((fault ≡ ReadFailed) × (told ≡ OfFile n CannotRead)) → ExplainsFiles (map remaining olds) (map failures olds) (map failures (set sources n new)) told
-      source_explained d new fault told within counted (inl is) = subst (ExplainsFiles (map remaining olds) (map failures olds) (map failures (set sources n new))) (sym is) tt
-      source_explained d new fault told within counted (inr is) = subst (ExplainsFiles (map remaining olds) (map failures olds) (map failures (set sources n new))) (sym is.1) (record {
+      pub source_explained : (d new : S) (fault : SourceFault) (reported : RunFault) → n < length olds → (fault ≡ ReadFailed → failures (get_or sources n d) < failures new)
+          → (reported ≡ NoMemory) ⊎ ((fault ≡ ReadFailed) × (reported ≡ OfFile n CannotRead)) → ExplainsFiles (map remaining olds) (map failures olds) (map failures (set sources n new)) reported
+      source_explained d new fault reported within counted (inl is) = subst (ExplainsFiles (map remaining olds) (map failures olds) (map failures (set sources n new))) (sym is) tt
+      source_explained d new fault reported within counted (inr is) = subst (ExplainsFiles (map remaining olds) (map failures olds) (map failures (set sources n new))) (sym is.1) (record {
         failed = failures (get_or sources n d);
         failures = failures new;
         first = shown_at failures olds n _ (first_at d within);
@@ -279,10 +279,10 @@ module _ {S : Type 0} where
         more = counted is.0;
       })
 
-      pub source_first : (new : S) (fault : SourceFault) (told : RunFault) (more : List File) → AddsFiles texts files more
-          → (told ≡ NoMemory) ⊎ ((fault ≡ ReadFailed) × (told ≡ OfFile n CannotRead)) → IsOfFirst (map remaining olds) (map failures olds) (map failures (set sources n new)) told
-      source_first new fault told more adds (inl is) = subst (IsOfFirst (map remaining olds) (map failures olds) (map failures (set sources n new))) (sym is) tt
-      source_first new fault told more adds (inr is) =
+      pub source_first : (new : S) (fault : SourceFault) (reported : RunFault) (more : List File) → AddsFiles texts files more
+          → (reported ≡ NoMemory) ⊎ ((fault ≡ ReadFailed) × (reported ≡ OfFile n CannotRead)) → IsOfFirst (map remaining olds) (map failures olds) (map failures (set sources n new)) reported
+      source_first new fault reported more adds (inl is) = subst (IsOfFirst (map remaining olds) (map failures olds) (map failures (set sources n new))) (sym is) tt
+      source_first new fault reported more adds (inr is) =
           let fore = so_far.front ++ so_far.back in
           let front : take n (map remaining olds) ≡ fore = ap (take n) whole ∙ subst (λ k. take k (fore ++ so_far.rest) ≡ fore) (sym long) (front_of fore so_far.rest) in
           subst (IsOfFirst (map remaining olds) (map failures olds) (map failures (set sources n new))) (sym is.1)
@@ -302,10 +302,10 @@ module _ {S : Type 0} where
     -- the same, where its text is pushed
     pub ReadSoFar-pushed : {V : Type 0} (bytes : V → List ℕ) (sources : List S) (files : List File) (texts all : List V) (n : ℕ) (d new : S) (text : V)
         → ReadSoFar remaining failures olds sources files (map bytes texts) n → n < length olds → all ≡ texts ++ text ∷ [] → failures new ≡ failures (get_or sources n d)
-        → IsTold (remaining (get_or sources n d)) (bytes text) → ReadSoFar remaining failures olds (set sources n new) files (map bytes all) (n + 1)
-    ReadSoFar-pushed bytes sources files texts all n d new text so_far within is kept told =
+        → IsRead (remaining (get_or sources n d)) (bytes text) → ReadSoFar remaining failures olds (set sources n new) files (map bytes all) (n + 1)
+    ReadSoFar-pushed bytes sources files texts all n d new text so_far within is kept reported =
         subst (λ ts. ReadSoFar remaining failures olds (set sources n new) files ts (n + 1)) (sym (ap (map bytes) is ∙ map-append bytes texts (text ∷ [])))
-        (ReadSoFar-told sources files (map bytes texts) n so_far d new (bytes text) within kept told)
+        (ReadSoFar-reported sources files (map bytes texts) n so_far d new (bytes text) within kept reported)
 
 -- a read that failed is counted
 pub counted : (A : Type 0) (old new : ℕ) (fault : SourceFault) → CountsReads {A = A} old new (Err fault) → fault ≡ ReadFailed → old < new

@@ -23,8 +23,8 @@ use Rattle.table.proofs.HistoryLemmas.{rows-push}
 -- ---- the shares of a history, pair by pair
 
 -- an entry of the book tells of the pair at its place
-told : (h : History) (i : ℕ) (e : ℕ × ℕ) (d : ℕ × Table) → i < length h → slice_get (book h) i ≡ Some e → ((get_or h i d).0, length (get_or h i d).1) ≡ e
-told h i e d below at =
+reported : (h : History) (i : ℕ) (e : ℕ × ℕ) (d : ℕ × Table) → i < length h → slice_get (book h) i ≡ Some e → ((get_or h i d).0, length (get_or h i d).1) ≡ e
+reported h i e d below at =
     let count : ℕ × Table → ℕ × ℕ = λ p. (p.0, length p.1) in
     let read : slice_get (book h) i ≡ Some (count (get_or h i d)) = slice_get-map count h i ∙ ap (option_map count) (slice_get-get_or h i d below) in
     let both : Some (count (get_or h i d)) ≡ Some e = sym read ∙ at in
@@ -39,7 +39,7 @@ of-own : (h : History) (i w : ℕ) (e : ℕ × ℕ) (d : ℕ × Table) → i < l
 of-own h i w e d below at own =
     let p = get_or h i d in
     of-more h i w d below
-    ∙ ap (λ b. of (take i h) w ++ cond b (p ∷ []) []) (eq-eqb p.0 w (ap (λ (x : ℕ × ℕ). x.0) (told h i e d below at) ∙ own))
+    ∙ ap (λ b. of (take i h) w ++ cond b (p ∷ []) []) (eq-eqb p.0 w (ap (λ (x : ℕ × ℕ). x.0) (reported h i e d below at) ∙ own))
 
 pub calls-own : (h : History) (i w : ℕ) (e : ℕ × ℕ) → i < length h → slice_get (book h) i ≡ Some e → e.0 ≡ w
     → length (of (take (i + 1) h) w) ≡ length (of (take i h) w) + 1
@@ -55,7 +55,7 @@ rows-own h i w e below at own =
     ap (λ (g : History). length (rows g)) (of-own h i w e d below at own)
     ∙ ap length (rows-push (of (take i h) w) (get_or h i d))
     ∙ length-append before (get_or h i d).1
-    ∙ ap (λ (x : ℕ × ℕ). length before + x.1) (told h i e d below at)
+    ∙ ap (λ (x : ℕ × ℕ). length before + x.1) (reported h i e d below at)
 
 -- another worker's pair
 pub of-other : (h : History) (i w : ℕ) (e : ℕ × ℕ) → i < length h → slice_get (book h) i ≡ Some e → (e.0 ≡ w → ⊥) → of (take (i + 1) h) w ≡ of (take i h) w
@@ -63,7 +63,7 @@ of-other h i w e below at other =
     let d : ℕ × Table = (0, []) in
     let p = get_or h i d in
     of-more h i w d below
-    ∙ ap (λ b. of (take i h) w ++ cond b (p ∷ []) []) (ne_eqb p.0 w (λ own. other (sym (ap (λ (x : ℕ × ℕ). x.0) (told h i e d below at)) ∙ own)))
+    ∙ ap (λ b. of (take i h) w ++ cond b (p ∷ []) []) (ne_eqb p.0 w (λ own. other (sym (ap (λ (x : ℕ × ℕ). x.0) (reported h i e d below at)) ∙ own)))
     ∙ append-nil (of (take i h) w)
 
 -- ---- lines, one after the other

@@ -5,10 +5,10 @@ use Rattle.std.specs.contracts.result.Result as result
 use Rattle.types.proofs.SendingLemmas.{schema-send, schema-sync}
 use Rattle.arrays.proofs.SendingLemmas.{batch-send, batch-sync}
 use Rattle.arrays.specs.contracts.file.File as file
-use Rattle.json_places.specs.contracts.fault.JsonFault as fault
-use Rattle.json_places.specs.contracts.fault.JsonFaultKind as kind
-use Rattle.json_places.specs.contracts.path.Path as path
-use Rattle.json_places.specs.contracts.path.Step as step
+use Rattle.json_base.specs.contracts.fault.JsonFault as fault
+use Rattle.json_base.specs.contracts.fault.JsonFaultKind as kind
+use Rattle.json_base.specs.contracts.path.Path as path
+use Rattle.json_base.specs.contracts.path.Step as step
 
 file-send : IsSend file.the_row
 file-send = search (schema-send, schema-sync, batch-send, batch-sync, crosses, sendable) depth 20

@@ -12,7 +12,7 @@ use Rattle.arrays.specs.File.{File}
 use Rattle.arrays.specs.Shape.{FieldShape}
 use Rattle.loads.specs.Loaded.{AllLoaded, AreRun, batches_of, before_stop, fields_for, IsAlike, IsStopped as IsHalted, Loaded, pairs_of, StandsFor, Stop}
 use Rattle.loads.specs.Plan.{planned}
-use Rattle.loads.specs.Told.{IsLeast, Stands}
+use Rattle.loads.specs.Report.{IsLeast, Stands}
 use Rattle.loads.specs.declared.fault.LoadFault.TheVariants as load
 use Rattle.shared.specs.Balance.{IsOfWorkers}
 use Rattle.shared.specs.Hand.{AreNew, Hand, IsNew, IsPartOf, IsWhole, columns_of_hand}
@@ -131,9 +131,9 @@ fields_stay fields old new v are kept same opened counted =
 pub stopped_stay : (files : List File) (fields : List FieldShape) (old new : List Hand) (v : Contents) (file number : ℕ) (e : Refusal) → AreNew fields 0 old
     → Stands (load.Refused file number e) (batches_of files) old new → IsPrefix fields v.fields → length v.fields ≡ length fields + sum_by columns_of_hand new → v.fields ≡ fields
 stopped_stay files fields old new v file number e are (inr none) opened counted = let wants : load.Refused file number e ≡ load.NoMemory = none.0 in absurd (cc)
-stopped_stay files fields old new v file number e are (inl told) opened counted =
+stopped_stay files fields old new v file number e are (inl reported) opened counted =
     let none : Left = record { last = None; stop = None } in
-    fields_stay fields old new v are told.1.kept (λ w below. (told.1.each w nobody none below).loaded.columns) opened counted
+    fields_stay fields old new v are reported.1.kept (λ w below. (reported.1.each w nobody none below).loaded.columns) opened counted
 
 -- ---- what they loaded
 
@@ -162,7 +162,7 @@ holds_all workers files fields old new v some count same are all whole known leg
       subst (λ (fs : List FieldShape). IsLoaded workers (listed files) fs v.history) same
       (subst (λ n. IsLoaded n (listed files) fields v.history) count
       (loaded_all files fields old new (known_of v) (omega (arith, some, count)) is are all whole (subst (λ n. IsOfWorkers n v.history) (sym count) known) legal));
-  held = refl;
+  history_is = refl;
 }
 
 -- each batch fits the fields
@@ -183,7 +183,7 @@ front_of : (files : List (List Batch)) (workers place : ℕ) (seen : Known) (o :
 front_of files workers place seen None is = prefix_self (planned files workers place)
 front_of files workers place seen (Some s) is = planned_front s.0 s.1 workers place files is.file is.own
 
--- the cause that was told is a refusal's
+-- the cause that was reported is a refusal's
 cause_of : (k : Known) (b : Batch) (e : Refusal) → e ≢ refusal.NoMemory → StandsFor k b e → batch_cause k.fields k.history b ≡ Some e
 cause_of k b e known (inl wants) = absurd (known wants)
 cause_of k b e known (inr stands) = stands
@@ -235,9 +235,9 @@ halted_at fields files old new outcomes v file number e k o same are run whole k
 halted_own : (fields : List FieldShape) (files : List (List Batch)) (old new : List Hand) (outcomes : List Left) (v : Known) (file number : ℕ) (e : Refusal) → v.fields ≡ fields → AreNew fields 0 old
     → AreRun files old new outcomes → All (IsWhole v) new → IsLeast (file, number, e) outcomes
     → Halted fields files v.history (length old) (file % length old) file number e (get_or new (file % length old) nobody)
-halted_own fields files old new outcomes v file number e same are run whole told =
-    let met = told.met in
-    let halted = halted_at fields files old new outcomes v file number e met.0 met.1 same are run whole told.known (omega (arith, run.count, met.2)) (ap (λ (o : Left). o.stop) met.3 ∙ met.4) in
+halted_own fields files old new outcomes v file number e same are run whole reported =
+    let met = reported.met in
+    let halted = halted_at fields files old new outcomes v file number e met.0 met.1 same are run whole reported.known (omega (arith, run.count, met.2)) (ap (λ (o : Left). o.stop) met.3 ∙ met.4) in
     subst (λ k. Halted fields files v.history (length old) k file number e (get_or new k nobody)) (sym halted.own) halted
 
 -- all that it had seen of itself is all that it added
@@ -276,12 +276,12 @@ stopped_one : (files : List File) (fields : List FieldShape) (old new : List Han
     → IsPartOf count own.seen own → IsLegalKnown own.seen → All (IsWhole k) new → IsOfWorkers (length old) k.history
     → IsStopped (length old) (listed files) fields file number e
 stopped_one files fields old new k file number count e own some same are (inr none) at part legal whole known = let wants : load.Refused file number e ≡ load.NoMemory = none.0 in absurd (cc)
-stopped_one files fields old new k file number count e own some same are (inl told) at part legal whole known =
+stopped_one files fields old new k file number count e own some same are (inl reported) at part legal whole known =
     let place = file % length old in
-    let inside : place < length new = omega (arith, some, told.1.kept) in
+    let inside : place < length new = omega (arith, some, reported.1.kept) in
     let is : own ≡ get_or new place nobody = at ∙ same_at new place own nobody inside in
-    stopped_own files fields old new told.0 k file number count e (get_or new place nobody) same are told.1
-    (halted_own fields (batches_of files) old new told.0 k file number e same are told.1 whole told.2)
+    stopped_own files fields old new reported.0 k file number count e (get_or new place nobody) same are reported.1
+    (halted_own fields (batches_of files) old new reported.0 k file number e same are reported.1 whole reported.2)
     (subst (λ (x : Hand). IsPartOf count x.seen x) is part) (subst (λ (x : Hand). IsLegalKnown x.seen) is legal)
     (whole place nobody inside) whole known
 
@@ -320,9 +320,9 @@ loaded_there workers table files fields old new back same size are all is =
 pub stopped_there : (workers table : ℕ) (files : List File) (fields : List FieldShape) (old new back : List Hand) (file number : ℕ) (e : Refusal) → table ≡ workers → length old ≡ workers → AreNew fields 0 old
     → Stands (load.Refused file number e) (batches_of files) old new → back ≡ new → AllThere table back
 stopped_there workers table files fields old new back file number e same size are (inr none) is = let wants : load.Refused file number e ≡ load.NoMemory = none.0 in absurd (cc)
-stopped_there workers table files fields old new back file number e same size are (inl told) is =
+stopped_there workers table files fields old new back file number e same size are (inl reported) is =
     let none : Left = record { last = None; stop = None } in
-    subst (λ n. AllThere n back) (sym same) (all_there workers fields old new back size told.1.kept are is (λ w below. (told.1.each w nobody none below).loaded.number))
+    subst (λ n. AllThere n back) (sym same) (all_there workers fields old new back size reported.1.kept are is (λ w below. (reported.1.each w nobody none below).loaded.number))
 
 -- ---- the workers, written back
 

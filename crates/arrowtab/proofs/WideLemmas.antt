@@ -282,7 +282,7 @@ module _ (fields : List FieldShape) (f : FieldShape) (files : List File) (old mi
         fields = is ∙ ap (λ (fs : List FieldShape). fs ++ stored_field f ∷ []) same;
         history = h;
         loaded = subst (λ (fs : List FieldShape). IsLoaded n (listed files) fs h) same loaded;
-        held = sym back ∙ ap (λ (fs : List FieldShape). widened (length fs + 1) h) same;
+        history_is = sym back ∙ ap (λ (fs : List FieldShape). widened (length fs + 1) h) same;
       }
 
 -- ---- as the one who gathers has it

@@ -103,23 +103,23 @@ stopped_of workers files fields file number refusal bs b h there inside known ow
 
 module _ (wanted : Wanted) (workers : ℕ) (files : List File) (column : Option FieldShape) where
   module _ (v : Contents) (holds : Holds workers files column v) where
-    shows_held : (text : List ℕ) → PrintsWanted wanted workers v.fields v.history text → Shows wanted workers files column text
-    shows_held text prints = record {
+    shows_present : (text : List ℕ) → PrintsWanted wanted workers v.fields v.history text → Shows wanted workers files column text
+    shows_present text prints = record {
       allowed = holds.allowed;
       history = holds.history;
       loaded = holds.loaded;
       prints =
-          subst (λ (h : History). PrintsWanted wanted workers (fields_with column (fields_for files)) h text) holds.held
+          subst (λ (h : History). PrintsWanted wanted workers (fields_with column (fields_for files)) h text) holds.history_is
           (subst (λ (fs : List FieldShape). PrintsWanted wanted workers fs v.history text) holds.fields prints);
     }
 
-    refused_held : (fault : QueryFault) → RefusesWanted wanted v.fields v.history fault → IsRefusedOver wanted workers files column fault
-    refused_held fault refused = record {
+    refused_present : (fault : QueryFault) → RefusesWanted wanted v.fields v.history fault → IsRefusedOver wanted workers files column fault
+    refused_present fault refused = record {
       allowed = holds.allowed;
       history = holds.history;
       loaded = holds.loaded;
       refused =
-          subst (λ (h : History). RefusesWanted wanted (fields_with column (fields_for files)) h fault) holds.held
+          subst (λ (h : History). RefusesWanted wanted (fields_with column (fields_for files)) h fault) holds.history_is
           (subst (λ (fs : List FieldShape). RefusesWanted wanted fs v.history fault) holds.fields refused);
     }
 
@@ -131,22 +131,22 @@ module _ (wanted : Wanted) (workers : ℕ) (files : List File) (column : Option 
   loading_stops (QueryRefused fault) stops = absurd stops
   loading_stops (OfColumn fault) stops = stops
 
-unprinted_held : (wanted : Wanted) (workers : ℕ) (files : List File) (column : Option FieldShape) (v : Contents) (fault : RunFault) → Holds workers files column v
+unprinted_present : (wanted : Wanted) (workers : ℕ) (files : List File) (column : Option FieldShape) (v : Contents) (fault : RunFault) → Holds workers files column v
     → IsUnprinted wanted v.fields v.history fault → StopsWanted wanted workers files column fault
-unprinted_held wanted.Stats workers files column v fault holds why = subst (StopsWanted wanted.Stats workers files column) (sym why) tt
-unprinted_held wanted.Export workers files column v fault holds why = subst (StopsWanted wanted.Export workers files column) (sym why) tt
-unprinted_held (wanted.Groups query) workers files column v NoMemory holds why = tt
-unprinted_held (wanted.Groups query) workers files column v (OfFile file fault) holds why = absurd why
-unprinted_held (wanted.Groups query) workers files column v (QueryUnread fault) holds why = absurd why
-unprinted_held (wanted.Groups query) workers files column v (QueryRefused fault) holds why = refused_held (wanted.Groups query) workers files column v holds fault why
-unprinted_held (wanted.Groups query) workers files column v (OfColumn fault) holds why = absurd why
+unprinted_present wanted.Stats workers files column v fault holds why = subst (StopsWanted wanted.Stats workers files column) (sym why) tt
+unprinted_present wanted.Export workers files column v fault holds why = subst (StopsWanted wanted.Export workers files column) (sym why) tt
+unprinted_present (wanted.Groups query) workers files column v NoMemory holds why = tt
+unprinted_present (wanted.Groups query) workers files column v (OfFile file fault) holds why = absurd why
+unprinted_present (wanted.Groups query) workers files column v (QueryUnread fault) holds why = absurd why
+unprinted_present (wanted.Groups query) workers files column v (QueryRefused fault) holds why = refused_present (wanted.Groups query) workers files column v holds fault why
+unprinted_present (wanted.Groups query) workers files column v (OfColumn fault) holds why = absurd why
 
 pub output_shows : {A : Type 0} (wanted : Wanted) (workers : ℕ) (files : List File) (column : Option FieldShape) (v : Contents) (r : Result A RunFault) (text : A → List ℕ)
     → Holds workers files column v → IfOk r (λ t. PrintsWanted wanted workers v.fields v.history (text t)) → IfOk r (λ t. Shows wanted workers files column (text t))
-output_shows wanted workers files column v (Ok t) text holds prints = shows_held wanted workers files column v holds (text t) prints
+output_shows wanted workers files column v (Ok t) text holds prints = shows_present wanted workers files column v holds (text t) prints
 output_shows wanted workers files column v (Err fault) text holds prints = tt
 
 pub output_stops : {A : Type 0} (wanted : Wanted) (workers : ℕ) (files : List File) (column : Option FieldShape) (v : Contents) (r : Result A RunFault) → Holds workers files column v
     → IfErr r (IsUnprinted wanted v.fields v.history) → IfErr r (StopsWanted wanted workers files column)
 output_stops wanted workers files column v (Ok t) holds why = tt
-output_stops wanted workers files column v (Err fault) holds why = unprinted_held wanted workers files column v fault holds why
+output_stops wanted workers files column v (Err fault) holds why = unprinted_present wanted workers files column v fault holds why

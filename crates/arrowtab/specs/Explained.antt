@@ -1,8 +1,8 @@
 -- Why there is no output.
 use Rattle.std.specs.Prelude.{◌≡◌, ◌<◌, ℕ, List, slice_get, take, ⊤}
 use Rattle.arrowtab.specs.Run.{AreRead, FailedFile, FailedQuery, FailedRead, Inputs, Refuses, RefusesQuery}
-use Rattle.json_places.specs.JsonTable.{FileData}
-use Rattle.job.specs.declared.asked.Job.{Job}
+use Rattle.json_base.specs.JsonTable.{FileData}
+use Rattle.job.specs.declared.jobs.Job.{Job}
 use Rattle.arrowtab.specs.Column.{FailedColumn, RefusesColumn}
 use Rattle.arrowtab.specs.declared.run_fault.ColumnFault.{ColumnFault}
 use Rattle.arrowtab.specs.declared.run_fault.ColumnFault.TheVariants as column

@@ -5,7 +5,7 @@ use Rattle.answers.specs.Groups.{GroupShape}
 use Rattle.ends.specs.Line.{line}
 use Rattle.arrowtab.specs.Shown.{cell}
 
--- The items of a group's key, then what is told of its rows, with one space between.
+-- The items of a group's key, then its aggregates, with one space between.
 abbrev pub group_line : GroupShape → List ℕ
 group_line g = line (join_with_byte 32 (map cell (g.keys ++ g.cells)))
 

@@ -9,7 +9,7 @@ pub mod Loaded
 pub mod Column
 pub mod AddFaultText
 pub mod Lines
-pub mod Told
+pub mod FaultLine
 pub mod Run
 pub mod Explained
 pub mod Parsed

@@ -3,7 +3,7 @@ use Rattle.std.specs.Prelude.{◌≡◌, ◌≢◌, ◌<◌, ◌++◌, ◌%◌, 
 use mathlib.Core.List.{IsPrefix}
 use Rattle.arrays.specs.Shape.{FieldShape}
 use Rattle.arrays.specs.Batch.{Table}
-use Rattle.json_places.specs.JsonTable.{FileData, rows_of}
+use Rattle.json_base.specs.JsonTable.{FileData, rows_of}
 use Rattle.table.specs.History.{History, of}
 use Rattle.loads.specs.Plan.{planned}
 use Rattle.table.specs.Cause.{IsLegal, difference, handed_cause}

@@ -3,15 +3,15 @@ use Rattle.std.specs.Prelude.{◌≡◌, ℕ, List, length, map, string_bytes}
 use Rattle.std.specs.List.{range_with_len}
 use Rattle.arrays.specs.Batch as batch
 use Rattle.arrays.specs.Shape.{FieldShape}
-use Rattle.json_places.specs.JsonTable.{Table}
-use Rattle.arrow_text.specs.Text.{document}
+use Rattle.json_base.specs.JsonTable.{Table}
+use Rattle.json_print.specs.Text.{document}
 use Rattle.ends.specs.Line.{line}
 use Rattle.serde_json.specs.Written.{compact_text}
-use Rattle.job.specs.declared.asked.Command.{Command}
-use Rattle.job.specs.declared.asked.Command.TheVariants.{Stats, Export, Query}
-use Rattle.query.specs.Asked.{Asked}
+use Rattle.job.specs.declared.jobs.Command.{Command}
+use Rattle.job.specs.declared.jobs.Command.TheVariants.{Stats, Export, Query}
+use Rattle.query.specs.QueryShape.{QueryShape}
 use Rattle.query.specs.declared.fault.QueryFault.{QueryFault}
-use Rattle.query_json.specs.QueryAsked.{ReadsQueryText}
+use Rattle.json_query.specs.QueryDocument.{ReadsQueryText}
 use Rattle.table.specs.History.{History}
 use Rattle.arrowtab.specs.Queried.{PrintsGroups, RefusesGroups}
 use Rattle.arrowtab.specs.Shown.{shown}
@@ -28,10 +28,10 @@ exported fields h = line (compact_text (document fields (map (λ e. added_table 
 abbrev pub Prints : Command → ℕ → List FieldShape → History → List ℕ → Type 0
 Prints Stats workers fields h text = text ≡ shown workers fields h
 Prints Export workers fields h text = text ≡ exported fields h
-Prints (Query bytes) workers fields h text = (query : Asked (List ℕ)) × ReadsQueryText (string_bytes bytes) query × PrintsGroups query fields h text
+Prints (Query bytes) workers fields h text = (query : QueryShape (List ℕ)) × ReadsQueryText (string_bytes bytes) query × PrintsGroups query fields h text
 
 -- There is none, since the command's query is refused.
 abbrev pub PrintsNothing : Command → List FieldShape → History → QueryFault → Type 0
 PrintsNothing Stats fields h fault = ⊥
 PrintsNothing Export fields h fault = ⊥
-PrintsNothing (Query bytes) fields h fault = (query : Asked (List ℕ)) × ReadsQueryText (string_bytes bytes) query × RefusesGroups query fields h fault
+PrintsNothing (Query bytes) fields h fault = (query : QueryShape (List ℕ)) × ReadsQueryText (string_bytes bytes) query × RefusesGroups query fields h fault

@@ -1,10 +1,10 @@
--- What the texts of files are read as, and which fault of theirs is told.
+-- What the texts of files are read as, and which fault of theirs is reported.
 use Rattle.std.specs.Prelude.{◌≡◌, ◌+◌, ◌++◌, ◌∷◌, ℕ, List, MatchResult, Result, length, ⊤}
 use Rattle.std.specs.List.{AllZip}
 use Rattle.arrays.specs.File.{File}
-use Rattle.arrow_json.specs.JsonFile.{AreUnder, BytesFault, Reads, file_of}
-use Rattle.json_places.specs.JsonFault.{Tells}
-use Rattle.json_places.specs.declared.fault.JsonFault.{JsonFault}
+use Rattle.json_read.specs.JsonFile.{AreUnder, BytesFault, Reads, file_of}
+use Rattle.json_base.specs.JsonFault.{Tells}
+use Rattle.json_base.specs.declared.fault.JsonFault.{JsonFault}
 use Rattle.arrowtab.specs.declared.run_fault.FileFault.TheVariants.{CannotRead, Json, Refused}
 use Rattle.arrowtab.specs.declared.run_fault.RunFault.{RunFault}
 use Rattle.arrowtab.specs.declared.run_fault.RunFault.TheVariants.{NoMemory, OfColumn, OfFile, QueryUnread, QueryRefused}

@@ -1,4 +1,4 @@
--- How a refusal is told.
+-- How a refusal is reported.
 use Rattle.std.specs.Prelude.{ℕ, List, ◌++◌, codes}
 use Rattle.std.specs.Fmt.{decimal}
 use Rattle.table.specs.declared.refusal.Refusal.{Refusal}

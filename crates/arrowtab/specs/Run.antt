@@ -7,25 +7,25 @@ use Rattle.ends.specs.Sink.{AppendsFront}
 use Rattle.arrays.specs.Shape.{FieldShape}
 use Rattle.table.specs.History.{History}
 use Rattle.table.specs.Stored.{stored_fields}
-use Rattle.job.specs.Asked.{names_of}
-use Rattle.job.specs.declared.asked.Command.{Command}
-use Rattle.job.specs.declared.asked.Command.TheVariants.{Stats, Export, Query}
-use Rattle.job.specs.declared.asked.Job.{Job}
+use Rattle.job.specs.Jobs.{names_of}
+use Rattle.job.specs.declared.jobs.Command.{Command}
+use Rattle.job.specs.declared.jobs.Command.TheVariants.{Stats, Export, Query}
+use Rattle.job.specs.declared.jobs.Job.{Job}
 use Rattle.query.specs.FaultText.{query_fault_text}
 use Rattle.query.specs.declared.fault.QueryFault.{QueryFault}
-use Rattle.query_json.specs.QueryAskedFault.{QueryBytesFault}
+use Rattle.json_query.specs.QueryDocumentFault.{QueryBytesFault}
 use Rattle.arrowtab.specs.AddFaultText.{add_fault_text}
 use Rattle.arrowtab.specs.Column.{FailedColumn, IsAllowed, IsColumn, RefusesColumn, column_text, fields_with, history_with}
 use Rattle.arrowtab.specs.Output.{Prints, PrintsNothing}
 use Rattle.arrowtab.specs.Lines.{column_line, unread_line, file_line, query_line, refusal_line}
 use Rattle.arrowtab.specs.Loaded.{IsLoaded, IsStopped, batches_of}
-use Rattle.arrow_json.specs.JsonFile.{Reads, BytesFault}
-use Rattle.json_places.specs.JsonFaultText.{fault_text}
-use Rattle.json_places.specs.JsonTable.{FileData}
+use Rattle.json_read.specs.JsonFile.{Reads, BytesFault}
+use Rattle.json_base.specs.JsonFaultText.{fault_text}
+use Rattle.json_base.specs.JsonTable.{FileData}
 use Rattle.table.specs.declared.add_fault.AddFault.{AddFault}
 use Rattle.table.specs.declared.refusal.Refusal.{Refusal}
-use Rattle.json_places.specs.declared.path.Step.{Step}
-use Rattle.json_places.specs.declared.fault.JsonFaultKind.{JsonFaultKind}
+use Rattle.json_base.specs.declared.path.Step.{Step}
+use Rattle.json_base.specs.declared.fault.JsonFaultKind.{JsonFaultKind}
 
 -- What each source still has to give, where it tells it.
 abbrev pub Inputs : Type 0

@@ -6,7 +6,7 @@ use Rattle.json.specs.Print.{quoted}
 use Rattle.ends.specs.Line.{line}
 use Rattle.types.specs.declared.int_type.Width.{Width}
 use Rattle.types.specs.declared.int_type.Width.TheVariants.{W8, W16, W32, W64}
-use Rattle.arrow_text.specs.SchemaData.{list_name, text_name}
+use Rattle.json_print.specs.SchemaData.{list_name, text_name}
 use Rattle.arrays.specs.Item as item
 use Rattle.arrays.specs.Item.{Item}
 use Rattle.arrays.specs.Kind as kind

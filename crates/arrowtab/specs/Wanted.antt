@@ -2,16 +2,16 @@
 use Rattle.std.specs.Prelude.{◌≡◌, ℕ, List, Err, Option, Some, option_map, string_bytes, ⊤}
 use Rattle.answers.specs.Groups.{groups}
 use Rattle.arrays.specs.Shape.{FieldShape, field_of}
-use Rattle.arrow_json.specs.JsonField.{FieldTextFault}
-use Rattle.job.specs.declared.asked.Command.{Command}
-use Rattle.job.specs.declared.asked.Command.TheVariants as command
-use Rattle.job.specs.declared.asked.Job.{Job}
-use Rattle.query.specs.Asked.{Asked}
+use Rattle.json_read.specs.JsonField.{FieldTextFault}
+use Rattle.job.specs.declared.jobs.Command.{Command}
+use Rattle.job.specs.declared.jobs.Command.TheVariants as command
+use Rattle.job.specs.declared.jobs.Job.{Job}
+use Rattle.query.specs.QueryShape.{QueryShape}
 use Rattle.query.specs.Resolved.{named}
 use Rattle.query.specs.declared.fault.QueryFault.{QueryFault}
 use Rattle.query.specs.declared.fault.QueryFault.TheVariants.{Overflow}
 use Rattle.query.specs.declared.queries.QueryText.{QueryText}
-use Rattle.query_json.specs.QueryAsked.{ReadsQueryText}
+use Rattle.json_query.specs.QueryDocument.{ReadsQueryText}
 use Rattle.table.specs.History.{History, rows}
 use Rattle.arrowtab.specs.Column.{IsColumn, column_text}
 use Rattle.arrowtab.specs.Output.{exported}
@@ -66,7 +66,7 @@ RefusesWanted Export fields h fault = ⊥
 RefusesWanted (Groups query) fields h fault = RefusesGroups (named query) fields h fault
 
 -- The fault of answering a query by positions.
-abbrev pub IsUnplaced : Asked ℕ → List FieldShape → History → RunFault → Type 0
+abbrev pub IsUnplaced : QueryShape ℕ → List FieldShape → History → RunFault → Type 0
 IsUnplaced placed fields h NoMemory = ⊤
 IsUnplaced placed fields h (OfFile file fault) = ⊥
 IsUnplaced placed fields h (QueryUnread f) = ⊥
@@ -74,7 +74,7 @@ IsUnplaced placed fields h (QueryRefused f) = (row : ℕ) × (groups fields plac
 IsUnplaced placed fields h (OfColumn f) = ⊥
 
 -- The fault of answering a query by names.
-abbrev pub IsUnanswered : Asked (List ℕ) → List FieldShape → History → RunFault → Type 0
+abbrev pub IsUnanswered : QueryShape (List ℕ) → List FieldShape → History → RunFault → Type 0
 IsUnanswered query fields h NoMemory = ⊤
 IsUnanswered query fields h (OfFile file fault) = ⊥
 IsUnanswered query fields h (QueryUnread f) = ⊥

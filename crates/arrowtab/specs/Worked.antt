@@ -32,7 +32,7 @@ pub record Holds (workers : ℕ) (files : List File) (column : Option FieldShape
   pub fields : table.fields ≡ fields_with column (fields_for files)
   pub history : History
   pub loaded : IsLoaded workers (listed files) (fields_for files) history
-  pub held : table.history ≡ history_with column (fields_for files) history
+  pub history_is : table.history ≡ history_with column (fields_for files) history
 
 -- So many new workers loaded the files.
 pub record HaveLoaded (fields : List FieldShape) (count : ℕ) (files : List File) (hands : List Hand) : Type 0 where

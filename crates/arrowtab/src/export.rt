@@ -3,7 +3,7 @@ ghost use Rattle.std.specs.Prelude.{◌≡◌, OnOk, IfOk, string_bytes};
 ghost use Rattle.arrowtab.specs.Output.{exported};
 ghost use Rattle.table.specs.Cause.{IsLegal};
 
-use arrow_text::print_file;
+use arrow_json::print_file;
 use colbits::NoMemory;
 use std::alloc::Global;
 use table::Version;

@@ -2,7 +2,7 @@
 ghost use Rattle.std.specs.Prelude.{◌≡◌, ◌≤◌, IfErr, IfOk, string_bytes, true};
 ghost use Rattle.arrowtab.specs.Queried.{PrintsGroups, PrintsPlaced};
 ghost use Rattle.arrowtab.specs.Wanted.{IsUnanswered, IsUnplaced};
-ghost use Rattle.query.specs.Asked.{asked};
+ghost use Rattle.query.specs.QueryShape.{query_shape};
 ghost use Rattle.query.specs.Fault.{fits};
 ghost use Rattle.query.specs.Resolved.{named};
 
@@ -44,11 +44,11 @@ fn placed_text<T: Threads + Sync>(
     pieces: u32,
     version: &Version,
 ) -> Result<String, RunFault>
-    requires fits { fits version.now.fields (asked query.now) ≡ true }
+    requires fits { fits version.now.fields (query_shape query.now) ≡ true }
     requires some { 1 ≤ pieces }
     requires most { pieces ≤ 64 }
-    ensures output { IfOk result (λ text. PrintsPlaced (asked query.now) version.now.fields version.now.history (string_bytes text)) }
-    ensures err { IfErr result (IsUnplaced (asked query.now) version.now.fields version.now.history) }
+    ensures output { IfOk result (λ text. PrintsPlaced (query_shape query.now) version.now.fields version.now.history (string_bytes text)) }
+    ensures err { IfErr result (IsUnplaced (query_shape query.now) version.now.fields version.now.history) }
 {
     match version.answer(threads, alloc, query, pieces, &OpenGate) {
         Ok(answer) => Ok(group_lines(alloc, &answer)?),

@@ -11,7 +11,7 @@ use std::sync::Wait;
 use std::thread::Threads;
 
 /// Does the job: reads its query and its column's field, where it has them, and then all sources in order, loads their files,
-/// adds the column, writes the output, and answers the status: 0 where all of the output was written, 1 where a fault was told to `err` instead.
+/// adds the column, writes the output, and answers the status: 0 where all of the output was written, 1 where a fault was reported to `err` instead.
 ///
 /// Nothing goes to `out` before the whole answer is there. Where the ends tell their bytes, the
 /// contract says which they are; the count of failures of each end is to have room for one more. Several workers load
@@ -35,8 +35,8 @@ pub fn run<W: Wait + Sync, T: Threads + Sync, S: Source, O: Sink, E: Sink>(
     requires err_room { E.failures err.old < 2 ^ 64 - 1 }
     ensures status { result < 2 }
 
-    // Status 0: all of the output was written, and nothing was told.
-    ensures done { result ≡ 0 → Wrote job.now (map S.remaining sources.old) (O.taken out.old) (O.taken out.new) }
+    // Status 0: all of the output was written, and nothing was reported.
+    ensures wrote { result ≡ 0 → Wrote job.now (map S.remaining sources.old) (O.taken out.old) (O.taken out.new) }
     ensures silent { result ≡ 0 → err.new ≡ err.old }
 
     // Status 1: none of it was, or a beginning of it where the output failed ..

@@ -1,13 +1,13 @@
-//! Names of files as they are told: in one line.
+//! Names of files as they are reported: in one line.
 ghost use Rattle.std.specs.Prelude.{◌≡◌, ◌++◌, ◌<◌, ◌⊎◌, OnOk, string_bytes};
 ghost use Rattle.json.specs.Print.{escape_byte};
-ghost use Rattle.arrowtab.specs.Lines.{told_char, told_name};
+ghost use Rattle.arrowtab.specs.Lines.{escaped_char, escaped_name};
 
 use std::alloc::AllocError;
 
 /// Adds a name.
 pub(crate) fn push_name(text: &mut String, name: &str) -> Result<(), AllocError>
-    ensures { OnOk result (string_bytes text.new ≡ string_bytes text.old ++ told_name name.now) }
+    ensures { OnOk result (string_bytes text.new ≡ string_bytes text.old ++ escaped_name name.now) }
 {
     for c in name.chars() {
         push_char(text, c)?;
@@ -17,7 +17,7 @@ pub(crate) fn push_name(text: &mut String, name: &str) -> Result<(), AllocError>
 
 /// Adds a character of a name.
 fn push_char(text: &mut String, c: char) -> Result<(), AllocError>
-    ensures { OnOk result (string_bytes text.new ≡ string_bytes text.old ++ told_char c) }
+    ensures { OnOk result (string_bytes text.new ≡ string_bytes text.old ++ escaped_char c) }
 {
     if c == '\\' || c < ' ' {
         text.push_str(escape_of(c))

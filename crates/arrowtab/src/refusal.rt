@@ -1,4 +1,4 @@
-//! Refusals as they are told.
+//! Refusals as they are reported.
 ghost use Rattle.std.specs.Prelude.{◌≡◌, IfOk, string_bytes};
 ghost use Rattle.arrowtab.specs.RefusalText.{refusal_text};
 
@@ -6,7 +6,7 @@ use colbits::NoMemory;
 use std::alloc::Global;
 pub use table::Refusal;
 
-/// The refusal as it is told: its number and name, then each of its fields.
+/// The refusal as it is reported: its number and name, then each of its fields.
 pub fn refusal_text(alloc: Global, refusal: Refusal) -> Result<String, NoMemory>
     ensures { IfOk result (λ text. string_bytes text ≡ refusal_text refusal) }
 {

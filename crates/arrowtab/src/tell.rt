@@ -2,8 +2,8 @@
 ghost use Rattle.std.specs.Prelude.{◌≡◌, ◌++◌, ◌^◌, ◌-◌, ◌<◌, IfOk, codes, length, string_bytes};
 ghost use Rattle.arrowtab.specs.AddFaultText.{add_fault_text};
 ghost use Rattle.arrowtab.specs.Lines.{column_line, unread_line, file_line, query_line, refusal_line};
-ghost use Rattle.arrowtab.specs.Told.{IsLineOf, IsOfFile, TookFault, column_fault_text, fault_line};
-ghost use Rattle.job.specs.Asked.{names_of};
+ghost use Rattle.arrowtab.specs.FaultLine.{IsLineOf, IsOfFile, TookFault, column_fault_text, fault_line};
+ghost use Rattle.job.specs.Jobs.{names_of};
 
 use crate::name::push_name;
 use crate::refusal::refusal_text;
@@ -16,7 +16,7 @@ use std::alloc::Global;
 use table::{AddFault, Refusal};
 
 /// Writes the line of a fault, with the name of its file where it is one of a file, or that memory ran out where there was
-/// none for the line. A failure of the sink can't be told any more; it stands in the sink's count.
+/// none for the line. A failure of the sink can't be reported any more; it stands in the sink's count.
 pub(crate) fn tell<E: Sink>(alloc: Global, names: &[String], fault: &RunFault, err: &mut E)
     requires named { IsOfFile (length names.now) fault.now }
     requires room { E.failures err.old < 2 ^ 64 - 1 }
@@ -131,7 +131,7 @@ fn line_behind(alloc: Global, head: &str, what: &str) -> Result<String, NoMemory
     Ok(text)
 }
 
-/// Why no column is added, as it is told.
+/// Why no column is added, as it is reported.
 fn add_fault_text(fault: AddFault) -> &'static str
     ensures { result.now ≡ add_fault_text fault }
 {

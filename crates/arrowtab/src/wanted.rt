@@ -7,10 +7,9 @@ ghost use Rattle.arrowtab.specs.Wanted.{IsColumnUnread, IsRequest, IsUnread, IsW
 
 use crate::run_fault::{ColumnFault, RunFault};
 use arrays::Field;
-use arrow_json::read_field;
+use arrow_json::{JsonFaultKind, read_field, read_query};
 use job::{Command, Job};
 use query::QueryText;
-use query_json::{JsonFaultKind, read_query};
 use std::alloc::Global;
 
 /// A command whose query is read.

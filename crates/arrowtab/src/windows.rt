@@ -10,7 +10,7 @@ use colbits::NoMemory;
 use std::alloc::Global;
 use std::thread::{Threads, map_vec};
 
-/// Adds the file of each text, in order, up to the first text that is none, whose fault is told. All texts are parsed at
+/// Adds the file of each text, in order, up to the first text that is none, whose fault is reported. All texts are parsed at
 /// once.
 pub(crate) fn add_files<T: Threads + Sync>(
     threads: &T,

@@ -22,7 +22,7 @@ pub(crate) enum Fault {
 }
 
 impl Fault {
-    /// How it is told.
+    /// How it is reported.
     pub(crate) fn why(self) -> &'static str {
         match self {
             Fault::Arguments => "bad arguments",

@@ -1,7 +1,7 @@
 //! `bench SUBJECT WORD..` runs what scripts measure: `bench kernels`, `bench table`, `bench compaction`, `bench query`, `bench loads` or
 //! `bench readers`, each with the words that its module tells. Without words it runs on little, and without a subject each does.
 //!
-//! It ends with status 0 where that was printed, 1 where a fault was told on standard error in place of it, and 2 where the
+//! It ends with status 0 where that was printed, 1 where a fault was reported on standard error in place of it, and 2 where the
 //! words ask for nothing.
 #![tactic(auto)]
 
@@ -27,7 +27,7 @@ use subject::{EACH, Subject};
 fn main(rt: HostRuntime) -> ExitCode {
     match run(&rt, &rt, &rt) {
         Ok(()) => ExitCode::SUCCESS,
-        Err(fault) => told(&rt, fault),
+        Err(fault) => report(&rt, fault),
     }
 }
 
@@ -66,7 +66,7 @@ fn run_each<W: Wait + Clock + Sync, T: Threads + Sync>(
 }
 
 // Says why nothing more was printed.
-fn told(rt: &HostRuntime, fault: Fault) -> ExitCode {
+fn report(rt: &HostRuntime, fault: Fault) -> ExitCode {
     let _ = eprintln!(rt; "bench: {}", fault.why());
     ExitCode::from(fault.status())
 }

@@ -5,7 +5,7 @@
 //! Without words it answers a query over one batch of 1,000 rows.
 
 ghost use Rattle.std.specs.Prelude.{◌≡◌, ◌≤◌, true};
-ghost use Rattle.query.specs.Asked.{asked};
+ghost use Rattle.query.specs.QueryShape.{query_shape};
 ghost use Rattle.query.specs.Fault.{fits};
 
 mod batches;
@@ -13,10 +13,10 @@ mod batches;
 use crate::fault::Fault;
 use crate::words::number;
 use answers::{Answer, OpenGate};
+use arrow_json::read_query;
 use batches::filled;
 use group::Scalar;
 use query::{Query, resolve};
-use query_json::read_query;
 use std::thread::Threads;
 use table::Version;
 
@@ -69,7 +69,7 @@ fn tell_each<T: Threads + Sync>(
     times: u32,
     pieces: u32,
 ) -> Result<(), Fault>
-    requires fits { fits version.now.fields (asked query.now) ≡ true }
+    requires fits { fits version.now.fields (query_shape query.now) ≡ true }
     requires one { 1 ≤ pieces }
     requires most { pieces ≤ 64 }
 {

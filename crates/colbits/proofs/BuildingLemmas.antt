@@ -105,8 +105,8 @@ Packs-words bytes last n xs are is = subst (Packs bytes last (n / 64)) is of_vie
 
 -- ---- more bits
 
-bit_of-told : (word count j : ℕ) → ((i : ℕ) → count ≤ i → i < 64 → bit_in word i ≡ false) → j < 64 → bit_of (map (bit_in word) (range_with_len 0 count)) j ≡ bit_in word j
-bit_of-told word count j zeros small =
+bit_of-reported : (word count j : ℕ) → ((i : ℕ) → count ≤ i → i < 64 → bit_in word i ≡ false) → j < 64 → bit_of (map (bit_in word) (range_with_len 0 count)) j ≡ bit_in word j
+bit_of-reported word count j zeros small =
     elim (cases_lt j count) [
       | inl below ↦ get_or-map-range_with_len (bit_in word) 0 count j j false below (zero-add j)
       | inr past ↦ (
@@ -120,7 +120,7 @@ bit_of-behind xs ys i m at = ap (bit_of (xs ++ ys)) at ∙ get_or-append-add xs 
 -- what is joined has the bits of both
 joined_at : (last word k used j : ℕ) (xs ys : List Bool) → used + 64 * k ≡ length xs → used < 64 → j < 64 → ((m : ℕ) → m < 64 → bit_in last m ≡ bit_of xs (64 * k + m))
     → ((m : ℕ) → m < 64 → bit_of ys m ≡ bit_in word m) → (bit_in last j || (not (nat_lt j used) && bit_in word (j - used))) ≡ bit_of (xs ++ ys) (64 * k + j)
-joined_at last word k used j xs ys long few small rest told =
+joined_at last word k used j xs ys long few small rest reported =
     elim (cases_lt j used) [
       | inl low ↦ (
           ap (λ b. bit_in last j || (not b && bit_in word (j - used))) (lt-ltb j used low)
@@ -130,7 +130,7 @@ joined_at last word k used j xs ys long few small rest told =
       | inr high ↦ (
           ap (λ b. bit_in last j || (not b && bit_in word (j - used))) (le-ltb j used high)
           ∙ ap (λ b. b || bit_in word (j - used)) (rest j small ∙ get_or_past xs (64 * k + j) false (omega arith))
-          ∙ sym (bit_of-behind xs ys (64 * k + j) (j - used) (omega arith) ∙ told (j - used) (omega arith)))
+          ∙ sym (bit_of-behind xs ys (64 * k + j) (j - used) (omega arith) ∙ reported (j - used) (omega arith)))
     ]
   where
     or-false : (b : Bool) → (b || false) ≡ b
@@ -150,7 +150,7 @@ Packs-few bytes last word joined k used count xs is long few zeros both =
       low = omega arith;
       high = omega arith;
       words = λ i below. is.words i below ∙ sym (get_or_append_left xs ys false i (omega arith));
-      rest = λ j small. both j small ∙ joined_at last word k used j xs ys long (omega arith) small is.rest (λ m within. bit_of-told word count m zeros within);
+      rest = λ j small. both j small ∙ joined_at last word k used j xs ys long (omega arith) small is.rest (λ m within. bit_of-reported word count m zeros within);
     }
 
 -- more of them fill a word
@@ -170,10 +170,10 @@ Packs-word bytes longer last word joined carried k used count xs is long few mos
       high = omega arith;
       words = λ i below. ap (λ bs. bit bs i) grows ∙ places-more (bit_of (xs ++ ys)) bytes (to_le_bytes w64 joined) (8 * k) 64 size
           (λ m low. is.words m (omega arith) ∙ sym (get_or_append_left xs ys false m (omega arith)))
-          (λ j small. bit-to_le joined j small ∙ both j small ∙ joined_at last word k used j xs ys long few small is.rest (λ m within. bit_of-told word count m zeros within)
+          (λ j small. bit-to_le joined j small ∙ both j small ∙ joined_at last word k used j xs ys long few small is.rest (λ m within. bit_of-reported word count m zeros within)
           ∙ ap (bit_of (xs ++ ys)) (omega arith)) i (omega arith);
       rest = λ j small. behind j small ∙ elim (cases_lt (64 - used + j) 64) [
-        | inl within ↦ sym (bit_of-behind xs ys (64 * (k + 1) + j) (64 - used + j) (omega arith) ∙ bit_of-told word count (64 - used + j) zeros within)
+        | inl within ↦ sym (bit_of-behind xs ys (64 * (k + 1) + j) (64 - used + j) (omega arith) ∙ bit_of-reported word count (64 - used + j) zeros within)
         | inr past ↦ (
             ap (λ b. nat_eq b 1) (bit_at_above word 64 (64 - used + j) fits past)
             ∙ sym (get_or_past (xs ++ ys) (64 * (k + 1) + j) false (omega arith)))
@@ -186,8 +186,8 @@ pub first_bits-none : (bytes : List ℕ) (last : ℕ) → first_bits bytes last 
 unfolding first_bits bits
 first_bits-none bytes last = refl
 
-pub length-told : (word count n : ℕ) (xs : List Bool) → n ≡ length xs → n + count ≡ length (xs ++ map (bit_in word) (range_with_len 0 count))
-length-told word count n xs is = omega (arith, is, length-append xs (map (bit_in word) (range_with_len 0 count)), length-map-range_with_len (bit_in word) 0 count)
+pub length-reported : (word count n : ℕ) (xs : List Bool) → n ≡ length xs → n + count ≡ length (xs ++ map (bit_in word) (range_with_len 0 count))
+length-reported word count n xs is = omega (arith, is, length-append xs (map (bit_in word) (range_with_len 0 count)), length-map-range_with_len (bit_in word) 0 count)
 
 -- the words hold exactly these bits
 pub record ArePacked (bytes : List ℕ) (last n : ℕ) (xs : List Bool) : Type 0 where
@@ -206,7 +206,7 @@ pub few_pushed : (bytes : List ℕ) (last word joined n count : ℕ) (xs : List 
 few_pushed bytes last word joined n count xs are is few zeros both =
     let size = shown_length bytes last n xs is in
     packed bytes joined (n / 64) (n + count) (xs ++ map (bit_in word) (range_with_len 0 count))
-    (Packs-few bytes last word joined (n / 64) (n % 64) count xs (Packs-words bytes last n xs are is) (omega arith) few zeros both) (length-told word count n xs size)
+    (Packs-few bytes last word joined (n / 64) (n % 64) count xs (Packs-words bytes last n xs are is) (omega arith) few zeros both) (length-reported word count n xs size)
 
 pub word_pushed : (bytes longer : List ℕ) (last word joined carried n count : ℕ) (xs : List Bool) → AreWords bytes last n → first_bits bytes last n ≡ xs → 64 ≤ n % 64 + count → count ≤ 64
     → word < 2 ^ 64 → ((i : ℕ) → count ≤ i → i < 64 → bit_in word i ≡ false) → ((j : ℕ) → j < 64 → bit_in joined j ≡ (bit_in last j || (not (nat_lt j (n % 64)) && bit_in word (j - n % 64))))
@@ -216,7 +216,7 @@ word_pushed bytes longer last word joined carried n count xs are is many most fi
     let size = shown_length bytes last n xs is in
     packed longer carried (n / 64 + 1) (n + count) (xs ++ map (bit_in word) (range_with_len 0 count))
     (Packs-word bytes longer last word joined carried (n / 64) (n % 64) count xs (Packs-words bytes last n xs are is) (omega arith) (omega arith) most many fits zeros both behind grows)
-    (length-told word count n xs size)
+    (length-reported word count n xs size)
 
 pub length-places : (f : ℕ → Bool) (n : ℕ) (xs now : List Bool) → now ≡ xs ++ map f (range_with_len 0 n) → length now ≡ length xs + n
 length-places f n xs now is = ap length is ∙ length-append xs (map f (range_with_len 0 n)) ∙ ap (λ m. length xs + m) (length-map-range_with_len f 0 n)
@@ -224,7 +224,7 @@ length-places f n xs now is = ap length is ∙ length-append xs (map f (range_wi
 -- the places of a word behind others
 places-joined : (f : ℕ → Bool) (n m next word : ℕ) → ((j : ℕ) → j < m → bit_in word j ≡ f (n + j)) → next ≡ n + m
     → map f (range_with_len 0 n) ++ map (bit_in word) (range_with_len 0 m) ≡ map f (range_with_len 0 next)
-places-joined f n m next word told sum =
+places-joined f n m next word reported sum =
     let xs = map f (range_with_len 0 n) in
     let ys = map (bit_in word) (range_with_len 0 m) in
     let front = length-map-range_with_len f 0 n in
@@ -236,17 +236,17 @@ places-joined f n m next word told sum =
       | inr high ↦ (
           bit_of-behind xs ys k (k - n) (omega arith)
           ∙ get_or-map-range_with_len (bit_in word) 0 m (k - n) (k - n) false (omega arith) (zero-add (k - n))
-          ∙ told (k - n) (omega arith)
+          ∙ reported (k - n) (omega arith)
           ∙ ap f (omega arith))
     ])
 
 pub places-grown : (f : ℕ → Bool) (xs now new : List Bool) (n m next word : ℕ) → now ≡ xs ++ map f (range_with_len 0 n) → new ≡ now ++ map (bit_in word) (range_with_len 0 m)
     → ((j : ℕ) → j < m → bit_in word j ≡ f (n + j)) → next ≡ n + m → new ≡ xs ++ map f (range_with_len 0 next)
-places-grown f xs now new n m next word before grows told sum =
+places-grown f xs now new n m next word before grows reported sum =
     grows
     ∙ ap (λ ys. ys ++ map (bit_in word) (range_with_len 0 m)) before
     ∙ append_assoc xs (map f (range_with_len 0 n)) (map (bit_in word) (range_with_len 0 m))
-    ∙ ap (λ ys. xs ++ ys) (places-joined f n m next word told sum)
+    ∙ ap (λ ys. xs ++ ys) (places-joined f n m next word reported sum)
 
 pub all_ones : (count : ℕ) → map (λ (i : ℕ). true) (range_with_len 0 count) ≡ replicate count true
 all_ones count = sym (fill_by_all (λ (i : ℕ). true) (replicate count true) count false (length-replicate count true) (λ k below. get_or-replicate count k true false below))
@@ -274,12 +274,12 @@ Keeps-packed bytes last k n xs is = record { size = is.size; words = is.words; r
 -- so many of the whole words, and the next in a word of its own
 pub Keeps-words : (bytes fewer : List ℕ) (last word k m n : ℕ) (xs : List Bool) → Packs bytes last k xs → m < k → fewer ≡ take (8 * m) bytes
     → ((j : ℕ) → j < 64 → bit_in word j ≡ bit bytes (8 * (8 * m) + 0 + j)) → Keeps fewer word m n xs
-Keeps-words bytes fewer last word k m n xs is less cut told =
+Keeps-words bytes fewer last word k m n xs is less cut reported =
     let size = is.size in
     record {
       size = ap length cut ∙ length-take-le (8 * m) bytes (omega arith);
       words = λ i below. ap (λ bs. bit bs i) cut ∙ bit-take bytes (8 * m) i (omega arith) ∙ is.words i (omega arith);
-      rest = λ j small below. told j small ∙ is.words (8 * (8 * m) + 0 + j) (omega arith) ∙ ap (bit_of xs) (omega arith);
+      rest = λ j small below. reported j small ∙ is.words (8 * (8 * m) + 0 + j) (omega arith) ∙ ap (bit_of xs) (omega arith);
     }
 
 pub Packs-take : (bytes : List ℕ) (last first n : ℕ) (xs : List Bool) → Keeps bytes last (n / 64) n xs → n ≤ length xs

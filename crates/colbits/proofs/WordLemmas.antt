@@ -176,10 +176,10 @@ pub ones-rest : (xs : List Bool) (n : ℕ) → length xs ≤ n + 64 → count_by
 ones-rest xs n h = ap (count_by (λ b. b)) (sym (take_all (n + 64) xs h)) ∙ ones-more xs n
 
 -- a word that tells the 64 places from place i on, of which the first n are there
-module _ (xs : List Bool) (i n word : ℕ) (small : n ≤ 64) (fits : word < 2 ^ 64) (told : (j : ℕ) → j < 64 → bit_in word j ≡ bit_of xs (i + j)) where
+module _ (xs : List Bool) (i n word : ℕ) (small : n ≤ 64) (fits : word < 2 ^ 64) (reported : (j : ℕ) → j < 64 → bit_in word j ≡ bit_of xs (i + j)) where
   -- they are 1 where it is all ones
   pub ones_from_word : word ≡ 2 ^ n - 1 → (j : ℕ) → j < n → bit_of xs (i + j) ≡ true
-  ones_from_word is j below = sym (told j (omega arith)) ∙ ap (λ w. bit_in w j) is ∙ ap (λ b. nat_eq b 1) (bit_at_ones n j below)
+  ones_from_word is j below = sym (reported j (omega arith)) ∙ ap (λ w. bit_in w j) is ∙ ap (λ b. nat_eq b 1) (bit_at_ones n j below)
 
   -- and only there
   pub word_from_ones : ((j : ℕ) → n ≤ j → j < 64 → bit_of xs (i + j) ≡ false) → ((j : ℕ) → j < n → bit_of xs (i + j) ≡ true) → word ≡ 2 ^ n - 1
@@ -187,8 +187,8 @@ module _ (xs : List Bool) (i n word : ℕ) (small : n ≤ 64) (fits : word < 2 ^
       let below : 2 ^ n - 1 < 2 ^ 64 = omega (arith, ones_lt n, pow_mono small) in
       same_from_bits_below 64 word (2 ^ n - 1) fits below
       (λ j within. elim (cases_lt j n) [
-        | inl here ↦ bit-from_test (bit_at word j) true (bit_at-lt word j) (told j within ∙ ones j here) ∙ sym (bit_at_ones n j here)
-        | inr past ↦ bit-from_test (bit_at word j) false (bit_at-lt word j) (told j within ∙ zeros j past within) ∙ sym (bit_at_ones_above n j past)
+        | inl here ↦ bit-from_test (bit_at word j) true (bit_at-lt word j) (reported j within ∙ ones j here) ∙ sym (bit_at_ones n j here)
+        | inr past ↦ bit-from_test (bit_at word j) false (bit_at-lt word j) (reported j within ∙ zeros j past within) ∙ sym (bit_at_ones_above n j past)
       ])
 
 -- the ones of the first n bits, and of the m behind them

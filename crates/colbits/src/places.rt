@@ -1,4 +1,4 @@
-//! Bits that are told place by place.
+//! Bits that are given place by place.
 
 ghost use Rattle.std.specs.Prelude.{◌≡◌, ℕ, ◌+◌, ◌<◌, ◌≤◌, ◌&&◌, ◌||◌, Bool, not, length};
 ghost use Rattle.colbits.specs.Bit.{bit, bit_in};
@@ -8,7 +8,7 @@ use crate::bits::Bits;
 use crate::lanes::{both, either, flipped, lanes_of};
 use std::simd::prelude::*;
 
-/// A bit for each place, told one by one, in any order and as often as it is asked: what
+/// A bit for each place, given one by one, in any order and as often as wanted: what
 /// [`BitmapBuf::from_places`](crate::BitmapBuf::from_places) packs.
 pub trait Places {
     ghost at: { Self → ℕ → Bool };

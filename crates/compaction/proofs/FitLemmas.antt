@@ -1,4 +1,4 @@
--- A front of what one batch holds is held by one batch too.
+-- A front of what one batch holds fits in one batch too.
 use Rattle.std.proofs.Common.{◌≡◌, ◌∙◌, ℕ, suc, ◌+◌, ◌≤◌, ◌&&◌, ◌||◌, List, [], ◌∷◌, ◌++◌, length, Bool, true, false, not, cond, ltb, None, Some, position, ap, sym, refl, arith, length-append, true≢false}
 use Rattle.std.specs.Prelude.{is_some, nat_lt, slice_index_or}
 use Rattle.std.specs.List.{enumerate_from, list_any, position_or_len}

@@ -29,10 +29,10 @@ no-fault columns kinds =
     fault-of columns k true refl
     (sym (list_all-from_AllPass (λ (s : Seen). same_kind s.kind k) columns (λ i d below. ap (λ j. same_kind j k) (kinds i d below) ∙ same_kind-refl k)))
 
-pub memory-only : (all : Option SelectFault) (full : Bool) (told : SelectFault) → all ≡ None → full ≡ false → IsSelectFault all all full told → told ≡ NoMemory
-memory-only all full told none fits is =
+pub memory-only : (all : Option SelectFault) (full : Bool) (reported : SelectFault) → all ≡ None → full ≡ false → IsSelectFault all all full reported → reported ≡ NoMemory
+memory-only all full reported none fits is =
     elim is [
-      | inl h ↦ let never : ◌≡◌ {A = Option SelectFault} None (Some told) = sym none ∙ h in absurd (cc never)
+      | inl h ↦ let never : ◌≡◌ {A = Option SelectFault} None (Some reported) = sym none ∙ h in absurd (cc never)
       | inr rest ↦ elim rest [ inl h ↦ h.0 | inr h ↦ absurd (true≢false (sym h.1.1 ∙ fits)) ]
     ]
 

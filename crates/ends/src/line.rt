@@ -26,7 +26,7 @@ pub fn tell_output<E: Sink>(err: &mut E)
     write_line(OUTPUT_LINE, err);
 }
 
-/// Writes a line. A failure of the sink can't be told any more; it stands in the sink's count.
+/// Writes a line. A failure of the sink can't be reported any more; it stands in the sink's count.
 pub fn write_line<E: Sink>(line: &[u8], err: &mut E)
     requires { E.failures err.old < 2 ^ 64 - 1 }
     ensures { TookLine line.now (E.failures err.old) (E.failures err.new) (E.taken err.old) (E.taken err.new) }

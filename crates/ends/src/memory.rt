@@ -1,4 +1,4 @@
-//! Ends over memory: they tell their bytes, and fail where they are told to.
+//! Ends over memory: they tell their bytes, and fail where they are meant to.
 ghost use Rattle.std.specs.Prelude.{◌≡◌, ◌↔◌, IsTrue};
 ghost use Rattle.ends.specs.Memory.{FailsNext, after_call};
 

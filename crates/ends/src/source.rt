@@ -9,7 +9,7 @@ ghost use Rattle.ends.specs.declared.source.SourceFault.TheVariants as fault;
 use std::alloc::{AllocError, Global};
 use thiserror::Error;
 
-/// A source could not give the bytes that it was asked for.
+/// A source could not give the bytes that were requested.
 #[derive(Clone, Copy, Debug, PartialEq, Eq, Error)]
 #[error("a read failed")]
 pub struct ReadFailed;
@@ -58,7 +58,7 @@ pub trait Source {
         ensures count { Counts (failures self.old) (failures self.new) result };
 }
 
-/// How many bytes are asked for at once.
+/// How many bytes are requested at once.
 const CHUNK: usize = 64 * 1024;
 
 // Room for `length` bytes.

@@ -36,7 +36,7 @@ use Rattle.query.specs.declared.sort.Sort.TheVariants.{Int, Literal, Text, Truth
 use Rattle.evaluate.proofs.PlaceLemmas.{IsPlaced, binary_placed, one_length}
 use Rattle.evaluate.proofs.SortLemmas.{one_int}
 use Rattle.evaluate.proofs.OperatorLemmas.{comparison_value, left_fits, number_fits, no_type_fault, results_fit, results_made, results_stop, truth_made}
-use Rattle.evaluate.specs.Making.{AreMade, StopsMaking, comparison_of, held_by, in_order, is_of_operands, stop_of, turned}
+use Rattle.evaluate.specs.Making.{AreMade, StopsMaking, comparison_of, bounded_by, in_order, is_of_operands, stop_of, turned}
 use Rattle.evaluate.specs.Value.{comparison, of_two}
 use Rattle.evaluate.specs.declared.stop.Stop as stop
 use Rattle.evaluate.specs.declared.stop.Stop.TheVariants as stops
@@ -50,9 +50,9 @@ there : (g : Sort → Option Sort) (b : Bool) (s : Sort) → is_some (option_and
 there g true s h = (refl, refl)
 there g false s h = absurd (true≢false (sym h))
 
-told : (b : Bool) (s : Sort) → is_some (cond b (Some s) None) ≡ true → b ≡ true
-told true s h = refl
-told false s h = h
+reported : (b : Bool) (s : Sort) → is_some (cond b (Some s) None) ≡ true → b ≡ true
+reported true s h = refl
+reported false s h = h
 
 second_holds : (p q : Bool) → (p && q) ≡ true → q ≡ true
 second_holds true q h = h
@@ -70,17 +70,17 @@ both_truths Text t h = absurd (true≢false (sym h))
 both_truths sort.List t h = absurd (true≢false (sym h))
 
 two_alike : (o : Op) (s t : Sort) → is_some (sorts.of_two o s t) ≡ true → is_alike s t ≡ true
-two_alike op.Add s t h = second_holds (is_int s) (is_alike s t) (told (is_int s && is_alike s t) s h)
-two_alike op.Sub s t h = second_holds (is_int s) (is_alike s t) (told (is_int s && is_alike s t) s h)
-two_alike op.Mul s t h = second_holds (is_int s) (is_alike s t) (told (is_int s && is_alike s t) s h)
-two_alike op.Eq s t h = told (is_alike s t) Truth h
-two_alike op.Ne s t h = told (is_alike s t) Truth h
-two_alike op.Lt s t h = told (is_alike s t) Truth h
-two_alike op.Le s t h = told (is_alike s t) Truth h
-two_alike op.Gt s t h = told (is_alike s t) Truth h
-two_alike op.Ge s t h = told (is_alike s t) Truth h
-two_alike op.And s t h = both_truths s t (told (is_truth s && is_truth t) Truth h)
-two_alike op.Or s t h = both_truths s t (told (is_truth s && is_truth t) Truth h)
+two_alike op.Add s t h = second_holds (is_int s) (is_alike s t) (reported (is_int s && is_alike s t) s h)
+two_alike op.Sub s t h = second_holds (is_int s) (is_alike s t) (reported (is_int s && is_alike s t) s h)
+two_alike op.Mul s t h = second_holds (is_int s) (is_alike s t) (reported (is_int s && is_alike s t) s h)
+two_alike op.Eq s t h = reported (is_alike s t) Truth h
+two_alike op.Ne s t h = reported (is_alike s t) Truth h
+two_alike op.Lt s t h = reported (is_alike s t) Truth h
+two_alike op.Le s t h = reported (is_alike s t) Truth h
+two_alike op.Gt s t h = reported (is_alike s t) Truth h
+two_alike op.Ge s t h = reported (is_alike s t) Truth h
+two_alike op.And s t h = both_truths s t (reported (is_truth s && is_truth t) Truth h)
+two_alike op.Or s t h = both_truths s t (reported (is_truth s && is_truth t) Truth h)
 two_alike op.Not s t h = absurd (true≢false (sym h))
 two_alike op.IsNull s t h = absurd (true≢false (sym h))
 
@@ -128,11 +128,11 @@ pub made_as : (s t : Option Sort) (made same : ℕ → Item) (n : ℕ) (v : Valu
 made_as s t made same n v sort_is items_are are = record {
   sort = sort_is ∙ are.sort;
   enough = are.enough;
-  each = λ i below. ap₂ held_by sort_is (items_are i below) ∙ are.each i below;
+  each = λ i below. ap₂ bounded_by sort_is (items_are i below) ∙ are.each i below;
 }
 
 pub stops_as : (s t : Option Sort) (made same : ℕ → Item) (n : ℕ) (e : stop.Stop) → t ≡ s → ((i : ℕ) → i < n → same i ≡ made i) → StopsMaking s made n e → StopsMaking t same n e
-stops_as s t made same n (stops.Bad row) sort_is items_are at = (at.0, ap₂ held_by sort_is (items_are row at.0) ∙ at.1)
+stops_as s t made same n (stops.Bad row) sort_is items_are at = (at.0, ap₂ bounded_by sort_is (items_are row at.0) ∙ at.1)
 stops_as s t made same n stops.NoMemory sort_is items_are at = tt
 
 pub made_on : (r : Result Values stop.Stop) (P Q : Values → Type 0) → ((v : Values) → P v → Q v) → IfOk r P → IfOk r Q
@@ -285,25 +285,25 @@ sole : (b : Bool) (s : Sort) → is_some (cond b (Some s) None) ≡ true → con
 sole true s h = refl
 sole false s h = absurd (true≢false (sym h))
 
-told_truth : (o : Op) (s : Sort) → is_some (comparison_of o) ≡ true → is_some (sorts.of_two o s s) ≡ true → sorts.of_two o s s ≡ Some Truth
-told_truth op.Add s h some = absurd (true≢false (sym h))
-told_truth op.Sub s h some = absurd (true≢false (sym h))
-told_truth op.Mul s h some = absurd (true≢false (sym h))
-told_truth op.Eq s h some = sole (is_alike s s) Truth some
-told_truth op.Ne s h some = sole (is_alike s s) Truth some
-told_truth op.Lt s h some = sole (is_alike s s) Truth some
-told_truth op.Le s h some = sole (is_alike s s) Truth some
-told_truth op.Gt s h some = sole (is_alike s s) Truth some
-told_truth op.Ge s h some = sole (is_alike s s) Truth some
-told_truth op.And s h some = absurd (true≢false (sym h))
-told_truth op.Or s h some = absurd (true≢false (sym h))
-told_truth op.Not s h some = absurd (true≢false (sym h))
-told_truth op.IsNull s h some = absurd (true≢false (sym h))
+reported_truth : (o : Op) (s : Sort) → is_some (comparison_of o) ≡ true → is_some (sorts.of_two o s s) ≡ true → sorts.of_two o s s ≡ Some Truth
+reported_truth op.Add s h some = absurd (true≢false (sym h))
+reported_truth op.Sub s h some = absurd (true≢false (sym h))
+reported_truth op.Mul s h some = absurd (true≢false (sym h))
+reported_truth op.Eq s h some = sole (is_alike s s) Truth some
+reported_truth op.Ne s h some = sole (is_alike s s) Truth some
+reported_truth op.Lt s h some = sole (is_alike s s) Truth some
+reported_truth op.Le s h some = sole (is_alike s s) Truth some
+reported_truth op.Gt s h some = sole (is_alike s s) Truth some
+reported_truth op.Ge s h some = sole (is_alike s s) Truth some
+reported_truth op.And s h some = absurd (true≢false (sym h))
+reported_truth op.Or s h some = absurd (true≢false (sym h))
+reported_truth op.Not s h some = absurd (true≢false (sym h))
+reported_truth op.IsNull s h some = absurd (true≢false (sym h))
 
 -- a comparison gives truth values
 pub compared_sort : (first : Bool) (o : Op) (k : Kind) (z : ℤ) → is_some (comparison_of o) ≡ true → is_some (in_order first (sorts.sort_of_two o) (Literal z) (sort_of_kind k)) ≡ true
     → in_order first (sorts.sort_of_two o) (Literal z) (sort_of_kind k) ≡ Some Truth
-compared_sort first o k z named h = let is = beside first o k z h in is.sort ∙ told_truth o (sort_of_kind k) named is.some
+compared_sort first o k z named h = let is = beside first o k z h in is.sort ∙ reported_truth o (sort_of_kind k) named is.some
 
 pub number_stops : (a : Seen) (z : ℤ) (e : KernelFault) → has_number a.kind z ≡ true → IsKernelFault (number_fault a z) (number_fault a z) e → e ≡ faults.NoMemory
 number_stops a z e has fault = no_type_fault (has_number a.kind z) e has fault

@@ -32,7 +32,7 @@ use Rattle.query.specs.declared.sort.Sort.{Sort}
 use Rattle.query.specs.declared.sort.Sort.TheVariants.{Int, Literal, Text, Truth}
 use Rattle.evaluate.proofs.PlaceLemmas.{IsPlaced, IsPlacedIn, StopsOutside, binary_placed, exact_placed, sole_fault, sole_row, unary_placed}
 use Rattle.evaluate.proofs.SortLemmas.{comparable, one_int, truths}
-use Rattle.evaluate.specs.Making.{AreMade, StopsMaking, comparison_of, held_by, in_order, is_of_operands, stop_of, values_of}
+use Rattle.evaluate.specs.Making.{AreMade, StopsMaking, comparison_of, bounded_by, in_order, is_of_operands, stop_of, values_of}
 use Rattle.evaluate.specs.Value.{comparison, of_one, of_two}
 use Rattle.evaluate.specs.declared.stop.Stop as stop
 use Rattle.evaluate.specs.declared.stop.Stop.TheVariants as stops
@@ -50,7 +50,7 @@ pub truth_made : (s : Option Sort) (made : ℕ → Item) (n : ℕ) (a : Seen) �
 truth_made s made n a is placed = record {
   sort = is ∙ ap (λ k. Some (sort_of_kind k)) (sym placed.kind);
   enough = placed.len;
-  each = λ i below. ap (λ o. held_by o (made i)) is ∙ ap (λ x. Some x) (sym (placed.each i below));
+  each = λ i below. ap (λ o. bounded_by o (made i)) is ∙ ap (λ x. Some x) (sym (placed.each i below));
 }
 
 no_fault : (suit : Bool) (n m : ℕ) (e : KernelFault) → suit ≡ true → n ≡ m
@@ -95,7 +95,7 @@ module _ (k : Kind) (xs : List Item) (r : Seen) where
       (subst (IsPlaced kind.boolean (λ i. of_one op.IsNull (item_at xs i)) (length xs)) (sym is) (unary_placed kind.boolean (of_one op.IsNull) xs))
 
 pub not_stops : (a : Seen) (e : KernelFault) → is_some (sorts.of_one op.Not (sort_of_kind a.kind)) ≡ true → IsKernelFault (truth_fault a) (truth_fault a) e → e ≡ faults.NoMemory
-not_stops a e h told = no_type_fault (same_kind a.kind kind.boolean) e (one_truth a.kind h) told where
+not_stops a e h reported = no_type_fault (same_kind a.kind kind.boolean) e (one_truth a.kind h) reported where
   one_truth : (k : Kind) → is_some (sorts.of_one op.Not (sort_of_kind k)) ≡ true → same_kind k kind.boolean ≡ true
   one_truth (kind.int t) h = h
   one_truth kind.boolean h = refl
@@ -125,9 +125,9 @@ module _ (a b r : Seen) where
       (subst (IsPlaced kind.boolean (λ i. of_two op.Or (left i) (right i)) (length a.items)) (sym is) (binary_placed kind.boolean (of_two op.Or) a.items b.items))
 
 pub truths_stop : (a b : Seen) (e : KernelFault) → is_some (sorts.junction (sort_of_kind a.kind) (sort_of_kind b.kind)) ≡ true → length a.items ≡ length b.items → IsKernelFault (truths_fault a b) (truths_fault a b) e → e ≡ faults.NoMemory
-truths_stop a b e h lengths told =
+truths_stop a b e h lengths reported =
     let both = truths a.kind b.kind h in
-    no_fault (same_kind a.kind kind.boolean && same_kind b.kind kind.boolean) (length a.items) (length b.items) e (ap (λ k. k && same_kind b.kind kind.boolean) both.0 ∙ both.1) lengths told
+    no_fault (same_kind a.kind kind.boolean && same_kind b.kind kind.boolean) (length a.items) (length b.items) e (ap (λ k. k && same_kind b.kind kind.boolean) both.0 ∙ both.1) lengths reported
 
 -- ---- comparisons
 
@@ -175,8 +175,8 @@ comparison_made a b r o c named h is =
 
 pub comparison_stops : (a b : Seen) (o : Op) (c : CmpOp) (e : KernelFault) → comparison_of o ≡ Some c → is_some (sorts.of_two o (sort_of_kind a.kind) (sort_of_kind b.kind)) ≡ true → length a.items ≡ length b.items
     → IsKernelFault (comparison_fault a b) (comparison_fault a b) e → e ≡ faults.NoMemory
-comparison_stops a b o c e named h lengths told =
-    no_fault (are_comparable a.kind b.kind) (length a.items) (length b.items) e (comparable a.kind b.kind (ap is_some (sym (comparison_sort o c (sort_of_kind a.kind) (sort_of_kind b.kind) named)) ∙ h)) lengths told
+comparison_stops a b o c e named h lengths reported =
+    no_fault (are_comparable a.kind b.kind) (length a.items) (length b.items) e (comparable a.kind b.kind (ap is_some (sym (comparison_sort o c (sort_of_kind a.kind) (sort_of_kind b.kind) named)) ∙ h)) lengths reported
 
 -- ---- exact results
 
@@ -193,22 +193,22 @@ results_made f a b r h lengths none is =
     record {
       sort = sort ∙ ap (λ k. Some (sort_of_kind k)) (sym placed.kind);
       enough = placed.len;
-      each = λ i below. ap (λ o. held_by o (made i)) sort ∙ placed.each i below;
+      each = λ i below. ap (λ o. bounded_by o (made i)) sort ∙ placed.each i below;
     }
 
 pub results_fit : (f : ℤ → ℤ → ℤ) (a b : Seen) (e : KernelFault) → is_some (sorts.arithmetic (sort_of_kind a.kind) (sort_of_kind b.kind)) ≡ true → length a.items ≡ length b.items
     → IsKernelFault (operands_fault a b) (arithmetic_fault f a b) e → is_of_operands e ≡ false
-results_fit f a b e h lengths told = sole_row f a b lengths (one_int a.kind b.kind h) e told
+results_fit f a b e h lengths reported = sole_row f a b lengths (one_int a.kind b.kind h) e reported
 
 pub results_stop : (f : ℤ → ℤ → ℤ) (a b : Seen) (e : KernelFault) → is_some (sorts.arithmetic (sort_of_kind a.kind) (sort_of_kind b.kind)) ≡ true → length a.items ≡ length b.items
     → IsKernelFault (operands_fault a b) (arithmetic_fault f a b) e
     → StopsMaking (sorts.arithmetic (sort_of_kind a.kind) (sort_of_kind b.kind)) (λ i. lifted (exact f) (item_at a.items i) (item_at b.items i)) (length a.items) (stop_of e)
-results_stop f a b e h lengths told =
-    held_as (sorts.arithmetic (sort_of_kind a.kind) (sort_of_kind b.kind)) a.kind (λ i. lifted (exact f) (item_at a.items i) (item_at b.items i)) (length a.items) (stop_of e) (sole_int a.kind b.kind h)
-    (sole_fault f a b lengths (one_int a.kind b.kind h) e told) where
-      held_as : (s : Option Sort) (k : Kind) (made : ℕ → Item) (n : ℕ) (e : stop.Stop) → s ≡ Some (sort_of_kind k) → StopsOutside k made n e → StopsMaking s made n e
-      held_as s k made n (stops.Bad row) is at = (at.0, ap (λ o. held_by o (made row)) is ∙ at.1)
-      held_as s k made n stops.NoMemory is at = tt
+results_stop f a b e h lengths reported =
+    bounded_as (sorts.arithmetic (sort_of_kind a.kind) (sort_of_kind b.kind)) a.kind (λ i. lifted (exact f) (item_at a.items i) (item_at b.items i)) (length a.items) (stop_of e) (sole_int a.kind b.kind h)
+    (sole_fault f a b lengths (one_int a.kind b.kind h) e reported) where
+      bounded_as : (s : Option Sort) (k : Kind) (made : ℕ → Item) (n : ℕ) (e : stop.Stop) → s ≡ Some (sort_of_kind k) → StopsOutside k made n e → StopsMaking s made n e
+      bounded_as s k made n (stops.Bad row) is at = (at.0, ap (λ o. bounded_by o (made row)) is ∙ at.1)
+      bounded_as s k made n stops.NoMemory is at = tt
 
 -- ---- literals
 

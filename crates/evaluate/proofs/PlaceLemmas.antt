@@ -22,7 +22,7 @@ use Rattle.kernels.specs.declared.fault.KernelFault.{KernelFault}
 use Rattle.kernels.specs.declared.fault.KernelFault.TheVariants.{LengthsDiffer, NoMemory, Overflow, TypesDiffer}
 use Rattle.query.specs.Sorts.{sort_of_kind}
 use Rattle.evaluate.specs.Making.{is_of_operands, stop_of}
-use Rattle.evaluate.specs.Value.{held}
+use Rattle.evaluate.specs.Value.{bounded}
 use Rattle.evaluate.specs.declared.stop.Stop.{Stop}
 use Rattle.evaluate.specs.declared.stop.Stop.TheVariants as stop
 
@@ -35,17 +35,17 @@ pub record IsPlaced (k : Kind) (made : ℕ → Item) (n : ℕ) (a : Seen) : Type
   pub each : (i : ℕ) → i < n → item_at a.items i ≡ made i
 
 -- An item of the kind: it isn't outside an integer type.
-abbrev pub held_of : Kind → Item → Option Item
-held_of k x = held (sort_of_kind k) x
+abbrev pub bounded_of : Kind → Item → Option Item
+bounded_of k x = bounded (sort_of_kind k) x
 
 -- The same, and none of the items is outside the kind.
 pub record IsPlacedIn (k : Kind) (made : ℕ → Item) (n : ℕ) (a : Seen) : Type 0 where
   pub kind : a.kind ≡ k
   pub len : length a.items ≡ n
-  pub each : (i : ℕ) → i < n → held_of k (made i) ≡ Some (item_at a.items i)
+  pub each : (i : ℕ) → i < n → bounded_of k (made i) ≡ Some (item_at a.items i)
 
 abbrev pub StopsOutside : Kind → (ℕ → Item) → ℕ → Stop → Type 0
-StopsOutside k made n (stop.Bad row) = (row < n) × (held_of k (made row) ≡ None)
+StopsOutside k made n (stop.Bad row) = (row < n) × (bounded_of k (made row) ≡ None)
 StopsOutside k made n stop.NoMemory = ⊤
 
 -- ---- items one by one
@@ -101,11 +101,11 @@ exact_placed f a b lengths kinds none = record {
   each = λ i below. inside a.kind b.kind kinds (no_row (first_bad f a.kind a.items b.items) (sym (only_rows f a b lengths kinds) ∙ none)) i below;
 } where
   inside : (k l : Kind) → are_one_int k l ≡ true → first_bad f k a.items b.items ≡ None → (i : ℕ) → i < length a.items
-      → held_of k (lifted (exact f) (item_at a.items i) (item_at b.items i)) ≡ Some (item_at (results f a.items b.items) i)
+      → bounded_of k (lifted (exact f) (item_at a.items i) (item_at b.items i)) ≡ Some (item_at (results f a.items b.items) i)
   inside (kind.int t) l one is i below =
       let here = results_at f a.items b.items i below in
       let within : i < length (results f a.items b.items) = omega (arith, below, results_long f a.items b.items) in
-      ap (λ x. held_of (kind.int t) x) (sym here)
+      ap (λ x. bounded_of (kind.int t) x) (sym here)
       ∙ ap (λ p. cond p None (Some (item_at (results f a.items b.items) i))) (none_outside t (results f a.items b.items) is i within)
   inside kind.boolean l one is i below = absurd (true≢false (sym one))
   inside (kind.texts w) l one is i below = absurd (true≢false (sym one))
@@ -114,16 +114,16 @@ exact_placed f a b lengths kinds none = record {
 
 outside_at : (f : ℤ → ℤ → ℤ) (a b : Seen) (row : ℕ) → length a.items ≡ length b.items → are_one_int a.kind b.kind ≡ true
     → IsKernelFault (operands_fault a b) (arithmetic_fault f a b) (Overflow row)
-    → (row < length a.items) × (held_of a.kind (lifted (exact f) (item_at a.items row) (item_at b.items row)) ≡ None)
+    → (row < length a.items) × (bounded_of a.kind (lifted (exact f) (item_at a.items row) (item_at b.items row)) ≡ None)
 outside_at f a b row lengths kinds (inr wanting) = absurd (cc (wanting.0))
 outside_at f a b row lengths kinds (inl is) =
     outside a.kind b.kind kinds (some_row (first_bad f a.kind a.items b.items) row (sym (only_rows f a b lengths kinds) ∙ is)) where
       outside : (k l : Kind) → are_one_int k l ≡ true → first_bad f k a.items b.items ≡ Some row
-          → (row < length a.items) × (held_of k (lifted (exact f) (item_at a.items row) (item_at b.items row)) ≡ None)
+          → (row < length a.items) × (bounded_of k (lifted (exact f) (item_at a.items row) (item_at b.items row)) ≡ None)
       outside (kind.int t) l one found =
           let h = position-Some (is_outside t) (results f a.items b.items) row null found in
           let below : row < length a.items = omega (arith, h.0, results_long f a.items b.items) in
-          (below, ap (λ x. held_of (kind.int t) x) (sym (results_at f a.items b.items row below)) ∙ ap (λ p. cond p None (Some (item_at (results f a.items b.items) row))) h.1)
+          (below, ap (λ x. bounded_of (kind.int t) x) (sym (results_at f a.items b.items row below)) ∙ ap (λ p. cond p None (Some (item_at (results f a.items b.items) row))) h.1)
       outside kind.boolean l one found = absurd (true≢false (sym one))
       outside (kind.texts w) l one found = absurd (true≢false (sym one))
       outside (kind.lists w k) l one found = absurd (true≢false (sym one))
@@ -132,10 +132,10 @@ outside_at f a b row lengths kinds (inl is) =
 -- A fault of these two columns is a row, or want of memory.
 pub sole_fault : (f : ℤ → ℤ → ℤ) (a b : Seen) → length a.items ≡ length b.items → are_one_int a.kind b.kind ≡ true → (e : KernelFault)
     → IsKernelFault (operands_fault a b) (arithmetic_fault f a b) e → StopsOutside a.kind (λ i. lifted (exact f) (item_at a.items i) (item_at b.items i)) (length a.items) (stop_of e)
-sole_fault f a b lengths kinds (Overflow row) told = outside_at f a b row lengths kinds told
-sole_fault f a b lengths kinds TypesDiffer told = tt
-sole_fault f a b lengths kinds LengthsDiffer told = tt
-sole_fault f a b lengths kinds NoMemory told = tt
+sole_fault f a b lengths kinds (Overflow row) reported = outside_at f a b row lengths kinds reported
+sole_fault f a b lengths kinds TypesDiffer reported = tt
+sole_fault f a b lengths kinds LengthsDiffer reported = tt
+sole_fault f a b lengths kinds NoMemory reported = tt
 
 pub sole_row : (f : ℤ → ℤ → ℤ) (a b : Seen) → length a.items ≡ length b.items → are_one_int a.kind b.kind ≡ true → (e : KernelFault)
     → IsKernelFault (operands_fault a b) (arithmetic_fault f a b) e → is_of_operands e ≡ false

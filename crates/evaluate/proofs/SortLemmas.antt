@@ -7,12 +7,12 @@ use Rattle.kernels.specs.Order.{are_comparable}
 use Rattle.query.specs.Sorts.{arithmetic, comparison, is_truth, junction, sort_of_kind}
 use Rattle.query.specs.declared.sort.Sort.{Sort}
 
-told : (b : Bool) (s : Sort) → is_some (cond b (Some s) None) ≡ true → b ≡ true
-told true s h = refl
-told false s h = h
+reported : (b : Bool) (s : Sort) → is_some (cond b (Some s) None) ≡ true → b ≡ true
+reported true s h = refl
+reported false s h = h
 
 pub one_int : (k l : Kind) → is_some (arithmetic (sort_of_kind k) (sort_of_kind l)) ≡ true → are_one_int k l ≡ true
-one_int (kind.int s) (kind.int t) h = told (kind.same_int s t) (sort_of_kind (kind.int s)) h
+one_int (kind.int s) (kind.int t) h = reported (kind.same_int s t) (sort_of_kind (kind.int s)) h
 one_int (kind.int s) kind.boolean h = h
 one_int (kind.int s) (kind.texts w) h = h
 one_int (kind.int s) (kind.lists w k) h = h
@@ -23,7 +23,7 @@ one_int (kind.lists w k) l h = absurd (true≢false (sym h))
 one_int kind.dict l h = absurd (true≢false (sym h))
 
 pub comparable : (k l : Kind) → is_some (comparison (sort_of_kind k) (sort_of_kind l)) ≡ true → are_comparable k l ≡ true
-comparable (kind.int s) (kind.int t) h = told (kind.same_int s t) _ h
+comparable (kind.int s) (kind.int t) h = reported (kind.same_int s t) _ h
 comparable (kind.int s) kind.boolean h = h
 comparable (kind.int s) (kind.texts w) h = h
 comparable (kind.int s) (kind.lists w l) h = h
@@ -54,7 +54,7 @@ is_boolean kind.dict h = h
 
 pub truths : (k l : Kind) → is_some (junction (sort_of_kind k) (sort_of_kind l)) ≡ true → (same_kind k kind.boolean ≡ true) × (same_kind l kind.boolean ≡ true)
 truths (kind.int t) l h = absurd (true≢false (sym h))
-truths kind.boolean l h = (refl, is_boolean l (told (is_truth (sort_of_kind l)) _ h))
+truths kind.boolean l h = (refl, is_boolean l (reported (is_truth (sort_of_kind l)) _ h))
 truths (kind.texts w) l h = absurd (true≢false (sym h))
 truths (kind.lists w k) l h = absurd (true≢false (sym h))
 truths kind.dict l h = absurd (true≢false (sym h))

@@ -16,16 +16,16 @@ use Rattle.query.specs.declared.expr.Op.{Op}
 use Rattle.query.specs.declared.fault.QueryFault.{QueryFault}
 use Rattle.query.specs.declared.fault.QueryFault.TheVariants.{WrongKind}
 use Rattle.query.specs.declared.sort.Sort.{Sort}
-use Rattle.evaluate.specs.Making.{AreMade, StopsAt, StopsMaking, held_by}
+use Rattle.evaluate.specs.Making.{AreMade, StopsAt, StopsMaking, bounded_by}
 use Rattle.evaluate.specs.Slices.{AreValues, item_in, row_in, sort_in}
-use Rattle.evaluate.specs.Value.{held_in, of_one, of_operands, of_two, value}
+use Rattle.evaluate.specs.Value.{bounded_in, of_one, of_operands, of_two, value}
 use Rattle.evaluate.specs.declared.stop.Stop.{Stop}
 use Rattle.evaluate.specs.declared.stop.Stop.TheVariants.{Bad, NoMemory}
 use Rattle.evaluate.specs.declared.values.Values.{Values}
 
-held_by-ok_or : (s : Option Sort) (x : Item) → held_in (ok_or s WrongKind) x ≡ held_by s x
-held_by-ok_or None x = refl
-held_by-ok_or (Some s) x = refl
+bounded_by-ok_or : (s : Option Sort) (x : Item) → bounded_in (ok_or s WrongKind) x ≡ bounded_by s x
+bounded_by-ok_or None x = refl
+bounded_by-ok_or (Some s) x = refl
 
 found : (s : Option Sort) → is_ok (ok_or s WrongKind) ≡ true → is_some s ≡ true
 found None h = h
@@ -46,11 +46,11 @@ module _ (fields : List FieldShape) (o : Op) (a : Tree ℕ) where
   pub outer_one : (s : Sort) → checked (sort_at fields) a ≡ Ok s → is_ok (checked (sort_at fields) tree) ≡ true → is_some (sort_of_one o s) ≡ true
   outer_one s is h = found (sort_of_one o s) (ap is_ok (sym (sort_one s is)) ∙ h)
 
-  value_one : (row : Row) (s : Sort) (x : Item) → checked (sort_at fields) a ≡ Ok s → value fields row a ≡ Some x → value fields row tree ≡ held_by (sort_of_one o s) (of_one o x)
+  value_one : (row : Row) (s : Sort) (x : Item) → checked (sort_at fields) a ≡ Ok s → value fields row a ≡ Some x → value fields row tree ≡ bounded_by (sort_of_one o s) (of_one o x)
   value_one row s x is here =
-      ap (λ v. option_and_then (λ xs. held_in (checked (sort_at fields) tree) (of_operands o xs)) (option_and_then (λ y. Some (y ∷ [])) v)) here
-      ∙ ap (λ r. held_in r (of_one o x)) (sort_one s is)
-      ∙ held_by-ok_or (sort_of_one o s) (of_one o x)
+      ap (λ v. option_and_then (λ xs. bounded_in (checked (sort_at fields) tree) (of_operands o xs)) (option_and_then (λ y. Some (y ∷ [])) v)) here
+      ∙ ap (λ r. bounded_in r (of_one o x)) (sort_one s is)
+      ∙ bounded_by-ok_or (sort_of_one o s) (of_one o x)
 
 pub made_one : (b : Batch) (start n : ℕ) (o : Op) (a : Tree ℕ) (va v : Values) → AreValues b start n a va
     → AreMade (sort_of_one o (sort_in va)) (λ i. of_one o (item_in va i)) n v → AreValues b start n (op o (one a none)) v
@@ -70,7 +70,7 @@ module _ (fields : List FieldShape) (o : Op) (a b : Tree ℕ) where
   sorted r s = and_then (and_then r (λ t. and_then (and_then s (λ u. Ok (u ∷ []))) (λ us. Ok (t ∷ us)))) (λ sorts. ok_or (sort_of_operator o sorts) WrongKind)
 
   abbrev valued : Option Item → Option Item → Option Item
-  valued v w = option_and_then (λ xs. held_in (checked (sort_at fields) pair) (of_operands o xs)) (option_and_then (λ x. option_and_then (λ xs. Some (x ∷ xs)) (option_and_then (λ y. Some (y ∷ [])) w)) v)
+  valued v w = option_and_then (λ xs. bounded_in (checked (sort_at fields) pair) (of_operands o xs)) (option_and_then (λ x. option_and_then (λ xs. Some (x ∷ xs)) (option_and_then (λ y. Some (y ∷ [])) w)) v)
 
   sort_two : (s t : Sort) → checked (sort_at fields) a ≡ Ok s → checked (sort_at fields) b ≡ Ok t → checked (sort_at fields) pair ≡ ok_or (sort_of_two o s t) WrongKind
   sort_two s t left right = ap (λ r. sorted r (checked (sort_at fields) b)) left ∙ ap (λ r. sorted (Ok s) r) right
@@ -79,11 +79,11 @@ module _ (fields : List FieldShape) (o : Op) (a b : Tree ℕ) where
   outer_two s t left right h = found (sort_of_two o s t) (ap is_ok (sym (sort_two s t left right)) ∙ h)
 
   value_two : (row : Row) (s t : Sort) (x y : Item) → checked (sort_at fields) a ≡ Ok s → checked (sort_at fields) b ≡ Ok t → value fields row a ≡ Some x → value fields row b ≡ Some y
-      → value fields row pair ≡ held_by (sort_of_two o s t) (of_two o x y)
+      → value fields row pair ≡ bounded_by (sort_of_two o s t) (of_two o x y)
   value_two row s t x y left right here there =
       ap (λ v. valued v (value fields row b)) here ∙ ap (λ w. valued (Some x) w) there
-      ∙ ap (λ r. held_in r (of_two o x y)) (sort_two s t left right)
-      ∙ held_by-ok_or (sort_of_two o s t) (of_two o x y)
+      ∙ ap (λ r. bounded_in r (of_two o x y)) (sort_two s t left right)
+      ∙ bounded_by-ok_or (sort_of_two o s t) (of_two o x y)
 
   value_left_bad : (row : Row) → value fields row a ≡ None → value fields row pair ≡ None
   value_left_bad row here = ap (λ v. valued v (value fields row b)) here

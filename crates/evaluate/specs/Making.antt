@@ -16,7 +16,7 @@ use Rattle.query.specs.Sorts.{sort_of_kind}
 use Rattle.query.specs.Tree.{Tree}
 use Rattle.query.specs.declared.sort.Sort.{Sort}
 use Rattle.evaluate.specs.Slices.{AreEnough, column_of, item_in, row_in, sort_in}
-use Rattle.evaluate.specs.Value.{held, value}
+use Rattle.evaluate.specs.Value.{bounded, value}
 use Rattle.evaluate.specs.declared.values.Operand.{Operand}
 use Rattle.evaluate.specs.declared.values.Operand.TheVariants.{Made}
 use Rattle.evaluate.specs.declared.values.Values.{Values}
@@ -34,18 +34,18 @@ StopsAt b start n t NoMemory = ⊤
 -- ---- operators
 
 -- A value of the sort, where there is a sort.
-abbrev pub held_by : Option Sort → Item → Option Item
-held_by (Some s) x = held s x
-held_by None x = Some x
+abbrev pub bounded_by : Option Sort → Item → Option Item
+bounded_by (Some s) x = bounded s x
+bounded_by None x = Some x
 
 -- The values at n rows of what an operator gives: its sort, and item by item what it makes.
 pub record AreMade (s : Option Sort) (made : ℕ → Item) (n : ℕ) (v : Values) : Type 0 where
   pub sort : s ≡ Some (sort_in v)
   pub enough : AreEnough n v
-  pub each : (i : ℕ) → i < n → held_by s (made i) ≡ Some (item_in v i)
+  pub each : (i : ℕ) → i < n → bounded_by s (made i) ≡ Some (item_in v i)
 
 abbrev pub StopsMaking : Option Sort → (ℕ → Item) → ℕ → Stop → Type 0
-StopsMaking s made n (Bad row) = (row < n) × (held_by s (made row) ≡ None)
+StopsMaking s made n (Bad row) = (row < n) × (bounded_by s (made row) ≡ None)
 StopsMaking s made n NoMemory = ⊤
 
 -- What a kernel's fault says of the rows, where types and lengths are right.

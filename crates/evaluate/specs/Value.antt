@@ -56,13 +56,13 @@ of_operands o (x ∷ y ∷ z ∷ xs) = null
 -- ---- expressions
 
 -- A value of the sort; none, where the sort is an integer type that doesn't have it.
-abbrev pub held : Sort → Item → Option Item
-held (Int t) x = if is_outside t x then None else Some x
-held s x = Some x
+abbrev pub bounded : Sort → Item → Option Item
+bounded (Int t) x = if is_outside t x then None else Some x
+bounded s x = Some x
 
-abbrev pub held_in : Result Sort QueryFault → Item → Option Item
-held_in (Ok s) x = held s x
-held_in (Err fault) x = Some x
+abbrev pub bounded_in : Result Sort QueryFault → Item → Option Item
+bounded_in (Ok s) x = bounded s x
+bounded_in (Err fault) x = Some x
 
 -- The value of an expression at a row of columns under the fields; none where it is bad: where any arithmetic part of it is outside
 -- its type there, whatever stands round that part.
@@ -71,7 +71,7 @@ abbrev mutual
   value fields row (tree.column c) = Some (slice_index_or row c null)
   value fields row (tree.int z) = Some (item.int z)
   value fields row (tree.text s) = Some (item.text s)
-  value fields row (tree.op o ts) = option_and_then (λ xs. held_in (checked (sort_at fields) (tree.op o ts)) (of_operands o xs)) (values fields row ts)
+  value fields row (tree.op o ts) = option_and_then (λ xs. bounded_in (checked (sort_at fields) (tree.op o ts)) (of_operands o xs)) (values fields row ts)
 
   pub values : List FieldShape → Row → Trees ℕ → Option (List Item)
   values fields row tree.none = Some []

@@ -1,7 +1,7 @@
 //! Filters at the rows of a slice, and the least row where one is bad.
 
 ghost use Rattle.std.specs.Prelude.{◌≡◌, ◌<◌, true, None, is_ok, IfOk, IfErr};
-ghost use Rattle.query.specs.Asked.{asked};
+ghost use Rattle.query.specs.QueryShape.{query_shape};
 ghost use Rattle.query.specs.Checked.{checked};
 ghost use Rattle.query.specs.Columns.{sort_at};
 ghost use Rattle.query.specs.Fault.{fits};
@@ -24,9 +24,9 @@ pub fn evaluate_filter<'a>(
     query: &'a Query,
     slice: Slice<'a>,
 ) -> Result<Option<Values<'a>>, Stop>
-    requires { fits slice.batch.now.fields (asked query.now) ≡ true }
-    ensures ok { IfOk result (AreFilterValues slice.entry.batch.now slice.entry.start slice.entry.len (asked query.now).filter) }
-    ensures err { IfErr result (IsFilterStop slice.entry.batch.now slice.entry.start slice.entry.len (asked query.now).filter) }
+    requires { fits slice.batch.now.fields (query_shape query.now) ≡ true }
+    ensures ok { IfOk result (AreFilterValues slice.entry.batch.now slice.entry.start slice.entry.len (query_shape query.now).filter) }
+    ensures err { IfErr result (IsFilterStop slice.entry.batch.now slice.entry.start slice.entry.len (query_shape query.now).filter) }
 {
     match &query.filter {
         None => Ok(None),

@@ -1,4 +1,4 @@
-//! Statistics of columns, and the scalars that they are told in.
+//! Statistics of columns, and the scalars that they are given in.
 #![tactic(auto)]
 
 pub mod columns;

@@ -6,7 +6,7 @@ use Rattle.clap.proofs.OnLiterals.{clap_on_literals}
 use Rattle.clap.specs.Words.{HasKind, IsAmong, Row, Text, fault_of, is_simple_and_free, kind_of, takes}
 use Rattle.clap.specs.declared.error.Error.{Error}
 use Rattle.clap.specs.declared.error.kind.ErrorKind.TheVariants.{OutOfMemory}
-use Rattle.job.specs.Asked.{FindsNone, HasNoWorkers, HasWorkers, IsNumber, IsRefusal}
+use Rattle.job.specs.Jobs.{FindsNone, HasNoWorkers, HasWorkers, IsNumber, IsRefusal}
 use Rattle.job.specs.CommandLine.{arrowtab}
 
 -- `clap` has an exact function of the words for this command line

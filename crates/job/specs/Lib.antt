@@ -1,4 +1,4 @@
 -- The words of this crate's contracts.
 pub mod CommandLine
-pub mod Asked
+pub mod Jobs
 pub mod Printed

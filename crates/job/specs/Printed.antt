@@ -18,13 +18,13 @@ module _ (status out_failed out_failures : ℕ) (out_old out_new : Option (List 
   abbrev pub PrintedError : ℕ → List ℕ → Type 0
   PrintedError wanted text = (status ≡ wanted) × (out_new ≡ out_old) × TookLine text err_failed err_failures err_old err_new
 
-  -- Help: all of it went to the output, or the output failed and that was told.
+  -- Help: all of it went to the output, or the output failed and that was reported.
   pub data PrintedHelp (text : List ℕ) : Type 0 where
     helped : status ≡ 0 → Appends out_old out_new text → err_new ≡ err_old → PrintedHelp text
     output_failed : status ≡ 1 → out_failed < out_failures → AppendsFront out_old out_new text
         → TookLine output_line err_failed err_failures err_old err_new → PrintedHelp text
 
-  -- An error of `clap`, by a text of `clap`: help, or a mistake in the words. That memory ran out may be told in its place.
+  -- An error of `clap`, by a text of `clap`: help, or a mistake in the words. That memory ran out may be reported in its place.
   pub data PrintedLine (error : Error) : Type 0 where
     help : kind_of error ≡ DisplayHelp → (text : List ℕ) → PrintedHelp text → PrintedLine error
     mistake : kind_of error ≢ DisplayHelp → (text : List ℕ) → PrintedError 2 text → PrintedLine error

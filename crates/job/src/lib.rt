@@ -1,13 +1,13 @@
-//! What the program is asked to do: the words of its command line, read by `clap`.
+//! What the command line requests of the program: its words, read by `clap`.
 #![tactic(auto)]
 
-pub mod asked;
 mod command_line;
 pub mod fault;
+pub mod jobs;
 mod printing;
 mod reading;
 
-pub use asked::{Command, Job};
 pub use fault::JobFault;
+pub use jobs::{Command, Job};
 pub use printing::print_fault;
 pub use reading::job;

@@ -1,18 +1,18 @@
 //! The words of the command line as a job.
 ghost use Rattle.std.specs.Prelude.{◌≡◌, ◌≤◌, IfErr, IfOk, IfSome, None, codes, map, option_map};
 ghost use Rattle.clap.specs.Words.{all_of, first_of, found_of, rows_of, subcommand_rows_of};
-ghost use Rattle.job.specs.Asked.{Asks, Finds, HasColumn, HasNoWorkers, HasQuery, HasWorkers, IsFaultOf, IsNoCommand, IsReady, IsUnfound, names_of, word_of};
+ghost use Rattle.job.specs.Jobs.{Asks, Finds, HasColumn, HasNoWorkers, HasQuery, HasWorkers, IsFaultOf, IsNoCommand, IsReady, IsUnfound, names_of, word_of};
 
-use crate::asked::{Command, Job};
 use crate::command_line::arrowtab;
 use crate::fault::JobFault;
+use crate::jobs::{Command, Job};
 use clap::ArgMatches;
 use clap::error::ErrorKind;
 use std::alloc::{AllocError, Global};
 
 /// The job that the words of the command line ask for. The first is the program's name.
 pub fn job(alloc: Global, words: &[&str]) -> Result<Job, JobFault>
-    ensures asked { IfOk result (Asks (map (λ w. w.now) words.now)) }
+    ensures job { IfOk result (Asks (map (λ w. w.now) words.now)) }
     ensures ready { IfOk result IsReady }
     ensures err { IfErr result (IsFaultOf (map (λ w. w.now) words.now)) }
 {

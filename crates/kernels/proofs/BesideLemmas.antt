@@ -29,8 +29,8 @@ beside_size s z = length-replicate (length s.items) (int z)
 pub beside_item : (s : Seen) (z : ℤ) (j : ℕ) → j < length s.items → item_at (number_beside s z).items j ≡ int z
 beside_item s z j below = get_or-replicate (length s.items) j (int z) null below
 
-pub beside_numbers : (s : Seen) (z held : ℤ) → held ≡ z → AreNumbers (λ j. held) (number_beside s z)
-beside_numbers s z held is j below = beside_item s z j (subst (λ n. j < n) (beside_size s z) below) ∙ ap int (sym is)
+pub beside_numbers : (s : Seen) (z present : ℤ) → present ≡ z → AreNumbers (λ j. present) (number_beside s z)
+beside_numbers s z present is j below = beside_item s z j (subst (λ n. j < n) (beside_size s z) below) ∙ ap int (sym is)
 
 both_itself : (p : Bool) → (p && p) ≡ (p && true)
 both_itself true = refl
@@ -49,10 +49,10 @@ number_fits t s z kind_is has = ap (λ k. type_fault (has_number k z)) kind_is �
 pub fault_beside : (f : ℤ → ℤ → ℤ) (s : Seen) (z : ℤ) → number_fault s z ≡ None → fault_with f s z ≡ arithmetic_fault f s (number_beside s z)
 fault_beside f s z fits = ap (λ o. option_or o (arithmetic_fault f s (number_beside s z))) fits
 
-pub told_beside : (f : ℤ → ℤ → ℤ) (s : Seen) (z : ℤ) (e : KernelFault) → number_fault s z ≡ None
+pub reported_beside : (f : ℤ → ℤ → ℤ) (s : Seen) (z : ℤ) (e : KernelFault) → number_fault s z ≡ None
     → IsKernelFault (operands_fault s (number_beside s z)) (arithmetic_fault f s (number_beside s z)) e → IsKernelFault (number_fault s z) (fault_with f s z) e
-told_beside f s z e fits (inl told) = inl (fault_beside f s z fits ∙ told)
-told_beside f s z e fits (inr want) = inr (want.0, fits)
+reported_beside f s z e fits (inl reported) = inl (fault_beside f s z fits ∙ reported)
+reported_beside f s z e fits (inr want) = inr (want.0, fits)
 
 -- ---- the number first
 

@@ -1,4 +1,4 @@
--- Where a column has no item, as truth values told place by place.
+-- Where a column has no item, as truth values given place by place.
 use Rattle.std.proofs.Common.{◌≡◌, ◌∙◌, ℕ, ◌+◌, ◌<◌, List, Bool, true, false, not, cond, length, get_or, Option, All, is_some, map, pos, slice_index_or, ap, sym, subst, refl, zero-add}
 use Rattle.std.specs.List.{range_with_len}
 use Rattle.std.proofs.lemmas.List.FromFn.{get_or-map-range_with_len}

@@ -147,20 +147,20 @@ fault_at f t x y a b row are is =
     ∙ ap (λ k. option_map (λ row. Overflow row) (first_bad f k a.items b.items)) are.kind_a
     ∙ ap (option_map (λ row. Overflow row)) is
 
-pub told : (f : ℤ → ℤ → ℤ) (t : IntType) (x y : ℕ → ℤ) (a b : Seen) (valid : Option (List Bool)) (n : ℕ) (e : KernelFault) → AreOperands t x y a b → valid ≡ kept (both_valid a b)
+pub reported : (f : ℤ → ℤ → ℤ) (t : IntType) (x y : ℕ → ℤ) (a b : Seen) (valid : Option (List Bool)) (n : ℕ) (e : KernelFault) → AreOperands t x y a b → valid ≡ kept (both_valid a b)
     → n ≡ length a.items → StopsAt t (result_at f x y) (valid_in valid) n e → IsKernelFault (operands_fault a b) (arithmetic_fault f a b) e
-told f t x y a b valid n (Overflow row) are kept_is size stops =
+reported f t x y a b valid n (Overflow row) are kept_is size stops =
     let least = subst (λ v. IsLeastOutside t (result_at f x y) (valid_in v) n row) kept_is stops in
     let least = subst (λ m. IsLeastOutside t (result_at f x y) (valid_in (kept (both_valid a b))) m row) size least in
     inl (fault_at f t x y a b (Some row) are (first_bad-some f t x y a b row are.of_a are.of_b are.lengths least))
-told f t x y a b valid n NoMemory are kept_is size stops = inr (refl, operands_fit t a b are.kind_a are.kind_b are.lengths)
-told f t x y a b valid n TypesDiffer are kept_is size stops = absurd stops
-told f t x y a b valid n LengthsDiffer are kept_is size stops = absurd stops
+reported f t x y a b valid n NoMemory are kept_is size stops = inr (refl, operands_fit t a b are.kind_a are.kind_b are.lengths)
+reported f t x y a b valid n TypesDiffer are kept_is size stops = absurd stops
+reported f t x y a b valid n LengthsDiffer are kept_is size stops = absurd stops
 
 -- an error that is passed on
-pub told_on : {T : Type 0} (r : Result T KernelFault) (shape all : Option KernelFault) (e : KernelFault) → IsErrAnd r (λ x. x ≡ e) → IsKernelFault shape all e → IfErr r (IsKernelFault shape all)
-told_on (Ok v) shape all e same h = tt
-told_on (Err x) shape all e same h = subst (IsKernelFault shape all) (sym same) h
+pub reported_on : {T : Type 0} (r : Result T KernelFault) (shape all : Option KernelFault) (e : KernelFault) → IsErrAnd r (λ x. x ≡ e) → IsKernelFault shape all e → IfErr r (IsKernelFault shape all)
+reported_on (Ok v) shape all e same h = tt
+reported_on (Err x) shape all e same h = subst (IsKernelFault shape all) (sym same) h
 
 -- ---- the array of the results
 

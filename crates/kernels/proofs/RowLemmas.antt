@@ -3,7 +3,7 @@ use Rattle.std.proofs.Common.{◌≡◌, ◌∙◌, ℕ, zero, suc, ◌+◌, ◌
 use Rattle.std.specs.List.{flat_map, range_with_len}
 use Rattle.types.specs.declared.int_type.IntType.{IntType}
 use Rattle.arrays.specs.Number.{bytes_of_number}
-use Rattle.kernels.specs.Computed.{AreResults, AreRows, bytes_of_results, held_at}
+use Rattle.kernels.specs.Computed.{AreResults, AreRows, bytes_of_results, result_or_zero}
 use Rattle.kernels.proofs.CheckedLemmas.{AreResults-word}
 
 joined : (f : ℕ → List ℕ) (start n : ℕ) (rows : List (List ℕ)) → length rows ≡ n → ((j : ℕ) → j < n → get_or rows j [] ≡ f (start + j)) → flat_map (λ row. row) rows ≡ flat_map f (range_with_len start n)
@@ -21,7 +21,7 @@ pub bytes_of_rows : (t : IntType) (result : ℕ → ℤ) (start n : ℕ) (rows :
     → flat_map (λ row. row) rows ≡ bytes_of_results t result start n
 unfolding bytes_of_results
 bytes_of_rows t result start n rows size are =
-    joined (λ j. bytes_of_number t (held_at t result j)) start n rows size
+    joined (λ j. bytes_of_number t (result_or_zero t result j)) start n rows size
     (λ j below. are.bytes j below ∙ ap (bytes_of_number t) (sym (ap (λ b. cond b (result (start + j)) (pos 0)) (are.of_type j below))))
 
 -- results with those of a word behind them, all of the type

@@ -23,12 +23,12 @@ pub record AreResults (t : IntType) (result : ℕ → ℤ) (valid : ℕ → Bool
   pub of_type : AreOfType t result valid n
 
 -- The result at a slot where it is of the type, else 0.
-abbrev pub held_at : IntType → (ℕ → ℤ) → ℕ → ℤ
-held_at t result j = if is_of_type t (result j) then result j else pos 0
+abbrev pub result_or_zero : IntType → (ℕ → ℤ) → ℕ → ℤ
+result_or_zero t result j = if is_of_type t (result j) then result j else pos 0
 
 -- The bytes of these numbers of the n slots from slot start on, one behind the other.
 unfoldable pub bytes_of_results : IntType → (ℕ → ℤ) → ℕ → ℕ → List ℕ
-bytes_of_results t result start n = flat_map (λ j. bytes_of_number t (held_at t result j)) (range_with_len start n)
+bytes_of_results t result start n = flat_map (λ j. bytes_of_number t (result_or_zero t result j)) (range_with_len start n)
 
 -- The results of the n slots from slot start on are of the type, and the rows are their bytes.
 pub record AreRows (t : IntType) (result : ℕ → ℤ) (start n : ℕ) (rows : List (List ℕ)) : Type 0 where

@@ -12,6 +12,6 @@ shape_fault suit a b = if not suit then Some TypesDiffer else if not (length a.i
 abbrev pub type_fault : Bool → Option KernelFault
 type_fault suit = if suit then None else Some TypesDiffer
 
--- What is told: the first fault that stands, or want of memory, which comes only where types and lengths are as they should be.
+-- What is reported: the first fault that stands, or want of memory, which comes only where types and lengths are as they should be.
 abbrev pub IsKernelFault : Option KernelFault → Option KernelFault → KernelFault → Type 0
-IsKernelFault shape all told = (all ≡ Some told) ⊎ ((told ≡ NoMemory) × (shape ≡ None))
+IsKernelFault shape all reported = (all ≡ Some reported) ⊎ ((reported ≡ NoMemory) × (shape ≡ None))

@@ -65,7 +65,7 @@ fn is_of_truths(view: &View<'_>) -> bool
     }
 }
 
-/// What keeps two views from being the operands: types are told before lengths.
+/// What keeps two views from being the operands: types are reported before lengths.
 fn fault_of(a: &View<'_>, b: &View<'_>) -> Option<KernelFault>
     ensures { result ≡ truths_fault a.now b.now }
 {

@@ -25,7 +25,7 @@ pub(crate) trait Side {
         ensures high { result ≤ℤ pos (2 ^ 64) };
 }
 
-/// A side whose numbers are of type `T`, told as such.
+/// A side whose numbers are of type `T`, taken as such.
 pub(crate) trait Own<T: Integer>: Side {
     /// The number at slot `j`.
     fn own(&self, j: usize) -> T

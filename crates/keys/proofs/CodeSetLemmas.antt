@@ -10,7 +10,7 @@ use Rattle.keys.specs.CodeSets.{ArePlaced, place_end}
 use Rattle.keys.proofs.TextLemmas.{found_before, get_last}
 use Rattle.keys.proofs.SameLemmas.{either}
 
--- ---- what is told of codes, of which one more comes
+-- ---- what is reported of codes, of which one more comes
 
 abbrev bare : List ℕ
 bare = []
@@ -32,16 +32,16 @@ none_placed codes numbers others p q r = subst (λ l. ArePlaced l (place_end num
   zero_of : (c : ℕ) → place_end numbers others c ≡ 0
   zero_of c = ap (λ l. place_end l others c) q ∙ ap (λ l. place_end bare l c) r ∙ zero_end c
 
-pub told_alike : (codes : List ℕ) (ends new : ℕ → ℕ) → ArePlaced codes ends → ((c : ℕ) → new c ≡ ends c) → ArePlaced codes new
-told_alike codes ends new placed alike = record {
+pub reported_alike : (codes : List ℕ) (ends new : ℕ → ℕ) → ArePlaced codes ends → ((c : ℕ) → new c ≡ ends c) → ArePlaced codes new
+reported_alike codes ends new placed alike = record {
   there = λ c n is. placed.there c n (sym (alike c) ∙ is);
   absent = λ c is. placed.absent c (sym (alike c) ∙ is);
   once = placed.once;
 }
 
-pub told_more : (codes : List ℕ) (x end : ℕ) (ends new : ℕ → ℕ) → ArePlaced codes ends → list_any (nat_eq x) codes ≡ false → end ≡ length codes + 1
+pub reported_more : (codes : List ℕ) (x end : ℕ) (ends new : ℕ → ℕ) → ArePlaced codes ends → list_any (nat_eq x) codes ≡ false → end ≡ length codes + 1
     → ((c : ℕ) → new c ≡ (if nat_eq c x then end else ends c)) → ArePlaced (codes ++ x ∷ []) new
-told_more codes x end ends new placed free last is = record { there = there; absent = absent; once = IsDistinct-push nat_eq_equiv codes x placed.once free } where
+reported_more codes x end ends new placed free last is = record { there = there; absent = absent; once = IsDistinct-push nat_eq_equiv codes x placed.once free } where
   here : (c : ℕ) → nat_eq c x ≡ true → new c ≡ end
   here c h = is c ∙ ap (λ b. if b then end else ends c) h
 
@@ -67,7 +67,7 @@ told_more codes x end ends new placed free last is = record { there = there; abs
 abbrev far : ℕ → Bool → List ℕ → List ℕ → ℕ
 far c b numbers others = if b then slice_index_or numbers c 0 else slice_index_or others (c - 2 ^ 17) 0
 
--- What the tables tell of codes, where one of them is told of x.
+-- What the tables tell of codes, where one of them is reported of x.
 module _ (numbers others new : List ℕ) (x end : ℕ) where
   first_put : ltb x (2 ^ 17) ≡ true → ((k : ℕ) → slice_index_or new k 0 ≡ (if nat_eq k x then end else slice_index_or numbers k 0))
       → (c : ℕ) → place_end new others c ≡ (if nat_eq c x then end else place_end numbers others c)
@@ -112,17 +112,17 @@ module _ (numbers others new : List ℕ) (x end : ℕ) where
             (λ e. e ∙ sym h))
 
   module _ {T E : Type 0} (r : Result T E) where
-    pub first_told : ltb x (2 ^ 17) ≡ true → ((k : ℕ) → OnOk r (slice_index_or new k 0 ≡ (if nat_eq k x then end else slice_index_or numbers k 0)))
+    pub first_reported : ltb x (2 ^ 17) ≡ true → ((k : ℕ) → OnOk r (slice_index_or new k 0 ≡ (if nat_eq k x then end else slice_index_or numbers k 0)))
         → (c : ℕ) → OnOk r (place_end new others c ≡ (if nat_eq c x then end else place_end numbers others c))
-    first_told near put c = go r put where
+    first_reported near put c = go r put where
       go : (s : Result T E) → ((k : ℕ) → OnOk s (slice_index_or new k 0 ≡ (if nat_eq k x then end else slice_index_or numbers k 0)))
           → OnOk s (place_end new others c ≡ (if nat_eq c x then end else place_end numbers others c))
       go (Ok t) h = first_put near h c
       go (Err e) h = tt
 
-    pub second_told : ltb x (2 ^ 17) ≡ false → ((k : ℕ) → OnOk r (slice_index_or new k 0 ≡ (if nat_eq k (x - 2 ^ 17) then end else slice_index_or others k 0)))
+    pub second_reported : ltb x (2 ^ 17) ≡ false → ((k : ℕ) → OnOk r (slice_index_or new k 0 ≡ (if nat_eq k (x - 2 ^ 17) then end else slice_index_or others k 0)))
         → (c : ℕ) → OnOk r (place_end numbers new c ≡ (if nat_eq c x then end else place_end numbers others c))
-    second_told away put c = go r put where
+    second_reported away put c = go r put where
       go : (s : Result T E) → ((k : ℕ) → OnOk s (slice_index_or new k 0 ≡ (if nat_eq k (x - 2 ^ 17) then end else slice_index_or others k 0)))
           → OnOk s (place_end numbers new c ≡ (if nat_eq c x then end else place_end numbers others c))
       go (Ok t) h = second_put away h c

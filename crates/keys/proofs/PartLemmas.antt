@@ -109,9 +109,9 @@ module _ (ts : List (List ℕ)) (ks : List (List Part)) (n : ℕ) (ps : List Par
   pub stored_key : (keys : List (List Item)) → keys_shown ts ks ≡ keys → key_of_parts ts ps ≡ slice_index_or keys n []
   stored_key keys are = sym (get_or_from_slice_get keys n (key_of_parts ts ps) [] (stored_there keys are))
 
-  pub stored_held : AreWithin (length ts) ks → All (IsWithin (length ts)) ps
-  stored_held held =
-      subst (All (IsWithin (length ts))) (get_or_from_slice_get ks n ps ps at) (All-get_or (All (IsWithin (length ts))) ks n ps (slice_get_within ks n ps at) held)
+  pub stored_present : AreWithin (length ts) ks → All (IsWithin (length ts)) ps
+  stored_present all_within =
+      subst (All (IsWithin (length ts))) (get_or_from_slice_get ks n ps ps at) (All-get_or (All (IsWithin (length ts))) ks n ps (slice_get_within ks n ps at) all_within)
 
 -- The key of one column alone.
 pub key_alone : (by : List ℕ) (row : Row) (x : Item) → length by ≡ 1 → x ≡ slice_index_or row (get_or by 0 0) null → x ∷ [] ≡ key_of by row
@@ -161,21 +161,21 @@ module _ (ts : List (List ℕ)) (once : IsDistinct bytes_eq ts) where
   abbrev key : List Part → List Item
   key k = key_of_parts ts k
 
-  abbrev Held : List Part → Type 0
-  Held k = All (IsWithin (length ts)) k
+  abbrev AllWithin : List Part → Type 0
+  AllWithin k = All (IsWithin (length ts)) k
 
-  among_same : (k : List Part) (ks : List (List Part)) → Held k → All Held ks → list_any (same_parts k) ks ≡ list_any (same_key (key k)) (keys_shown ts ks)
+  among_same : (k : List Part) (ks : List (List Part)) → AllWithin k → All AllWithin ks → list_any (same_parts k) ks ≡ list_any (same_key (key k)) (keys_shown ts ks)
   among_same k [] h g = refl
   among_same k (l ∷ ks) h g =
-      ap (λ b. b || list_any (same_parts k) ks) (parts_same k l h (All-head Held l ks g))
-      ∙ ap (λ b. same_key (key k) (key l) || b) (among_same k ks h (All-tail Held l ks g))
+      ap (λ b. b || list_any (same_parts k) ks) (parts_same k l h (All-head AllWithin l ks g))
+      ∙ ap (λ b. same_key (key k) (key l) || b) (among_same k ks h (All-tail AllWithin l ks g))
 
   joined : (ks : List (List Part)) (k : List Part) (b : Bool) → keys_shown ts (cond b ks (ks ++ k ∷ [])) ≡ cond b (keys_shown ts ks) (keys_shown ts ks ++ key k ∷ [])
   joined ks k true = refl
   joined ks k false = map-append key ks (k ∷ [])
 
   -- A key that was put in.
-  pub keys_inserted : (ks new : List (List Part)) (k : List Part) → Held k → All Held ks → new ≡ insert_key same_parts ks k
+  pub keys_inserted : (ks new : List (List Part)) (k : List Part) → AllWithin k → All AllWithin ks → new ≡ insert_key same_parts ks k
       → keys_shown ts new ≡ insert_key same_key (keys_shown ts ks) (key k)
   keys_inserted ks new k h g is =
       ap (keys_shown ts) is ∙ joined ks k (list_any (same_parts k) ks)
@@ -187,10 +187,10 @@ pub numbered : {E : Type 0} (r : Result ℕ E) (ts : List (List ℕ)) (ks : List
 numbered (Ok n) ts ks k at = slice_get-map (key_of_parts ts) ks n ∙ ap (option_map (key_of_parts ts)) at
 numbered (Err e) ts ks k at = tt
 
-pub items_told : {V E : Type 0} (r : Result V E) (f : V → List Item) (keys : List (List Item)) (n : ℕ) (k : List Item) → slice_get keys n ≡ Some k
+pub items_reported : {V E : Type 0} (r : Result V E) (f : V → List Item) (keys : List (List Item)) (n : ℕ) (k : List Item) → slice_get keys n ≡ Some k
     → IfOk r (λ v. f v ≡ k) → IfOk r (λ v. slice_get keys n ≡ Some (f v))
-items_told (Ok v) f keys n k at h = at ∙ ap Some (sym h)
-items_told (Err e) f keys n k at h = tt
+items_reported (Ok v) f keys n k at h = at ∙ ap Some (sym h)
+items_reported (Err e) f keys n k at h = tt
 
 -- The keys are within, whether one was put in or not.
 pub within_placed : {E : Type 0} (r : Result ℕ E) (n : ℕ) (ks new : List (List Part)) (k : List Part) → All (IsWithin n) k → AreWithin n ks

@@ -172,7 +172,7 @@ code_new xs new x is absent =
 pub code_shown : (xs : List ℕ) (n x : ℕ) → slice_get xs n ≡ Some x → slice_get (map parts_of_code xs) n ≡ Some (parts_of_code x)
 code_shown xs n x at = slice_get-map parts_of_code xs n ∙ ap (option_map parts_of_code) at
 
--- What holds of a place that is told, where there is one.
+-- What holds of a place that is reported, where there is one.
 pub if_place : {E : Type 0} (r : Result (Option ℕ) E) (P Q : ℕ → Type 0) → ((n : ℕ) → P n → Q n) → IfOk r (λ o. ForSome o P) → IfOk r (λ o. ForSome o Q)
 if_place (Ok o) P Q f h = λ n is. f n (h n is)
 if_place (Err e) P Q f h = tt

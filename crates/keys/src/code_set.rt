@@ -119,7 +119,7 @@ fn end_at(ends: &[u32], place: usize) -> u32
     if place < ends.len() { ends[place] } else { 0 }
 }
 
-/// Has the tables tell of a code that it stands before this place, and of others what they told.
+/// Has the tables tell of a code that it stands before this place, and of others what they gave.
 fn put_end(
     numbers: &mut Vec<u32>,
     others: &mut Vec<u32>,
@@ -138,7 +138,7 @@ fn put_end(
     }
 }
 
-/// Has a table tell this of a place, and of others what it told.
+/// Has a table tell this of a place, and of others what it gave.
 fn put_at(ends: &mut Vec<u32>, place: usize, end: u32) -> Result<(), NoMemory>
     requires { place < 2 ^ 32 }
     ensures put { (k : ℕ) → OnOk result (slice_index_or ends.new.items k 0

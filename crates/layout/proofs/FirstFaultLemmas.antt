@@ -198,17 +198,17 @@ reading-raw raw =
     ∙ ap (read_parts (kind_of r.ty) r.length r.null_count r.buffers.items (map reading r.children.items)) (entries-map reading r.dictionary)
 
 -- What an array knows of its child is what the child's reading holds.
-pub held-reading : (raw : RawArray) → inner_of (reading raw) ≡ inner_raw raw
+pub present-reading : (raw : RawArray) → inner_of (reading raw) ≡ inner_raw raw
 unfolding read_parts
-held-reading raw = ap inner_of (reading-raw raw)
+present-reading raw = ap inner_of (reading-raw raw)
 
-held-children : (xs : List RawArray) → map inner_of (map reading xs) ≡ inner_children xs
-held-children [] = refl
-held-children (x ∷ xs) = ap (λ h. h ∷ map inner_of (map reading xs)) (held-reading x) ∙ ap (λ hs. inner_raw x ∷ hs) (held-children xs)
+present-children : (xs : List RawArray) → map inner_of (map reading xs) ≡ inner_children xs
+present-children [] = refl
+present-children (x ∷ xs) = ap (λ h. h ∷ map inner_of (map reading xs)) (present-reading x) ∙ ap (λ hs. inner_raw x ∷ hs) (present-children xs)
 
-held-dictionary : (d : Option (Box RawArray Global)) → option_map inner_of (option_map (λ b. reading b.value) d) ≡ inner_dictionary d
-held-dictionary None = refl
-held-dictionary (Some b) = ap Some (held-reading b.value)
+present-dictionary : (d : Option (Box RawArray Global)) → option_map inner_of (option_map (λ b. reading b.value) d) ≡ inner_dictionary d
+present-dictionary None = refl
+present-dictionary (Some b) = ap Some (present-reading b.value)
 
 -- The first fault of a raw array by its parts.
 pub fault-raw : (raw : RawArray) → let r = out-RawArray raw in
@@ -218,8 +218,8 @@ fault-raw raw =
     let r = out-RawArray raw in
     let below = child_fault (map reading r.children.items) ∷ dictionary_fault (option_map (λ b. reading b.value) r.dictionary) ∷ [] in
     ap (λ (q : Reading). q.fault) (reading-raw raw)
-    ∙ ap (λ children. first (own_fault (kind_of r.ty) r.length r.null_count r.buffers.items children (option_map inner_of (option_map (λ b. reading b.value) r.dictionary)) ∷ below)) (held-children r.children.items)
-    ∙ ap (λ dictionary. first (own_fault (kind_of r.ty) r.length r.null_count r.buffers.items (inner_children r.children.items) dictionary ∷ below)) (held-dictionary r.dictionary)
+    ∙ ap (λ children. first (own_fault (kind_of r.ty) r.length r.null_count r.buffers.items children (option_map inner_of (option_map (λ b. reading b.value) r.dictionary)) ∷ below)) (present-children r.children.items)
+    ∙ ap (λ dictionary. first (own_fault (kind_of r.ty) r.length r.null_count r.buffers.items (inner_children r.children.items) dictionary ∷ below)) (present-dictionary r.dictionary)
 
 first_of_three : (a b c : Option LayoutFault) (fault : LayoutFault) → Some fault ≡ a → Some fault ≡ first (a ∷ b ∷ c ∷ [])
 first_of_three None b c fault h = cc

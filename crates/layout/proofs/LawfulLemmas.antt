@@ -82,9 +82,9 @@ either_false false b h = (refl, h)
 some_length : (n : ℕ) → not (nat_eq (suc n) 0) ≡ false → ⊥
 some_length n h = grind (arith, nat_tests)
 
-pub none_held : (children : List Reading) → not (nat_eq (length (map inner_of children)) 0) ≡ false → children ≡ []
-none_held [] h = refl
-none_held (c ∷ cs) h = absurd (some_length (length (map inner_of cs)) h)
+pub none_present : (children : List Reading) → not (nat_eq (length (map inner_of children)) 0) ≡ false → children ≡ []
+none_present [] h = refl
+none_present (c ∷ cs) h = absurd (some_length (length (map inner_of cs)) h)
 
 pub no_dictionary : (dictionary : Option Reading) → not (is_none (option_map inner_of dictionary)) ≡ false → dictionary ≡ None
 no_dictionary None h = refl
@@ -95,7 +95,7 @@ pub text_alone : (w : OffsetWidth) (n : ℕ) (stated : Option ℕ) (buffers : Bu
     → (read_parts (kind.texts w) n stated buffers children dictionary).fault ≡ None → (children ≡ []) × (dictionary ≡ None)
 text_alone w n stated buffers children dictionary h =
     let parts = either_false _ _ (parts_agree (kind.texts w) n stated buffers children dictionary h) in
-    (none_held children parts.0, no_dictionary dictionary parts.1)
+    (none_present children parts.0, no_dictionary dictionary parts.1)
 
 same_as_utf8 : (k : Kind) → not (same_kind k kind.utf8) ≡ false → k ≡ kind.utf8
 same_as_utf8 (kind.int t) h = cc
@@ -179,11 +179,11 @@ AreTexts-raw raw h text =
 pub dictionary_raw : (raw : RawArray) → fault raw ≡ None → ForSome (out-RawArray raw).dictionary (λ b. (fault b.value ≡ None) × ((reading b.value).kind ≡ kind.utf8))
 dictionary_raw raw h =
     let r = out-RawArray raw in
-    held_dictionary_raw (kind_of r.ty) r.length r.null_count r.buffers.items (map reading r.children.items) r.dictionary (sym (ap (λ (q : Reading). q.fault) (reading-raw raw)) ∙ h) where
-      held_dictionary_raw : (k : Kind) (n : ℕ) (stated : Option ℕ) (buffers : Buffers) (children : List Reading) (d : Option (Box RawArray Global))
+    present_dictionary_raw (kind_of r.ty) r.length r.null_count r.buffers.items (map reading r.children.items) r.dictionary (sym (ap (λ (q : Reading). q.fault) (reading-raw raw)) ∙ h) where
+      present_dictionary_raw : (k : Kind) (n : ℕ) (stated : Option ℕ) (buffers : Buffers) (children : List Reading) (d : Option (Box RawArray Global))
           → (read_parts k n stated buffers children (option_map (λ b. reading b.value) d)).fault ≡ None → ForSome d (λ b. (fault b.value ≡ None) × ((reading b.value).kind ≡ kind.utf8))
-      held_dictionary_raw k n stated buffers children None h = λ x e. cc
-      held_dictionary_raw k n stated buffers children (Some b) h =
+      present_dictionary_raw k n stated buffers children None h = λ x e. cc
+      present_dictionary_raw k n stated buffers children (Some b) h =
           λ x e.
           let same : b ≡ x = cc in
           subst (λ (y : Box RawArray Global). (fault y.value ≡ None) × ((reading y.value).kind ≡ kind.utf8)) same (dictionary_lawful k n stated buffers children (reading b.value) h)

@@ -11,7 +11,7 @@ use Rattle.layout.specs.Offsets.{start_at}
 use Rattle.types.specs.Number.{natural}
 use Rattle.layout.specs.Fault.{Inner, decreasing_row, least_decreasing, least_row, is_past_end, child_length}
 
--- ---- each row fails where none is told
+-- ---- each row fails where none is reported
 
 first_step : (test : ℕ → Bool) (a : ℕ) (b : Bool) (rest : ℕ) (n : ℕ) → suc n ≤ cond (not b) (1 + rest) 0 → (b ≡ false) × (n ≤ rest)
 first_step test a true rest n h = absurd (omega arith)

@@ -86,10 +86,10 @@ part-all n s fits =
     ∙ ap (λ xs. record { kind = s.kind; validity = s.validity; items = s.items; codes = xs; entries = s.entries }) (take_all n s.codes fits.codes)
 
 validity-fits : (n : ℕ) (buffers : Buffers) → IfSome (validity_of n buffers) (λ v. length v ≡ n)
-validity-fits n buffers = held-fits n (buffer_at buffers 0) where
-  held-fits : (n : ℕ) (inner_of : Option (List ℕ)) → IfSome (option_map (λ bytes. bits bytes 0 n) inner_of) (λ v. length v ≡ n)
-  held-fits n None = tt
-  held-fits n (Some bytes) = length-bits bytes 0 n
+validity-fits n buffers = present-fits n (buffer_at buffers 0) where
+  present-fits : (n : ℕ) (inner_of : Option (List ℕ)) → IfSome (option_map (λ bytes. bits bytes 0 n) inner_of) (λ v. length v ≡ n)
+  present-fits n None = tt
+  present-fits n (Some bytes) = length-bits bytes 0 n
 
 pub Fits-seen : (k : Kind) (n : ℕ) (stated : Option ℕ) (buffers : Buffers) (children : List Reading) (dictionary : Option Reading)
     → Fits n (read_parts k n stated buffers children dictionary).seen

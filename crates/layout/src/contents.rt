@@ -113,7 +113,7 @@ fn least_no_text(width: OffsetWidth, buffers: &[Option<Buffer>], n: usize) -> Op
 }
 
 /// Whether all bytes are UTF-8 as one text, and `n` slots begin and end between its characters: then each slot is a text,
-/// whether it is valid or not, and one pass over the bytes has told it.
+/// whether it is valid or not, and one pass over the bytes has shown it.
 fn are_texts(width: OffsetWidth, offsets: &[u8], bytes: &[u8], n: usize) -> bool
     requires enough { HasOffsets width n offsets.now }
     requires short { n < 2147483648 }

@@ -26,7 +26,7 @@ pub(crate) fn is_missing(ty: &DataType, buffers: &[Option<Buffer>]) -> bool
     ensures { result ≡ is_missing (kind_of ty.now) buffers.now }
 {
     let positions = positions(ty);
-    buffers.len() < positions || buffers[1..positions].iter().any(|held| held.is_none())
+    buffers.len() < positions || buffers[1..positions].iter().any(|part| part.is_none())
 }
 
 /// Whether there are more positions than the layout names.

@@ -1,5 +1,5 @@
 -- What the proofs of this crate share.
 pub mod LoadLemmas
-pub mod ToldLemmas
+pub mod ReportLemmas
 pub mod RunLemmas
 pub mod SendingLemmas

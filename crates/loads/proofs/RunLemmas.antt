@@ -10,8 +10,8 @@ use Rattle.shared.specs.Known.{Begins, Known}
 use Rattle.shared.specs.Left.{Left}
 use Rattle.table.specs.History.{History, rows}
 use Rattle.table.specs.Widened.{widened}
-use Rattle.loads.specs.Loaded.{AllLoaded, AreRun, HasLast, IsAlike, IsDone, IsNewest, IsRun, IsStopped, Loaded, before_stop, outcome_of, pairs_of}
-use Rattle.loads.specs.Told.{AllFinished, AreNewest, last_receipts, seen_of}
+use Rattle.loads.specs.Loaded.{AllLoaded, AreRun, HasLast, IsAlike, IsLoadedBy, IsNewest, IsRun, IsStopped, Loaded, before_stop, outcome_of, pairs_of}
+use Rattle.loads.specs.Report.{AllFinished, AreNewest, last_receipts, seen_of}
 
 run_left : (files : List (List Batch)) (workers place : ℕ) (old mid new : Hand) (o : Left) → IsRun files workers place old mid o → IsLeft None mid new
     → IsRun files workers place old new o
@@ -41,7 +41,7 @@ zipped_length R (x ∷ xs) [] all = absurd all
 zipped_length R (x ∷ xs) (y ∷ ys) all = ap (λ (n : ℕ). suc n) (zipped_length R xs ys all.1)
 
 are_run : (files : List (List Batch)) (old mid new : List Hand) (outcomes : List Left) → length mid ≡ length old → outcomes ≡ map outcome_of mid
-    → ((place : ℕ) (d : Hand) → place < length old → IsDone files (length old) place (get_or old place d) (get_or mid place d))
+    → ((place : ℕ) (d : Hand) → place < length old → IsLoadedBy files (length old) place (get_or old place d) (get_or mid place d))
     → AllZip (IsLeft None) mid new → AreRun files old new outcomes
 are_run files old mid new outcomes size same done taken =
     let none : Left = record { last = None; stop = None } in
@@ -62,11 +62,11 @@ are_run files old mid new outcomes size same done taken =
     }
 
 -- the outcomes, in a list that was empty, tell how far the workers came
-pub are_told : (files : List (List Batch)) (old mid new : List Hand) (first all shown : List Left) → length mid ≡ length old → first ≡ []
+pub are_reported : (files : List (List Batch)) (old mid new : List Hand) (first all shown : List Left) → length mid ≡ length old → first ≡ []
     → all ≡ first ++ map outcome_of mid → shown ≡ all
-    → ((place : ℕ) (d : Hand) → place < length old → IsDone files (length old) place (get_or old place d) (get_or mid place d))
+    → ((place : ℕ) (d : Hand) → place < length old → IsLoadedBy files (length old) place (get_or old place d) (get_or mid place d))
     → AllZip (IsLeft None) mid new → AreRun files old new shown
-are_told files old mid new first all shown size empty is same =
+are_reported files old mid new first all shown size empty is same =
     are_run files old mid new shown size (same ∙ is ∙ ap (λ (xs : List Left). xs ++ map outcome_of mid) empty)
 
 -- where nobody was stopped, the whole plan is loaded

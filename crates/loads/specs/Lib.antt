@@ -1,3 +1,3 @@
 pub mod Plan
 pub mod Loaded
-pub mod Told
+pub mod Report

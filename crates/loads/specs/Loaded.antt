@@ -47,7 +47,7 @@ pub record Loaded (bs : List Batch) (old new : Hand) : Type 0 where
   pub begun : Begins old.seen new.seen
   pub alike : All (IsAlike old.seen new.seen) bs
 
--- Want of memory is told, or what stands for the batch after all that is known.
+-- Want of memory is reported, or what stands for the batch after all that is known.
 abbrev pub StandsFor : Known → Batch → Refusal → Type 0
 StandsFor k b refusal = (refusal ≡ NoMemory) ⊎ (batch_cause k.fields k.history b ≡ Some refusal)
 
@@ -60,7 +60,7 @@ abbrev pub before_stop : List (List Batch) → ℕ → ℕ → Option Stop → L
 before_stop files workers place None = planned files workers place
 before_stop files workers place (Some s) = planned (take s.0 files) workers place ++ take s.1 (slice_index_or files s.0 [])
 
--- The batch that stopped it is there, in one of its files, and what was told stands for it after all that it has seen.
+-- The batch that stopped it is there, in one of its files, and what was reported stands for it after all that it has seen.
 pub record IsStopped (files : List (List Batch)) (workers place : ℕ) (seen : Known) (s : Stop) : Type 0 where
   pub file : s.0 < length files
   pub own : s.0 % workers ≡ place
@@ -88,7 +88,7 @@ pub record IsRun (files : List (List Batch)) (workers place : ℕ) (old new : Ha
   pub newest : outcome.stop ≡ None → IsNewest new outcome.last
 
 -- The same, and the outcome is left with it.
-pub record IsDone (files : List (List Batch)) (workers place : ℕ) (old new : Hand) : Type 0 where
+pub record IsLoadedBy (files : List (List Batch)) (workers place : ℕ) (old new : Hand) : Type 0 where
   pub outcome : Left
   pub left : new.left ≡ Some outcome
   pub run : IsRun files workers place old new outcome

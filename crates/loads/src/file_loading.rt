@@ -1,7 +1,7 @@
 //! Files that are appended by all workers.
 
 ghost use Rattle.std.specs.Prelude.{◌<◌, ℕ, length, slice_index_or};
-ghost use Rattle.loads.specs.Loaded.{IsDone, batches_of};
+ghost use Rattle.loads.specs.Loaded.{IsLoadedBy, batches_of};
 ghost use Rattle.shared.specs.Hand.{Hand};
 
 use crate::appending::Append;
@@ -22,11 +22,11 @@ pub(crate) struct FileLoading<'a, A> {
 
 impl<'a, C: Ledger, Q: Ledger, K: Ledger, N: Naming, A: Append<C, Q, K, N>> Task<Worker<C, Q, K, N>>
     for FileLoading<'a, A> {
-    ghost use Rattle.loads.specs.Loaded.{IsDone, batches_of};
+    ghost use Rattle.loads.specs.Loaded.{IsLoadedBy, batches_of};
 
     ghost count = { λ l. l.count };
 
-    ghost does = { λ l place old new. IsDone (batches_of l.files.now) l.count place old new };
+    ghost does = { λ l place old new. IsLoadedBy (batches_of l.files.now) l.count place old new };
 
     fn work(&self, place: usize, worker: &mut Worker<C, Q, K, N>) {
         work(self.table, self.files, self.count, place, worker);
@@ -43,7 +43,7 @@ pub(crate) fn append_files<
     A: Append<C, Q, K, N> + Sync,
 >(threads: &T, table: &A, files: &[File], workers: &mut [Worker<C, Q, K, N>])
     ensures { (place : ℕ) (d : Hand) → place < length workers.old
-        → IsDone (batches_of files.now) (length workers.old) place (slice_index_or workers.old place d) (slice_index_or workers.new place d) }
+        → IsLoadedBy (batches_of files.now) (length workers.old) place (slice_index_or workers.old place d) (slice_index_or workers.new place d) }
 {
     let count = workers.len();
     let loading = FileLoading {

@@ -2,7 +2,7 @@
 
 ghost use Rattle.std.specs.Prelude.{◌<◌, IfErr, IfOk, OnOk, length};
 ghost use Rattle.loads.specs.Loaded.{AllLoaded, batches_of};
-ghost use Rattle.loads.specs.Told.{AreNewest, AreReceipts, Stands};
+ghost use Rattle.loads.specs.Report.{AreNewest, AreReceipts, Stands};
 
 use crate::appending::Gated;
 use crate::fault::LoadFault;

@@ -1,9 +1,9 @@
-//! What is told of the workers' outcomes.
+//! What is reported of the workers' outcomes.
 
 ghost use Rattle.std.specs.Prelude.{◌≡◌, ◌≢◌, ◌+◌, ◌≤◌, ◌++◌, ◌∷◌, [], List, Some, None, length, map, IsTrue, IsFalse, vec_capacity, vec_len};
 ghost use Rattle.std.specs.List.{AllZip, Any};
 ghost use Rattle.loads.specs.Loaded.{outcome_of};
-ghost use Rattle.loads.specs.Told.{AllFinished, IsLeastStop, IsTold, last_receipts};
+ghost use Rattle.loads.specs.Report.{AllFinished, IsLeastStop, IsReport, last_receipts};
 ghost use Rattle.shared.specs.Hand.{IsLeft};
 ghost use Rattle.shared.specs.Left.{Left};
 
@@ -29,9 +29,9 @@ pub(crate) fn take_outcomes<C: Ledger, Q: Ledger, K: Ledger, N: Naming>(
     take_outcomes(rest, outcomes);
 }
 
-/// What is to be told of the outcomes, if anything.
+/// What is to be reported of the outcomes, if anything.
 pub(crate) fn fault_of<N: Naming>(outcomes: &[Outcome<N>]) -> Option<LoadFault>
-    ensures { IsTold result outcomes.now }
+    ensures { IsReport result outcomes.now }
 {
     if let Some((file, batch, refusal)) = least_stop(outcomes) {
         return Some(LoadFault::Refused {

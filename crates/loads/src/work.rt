@@ -3,7 +3,7 @@
 ghost use Rattle.std.specs.Prelude.{◌≡◌, ◌<◌, ◌≤◌, IfErr, IfSome, None, OnOk, Some, length, map, slice_get, take};
 ghost use Rattle.std.specs.Arc.{arc_value};
 ghost use Rattle.arrays.specs.Batch.{Batch};
-ghost use Rattle.loads.specs.Loaded.{HasLast, IsDone, IsNewest, IsStopped, Loaded, StandsFor, batches_of, before_stop};
+ghost use Rattle.loads.specs.Loaded.{HasLast, IsLoadedBy, IsNewest, IsStopped, Loaded, StandsFor, batches_of, before_stop};
 ghost use Rattle.shared.specs.Hand.{calls_of_hand};
 
 use crate::appending::Append;
@@ -21,7 +21,7 @@ pub(crate) fn work<C: Ledger, Q: Ledger, K: Ledger, N: Naming, A: Append<C, Q, K
     worker: &mut Worker<C, Q, K, N>,
 )
     requires { place < count }
-    ensures { IsDone (batches_of files.now) count place worker.old worker.new }
+    ensures { IsLoadedBy (batches_of files.now) count place worker.old worker.new }
 {
     let first = worker.calls();
     let mut last = None;

@@ -94,9 +94,9 @@ pub begins_as_before : (old seen pool : List (List ℕ)) → is_once old ≡ tru
 begins_as_before old seen pool once is =
     (beyond old (firsts seen), sym (is ∙ firsts-append old seen ∙ ap (λ l. l ++ beyond old (firsts seen)) (firsts-once old once)))
 
--- A fault of one text, told of all.
-pub told_of_all : {T : Type 0} (r : Result T PoolFault) (e : PoolFault) (one all : List (List ℕ)) → IsErrAnd r (λ x. x ≡ e)
+-- A fault of one text, reported of all.
+pub reported_of_all : {T : Type 0} (r : Result T PoolFault) (e : PoolFault) (one all : List (List ℕ)) → IsErrAnd r (λ x. x ≡ e)
     → ((e ≡ TextsFull) × (is_too_full one ≡ true)) ⊎ (e ≡ NoMemory) → (is_too_full one ≡ true → is_too_full all ≡ true)
     → IfErr r (λ e. ((e ≡ TextsFull) × (is_too_full all ≡ true)) ⊎ (e ≡ NoMemory))
-told_of_all (Ok v) e one all same told grows = tt
-told_of_all (Err x) e one all same told grows = elim told [ inl h ↦ inl (same ∙ h.0, grows h.1) | inr h ↦ inr (same ∙ h) ]
+reported_of_all (Ok v) e one all same reported grows = tt
+reported_of_all (Err x) e one all same reported grows = elim reported [ inl h ↦ inl (same ∙ h.0, grows h.1) | inr h ↦ inr (same ∙ h) ]

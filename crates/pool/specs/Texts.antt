@@ -48,4 +48,4 @@ place_of ts t = position (bytes_eq t) ts
 
 -- Why a text isn't put in: with it the pool would be too full, or, where it wouldn't, a growth was refused.
 abbrev pub IsPoolFault : Bool → PoolFault → Type 0
-IsPoolFault full told = ((told ≡ TextsFull) × (full ≡ true)) ⊎ ((told ≡ NoMemory) × (full ≡ false))
+IsPoolFault full reported = ((reported ≡ TextsFull) × (full ≡ true)) ⊎ ((reported ≡ NoMemory) × (full ≡ false))

@@ -1,7 +1,7 @@
 //! `arrowtab stats FILE..` prints the statistics of the columns of Arrow integration JSON files, `arrowtab export FILE..` the
 //! table that they are, and `arrowtab query --query QUERY FILE..` what a query asks of it. With `--workers N` so many load the files.
 //!
-//! It ends with status 0 where all of that was written, 1 where a fault was told on standard error
+//! It ends with status 0 where all of that was written, 1 where a fault was reported on standard error
 //! instead, and 2 where its arguments are others. `arrowtab --help` tells what it takes.
 #![tactic(auto)]
 
@@ -9,7 +9,7 @@ mod file;
 mod output;
 
 ghost use Rattle.std.specs.Prelude.{◌≡◌, ◌<◌, ◌^◌, ◌-◌, All, IfOk, length};
-ghost use Rattle.job.specs.Asked.{IsReady};
+ghost use Rattle.job.specs.Jobs.{IsReady};
 
 use arrowtab::{Job, JobFault, job, print_fault, run};
 use file::FileSource;
@@ -22,7 +22,7 @@ use std::thread::Threads;
 use std::{env, io};
 
 // The job that the words of the command line ask for. Words that are no text ask for none.
-fn asked(rt: &HostRuntime) -> Result<Job, JobFault>
+fn requested_job(rt: &HostRuntime) -> Result<Job, JobFault>
     ensures { IfOk result IsReady }
 {
     match env::args(rt) {
@@ -64,11 +64,16 @@ fn sources_of<'a>(
 }
 
 // Does the job, in threads of this handle, which may wait for one another, and answers the status.
-fn done<W: Wait + Sync, T: Threads + Sync>(wait: &W, threads: &T, rt: &HostRuntime, job: &Job) -> u8
+fn run_job<W: Wait + Sync, T: Threads + Sync>(
+    wait: &W,
+    threads: &T,
+    rt: &HostRuntime,
+    job: &Job,
+) -> u8
     requires { IsReady job.now }
 {
     let Ok(mut sources) = sources_of(rt, &job.names) else {
-        return told(rt, &JobFault::NoMemory);
+        return report(rt, &JobFault::NoMemory);
     };
     let errors = rt.stderr();
     let mut out = OutputSink::new(io::writer(rt));
@@ -85,7 +90,7 @@ fn done<W: Wait + Sync, T: Threads + Sync>(wait: &W, threads: &T, rt: &HostRunti
 }
 
 // Prints why there is no job, and answers the status.
-fn told(rt: &HostRuntime, fault: &JobFault) -> u8 {
+fn report(rt: &HostRuntime, fault: &JobFault) -> u8 {
     let errors = rt.stderr();
     let mut out = OutputSink::new(io::writer(rt));
     let mut err = OutputSink::new(io::writer(&errors));
@@ -93,9 +98,9 @@ fn told(rt: &HostRuntime, fault: &JobFault) -> u8 {
 }
 
 fn main(rt: HostRuntime) -> ExitCode {
-    let status = match asked(&rt) {
-        Ok(job) => done(&rt, &rt, &rt, &job),
-        Err(fault) => told(&rt, &fault),
+    let status = match requested_job(&rt) {
+        Ok(job) => run_job(&rt, &rt, &rt, &job),
+        Err(fault) => report(&rt, &fault),
     };
     ExitCode::from(status)
 }

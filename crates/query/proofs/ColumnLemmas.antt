@@ -1,4 +1,4 @@
--- Fields and what is told of them.
+-- Fields and what is reported of them.
 use Rattle.std.proofs.Common.{◌≡◌, ◌∙◌, ℕ, ◌<◌, ◌≤◌, List, length, get_or, option_map, position, Ok, Err, ap, refl}
 use Rattle.std.specs.Prelude.{string_bytes, unwrap_or}
 use Rattle.std.proofs.lemmas.List.{length-map}

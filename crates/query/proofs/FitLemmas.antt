@@ -10,7 +10,7 @@ use Rattle.query.specs.declared.expr.Agg.TheVariants.{Rows, Count, Sum, Least, G
 use Rattle.query.specs.declared.fault.QueryFault.{QueryFault}
 use Rattle.query.specs.declared.fault.QueryFault.TheVariants.{WrongKind}
 use Rattle.query.specs.declared.sort.Sort.{Sort}
-use Rattle.query.specs.Asked.{Asked}
+use Rattle.query.specs.QueryShape.{QueryShape}
 use Rattle.query.specs.Checked.{and_then, checked, all_checked, sort_of_operator}
 use Rattle.query.specs.Columns.{place_of, sort_at, sort_named}
 use Rattle.query.specs.Fault.{agg_fault, fault_unless, filter_fault, fits, is_too_deep, key_fault, query_fault}
@@ -46,7 +46,7 @@ aggs-renamed sort_in f (a ∷ aggs) =
     ap (λ o. o ∷ map (agg_fault sort_in) (map (renamed_agg f) aggs)) (agg_fault-renamed sort_in f a)
     ∙ ap (λ os. agg_fault (λ c. sort_in (f c)) a ∷ os) (aggs-renamed sort_in f aggs)
 
-pub query_fault-renamed : {C D : Type 0} (sort_in : D → Result Sort QueryFault) (f : C → D) (q : Asked C)
+pub query_fault-renamed : {C D : Type 0} (sort_in : D → Result Sort QueryFault) (f : C → D) (q : QueryShape C)
     → query_fault sort_in (renamed_query f q) ≡ query_fault (λ c. sort_in (f c)) q
 query_fault-renamed sort_in f q =
     ap (λ o. first (o ∷ first (map (key_fault sort_in) (map f q.by)) ∷ first (map (agg_fault sort_in) (map (renamed_agg f) q.aggs)) ∷ [])) (filter_fault-renamed sort_in f q.filter)
@@ -112,7 +112,7 @@ module _ {C : Type 0} (by_name by_place : C → Result Sort QueryFault) (same : 
       let d = first-none (agg_fault by_name a) (map (agg_fault by_name) aggs) h in
       ap (λ o. first (o ∷ map (agg_fault by_place) aggs)) (agg-same a d.0) ∙ aggs-same aggs d.1
 
-  query-same : (q : Asked C) → query_fault by_name q ≡ None → query_fault by_place q ≡ None
+  query-same : (q : QueryShape C) → query_fault by_name q ≡ None → query_fault by_place q ≡ None
   query-same q h =
       let d = first-none (filter_fault by_name q.filter) (first (map (key_fault by_name) q.by) ∷ first (map (agg_fault by_name) q.aggs) ∷ []) h in
       let e = first-none (first (map (key_fault by_name) q.by)) (first (map (agg_fault by_name) q.aggs) ∷ []) d.1 in
@@ -132,7 +132,7 @@ named-placed : (fields : List FieldShape) (name : List ℕ) (s : Sort) → sort_
 named-placed fields name s h = by_count _ _ _ _ _ s h
 
 -- a query without a fault by name fits by position
-pub fits-renamed : (fields : List FieldShape) (q : Asked (List ℕ)) → is_too_deep q.filter ≡ false → query_fault (sort_named fields) q ≡ None
+pub fits-renamed : (fields : List FieldShape) (q : QueryShape (List ℕ)) → is_too_deep q.filter ≡ false → query_fault (sort_named fields) q ≡ None
     → fits fields (renamed_query (place_of fields) q) ≡ true
 fits-renamed fields q shallow h =
     ap (λ b. not b && is_none (query_fault (sort_at fields) (renamed_query (place_of fields) q))) (is_too_deep-renamed (place_of fields) q.filter ∙ shallow)
@@ -159,8 +159,8 @@ filter-twice : {B C D : Type 0} (g : C → D) (f : B → C) (filter : Option (Tr
 filter-twice g f None = refl
 filter-twice g f (Some t) = ap Some (renamed-renamed g f t)
 
-pub query-twice : {B C D : Type 0} (g : C → D) (f : B → C) (q : Asked B) → renamed_query g (renamed_query f q) ≡ renamed_query (λ c. g (f c)) q
+pub query-twice : {B C D : Type 0} (g : C → D) (f : B → C) (q : QueryShape B) → renamed_query g (renamed_query f q) ≡ renamed_query (λ c. g (f c)) q
 query-twice {B} {C} {D} g f q =
     ap (λ (t : Option (Tree D)). record { filter = t; by = map g (map f q.by); aggs = map (renamed_agg g) (map (renamed_agg f) q.aggs) }) (filter-twice g f q.filter)
     ∙ ap (λ (ks : List D). record { filter = option_map (renamed (λ c. g (f c))) q.filter; by = ks; aggs = map (renamed_agg g) (map (renamed_agg f) q.aggs) }) (keys-twice g f q.by)
-    ∙ ap (λ (told : List (Agg D)). record { filter = option_map (renamed (λ c. g (f c))) q.filter; by = map (λ c. g (f c)) q.by; aggs = told }) (aggs-twice g f q.aggs)
+    ∙ ap (λ (reported : List (Agg D)). record { filter = option_map (renamed (λ c. g (f c))) q.filter; by = map (λ c. g (f c)) q.by; aggs = reported }) (aggs-twice g f q.aggs)

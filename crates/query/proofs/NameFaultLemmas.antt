@@ -14,7 +14,7 @@ use Rattle.query.specs.declared.expr.Agg.TheVariants.{Rows, Count, Sum, Least, G
 use Rattle.query.specs.declared.fault.QueryFault.{QueryFault}
 use Rattle.query.specs.declared.fault.QueryFault.TheVariants.{AmbiguousColumn, NoColumn, TooDeep, WrongKind}
 use Rattle.query.specs.declared.sort.Sort.{Sort}
-use Rattle.query.specs.Asked.{Asked}
+use Rattle.query.specs.QueryShape.{QueryShape}
 use Rattle.query.specs.Checked.{and_then, checked, all_checked, sort_of_operator}
 use Rattle.query.specs.Columns.{has_name, place_of, sort_at, sort_named, sort_of_field}
 use Rattle.query.specs.Fault.{agg_fault, fault_unless, filter_fault, is_too_deep, key_fault, query_fault}
@@ -116,7 +116,7 @@ module _ {C : Type 0} (sort_in : C → Result Sort QueryFault) (test : C → Boo
   only None h = absurd cc
   only (Some x) h = h
 
-  pub query-fault : (q : Asked C) → query_fault sort_in q ≡ Some e → list_any test (columns q) ≡ true
+  pub query-fault : (q : QueryShape C) → query_fault sort_in q ≡ Some e → list_any test (columns q) ≡ true
   query-fault q h =
       let keys = first (map (key_fault sort_in) q.by) in
       let aggs = first (map (agg_fault sort_in) q.aggs) in
@@ -132,7 +132,7 @@ module _ {C : Type 0} (sort_in : C → Result Sort QueryFault) (test : C → Boo
 
 -- ---- names
 
-resolved-fault : (deep : Bool) (fault : Option QueryFault) (q : Asked ℕ) (e : QueryFault) → e ≢ TooDeep → cond deep (Err TooDeep) (unless_fault fault q) ≡ Err e → fault ≡ Some e
+resolved-fault : (deep : Bool) (fault : Option QueryFault) (q : QueryShape ℕ) (e : QueryFault) → e ≢ TooDeep → cond deep (Err TooDeep) (unless_fault fault q) ≡ Err e → fault ≡ Some e
 resolved-fault true fault q e other h = absurd (other cc)
 resolved-fault false (Some f) q e other h = cc
 resolved-fault false None q e other h = absurd cc
@@ -149,7 +149,7 @@ several false false n r never i j h = grind (arith, nat_tests)
 named-ambiguous : (fields : List FieldShape) (name : List ℕ) → sort_named fields name ≡ Err AmbiguousColumn → nat_lt 1 (count_by (has_name name) fields) ≡ true
 named-ambiguous fields name h = several _ _ (count_by (has_name name) fields) (sort_at fields (place_of fields name)) (never-ambiguous (slice_get fields (place_of fields name))) refl refl h
 
-pub names-ambiguous : (fields : List FieldShape) (q : Asked (List ℕ)) → resolved fields q ≡ Err AmbiguousColumn → list_any (λ name. nat_lt 1 (count_by (has_name name) fields)) (columns q) ≡ true
+pub names-ambiguous : (fields : List FieldShape) (q : QueryShape (List ℕ)) → resolved fields q ≡ Err AmbiguousColumn → list_any (λ name. nat_lt 1 (count_by (has_name name) fields)) (columns q) ≡ true
 names-ambiguous fields q h =
     query-fault (sort_named fields) (λ name. nat_lt 1 (count_by (has_name name) fields)) AmbiguousColumn (λ is. cc) (named-ambiguous fields) q
     (resolved-fault (is_too_deep q.filter) (query_fault (sort_named fields) q) (renamed_query (place_of fields) q) AmbiguousColumn (λ is. cc) h)
@@ -189,7 +189,7 @@ no_field false false n r found i j h = absurd cc
 named-missing : (fields : List FieldShape) (name : List ℕ) → sort_named fields name ≡ Err NoColumn → (count_by (has_name name) fields == 0) ≡ true
 named-missing fields name h = no_field _ _ (count_by (has_name name) fields) (sort_at fields (place_of fields name)) (named-there fields name) refl refl h
 
-pub names-missing : (fields : List FieldShape) (q : Asked (List ℕ)) → resolved fields q ≡ Err NoColumn → list_any (λ name. count_by (has_name name) fields == 0) (columns q) ≡ true
+pub names-missing : (fields : List FieldShape) (q : QueryShape (List ℕ)) → resolved fields q ≡ Err NoColumn → list_any (λ name. count_by (has_name name) fields == 0) (columns q) ≡ true
 names-missing fields q h =
     query-fault (sort_named fields) (λ name. count_by (has_name name) fields == 0) NoColumn (λ is. cc) (named-missing fields) q
     (resolved-fault (is_too_deep q.filter) (query_fault (sort_named fields) q) (renamed_query (place_of fields) q) NoColumn (λ is. cc) h)

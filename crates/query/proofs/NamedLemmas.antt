@@ -14,7 +14,7 @@ use Rattle.query.specs.declared.expr.Agg.TheVariants.{Rows, Count, Sum, Least, G
 use Rattle.query.specs.declared.fault.QueryFault.{QueryFault}
 use Rattle.query.specs.declared.fault.QueryFault.TheVariants.{AmbiguousColumn, NoColumn, TooDeep, WrongKind}
 use Rattle.query.specs.declared.sort.Sort.{Sort}
-use Rattle.query.specs.Asked.{Asked}
+use Rattle.query.specs.QueryShape.{QueryShape}
 use Rattle.query.specs.Checked.{and_then, checked, all_checked, sort_of_operator}
 use Rattle.query.specs.Columns.{has_name, place_of, sort_at, sort_named, sort_of_field}
 use Rattle.query.specs.Fault.{agg_fault, fault_unless, filter_fault, fits, is_too_deep, key_fault, query_fault}
@@ -88,7 +88,7 @@ module _ {C : Type 0} (sort_in : C → Result Sort QueryFault) (test : C → Boo
       let d = first-none (agg_fault sort_in a) (map (agg_fault sort_in) aggs) h in
       joined (agg_columns a) (columns_of_aggs aggs) (agg-columns a d.0) (aggs-columns aggs d.1)
 
-  pub query-columns : (q : Asked C) → query_fault sort_in q ≡ None → list_all test (columns q) ≡ true
+  pub query-columns : (q : QueryShape C) → query_fault sort_in q ≡ None → list_all test (columns q) ≡ true
   query-columns q h =
       let d = first-none (filter_fault sort_in q.filter) (first (map (key_fault sort_in) q.by) ∷ first (map (agg_fault sort_in) q.aggs) ∷ []) h in
       let e = first-none (first (map (key_fault sort_in) q.by)) (first (map (agg_fault sort_in) q.aggs) ∷ []) d.1 in
@@ -113,7 +113,7 @@ fits-faultless true fault h = absurd cc
 fits-faultless false None h = refl
 fits-faultless false (Some e) h = absurd cc
 
-pub positions-within : (fields : List FieldShape) (q : Asked ℕ) → fits fields q ≡ true → list_all (λ place. nat_lt place (length fields)) (columns q) ≡ true
+pub positions-within : (fields : List FieldShape) (q : QueryShape ℕ) → fits fields q ≡ true → list_all (λ place. nat_lt place (length fields)) (columns q) ≡ true
 positions-within fields q h =
     query-columns (sort_at fields) (λ place. nat_lt place (length fields)) (place-within fields) q
     (fits-faultless (is_too_deep q.filter) (query_fault (sort_at fields) q) h)
@@ -128,12 +128,12 @@ once-only false false r s h = absurd cc
 named-once : (fields : List FieldShape) (name : List ℕ) (s : Sort) → sort_named fields name ≡ Ok s → (count_by (has_name name) fields == 1) ≡ true
 named-once fields name s h = once-only _ _ _ s h
 
-resolved-faultless : (deep : Bool) (fault : Option QueryFault) (q r : Asked ℕ) → cond deep (Err TooDeep) (unless_fault fault q) ≡ Ok r → (fault ≡ None) × (q ≡ r)
+resolved-faultless : (deep : Bool) (fault : Option QueryFault) (q r : QueryShape ℕ) → cond deep (Err TooDeep) (unless_fault fault q) ≡ Ok r → (fault ≡ None) × (q ≡ r)
 resolved-faultless true fault q r h = absurd cc
 resolved-faultless false (Some e) q r h = absurd cc
 resolved-faultless false None q r h = (refl, cc)
 
-pub names-once : (fields : List FieldShape) (q : Asked (List ℕ)) (r : Asked ℕ) → resolved fields q ≡ Ok r → list_all (λ name. count_by (has_name name) fields == 1) (columns q) ≡ true
+pub names-once : (fields : List FieldShape) (q : QueryShape (List ℕ)) (r : QueryShape ℕ) → resolved fields q ≡ Ok r → list_all (λ name. count_by (has_name name) fields == 1) (columns q) ≡ true
 names-once fields q r h =
     query-columns (sort_named fields) (λ name. count_by (has_name name) fields == 1) (named-once fields) q
     (resolved-faultless (is_too_deep q.filter) (query_fault (sort_named fields) q) (renamed_query (place_of fields) q) r h).0
@@ -174,14 +174,14 @@ columns_of_aggs-renamed f (a ∷ aggs) =
     ∙ ap (λ ys. map f (agg_columns a) ++ ys) (columns_of_aggs-renamed f aggs)
     ∙ sym (map-append f (agg_columns a) (columns_of_aggs aggs))
 
-columns-renamed : {B D : Type 0} (f : B → D) (q : Asked B) → columns (renamed_query f q) ≡ map f (columns q)
+columns-renamed : {B D : Type 0} (f : B → D) (q : QueryShape B) → columns (renamed_query f q) ≡ map f (columns q)
 columns-renamed f q =
     ap (λ xs. xs ++ (map f q.by ++ columns_of_aggs (map (renamed_agg f) q.aggs))) (filter_columns-renamed f q.filter)
     ∙ ap (λ ys. map f (filter_columns q.filter) ++ (map f q.by ++ ys)) (columns_of_aggs-renamed f q.aggs)
     ∙ ap (λ ys. map f (filter_columns q.filter) ++ ys) (sym (map-append f q.by (columns_of_aggs q.aggs)))
     ∙ sym (map-append f (filter_columns q.filter) (q.by ++ columns_of_aggs q.aggs))
 
-pub names-placed : (fields : List FieldShape) (q : Asked (List ℕ)) (r : Asked ℕ) → resolved fields q ≡ Ok r → columns r ≡ map (place_of fields) (columns q)
+pub names-placed : (fields : List FieldShape) (q : QueryShape (List ℕ)) (r : QueryShape ℕ) → resolved fields q ≡ Ok r → columns r ≡ map (place_of fields) (columns q)
 names-placed fields q r h =
     let d = resolved-faultless (is_too_deep q.filter) (query_fault (sort_named fields) q) (renamed_query (place_of fields) q) r h in
     ap columns (sym d.1) ∙ columns-renamed (place_of fields) q

@@ -6,7 +6,7 @@ use Rattle.query.specs.declared.fault.QueryFault.{QueryFault}
 use Rattle.query.specs.declared.fault.QueryFault.TheVariants.{TooDeep}
 use Rattle.query.specs.declared.expr.Agg.{Agg}
 use Rattle.query.specs.declared.queries.QueryText.{QueryText}
-use Rattle.query.specs.Asked.{Asked}
+use Rattle.query.specs.QueryShape.{QueryShape}
 use Rattle.query.specs.Columns.{place_of, sort_named}
 use Rattle.query.specs.Fault.{fits, is_too_deep, query_fault}
 use Rattle.query.specs.Resolved.{renamed_query, resolved, unless_fault, written}
@@ -21,16 +21,16 @@ pub fault-written : (fields : List FieldShape) (text : QueryText) (by : List (St
 fault-written fields text by aggs fault is same_by same_aggs =
     is
     ∙ ap (λ (names : List (String Global)). query_fault (λ name. sort_named fields (string_bytes name)) (record { filter = option_map tree_of text.filter; by = names; aggs = aggs })) same_by
-    ∙ ap (λ (told : List (Agg (String Global))). query_fault (λ name. sort_named fields (string_bytes name)) (record { filter = option_map tree_of text.filter; by = text.by.items; aggs = told })) same_aggs
+    ∙ ap (λ (reported : List (Agg (String Global))). query_fault (λ name. sort_named fields (string_bytes name)) (record { filter = option_map tree_of text.filter; by = text.by.items; aggs = reported })) same_aggs
 
 -- too deep
-pub resolved-deep : (fields : List FieldShape) (q : Asked (String Global)) → is_too_deep q.filter ≡ true → resolved fields (renamed_query string_bytes q) ≡ Err TooDeep
+pub resolved-deep : (fields : List FieldShape) (q : QueryShape (String Global)) → is_too_deep q.filter ≡ true → resolved fields (renamed_query string_bytes q) ≡ Err TooDeep
 resolved-deep fields q deep =
     let names = renamed_query string_bytes q in
     ap (λ b. cond b (Err TooDeep) (unless_fault (query_fault (sort_named fields) names) (renamed_query (place_of fields) names))) (is_too_deep-renamed string_bytes q.filter ∙ deep)
 
 -- not too deep
-pub resolved-shallow : (fields : List FieldShape) (q : Asked (String Global)) (fault : Option QueryFault) → is_too_deep q.filter ≡ false
+pub resolved-shallow : (fields : List FieldShape) (q : QueryShape (String Global)) (fault : Option QueryFault) → is_too_deep q.filter ≡ false
     → fault ≡ query_fault (λ name. sort_named fields (string_bytes name)) q
     → resolved fields (renamed_query string_bytes q) ≡ unless_fault fault (renamed_query (λ name. place_of fields (string_bytes name)) q)
 resolved-shallow fields q fault shallow is =
@@ -40,7 +40,7 @@ resolved-shallow fields q fault shallow is =
     ∙ ap (unless_fault fault) (query-twice (place_of fields) string_bytes q)
 
 -- what is left where no fault stands fits
-pub fits-placed : (fields : List FieldShape) (q : Asked (String Global)) → is_too_deep q.filter ≡ false
+pub fits-placed : (fields : List FieldShape) (q : QueryShape (String Global)) → is_too_deep q.filter ≡ false
     → None ≡ query_fault (λ name. sort_named fields (string_bytes name)) q
     → fits fields (renamed_query (λ name. place_of fields (string_bytes name)) q) ≡ true
 fits-placed fields q shallow is =
@@ -54,6 +54,6 @@ handed_on (Ok x) fault P h p = tt
 handed_on (Err e) fault P h p = subst P (sym h) p
 
 -- a query
-pub IsOk-query : (r : Result (Asked ℕ) QueryFault) (q : Asked ℕ) → r ≡ Ok q → IsOk r
+pub IsOk-query : (r : Result (QueryShape ℕ) QueryFault) (q : QueryShape ℕ) → r ≡ Ok q → IsOk r
 IsOk-query (Ok x) q h = refl
 IsOk-query (Err e) q h = absurd cc

@@ -7,7 +7,7 @@ use Rattle.query.specs.declared.expr.Agg.TheVariants.{Rows, Count, Sum, Least, G
 use Rattle.query.specs.declared.fault.QueryFault.{QueryFault}
 use Rattle.query.specs.declared.fault.QueryFault.TheVariants.{WrongKind}
 use Rattle.query.specs.declared.sort.Sort.{Sort}
-use Rattle.query.specs.Asked.{Asked}
+use Rattle.query.specs.QueryShape.{QueryShape}
 use Rattle.query.specs.Checked.{checked}
 use Rattle.query.specs.Columns.{sort_at}
 use Rattle.query.specs.Sorts.{is_int, is_plain, is_truth}
@@ -35,7 +35,7 @@ agg_fault sort_in (Least c) = fault_unless is_plain (sort_in c)
 agg_fault sort_in (Greatest c) = fault_unless is_plain (sort_in c)
 
 -- What calls a column gives its sort, or the fault.
-abbrev pub query_fault : {C : Type 0} → (C → Result Sort QueryFault) → Asked C → Option QueryFault
+abbrev pub query_fault : {C : Type 0} → (C → Result Sort QueryFault) → QueryShape C → Option QueryFault
 query_fault sort_in q = first (
     filter_fault sort_in q.filter
     ∷ first (map (key_fault sort_in) q.by)
@@ -52,5 +52,5 @@ is_too_deep (Some t) = nat_lt 32 (depth t)
 -- ---- queries over the fields of a schema
 
 -- No fault stands, neither of columns nor of kinds nor of depth.
-abbrev pub fits : List FieldShape → Asked ℕ → Bool
+abbrev pub fits : List FieldShape → QueryShape ℕ → Bool
 fits fields q = not (is_too_deep q.filter) && is_none (query_fault (sort_at fields) q)

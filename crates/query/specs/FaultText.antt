@@ -1,4 +1,4 @@
--- How a query's fault is told.
+-- How a query's fault is reported.
 use Rattle.std.specs.Prelude.{ℕ, List, ◌++◌, codes}
 use Rattle.std.specs.Fmt.{decimal}
 use Rattle.query.specs.declared.fault.QueryFault.{QueryFault}

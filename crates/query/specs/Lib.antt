@@ -4,7 +4,7 @@ pub mod FaultText
 pub mod Sorts
 pub mod Checked
 pub mod Columns
-pub mod Asked
+pub mod QueryShape
 pub mod Fault
 pub mod Resolved
 pub mod Named

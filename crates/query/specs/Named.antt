@@ -2,7 +2,7 @@
 use Rattle.std.specs.Prelude.{List, [], ◌∷◌, ◌++◌, Option, Some, None}
 use Rattle.query.specs.declared.expr.Agg.{Agg}
 use Rattle.query.specs.declared.expr.Agg.TheVariants.{Rows, Count, Sum, Least, Greatest}
-use Rattle.query.specs.Asked.{Asked}
+use Rattle.query.specs.QueryShape.{QueryShape}
 use Rattle.query.specs.Tree.{Tree, column, int, text, op, Trees, none, one}
 
 abbrev mutual
@@ -31,5 +31,5 @@ abbrev pub columns_of_aggs : {C : Type 0} → List (Agg C) → List C
 columns_of_aggs [] = []
 columns_of_aggs (a ∷ aggs) = agg_columns a ++ columns_of_aggs aggs
 
-abbrev pub columns : {C : Type 0} → Asked C → List C
+abbrev pub columns : {C : Type 0} → QueryShape C → List C
 columns q = filter_columns q.filter ++ (q.by ++ columns_of_aggs q.aggs)

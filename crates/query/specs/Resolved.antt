@@ -8,7 +8,7 @@ use Rattle.query.specs.declared.expr.Agg.TheVariants.{Rows, Count, Sum, Least, G
 use Rattle.query.specs.declared.fault.QueryFault.{QueryFault}
 use Rattle.query.specs.declared.fault.QueryFault.TheVariants.{TooDeep}
 use Rattle.query.specs.declared.queries.QueryText.{QueryText}
-use Rattle.query.specs.Asked.{Asked}
+use Rattle.query.specs.QueryShape.{QueryShape}
 use Rattle.query.specs.Columns.{place_of, sort_named}
 use Rattle.query.specs.Fault.{is_too_deep, query_fault}
 use Rattle.query.specs.Tree.{Tree, column, int, text, op, Trees, none, one, tree_of}
@@ -33,17 +33,17 @@ renamed_agg f (Sum c) = Sum (f c)
 renamed_agg f (Least c) = Least (f c)
 renamed_agg f (Greatest c) = Greatest (f c)
 
-abbrev pub renamed_query : {C D : Type 0} → (C → D) → Asked C → Asked D
+abbrev pub renamed_query : {C D : Type 0} → (C → D) → QueryShape C → QueryShape D
 renamed_query f q = record { filter = option_map (renamed f) q.filter; by = map f q.by; aggs = map (renamed_agg f) q.aggs }
 
 -- ---- queries by name
 
 -- A query as it is written.
-abbrev pub written : QueryText → Asked (String Global)
+abbrev pub written : QueryText → QueryShape (String Global)
 written q = record { filter = option_map tree_of q.filter; by = q.by.items; aggs = q.aggs.items }
 
 -- The same, its names as bytes.
-abbrev pub named : QueryText → Asked (List ℕ)
+abbrev pub named : QueryText → QueryShape (List ℕ)
 named q = renamed_query string_bytes (written q)
 
 -- The position that the name of a column becomes.
@@ -51,11 +51,11 @@ abbrev pub place_in : List FieldShape → String Global → ℕ
 place_in fields name = place_of fields (string_bytes name)
 
 -- Where no fault stands, the first of all coming first, each name is replaced by its column's position.
-abbrev pub unless_fault : Option QueryFault → Asked ℕ → Result (Asked ℕ) QueryFault
+abbrev pub unless_fault : Option QueryFault → QueryShape ℕ → Result (QueryShape ℕ) QueryFault
 unless_fault None q = Ok q
 unless_fault (Some fault) q = Err fault
 
-abbrev pub resolved : List FieldShape → Asked (List ℕ) → Result (Asked ℕ) QueryFault
+abbrev pub resolved : List FieldShape → QueryShape (List ℕ) → Result (QueryShape ℕ) QueryFault
 resolved fields q =
     if is_too_deep q.filter then Err TooDeep
     else unless_fault (query_fault (sort_named fields) q) (renamed_query (place_of fields) q)

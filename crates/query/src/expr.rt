@@ -32,7 +32,7 @@ pub enum Expr<C> {
     Op(Op, Vec<Expr<C>>),
 }
 
-/// What is told of a group of rows.
+/// An aggregate over a group of rows.
 #[derive(Clone, Copy, Debug, Drop, PartialEq, Eq)]
 pub enum Agg<C> {
     /// How many rows there are.

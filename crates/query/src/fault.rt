@@ -62,7 +62,7 @@ impl<T: Drop> From<AllocFailed<T>> for QueryFault {
     }
 }
 
-/// The fault as it is told: its number and name, then its field.
+/// The fault as it is reported: its number and name, then its field.
 pub fn query_fault_text(alloc: Global, fault: QueryFault) -> Result<String, NoMemory>
     ensures { IfOk result (λ text. string_bytes text ≡ query_fault_text fault) }
 {

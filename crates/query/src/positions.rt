@@ -2,7 +2,7 @@
 
 ghost use Rattle.std.specs.Prelude.{◌≡◌, ◌⊎◌, true, map, option_map, IfOk, IfErr, IsOk, Ok, Err};
 ghost use Rattle.types.specs.Shape.{fields_of};
-ghost use Rattle.query.specs.Asked.{asked};
+ghost use Rattle.query.specs.QueryShape.{query_shape};
 ghost use Rattle.query.specs.Columns.{place_of};
 ghost use Rattle.query.specs.Fault.{fits};
 ghost use Rattle.query.specs.Resolved.{named, place_in, renamed, renamed_agg, renamed_query, resolved, written};
@@ -18,13 +18,13 @@ use colbits::NoMemory;
 use std::alloc::Global;
 use types::{Field, Schema};
 
-/// The query over the fields of a schema that the text asks for. A filter that is too deep is told first; then the walk
+/// The query over the fields of a schema that the text asks for. A filter that is too deep is reported first; then the walk
 /// goes through the filter, the keys and the aggregates, operands before their operator and from left to right, and tells the
-/// first fault that it meets. Want of memory is told only where there is no fault: where a growth was refused, and where 2^32
+/// first fault that it meets. Want of memory is reported only where there is no fault: where a growth was refused, and where 2^32
 /// fields or more come before a column, since a query's positions have 32 bits. It goes down 33 levels at most.
 pub fn resolve(alloc: Global, text: &QueryText, schema: &Schema) -> Result<Query, QueryFault>
-    ensures ok { IfOk result (λ q. resolved schema.now (named text.now) ≡ Ok (asked q)) }
-    ensures fits { IfOk result (λ q. fits schema.now (asked q) ≡ true) }
+    ensures ok { IfOk result (λ q. resolved schema.now (named text.now) ≡ Ok (query_shape q)) }
+    ensures fits { IfOk result (λ q. fits schema.now (query_shape q) ≡ true) }
     ensures err { IfErr result (λ e. (resolved schema.now (named text.now) ≡ Err e)
         ⊎ ((e ≡ QueryFault.NoMemory) × IsOk (resolved schema.now (named text.now)))) }
 {
@@ -37,7 +37,7 @@ pub fn resolve(alloc: Global, text: &QueryText, schema: &Schema) -> Result<Query
 
 /// The query with each name replaced by its column's position.
 fn placed_query(alloc: Global, text: &QueryText, fields: &[Field]) -> Result<Query, NoMemory>
-    ensures { IfOk result (λ q. asked q ≡ renamed_query (place_in (fields_of fields.now))
+    ensures { IfOk result (λ q. query_shape q ≡ renamed_query (place_in (fields_of fields.now))
         (written text.now)) }
 {
     Ok(Query {

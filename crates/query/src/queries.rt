@@ -1,7 +1,7 @@
 //! Whole queries, by name and by position.
 
 ghost use Rattle.std.specs.Prelude.{◌≡◌};
-ghost use Rattle.query.specs.Asked.{asked};
+ghost use Rattle.query.specs.QueryShape.{query_shape};
 ghost use Rattle.query.specs.Fault.{fits};
 
 use crate::expr::{Agg, Expr};
@@ -17,7 +17,7 @@ pub struct QueryText {
     pub filter: Option<Expr<String>>,
     /// The columns whose items together are the key of a group.
     pub by: ArrayVec<String, 4, Global>,
-    /// What is told of each group.
+    /// The aggregates of each group.
     pub aggs: Vec<Agg<String>>,
 }
 
@@ -28,7 +28,7 @@ pub struct Query {
     pub filter: Option<Expr<u32>>,
     /// The columns whose items together are the key of a group.
     pub by: ArrayVec<u32, 4>,
-    /// What is told of each group.
+    /// The aggregates of each group.
     pub aggs: Vec<Agg<u32>>,
 }
 
@@ -36,7 +36,7 @@ impl Query {
     /// Whether it is a query over the fields of the schema: each position is that of a field, all kinds are right, and no path
     /// of the filter has more than 32 expressions. It takes no memory, and goes down 33 levels at most.
     pub fn fits(&self, schema: &Schema) -> bool
-        ensures { result ≡ fits schema.now (asked self.now) }
+        ensures { result ≡ fits schema.now (query_shape self.now) }
     {
         !is_too_deep(&self.filter)
             && check_parts(&self.filter, &self.by, &self.aggs, schema).is_ok()

@@ -32,8 +32,8 @@ full-picked w items picks j pick old x at is of full =
     full-grows w (text_bytes (old ++ x ∷ [])) (text_bytes (picked items picks))
     (omega (arith, ap text_bytes front, sum_by-take-le text_length (picked items picks) (j + 1))) full
 
--- a builder's fault, told of all
-pub told_of_all : {T : Type 0} (r : Result T SelectFault) (b : BuildFault) (one all : Bool) → IsErrAnd r (λ e. e ≡ of_build b)
+-- a builder's fault, reported of all
+pub reported_of_all : {T : Type 0} (r : Result T SelectFault) (b : BuildFault) (one all : Bool) → IsErrAnd r (λ e. e ≡ of_build b)
     → IsBuildFault one b → (one ≡ true → all ≡ true) → IfErr r (IsFull all)
-told_of_all (Ok v) b one all same told grows = tt
-told_of_all (Err e) b one all same told grows = elim told [ inl h ↦ inl (same ∙ ap of_build h.0, grows h.1) | inr h ↦ inr (same ∙ ap of_build h.0) ]
+reported_of_all (Ok v) b one all same reported grows = tt
+reported_of_all (Err e) b one all same reported grows = elim reported [ inl h ↦ inl (same ∙ ap of_build h.0, grows h.1) | inr h ↦ inr (same ∙ ap of_build h.0) ]

@@ -26,14 +26,14 @@ use Rattle.select.proofs.PickLemmas.{picked-by_place}
 -- the bits of the rows from place a on
 pub bits-here : (validity : Option (List Bool)) (picks rest : List (Option ℕ)) (a n word : ℕ) → rest ≡ drop a picks
     → ((k : ℕ) → bit_in word k ≡ (nat_lt k n && is_stored validity (get_or rest k None))) → (k : ℕ) → bit_in word k ≡ (nat_lt k n && is_stored validity (get_or picks (a + k) None))
-bits-here validity picks rest a n word is told k =
-    told k ∙ ap (λ p. nat_lt k n && is_stored validity p) (ap (λ l. get_or l k None) is ∙ get_or-drop a picks k None)
+bits-here validity picks rest a n word is reported k =
+    reported k ∙ ap (λ p. nat_lt k n && is_stored validity p) (ap (λ l. get_or l k None) is ∙ get_or-drop a picks k None)
 
 -- those of 64 rows
 pub bits-word : (validity : Option (List Bool)) (picks rest : List (Option ℕ)) (a word : ℕ) → rest ≡ drop a picks
     → ((k : ℕ) → bit_in word k ≡ (nat_lt k 64 && is_stored validity (get_or rest k None))) → (j : ℕ) → j < 64 → bit_in word j ≡ is_stored validity (get_or picks (a + j) None)
-bits-word validity picks rest a word is told j below =
-    bits-here validity picks rest a 64 word is told j ∙ ap (λ b. b && is_stored validity (get_or picks (a + j) None)) (lt-ltb j 64 below)
+bits-word validity picks rest a word is reported j below =
+    bits-here validity picks rest a 64 word is reported j ∙ ap (λ b. b && is_stored validity (get_or picks (a + j) None)) (lt-ltb j 64 below)
 
 -- packed places are a bitmap
 pub packed-bitmap : (f : ℕ → Bool) (n m : ℕ) (bytes : List ℕ) → n ≡ m → ArePlaces f n bytes → IsBitmapOf bytes (map f (range_with_len 0 m))

@@ -29,10 +29,10 @@ pub lists_finished : (w v : OffsetWidth) (offsets : List ℕ) (s child made : Se
     → shown (kind.lists v made.kind) (cut lengths made.items) ≡ chosen s.kind (λ xs. picked xs picks) s
 lists_finished w v offsets s child made picks rows lengths has kind_is same within lengths_are rows_are is =
     let items = picked s.items picks in
-    let held : made.items ≡ inner_items items = ap (λ (s : Seen). s.items) is ∙ items-chosen child.kind (λ xs. picked xs rows) child ∙ rows_are in
+    let present : made.items ≡ inner_items items = ap (λ (s : Seen). s.items) is ∙ items-chosen child.kind (λ xs. picked xs rows) child ∙ rows_are in
     ap (λ u. shown (kind.lists u made.kind) (cut lengths made.items)) same
     ∙ ap (λ k. shown (kind.lists w k) (cut lengths made.items)) (kind_finished child made rows is)
     ∙ ap (λ l. shown (kind.lists w child.kind) (cut l made.items)) lengths_are
-    ∙ ap (λ l. shown (kind.lists w child.kind) (cut (map list_length items) l)) held
+    ∙ ap (λ l. shown (kind.lists w child.kind) (cut (map list_length items) l)) present
     ∙ ap (shown (kind.lists w child.kind)) (cut-again items (lists-picked offsets child s picks has within))
     ∙ ap (λ k. chosen k (λ xs. picked xs picks) s) (sym kind_is)

@@ -234,10 +234,10 @@ kinds-of columns k all = λ i d below. same_kinds (get_or columns i d).kind k (A
 pub kind-here : (kind : Kind) (columns : List Seen) (k : ℕ) (s : Seen) → k < length columns → s ≡ get_or columns k s → All (λ (c : Seen). c.kind ≡ kind) columns → s.kind ≡ kind
 kind-here kind columns k s below at all = ap (λ (c : Seen). c.kind) at ∙ all k s below
 
--- a fault of a part, told of all
+-- a fault of a part, reported of all
 pub full-more : {T : Type 0} (r : Result T SelectFault) (one all : Bool) → (one ≡ true → all ≡ true) → IfErr r (IsFull one) → IfErr r (IsFull all)
-full-more r one all grows told =
-    IfErr-weaker r (IsFull one) (IsFull all) (λ e t. elim t [ inl h ↦ inl (h.0, grows h.1) | inr h ↦ inr h ]) told
+full-more r one all grows reported =
+    IfErr-weaker r (IsFull one) (IsFull all) (λ e t. elim t [ inl h ↦ inl (h.0, grows h.1) | inr h ↦ inr h ]) reported
 
 pub rest-length : {A : Type 0} (f : Seen → List A) (columns : List Seen) (k : ℕ) (s : Seen) → k < length columns → s ≡ get_or columns k s
     → length (flat_map f (drop k columns)) ≡ length (f s) + length (flat_map f (drop (k + 1) columns))

@@ -113,19 +113,19 @@ not-not : (b : Bool) → not (not b) ≡ b
 not-not true = refl
 not-not false = refl
 
-told_bits : (s : Seen) → TellsNulls s → map there s.items ≡ valid_bits s
+reported_bits : (s : Seen) → TellsNulls s → map there s.items ≡ valid_bits s
 unfolding there valid_bits
-told_bits s tells =
+reported_bits s tells =
     sym (by_place there s.items (valid_at s) null (λ j below. sym (ap not (tells j below) ∙ not-not (valid_at s j))))
 
 -- where the validity tells the nulls, it is that of the items
-pub joined_valid-told : (columns : List Seen) → All TellsNulls columns → map (λ x. not (is_null x)) (joined_items columns) ≡ joined_valid columns
+pub joined_valid-reported : (columns : List Seen) → All TellsNulls columns → map (λ x. not (is_null x)) (joined_items columns) ≡ joined_valid columns
 unfolding there valid_bits
-joined_valid-told [] told = refl
-joined_valid-told (s ∷ rest) told =
+joined_valid-reported [] reported = refl
+joined_valid-reported (s ∷ rest) reported =
     map-append there s.items (joined_items rest)
-    ∙ ap (λ xs. xs ++ map there (joined_items rest)) (told_bits s (told 0 s (omega arith)))
-    ∙ ap (λ xs. valid_bits s ++ xs) (joined_valid-told rest (λ k d below. told (suc k) d (omega (arith, below))))
+    ∙ ap (λ xs. xs ++ map there (joined_items rest)) (reported_bits s (reported 0 s (omega arith)))
+    ∙ ap (λ xs. valid_bits s ++ xs) (joined_valid-reported rest (λ k d below. reported (suc k) d (omega (arith, below))))
 
 pub length-joined_valid : (columns : List Seen) → length (joined_valid columns) ≡ length (joined_items columns)
 unfolding valid_bits
@@ -149,7 +149,7 @@ pub numbers-joined : (t : IntType) (columns : List Seen) (n : ℕ) (values conte
     → n ≡ length (joined_items columns) → All TellsNulls columns → validity ≡ kept (joined_valid columns) → IsBufferOf buffer validity → AreNumbersOf t (joined_items columns) values → content ≡ values
     → show_numbers t n buffer content ≡ shown (kind.int t) (joined_items columns)
 unfolding there
-numbers-joined t columns n values content validity buffer size told is holds are same =
+numbers-joined t columns n values content validity buffer size reported is holds are same =
     let items = joined_items columns in
     let valid = map there items in
     let value : ℕ → Item = λ j. int (number_at t values j) in
@@ -158,7 +158,7 @@ numbers-joined t columns n values content validity buffer size told is holds are
     λ j below.
     ap (λ b. cond b (value j) null) (get_or-map there items j null false below)
     ∙ item_there (get_or items j null) (number_at t values j) (are.numbers j below) in
-    slots_shown (kind.int t) value (λ j. int (number_at t content j)) n valid validity buffer (size ∙ sym m) (is ∙ ap kept (sym (joined_valid-told columns told))) holds (λ j. refl)
+    slots_shown (kind.int t) value (λ j. int (number_at t content j)) n valid validity buffer (size ∙ sym m) (is ∙ ap kept (sym (joined_valid-reported columns reported))) holds (λ j. refl)
     (λ j below. ap (λ b. int (number_at t b j)) same)
     ∙ ap (λ k. shown (kind.int t) (map (slot value valid) (range_with_len 0 k))) m
     ∙ ap (shown (kind.int t)) (by_place (λ x. x) items (slot value valid) null each ∙ map-id items)

@@ -134,10 +134,10 @@ past-spread child items picks j pick range lengths rows is at item within past =
     either_one true h = refl
     either_one false h = cc
 
--- a fault, told of all
+-- a fault, reported of all
 pub full_of_all : {T : Type 0} (r : Result T SelectFault) (e : SelectFault) (one all : Bool) → IsErrAnd r (λ x. x ≡ e) → IsFull one e → (one ≡ true → all ≡ true) → IfErr r (IsFull all)
-full_of_all (Ok v) e one all same told grows = tt
-full_of_all (Err x) e one all same told grows = elim told [ inl h ↦ inl (same ∙ h.0, grows h.1) | inr h ↦ inr (same ∙ h) ]
+full_of_all (Ok v) e one all same reported grows = tt
+full_of_all (Err x) e one all same reported grows = elim reported [ inl h ↦ inl (same ∙ h.0, grows h.1) | inr h ↦ inr (same ∙ h) ]
 
 -- ---- lists cut from their items
 

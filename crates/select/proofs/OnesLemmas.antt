@@ -104,14 +104,14 @@ no_bit : (bits : List Bool) (i : ℕ) → length bits ≤ i → bit_of bits i �
 no_bit bits i past = get_or_past bits i false past
 
 -- the rows of a word, and those of the bits behind it, are those of the bits from the word on
-word_told : (bits : List Bool) (a word : ℕ) → ((j : ℕ) → j < 64 → bit_in word j ≡ bit_of bits (a + j))
+word_reported : (bits : List Bool) (a word : ℕ) → ((j : ℕ) → j < 64 → bit_in word j ≡ bit_of bits (a + j))
     → rows_where (λ i. bit_in word (i - a)) a 64 ++ rows_where (bit_of bits) (a + 64) (length bits) ≡ rows_where (bit_of bits) a (length bits)
-word_told bits a word told =
+word_reported bits a word reported =
     let n = length bits in
     let turn : 64 + n ≡ n + 64 = omega arith in
     ap (λ l. l ++ rows_where (bit_of bits) (a + 64) n)
     (rows_where-same (λ i. bit_in word (i - a)) (bit_of bits) a 64
-    (λ i low high. told (i - a) (omega (arith, low, high)) ∙ ap (bit_of bits) (back a i low)))
+    (λ i low high. reported (i - a) (omega (arith, low, high)) ∙ ap (bit_of bits) (back a i low)))
     ∙ sym (rows_where-append (bit_of bits) a 64 n)
     ∙ ap (rows_where (bit_of bits) a) turn
     ∙ rows_where-append (bit_of bits) a n 64
@@ -123,7 +123,7 @@ word_told bits a word told =
 
 -- before the first word all rows are left
 pub all_left : (bits : List Bool) (word : ℕ) → ((j : ℕ) → j < 64 → bit_in word j ≡ bit_of bits (0 + j)) → ones_left bits 0 word ≡ rows_of_ones bits
-all_left bits word told = word_told bits 0 word told
+all_left bits word reported = word_reported bits 0 word reported
 
 -- a word without ones has no rows
 none_left : (bits : List Bool) (at word : ℕ) → word ≡ 0 → ones_left bits at word ≡ rows_where (bit_of bits) (64 * at + 64) (length bits)
@@ -150,9 +150,9 @@ more_bits bits at word at_first first same some none =
 
 -- the next word
 pub next_left : (bits : List Bool) (at word next : ℕ) → word ≡ 0 → ((j : ℕ) → j < 64 → bit_in next j ≡ bit_of bits (64 * (at + 1) + j)) → ones_left bits (at + 1) next ≡ ones_left bits at word
-next_left bits at word next none told =
+next_left bits at word next none reported =
     let same : 64 * (at + 1) ≡ 64 * at + 64 = omega arith in
-    word_told bits (64 * (at + 1)) next told ∙ ap (λ a. rows_where (bit_of bits) a (length bits)) same ∙ sym (none_left bits at word none)
+    word_reported bits (64 * (at + 1)) next reported ∙ ap (λ a. rows_where (bit_of bits) a (length bits)) same ∙ sym (none_left bits at word none)
 
 -- the first one of a word
 pub record IsFirstOne (word j : ℕ) : Type 0 where
@@ -165,8 +165,8 @@ first_one word some fits =
     let is = bit_at-trailing_zeros w64 word some fits in
     record { inside = is.0; here = ap (λ b. nat_eq b 1) is.1; before = λ i below. ap (λ b. nat_eq b 1) (is.2 i below) }
 
-pub one_told : (bits : List Bool) (at word j : ℕ) → IsFirstOne word j → ones_left bits at word ≡ Some (64 * at + j) ∷ ones_left bits at (bit_and word (bit_not w64 (1 * 2 ^ j % 2 ^ 64)))
-one_told bits at word j first =
+pub one_reported : (bits : List Bool) (at word j : ℕ) → IsFirstOne word j → ones_left bits at word ≡ Some (64 * at + j) ∷ ones_left bits at (bit_and word (bit_not w64 (1 * 2 ^ j % 2 ^ 64)))
+one_reported bits at word j first =
     let a = 64 * at in
     let less = bit_and word (bit_not w64 (1 * 2 ^ j % 2 ^ 64)) in
     let place : a + j - a ≡ j = omega arith in

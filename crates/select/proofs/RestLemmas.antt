@@ -1,4 +1,4 @@
--- What is left of rows that are told one after the other.
+-- What is left of rows that are given one after the other.
 use Rattle.std.proofs.Common.{◌≡◌, ◌∙◌, ℕ, suc, ◌+◌, ◌<◌, ◌≤◌, List, ◌∷◌, length, drop, get_or, None, Some, true, ap, sym, arith, length-drop, drop-cons, zero-add}
 use Rattle.std.specs.Prelude.{slice_get}
 use Rattle.std.proofs.lemmas.List.FromFn.{get_or-map-range_with_len, length-map-range_with_len}
@@ -8,9 +8,9 @@ use Rattle.select.specs.Picked.{first_rows, is_row}
 one_on : (j : ℕ) → suc j ≡ j + 1
 one_on j = omega arith
 
--- one element more is told
-pub told_next : {A : Type 0} (xs : List A) (j : ℕ) (x : A) → slice_get xs j ≡ Some x → drop j xs ≡ x ∷ drop (j + 1) xs
-told_next xs j x at =
+-- one element more is reported
+pub reported_next : {A : Type 0} (xs : List A) (j : ℕ) (x : A) → slice_get xs j ≡ Some x → drop j xs ≡ x ∷ drop (j + 1) xs
+reported_next xs j x at =
     drop-cons xs j x (slice_get_within xs j x at)
     ∙ ap (λ y. y ∷ drop (suc j) xs) (get_or_from_slice_get xs j x x at)
     ∙ ap (λ k. x ∷ drop k xs) (one_on j)

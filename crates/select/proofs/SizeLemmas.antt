@@ -24,5 +24,5 @@ each-chosen (Ok a) s rows n are all is codes =
 
 -- a fault of what isn't too big is want of memory
 pub memory-alone : {T : Type 0} (r : Result T SelectFault) (full : Bool) → full ≡ false → IfErr r (IsFull full) → IfErr r (λ e. e ≡ NoMemory)
-memory-alone (Ok v) full fits told = tt
-memory-alone (Err e) full fits told = elim told [ inl h ↦ absurd (true≢false (sym h.1 ∙ fits)) | inr h ↦ h ]
+memory-alone (Ok v) full fits reported = tt
+memory-alone (Err e) full fits reported = elim reported [ inl h ↦ absurd (true≢false (sym h.1 ∙ fits)) | inr h ↦ h ]

@@ -27,7 +27,7 @@ use Rattle.arrays.proofs.LaidLemmas.{fresh-none, grown, laid, lengths-none, show
 use Rattle.arrays.proofs.PartLemmas.{item_slot}
 use Rattle.select.specs.Picked.{picked, picked_at, IsPick}
 use Rattle.select.specs.Stored.{is_stored}
-use Rattle.select.specs.Texts.{AreOffsetsOf, all_bytes, bytes_in, is_held, text_size}
+use Rattle.select.specs.Texts.{AreOffsetsOf, all_bytes, bytes_in, is_valid, text_size}
 use Rattle.select.proofs.BigLemmas.{full-picked}
 use Rattle.select.proofs.ListLemmas.{drop-front, get_or-map-any, take-front}
 use Rattle.select.proofs.PickLemmas.{by_place}
@@ -35,9 +35,9 @@ use Rattle.types.specs.Limits.{most_slots}
 
 -- ---- one text more
 
-held_sized : (o : Option (List ℕ)) → is_held (item_of_text o) ≡ is_some (text_size (item_of_text o))
-held_sized None = refl
-held_sized (Some t) = refl
+present_sized : (o : Option (List ℕ)) → is_valid (item_of_text o) ≡ is_some (text_size (item_of_text o))
+present_sized None = refl
+present_sized (Some t) = refl
 
 sized_length : (o : Option (List ℕ)) → unwrap_or (text_size (item_of_text o)) 0 ≡ text_length (item_of_text o)
 sized_length None = refl
@@ -50,9 +50,9 @@ pub offsets-more : (w : OffsetWidth) (items longer : List Item) (offsets more : 
     → size ≡ text_length x → end + size ≤ most_of w → more ≡ offsets ++ bytes_of_number (offset_type w) (pos (end + size)) → AreOffsetsOf w longer more (end + size)
 offsets-more w items longer offsets more end size o x are is longer_is size_is short more_is =
     let slot = text_size (item_of_text o) in
-    let flags : map is_held longer ≡ map is_held items ++ is_held (item_of_text o) ∷ [] =
-    ap (map is_held) longer_is ∙ map-append is_held items (x ∷ []) ∙ ap (λ y. map is_held items ++ is_held y ∷ []) is in
-    let next = grown w (map is_held items) (map is_held longer) offsets more end size (is_held (item_of_text o)) (map text_size items) slot are.sizes are.fresh (held_sized o)
+    let flags : map is_valid longer ≡ map is_valid items ++ is_valid (item_of_text o) ∷ [] =
+    ap (map is_valid) longer_is ∙ map-append is_valid items (x ∷ []) ∙ ap (λ y. map is_valid items ++ is_valid y ∷ []) is in
+    let next = grown w (map is_valid items) (map is_valid longer) offsets more end size (is_valid (item_of_text o)) (map text_size items) slot are.sizes are.fresh (present_sized o)
     (size_is ∙ ap text_length is ∙ sym (sized_length o)) short more_is flags in
     record {
       fresh = next.fresh_still;
@@ -100,22 +100,22 @@ texts_picked offsets bytes s picks has within k d below =
     let few : k < length picks = omega (arith, below, length-map picks (picked_at s.items)) in
     subst IsTextItem (sym (get_or-map-any (picked_at s.items) picks k d None few)) (text_picked offsets bytes s (get_or picks k None) has (within k None few))
 
-held_slot : (b : Bool) (t : List ℕ) → b ≡ is_held (cond b (text t) null)
-held_slot true t = refl
-held_slot false t = refl
+present_slot : (b : Bool) (t : List ℕ) → b ≡ is_valid (cond b (text t) null)
+present_slot true t = refl
+present_slot false t = refl
 
-stored_held : (offsets bytes : List ℕ) (s : Seen) (p : Option ℕ) → HasTexts offsets bytes s → IsPick (length s.items) p → is_stored s.validity p ≡ is_held (picked_at s.items p)
-stored_held offsets bytes s None has within = refl
-stored_held offsets bytes s (Some i) has within =
-    held_slot (valid_in s.validity i) (of_slot offsets bytes i) ∙ ap is_held (sym (item_there offsets bytes s i has within))
+stored_present : (offsets bytes : List ℕ) (s : Seen) (p : Option ℕ) → HasTexts offsets bytes s → IsPick (length s.items) p → is_stored s.validity p ≡ is_valid (picked_at s.items p)
+stored_present offsets bytes s None has within = refl
+stored_present offsets bytes s (Some i) has within =
+    present_slot (valid_in s.validity i) (of_slot offsets bytes i) ∙ ap is_valid (sym (item_there offsets bytes s i has within))
 
 -- the slots that are valid are those that hold a text
-pub validity-held : (offsets bytes : List ℕ) (s : Seen) (picks : List (Option ℕ)) → HasTexts offsets bytes s → All (IsPick (length s.items)) picks
-    → map (λ j. is_stored s.validity (get_or picks j None)) (range_with_len 0 (length picks)) ≡ map is_held (picked s.items picks)
-validity-held offsets bytes s picks has within =
-    by_place (λ p. is_held (picked_at s.items p)) picks (λ j. is_stored s.validity (get_or picks j None)) None
-    (λ j below. stored_held offsets bytes s (get_or picks j None) has (within j None below))
-    ∙ sym (map-map is_held (picked_at s.items) picks)
+pub validity-present : (offsets bytes : List ℕ) (s : Seen) (picks : List (Option ℕ)) → HasTexts offsets bytes s → All (IsPick (length s.items)) picks
+    → map (λ j. is_stored s.validity (get_or picks j None)) (range_with_len 0 (length picks)) ≡ map is_valid (picked s.items picks)
+validity-present offsets bytes s picks has within =
+    by_place (λ p. is_valid (picked_at s.items p)) picks (λ j. is_stored s.validity (get_or picks j None)) None
+    (λ j below. stored_present offsets bytes s (get_or picks j None) has (within j None below))
+    ∙ sym (map-map is_valid (picked_at s.items) picks)
 
 -- ---- texts cut again from their bytes
 
@@ -158,7 +158,7 @@ sizes_bytes (x ∷ xs) =
     omega (arith, sum_by-cons text_length x xs, sum_by-cons (λ (o : Option ℕ). unwrap_or o 0) (text_size x) (map text_size xs), length_size x, sizes_bytes xs)
 
 pub end-bytes : (w : OffsetWidth) (items : List Item) (offsets : List ℕ) (end : ℕ) → AreOffsetsOf w items offsets end → text_bytes items ≡ end
-end-bytes w items offsets end are = sizes_bytes items ∙ ap total (sym are.sizes) ∙ total-fresh w (map is_held items) offsets end are.fresh
+end-bytes w items offsets end are = sizes_bytes items ∙ ap total (sym are.sizes) ∙ total-fresh w (map is_valid items) offsets end are.fresh
 
 -- texts that are too many with one more are so among all
 pub full-offsets : (w : OffsetWidth) (items : List Item) (picks : List (Option ℕ)) (j : ℕ) (pick : Option ℕ) (offsets : List ℕ) (end size : ℕ) (x : Item) → slice_get picks j ≡ Some pick
@@ -184,15 +184,15 @@ pub record AreFinished (w : OffsetWidth) (items : List Item) (n : ℕ) (validity
   pub shows : show_texts w n validity offsets bytes ≡ shown (kind.texts w) items
 
 pub texts_finished : (w : OffsetWidth) (items : List Item) (n end : ℕ) (offsets laid_offsets bytes laid_bytes : List ℕ) (validity : Option (List ℕ)) → AreOffsetsOf w items offsets end → All IsTextItem items
-    → n ≡ length items → n ≤ most_slots → IsBufferOf validity (kept (map is_held items)) → laid_offsets ≡ offsets → bytes ≡ all_bytes items → laid_bytes ≡ bytes
+    → n ≡ length items → n ≤ most_slots → IsBufferOf validity (kept (map is_valid items)) → laid_offsets ≡ offsets → bytes ≡ all_bytes items → laid_bytes ≡ bytes
     → AreFinished w items n validity laid_offsets laid_bytes
 texts_finished w items n end offsets laid_offsets bytes laid_bytes validity are all count short holds offsets_are bytes_are laid_are =
     let sizes = map text_size items in
     let lay : AreLaid w sizes n validity laid_offsets =
-    laid w (map is_held items) offsets laid_offsets end n sizes (kept (map is_held items)) validity are.sizes are.fresh (count ∙ sym (length-map items is_held)) short refl holds offsets_are in
-    let held : laid_bytes ≡ all_bytes items = laid_are ∙ bytes_are in
-    let again : cut_texts sizes laid_bytes ≡ items = ap (cut_texts sizes) held ∙ texts_again items all in
-    let whole : total sizes ≡ length laid_bytes = total-sizes items ∙ ap length (sym held) in
+    laid w (map is_valid items) offsets laid_offsets end n sizes (kept (map is_valid items)) validity are.sizes are.fresh (count ∙ sym (length-map items is_valid)) short refl holds offsets_are in
+    let present : laid_bytes ≡ all_bytes items = laid_are ∙ bytes_are in
+    let again : cut_texts sizes laid_bytes ≡ items = ap (cut_texts sizes) present ∙ texts_again items all in
+    let whole : total sizes ≡ length laid_bytes = total-sizes items ∙ ap length (sym present) in
     let texts : AreTextsOf sizes laid_bytes = record { whole = whole; utf8 = subst (λ (l : List Item). All IsText l) (sym again) (λ k d below. plain_text (get_or items k d) (all k d below)) } in
     record {
       bounds = subst (AreOffsetBytes w n laid_offsets) whole lay.bounds;
@@ -206,6 +206,6 @@ pub texts_done : (w : OffsetWidth) (starts content : List ℕ) (s : Seen) (picks
     → IsBufferOf validity (kept (map (λ j. is_stored seen (get_or picks j None)) (range_with_len 0 (length picks)))) → laid_offsets ≡ offsets → bytes ≡ all_bytes (picked s.items picks) → laid_bytes ≡ bytes
     → AreFinished w (picked s.items picks) n validity laid_offsets laid_bytes
 texts_done w starts content s picks n end offsets laid_offsets bytes laid_bytes seen validity has within are count short same holds offsets_are bytes_are laid_are =
-    let held = ap (λ v. kept (map (λ j. is_stored v (get_or picks j None)) (range_with_len 0 (length picks)))) same ∙ ap kept (validity-held starts content s picks has within) in
+    let present = ap (λ v. kept (map (λ j. is_stored v (get_or picks j None)) (range_with_len 0 (length picks)))) same ∙ ap kept (validity-present starts content s picks has within) in
     texts_finished w (picked s.items picks) n end offsets laid_offsets bytes laid_bytes validity are (texts_picked starts content s picks has within) (count ∙ sym (length-map picks (picked_at s.items))) short
-    (subst (IsBufferOf validity) held holds) offsets_are bytes_are laid_are
+    (subst (IsBufferOf validity) present holds) offsets_are bytes_are laid_are

@@ -17,7 +17,7 @@ set_by w f word j false small is before = λ k.
     ∙ ap (λ n. bit_in n k) (or_zero_r word)
     ∙ bits-left f word j (sym is) before k
 
-pub bits-told : (w : Width) (f : ℕ → Bool) (word j n : ℕ) (b : Bool) → j < width w → n ≡ from_bool b → b ≡ f j → ((k : ℕ) → bit_in word k ≡ (nat_lt k j && f k))
+pub bits-reported : (w : Width) (f : ℕ → Bool) (word j n : ℕ) (b : Bool) → j < width w → n ≡ from_bool b → b ≡ f j → ((k : ℕ) → bit_in word k ≡ (nat_lt k j && f k))
     → (k : ℕ) → bit_in (bit_or word (n * 2 ^ j % 2 ^ width w)) k ≡ (nat_lt k (j + 1) && f k)
-bits-told w f word j n b small from is before k =
+bits-reported w f word j n b small from is before k =
     ap (λ m. bit_in (bit_or word (m * 2 ^ j % 2 ^ width w)) k) from ∙ set_by w f word j b small is before k

@@ -12,9 +12,9 @@ of_build build.NoMemory = NoMemory
 
 -- Full offsets, only where they would be, or want of memory.
 abbrev pub IsFull : Bool → SelectFault → Type 0
-IsFull full told = ((told ≡ OffsetsFull) × (full ≡ true)) ⊎ (told ≡ NoMemory)
+IsFull full reported = ((reported ≡ OffsetsFull) × (full ≡ true)) ⊎ (reported ≡ NoMemory)
 
--- What is told: the first fault that stands; else full offsets, only where they would be; or want of memory, which
+-- What is reported: the first fault that stands; else full offsets, only where they would be; or want of memory, which
 -- comes only where kinds, types and lengths are as they should be.
 abbrev pub IsSelectFault : Option SelectFault → Option SelectFault → Bool → SelectFault → Type 0
-IsSelectFault shape all full told = (all ≡ Some told) ⊎ (((told ≡ NoMemory) × (shape ≡ None)) ⊎ ((told ≡ OffsetsFull) × ((all ≡ None) × (full ≡ true))))
+IsSelectFault shape all full reported = (all ≡ Some reported) ⊎ (((reported ≡ NoMemory) × (shape ≡ None)) ⊎ ((reported ≡ OffsetsFull) × ((all ≡ None) × (full ≡ true))))

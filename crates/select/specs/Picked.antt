@@ -35,7 +35,7 @@ rows_where test start n = map (λ i. Some i) (filter test (range_with_len start 
 abbrev pub rows_of_ones : List Bool → List (Option ℕ)
 rows_of_ones bits = rows_where (bit_of bits) 0 (length bits)
 
--- Those that are still to come where the ones of word `at` are told up to those that are left, and those of the words
+-- Those that are still to come where the ones of word `at` are given up to those that are left, and those of the words
 -- behind it aren't.
 abbrev pub ones_left : List Bool → ℕ → ℕ → List (Option ℕ)
 ones_left bits at left = rows_where (λ i. bit_in left (i - 64 * at)) (64 * at) 64 ++ rows_where (bit_of bits) (64 * at + 64) (length bits)

@@ -5,8 +5,8 @@ use Rattle.arrays.specs.Growing.{AreFresh, lengths_where}
 use Rattle.arrays.specs.Item.{Item, is_null, text}
 
 -- Whether a slot holds an item.
-abbrev pub is_held : Item → Bool
-is_held x = not (is_null x)
+abbrev pub is_valid : Item → Bool
+is_valid x = not (is_null x)
 
 -- How long a text is, none of what is no text.
 abbrev pub text_size : Item → Option ℕ
@@ -24,5 +24,5 @@ all_bytes items = flat_map bytes_in items
 
 -- The offsets are those of the texts, the last of them is `end`, and a null is empty.
 pub record AreOffsetsOf (w : OffsetWidth) (items : List Item) (offsets : List ℕ) (end : ℕ) : Type 0 where
-  pub fresh : AreFresh w (map is_held items) offsets end
-  pub sizes : lengths_where w (map is_held items) offsets ≡ map text_size items
+  pub fresh : AreFresh w (map is_valid items) offsets end
+  pub sizes : lengths_where w (map is_valid items) offsets ≡ map text_size items

@@ -3,7 +3,7 @@ use colbits::NoMemory;
 use std::alloc::{AllocError, AllocFailed};
 use thiserror::Error;
 
-/// Why rows can't be selected. Where several stand, the first in this order is told; want of memory may come at
+/// Why rows can't be selected. Where several stand, the first in this order is reported; want of memory may come at
 /// any point where a growth is refused.
 #[derive(Clone, Copy, Debug, PartialEq, Eq, Error)]
 pub enum SelectFault {

@@ -1,19 +1,19 @@
-//! Rows of a view, told one after the other.
+//! Rows of a view, given one after the other.
 
 ghost use Rattle.std.specs.Prelude.{◌≡◌, ℕ, ◌<◌, ◌≤◌, ◌∷◌, None, true, drop, length, slice_index_or, Some, IsTrue};
 ghost use Rattle.select.specs.Picked.{first_rows, is_row};
 ghost use Rattle.types.specs.Limits.{most_slots};
 
-/// How far rows are told.
+/// How far rows are given.
 #[derive(Clone, Copy)]
 pub(crate) struct Place {
-    /// The next slot; where rows are told by bits, the word of 64 that is looked at.
+    /// The next slot; where rows are given by bits, the word of 64 that is looked at.
     pub(crate) at: u32,
     /// The ones of that word that are left.
     pub(crate) ones: u64,
 }
 
-/// A row or none for each slot of a result, told from the first slot on, as often as it is asked. No list of them is
+/// A row or none for each slot of a result, given from the first slot on, as often as wanted. No list of them is
 /// kept.
 pub(crate) trait Rows {
     ghost use Rattle.std.specs.Prelude.{ℕ, List, Option};

@@ -14,9 +14,9 @@ pub balanced_push : (h next : History) (worker : ℕ) (b : Batch) (calls row_cou
     → next ≡ h ++ (worker, rows_of b) ∷ [] → more_calls ≡ calls + 1 → more_rows ≡ row_count + added → added ≡ b.rows → IsBalanced more_calls more_rows next
 balanced_push h next worker b calls row_count more_calls more_rows added is same one more size = record {
   pairs = omega (arith, is.pairs, one, ap (λ (l : History). length l) same, length-append h ((worker, rows_of b) ∷ []));
-  held = omega (
+  rows_counted = omega (
     arith,
-    is.held,
+    is.rows_counted,
     more,
     size,
     ap (λ (l : History). length (rows l)) same,
@@ -46,7 +46,7 @@ rows_widened n h = ap (λ (t : Table). length t) (rows-widened n h) ∙ length-t
 
 pub balanced_wider : (n calls row_count : ℕ) (h next : History) → IsBalanced calls row_count h → next ≡ widened n h → IsBalanced calls row_count next
 balanced_wider n calls row_count h next is same =
-    subst (IsBalanced calls row_count) (sym same) (record { pairs = is.pairs ∙ sym (length-widened n h); held = is.held ∙ sym (rows_widened n h) })
+    subst (IsBalanced calls row_count) (sym same) (record { pairs = is.pairs ∙ sym (length-widened n h); rows_counted = is.rows_counted ∙ sym (rows_widened n h) })
 
 pub workers_wider : (n count : ℕ) (h next : History) → IsOfWorkers count h → next ≡ widened n h → IsOfWorkers count next
 workers_wider n count h next all same =

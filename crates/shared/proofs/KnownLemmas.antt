@@ -104,8 +104,8 @@ begins_trans k l m kl lm =
     }
 
 -- what two fronts tell, of which one begins the other
-pub told_begins : (first : List FieldShape) (xs ys : List Change) (k l : Known) → known_after first xs ≡ k → known_after first ys ≡ l → IsPrefix xs ys → Begins k l
-told_begins first xs ys k l k_is l_is begins = subst (λ (i : Known). Begins i l) k_is (subst (λ (i : Known). Begins (known_after first xs) i) l_is (known_begins first xs ys begins))
+pub reported_begins : (first : List FieldShape) (xs ys : List Change) (k l : Known) → known_after first xs ≡ k → known_after first ys ≡ l → IsPrefix xs ys → Begins k l
+reported_begins first xs ys k l k_is l_is begins = subst (λ (i : Known). Begins i l) k_is (subst (λ (i : Known). Begins (known_after first xs) i) l_is (known_begins first xs ys begins))
 
 -- ---- a table with a batch more
 

@@ -9,4 +9,4 @@ IsOfWorkers count h = All (λ e. e.0 < count) h
 -- The first number counts the pairs, the second their rows.
 pub record IsBalanced (calls row_count : ℕ) (h : History) : Type 0 where
   pub pairs : calls ≡ length h
-  pub held : row_count ≡ length (rows h)
+  pub rows_counted : row_count ≡ length (rows h)

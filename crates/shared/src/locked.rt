@@ -31,14 +31,14 @@ use std::sync::ledger::Ledger;
 use std::sync::{Arc, Wait};
 use table::{AddFault, Ready, Refusal, TableState, Version};
 
-/// A table with its history, the ledgers of its workers' calls and rows, the version of it that was asked for last, and who
+/// A table with its history, the ledgers of its workers' calls and rows, the version of it that was requested last, and who
 /// shows versions to readers. Each time that its lock is got, what is known by the front is what the table holds, each entry of
 /// its history is of one of the table's workers, the ledgers count its entries, its rows and the fields that came since it was opened, and readers are
 /// shown the table.
 #[derive(Drop)]
 pub(crate) struct Locked<C: Ledger, Q: Ledger, K: Ledger, N: Naming, P: Publish<Item = Shown<N>>> {
     pub(crate) state: TableState,
-    /// The last version that was asked for, where nothing was added or joined since.
+    /// The last version that was requested, where nothing was added or joined since.
     pub(crate) newest: Option<Arc<Version>>,
     pub(crate) head: Head<Event, N>,
     pub(crate) front: Front<Event, N>,

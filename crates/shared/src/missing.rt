@@ -13,7 +13,7 @@ pub(crate) fn first_missing<C: Ledger, Q: Ledger, K: Ledger, N: Naming>(
     workers: &[Worker<C, Q, K, N>],
     count: u32,
 ) -> Option<u32>
-    ensures told { MatchOption result (AllThere count workers.now) (IsMissing count workers.now) }
+    ensures reported { MatchOption result (AllThere count workers.now) (IsMissing count workers.now) }
     ensures enough { IfNone result (count ≤ length workers.now) }
 {
     for number in 0..count {

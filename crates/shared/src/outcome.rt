@@ -1,4 +1,4 @@
-//! What a worker is told of its batches, and what it leaves of them.
+//! What a worker learns of its batches, and what it leaves of them.
 
 ghost use Rattle.std.specs.Prelude.{◌≡◌, ◌+◌, length, option_map};
 ghost use Rattle.shared.specs.Changes.{known_after};

@@ -18,7 +18,7 @@ use table::Version;
 
 /// One of those who read a table, each in a thread of its own. It takes no lock and waits for nobody.
 ///
-/// Clauses see the fields and the history that it knows: the most of what it has seen or was told of, which the rest begins.
+/// Clauses see the fields and the history that it knows: the most of what it has seen or was given a receipt of, which the rest begins.
 #[derive(Drop)]
 pub struct Reader<N: Naming> {
     alloc: Global,
@@ -71,7 +71,7 @@ impl<N: Naming> Reader<N> {
         let Some(own) = &self.own else {
             return Err(NoMemory);
         };
-        // What is published never falls behind what a reader was told of, but only the rule of the pair knows that.
+        // What is published never falls behind what a reader was given a receipt of, but only the rule of the pair knows that.
         if !self.known.begins(&own.front) {
             return Err(NoMemory);
         }
@@ -84,7 +84,7 @@ impl<N: Naming> Reader<N> {
     /// Learns of a batch that was appended: versions show it from now on.
     pub fn learn(&mut self, receipt: &Receipt<N>)
         ensures old { Begins self.old self.new }
-        ensures told { Begins receipt.now self.new }
+        ensures reported { Begins receipt.now self.new }
         ensures one { (self.new ≡ self.old) ⊎ (self.new ≡ receipt.now) }
     {
         if self.known.begins(&receipt.front) {

@@ -106,7 +106,7 @@ impl<C: Ledger, Q: Ledger, K: Ledger, N: Naming, P: Publish<Item = Shown<N>>> Sh
     }
 
     /// Adds a batch of the worker, as `TableState::admit` does, while no other worker does, and shows it to the readers. What
-    /// can be made of the batch alone is made before; want of memory that is met there is told whatever else stands against the
+    /// can be made of the batch alone is made before; want of memory that is met there is reported whatever else stands against the
     /// batch. The worker sees the table's fields, and its history up to its batch; after a refusal it sees those that the batch
     /// was refused after, and the table and what the worker appended are as they were.
     pub fn append<W: Wait>(

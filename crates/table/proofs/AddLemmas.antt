@@ -22,7 +22,7 @@ use Rattle.table.specs.declared.add_fault.AddFault.TheVariants.{DictInList, NotN
 use Rattle.table.proofs.BatchLemmas.{missing, not-false}
 use Rattle.table.proofs.StoredLemmas.{same_deep, same_dict}
 
--- ---- what is told
+-- ---- what is reported
 
 abbrev pub faults : Bool → Bool → Bool → Option AddFault
 faults nullable deep dict = first (then_some (not nullable) NotNullable ∷ then_some deep TooDeep ∷ then_some dict DictInList ∷ [])
@@ -37,7 +37,7 @@ faults-are f nullable deep dict is_so is_deep has_dict =
     ∙ ap (λ b. faults (is_nullable (field_of f)) b dict) (sym (ap (λ k. nat_lt 8 (depth k)) (kind_of_field-field_of f) ∙ is_deep))
     ∙ ap (λ b. faults (is_nullable (field_of f)) (nat_lt 8 (depth (kind_of_field (field_of f)))) b) (sym (ap has_dict_in_list (kind_of_field-field_of f) ∙ has_dict))
 
--- ---- where nothing is told
+-- ---- where nothing is reported
 
 pub record Fits (f : FieldShape) : Type 0 where
   pub nullable : is_nullable f ≡ true

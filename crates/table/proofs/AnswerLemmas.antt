@@ -5,7 +5,7 @@ use Rattle.query.specs.declared.fault.QueryFault.TheVariants.{Overflow, NoMemory
 use Rattle.std.proofs.lemmas.List.Elements.{All-head, All-nil, All-weaker}
 use Rattle.arrays.specs.Batch.{Batch, Table}
 use Rattle.arrays.specs.Shape.{FieldShape, kind_of_field}
-use Rattle.query.specs.Asked.{Asked}
+use Rattle.query.specs.QueryShape.{QueryShape}
 use Rattle.query.specs.Fault.{fits}
 use Rattle.query.specs.declared.fault.QueryFault.{QueryFault}
 use Rattle.answers.specs.Answers.{IsAnswer, IsRefusal, all_rows, first_fields}
@@ -23,18 +23,18 @@ module _ (fields : List FieldShape) where
       All-weaker (IsStored fields) (λ (c : Batch). map kind_of_field c.fields ≡ map kind_of_field b.fields)
       (λ c is. ap (map kind_of_field) (is.same ∙ sym (stored_first b bs stored))) (b ∷ bs) stored
 
-  pub fits_each : (q : Asked ℕ) (bs : List Batch) → fits fields q ≡ true → All (IsStored fields) bs → All (λ (b : Batch). fits b.fields q ≡ true) bs
+  pub fits_each : (q : QueryShape ℕ) (bs : List Batch) → fits fields q ≡ true → All (IsStored fields) bs → All (λ (b : Batch). fits b.fields q ≡ true) bs
   fits_each q bs fit stored = All-weaker (IsStored fields) (λ (b : Batch). fits b.fields q ≡ true) (λ b is. ap (λ fs. fits fs q) is.same ∙ fit) bs stored
 
   -- the groups over the first batch's fields are those over the table's
-  same_groups : (q : Asked ℕ) (bs : List Batch) → All (IsStored fields) bs → groups (first_fields bs) q (all_rows bs) ≡ groups fields q (all_rows bs)
+  same_groups : (q : QueryShape ℕ) (bs : List Batch) → All (IsStored fields) bs → groups (first_fields bs) q (all_rows bs) ≡ groups fields q (all_rows bs)
   same_groups q [] stored = refl
   same_groups q (b ∷ bs) stored = ap (λ fs. groups fs q (all_rows (b ∷ bs))) (stored_first b bs stored)
 
-  of_table : (q : Asked ℕ) (bs : List Batch) (t : Table) → All (IsStored fields) bs → table_of bs ≡ t → groups (first_fields bs) q (all_rows bs) ≡ groups fields q t
+  of_table : (q : QueryShape ℕ) (bs : List Batch) (t : Table) → All (IsStored fields) bs → table_of bs ≡ t → groups (first_fields bs) q (all_rows bs) ≡ groups fields q t
   of_table q bs t stored same = same_groups q bs stored ∙ ap (groups fields q) same
 
-  module _ (q : Asked ℕ) (bs : List Batch) (t : Table) (stored : All (IsStored fields) bs) (same : table_of bs ≡ t) where
+  module _ (q : QueryShape ℕ) (bs : List Batch) (t : Table) (stored : All (IsStored fields) bs) (same : table_of bs ≡ t) where
     pub answers_table : (r : Result Answer QueryFault) → IfOk r (IsAnswer (first_fields bs) q (all_rows bs)) → IfOk r (IsAnswer fields q t)
     answers_table (Ok a) is = sym (of_table q bs t stored same) ∙ is
     answers_table (Err e) is = tt

@@ -13,13 +13,13 @@ use Rattle.arrays.specs.Seen.{Seen}
 use Rattle.arrays.specs.Shape.{FieldShape}
 use Rattle.arrays.specs.Shown.{shown}
 use Rattle.pool.specs.Texts.{firsts, texts_of}
-use Rattle.table.specs.Held.{IsHeld, batches_of}
+use Rattle.table.specs.Storage.{IsConsistent, batches_of}
 use Rattle.arrays.specs.Batch.{Table, column}
 use Rattle.table.specs.Lawful.{dictionaries_of, dictionary_in, table_of, texts_in}
 use Rattle.table.specs.Ready.{BeginWithTexts, all_texts}
 use Rattle.table.specs.Recoded.{entry_count, shortened}
 use Rattle.table.specs.Stored.{is_text_field}
-use Rattle.table.specs.declared.held.Held.{Held}
+use Rattle.table.specs.declared.storage.Storage.{Storage}
 use Rattle.pool.proofs.PrefixLemmas.{prefix_length, prefix_take}
 
 abbrev SameCount : Option (Arc Seen Global) → List (List ℕ) → Type 0
@@ -65,7 +65,7 @@ length-both (d ∷ ds) [] news counts begun = absurd counts
 length-both (d ∷ ds) (o ∷ olds) [] counts begun = absurd begun
 length-both (d ∷ ds) (o ∷ olds) (n ∷ news) counts begun = ap suc (length-both ds olds news counts.1 begun.1)
 
-module _ (h : Held) (is : IsHeld h) (pools : List (List (List ℕ))) (begun : BeginWithTexts h (table_of (batches_of h)) pools) where
+module _ (h : Storage) (is : IsConsistent h) (pools : List (List (List ℕ))) (begun : BeginWithTexts h (table_of (batches_of h)) pools) where
   abbrev texts : List (List (List ℕ))
   texts = all_texts h (table_of (batches_of h))
 

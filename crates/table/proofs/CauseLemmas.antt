@@ -80,14 +80,14 @@ early-by fields h b column nulls full book column_is nulls_is full_is book_is =
     ∙ ap (λ t. causes (difference fields b.fields) (null_cause fields (rows_of b)) t book) (sym full_is)
     ∙ ap (λ t. causes (difference fields b.fields) (null_cause fields (rows_of b)) (is_table_full h (rows_of b)) t) (sym book_is)
 
-pub column-told : (fields stored handed : List FieldShape) (b : Batch) (o : Option ℕ) → stored ≡ fields → handed ≡ b.fields → o ≡ difference stored handed → o ≡ difference fields b.fields
-column-told fields stored handed b o these those is = is ∙ ap (λ f. difference f handed) these ∙ ap (difference fields) those
+pub column-reported : (fields stored handed : List FieldShape) (b : Batch) (o : Option ℕ) → stored ≡ fields → handed ≡ b.fields → o ≡ difference stored handed → o ≡ difference fields b.fields
+column-reported fields stored handed b o these those is = is ∙ ap (λ f. difference f handed) these ∙ ap (difference fields) those
 
 -- the first null of the columns is that of the batch's rows
-pub nulls-told : (fields given : List FieldShape) (b : Batch) (columns : List Seen) (o : Option Refusal) → batch_fault b.fields b.rows b.columns ≡ None → given ≡ fields → columns ≡ b.columns
+pub nulls-reported : (fields given : List FieldShape) (b : Batch) (columns : List Seen) (o : Option Refusal) → batch_fault b.fields b.rows b.columns ≡ None → given ≡ fields → columns ≡ b.columns
     → ((t : Table) → HasColumns t columns → o ≡ null_cause given t) → o ≡ null_cause fields (rows_of b)
-nulls-told fields given b columns o lawful these those told =
-    told (rows_of b) (subst (HasColumns (rows_of b)) (sym those) (HasColumns-rows_of b lawful)) ∙ ap (λ f. null_cause f (rows_of b)) these
+nulls-reported fields given b columns o lawful these those reported =
+    reported (rows_of b) (subst (HasColumns (rows_of b)) (sym those) (HasColumns-rows_of b lawful)) ∙ ap (λ f. null_cause f (rows_of b)) these
 
 pub table-full : (h : History) (b : Batch) → 2 ^ 40 < length (rows h) + b.rows → is_table_full h (rows_of b) ≡ true
 table-full h b over = lt-ltb (2 ^ 40) (length (rows h) + length (rows_of b)) (omega (arith, over, length-rows_of b))

@@ -1,4 +1,4 @@
--- What is told before the texts are looked at.
+-- What is reported before the texts are looked at.
 use Rattle.std.proofs.Common.{◌≡◌, ℕ, ◌+◌, ◌≤◌, ◌^◌, List, [], ◌∷◌, length, Bool, true, false, Option, None, Some, option_map, refl}
 use Rattle.std.proofs.lemmas.Bool.{ltb-false}
 use Rattle.arrays.specs.Batch.{Batch, rows_of}

@@ -17,13 +17,13 @@ use Rattle.group.specs.Summary.{AreStats}
 use Rattle.group.specs.declared.stats.ColumnStats.{ColumnStats}
 use Rattle.table.specs.Cause.{IsLegal}
 use Rattle.table.specs.Contents.{Contents}
-use Rattle.table.specs.Held.{IsHeld, batches_of, book_of, dictionaries_in, pair_of, pieces_in, show}
+use Rattle.table.specs.Storage.{IsConsistent, batches_of, book_of, dictionaries_in, pair_of, pieces_in, show}
 use Rattle.table.specs.History.{History, cut}
 use Rattle.table.specs.Lawful.{LawfulTable, counted, dictionaries_of, dictionary_in, table_of, texts_in}
 use Rattle.compaction.specs.Statistics.{AreStatsOf}
 use Rattle.table.specs.Ready.{AreTexts}
 use Rattle.table.specs.Stored.{is_text_field, stored_field, stored_fields}
-use Rattle.table.specs.declared.held.Held.{Held}
+use Rattle.table.specs.declared.storage.Storage.{Storage}
 use Rattle.group.proofs.ColumnsLemmas.{all_zip-push}
 
 -- ---- no texts
@@ -106,9 +106,9 @@ legal-empty fields = record {
   allowed = λ before rest e h. absurd (no_pair before rest e h);
 }
 
-pub held-empty : (h : Held) → h.batches.items ≡ [] → h.batch_stats.items ≡ [] → h.book.items ≡ [] → h.rows ≡ 0 → AreStatsOf (arc_value h.schema) [] (arc_value h.stats).items
-    → dictionaries_in h ≡ dictionaries_of (arc_value h.schema) [] → IsHeld h
-held-empty h batches pieces entries rows are texts =
+pub storage-empty : (h : Storage) → h.batches.items ≡ [] → h.batch_stats.items ≡ [] → h.book.items ≡ [] → h.rows ≡ 0 → AreStatsOf (arc_value h.schema) [] (arc_value h.stats).items
+    → dictionaries_in h ≡ dictionaries_of (arc_value h.schema) [] → IsConsistent h
+storage-empty h batches pieces entries rows are texts =
     let fields = arc_value h.schema in
     let no_batches : batches_of h ≡ [] = ap (map arc_value) batches in
     let no_pieces : pieces_in h ≡ [] = ap (map (λ (s : Arc (Vec ColumnStats Global) Global). (arc_value s).items)) pieces in
@@ -130,7 +130,7 @@ no_table [] none = refl
 no_table (b ∷ batches) none = absurd cc
 
 -- a table that shows nothing has no texts
-pub texts-empty : (h : Held) (given : List FieldShape) (count : ℕ) (pools : List (List (List ℕ))) → ◌≡◌ {A = Contents} (show h) (record { fields = stored_fields given; history = []; batches = [] })
+pub texts-empty : (h : Storage) (given : List FieldShape) (count : ℕ) (pools : List (List (List ℕ))) → ◌≡◌ {A = Contents} (show h) (record { fields = stored_fields given; history = []; batches = [] })
     → count ≡ length given → pools ≡ replicate count [] → AreTexts h (table_of (batches_of h)) pools
 texts-empty h given count pools shows same is =
     let fields : arc_value h.schema ≡ stored_fields given = ap (λ (s : Contents). s.fields) shows in

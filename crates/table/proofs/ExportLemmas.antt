@@ -23,14 +23,14 @@ use Rattle.arrays.specs.Seen.{Seen, part}
 use Rattle.arrays.specs.Shape.{FieldShape, kind_of_field}
 use Rattle.select.proofs.ChosenLemmas.{items-chosen, kind-chosen}
 use Rattle.table.specs.Export.{HasMore, IsLawful, IsPlace, IsUnder, copied, passed, rows_before}
-use Rattle.table.specs.Held.{IsHeld, batches_of, book_of, pair_of, show}
+use Rattle.table.specs.Storage.{IsConsistent, batches_of, book_of, pair_of, show}
 use Rattle.table.specs.History.{cut}
 use Rattle.table.specs.Lawful.{EndsWithEntry, counted, table_of}
 use Rattle.table.specs.declared.entry.Entry.{Entry}
 use Rattle.table.specs.declared.export.Place.{Place}
-use Rattle.table.specs.declared.held.Held.{Held}
+use Rattle.table.specs.declared.storage.Storage.{Storage}
 use Rattle.table.proofs.BatchLemmas.{faultless, length-rows_of, map-same, neither, not-false, sizes, whole, wrong_kind}
-use Rattle.table.proofs.HeldLemmas.{length-book}
+use Rattle.table.proofs.StorageLemmas.{length-book}
 use Rattle.table.proofs.TableLemmas.{counted-push, table_of-push}
 use Rattle.types.specs.Limits.{most_slots}
 
@@ -225,7 +225,7 @@ record Begins (batches : List Batch) (entries : List (ℕ × ℕ)) (k : ℕ) (e 
   pub more : passed batches p < length (table_of batches) → HasMore batches p
 
 -- its batch has all of them
-entry-fits : (h : Held) → IsHeld h → (k : ℕ) (e : ℕ × ℕ) (p : Place) (d : Batch) → Begins (batches_of h) (book_of h) k e p → p.used + e.1 ≤ (get_or (batches_of h) p.batch d).rows
+entry-fits : (h : Storage) → IsConsistent h → (k : ℕ) (e : ℕ × ℕ) (p : Place) (d : Batch) → Begins (batches_of h) (book_of h) k e p → p.used + e.1 ≤ (get_or (batches_of h) p.batch d).rows
 entry-fits h is k e p d at =
     let batches = batches_of h in
     let entries = book_of h in
@@ -245,11 +245,11 @@ take-next xs k x at =
     take_more xs k x (slice_get_within xs k x at) ∙ ap (λ y. take k xs ++ y ∷ []) (get_or_from_slice_get xs k x x at)
 
 -- the tables of a table's history
-abbrev pub tables : Held → List Table
+abbrev pub tables : Storage → List Table
 tables h = map (λ (e : ℕ × Table). e.1) (show h).history
 
 -- they are the next table
-entry-table : (h : Held) (k : ℕ) (e : ℕ × ℕ) (p : Place) (d : Batch) (t : Table) → Begins (batches_of h) (book_of h) k e p → p.used + e.1 ≤ (get_or (batches_of h) p.batch d).rows
+entry-table : (h : Storage) (k : ℕ) (e : ℕ × ℕ) (p : Place) (d : Batch) (t : Table) → Begins (batches_of h) (book_of h) k e p → p.used + e.1 ≤ (get_or (batches_of h) p.batch d).rows
     → t ≡ slice (rows_of (get_or (batches_of h) p.batch d)) p.used e.1 → take (k + 1) (tables h) ≡ take k (tables h) ++ t ∷ []
 entry-table h k e p d t at fits is =
     let all = table_of (batches_of h) in
@@ -258,7 +258,7 @@ entry-table h k e p d t at fits is =
     take-next (tables h) k t (table-at (book_of h) all k e at.entry ∙ ap Some here)
 
 -- Entry k lies in the batch, from the place on.
-pub record Lies (h : Held) (k : ℕ) (e : ℕ × ℕ) (p : Place) (b : Batch) : Type 0 where
+pub record Lies (h : Storage) (k : ℕ) (e : ℕ × ℕ) (p : Place) (b : Batch) : Type 0 where
   pub within : p.batch < length h.batches.items
   pub fits : p.used + e.1 ≤ b.rows
   pub small : b.rows ≤ most_slots
@@ -267,7 +267,7 @@ pub record Lies (h : Held) (k : ℕ) (e : ℕ × ℕ) (p : Place) (b : Batch) : 
   pub behind : rows_before (batches_of h) p.batch + (p.used + e.1) ≡ counted (take (k + 1) (book_of h))
   pub table : (t : Table) → t ≡ slice (rows_of b) p.used e.1 → take (k + 1) (tables h) ≡ take k (tables h) ++ t ∷ []
 
-lies-there : (h : Held) → IsHeld h → (k : ℕ) (e : ℕ × ℕ) (p : Place) (x : Shared) → Begins (batches_of h) (book_of h) k e p → x ≡ get_or h.batches.items p.batch x → Lies h k e p (arc_value x)
+lies-there : (h : Storage) → IsConsistent h → (k : ℕ) (e : ℕ × ℕ) (p : Place) (x : Shared) → Begins (batches_of h) (book_of h) k e p → x ≡ get_or h.batches.items p.batch x → Lies h k e p (arc_value x)
 lies-there h is k e p x at there =
     let b = get_or (batches_of h) p.batch (arc_value x) in
     let below : p.batch < length h.batches.items = omega (arith, at.within, length-map h.batches.items (λ (y : Shared). arc_value y)) in
@@ -289,7 +289,7 @@ lies-there h is k e p x at there =
     few n small = grind (arith, nat_tests)
 
 -- the batch that is found for an entry is such a one
-pub lies : (h : Held) → IsHeld h → (k : ℕ) (batches : List Shared) (entries : List Entry) (d : Entry) (p q : Place) (x : Shared)
+pub lies : (h : Storage) → IsConsistent h → (k : ℕ) (batches : List Shared) (entries : List Entry) (d : Entry) (p q : Place) (x : Shared)
     → batches ≡ h.batches.items → entries ≡ h.book.items → k < length entries → passed (batches_of h) p ≡ counted (take k (book_of h))
     → passed (map (λ (b : Shared). arc_value b) batches) q ≡ passed (map (λ (b : Shared). arc_value b) batches) p → IsPlace (map (λ (b : Shared). arc_value b) batches) q
     → q.batch < length batches
@@ -313,5 +313,5 @@ lies h is k batches entries d p q x stored book below before same place within m
     lies-there h is k e q x (subst (λ (l : List Batch). Begins l (book_of h) k e q) all_is begun) there
 
 -- all entries have their tables
-pub tables-all : (h : Held) (k : ℕ) → length h.book.items ≤ k → take k (tables h) ≡ tables h
+pub tables-all : (h : Storage) (k : ℕ) → length h.book.items ≤ k → take k (tables h) ≡ tables h
 tables-all h k over = take_all k (tables h) (omega (arith, over, length-book h, length-map (show h).history (λ (e : ℕ × Table). e.1)))

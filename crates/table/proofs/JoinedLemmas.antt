@@ -30,19 +30,19 @@ use Rattle.compaction.specs.Under.{HaveStats, IsDictionary, IsUnder, pieces_of}
 use Rattle.compaction.proofs.GroupLemmas.{groups-few, groups-some, groups-together}
 use Rattle.table.specs.Cause.{IsLegal, null_cause, null_in, null_row}
 use Rattle.table.specs.Compacted.{IsCompacted}
-use Rattle.table.specs.Held.{IsHeld, IsSame, IsWith, batches_of, book_of, dictionaries_in, pieces_in, show}
+use Rattle.table.specs.Storage.{IsConsistent, IsSame, IsWith, batches_of, book_of, dictionaries_in, pieces_in, show}
 use Rattle.table.specs.History.{cut}
 use Rattle.table.specs.Lawful.{EndsWithEntry, IsStored, LawfulTable, counted, dictionaries_of, dictionary_in, table_of, texts_in}
 use Rattle.compaction.specs.Statistics.{AreStatsOf}
 use Rattle.table.specs.Ready.{AreTexts, BeginWithTexts, all_texts}
 use Rattle.table.specs.Stored.{is_text_field}
-use Rattle.table.specs.declared.held.Held.{Held}
+use Rattle.table.specs.declared.storage.Storage.{Storage}
 use Rattle.table.specs.declared.refusal.Refusal.TheVariants.{NullInNonNullable}
 use Rattle.pool.proofs.PlaceLemmas.{among_missing}
 use Rattle.table.proofs.BatchLemmas.{HasColumns-rows_of, missing, neither, not-false, whole, wrong_kind}
 use Rattle.table.proofs.KeptLemmas.{Kept}
 use Rattle.table.proofs.FrontLemmas.{prefix_self}
-use Rattle.table.proofs.PutLemmas.{Held-same}
+use Rattle.table.proofs.PutLemmas.{Storage-same}
 use Rattle.table.proofs.TableLemmas.{column-append}
 
 -- ---- dictionaries
@@ -62,12 +62,12 @@ dictionaries-all : (fields : List FieldShape) (t : Table) → AllZip IsDictionar
 unfolding dictionaries_of
 dictionaries-all fields t = dictionaries-from t 0 fields
 
-pub held-dictionaries : (h : Held) → IsHeld h → AllZip IsDictionary (arc_value h.schema) (dictionaries_in h)
-held-dictionaries h is =
+pub storage-dictionaries : (h : Storage) → IsConsistent h → AllZip IsDictionary (arc_value h.schema) (dictionaries_in h)
+storage-dictionaries h is =
     subst (AllZip IsDictionary (arc_value h.schema)) (sym is.lawful.texts) (dictionaries-all (arc_value h.schema) (table_of (batches_of h)))
 
-pub held-under : (h : Held) → IsHeld h → All (IsUnder (arc_value h.schema) (dictionaries_in h)) (batches_of h)
-held-under h is = λ i b below.
+pub storage-under : (h : Storage) → IsConsistent h → All (IsUnder (arc_value h.schema) (dictionaries_in h)) (batches_of h)
+storage-under h is = λ i b below.
     let stored = is.lawful.stored i b below in
     record { same = stored.same; lawful = stored.lawful; fronts = is.lawful.fronts i b below }
 
@@ -143,8 +143,8 @@ parts-of fields dictionaries (b ∷ batches) (s ∷ pieces) under have =
       parts-of fields dictionaries batches pieces (λ i d below. under (suc i) d (omega (arith, below))) have.1,
     )
 
-pub held-stats : (h : Held) → IsHeld h → HaveStats (batches_of h) (pieces_in h)
-held-stats h is = have-stats (arc_value h.schema) (batches_of h) (pieces_in h) is.lawful.stored is.lawful.parts
+pub storage-stats : (h : Storage) → IsConsistent h → HaveStats (batches_of h) (pieces_in h)
+storage-stats h is = have-stats (arc_value h.schema) (batches_of h) (pieces_in h) is.lawful.stored is.lawful.parts
 
 -- ---- nulls
 
@@ -259,8 +259,8 @@ module _ (fields : List FieldShape) (m : ℕ) (olds news : List Batch) (groups :
 
 -- ---- what is held
 
-module _ (h other : Held) (m : ℕ) (batches : List (Arc Batch Global)) (theirs : List (Arc (Vec ColumnStats Global) Global))
-    (is : IsHeld h) (with : IsWith batches theirs h other) (groups : AreGroups (arc_value h.schema) m (tables_of (batches_of h)) (tables_of (map arc_value batches)))
+module _ (h other : Storage) (m : ℕ) (batches : List (Arc Batch Global)) (theirs : List (Arc (Vec ColumnStats Global) Global))
+    (is : IsConsistent h) (with : IsWith batches theirs h other) (groups : AreGroups (arc_value h.schema) m (tables_of (batches_of h)) (tables_of (map arc_value batches)))
     (under : All (IsUnder (arc_value h.schema) (dictionaries_in h)) (map arc_value batches)) (have : HaveStats (map arc_value batches) (pieces_of theirs)) where
   lawful : LawfulTable (arc_value h.schema) (map arc_value batches) (pieces_of theirs) (arc_value h.stats).items (dictionaries_in h) (book_of h)
   lawful =
@@ -276,8 +276,8 @@ module _ (h other : Held) (m : ℕ) (batches : List (Arc Batch Global)) (theirs 
       ∙ ap (λ (b : List Batch). cut (book_of h) (table_of b)) batches_are
       ∙ ap (cut (book_of h)) (same-table (arc_value h.schema) m (batches_of h) (map arc_value batches) groups)
 
-  pub joined-held : IsHeld other
-  joined-held = record {
+  pub joined-storage : IsConsistent other
+  joined-storage = record {
     lawful =
         subst (λ (f : List FieldShape). LawfulTable f (batches_of other) (pieces_in other) (arc_value other.stats).items (dictionaries_in other) (book_of other)) (sym with.schema)
         (subst (λ (b : List Batch). LawfulTable (arc_value h.schema) b (pieces_in other) (arc_value other.stats).items (dictionaries_in other) (book_of other)) (sym batches_are)
@@ -298,7 +298,7 @@ module _ (h other : Held) (m : ℕ) (batches : List (Arc Batch Global)) (theirs 
     groups = subst (λ (b : List Batch). AreGroups (arc_value h.schema) m (tables_of (batches_of h)) (tables_of b)) (sym batches_are) groups;
   }
 
-pub compacted-table : (h other : Held) (m : ℕ) → IsCompacted m (show h) (show other) → table_of (batches_of other) ≡ table_of (batches_of h)
+pub compacted-table : (h other : Storage) (m : ℕ) → IsCompacted m (show h) (show other) → table_of (batches_of other) ≡ table_of (batches_of h)
 compacted-table h other m is = same-table (arc_value h.schema) m (batches_of h) (batches_of other) is.groups
 
 -- ---- texts
@@ -307,26 +307,26 @@ all-begin : (texts : List (List (List ℕ))) → AllZip IsPrefix texts texts
 all-begin [] = tt
 all-begin (t ∷ texts) = (prefix_self t, all-begin texts)
 
-pub texts-begin : (h : Held) (t : Table) (pools : List (List (List ℕ))) → AreTexts h t pools → BeginWithTexts h t pools
+pub texts-begin : (h : Storage) (t : Table) (pools : List (List (List ℕ))) → AreTexts h t pools → BeginWithTexts h t pools
 texts-begin h t pools are = subst (AllZip IsPrefix (all_texts h t)) (sym are) (all-begin (all_texts h t))
 
 -- the texts are those of the same rows
-pub texts-same : (h other : Held) (pools : List (List (List ℕ))) → (arc_value other.schema ≡ arc_value h.schema) × (table_of (batches_of other) ≡ table_of (batches_of h)) → AreTexts h (table_of (batches_of h)) pools → AreTexts other (table_of (batches_of other)) pools
+pub texts-same : (h other : Storage) (pools : List (List (List ℕ))) → (arc_value other.schema ≡ arc_value h.schema) × (table_of (batches_of other) ≡ table_of (batches_of h)) → AreTexts h (table_of (batches_of h)) pools → AreTexts other (table_of (batches_of other)) pools
 texts-same h other pools same are =
     are
     ∙ ap (λ (t : Table). map (texts_in t) (enumerate_from 0 (arc_value h.schema))) (sym same.1)
     ∙ ap (λ (f : List FieldShape). map (texts_in (table_of (batches_of other))) (enumerate_from 0 f)) (sym same.0)
 
 -- whether the change was committed or not
-pub after-commit : {L : Type 0} (r : Result L NoMemory) (h next new : Held) (olds pools : Vec (List (List ℕ)) Global) → IsHeld h → AreTexts h (table_of (batches_of h)) olds.items
-    → IsHeld next → (arc_value next.schema ≡ arc_value h.schema) × (table_of (batches_of next) ≡ table_of (batches_of h))
+pub after-commit : {L : Type 0} (r : Result L NoMemory) (h next new : Storage) (olds pools : Vec (List (List ℕ)) Global) → IsConsistent h → AreTexts h (table_of (batches_of h)) olds.items
+    → IsConsistent next → (arc_value next.schema ≡ arc_value h.schema) × (table_of (batches_of next) ≡ table_of (batches_of h))
     → OnOk r (IsSame next new) → OnOk r (pools ≡ olds) → OnErr r (new ≡ h) → OnErr r (AreTexts h (table_of (batches_of h)) pools.items)
-    → IsHeld new × AreTexts new (table_of (batches_of new)) pools.items
+    → IsConsistent new × AreTexts new (table_of (batches_of new)) pools.items
 after-commit (Ok seen) h next new olds pools is are stands same committed kept unchanged back = (
-  Held-same next new committed stands,
+  Storage-same next new committed stands,
   texts-same h new pools.items (committed.schema ∙ same.0, ap table_of committed.batches ∙ same.1) (ap (λ (v : Vec (List (List ℕ)) Global). v.items) kept ∙ are),
 )
 after-commit (Err e) h next new olds pools is are stands same committed kept unchanged back = (
-  subst IsHeld (sym unchanged) is,
-  subst (λ (x : Held). AreTexts x (table_of (batches_of x)) pools.items) (sym unchanged) back,
+  subst IsConsistent (sym unchanged) is,
+  subst (λ (x : Storage). AreTexts x (table_of (batches_of x)) pools.items) (sym unchanged) back,
 )

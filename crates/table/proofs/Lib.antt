@@ -2,7 +2,7 @@
 pub mod HistoryLemmas
 pub mod FrontLemmas
 pub mod TableLemmas
-pub mod HeldLemmas
+pub mod StorageLemmas
 pub mod PutLemmas
 pub mod CodeLemmas
 pub mod EarlyLemmas

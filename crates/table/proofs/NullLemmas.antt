@@ -78,6 +78,6 @@ position-found p xs i d none below here =
     ap (λ n. cond (nat_lt n (length xs)) (Some n) None) there ∙ ap (λ b. cond b (Some i) None) (lt-ltb i (length xs) below)
 
 -- a slot that holds no item is null
-pub null_there : (b held : Bool) → held ≡ not b → held ≡ false → b ≡ true
-null_there true held is none = refl
-null_there false held is none = absurd cc
+pub null_there : (b storage : Bool) → storage ≡ not b → storage ≡ false → b ≡ true
+null_there true storage is none = refl
+null_there false storage is none = absurd cc

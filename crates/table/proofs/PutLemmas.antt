@@ -17,15 +17,15 @@ use Rattle.std.specs.Bool.{then_some}
 use Rattle.compaction.specs.Under.{pieces_of}
 use Rattle.table.specs.Cause.{IsLegal, batch_cause, cause, difference, is_book_full, is_table_full, null_cause, texts_cause}
 use Rattle.table.specs.Contents.{Contents, admitted}
-use Rattle.table.specs.Held.{IsHeld, IsPut, IsSame, IsWith, batches_of, book_of, dictionaries_in, pieces_in, show}
+use Rattle.table.specs.Storage.{IsConsistent, IsPut, IsSame, IsWith, batches_of, book_of, dictionaries_in, pieces_in, show}
 use Rattle.table.specs.History.{History, cut, rows}
 use Rattle.table.specs.Lawful.{LawfulTable, counted, dictionaries_of, table_of, texts_in}
 use Rattle.table.specs.Ready.{AreTexts, IsReady}
 use Rattle.table.specs.declared.change.Addition.{Addition}
-use Rattle.table.specs.declared.held.Held.{Held}
+use Rattle.table.specs.declared.storage.Storage.{Storage}
 use Rattle.table.specs.declared.refusal.Refusal.TheVariants.{BookFull, SchemaDiffers, TableFull}
 use Rattle.table.proofs.BatchLemmas.{length-rows_of}
-use Rattle.table.proofs.HeldLemmas.{rows-shown}
+use Rattle.table.proofs.StorageLemmas.{rows-shown}
 use Rattle.table.proofs.HistoryLemmas.{IsLegal-push, cut-push, length-cut}
 use Rattle.table.proofs.TableLemmas.{Lawful-push, table_of-push}
 use Rattle.types.proofs.FirstLemmas.{first-none, then_some-none}
@@ -59,8 +59,8 @@ cause-none fields h b none =
 
 -- ---- the same parts
 
-pub Held-same : (h g : Held) → IsSame h g → IsHeld h → IsHeld g
-Held-same h g same is = record {
+pub Storage-same : (h g : Storage) → IsSame h g → IsConsistent h → IsConsistent g
+Storage-same h g same is = record {
   lawful =
       subst (λ (f : List FieldShape). LawfulTable f (batches_of g) (pieces_in g) (arc_value g.stats).items (dictionaries_in g) (book_of g)) (sym same.schema)
       (subst (λ (b : List Batch). LawfulTable (arc_value h.schema) b (pieces_in g) (arc_value g.stats).items (dictionaries_in g) (book_of g)) (sym same.batches)
@@ -74,14 +74,14 @@ Held-same h g same is = record {
       (subst (λ (s : Contents). IsLegal (arc_value h.schema) s.history) (sym (show-same h g same)) is.legal);
 }
   where
-    show-same : (h g : Held) → IsSame h g → show g ≡ show h
+    show-same : (h g : Storage) → IsSame h g → show g ≡ show h
     show-same h g same = λ i. record {
       fields = same.schema i;
       history = cut (same.book i) (table_of (same.batches i));
       batches = map rows_of (same.batches i);
     }
 
-pub show-same : (h g : Held) → IsSame h g → show g ≡ show h
+pub show-same : (h g : Storage) → IsSame h g → show g ≡ show h
 show-same h g same = λ i. record {
   fields = same.schema i;
   history = cut (same.book i) (table_of (same.batches i));
@@ -89,12 +89,12 @@ show-same h g same = λ i. record {
 }
 
 -- what holds of what is answered
-pub if-ok : {P Q : Held → Type 0} → ((h : Held) → P h → Q h) → (r : Result Held NoMemory) → IfOk r P → IfOk r Q
+pub if-ok : {P Q : Storage → Type 0} → ((h : Storage) → P h → Q h) → (r : Result Storage NoMemory) → IfOk r P → IfOk r Q
 if-ok more (Err e) is = tt
 if-ok more (Ok h) is = more h is
 
 -- other batches and statistics, which are the same
-pub with-same : (h other : Held) (batches : List (Arc Batch Global)) (pieces : List (Arc (Vec ColumnStats Global) Global))
+pub with-same : (h other : Storage) (batches : List (Arc Batch Global)) (pieces : List (Arc (Vec ColumnStats Global) Global))
     → map arc_value batches ≡ batches_of h → pieces_of pieces ≡ pieces_in h → IsWith batches pieces h other → IsSame h other
 with-same h other batches pieces same_batches same_pieces is = record {
   schema = is.schema;
@@ -108,14 +108,14 @@ with-same h other batches pieces same_batches same_pieces is = record {
 
 -- ---- what is shared, with a shared batch put in
 
-module _ (h s r : Held) (p q : Addition) (shared : IsSame h s) (reserved : IsSame s r) (batch : arc_value q.batch ≡ arc_value p.batch) where
+module _ (h s r : Storage) (p q : Addition) (shared : IsSame h s) (reserved : IsSame s r) (batch : arc_value q.batch ≡ arc_value p.batch) where
   rows_new : (arc_value q.batch).rows ≡ (arc_value p.batch).rows
   rows_new = ap (λ (b : Batch). b.rows) batch
 
   pub shared-few : h.rows + (arc_value p.batch).rows ≤ 2 ^ 40 → r.rows + (arc_value q.batch).rows ≤ 2 ^ 40
   shared-few few = omega (arith, few, shared.rows, reserved.rows, rows_new)
 
-  pub put-shared : (g : Held) (worker : ℕ) → IsPut worker q r g → arc_value q.batch_stats ≡ arc_value p.batch_stats → arc_value q.stats ≡ arc_value p.stats
+  pub put-shared : (g : Storage) (worker : ℕ) → IsPut worker q r g → arc_value q.batch_stats ≡ arc_value p.batch_stats → arc_value q.stats ≡ arc_value p.stats
       → map (option_map arc_value) q.dictionaries.items ≡ map (option_map arc_value) p.dictionaries.items → IsPut worker p h g
   put-shared g worker put pieces stats dictionaries = record {
     schema = put.schema ∙ reserved.schema ∙ shared.schema;
@@ -135,7 +135,7 @@ module _ (h s r : Held) (p q : Addition) (shared : IsSame h s) (reserved : IsSam
 
 -- ---- one batch more
 
-module _ (h g : Held) (b : Batch) (worker : ℕ) (p : Addition) (is : IsHeld h) (ready : IsReady h b p) (put : IsPut worker p h g) where
+module _ (h g : Storage) (b : Batch) (worker : ℕ) (p : Addition) (is : IsConsistent h) (ready : IsReady h b p) (put : IsPut worker p h g) where
   same_cause : cause (arc_value h.schema) (show h).history (rows_of b) ≡ None
   same_cause = cause-none (arc_value h.schema) (show h).history b ready.allowed
 
@@ -185,8 +185,8 @@ module _ (h g : Held) (b : Batch) (worker : ℕ) (p : Addition) (is : IsHeld h) 
       ap (λ (l : List Batch). map rows_of l) put.batches ∙ map-append rows_of (batches_of h) (arc_value p.batch ∷ []) ∙ ap (λ (t : Table). map rows_of (batches_of h) ++ t ∷ []) ready.rows in
       λ i. record { fields = fields i; history = cuts i; batches = tables i }
 
-  pub put-held : IsHeld g
-  put-held = record {
+  pub put-storage : IsConsistent g
+  put-storage = record {
     lawful =
         subst (λ (f : List FieldShape). LawfulTable f (batches_of g) (pieces_in g) (arc_value g.stats).items (dictionaries_in g) (book_of g)) (sym put.schema)
         (subst (λ (l : List Batch). LawfulTable (arc_value h.schema) l (pieces_in g) (arc_value g.stats).items (dictionaries_in g) (book_of g)) (sym put.batches)

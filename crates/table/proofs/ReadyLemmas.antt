@@ -9,17 +9,17 @@ use Rattle.arrays.specs.Shape.{FieldShape}
 use Rattle.group.specs.declared.stats.ColumnStats.{ColumnStats}
 use Rattle.table.specs.Cause.{batch_cause, difference, early_cause, null_cause}
 use Rattle.group.specs.Columns.{AreJoined, AreTheirs}
-use Rattle.table.specs.Held.{IsHeld, batches_of, show}
+use Rattle.table.specs.Storage.{IsConsistent, batches_of, show}
 use Rattle.compaction.specs.Under.{NamesFront}
 use Rattle.table.specs.Lawful.{dictionaries_of, table_of, texts_in}
 use Rattle.compaction.specs.Statistics.{AreStatsOf}
 use Rattle.table.specs.Ready.{AreTexts, IsReady}
 use Rattle.table.specs.Recoded.{dictionary_for, full_cause, grown, stored_seen}
 use Rattle.table.specs.declared.change.Addition.{Addition}
-use Rattle.table.specs.declared.held.Held.{Held}
+use Rattle.table.specs.declared.storage.Storage.{Storage}
 use Rattle.table.specs.declared.refusal.Refusal.{Refusal}
 use Rattle.table.specs.declared.refusal.Refusal.TheVariants.{NoMemory}
-use Rattle.table.proofs.HeldLemmas.{rows-shown}
+use Rattle.table.proofs.StorageLemmas.{rows-shown}
 use Rattle.table.proofs.EarlyLemmas.{early-none, few-rows, late-cause}
 use Rattle.table.proofs.GrownLemmas.{count-all, dictionary-all, full-cause, grown-all}
 use Rattle.table.proofs.KeptLemmas.{IsFew, Kept, few-all, front-all, joined-all, kept-all, kept-lawful, kept-rows, same-many, theirs-all}
@@ -28,13 +28,13 @@ use Rattle.table.proofs.SuitLemmas.{AllSuit, AreTyped, suits-batch, typed-rows}
 pub some-none : {X : Type 0} (o : Option X) (x : X) → o ≡ Some x → o ≡ None → ⊥
 some-none o x some none = cc
 
--- A refusal told of the columns is told of the batch.
-pub told : {T : Type 0} (r : Result T Refusal) (e : Refusal) (o p : Option Refusal) → IsErrAnd r (λ x. x ≡ e) → (e ≡ NoMemory) ⊎ (o ≡ Some e) → o ≡ p
+-- A refusal reported of the columns is reported of the batch.
+pub reported : {T : Type 0} (r : Result T Refusal) (e : Refusal) (o p : Option Refusal) → IsErrAnd r (λ x. x ≡ e) → (e ≡ NoMemory) ⊎ (o ≡ Some e) → o ≡ p
     → IfErr r (λ x. (x ≡ NoMemory) ⊎ (p ≡ Some x))
-told (Ok v) e o p same found is = tt
-told (Err x) e o p same found is = elim found [ inl h ↦ inl (same ∙ h) | inr h ↦ inr (sym is ∙ h ∙ ap (λ y. Some y) (sym same)) ]
+reported (Ok v) e o p same found is = tt
+reported (Err x) e o p same found is = elim found [ inl h ↦ inl (same ∙ h) | inr h ↦ inr (sym is ∙ h ∙ ap (λ y. Some y) (sym same)) ]
 
-module _ (h : Held) (b : Batch) (is : IsHeld h) (early : early_cause (arc_value h.schema) (show h).history b ≡ None)
+module _ (h : Storage) (b : Batch) (is : IsConsistent h) (early : early_cause (arc_value h.schema) (show h).history b ≡ None)
     (lawful : batch_fault b.fields b.rows b.columns ≡ None) (typed : AreTyped b.columns)
     (pools : List (List (List ℕ))) (are : AreTexts h (table_of (batches_of h)) pools) (columns : List Seen) (same : columns ≡ b.columns) where
   abbrev fields : List FieldShape

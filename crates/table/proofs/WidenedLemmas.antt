@@ -22,7 +22,7 @@ use Rattle.table.specs.declared.refusal.Refusal.{Refusal}
 use Rattle.table.specs.declared.refusal.Refusal.TheVariants.{BookFull, NullInNonNullable, TableFull, TextsFull}
 use Rattle.table.proofs.BatchLemmas.{map-same}
 use Rattle.table.proofs.EmptyLemmas.{enumerate_from-push}
-use Rattle.table.proofs.HeldLemmas.{length-all_zip}
+use Rattle.table.proofs.StorageLemmas.{length-all_zip}
 
 -- ---- rows
 

@@ -25,21 +25,21 @@ use Rattle.group.specs.declared.stats.ColumnStats.{ColumnStats}
 use Rattle.pool.specs.Texts.{firsts, texts_of}
 use Rattle.table.specs.Cause.{IsLegal, null_cause}
 use Rattle.table.specs.Contents.{Contents}
-use Rattle.table.specs.Held.{IsHeld, IsSame, batches_of, book_of, dictionaries_in, pieces_in, show}
+use Rattle.table.specs.Storage.{IsConsistent, IsSame, batches_of, book_of, dictionaries_in, pieces_in, show}
 use Rattle.table.specs.History.{cut, rows}
 use Rattle.table.specs.Lawful.{EndsWithEntry, IsStored, LawfulTable, counted, dictionaries_of, dictionary_in, table_of, texts_in}
 use Rattle.table.specs.Ready.{AreTexts}
 use Rattle.table.specs.Stored.{is_text_field}
 use Rattle.table.specs.Widened.{widened, widened_row, widened_table, with_field}
 use Rattle.table.specs.Widening.{AreAllWider, AreWider, IsWider, no_texts, with_nulls}
-use Rattle.table.specs.declared.held.Held.{Held}
+use Rattle.table.specs.declared.storage.Storage.{Storage}
 use Rattle.table.proofs.BatchLemmas.{length-rows_of, map-same, whole}
 use Rattle.table.proofs.EmptyLemmas.{enumerate_from-push, none_if}
 use Rattle.table.proofs.FrontLemmas.{prefix_self}
-use Rattle.table.proofs.HeldLemmas.{rows-shown}
+use Rattle.table.proofs.StorageLemmas.{rows-shown}
 use Rattle.table.proofs.JoinedLemmas.{kept-batch}
 use Rattle.table.proofs.KeptLemmas.{Kept, kept-lawful}
-use Rattle.table.proofs.PutLemmas.{Held-same, show-same}
+use Rattle.table.proofs.PutLemmas.{Storage-same, show-same}
 use Rattle.table.proofs.WidenedLemmas.{column-added, column-behind, cut-widened, legal-wider, null_cause-wider, row-one, rows-widened, table-append, table-column, texts-null}
 
 -- ---- columns of nulls
@@ -296,7 +296,7 @@ lawful-wider fields f nullable batches pieces theirs stats after dictionaries en
 
 -- ---- what is held
 
-module _ (h g : Held) (f : FieldShape) (nullable : is_nullable f ≡ true) (is : IsHeld h) (wide : IsWider f h g) where
+module _ (h g : Storage) (f : FieldShape) (nullable : is_nullable f ≡ true) (is : IsConsistent h) (wide : IsWider f h g) where
   history : (show g).history ≡ widened (length (arc_value h.schema) + 1) (show h).history
   history =
       ap (λ (e : List (ℕ × ℕ)). cut e (table_of (batches_of g))) wide.book
@@ -315,8 +315,8 @@ module _ (h g : Held) (f : FieldShape) (nullable : is_nullable f ≡ true) (is :
       lawful-wider (arc_value h.schema) f nullable (batches_of h) (pieces_in h) (pieces_in g) (arc_value h.stats).items (arc_value g.stats).items (dictionaries_in h) (book_of h) is.lawful wide.pieces
       (subst (λ m. AreWider (kind_of_field f) m (arc_value h.stats).items (arc_value g.stats).items) (is.rows ∙ is.lawful.counts) wide.stats)
 
-  pub wider-held : IsHeld g
-  wider-held = record {
+  pub wider-storage : IsConsistent g
+  wider-storage = record {
     lawful =
         subst (λ (l : List FieldShape). LawfulTable l (batches_of g) (pieces_in g) (arc_value g.stats).items (dictionaries_in g) (book_of g)) (sym wide.schema)
         (subst (λ (l : List Batch). LawfulTable (arc_value h.schema ++ f ∷ []) l (pieces_in g) (arc_value g.stats).items (dictionaries_in g) (book_of g)) (sym wide.batches)
@@ -329,7 +329,7 @@ module _ (h g : Held) (f : FieldShape) (nullable : is_nullable f ≡ true) (is :
   }
 
 -- the texts of a table that shows a field more
-pub texts-shown : (h g : Held) (f : FieldShape) (pools : List (List (List ℕ))) → IsHeld h → IsHeld g → ◌≡◌ {A = Contents} (show g) (with_field (show h) f) → AreTexts h (table_of (batches_of h)) pools
+pub texts-shown : (h g : Storage) (f : FieldShape) (pools : List (List (List ℕ))) → IsConsistent h → IsConsistent g → ◌≡◌ {A = Contents} (show g) (with_field (show h) f) → AreTexts h (table_of (batches_of h)) pools
     → AreTexts g (table_of (batches_of g)) (pools ++ [] ∷ [])
 texts-shown h g f pools is stands shows are =
     let fields : arc_value g.schema ≡ arc_value h.schema ++ f ∷ [] = ap (λ (s : Contents). s.fields) shows in
@@ -342,10 +342,10 @@ texts-shown h g f pools is stands shows are =
     ∙ ap (λ (l : List FieldShape). map (texts_in (table_of (batches_of g))) (enumerate_from 0 l)) (sym fields)
 
 -- the table after the change, with a pool more
-pub added-held : (h next new : Held) (f : FieldShape) (olds pools : List (List (List ℕ))) → IsHeld h → AreTexts h (table_of (batches_of h)) olds → IsHeld next → ◌≡◌ {A = Contents} (show next) (with_field (show h) f)
-    → IsSame next new → pools ≡ olds ++ [] ∷ [] → IsHeld new × AreTexts new (table_of (batches_of new)) pools
-added-held h next new f olds pools is are stands shows same pushed =
-    let holds = Held-same next new same stands in (
+pub added-storage : (h next new : Storage) (f : FieldShape) (olds pools : List (List (List ℕ))) → IsConsistent h → AreTexts h (table_of (batches_of h)) olds → IsConsistent next → ◌≡◌ {A = Contents} (show next) (with_field (show h) f)
+    → IsSame next new → pools ≡ olds ++ [] ∷ [] → IsConsistent new × AreTexts new (table_of (batches_of new)) pools
+added-storage h next new f olds pools is are stands shows same pushed =
+    let holds = Storage-same next new same stands in (
       holds,
       pushed ∙ texts-shown h new f olds is holds (show-same next new same ∙ shows) are,
     )

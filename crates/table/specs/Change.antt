@@ -1,17 +1,17 @@
 -- A change of what a table holds.
 use Rattle.std.specs.Prelude.{◌≤◌, ◌^◌, ◌+◌, ⊤}
 use Rattle.std.specs.Arc.{arc_value}
-use Rattle.table.specs.Held.{HasRoom, IsPut, IsSame}
+use Rattle.table.specs.Storage.{HasRoom, IsPut, IsSame}
 use Rattle.table.specs.declared.change.Change.{Change}
 use Rattle.table.specs.declared.change.Change.TheVariants.{Batch, Whole}
-use Rattle.table.specs.declared.held.Held.{Held}
+use Rattle.table.specs.declared.storage.Storage.{Storage}
 
 -- There is room for what comes in, and it isn't too much.
-abbrev pub CanCommit : Change → Held → Type 0
+abbrev pub CanCommit : Change → Storage → Type 0
 CanCommit (Batch worker addition) h = HasRoom h × (h.rows + (arc_value addition.batch).rows ≤ 2 ^ 40)
 CanCommit (Whole next) h = ⊤
 
 -- The second is the first after the change.
-abbrev pub IsNext : Change → Held → Held → Type 0
+abbrev pub IsNext : Change → Storage → Storage → Type 0
 IsNext (Batch worker addition) h other = IsPut worker addition h other
 IsNext (Whole next) h other = IsSame next other

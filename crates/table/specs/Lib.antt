@@ -5,7 +5,7 @@ pub mod Cause
 pub mod Columns
 pub mod Recoded
 pub mod Lawful
-pub mod Held
+pub mod Storage
 pub mod Ready
 pub mod Export
 pub mod Change

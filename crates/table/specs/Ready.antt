@@ -5,27 +5,27 @@ use Rattle.std.specs.List.{AllZip, enumerate_from}
 use mathlib.Core.List.{IsPrefix}
 use Rattle.arrays.specs.Batch.{Batch, rows_of, Table}
 use Rattle.table.specs.Cause.{IsTableOf, batch_cause}
-use Rattle.table.specs.Held.{batches_of, show}
+use Rattle.table.specs.Storage.{batches_of, show}
 use Rattle.compaction.specs.Under.{NamesFront}
 use Rattle.table.specs.Lawful.{IsStored, dictionaries_of, table_of, texts_in}
 use Rattle.compaction.specs.Statistics.{AreStatsOf}
 use Rattle.table.specs.declared.change.Addition.{Addition}
-use Rattle.table.specs.declared.held.Held.{Held}
+use Rattle.table.specs.declared.storage.Storage.{Storage}
 
 -- The texts of each of the table's columns.
-abbrev pub all_texts : Held → Table → List (List (List ℕ))
+abbrev pub all_texts : Storage → Table → List (List (List ℕ))
 all_texts h t = map (texts_in t) (enumerate_from 0 (arc_value h.schema))
 
 -- The pools have these, and no others.
-abbrev pub AreTexts : Held → Table → List (List (List ℕ)) → Type 0
+abbrev pub AreTexts : Storage → Table → List (List (List ℕ)) → Type 0
 AreTexts h t pools = pools ≡ all_texts h t
 
 -- The pools have these first, and maybe others behind them.
-abbrev pub BeginWithTexts : Held → Table → List (List (List ℕ)) → Type 0
+abbrev pub BeginWithTexts : Storage → Table → List (List (List ℕ)) → Type 0
 BeginWithTexts h t pools = AllZip IsPrefix (all_texts h t) pools
 
 -- What is ready is the batch as it is stored after what the table holds.
-pub record IsReady (h : Held) (b : Batch) (p : Addition) : Type 0 where
+pub record IsReady (h : Storage) (b : Batch) (p : Addition) : Type 0 where
   pub allowed : batch_cause (arc_value h.schema) (show h).history b ≡ None
   pub stored : IsStored (arc_value h.schema) (arc_value p.batch)
   pub rows : rows_of (arc_value p.batch) ≡ rows_of b

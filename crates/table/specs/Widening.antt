@@ -12,8 +12,8 @@ use Rattle.arrays.specs.Shape.{FieldShape, kind_of_field}
 use Rattle.arrays.specs.Shown.{shown}
 use Rattle.group.specs.Summary.{AreSame, AreStats}
 use Rattle.group.specs.declared.stats.ColumnStats.{ColumnStats}
-use Rattle.table.specs.Held.{batches_of, book_of, dictionaries_in, pieces_in}
-use Rattle.table.specs.declared.held.Held.{Held}
+use Rattle.table.specs.Storage.{batches_of, book_of, dictionaries_in, pieces_in}
+use Rattle.table.specs.declared.storage.Storage.{Storage}
 
 -- The batch with a column of nulls behind the others.
 abbrev pub with_nulls : FieldShape → Batch → Batch
@@ -40,7 +40,7 @@ abbrev pub AreAllWider : Kind → List Batch → List (List ColumnStats) → Lis
 AreAllWider k batches before after = AllZip (λ p s. AreWider k p.0.rows p.1 s) (zip batches before) after
 
 -- The second is the first with the field behind the others.
-pub record IsWider (f : FieldShape) (h other : Held) : Type 0 where
+pub record IsWider (f : FieldShape) (h other : Storage) : Type 0 where
   pub schema : arc_value other.schema ≡ arc_value h.schema ++ f ∷ []
   pub rows : other.rows ≡ h.rows
   pub batches : batches_of other ≡ map (with_nulls f) (batches_of h)

@@ -2,7 +2,7 @@ use colbits::NoMemory;
 use std::alloc::{AllocError, AllocFailed};
 use thiserror::Error;
 
-/// Why a column isn't added to a table. The first one that stands is told, in this order.
+/// Why a column isn't added to a table. The first one that stands is reported, in this order.
 #[derive(Clone, Copy, Debug, PartialEq, Eq, Error)]
 pub enum AddFault {
     /// The field isn't nullable: rows that are there would have no value.

@@ -8,14 +8,14 @@ ghost use Rattle.arrays.specs.Batch.{rows_of};
 ghost use Rattle.arrays.specs.Typed.{IsItemOf};
 ghost use Rattle.table.specs.Cause.{batch_cause, early_cause};
 ghost use Rattle.group.specs.Columns.{AreTheirs};
-ghost use Rattle.table.specs.Held.{IsHeld, batches_of, show};
+ghost use Rattle.table.specs.Storage.{IsConsistent, batches_of, show};
 ghost use Rattle.table.specs.Lawful.{table_of};
 ghost use Rattle.table.specs.Ready.{AreTexts, BeginWithTexts, IsReady};
 
 use crate::change::{Addition, take_back};
 use crate::columns::{Columns, stored_columns};
-use crate::held::Held;
 use crate::refusal::Refusal;
+use crate::storage::Storage;
 use arrays::{Array, RecordBatch};
 use group::{ColumnStats, joined_all};
 use pool::TextPool;
@@ -26,26 +26,26 @@ use std::sync::Arc;
 /// the batch is refused. Nothing but its texts and the memory can stand against it here.
 pub(crate) fn stage(
     alloc: Global,
-    held: &Held,
+    storage: &Storage,
     pools: &mut Vec<TextPool>,
     batch: &RecordBatch,
     batch_stats: Arc<Vec<ColumnStats>>,
 ) -> Result<Addition, Refusal>
-    requires held { IsHeld held.now }
+    requires storage { IsConsistent storage.now }
     requires stats { AreTheirs batch.now.columns (arc_value batch_stats).items }
-    requires pools { AreTexts held.now (table_of (batches_of held.now)) pools.old.items }
-    requires allowed { early_cause (arc_value held.now.schema) (show held.now).history batch.now ≡ None }
-    ensures ok { IfOk result (λ p. IsReady held.now batch.now p) }
-    ensures pools { OnOk result (AreTexts held.now (table_of (batches_of held.now) ++ rows_of batch.now) pools.new.items) }
-    ensures begun { OnOk result (BeginWithTexts held.now (table_of (batches_of held.now)) pools.new.items) }
+    requires pools { AreTexts storage.now (table_of (batches_of storage.now)) pools.old.items }
+    requires allowed { early_cause (arc_value storage.now.schema) (show storage.now).history batch.now ≡ None }
+    ensures ok { IfOk result (λ p. IsReady storage.now batch.now p) }
+    ensures pools { OnOk result (AreTexts storage.now (table_of (batches_of storage.now) ++ rows_of batch.now) pools.new.items) }
+    ensures begun { OnOk result (BeginWithTexts storage.now (table_of (batches_of storage.now)) pools.new.items) }
     ensures err { IfErr result (λ e. (e ≡ Refusal.NoMemory)
-        ⊎ (batch_cause (arc_value held.now.schema) (show held.now).history batch.now ≡ Some e)) }
+        ⊎ (batch_cause (arc_value storage.now.schema) (show storage.now).history batch.now ≡ Some e)) }
     ensures kept { OnErr result (pools.new.items ≡ pools.old.items) }
 {
-    match recoded(alloc, held, pools, batch, batch_stats) {
+    match recoded(alloc, storage, pools, batch, batch_stats) {
         Ok(addition) => Ok(addition),
         Err(refusal) => {
-            take_back(held, pools);
+            take_back(storage, pools);
             Err(refusal)
         }
     }
@@ -54,29 +54,29 @@ pub(crate) fn stage(
 /// The same, but the pools keep what was added where it fails.
 fn recoded(
     alloc: Global,
-    held: &Held,
+    storage: &Storage,
     pools: &mut Vec<TextPool>,
     batch: &RecordBatch,
     batch_stats: Arc<Vec<ColumnStats>>,
 ) -> Result<Addition, Refusal>
-    requires held { IsHeld held.now }
+    requires storage { IsConsistent storage.now }
     requires stats { AreTheirs batch.now.columns (arc_value batch_stats).items }
-    requires pools { AreTexts held.now (table_of (batches_of held.now)) pools.old.items }
-    requires allowed { early_cause (arc_value held.now.schema) (show held.now).history batch.now ≡ None }
-    ensures ok { IfOk result (λ p. IsReady held.now batch.now p) }
-    ensures pools { OnOk result (AreTexts held.now (table_of (batches_of held.now) ++ rows_of batch.now) pools.new.items) }
+    requires pools { AreTexts storage.now (table_of (batches_of storage.now)) pools.old.items }
+    requires allowed { early_cause (arc_value storage.now.schema) (show storage.now).history batch.now ≡ None }
+    ensures ok { IfOk result (λ p. IsReady storage.now batch.now p) }
+    ensures pools { OnOk result (AreTexts storage.now (table_of (batches_of storage.now) ++ rows_of batch.now) pools.new.items) }
     ensures err { IfErr result (λ e. (e ≡ Refusal.NoMemory)
-        ⊎ (batch_cause (arc_value held.now.schema) (show held.now).history batch.now ≡ Some e)) }
+        ⊎ (batch_cause (arc_value storage.now.schema) (show storage.now).history batch.now ≡ Some e)) }
     ensures begun { AllZip IsPrefix pools.old.items pools.new.items }
 {
     tell_all(batch.columns());
     let Columns {
         columns,
         dictionaries,
-    } = stored_columns(alloc, &held.dictionaries, pools, batch.columns())?;
-    let stats = joined_all(alloc, &held.stats, &batch_stats)?;
+    } = stored_columns(alloc, &storage.dictionaries, pools, batch.columns())?;
+    let stats = joined_all(alloc, &storage.stats, &batch_stats)?;
     // The columns are as long as those of the batch, and of the stored types.
-    let batch = RecordBatch::under(held.schema.clone()?, batch.rows(), columns);
+    let batch = RecordBatch::under(storage.schema.clone()?, batch.rows(), columns);
     Ok(Addition {
         batch: Arc::new(alloc, batch)?,
         batch_stats,

@@ -1,16 +1,16 @@
-//! Why a batch isn't admitted, as far as can be told before its texts are looked at.
+//! Why a batch isn't admitted, as far as is known before its texts are looked at.
 
 ghost use Rattle.std.specs.Prelude.{◌≡◌, position, ◌||◌};
 ghost use Rattle.std.specs.Arc.{arc_value};
 ghost use Rattle.std.specs.List.{zip};
 ghost use Rattle.arrays.specs.Shape.{field_of};
 ghost use Rattle.table.specs.Cause.{difference, differs, early_cause};
-ghost use Rattle.table.specs.Held.{IsHeld, show};
+ghost use Rattle.table.specs.Storage.{IsConsistent, show};
 ghost use Rattle.table.specs.Stored.{is_stored_as};
 
-use crate::held::Held;
 use crate::nulls::null_refusal;
 use crate::refusal::Refusal;
+use crate::storage::Storage;
 use arrays::{DataType, Field, OffsetWidth, RecordBatch, Schema, ViewType};
 
 /// The most rows that a table may have.
@@ -20,20 +20,20 @@ const MOST_ROWS: u64 = 1 << 40;
 const MOST_ENTRIES: u64 = (1 << 32) - 1;
 
 /// The first refusal that stands for a batch, save that of its texts.
-pub(crate) fn early_refusal(held: &Held, batch: &RecordBatch) -> Option<Refusal>
-    requires { IsHeld held.now }
-    ensures { result ≡ early_cause (arc_value held.now.schema) (show held.now).history batch.now }
+pub(crate) fn early_refusal(storage: &Storage, batch: &RecordBatch) -> Option<Refusal>
+    requires { IsConsistent storage.now }
+    ensures { result ≡ early_cause (arc_value storage.now.schema) (show storage.now).history batch.now }
 {
-    if let Some(column) = schema_difference(&held.schema, batch.schema()) {
+    if let Some(column) = schema_difference(&storage.schema, batch.schema()) {
         return Some(Refusal::SchemaDiffers { column });
     }
-    if let Some(refusal) = null_refusal(held.schema.fields(), batch.columns()) {
+    if let Some(refusal) = null_refusal(storage.schema.fields(), batch.columns()) {
         return Some(refusal);
     }
-    if held.rows + u64::from(batch.rows()) > MOST_ROWS {
+    if storage.rows + u64::from(batch.rows()) > MOST_ROWS {
         return Some(Refusal::TableFull);
     }
-    if held.book.len() as u64 == MOST_ENTRIES {
+    if storage.book.len() as u64 == MOST_ENTRIES {
         return Some(Refusal::BookFull);
     }
     None

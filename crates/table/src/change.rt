@@ -3,13 +3,13 @@
 ghost use Rattle.std.specs.Prelude.{◌≡◌, IfOk, OnErr, OnOk, map, option_map};
 ghost use Rattle.std.specs.Arc.{arc_value};
 ghost use Rattle.table.specs.Change.{CanCommit, IsNext};
-ghost use Rattle.table.specs.Held.{IsHeld, batches_of, show};
+ghost use Rattle.table.specs.Storage.{IsConsistent, batches_of, show};
 ghost use Rattle.table.specs.Lawful.{table_of};
 ghost use Rattle.table.specs.Ready.{AreTexts, BeginWithTexts};
 
 use crate::columns::cut_back;
-use crate::held::{Held, dictionaries_shared};
 use crate::look::Look;
+use crate::storage::{Storage, dictionaries_shared};
 use arrays::{RecordBatch, Words};
 use colbits::NoMemory;
 use group::ColumnStats;
@@ -26,13 +26,13 @@ pub(crate) struct Addition {
     pub(crate) dictionaries: Vec<Option<Arc<Words>>>,
 }
 
-/// A change that is staged: all of it is made, and nothing of it is held yet.
+/// A change that is staged: all of it is made, and nothing of it is stored yet.
 #[derive(Drop)]
 pub(crate) enum Change {
     /// A batch of a worker comes behind the others.
     Batch { worker: u32, addition: Addition },
     /// All parts are others.
-    Whole(Held),
+    Whole(Storage),
 }
 
 impl Addition {
@@ -53,15 +53,15 @@ impl Addition {
     }
 }
 
-impl Held {
-    /// What is held after a change, shared.
-    pub(crate) fn after(&self, alloc: Global, change: &Change) -> Result<Held, NoMemory>
+impl Storage {
+    /// What is stored after a change, shared.
+    pub(crate) fn after(&self, alloc: Global, change: &Change) -> Result<Storage, NoMemory>
         requires { CanCommit change.now self.now }
         ensures { IfOk result (λ h. IsNext change.now self.now h) }
     {
         match change {
             Change::Batch { worker, addition } => self.with_batch(alloc, *worker, addition),
-            Change::Whole(held) => held.share(alloc, 0),
+            Change::Whole(storage) => storage.share(alloc, 0),
         }
     }
 
@@ -72,46 +72,46 @@ impl Held {
     {
         match change {
             Change::Batch { worker, addition } => self.put_in(worker, addition),
-            Change::Whole(held) => *self = held,
+            Change::Whole(storage) => *self = storage,
         }
     }
 }
 
 /// Commits a change, behind which nothing can fail, and gives what who looks at the table makes of it. Where there is no memory
-/// for that, nothing is changed, and texts that pools have beside those of what is held are taken back.
+/// for that, nothing is changed, and texts that pools have beside those of what is stored are taken back.
 pub(crate) fn commit<L: Look>(
     alloc: Global,
-    held: &mut Held,
+    storage: &mut Storage,
     pools: &mut Vec<TextPool>,
     change: Change,
 ) -> Result<L, NoMemory>
-    requires held { IsHeld held.old }
-    requires can { CanCommit change held.old }
-    requires lawful { (h : Held) → IsNext change held.old h → IsHeld h }
-    requires begun { BeginWithTexts held.old (table_of (batches_of held.old)) pools.old.items }
-    ensures next { OnOk result (IsNext change held.old held.new) }
-    ensures seen { IfOk result (λ l. L.sees l (show held.new)) }
+    requires storage { IsConsistent storage.old }
+    requires can { CanCommit change storage.old }
+    requires lawful { (h : Storage) → IsNext change storage.old h → IsConsistent h }
+    requires begun { BeginWithTexts storage.old (table_of (batches_of storage.old)) pools.old.items }
+    ensures next { OnOk result (IsNext change storage.old storage.new) }
+    ensures seen { IfOk result (λ l. L.sees l (show storage.new)) }
     ensures pools { OnOk result (pools.new ≡ pools.old) }
-    ensures kept { OnErr result (held.new ≡ held.old) }
-    ensures back { OnErr result (AreTexts held.old (table_of (batches_of held.old)) pools.new.items) }
+    ensures kept { OnErr result (storage.new ≡ storage.old) }
+    ensures back { OnErr result (AreTexts storage.old (table_of (batches_of storage.old)) pools.new.items) }
 {
-    match L::look(alloc, held, &change) {
+    match L::look(alloc, storage, &change) {
         Ok(seen) => {
-            held.apply(change);
+            storage.apply(change);
             Ok(seen)
         }
         Err(NoMemory) => {
-            take_back(held, pools);
+            take_back(storage, pools);
             Err(NoMemory)
         }
     }
 }
 
-/// Takes back the texts that pools have beside those of what is held.
-pub(crate) fn take_back(held: &Held, pools: &mut Vec<TextPool>)
-    requires held { IsHeld held.now }
-    requires begun { BeginWithTexts held.now (table_of (batches_of held.now)) pools.old.items }
-    ensures { AreTexts held.now (table_of (batches_of held.now)) pools.new.items }
+/// Takes back the texts that pools have beside those of what is stored.
+pub(crate) fn take_back(storage: &Storage, pools: &mut Vec<TextPool>)
+    requires storage { IsConsistent storage.now }
+    requires begun { BeginWithTexts storage.now (table_of (batches_of storage.now)) pools.old.items }
+    ensures { AreTexts storage.now (table_of (batches_of storage.now)) pools.new.items }
 {
-    cut_back(pools, &held.dictionaries);
+    cut_back(pools, &storage.dictionaries);
 }

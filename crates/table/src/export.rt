@@ -6,10 +6,10 @@ ghost use Rattle.std.specs.List.{AllByRecursion};
 ghost use Rattle.colbits.specs.Slice.{slice};
 ghost use Rattle.arrays.specs.Batch.{rows_of};
 ghost use Rattle.table.specs.Export.{HasMore, IsLawful, IsPlace, IsUnder, copied, passed};
-ghost use Rattle.table.specs.Held.{IsHeld, show};
+ghost use Rattle.table.specs.Storage.{IsConsistent, show};
 ghost use Rattle.table.specs.Lawful.{table_of};
 
-use crate::held::Held;
+use crate::storage::Storage;
 use arrays::{Array, File, RecordBatch, Schema};
 use colbits::NoMemory;
 use select::copy;
@@ -24,28 +24,34 @@ struct Place {
 }
 
 /// The file of what a table holds.
-pub(crate) fn file_of(alloc: Global, held: &Held) -> Result<File, NoMemory>
-    requires { IsHeld held.now }
-    ensures fields { IfOk result (λ f. f.fields ≡ (show held.now).fields) }
-    ensures tables { IfOk result (λ f. map rows_of f.batches ≡ map (λ e. e.1) (show held.now).history) }
+pub(crate) fn file_of(alloc: Global, storage: &Storage) -> Result<File, NoMemory>
+    requires { IsConsistent storage.now }
+    ensures fields { IfOk result (λ f. f.fields ≡ (show storage.now).fields) }
+    ensures tables { IfOk result (λ f. map rows_of f.batches ≡ map (λ e. e.1) (show storage.now).history) }
     ensures under { IfOk result (λ f. AllByRecursion (λ b. b.fields ≡ f.fields) f.batches) }
     ensures lawful { IfOk result (λ f. AllByRecursion IsLawful f.batches) }
 {
-    let batches = entry_batches(alloc, held)?;
-    Ok(File::new(held.schema.clone()?, batches))
+    let batches = entry_batches(alloc, storage)?;
+    Ok(File::new(storage.schema.clone()?, batches))
 }
 
 /// A batch for each entry of the book, with the entry's rows.
-fn entry_batches(alloc: Global, held: &Held) -> Result<Vec<Arc<RecordBatch>>, NoMemory>
-    requires { IsHeld held.now }
-    ensures tables { IfOk result (λ v. map (λ b. rows_of (arc_value b)) v.items ≡ map (λ e. e.1) (show held.now).history) }
-    ensures under { IfOk result (λ v. All (λ b. IsUnder (show held.now).fields (arc_value b)) v.items) }
+fn entry_batches(alloc: Global, storage: &Storage) -> Result<Vec<Arc<RecordBatch>>, NoMemory>
+    requires { IsConsistent storage.now }
+    ensures tables { IfOk result (λ v. map (λ b. rows_of (arc_value b)) v.items ≡ map (λ e. e.1) (show storage.now).history) }
+    ensures under { IfOk result (λ v. All (λ b. IsUnder (show storage.now).fields (arc_value b)) v.items) }
 {
-    let mut batches = Vec::with_capacity(alloc, held.book.len())?;
+    let mut batches = Vec::with_capacity(alloc, storage.book.len())?;
     let mut place = Place { batch: 0, used: 0 };
-    for entry in &held.book {
-        let Place { batch, used } = place.in_batch(&held.batches);
-        batches.push(part_of(alloc, &held.schema, &held.batches[batch], used, entry.rows)?)?;
+    for entry in &storage.book {
+        let Place { batch, used } = place.in_batch(&storage.batches);
+        batches.push(part_of(
+            alloc,
+            &storage.schema,
+            &storage.batches[batch],
+            used,
+            entry.rows,
+        )?)?;
         place = Place {
             batch,
             used: used + entry.rows,

@@ -2,26 +2,26 @@
 
 ghost use Rattle.std.specs.Prelude.{IfOk};
 ghost use Rattle.table.specs.Compacted.{IsCompacted};
-ghost use Rattle.table.specs.Held.{IsHeld, show};
+ghost use Rattle.table.specs.Storage.{IsConsistent, show};
 
-use crate::held::Held;
+use crate::storage::Storage;
 use colbits::NoMemory;
 use compaction::compact;
 use std::alloc::Global;
 
-/// Stages the joining of batches, so many rows at most in one: what is held then.
-pub(crate) fn stage(alloc: Global, held: &Held, max_rows: u32) -> Result<Held, NoMemory>
-    requires { IsHeld held.now }
-    ensures lawful { IfOk result (λ h. IsHeld h) }
-    ensures compacted { IfOk result (λ h. IsCompacted max_rows (show held.now) (show h)) }
+/// Stages the joining of batches, so many rows at most in one: what is stored then.
+pub(crate) fn stage(alloc: Global, storage: &Storage, max_rows: u32) -> Result<Storage, NoMemory>
+    requires { IsConsistent storage.now }
+    ensures lawful { IfOk result (λ h. IsConsistent h) }
+    ensures compacted { IfOk result (λ h. IsCompacted max_rows (show storage.now) (show h)) }
 {
     let compacted = compact(
         alloc,
-        &held.schema,
-        &held.dictionaries,
-        &held.batches,
-        &held.batch_stats,
+        &storage.schema,
+        &storage.dictionaries,
+        &storage.batches,
+        &storage.batch_stats,
         max_rows,
     )?;
-    held.with_batches(alloc, compacted.batches, compacted.batch_stats, 0)
+    storage.with_batches(alloc, compacted.batches, compacted.batch_stats, 0)
 }

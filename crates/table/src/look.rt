@@ -4,11 +4,11 @@ ghost use Rattle.std.specs.Prelude.{◌≡◌, IfOk, ⊤};
 ghost use Rattle.std.specs.Arc.{arc_value};
 ghost use Rattle.table.specs.Change.{CanCommit, IsNext};
 ghost use Rattle.table.specs.Contents.{Contents};
-ghost use Rattle.table.specs.Held.{IsHeld, show};
-ghost use Rattle.table.specs.declared.held.Held.{Held};
+ghost use Rattle.table.specs.Storage.{IsConsistent, show};
+ghost use Rattle.table.specs.declared.storage.Storage.{Storage};
 
 use crate::change::Change;
-use crate::held::Held;
+use crate::storage::Storage;
 use crate::version::Version;
 use colbits::NoMemory;
 use std::alloc::Global;
@@ -20,17 +20,17 @@ pub(crate) trait Look {
     ghost sees: { Self → Contents → Type 0 };
 
     /// Makes it before the change, so that no step behind the change can fail.
-    fn look(alloc: Global, held: &Held, change: &Change) -> Result<Self, NoMemory>
-        requires can { CanCommit change.now held.now }
-        requires lawful { (h : Held) → IsNext change.now held.now h → IsHeld h }
-        ensures { IfOk result (λ l. (h : Held) → IsNext change.now held.now h → sees l (show h)) };
+    fn look(alloc: Global, storage: &Storage, change: &Change) -> Result<Self, NoMemory>
+        requires can { CanCommit change.now storage.now }
+        requires lawful { (h : Storage) → IsNext change.now storage.now h → IsConsistent h }
+        ensures { IfOk result (λ l. (h : Storage) → IsNext change.now storage.now h → sees l (show h)) };
 }
 
 /// Nobody looks.
 impl Look for () {
     ghost sees = { λ seen contents. ⊤ };
 
-    fn look(_alloc: Global, _held: &Held, _change: &Change) -> Result<(), NoMemory> {
+    fn look(_alloc: Global, _storage: &Storage, _change: &Change) -> Result<(), NoMemory> {
         Ok(())
     }
 }
@@ -39,8 +39,8 @@ impl Look for () {
 impl Look for Arc<Version> {
     ghost sees = { λ version contents. arc_value version ≡ contents };
 
-    fn look(alloc: Global, held: &Held, change: &Change) -> Result<Arc<Version>, NoMemory> {
-        Version::of(alloc, held.after(alloc, change)?)
+    fn look(alloc: Global, storage: &Storage, change: &Change) -> Result<Arc<Version>, NoMemory> {
+        Version::of(alloc, storage.after(alloc, change)?)
     }
 }
 
@@ -50,10 +50,10 @@ impl Look for (Arc<Version>, Arc<Version>) {
 
     fn look(
         alloc: Global,
-        held: &Held,
+        storage: &Storage,
         change: &Change,
     ) -> Result<(Arc<Version>, Arc<Version>), NoMemory> {
-        let version = Version::of(alloc, held.after(alloc, change)?)?;
+        let version = Version::of(alloc, storage.after(alloc, change)?)?;
         Ok((version.clone()?, version))
     }
 }

@@ -2,7 +2,7 @@ use colbits::NoMemory;
 use std::alloc::{AllocError, AllocFailed};
 use thiserror::Error;
 
-/// Why a table doesn't take a batch. The first one that stands is told; want of memory may come before any.
+/// Why a table doesn't take a batch. The first one that stands is reported; want of memory may come before any.
 #[derive(Clone, Copy, Debug, PartialEq, Eq, Error)]
 pub enum Refusal {
     /// A column's name or stored type isn't the table's: the least such column. Where there are more columns than

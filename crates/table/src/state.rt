@@ -13,10 +13,10 @@ ghost use Rattle.table.specs.Widened.{add_fault, with_field};
 use crate::add_fault::AddFault;
 use crate::cause::early_refusal;
 use crate::change::{Change, commit};
-use crate::held::Held;
 use crate::look::Look;
 use crate::ready::{Ready, shared_stats};
 use crate::refusal::Refusal;
+use crate::storage::Storage;
 use crate::version::Version;
 use crate::widening::fault_of;
 use crate::{admission, joining, widening};
@@ -34,7 +34,7 @@ use std::sync::Arc;
 #[derive(Drop)]
 pub struct TableState {
     alloc: Global,
-    held: Held,
+    storage: Storage,
     /// The texts of each column, for columns of texts.
     pools: Vec<TextPool>,
 }
@@ -46,13 +46,13 @@ impl Model for TableState {
 
     ghost coded = { contents_code };
 
-    ghost use Rattle.table.specs.Held.{IsHeld, batches_of, show};
+    ghost use Rattle.table.specs.Storage.{IsConsistent, batches_of, show};
     ghost use Rattle.table.specs.Lawful.{table_of};
     ghost use Rattle.table.specs.Ready.{AreTexts};
 
-    ghost view = { λ s. show s.held };
+    ghost view = { λ s. show s.storage };
 
-    ghost invariant = { λ s. IsHeld s.held × AreTexts s.held (table_of (batches_of s.held)) s.pools.items };
+    ghost invariant = { λ s. IsConsistent s.storage × AreTexts s.storage (table_of (batches_of s.storage)) s.pools.items };
 }
 
 impl TableState {
@@ -61,14 +61,18 @@ impl TableState {
         ensures { IfOk result (λ t. t ≡ record { fields = stored_fields schema; history = []; batches = [] }) }
     {
         let count = schema.len();
-        let held = Held::empty(alloc, schema)?;
+        let storage = Storage::empty(alloc, schema)?;
         let pools = no_texts(alloc, count)?;
-        Ok(TableState { alloc, held, pools })
+        Ok(TableState {
+            alloc,
+            storage,
+            pools,
+        })
     }
 
     /// Adds a batch of a worker at the end, and gives the number of its entry in the book, from 0. A batch without rows
-    /// is admitted too. After a refusal the table is as it was. Want of memory is told only where nothing else stands that
-    /// can be told without any: the fields, a null, a full table or a full book. What was added is always a legal history.
+    /// is admitted too. After a refusal the table is as it was. Want of memory is reported only where nothing else stands that
+    /// is known without any: the fields, a null, a full table or a full book. What was added is always a legal history.
     pub fn admit(&mut self, worker: u32, batch: &RecordBatch) -> Result<u32, Refusal>
         ensures number { IfOk result (λ n. n ≡ length self.old.history) }
         ensures allowed { OnOk result (batch_cause self.old.fields self.old.history batch.now ≡ None) }
@@ -78,7 +82,7 @@ impl TableState {
         ensures kept { OnErr result (self.new ≡ self.old) }
         ensures legal { IsLegal self.new.fields self.new.history }
     {
-        if let Some(refusal) = early_refusal(&self.held, batch) {
+        if let Some(refusal) = early_refusal(&self.storage, batch) {
             return Err(refusal);
         }
         let batch_stats = shared_stats(self.alloc, batch)?;
@@ -98,7 +102,7 @@ impl TableState {
         ensures legal { IsLegal self.new.fields self.new.history }
     {
         let (batch, batch_stats) = ready.parts();
-        match early_refusal(&self.held, &batch) {
+        match early_refusal(&self.storage, &batch) {
             Some(refusal) => Err(refusal),
             None => {
                 let (number, ()) = self.add(worker, &batch, batch_stats)?;
@@ -120,7 +124,7 @@ impl TableState {
         ensures legal { IsLegal self.new.fields self.new.history }
     {
         let (batch, batch_stats) = ready.parts();
-        match early_refusal(&self.held, &batch) {
+        match early_refusal(&self.storage, &batch) {
             Some(refusal) => Err(refusal),
             None => self.add(worker, &batch, batch_stats),
         }
@@ -144,17 +148,17 @@ impl TableState {
         ensures kept { OnErr result (self.new ≡ self.old) }
         ensures legal { IsLegal self.new.fields self.new.history }
     {
-        let number = self.held.book.len() as u32;
-        self.held.reserve()?;
+        let number = self.storage.book.len() as u32;
+        self.storage.reserve()?;
         let addition = admission::stage(
             self.alloc,
-            &self.held,
+            &self.storage,
             &mut self.pools,
             batch,
             batch_stats,
         )?;
         let change = Change::Batch { worker, addition };
-        let seen = commit(self.alloc, &mut self.held, &mut self.pools, change)?;
+        let seen = commit(self.alloc, &mut self.storage, &mut self.pools, change)?;
         Ok((number, seen))
     }
 
@@ -189,10 +193,10 @@ impl TableState {
         ensures kept { OnErr result (self.new ≡ self.old) }
         ensures legal { IsLegal self.new.fields self.new.history }
     {
-        let next = joining::stage(self.alloc, &self.held, max_rows)?;
+        let next = joining::stage(self.alloc, &self.storage, max_rows)?;
         commit(
             self.alloc,
-            &mut self.held,
+            &mut self.storage,
             &mut self.pools,
             Change::Whole(next),
         )
@@ -244,8 +248,8 @@ impl TableState {
             return Err(fault);
         }
         self.pools.reserve(1)?;
-        let next = Change::Whole(widening::stage(alloc, &self.held, field)?);
-        let seen = commit(alloc, &mut self.held, &mut self.pools, next)?;
+        let next = Change::Whole(widening::stage(alloc, &self.storage, field)?);
+        let seen = commit(alloc, &mut self.storage, &mut self.pools, next)?;
         self.pools.push_reserved(TextPool::new(alloc));
         Ok(seen)
     }
@@ -254,8 +258,8 @@ impl TableState {
     pub fn version(&self) -> Result<Arc<Version>, NoMemory>
         ensures { IfOk result (λ v. arc_value v ≡ self.now) }
     {
-        let held = self.held.share(self.alloc, 0)?;
-        Version::of(self.alloc, held)
+        let storage = self.storage.share(self.alloc, 0)?;
+        Version::of(self.alloc, storage)
     }
 }
 

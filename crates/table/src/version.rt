@@ -7,17 +7,17 @@ ghost use Rattle.answers.specs.Answers.{IsAnswer, IsRefusal};
 ghost use Rattle.arrays.specs.Batch.{rows_of, column};
 ghost use Rattle.arrays.specs.Shape.{FieldShape, kind_of_field};
 ghost use Rattle.group.specs.Summary.{AreStats};
-ghost use Rattle.query.specs.Asked.{asked};
+ghost use Rattle.query.specs.QueryShape.{query_shape};
 ghost use Rattle.query.specs.Fault.{fits};
 ghost use Rattle.table.specs.Export.{IsLawful};
 ghost use Rattle.table.specs.Cause.{IsLegal};
-ghost use Rattle.table.specs.Held.{IsHeld, pair_of, show};
+ghost use Rattle.table.specs.Storage.{IsConsistent, pair_of, show};
 ghost use Rattle.table.specs.History.{book, rows};
 ghost use Rattle.table.specs.Lawful.{EndsWithEntry, IsStored, NamesFronts, dictionaries_of, table_of};
 
 use crate::entry::Entry;
 use crate::export::file_of;
-use crate::held::Held;
+use crate::storage::Storage;
 use answers::{Answer, Gate};
 use arrays::{File, RecordBatch, Schema, Words};
 use colbits::NoMemory;
@@ -35,7 +35,7 @@ use std::thread::Threads;
 /// Clauses see its fields as they are stored, what was added and by whom, and the rows of each batch.
 #[derive(Drop)]
 pub struct Version {
-    held: Arc<Held>,
+    storage: Arc<Storage>,
 }
 
 impl Model for Version {
@@ -46,21 +46,21 @@ impl Model for Version {
     ghost coded = { contents_code };
 
     ghost use Rattle.std.specs.Arc.{arc_value};
-    ghost use Rattle.table.specs.Held.{IsHeld, show};
+    ghost use Rattle.table.specs.Storage.{IsConsistent, show};
 
-    ghost view = { λ v. show (arc_value v.held) };
+    ghost view = { λ v. show (arc_value v.storage) };
 
-    ghost invariant = { λ v. IsHeld (arc_value v.held) };
+    ghost invariant = { λ v. IsConsistent (arc_value v.storage) };
 }
 
 impl Version {
     /// The version of what a table holds.
-    pub(crate) fn of(alloc: Global, held: Held) -> Result<Arc<Version>, NoMemory>
-        requires { IsHeld held }
-        ensures { IfOk result (λ v. arc_value v ≡ show held) }
+    pub(crate) fn of(alloc: Global, storage: Storage) -> Result<Arc<Version>, NoMemory>
+        requires { IsConsistent storage }
+        ensures { IfOk result (λ v. arc_value v ≡ show storage) }
     {
-        let held = Arc::new(alloc, held)?;
-        Ok(Arc::new(alloc, Version { held })?)
+        let storage = Arc::new(alloc, storage)?;
+        Ok(Arc::new(alloc, Version { storage })?)
     }
 
     /// A copy, which shares what the version holds: nothing else is copied.
@@ -68,23 +68,23 @@ impl Version {
         ensures { IfOk result (λ v. v ≡ self.now) }
     {
         Ok(Version {
-            held: self.held.clone()?,
+            storage: self.storage.clone()?,
         })
     }
 
     /// What it shows.
-    fn held(&self) -> &Held
+    fn storage(&self) -> &Storage
         ensures shown { show result.now ≡ self.now }
-        ensures lawful { IsHeld result.now }
+        ensures lawful { IsConsistent result.now }
     {
-        &self.held
+        &self.storage
     }
 
     /// The fields as they are stored.
     pub fn schema(&self) -> &Schema
         ensures { result.now ≡ self.now.fields }
     {
-        &self.held().schema
+        &self.storage().schema
     }
 
     /// How many rows there are.
@@ -93,7 +93,7 @@ impl Version {
         ensures few { result ≤ 2 ^ 40 }
         ensures legal { IsLegal self.now.fields self.now.history }
     {
-        self.held().rows
+        self.storage().rows
     }
 
     /// The batches, in the order in which they came: their rows, one batch after the other, are those of the table. Each ends where an entry of the book ends, and a dictionary that one
@@ -105,7 +105,7 @@ impl Version {
         ensures ends { (i : ℕ) → i ≤ length result.now → EndsWithEntry (map arc_value result.now) (book self.now.history) i }
         ensures fronts { All (λ b. NamesFronts self.now.fields (rows self.now.history) (arc_value b)) result.now }
     {
-        &self.held().batches
+        &self.storage().batches
     }
 
     /// The statistics of column `k` of batch `b`.
@@ -115,7 +115,7 @@ impl Version {
         ensures { (f : FieldShape) → slice_get self.now.fields k ≡ Some f
             → AreStats result.now (kind_of_field f) (column (slice_index_or self.now.batches b []) k) }
     {
-        &self.held().batch_stats[b][k]
+        &self.storage().batch_stats[b][k]
     }
 
     /// The statistics of column `k`.
@@ -124,7 +124,7 @@ impl Version {
         ensures { (f : FieldShape) → slice_get self.now.fields k ≡ Some f
             → AreStats result.now (kind_of_field f) (column (rows self.now.history) k) }
     {
-        &self.held().stats[k]
+        &self.storage().stats[k]
     }
 
     /// The dictionary of column `k`, none where it isn't one of texts: its distinct texts in order of first appearance.
@@ -132,7 +132,7 @@ impl Version {
         requires { k < length self.now.fields }
         ensures { slice_get (dictionaries_of self.now.fields (rows self.now.history)) k ≡ Some (option_map (λ w. w.now) result) }
     {
-        match &self.held().dictionaries[k] {
+        match &self.storage().dictionaries[k] {
             Some(words) => Some(words),
             None => None,
         }
@@ -151,11 +151,11 @@ impl Version {
         pieces: u32,
         gate: &G,
     ) -> Result<Answer, QueryFault>
-        requires fits { fits self.now.fields (asked query.now) ≡ true }
+        requires fits { fits self.now.fields (query_shape query.now) ≡ true }
         requires some { 1 ≤ pieces }
         requires most { pieces ≤ 64 }
-        ensures ok { IfOk result (IsAnswer self.now.fields (asked query.now) (rows self.now.history)) }
-        ensures err { IfErr result (IsRefusal self.now.fields (asked query.now) (rows self.now.history)) }
+        ensures ok { IfOk result (IsAnswer self.now.fields (query_shape query.now) (rows self.now.history)) }
+        ensures err { IfErr result (IsRefusal self.now.fields (query_shape query.now) (rows self.now.history)) }
     {
         // They are few enough, as is said with their number.
         let _rows = self.rows();
@@ -172,9 +172,9 @@ impl Version {
         query: &Query,
         gate: &G,
     ) -> Result<Answer, QueryFault>
-        requires fits { fits self.now.fields (asked query.now) ≡ true }
-        ensures ok { IfOk result (IsAnswer self.now.fields (asked query.now) (rows self.now.history)) }
-        ensures err { IfErr result (IsRefusal self.now.fields (asked query.now) (rows self.now.history)) }
+        requires fits { fits self.now.fields (query_shape query.now) ≡ true }
+        ensures ok { IfOk result (IsAnswer self.now.fields (query_shape query.now) (rows self.now.history)) }
+        ensures err { IfErr result (IsRefusal self.now.fields (query_shape query.now) (rows self.now.history)) }
     {
         // They are few enough, as is said with their number.
         let _rows = self.rows();
@@ -191,14 +191,14 @@ impl Version {
         ensures lawful { IfOk result (λ f. AllByRecursion IsLawful f.batches) }
         ensures legal { IsLegal self.now.fields self.now.history }
     {
-        file_of(alloc, self.held())
+        file_of(alloc, self.storage())
     }
 
     /// How many entries the book has: one for each accepted call.
     pub fn book_len(&self) -> u32
         ensures { result ≡ length self.now.history }
     {
-        self.held().book.len() as u32
+        self.storage().book.len() as u32
     }
 
     /// Entry `i` of the book.
@@ -206,6 +206,6 @@ impl Version {
         requires { i < length self.now.history }
         ensures { slice_get (book self.now.history) i ≡ Some (pair_of result) }
     {
-        self.held().book[i as usize]
+        self.storage().book[i as usize]
     }
 }

@@ -8,14 +8,14 @@ ghost use Rattle.arrays.specs.Kind.{depth, has_dict_in_list, kind_of};
 ghost use Rattle.arrays.specs.Shape.{field_of, fields_of};
 ghost use Rattle.compaction.specs.Under.{pieces_of};
 ghost use Rattle.group.specs.Summary.{AreSame};
-ghost use Rattle.table.specs.Held.{IsHeld, show};
+ghost use Rattle.table.specs.Storage.{IsConsistent, show};
 ghost use Rattle.table.specs.Stored.{stored_field};
 ghost use Rattle.table.specs.Widened.{add_fault, with_field};
 ghost use Rattle.table.specs.Widening.{AreAllWider, AreWider, IsWider, with_nulls};
 
 use crate::add_fault::AddFault;
-use crate::held::Held;
-use crate::held::empty::no_entry;
+use crate::storage::Storage;
+use crate::storage::empty::no_entry;
 use crate::stored::stored_one;
 use arrays::{Array, DataType, Field, RecordBatch, Schema, ViewType};
 use colbits::NoMemory;
@@ -40,21 +40,21 @@ pub(crate) fn fault_of(field: &Field) -> Option<AddFault>
     None
 }
 
-/// Stages a column of the field behind the others: what is held then.
-pub(crate) fn stage(alloc: Global, held: &Held, field: &Field) -> Result<Held, NoMemory>
-    requires held { IsHeld held.now }
+/// Stages a column of the field behind the others: what is stored then.
+pub(crate) fn stage(alloc: Global, storage: &Storage, field: &Field) -> Result<Storage, NoMemory>
+    requires storage { IsConsistent storage.now }
     requires allowed { add_fault (field_of field.now) ≡ None }
-    ensures lawful { IfOk result (λ h. IsHeld h) }
-    ensures shows { IfOk result (λ h. show h ≡ with_field (show held.now) (stored_field (field_of field.now))) }
+    ensures lawful { IfOk result (λ h. IsConsistent h) }
+    ensures shows { IfOk result (λ h. show h ≡ with_field (show storage.now) (stored_field (field_of field.now))) }
 {
     let field = stored_one(alloc, field)?;
-    held.wider(alloc, &field)
+    storage.wider(alloc, &field)
 }
 
-impl Held {
+impl Storage {
     /// The same parts, shared, and a column of the stored field behind the others.
-    fn wider(&self, alloc: Global, field: &Field) -> Result<Held, NoMemory>
-        requires held { IsHeld self.now }
+    fn wider(&self, alloc: Global, field: &Field) -> Result<Storage, NoMemory>
+        requires storage { IsConsistent self.now }
         requires depth { depth (kind_of field.now.ty) ≤ 8 }
         requires no_dict { has_dict_in_list (kind_of field.now.ty) ≡ false }
         ensures { IfOk result (λ h. IsWider (field_of field.now) self.now h) }
@@ -62,14 +62,14 @@ impl Held {
         let schema = Arc::new(alloc, wider_schema(alloc, &self.schema, field)?)?;
         let batches = wider_batches(alloc, &schema, &self.batches, field)?;
         let batch_stats = wider_pieces(alloc, &self.batches, &self.batch_stats, &field.ty)?;
-        let mut held = self.with_batches(alloc, batches, batch_stats, 0)?;
-        held.schema = schema;
-        held.stats = Arc::new(
+        let mut storage = self.with_batches(alloc, batches, batch_stats, 0)?;
+        storage.schema = schema;
+        storage.stats = Arc::new(
             alloc,
             wider_stats(alloc, &self.stats, &field.ty, self.rows)?,
         )?;
-        held.dictionaries.push(no_entry(alloc, &field.ty)?)?;
-        Ok(held)
+        storage.dictionaries.push(no_entry(alloc, &field.ty)?)?;
+        Ok(storage)
     }
 }
 

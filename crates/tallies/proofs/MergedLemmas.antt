@@ -135,7 +135,7 @@ module _ {C : Type 0} (show : C → TallyShape) (a : Agg ℕ) (old cells others 
             few_at a i ns more (slice_set tallies n y) t (omega (arith, below)) (omega (arith, within))
             (subst (λ k. All (λ m. m < k) ns) (sym (length-set tallies n y)) (All-tail (λ m. m < length tallies) n ns all)) few is
 
--- ---- another aggregate that is told alike
+-- ---- another aggregate that is reported alike
 
 pub merge_alike : (a b : Agg ℕ) → ((s t : TallyShape) → merged a s t ≡ merged b s t) → (ns : List ℕ) (more tallies : List TallyShape) → merge_all a ns more tallies ≡ merge_all b ns more tallies
 merge_alike a b same [] more tallies = refl
@@ -150,8 +150,8 @@ merged_at Greatest c s t = refl
 
 -- ---- the tables of groups
 
-abbrev told_of : Agg ℕ → Table → TallyShape
-told_of a rows = tally_of a (items_for a rows)
+abbrev tally_over : Agg ℕ → Table → TallyShape
+tally_over a rows = tally_of a (items_for a rows)
 
 module _ (kinds : ℕ → Kind) (a : Agg ℕ) where
   abbrev Alike : Table → Type 0
@@ -161,30 +161,30 @@ module _ (kinds : ℕ → Kind) (a : Agg ℕ) where
   both_alike t u h g =
       subst (All (IsComparable kinds a)) (sym (map-append (item_for a) t u)) (All-append (IsComparable kinds a) (items_for a t) (items_for a u) h g)
 
-  both_told : (t u : Table) → Alike t → Alike u → told_of a (t ++ u) ≡ merged a (told_of a t) (told_of a u)
-  both_told t u h g = ap (tally_of a) (map-append (item_for a) t u) ∙ tally-merged kinds a (items_for a t) (items_for a u) h g
+  both_reported : (t u : Table) → Alike t → Alike u → tally_over a (t ++ u) ≡ merged a (tally_over a t) (tally_over a u)
+  both_reported t u h g = ap (tally_of a) (map-append (item_for a) t u) ∙ tally-merged kinds a (items_for a t) (items_for a u) h g
 
-  pub tables_told : (ns : List ℕ) (more tables : List Table) → AreAlike kinds tables a → AreAlike kinds more a → All (λ n. n < length tables) ns
-      → merge_all a ns (map (told_of a) more) (map (told_of a) tables) ≡ map (told_of a) (spread_all ns more tables)
-  tables_told [] more tables h g all = refl
-  tables_told (n ∷ ns) [] tables h g all = refl
-  tables_told (n ∷ ns) (u ∷ more) tables h g all =
+  pub tables_reported : (ns : List ℕ) (more tables : List Table) → AreAlike kinds tables a → AreAlike kinds more a → All (λ n. n < length tables) ns
+      → merge_all a ns (map (tally_over a) more) (map (tally_over a) tables) ≡ map (tally_over a) (spread_all ns more tables)
+  tables_reported [] more tables h g all = refl
+  tables_reported (n ∷ ns) [] tables h g all = refl
+  tables_reported (n ∷ ns) (u ∷ more) tables h g all =
       let below : n < length tables = All-head (λ m. m < length tables) n ns all in
       let t : Table = slice_index_or tables n [] in
       let alike_t : Alike t = All-get_or Alike tables n [] below h in
       let alike_u : Alike u = All-head Alike u more g in
-      let put : slice_set (map (told_of a) tables) n (merged a (slice_index_or (map (told_of a) tables) n (counted 0)) (told_of a u)) ≡ map (told_of a) (put_all n u tables) =
-      ap (λ x. slice_set (map (told_of a) tables) n (merged a x (told_of a u))) (get_or-map (told_of a) tables n [] (counted 0) below)
-      ∙ ap (slice_set (map (told_of a) tables) n) (sym (both_told t u alike_t alike_u))
-      ∙ sym (set_shown (told_of a) tables n (t ++ u)) in
-      ap (λ l. merge_all a ns (map (told_of a) more) l) put
-      ∙ tables_told ns more (put_all n u tables) (All-set Alike tables n (t ++ u) (both_alike t u alike_t alike_u) h) (All-tail Alike u more g)
+      let put : slice_set (map (tally_over a) tables) n (merged a (slice_index_or (map (tally_over a) tables) n (counted 0)) (tally_over a u)) ≡ map (tally_over a) (put_all n u tables) =
+      ap (λ x. slice_set (map (tally_over a) tables) n (merged a x (tally_over a u))) (get_or-map (tally_over a) tables n [] (counted 0) below)
+      ∙ ap (slice_set (map (tally_over a) tables) n) (sym (both_reported t u alike_t alike_u))
+      ∙ sym (set_shown (tally_over a) tables n (t ++ u)) in
+      ap (λ l. merge_all a ns (map (tally_over a) more) l) put
+      ∙ tables_reported ns more (put_all n u tables) (All-set Alike tables n (t ++ u) (both_alike t u alike_t alike_u) h) (All-tail Alike u more g)
       (subst (λ k. All (λ m. m < k) ns) (sym (length-set tables n (t ++ u))) (All-tail (λ m. m < length tables) n ns all))
 
-  pub tables_few : (tables : List Table) → All (λ t. length t ≤ 2 ^ 40) tables → AreFew (map (told_of a) tables)
+  pub tables_few : (tables : List Table) → All (λ t. length t ≤ 2 ^ 40) tables → AreFew (map (tally_over a) tables)
   tables_few tables h =
-      All-map (λ (t : TallyShape). t.count ≤ 2 ^ 40) (told_of a) tables
-      (All-weaker (λ (t : Table). length t ≤ 2 ^ 40) (λ (t : Table). (told_of a t).count ≤ 2 ^ 40) (λ t few. omega (arith, few, counts_few (items_for a t) a, length-map t (item_for a))) tables h)
+      All-map (λ (t : TallyShape). t.count ≤ 2 ^ 40) (tally_over a) tables
+      (All-weaker (λ (t : Table). length t ≤ 2 ^ 40) (λ (t : Table). (tally_over a t).count ≤ 2 ^ 40) (λ t few. omega (arith, few, counts_few (items_for a t) a, length-map t (item_for a))) tables h)
 
 -- ---- columns
 
@@ -228,18 +228,18 @@ module _ (kinds : ℕ → Kind) (groups : ℕ) (tables more : List Table) (s t :
       let count : groups ≡ length (padded groups [] tables) = omega (arith, few, length-append tables (replicate (groups - length tables) []), length-replicate {A = Table} (groups - length tables) []) in
       subst (λ m. All (λ n. n < m) numbers) count inside
 
-  told_together : (column_merged numbers t.tallies u).tallies ≡ map (told_of s.agg) (spread_all numbers more (padded groups [] tables))
-  told_together =
+  reported_together : (column_merged numbers t.tallies u).tallies ≡ map (tally_over s.agg) (spread_all numbers more (padded groups [] tables))
+  reported_together =
       ap (λ (x : ColumnShape). (column_merged numbers t.tallies x).tallies) grows
-      ∙ ap (λ (x : ColumnShape). merge_all s.agg numbers x.tallies (map (told_of s.agg) (padded groups [] tables))) behind
-      ∙ ap (λ a. merge_all s.agg numbers (map (told_of a) more) (map (told_of s.agg) (padded groups [] tables))) same
-      ∙ tables_told kinds s.agg numbers more (padded groups [] tables) padded_alike more_alike padded_inside
+      ∙ ap (λ (x : ColumnShape). merge_all s.agg numbers x.tallies (map (tally_over s.agg) (padded groups [] tables))) behind
+      ∙ ap (λ a. merge_all s.agg numbers (map (tally_over a) more) (map (tally_over s.agg) (padded groups [] tables))) same
+      ∙ tables_reported kinds s.agg numbers more (padded groups [] tables) padded_alike more_alike padded_inside
 
   pub join_few : All (λ t. length t ≤ 2 ^ 40) (spread_all numbers more (padded groups [] tables)) → AreFew (column_merged numbers t.tallies u).tallies
-  join_few short = subst AreFew (sym told_together) (tables_few kinds s.agg (spread_all numbers more (padded groups [] tables)) short)
+  join_few short = subst AreFew (sym reported_together) (tables_few kinds s.agg (spread_all numbers more (padded groups [] tables)) short)
 
   pub joined : (v : ColumnShape) → v ≡ column_merged numbers t.tallies u → v ≡ column_of (spread_all numbers more (padded groups [] tables)) s.agg
-  joined v is = is ∙ ap (shape u.agg) told_together ∙ ap (λ a. shape a (map (told_of s.agg) (spread_all numbers more (padded groups [] tables)))) (ap (λ (x : ColumnShape). x.agg) grows)
+  joined v is = is ∙ ap (shape u.agg) reported_together ∙ ap (λ a. shape a (map (tally_over s.agg) (spread_all numbers more (padded groups [] tables)))) (ap (λ (x : ColumnShape). x.agg) grows)
 
 pub tables_counted : (s : ColumnShape) (tables : List Table) → s ≡ column_of tables s.agg → length s.tallies ≡ length tables
-tables_counted s tables h = ap (λ (x : ColumnShape). length x.tallies) h ∙ length-map tables (told_of s.agg)
+tables_counted s tables h = ap (λ (x : ColumnShape). length x.tallies) h ∙ length-map tables (tally_over s.agg)

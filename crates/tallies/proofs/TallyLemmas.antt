@@ -14,7 +14,7 @@ use Rattle.group.specs.Stats.{number_of, numbers_of, lesser, greater, greatest_o
 use Rattle.tallies.specs.declared.end.End.{End}
 use Rattle.tallies.specs.declared.end.End.TheVariants.{Least, Greatest}
 use Rattle.tallies.specs.Ends.{agg_at, is_better, is_further, with_item}
-use Rattle.tallies.specs.Tallies.{TallyShape, bettered, held, summed, tally_of, counted}
+use Rattle.tallies.specs.Tallies.{TallyShape, bettered, valid_items, summed, tally_of, counted}
 use Rattle.tallies.specs.Totals.{sum_if_any}
 use Rattle.std.specs.Prelude.{All}
 use Rattle.arrays.specs.Kind as kind
@@ -26,8 +26,8 @@ use Rattle.group.proofs.JoinLemmas.{greatest-append, least-append}
 use Rattle.tallies.specs.Kinds.{IsComparable}
 use Rattle.tallies.specs.Merging.{merged}
 
-held-push : (xs : List Item) (x : Item) (b : Bool) → is_null x ≡ b → held (xs ++ x ∷ []) ≡ held xs ++ cond (not b) (x ∷ []) []
-held-push xs x b is = filter-append (λ x. not (is_null x)) xs (x ∷ []) ∙ ap (λ b. held xs ++ cond (not b) (x ∷ []) []) is
+valid_items-push : (xs : List Item) (x : Item) (b : Bool) → is_null x ≡ b → valid_items (xs ++ x ∷ []) ≡ valid_items xs ++ cond (not b) (x ∷ []) []
+valid_items-push xs x b is = filter-append (λ x. not (is_null x)) xs (x ∷ []) ∙ ap (λ b. valid_items xs ++ cond (not b) (x ∷ []) []) is
 
 -- ---- sums
 
@@ -85,8 +85,8 @@ pick Least x y = lesser x y
 pick Greatest x y = greater x y
 
 abbrev pub best_of : End → List Item → Option Item
-best_of Least xs = reduce lesser (held xs)
-best_of Greatest xs = reduce greater (held xs)
+best_of Least xs = reduce lesser (valid_items xs)
+best_of Greatest xs = reduce greater (valid_items xs)
 
 best_is : (end : End) (c : ℕ) (xs : List Item) → tally_of (agg_at end c) xs ≡ bettered (best_of end xs)
 best_is Least c xs = refl
@@ -124,7 +124,7 @@ with_more Least (y ∷ ys) x is =
 with_more Greatest (y ∷ ys) x is =
     some_cond (is_further Greatest (fold greater y ys) x) x (fold greater y ys) ∙ ap (λ z. Some z) (sym (better-item greater (is_further Greatest) (λ b x. refl) ys x y))
 
-best_by : (end : End) (xs : List Item) → best_of end xs ≡ reduce (pick end) (held xs)
+best_by : (end : End) (xs : List Item) → best_of end xs ≡ reduce (pick end) (valid_items xs)
 best_by Least xs = refl
 best_by Greatest xs = refl
 
@@ -132,9 +132,9 @@ best-push : (end : End) (xs : List Item) (x : Item) → with_item end (best_of e
 best-push end xs x =
     ⊎_elim
     (λ yes. ap (λ b. cond b (Some x) (best_of end xs)) (not_better end (best_of end xs) x yes)
-    ∙ best_by end xs ∙ ap (reduce (pick end)) (sym (held-push xs x true yes ∙ append-nil (held xs))) ∙ sym (best_by end (xs ++ x ∷ [])))
-    (λ no. ap (λ o. with_item end o x) (best_by end xs) ∙ with_more end (held xs) x no
-    ∙ ap (reduce (pick end)) (sym (held-push xs x false no)) ∙ sym (best_by end (xs ++ x ∷ [])))
+    ∙ best_by end xs ∙ ap (reduce (pick end)) (sym (valid_items-push xs x true yes ∙ append-nil (valid_items xs))) ∙ sym (best_by end (xs ++ x ∷ [])))
+    (λ no. ap (λ o. with_item end o x) (best_by end xs) ∙ with_more end (valid_items xs) x no
+    ∙ ap (reduce (pick end)) (sym (valid_items-push xs x false no)) ∙ sym (best_by end (xs ++ x ∷ [])))
     (cases_Bool (is_null x))
 
 pub item_bettered : (end : End) (c : ℕ) (old new : Option Item) (xs : List Item) (x : Item) → new ≡ with_item end old x → bettered old ≡ tally_of (agg_at end c) xs
@@ -164,8 +164,8 @@ counts_few xs (agg.Greatest c) = omega arith
 
 -- ---- what an aggregate knows of both
 
-held-append : (xs ys : List Item) → held (xs ++ ys) ≡ held xs ++ held ys
-held-append xs ys = filter-append (λ x. not (is_null x)) xs ys
+valid_items-append : (xs ys : List Item) → valid_items (xs ++ ys) ≡ valid_items xs ++ valid_items ys
+valid_items-append xs ys = filter-append (λ x. not (is_null x)) xs ys
 
 abbrev summed_as : ℕ → Option ℤ → TallyShape
 summed_as n z = record { count = n; sum = z; best = None }
@@ -181,60 +181,60 @@ sum-append [] ys = refl
 sum-append (x ∷ xs) [] = ap (λ l. Some (fold ◌+ℤ◌ x l)) (append-nil xs)
 sum-append (x ∷ xs) (y ∷ ys) = ap Some (fold-append ◌+ℤ◌ x xs (y ∷ ys) ∙ fold-sum (fold ◌+ℤ◌ x xs) y ys)
 
-held-one : (k : Kind) (x : Item) → is_list k ≡ false → IsItemOf k x → not (is_null x) ≡ is_ordered k x
-held-one (kind.int t) null plain h = refl
-held-one (kind.int t) (int z) plain h = refl
-held-one (kind.int t) (boolean b) plain h = absurd h
-held-one (kind.int t) (text s) plain h = absurd h
-held-one (kind.int t) (list l) plain h = absurd h
-held-one kind.boolean null plain h = refl
-held-one kind.boolean (int z) plain h = absurd h
-held-one kind.boolean (boolean b) plain h = refl
-held-one kind.boolean (text s) plain h = absurd h
-held-one kind.boolean (list l) plain h = absurd h
-held-one (kind.texts w) null plain h = refl
-held-one (kind.texts w) (int z) plain h = absurd h
-held-one (kind.texts w) (boolean b) plain h = absurd h
-held-one (kind.texts w) (text s) plain h = refl
-held-one (kind.texts w) (list l) plain h = absurd h
-held-one (kind.lists w k) x plain h = absurd cc
-held-one kind.dict null plain h = refl
-held-one kind.dict (int z) plain h = absurd h
-held-one kind.dict (boolean b) plain h = absurd h
-held-one kind.dict (text s) plain h = refl
-held-one kind.dict (list l) plain h = absurd h
+valid_items-one : (k : Kind) (x : Item) → is_list k ≡ false → IsItemOf k x → not (is_null x) ≡ is_ordered k x
+valid_items-one (kind.int t) null plain h = refl
+valid_items-one (kind.int t) (int z) plain h = refl
+valid_items-one (kind.int t) (boolean b) plain h = absurd h
+valid_items-one (kind.int t) (text s) plain h = absurd h
+valid_items-one (kind.int t) (list l) plain h = absurd h
+valid_items-one kind.boolean null plain h = refl
+valid_items-one kind.boolean (int z) plain h = absurd h
+valid_items-one kind.boolean (boolean b) plain h = refl
+valid_items-one kind.boolean (text s) plain h = absurd h
+valid_items-one kind.boolean (list l) plain h = absurd h
+valid_items-one (kind.texts w) null plain h = refl
+valid_items-one (kind.texts w) (int z) plain h = absurd h
+valid_items-one (kind.texts w) (boolean b) plain h = absurd h
+valid_items-one (kind.texts w) (text s) plain h = refl
+valid_items-one (kind.texts w) (list l) plain h = absurd h
+valid_items-one (kind.lists w k) x plain h = absurd cc
+valid_items-one kind.dict null plain h = refl
+valid_items-one kind.dict (int z) plain h = absurd h
+valid_items-one kind.dict (boolean b) plain h = absurd h
+valid_items-one kind.dict (text s) plain h = refl
+valid_items-one kind.dict (list l) plain h = absurd h
 
-held-ordered : (k : Kind) (xs : List Item) → All (λ x. (is_list k ≡ false) × IsItemOf k x) xs → held xs ≡ ordered k xs
-held-ordered k [] h = refl
-held-ordered k (x ∷ xs) h =
+valid_items-ordered : (k : Kind) (xs : List Item) → All (λ x. (is_list k ≡ false) × IsItemOf k x) xs → valid_items xs ≡ ordered k xs
+valid_items-ordered k [] h = refl
+valid_items-ordered k (x ∷ xs) h =
     let P : Item → Type 0 = λ y. (is_list k ≡ false) × IsItemOf k y in
     let here = All-head P x xs h in
-    ap (λ b. cond b (x ∷ held xs) (held xs)) (held-one k x here.0 here.1)
-    ∙ ap (λ l. cond (is_ordered k x) (x ∷ l) l) (held-ordered k xs (All-tail P x xs h))
+    ap (λ b. cond b (x ∷ valid_items xs) (valid_items xs)) (valid_items-one k x here.0 here.1)
+    ∙ ap (λ l. cond (is_ordered k x) (x ∷ l) l) (valid_items-ordered k xs (All-tail P x xs h))
 
 -- The least of items of several kinds would depend on the order in which they are compared.
 pub tally-merged : (kinds : ℕ → Kind) (a : Agg ℕ) (xs ys : List Item) → All (IsComparable kinds a) xs → All (IsComparable kinds a) ys → tally_of a (xs ++ ys) ≡ merged a (tally_of a xs) (tally_of a ys)
 tally-merged kinds agg.Rows xs ys are more = ap counted (length-append xs ys)
-tally-merged kinds (agg.Count c) xs ys are more = ap counted (ap (λ (l : List Item). length l) (held-append xs ys) ∙ length-append (held xs) (held ys))
+tally-merged kinds (agg.Count c) xs ys are more = ap counted (ap (λ (l : List Item). length l) (valid_items-append xs ys) ∙ length-append (valid_items xs) (valid_items ys))
 tally-merged kinds (agg.Sum c) xs ys are more =
     ap summed (filter_map-append number_of xs ys)
     ∙ ap (λ n. summed_as n (reduce ◌+ℤ◌ (numbers_of xs ++ numbers_of ys))) (length-append (numbers_of xs) (numbers_of ys))
     ∙ ap (summed_as (length (numbers_of xs) + length (numbers_of ys))) (sum-append (numbers_of xs) (numbers_of ys))
 tally-merged kinds (agg.Least c) xs ys are more =
     let k = kinds c in
-    ap (λ l. bettered (reduce lesser l)) (held-append xs ys)
-    ∙ ap (λ l. bettered (reduce lesser (l ++ held ys))) (held-ordered k xs are)
-    ∙ ap (λ l. bettered (reduce lesser (ordered k xs ++ l))) (held-ordered k ys more)
+    ap (λ l. bettered (reduce lesser l)) (valid_items-append xs ys)
+    ∙ ap (λ l. bettered (reduce lesser (l ++ valid_items ys))) (valid_items-ordered k xs are)
+    ∙ ap (λ l. bettered (reduce lesser (ordered k xs ++ l))) (valid_items-ordered k ys more)
     ∙ ap (λ l. bettered (reduce lesser l)) (sym (filter-append (is_ordered k) xs ys))
     ∙ ap bettered (least-append k xs ys)
-    ∙ ap (λ l. bettered (better lesser (reduce lesser l) (least_of k ys))) (sym (held-ordered k xs are))
-    ∙ ap (λ l. bettered (better lesser (reduce lesser (held xs)) (reduce lesser l))) (sym (held-ordered k ys more))
+    ∙ ap (λ l. bettered (better lesser (reduce lesser l) (least_of k ys))) (sym (valid_items-ordered k xs are))
+    ∙ ap (λ l. bettered (better lesser (reduce lesser (valid_items xs)) (reduce lesser l))) (sym (valid_items-ordered k ys more))
 tally-merged kinds (agg.Greatest c) xs ys are more =
     let k = kinds c in
-    ap (λ l. bettered (reduce greater l)) (held-append xs ys)
-    ∙ ap (λ l. bettered (reduce greater (l ++ held ys))) (held-ordered k xs are)
-    ∙ ap (λ l. bettered (reduce greater (ordered k xs ++ l))) (held-ordered k ys more)
+    ap (λ l. bettered (reduce greater l)) (valid_items-append xs ys)
+    ∙ ap (λ l. bettered (reduce greater (l ++ valid_items ys))) (valid_items-ordered k xs are)
+    ∙ ap (λ l. bettered (reduce greater (ordered k xs ++ l))) (valid_items-ordered k ys more)
     ∙ ap (λ l. bettered (reduce greater l)) (sym (filter-append (is_ordered k) xs ys))
     ∙ ap bettered (greatest-append k xs ys)
-    ∙ ap (λ l. bettered (better greater (reduce greater l) (greatest_of k ys))) (sym (held-ordered k xs are))
-    ∙ ap (λ l. bettered (better greater (reduce greater (held xs)) (reduce greater l))) (sym (held-ordered k ys more))
+    ∙ ap (λ l. bettered (better greater (reduce greater l) (greatest_of k ys))) (sym (valid_items-ordered k xs are))
+    ∙ ap (λ l. bettered (better greater (reduce greater (valid_items xs)) (reduce greater l))) (sym (valid_items-ordered k ys more))

@@ -7,7 +7,7 @@ use Rattle.group.specs.declared.stats.Scalar.{Scalar}
 use Rattle.query.specs.declared.expr.Agg.{Agg}
 use Rattle.query.specs.declared.expr.Agg.TheVariants as agg
 use Rattle.tallies.specs.Ends.{agg_at, number_if_any}
-use Rattle.tallies.specs.Tallies.{TallyShape, bettered, counted, items_for, tally_of, told}
+use Rattle.tallies.specs.Tallies.{TallyShape, bettered, counted, items_for, tally_of, cell_of}
 use Rattle.tallies.specs.Totals.{sum_if_any}
 use Rattle.tallies.specs.declared.total.Total.{Total}
 use Rattle.tallies.specs.declared.best_number.BestNumber.{BestNumber}
@@ -44,8 +44,8 @@ abbrev pub column_of : List Table → Agg ℕ → ColumnShape
 column_of tables a = record { agg = a; tallies = map (λ rows. tally_of a (items_for a rows)) tables }
 
 -- What it tells of group n.
-abbrev pub told_at : ℕ → ColumnShape → Item
-told_at n column = told column.agg (slice_index_or column.tallies n (counted 0))
+abbrev pub cell_of_group : ℕ → ColumnShape → Item
+cell_of_group n column = cell_of column.agg (slice_index_or column.tallies n (counted 0))
 
 -- The column that counts so many rows of one group.
 abbrev pub rows_column : ℕ → ColumnShape

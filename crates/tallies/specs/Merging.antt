@@ -50,7 +50,7 @@ spread_all [] more groups = groups
 spread_all (n ∷ ns) [] groups = groups
 spread_all (n ∷ ns) (xs ∷ more) groups = spread_all ns more (put_all n xs groups)
 
--- The tallies of groups; those whose ids are told know of more items.
+-- The tallies of groups; those whose ids are reported know of more items.
 abbrev pub merge_all : Agg ℕ → List ℕ → List TallyShape → List TallyShape → List TallyShape
 merge_all a [] more tallies = tallies
 merge_all a (n ∷ ns) [] tallies = tallies

@@ -25,16 +25,16 @@ abbrev pub bettered : Option Item → TallyShape
 bettered x = record { count = 0; sum = None; best = x }
 
 -- The items that aren't null.
-abbrev pub held : List Item → List Item
-held xs = filter (λ x. not (is_null x)) xs
+abbrev pub valid_items : List Item → List Item
+valid_items xs = filter (λ x. not (is_null x)) xs
 
 -- What an aggregate knows of the items that it looked at.
 abbrev pub tally_of : Agg ℕ → List Item → TallyShape
 tally_of Rows xs = counted (length xs)
-tally_of (Count c) xs = counted (length (held xs))
+tally_of (Count c) xs = counted (length (valid_items xs))
 tally_of (Sum c) xs = summed (numbers_of xs)
-tally_of (Least c) xs = bettered (reduce lesser (held xs))
-tally_of (Greatest c) xs = bettered (reduce greater (held xs))
+tally_of (Least c) xs = bettered (reduce lesser (valid_items xs))
+tally_of (Greatest c) xs = bettered (reduce greater (valid_items xs))
 
 -- What it looks at in a row: the column's item; where rows are counted, nothing.
 abbrev pub item_for : Agg ℕ → Row → Item
@@ -48,12 +48,12 @@ abbrev pub items_for : Agg ℕ → Table → List Item
 items_for a rows = map (λ row. item_for a row) rows
 
 -- What it tells at the end.
-abbrev pub told : Agg ℕ → TallyShape → Item
-told Rows t = int (pos t.count)
-told (Count c) t = int (pos t.count)
-told (Sum c) t = item_of t.sum
-told (Least c) t = item_or_null t.best
-told (Greatest c) t = item_or_null t.best
+abbrev pub cell_of : Agg ℕ → TallyShape → Item
+cell_of Rows t = int (pos t.count)
+cell_of (Count c) t = int (pos t.count)
+cell_of (Sum c) t = item_of t.sum
+cell_of (Least c) t = item_or_null t.best
+cell_of (Greatest c) t = item_or_null t.best
 
 -- ---- the tallies of many groups
 

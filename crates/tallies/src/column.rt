@@ -5,7 +5,7 @@ ghost use Rattle.arrays.specs.Batch.{Table, row_of};
 ghost use Rattle.query.specs.Columns.{sort_at};
 ghost use Rattle.query.specs.Fault.{agg_fault};
 ghost use Rattle.group.specs.Scalars.{item_of_scalar};
-ghost use Rattle.tallies.specs.Columns.{column_of, rows_column, show_column, told_at};
+ghost use Rattle.tallies.specs.Columns.{column_of, rows_column, show_column, cell_of_group};
 ghost use Rattle.tallies.specs.Spread.{padded, spread};
 ghost use Rattle.tallies.specs.Tallies.{tally_of};
 
@@ -125,7 +125,7 @@ impl TallyColumn {
         }
     }
 
-    /// Counts so many rows of the one group, of which nothing else is asked.
+    /// Counts so many rows of the one group, of which nothing else is requested.
     pub fn add_count(&mut self, rows: u64)
         requires { (n : ℕ) × (show_column self.old ≡ rows_column n) × (n + rows ≤ 2 ^ 40) }
         ensures { (n : ℕ) → show_column self.old ≡ rows_column n → show_column self.new ≡ rows_column (n + rows) }
@@ -164,7 +164,7 @@ impl TallyColumn {
     /// What it tells of a group; none is null.
     pub fn tell(&self, alloc: Global, group: usize) -> Result<Option<Scalar>, NoMemory>
         requires { group < length (show_column self.now).tallies }
-        ensures { IfOk result (λ s. item_of_scalar s ≡ told_at group (show_column self.now)) }
+        ensures { IfOk result (λ s. item_of_scalar s ≡ cell_of_group group (show_column self.now)) }
     {
         match self {
             TallyColumn::Rows(counts) => Ok(Some(Scalar::Int(i128::from(counts[group])))),

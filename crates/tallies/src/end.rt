@@ -4,7 +4,7 @@ ghost use Rattle.std.specs.Prelude.{◌≡◌};
 ghost use Rattle.arrays.specs.Item.{int};
 ghost use Rattle.tallies.specs.Ends.{is_further};
 
-/// Which end of an order is asked for.
+/// Which end of an order is requested.
 #[derive(Clone, Copy)]
 pub enum End {
     Least,

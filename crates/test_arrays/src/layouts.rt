@@ -5,7 +5,7 @@ mod deep;
 mod hostile;
 mod over;
 
-use Held::{Bytes, Cut, Int32s, Nothing, Offsets};
+use Content::{Bytes, Cut, Int32s, Nothing, Offsets};
 use Inner::{Bits, Indices, Numbers, Texts};
 use arrays::{
     Array, DataType, IntType, LayoutFault, OffsetWidth, RawArray, ViewType, Width, validate,
@@ -30,7 +30,7 @@ enum Inner {
 
 /// What lies at a position.
 #[derive(Clone, Copy)]
-enum Held {
+enum Content {
     Nothing,
     Bytes(&'static [u8]),
     /// Numbers or indices, little-endian.
@@ -42,7 +42,7 @@ enum Held {
 }
 
 /// So many lists in one another and the type in them, the length, the null count, and what lies at each position.
-type Part = (usize, Inner, u64, Option<u64>, &'static [Held]);
+type Part = (usize, Inner, u64, Option<u64>, &'static [Content]);
 
 const SHORT: Inner = Numbers(Width::W16, true);
 
@@ -51,7 +51,7 @@ const LONGER: Inner = Numbers(Width::W32, true);
 const UNSIGNED: Inner = Numbers(Width::W16, false);
 
 /// The validity of two slots that are valid.
-const BOTH: Held = Bytes(&[0x03]);
+const BOTH: Content = Bytes(&[0x03]);
 
 /// The parts, without children or a dictionary, whose offsets are of these widths.
 fn parts(alloc: Global, widths: Widths, part: Part) -> Result<RawArray, Fail> {
@@ -64,19 +64,19 @@ fn parts(alloc: Global, widths: Widths, part: Part) -> Result<RawArray, Fail> {
     };
     let mut parts = raw(alloc, lists_of(alloc, widths, lists, ty)?, length, &[])?;
     parts.null_count = null_count;
-    for held in positions {
-        let buffer = buffer(alloc, widths.of_lists(lists), *held)?;
+    for content in positions {
+        let buffer = buffer(alloc, widths.of_lists(lists), *content)?;
         parts.buffers.push(buffer)?;
     }
     Ok(parts)
 }
 
 /// The buffer at a position of an array whose offsets are of this width.
-fn buffer(alloc: Global, width: OffsetWidth, held: Held) -> Result<Option<Buffer>, Fail> {
+fn buffer(alloc: Global, width: OffsetWidth, content: Content) -> Result<Option<Buffer>, Fail> {
     let mut bytes = Vec::new(alloc);
-    match held {
+    match content {
         Nothing => return Ok(None),
-        Bytes(held) => bytes.extend_from_slice(held)?,
+        Bytes(content) => bytes.extend_from_slice(content)?,
         Int32s(numbers) => {
             for number in numbers {
                 bytes.extend_from_slice(&number.to_le_bytes())?;
@@ -117,8 +117,11 @@ fn expect_at(
 ) -> Result<(), Fail> {
     for (fault, wholes) in groups {
         for (i, whole) in wholes.iter().enumerate() {
-            let told = validate(alloc, assembled(alloc, widths, *whole)?).err();
-            assert!(rt; told == *fault, "{told:?} for {fault:?}, {i}, {widths:?}");
+            let reported = validate(alloc, assembled(alloc, widths, *whole)?).err();
+            assert!(rt;
+                reported == *fault,
+                "{reported:?} for {fault:?}, {i}, {widths:?}"
+            );
         }
     }
     Ok(())
@@ -138,7 +141,7 @@ fn expect_faults(
 }
 
 /// What lies at the two positions of lists.
-type Slot = [Held; 2];
+type Slot = [Content; 2];
 
 /// An array in so many lists of one slot.
 fn in_lists(
@@ -153,8 +156,8 @@ fn in_lists(
         let width = widths.of_lists(list + 1);
         let ty = list_of(alloc, width, inner.ty.copy(alloc)?)?;
         let mut list = raw(alloc, ty, 1, &[])?;
-        for held in slot {
-            list.buffers.push(buffer(alloc, width, held)?)?;
+        for content in slot {
+            list.buffers.push(buffer(alloc, width, content)?)?;
         }
         list.children.push(inner)?;
         inner = list;

@@ -197,8 +197,11 @@ fn expect_wrong(
     cases: &[(Outside<'_>, LayoutFault)],
 ) -> Result<(), Fail> {
     for (outside, fault) in cases {
-        let told = tried(alloc, width, *outside)?.err();
-        assert!(rt; told == Some(*fault), "{told:?} for {fault:?}, {width:?}");
+        let reported = tried(alloc, width, *outside)?.err();
+        assert!(rt;
+            reported == Some(*fault),
+            "{reported:?} for {fault:?}, {width:?}"
+        );
     }
     Ok(())
 }

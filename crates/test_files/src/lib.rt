@@ -1,4 +1,4 @@
-//! Tests of files of JSON: what is read of them and what is told, what is printed, and that it reads back as it was.
+//! Tests of files of JSON: what is read of them and what is reported, what is printed, and that it reads back as it was.
 #![tactic(auto)]
 
 #[cfg(test)]

@@ -1,4 +1,4 @@
-//! Files of JSON: what is told of those that can't be read.
+//! Files of JSON: what is reported of those that can't be read.
 
 mod dictionaries;
 mod lists;
@@ -10,20 +10,20 @@ use std::alloc::Global;
 use std::process::Abort;
 use std::test::Fail;
 
-/// What stands for MEMBERS in a file, and what is told of it then, `read` where nothing is wrong.
+/// What stands for MEMBERS in a file, and what is reported of it then, `read` where nothing is wrong.
 pub(crate) type Cases = &'static [(&'static str, &'static str)];
 
-/// Asserts what is told of a file, `read` where nothing is wrong.
+/// Asserts what is reported of a file, `read` where nothing is wrong.
 pub(crate) fn expect(rt: &impl Abort, alloc: Global, text: &str, wanted: &str) -> Result<(), Fail> {
-    let told = match read_file(alloc, text.as_bytes()) {
+    let reported = match read_file(alloc, text.as_bytes()) {
         Ok(_) => String::from_str(alloc, "read")?,
         Err(fault) => fault_text(alloc, &fault)?,
     };
-    assert!(rt; told.as_str() == wanted, "{told} for {text}");
+    assert!(rt; reported.as_str() == wanted, "{reported} for {text}");
     Ok(())
 }
 
-/// Asserts what is told of a file in each case.
+/// Asserts what is reported of a file in each case.
 pub(crate) fn expect_each(
     rt: &impl Abort,
     alloc: Global,
@@ -37,7 +37,7 @@ pub(crate) fn expect_each(
     Ok(())
 }
 
-/// Asserts what is told of a file in each case of each type, which stands for TYPE.
+/// Asserts what is reported of a file in each case of each type, which stands for TYPE.
 pub(crate) fn expect_each_type(
     rt: &impl Abort,
     alloc: Global,
@@ -180,13 +180,13 @@ fn tells_the_faults_of_a_field_by_itself(rt: HostRuntime) -> Result<(), Fail> {
     expect_field(&rt, rt.alloc(), b"{}", "J2 MissingMember at /name")
 }
 
-/// Asserts what is told of a field, `read` where nothing is wrong.
+/// Asserts what is reported of a field, `read` where nothing is wrong.
 fn expect_field(rt: &impl Abort, alloc: Global, text: &[u8], wanted: &str) -> Result<(), Fail> {
-    let told = match read_field(alloc, text) {
+    let reported = match read_field(alloc, text) {
         Ok(_) => String::from_str(alloc, "read")?,
         Err(fault) => fault_text(alloc, &fault)?,
     };
-    assert!(rt; told.as_str() == wanted, "{told} for {text:?}");
+    assert!(rt; reported.as_str() == wanted, "{reported} for {text:?}");
     Ok(())
 }
 

@@ -1,8 +1,7 @@
 //! The examples that are shipped with the repository: each is read, printed, and read again.
 
 use arrays::{Field, RecordBatch};
-use arrow_json::read_file;
-use arrow_text::print_file;
+use arrow_json::{print_file, read_file};
 use std::alloc::Global;
 use std::process::Abort;
 use std::sync::Arc;

@@ -77,13 +77,13 @@ impl<R> Scene<R> for Making {
         Ok(bitmap?.into_buffer())
     }
 
-    fn tell(&mut self, _rt: &R, told: &mut String) -> Result<(), Fail> {
-        tell_array(told, &self.names)
+    fn tell(&mut self, _rt: &R, report: &mut String) -> Result<(), Fail> {
+        tell_array(report, &self.names)
     }
 
-    fn tell_answer(told: &mut String, buffer: &Buffer) -> Result<(), Fail> {
+    fn tell_answer(report: &mut String, buffer: &Buffer) -> Result<(), Fail> {
         let bytes = buffer.bytes();
-        write!(told, "{bytes:?}")?;
+        write!(report, "{bytes:?}")?;
         Ok(())
     }
 }

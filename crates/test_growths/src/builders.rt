@@ -49,12 +49,12 @@ impl<R> Scene<R> for Building {
     }
 
     /// Nothing is left of what was begun.
-    fn tell(&mut self, _rt: &R, _told: &mut String) -> Result<(), Fail> {
+    fn tell(&mut self, _rt: &R, _report: &mut String) -> Result<(), Fail> {
         Ok(())
     }
 
-    fn tell_answer(told: &mut String, answer: &Array) -> Result<(), Fail> {
-        tell_array(told, answer)
+    fn tell_answer(report: &mut String, answer: &Array) -> Result<(), Fail> {
+        tell_array(report, answer)
     }
 }
 

@@ -65,17 +65,17 @@ impl<C: Ledger, Q: Ledger, K: Ledger, N: Naming, P: Publish<Item = Shown<N>>, R:
         }
     }
 
-    /// What the table shows is told by the answer.
-    fn tell(&mut self, _rt: &R, told: &mut String) -> Result<(), Fail> {
+    /// What the table shows is given by the answer.
+    fn tell(&mut self, _rt: &R, report: &mut String) -> Result<(), Fail> {
         let is_there = self.table.is_some();
-        write!(told, "{is_there} ")?;
+        write!(report, "{is_there} ")?;
         if let Some(workers) = &self.workers {
-            tell_workers(told, workers)?;
+            tell_workers(report, workers)?;
         }
         Ok(())
     }
 
-    fn tell_answer(told: &mut String, answer: &Arc<Version>) -> Result<(), Fail> {
-        tell_version(told, answer)
+    fn tell_answer(report: &mut String, answer: &Arc<Version>) -> Result<(), Fail> {
+        tell_version(report, answer)
     }
 }

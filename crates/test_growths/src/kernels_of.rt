@@ -103,12 +103,12 @@ impl<R> Scene<R> for Computing {
         Ok(computed(alloc, self.kernel, &a, &b)?)
     }
 
-    fn tell(&mut self, _rt: &R, told: &mut String) -> Result<(), Fail> {
-        tell_array(told, &self.column)
+    fn tell(&mut self, _rt: &R, report: &mut String) -> Result<(), Fail> {
+        tell_array(report, &self.column)
     }
 
-    fn tell_answer(told: &mut String, answer: &Array) -> Result<(), Fail> {
-        tell_array(told, answer)
+    fn tell_answer(report: &mut String, answer: &Array) -> Result<(), Fail> {
+        tell_array(report, answer)
     }
 }
 

@@ -54,7 +54,7 @@ impl<R: Threads + Wait + Sync> Trial<R> for Loading {
             other => other,
         };
         Ok(match last {
-            Loaded::All(told) => Ran::Answered(met, told),
+            Loaded::All(report) => Ran::Answered(met, report),
             Loaded::Part => Ran::Wrong(Fault::NoAnswer),
             Loaded::Wrong(fault) => Ran::Wrong(fault),
         })
@@ -131,7 +131,7 @@ fn load_by<
     let version = table.snapshot(rt, worker)?;
     let loaded = match called {
         _ if !are_counted(&version, &workers) => Loaded::Wrong(Fault::Miscounted),
-        Ok(receipts) => Loaded::All(told(alloc, &receipts, &version, &workers, &mut readers)?),
+        Ok(receipts) => Loaded::All(report(alloc, &receipts, &version, &workers, &mut readers)?),
         Err(fault) if Stop::from(fault) == Stop::NoMemory => Loaded::Part,
         Err(_) => Loaded::Wrong(Fault::NoAnswer),
     };
@@ -159,44 +159,44 @@ fn are_counted<C: Ledger, Q: Ledger, K: Ledger, N: Naming>(
 
 /// What is seen whoever was first: how many receipts there are and up to which entry, what each worker appended, and how many
 /// rows each reader sees.
-fn told<C: Ledger, Q: Ledger, K: Ledger, N: Naming>(
+fn report<C: Ledger, Q: Ledger, K: Ledger, N: Naming>(
     alloc: Global,
     receipts: &[Receipt<N>],
     version: &Version,
     workers: &[Worker<C, Q, K, N>],
     readers: &mut [Reader<N>],
 ) -> Result<String, Fail> {
-    let mut told = String::new(alloc);
-    tell_receipts(&mut told, receipts)?;
+    let mut report = String::new(alloc);
+    tell_receipts(&mut report, receipts)?;
     let rows = version.rows();
-    write!(told, "{rows} rows ")?;
-    tell_workers(&mut told, workers)?;
+    write!(report, "{rows} rows ")?;
+    tell_workers(&mut report, workers)?;
     for worker in workers {
-        tell_batches_of(&mut told, version, worker.number())?;
+        tell_batches_of(&mut report, version, worker.number())?;
     }
     for reader in readers.iter_mut() {
         let rows = reader.latest()?.rows();
-        write!(told, "{rows} ")?;
+        write!(report, "{rows} ")?;
     }
-    Ok(told)
+    Ok(report)
 }
 
 /// Tells how many receipts there are, and the number of the last entry that one is of.
-fn tell_receipts<N: Naming>(told: &mut String, receipts: &[Receipt<N>]) -> Result<(), Fail> {
+fn tell_receipts<N: Naming>(report: &mut String, receipts: &[Receipt<N>]) -> Result<(), Fail> {
     let count = receipts.len();
     let mut last = 0;
     for receipt in receipts {
         last = receipt.entry().max(last);
     }
-    write!(told, "{count} receipts up to {last}, ")?;
+    write!(report, "{count} receipts up to {last}, ")?;
     Ok(())
 }
 
 /// Tells the batches of a worker, one after the other.
-fn tell_batches_of(told: &mut String, version: &Version, worker: u32) -> Result<(), Fail> {
+fn tell_batches_of(report: &mut String, version: &Version, worker: u32) -> Result<(), Fail> {
     for (i, batch) in version.batches().iter().enumerate() {
         if i < version.book_len() as usize && version.book_at(i as u32).worker == worker {
-            tell_rows(told, batch)?;
+            tell_rows(report, batch)?;
         }
     }
     Ok(())

@@ -27,7 +27,7 @@ pub(crate) const CASES: [(&str, Opening); 2] = [
 ];
 
 impl<R: Wait> Trial<R> for Opening {
-    /// What is opened is told by how many workers and readers there are. All that is handed over is gone with a refusal.
+    /// What is opened is given by how many workers and readers there are. All that is handed over is gone with a refusal.
     fn run(&self, rt: &R, alloc: Global, refused: Option<Refused>) -> Result<Ran, Fail> {
         let Opening(readers) = *self;
         let (first, met) = opened(rt, alloc, readers, refused)?;
@@ -37,8 +37,8 @@ impl<R: Wait> Trial<R> for Opening {
         };
         match last {
             Ok((workers, readers)) => {
-                let told = format!(in alloc; "{workers} {readers}")?;
-                Ok(Ran::Answered(met, told))
+                let report = format!(in alloc; "{workers} {readers}")?;
+                Ok(Ran::Answered(met, report))
             }
             Err(_) => Ok(Ran::Wrong(Fault::NoAnswer)),
         }

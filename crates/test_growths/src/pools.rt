@@ -97,17 +97,17 @@ impl<R> Scene<R> for Recoding {
         }
     }
 
-    fn tell(&mut self, _rt: &R, told: &mut String) -> Result<(), Fail> {
-        tell_arrays(told, &self.columns)?;
-        tell_pool(told, &self.pool)
+    fn tell(&mut self, _rt: &R, report: &mut String) -> Result<(), Fail> {
+        tell_arrays(report, &self.columns)?;
+        tell_pool(report, &self.pool)
     }
 
-    fn tell_answer(told: &mut String, answer: &Coded) -> Result<(), Fail> {
+    fn tell_answer(report: &mut String, answer: &Coded) -> Result<(), Fail> {
         match answer {
-            Coded::Column(column) => tell_array(told, column),
+            Coded::Column(column) => tell_array(report, column),
             Coded::Unified(entries, codes) => {
-                tell_array(told, entries)?;
-                tell_arrays(told, codes)
+                tell_array(report, entries)?;
+                tell_arrays(report, codes)
             }
         }
     }
@@ -125,12 +125,12 @@ fn is_of_texts(view: &View<'_>) -> bool
 }
 
 /// Tells the texts of a pool: there are few.
-fn tell_pool(told: &mut String, pool: &TextPool) -> Result<(), Fail> {
+fn tell_pool(report: &mut String, pool: &TextPool) -> Result<(), Fail> {
     let count = pool.len();
-    write!(told, "{count} texts: ")?;
+    write!(report, "{count} texts: ")?;
     for code in 0..10 {
         let text = pool.text_of(code);
-        write!(told, "{text:?} ")?;
+        write!(report, "{text:?} ")?;
     }
     Ok(())
 }

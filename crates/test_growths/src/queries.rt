@@ -2,7 +2,7 @@
 
 ghost use Rattle.std.specs.Prelude.{◌≡◌, true};
 ghost use Rattle.std.specs.Arc.{arc_value};
-ghost use Rattle.query.specs.Asked.{asked};
+ghost use Rattle.query.specs.QueryShape.{query_shape};
 ghost use Rattle.query.specs.Fault.{fits};
 
 use crate::permit::Permit;
@@ -84,7 +84,7 @@ struct Asking {
     version: Arc<Version>,
     text: QueryText,
     query: Query,
-    ghost fits: { fits (arc_value version).fields (asked query) ≡ true },
+    ghost fits: { fits (arc_value version).fields (query_shape query) ≡ true },
 }
 
 impl Asking {
@@ -132,17 +132,17 @@ impl<R: Threads + Sync> Scene<R> for Asking {
         }
     }
 
-    fn tell(&mut self, _rt: &R, told: &mut String) -> Result<(), Fail> {
+    fn tell(&mut self, _rt: &R, report: &mut String) -> Result<(), Fail> {
         let (text, query) = (&self.text, &self.query);
-        write!(told, "{text:?} {query:?} ")?;
-        tell_version(told, &self.version)
+        write!(report, "{text:?} {query:?} ")?;
+        tell_version(report, &self.version)
     }
 
-    fn tell_answer(told: &mut String, answer: &Given) -> Result<(), Fail> {
+    fn tell_answer(report: &mut String, answer: &Given) -> Result<(), Fail> {
         match answer {
-            Given::Query(query) => write!(told, "{query:?}")?,
-            Given::Answer(answer) => write!(told, "{answer:?}")?,
-            Given::File(file) => tell_file(told, file)?,
+            Given::Query(query) => write!(report, "{query:?}")?,
+            Given::Answer(answer) => write!(report, "{answer:?}")?,
+            Given::File(file) => tell_file(report, file)?,
         }
         Ok(())
     }

@@ -1,4 +1,4 @@
-//! What is asked of the library that refuses requests for memory: by requests for so many bytes as nobody wants in earnest
+//! What is required of the library that refuses requests for memory: by requests for so many bytes as nobody wants in earnest
 //! (`tools/refusals.c`).
 
 use std::alloc::Global;
@@ -38,7 +38,7 @@ pub(crate) fn begin(alloc: Global, refused: Option<Refused>) {
     let _none = block(alloc, ALONE + behind + refused.number as usize);
 }
 
-/// Has nothing refused any more. Whether anything was since this was asked last.
+/// Has nothing refused any more. Whether anything was since this was called last.
 pub(crate) fn end(alloc: Global) -> bool {
     block(alloc, WAS_NONE_REFUSED).is_none()
 }

@@ -29,7 +29,7 @@ pub(crate) fn run<S: Scene<R>, R>(
     let called = scene.call(rt, alloc);
     let met = end(alloc);
     match called {
-        Ok(answer) => told(rt, alloc, &mut scene, answer, met),
+        Ok(answer) => report(rt, alloc, &mut scene, answer, met),
         Err(Stop::NoMemory) if met => again(rt, alloc, scene, before),
         Err(_) => Ok(Ran::Wrong(Fault::NoAnswer)),
     }
@@ -43,28 +43,28 @@ fn again<S: Scene<R>, R>(rt: &R, alloc: Global, scene: S, before: String) -> Res
     }
     scene.renew(alloc)?;
     match scene.call(rt, alloc) {
-        Ok(answer) => told(rt, alloc, &mut scene, answer, true),
+        Ok(answer) => report(rt, alloc, &mut scene, answer, true),
         Err(_) => Ok(Ran::Wrong(Fault::NoSecondAnswer)),
     }
 }
 
 /// What is to be left as it was.
 fn seen<S: Scene<R>, R>(rt: &R, alloc: Global, scene: &mut S) -> Result<String, Fail> {
-    let mut told = String::new(alloc);
-    scene.tell(rt, &mut told)?;
-    Ok(told)
+    let mut report = String::new(alloc);
+    scene.tell(rt, &mut report)?;
+    Ok(report)
 }
 
 /// What is seen behind an answer.
-fn told<S: Scene<R>, R>(
+fn report<S: Scene<R>, R>(
     rt: &R,
     alloc: Global,
     scene: &mut S,
     answer: S::Answer,
     met: bool,
 ) -> Result<Ran, Fail> {
-    let mut told = String::new(alloc);
-    S::tell_answer(&mut told, &answer)?;
-    scene.tell(rt, &mut told)?;
-    Ok(Ran::Answered(met, told))
+    let mut report = String::new(alloc);
+    S::tell_answer(&mut report, &answer)?;
+    scene.tell(rt, &mut report)?;
+    Ok(Ran::Answered(met, report))
 }

@@ -1,9 +1,8 @@
 //! Files, a table and queries that calls are tried on.
 
 use arrays::{File, RecordBatch};
-use arrow_json::read_file;
+use arrow_json::{read_file, read_query};
 use query::QueryText;
-use query_json::read_query;
 use std::alloc::Global;
 use std::sync::Arc;
 use std::test::Fail;

@@ -17,8 +17,8 @@ pub(crate) trait Scene<R>: Drop {
     fn call(&mut self, rt: &R, alloc: Global) -> Result<Self::Answer, Stop>;
 
     /// Tells what a call that wants memory leaves as it was.
-    fn tell(&mut self, rt: &R, told: &mut String) -> Result<(), Fail>;
+    fn tell(&mut self, rt: &R, report: &mut String) -> Result<(), Fail>;
 
     /// Tells an answer.
-    fn tell_answer(told: &mut String, answer: &Self::Answer) -> Result<(), Fail>;
+    fn tell_answer(report: &mut String, answer: &Self::Answer) -> Result<(), Fail>;
 }

@@ -227,11 +227,11 @@ impl<R> Scene<R> for Selecting {
         }
     }
 
-    fn tell(&mut self, _rt: &R, told: &mut String) -> Result<(), Fail> {
-        tell_arrays(told, &self.arrays)
+    fn tell(&mut self, _rt: &R, report: &mut String) -> Result<(), Fail> {
+        tell_arrays(report, &self.arrays)
     }
 
-    fn tell_answer(told: &mut String, answer: &Array) -> Result<(), Fail> {
-        tell_array(told, answer)
+    fn tell_answer(report: &mut String, answer: &Array) -> Result<(), Fail> {
+        tell_array(report, answer)
     }
 }

@@ -143,26 +143,26 @@ impl<C: Ledger, Q: Ledger, K: Ledger, N: Naming, P: Publish<Item = Shown<N>>, R:
 
     /// Of several calls some may be behind. A version that was taken is kept until there is a newer one, and isn't taken before a
     /// call that takes one.
-    fn tell(&mut self, rt: &R, told: &mut String) -> Result<(), Fail> {
+    fn tell(&mut self, rt: &R, report: &mut String) -> Result<(), Fail> {
         if self.call == Call::InTurn && self.turns < TURNS {
             return Ok(());
         }
-        tell_workers(told, &self.workers)?;
+        tell_workers(report, &self.workers)?;
         if self.call == Call::Snapshot {
             return Ok(());
         }
         if let Some(worker) = self.workers.last_mut() {
             let version = self.table.snapshot(rt, worker)?;
-            tell_version(told, &version)?;
+            tell_version(report, &version)?;
         }
         Ok(())
     }
 
-    fn tell_answer(told: &mut String, answer: &Seen) -> Result<(), Fail> {
+    fn tell_answer(report: &mut String, answer: &Seen) -> Result<(), Fail> {
         match answer {
             Seen::Nothing => {}
-            Seen::Entry(number) => write!(told, "{number} ")?,
-            Seen::Version(version) => tell_version(told, version)?,
+            Seen::Entry(number) => write!(report, "{number} ")?,
+            Seen::Version(version) => tell_version(report, version)?,
         }
         Ok(())
     }
@@ -170,12 +170,12 @@ impl<C: Ledger, Q: Ledger, K: Ledger, N: Naming, P: Publish<Item = Shown<N>>, R:
 
 /// Tells how much each worker appended.
 pub(crate) fn tell_workers<C: Ledger, Q: Ledger, K: Ledger, N: Naming>(
-    told: &mut String,
+    report: &mut String,
     workers: &[Worker<C, Q, K, N>],
 ) -> Result<(), Fail> {
     for worker in workers {
         let (number, calls, rows) = (worker.number(), worker.calls(), worker.rows());
-        write!(told, "{number} {calls} {rows} ")?;
+        write!(report, "{number} {calls} {rows} ")?;
     }
     Ok(())
 }

@@ -74,17 +74,17 @@ impl<R> Scene<R> for Summing {
         }
     }
 
-    fn tell(&mut self, _rt: &R, told: &mut String) -> Result<(), Fail> {
-        tell_array(told, &self.column)?;
-        tell_stats(told, &self.stats)
+    fn tell(&mut self, _rt: &R, report: &mut String) -> Result<(), Fail> {
+        tell_array(report, &self.column)?;
+        tell_stats(report, &self.stats)
     }
 
-    fn tell_answer(told: &mut String, answer: &ColumnStats) -> Result<(), Fail> {
-        tell_stats(told, answer)
+    fn tell_answer(report: &mut String, answer: &ColumnStats) -> Result<(), Fail> {
+        tell_stats(report, answer)
     }
 }
 
-fn tell_stats(told: &mut String, stats: &ColumnStats) -> Result<(), Fail> {
-    write!(told, "{stats:?} ")?;
+fn tell_stats(report: &mut String, stats: &ColumnStats) -> Result<(), Fail> {
+    write!(report, "{stats:?} ")?;
     Ok(())
 }

@@ -61,7 +61,7 @@ fn sweep<T: Trial<R>, R: Print>(
 /// How many requests were refused, in both ways.
 fn counted<T: Trial<R>, R>(rt: &R, alloc: Global, trial: &T) -> Result<Result<u32, Wrong>, Fail> {
     let wanted = match trial.run(rt, alloc, None)? {
-        Ran::Answered(_, told) => told,
+        Ran::Answered(_, report) => report,
         Ran::Wrong(fault) => return Ok(Err(Wrong { number: 0, fault })),
     };
     let alone = counted_so(rt, alloc, trial, wanted.as_str(), false)?;
@@ -121,7 +121,7 @@ fn ended(number: u32) -> Result<u32, Wrong> {
 /// Whether a request was refused in a run that came to the answer.
 fn looked_at(ran: Ran, wanted: &str) -> Result<bool, Fault> {
     match ran {
-        Ran::Answered(met, told) if told.as_str() == wanted => Ok(met),
+        Ran::Answered(met, report) if report.as_str() == wanted => Ok(met),
         Ran::Answered(_, _) => Err(Fault::OtherAnswer),
         Ran::Wrong(fault) => Err(fault),
     }

@@ -123,28 +123,28 @@ impl<R> Scene<R> for Growing {
         }
     }
 
-    fn tell(&mut self, _rt: &R, told: &mut String) -> Result<(), Fail> {
-        tell_batch(told, &self.batch)?;
+    fn tell(&mut self, _rt: &R, report: &mut String) -> Result<(), Fail> {
+        tell_batch(report, &self.batch)?;
         let version = self.table.version()?;
-        tell_version(told, &version)
+        tell_version(report, &version)
     }
 
-    fn tell_answer(told: &mut String, answer: &Given) -> Result<(), Fail> {
+    fn tell_answer(report: &mut String, answer: &Given) -> Result<(), Fail> {
         match answer {
             Given::Nothing | Given::Pair(_) => Ok(()),
-            Given::Number(number) => tell_number(told, *number),
+            Given::Number(number) => tell_number(report, *number),
             Given::Shown(number, version) => {
-                tell_number(told, *number)?;
-                tell_version(told, version)
+                tell_number(report, *number)?;
+                tell_version(report, version)
             }
-            Given::Version(version) => tell_version(told, version),
+            Given::Version(version) => tell_version(report, version),
             Given::Versions(one, other) => {
-                tell_version(told, one)?;
-                tell_version(told, other)
+                tell_version(report, one)?;
+                tell_version(report, other)
             }
-            Given::Table(table) => tell_table(told, table),
-            Given::Batch(batch) => tell_batch(told, batch),
-            Given::Ready(ready) => tell_batch(told, ready.batch()),
+            Given::Table(table) => tell_table(report, table),
+            Given::Batch(batch) => tell_batch(report, batch),
+            Given::Ready(ready) => tell_batch(report, ready.batch()),
         }
     }
 }
@@ -186,12 +186,12 @@ impl Growing {
     }
 }
 
-fn tell_number(told: &mut String, number: u32) -> Result<(), Fail> {
-    write!(told, "{number}: ")?;
+fn tell_number(report: &mut String, number: u32) -> Result<(), Fail> {
+    write!(report, "{number}: ")?;
     Ok(())
 }
 
-fn tell_table(told: &mut String, table: &TableState) -> Result<(), Fail> {
+fn tell_table(report: &mut String, table: &TableState) -> Result<(), Fail> {
     let version = table.version()?;
-    tell_version(told, &version)
+    tell_version(report, &version)
 }

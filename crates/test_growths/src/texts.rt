@@ -8,13 +8,11 @@ use crate::stop::Stop;
 use crate::sweep::Trial;
 use crate::tell::tell_file;
 use arrays::{Field, File};
-use arrow_json::{read_field, read_file, read_file_from_vec};
-use arrow_text::print_file;
+use arrow_json::{print_file, read_field, read_file, read_file_from_vec, read_query};
 use ends::memory::MemorySource;
 use ends::read_whole;
 use job::{Job, job};
 use query::QueryText;
-use query_json::read_query;
 use std::alloc::Global;
 use std::mem;
 use std::test::Fail;
@@ -122,18 +120,18 @@ impl<R> Scene<R> for Text {
     }
 
     /// What a source gave before it wanted memory is gone.
-    fn tell(&mut self, _rt: &R, told: &mut String) -> Result<(), Fail> {
-        tell_file(told, &self.file)
+    fn tell(&mut self, _rt: &R, report: &mut String) -> Result<(), Fail> {
+        tell_file(report, &self.file)
     }
 
-    fn tell_answer(told: &mut String, answer: &Read) -> Result<(), Fail> {
+    fn tell_answer(report: &mut String, answer: &Read) -> Result<(), Fail> {
         match answer {
-            Read::File(file) => tell_file(told, file)?,
-            Read::Query(query) => write!(told, "{query:?}")?,
-            Read::Field(field) => write!(told, "{field:?}")?,
-            Read::Bytes(bytes) => write!(told, "{bytes:?}")?,
-            Read::Job(job) => write!(told, "{job:?}")?,
-            Read::Text(text) => told.push_str(text.as_str())?,
+            Read::File(file) => tell_file(report, file)?,
+            Read::Query(query) => write!(report, "{query:?}")?,
+            Read::Field(field) => write!(report, "{field:?}")?,
+            Read::Bytes(bytes) => write!(report, "{bytes:?}")?,
+            Read::Job(job) => write!(report, "{job:?}")?,
+            Read::Text(text) => report.push_str(text.as_str())?,
         }
         Ok(())
     }

@@ -29,7 +29,7 @@ pub(crate) const CASES: [(&str, Case); 6] = [
     ),
 ];
 
-/// A column whose type is added, and whether the versions that show it are asked for.
+/// A column whose type is added, and whether the versions that show it are requested.
 #[derive(Clone, Copy)]
 pub(crate) struct Case(Column, bool);
 
@@ -78,18 +78,18 @@ impl<R> Scene<R> for Widening {
         Ok(None)
     }
 
-    fn tell(&mut self, _rt: &R, told: &mut String) -> Result<(), Fail> {
+    fn tell(&mut self, _rt: &R, report: &mut String) -> Result<(), Fail> {
         let version = self.table.version()?;
-        tell_version(told, &version)
+        tell_version(report, &version)
     }
 
     fn tell_answer(
-        told: &mut String,
+        report: &mut String,
         answer: &Option<(Arc<Version>, Arc<Version>)>,
     ) -> Result<(), Fail> {
         if let Some((one, other)) = answer {
-            tell_version(told, one)?;
-            tell_version(told, other)?;
+            tell_version(report, one)?;
+            tell_version(report, other)?;
         }
         Ok(())
     }

@@ -323,7 +323,12 @@ fn are_alike(sample: Sample, widths: Widths, others: Widths) -> bool {
 }
 
 /// Whether a sample is joined with the same at other widths where these don't differ, and else refused.
-fn is_told(alloc: Global, sample: Sample, widths: Widths, others: Widths) -> Result<bool, Fail> {
+fn is_reported(
+    alloc: Global,
+    sample: Sample,
+    widths: Widths,
+    others: Widths,
+) -> Result<bool, Fail> {
     let arrays = [
         sampled_at(alloc, widths, sample)?,
         sampled_at(alloc, others, sample)?,
@@ -342,8 +347,8 @@ fn views_of_several_widths_are_refused(rt: HostRuntime) -> Result<(), Fail> {
     for widths in WIDTHS {
         for others in WIDTHS {
             for (i, sample) in [LETTER, Lists, ListsOfLists, Coded].iter().enumerate() {
-                let is_told = is_told(rt.alloc(), *sample, widths, others)?;
-                assert!(rt; is_told, "sample {i}, {widths:?} and {others:?}");
+                let is_reported = is_reported(rt.alloc(), *sample, widths, others)?;
+                assert!(rt; is_reported, "sample {i}, {widths:?} and {others:?}");
             }
         }
     }

@@ -7,8 +7,8 @@ use test_samples::{Flat, INT8, INT16, NAMES, UINT64, WIDTHS, Widths, built, samp
 
 /// Asserts how statistics are printed.
 fn expect(rt: &impl Abort, alloc: Global, stats: &ColumnStats, wanted: &str) -> Result<(), Fail> {
-    let told = format!(in alloc; "{stats:?}")?;
-    assert!(rt; told.as_str() == wanted, "{told} for {wanted}");
+    let reported = format!(in alloc; "{stats:?}")?;
+    assert!(rt; reported.as_str() == wanted, "{reported} for {wanted}");
     Ok(())
 }
 

@@ -25,7 +25,7 @@ impl Holding {
     }
 
     /// Whether the second worker has passed, and the first didn't go on without it.
-    pub(crate) fn has_held(&self) -> bool {
+    pub(crate) fn has_waited(&self) -> bool {
         self.is_open.load(Ordering::SeqCst) && !self.is_late.load(Ordering::SeqCst)
     }
 

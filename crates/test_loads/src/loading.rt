@@ -1,4 +1,4 @@
-//! Which worker loads what, and what is told where a batch is refused.
+//! Which worker loads what, and what is reported where a batch is refused.
 
 use crate::cases::Case;
 use crate::gates::{Counting, Holding};
@@ -56,7 +56,7 @@ pub(crate) fn in_turn<
     let gate = Holding::new();
     let files = [ONE_TO_THREE, FOUR, ONE_TO_THREE];
     let receipts = load(wait, rt, alloc, &table, &mut workers, &files, &gate)??;
-    assert!(rt; gate.has_held());
+    assert!(rt; gate.has_waited());
     assert!(rt; receipts.len() == 2);
     let last = receipts[0].entry().max(receipts[1].entry());
     assert!(rt; last == 4);
@@ -113,7 +113,7 @@ pub(crate) fn alone<
 }
 
 #[test]
-fn the_least_file_that_was_refused_is_told(rt: HostRuntime) -> Result<(), Fail> {
+fn the_least_file_that_was_refused_is_reported(rt: HostRuntime) -> Result<(), Fail> {
     let file = read_file(rt.alloc(), NUMBERS.as_bytes())?;
     play(&rt, &rt, rt.alloc(), file.schema(), 2, 0, Case::Refused)
 }

@@ -58,8 +58,8 @@ pub(crate) struct Soaking<
     batch: &'a RecordBatch,
     count: usize,
     turns: u32,
-    /// The receipt that a worker told of last.
-    told: Mutex<Option<Receipt<N>>>,
+    /// The receipt that a worker published last.
+    reported: Mutex<Option<Receipt<N>>>,
     /// A batch was refused, batches couldn't be joined, or somebody missed what was there before.
     is_wrong: AtomicBool,
 }
@@ -96,7 +96,7 @@ impl<'a, C: Ledger, Q: Ledger, K: Ledger, N: Naming, P: Publish<Item = Shown<N>>
     fn append(&self, worker: &mut Worker<C, Q, K, N>) -> bool {
         for _turn in 0..self.turns {
             match self.table.append(self.wait, worker, self.batch) {
-                Ok(receipt) => *self.told.lock(self.wait) = Some(receipt),
+                Ok(receipt) => *self.reported.lock(self.wait) = Some(receipt),
                 Err(_) => return false,
             }
         }
@@ -129,14 +129,14 @@ impl<'a, C: Ledger, Q: Ledger, K: Ledger, N: Naming, P: Publish<Item = Shown<N>>
         true
     }
 
-    /// How many rows a version has that shows what a worker told of last; none where it doesn't.
+    /// How many rows a version has that shows what a worker published last; none where it doesn't.
     fn look(&self, reader: &mut Reader<N>) -> Option<u64> {
-        let told = self
-            .told
+        let reported = self
+            .reported
             .lock(self.wait)
             .as_ref()
             .map(|receipt| receipt.again());
-        let Some(receipt) = told else {
+        let Some(receipt) = reported else {
             return Some(reader.latest().ok()?.rows());
         };
         reader.learn(&receipt);
@@ -205,7 +205,7 @@ fn work_together<
         batch,
         count: hands.len(),
         turns,
-        told: Mutex::new(None),
+        reported: Mutex::new(None),
         is_wrong: AtomicBool::new(false),
     };
     work_at_once(threads, hands, &soaking);

@@ -1,5 +1,5 @@
 //! The program over memory. To prove a function costs for each value that it would let go where something fails, and most
-//! for an assertion that has a message, and for each reference of a table: so cases are told by functions that answer a
+//! for an assertion that has a message, and for each reference of a table: so cases are checked by functions that answer a
 //! `bool`, one function asserts for all of them, and a row of a table has few texts.
 ghost use Rattle.std.specs.Prelude.{◌≡◌, ◌^◌, ◌-◌, ◌<◌, All, IfOk};
 
@@ -32,7 +32,7 @@ pub(crate) struct Outcome {
 }
 
 impl Outcome {
-    /// Whether it told this alone: its output, or the line of its fault, which begins with the program's name.
+    /// Whether it reported this alone: its output, or the line of its fault, which begins with the program's name.
     pub(crate) fn tells(&self, wanted: &str) -> bool {
         if wanted.starts_with("arrowtab: ") {
             self.is(1, "", wanted)

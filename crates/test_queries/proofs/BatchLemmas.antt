@@ -6,10 +6,10 @@ use Rattle.std.proofs.lemmas.List.Elements.{All-from_recursion, All-weaker}
 use Rattle.std.proofs.lemmas.List.FromFn.{length-map-range_with_len}
 use Rattle.arrays.specs.Batch.{Batch, row_of, rows_of}
 use Rattle.types.specs.Shape.{FieldShape, kind_of_field}
-use Rattle.query.specs.Asked.{Asked}
+use Rattle.query.specs.QueryShape.{QueryShape}
 use Rattle.query.specs.Fault.{fits}
 use Rattle.answers.specs.Answers.{all_rows, first_fields}
-use Rattle.arrow_json.specs.JsonFile.{AreUnder}
+use Rattle.json_read.specs.JsonFile.{AreUnder}
 
 pub more_rows : {A : Type 0} (f : A → Batch) (xs : List A) (i : ℕ) (x : A) → i < length xs → x ≡ get_or xs i x
     → length (all_rows (take (i + 1) (map f xs))) ≡ length (all_rows (take i (map f xs))) + (f x).rows
@@ -21,7 +21,7 @@ more_rows f xs i x below is =
     ∙ length-append front (rows_of (f x))
     ∙ ap (λ n. length front + n) (length-map-range_with_len (row_of (f x).columns) 0 (f x).rows)
 
-pub fits_each : (fields : List FieldShape) (q : Asked ℕ) (bs : List Batch) → fits fields q ≡ true → AreUnder fields bs → All (λ (b : Batch). fits b.fields q ≡ true) bs
+pub fits_each : (fields : List FieldShape) (q : QueryShape ℕ) (bs : List Batch) → fits fields q ≡ true → AreUnder fields bs → All (λ (b : Batch). fits b.fields q ≡ true) bs
 fits_each fields q bs fit under =
     All-weaker (λ (b : Batch). b.fields ≡ fields) (λ (b : Batch). fits b.fields q ≡ true) (λ b is. ap (λ fs. fits fs q) is ∙ fit) bs
     (All-from_recursion (λ (b : Batch). b.fields ≡ fields) bs under)

@@ -4,23 +4,22 @@ ghost use Rattle.std.specs.Prelude.{◌≡◌, All, IfOk, IfSome, length, map, t
 ghost use Rattle.std.specs.Arc.{arc_value};
 ghost use Rattle.types.specs.Shape.{kind_of_field};
 ghost use Rattle.arrays.specs.Batch.{Batch};
-ghost use Rattle.query.specs.Asked.{asked};
+ghost use Rattle.query.specs.QueryShape.{query_shape};
 ghost use Rattle.query.specs.Fault.{fits};
 ghost use Rattle.answers.specs.Answers.{all_rows, first_fields};
 
 use answers::{Answer, Gate, answer, answer_alone};
 use arrays::RecordBatch;
-use arrow_json::read_file;
+use arrow_json::{read_file, read_query};
 use group::Scalar;
 use query::{Query, QueryFault, resolve};
-use query_json::read_query;
 use std::alloc::{AllocError, Global};
 use std::process::Abort;
 use std::sync::Arc;
 use std::test::Fail;
 use std::thread::Threads;
 
-/// The most rows that are asked for answers.
+/// The most rows that queries are answered over.
 const MOST_ROWS: u64 = 1 << 40;
 
 /// How many rows the batches have; none where 64 bits don't count them.
@@ -46,7 +45,7 @@ pub(crate) fn answered(
     let rows = rows_in(&batches).expect(rt, "few rows");
     assert!(rt; rows <= MOST_ROWS);
     assert!(rt; 1 <= pieces && pieces <= 64);
-    told(alloc, answer(rt, alloc, &batches, &query, pieces, gate))
+    report(alloc, answer(rt, alloc, &batches, &query, pieces, gate))
 }
 
 /// The same in one piece, without threads.
@@ -59,13 +58,13 @@ pub(crate) fn answered_alone(
     let (batches, query) = read_both(alloc, texts)?;
     let rows = rows_in(&batches).expect(rt, "few rows");
     assert!(rt; rows <= MOST_ROWS);
-    told(alloc, answer_alone(alloc, &batches, &query, gate))
+    report(alloc, answer_alone(alloc, &batches, &query, gate))
 }
 
 /// The batches of a file, and a query over them.
 fn read_both(alloc: Global, texts: (&str, &str)) -> Result<(Vec<Arc<RecordBatch>>, Query), Fail>
     ensures types { IfOk result (λ r. All (λ (b : Batch). map kind_of_field b.fields ≡ map kind_of_field (first_fields (map arc_value r.0.items))) (map arc_value r.0.items)) }
-    ensures fits { IfOk result (λ r. All (λ (b : Batch). fits b.fields (asked r.1) ≡ true) (map arc_value r.0.items)) }
+    ensures fits { IfOk result (λ r. All (λ (b : Batch). fits b.fields (query_shape r.1) ≡ true) (map arc_value r.0.items)) }
 {
     let (file, query) = texts;
     let (schema, batches) = read_file(alloc, file.as_bytes())?.into_parts();
@@ -74,7 +73,7 @@ fn read_both(alloc: Global, texts: (&str, &str)) -> Result<(Vec<Arc<RecordBatch>
 }
 
 /// The lines of an answer, or that of its fault.
-fn told(alloc: Global, answered: Result<Answer, QueryFault>) -> Result<String, Fail> {
+fn report(alloc: Global, answered: Result<Answer, QueryFault>) -> Result<String, Fail> {
     match answered {
         Ok(answer) => Ok(lines(alloc, &answer)?),
         Err(fault) => Ok(format!(in alloc; "{fault}")?),

@@ -3,7 +3,7 @@ use query::query_fault_text;
 use std::test::Fail;
 
 #[test]
-fn faults_are_told_by_number_and_name(rt: HostRuntime) -> Result<(), Fail> {
+fn faults_are_reported_by_number_and_name(rt: HostRuntime) -> Result<(), Fail> {
     for (fault, text) in [
         (NoColumn, "Q1 NoColumn"),
         (AmbiguousColumn, "Q2 AmbiguousColumn"),
@@ -12,11 +12,11 @@ fn faults_are_told_by_number_and_name(rt: HostRuntime) -> Result<(), Fail> {
         (TooDeep, "Q5 TooDeep"),
         (NoMemory, "Q6 NoMemory"),
     ] {
-        let told = query_fault_text(rt.alloc(), fault)?;
+        let report = query_fault_text(rt.alloc(), fault)?;
         let shown = format!(in rt.alloc(); "{fault}")?;
         assert!(rt;
-            told.as_str() == text && shown.as_str() == text,
-            "{told} and {shown}"
+            report.as_str() == text && shown.as_str() == text,
+            "{report} and {shown}"
         );
     }
     Ok(())

@@ -1,12 +1,11 @@
 //! Filters, as they are at the rows of a slice.
 
 use arrays::{RecordBatch, View, ViewType};
-use arrow_json::read_file;
+use arrow_json::{read_file, read_query};
 use evaluate::filter::evaluate_filter;
 use evaluate::slice::Slice;
 use evaluate::values::Values;
 use query::{Query, resolve};
-use query_json::read_query;
 use std::alloc::{AllocError, Global};
 use std::process::Abort;
 use std::test::Fail;
@@ -186,8 +185,8 @@ fn expect_filters(
     let batch = &file.batches()[0];
     for (filter, wanted) in filters {
         let query = query_where(alloc, batch, *filter)?;
-        let told = filter_at(rt, alloc, batch, &query, part)?;
-        assert!(rt; told.as_str() == *wanted, "{told} for {filter}");
+        let report = filter_at(rt, alloc, batch, &query, part)?;
+        assert!(rt; report.as_str() == *wanted, "{report} for {filter}");
     }
     Ok(())
 }

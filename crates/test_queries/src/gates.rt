@@ -45,7 +45,7 @@ impl Gate for Counting {
 #[derive(Drop)]
 pub(crate) struct Holding {
     /// The place of the one that waits, and of the one that it waits for.
-    held: u32,
+    holder: u32,
     awaited: u32,
     /// The other has passed.
     is_open: AtomicBool,
@@ -57,9 +57,9 @@ pub(crate) struct Holding {
 const TURNS: u32 = 100_000_000;
 
 impl Holding {
-    pub(crate) fn new(held: u32, awaited: u32) -> Holding {
+    pub(crate) fn new(holder: u32, awaited: u32) -> Holding {
         Holding {
-            held,
+            holder,
             awaited,
             is_open: AtomicBool::new(false),
             is_late: AtomicBool::new(false),
@@ -67,7 +67,7 @@ impl Holding {
     }
 
     /// Whether the other has passed, and the one that waits didn't go on without it.
-    pub(crate) fn has_held(&self) -> bool {
+    pub(crate) fn has_waited(&self) -> bool {
         self.is_open.load(Ordering::SeqCst) && !self.is_late.load(Ordering::SeqCst)
     }
 
@@ -84,7 +84,7 @@ impl Holding {
 
 impl Gate for Holding {
     fn pass(&self, place: u32, _call: u32) {
-        if place == self.held {
+        if place == self.holder {
             self.wait();
         } else if place == self.awaited {
             self.is_open.store(true, Ordering::SeqCst);

@@ -1,4 +1,4 @@
-//! Tests of queries: how they are read, how names are resolved, what fits a schema, which faults are told, what filters are at the rows
+//! Tests of queries: how they are read, how names are resolved, what fits a schema, which faults are reported, what filters are at the rows
 //! of a batch, and what is answered, in any number of pieces.
 #![tactic(auto)]
 

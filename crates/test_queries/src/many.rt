@@ -1,4 +1,4 @@
-//! Answers of many groups, which are put together and told on threads.
+//! Answers of many groups, which are put together and made on threads.
 
 use crate::answering::answered;
 use crate::numbered::file_of;
@@ -6,7 +6,7 @@ use answers::OpenGate;
 use std::alloc::{AllocError, Global};
 use std::test::Fail;
 
-/// How many groups there are. Half of them, as many as each piece of four has, are more than are put together, or told, in one thread.
+/// How many groups there are. Half of them, as many as each piece of four has, are more than are put together, or made, in one thread.
 const GROUPS: u32 = 10_000;
 
 /// How many rows each group has, what their numbers add up to, and the number.
@@ -33,12 +33,12 @@ fn lines(alloc: Global) -> Result<String, AllocError> {
 }
 
 #[test]
-fn many_groups_are_told_in_their_order(rt: HostRuntime) -> Result<(), Fail> {
+fn many_groups_are_reported_in_their_order(rt: HostRuntime) -> Result<(), Fail> {
     let file = file_of(rt.alloc(), &twice(rt.alloc())?)?;
     let wanted = lines(rt.alloc())?;
     for pieces in [1, 2, 4, 64] {
-        let told = answered(&rt, rt.alloc(), (file.as_str(), QUERY), pieces, &OpenGate)?;
-        assert!(rt; told.as_str() == wanted.as_str(), "in {pieces}");
+        let report = answered(&rt, rt.alloc(), (file.as_str(), QUERY), pieces, &OpenGate)?;
+        assert!(rt; report.as_str() == wanted.as_str(), "in {pieces}");
     }
     Ok(())
 }

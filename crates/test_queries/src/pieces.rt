@@ -80,8 +80,11 @@ fn expect(
     wanted: &str,
 ) -> Result<(), Fail> {
     for pieces in PIECES {
-        let told = answered(rt, alloc, texts, pieces, &OpenGate)?;
-        assert!(rt; told.as_str() == wanted, "{told} for {texts:?} in {pieces}");
+        let report = answered(rt, alloc, texts, pieces, &OpenGate)?;
+        assert!(rt;
+            report.as_str() == wanted,
+            "{report} for {texts:?} in {pieces}"
+        );
     }
     Ok(())
 }
@@ -154,7 +157,7 @@ fn the_answer_does_not_tell_the_pieces(rt: HostRuntime) -> Result<(), Fail> {
     Ok(())
 }
 
-/// Files without a row, or filters that keep none, and what is told of no rows.
+/// Files without a row, or filters that keep none, and what is reported of no rows.
 const NOTHING: [(&str, &str, &str); 6] = [
     (
         NO_BATCHES,
@@ -188,7 +191,7 @@ fn no_rows_are_a_group_where_there_are_no_keys(rt: HostRuntime) -> Result<(), Fa
     Ok(())
 }
 
-/// Filters that are bad at rows, the least of them first: in one piece or in several, whatever is asked of the rows.
+/// Filters that are bad at rows, the least of them first: in one piece or in several, whatever is required of the rows.
 const BAD: [(&str, &str, &str); 6] = [
     // The third row alone.
     (
@@ -229,7 +232,7 @@ const BAD: [(&str, &str, &str); 6] = [
 ];
 
 #[test]
-fn the_least_bad_row_of_all_pieces_is_told(rt: HostRuntime) -> Result<(), Fail> {
+fn the_least_bad_row_of_all_pieces_is_reported(rt: HostRuntime) -> Result<(), Fail> {
     for (file, query, wanted) in BAD {
         expect(&rt, rt.alloc(), (file, query), wanted)?;
     }

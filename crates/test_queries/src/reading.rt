@@ -1,7 +1,7 @@
-//! Queries of JSON: what is read of them, and what is told of those that can't be read.
+//! Queries of JSON: what is read of them, and what is reported of those that can't be read.
 
+use arrow_json::{fault_text, read_query};
 use query::QueryText;
-use query_json::{fault_text, read_query};
 use std::alloc::Global;
 use std::process::Abort;
 use std::test::Fail;
@@ -11,25 +11,25 @@ fn written(alloc: Global, query: &QueryText) -> Result<String, Fail> {
     Ok(format!(in alloc; "{:?} {:?} {:?}", query.filter, query.by, query.aggs)?)
 }
 
-/// What is read of a query, or what is told of it.
-fn told_of(alloc: Global, bytes: &[u8]) -> Result<String, Fail> {
+/// What is read of a query, or what is reported of it.
+fn report_of(alloc: Global, bytes: &[u8]) -> Result<String, Fail> {
     match read_query(alloc, bytes) {
         Ok(query) => written(alloc, &query),
         Err(fault) => Ok(fault_text(alloc, &fault)?),
     }
 }
 
-/// Asserts what is read of a query, or what is told of it.
+/// Asserts what is read of a query, or what is reported of it.
 fn expect_bytes(rt: &impl Abort, alloc: Global, bytes: &[u8], wanted: &str) -> Result<(), Fail> {
-    let told = told_of(alloc, bytes)?;
-    assert_eq!(rt; told.as_str(), wanted);
+    let report = report_of(alloc, bytes)?;
+    assert_eq!(rt; report.as_str(), wanted);
     Ok(())
 }
 
-/// What stands for MEMBERS in a query, and what is read of it then, or told.
+/// What stands for MEMBERS in a query, and what is read of it then, or reported.
 type Cases = &'static [(&'static str, &'static str)];
 
-/// Asserts what is read of a query in each case, or what is told of it.
+/// Asserts what is read of a query in each case, or what is reported of it.
 fn expect_each(rt: &impl Abort, alloc: Global, query: &str, cases: Cases) -> Result<(), Fail> {
     for (members, wanted) in cases {
         let text = query.replace(alloc, "MEMBERS", *members)?;
@@ -115,7 +115,7 @@ const QUERIES: Cases = &[
 ];
 
 #[test]
-fn queries_are_read_or_told(rt: HostRuntime) -> Result<(), Fail> {
+fn queries_are_read_or_reported(rt: HostRuntime) -> Result<(), Fail> {
     expect_each(&rt, rt.alloc(), "MEMBERS", QUERIES)
 }
 
@@ -152,7 +152,7 @@ const FILTERS: Cases = &[
 ];
 
 #[test]
-fn columns_and_texts_are_read_or_told(rt: HostRuntime) -> Result<(), Fail> {
+fn columns_and_texts_are_read_or_reported(rt: HostRuntime) -> Result<(), Fail> {
     expect_each(&rt, rt.alloc(), FILTER, FILTERS)
 }
 
@@ -199,7 +199,7 @@ const NUMBERS: Cases = &[
 ];
 
 #[test]
-fn whole_numbers_are_read_or_told(rt: HostRuntime) -> Result<(), Fail> {
+fn whole_numbers_are_read_or_reported(rt: HostRuntime) -> Result<(), Fail> {
     expect_each(&rt, rt.alloc(), r#"{"filter":{"int":MEMBERS}}"#, NUMBERS)
 }
 
@@ -317,7 +317,7 @@ const OPERATIONS: Cases = &[
 ];
 
 #[test]
-fn operators_are_read_or_told(rt: HostRuntime) -> Result<(), Fail> {
+fn operators_are_read_or_reported(rt: HostRuntime) -> Result<(), Fail> {
     expect_each(&rt, rt.alloc(), FILTER, OPERATIONS)
 }
 
@@ -347,7 +347,7 @@ const NOTHING: Nested = ("None [] []", "", 0, "", "", "");
 
 const NOT_JSON: Nested = ("J1 NotJson", "", 0, "", "", "");
 
-/// Queries, and what is read of them or told.
+/// Queries, and what is read of them or reported.
 const DEEP: [(Nested, Nested); 6] = [
     ((r#"{"limit":"#, "[", 126, "", "]", "}"), NOTHING),
     ((r#"{"limit":"#, "[", 127, "", "]", "}"), NOT_JSON),
@@ -371,7 +371,7 @@ const DEEP: [(Nested, Nested); 6] = [
     ),
 ];
 
-/// Asserts what is read of a query, or what is told of it, where both are of texts in one another.
+/// Asserts what is read of a query, or what is reported of it, where both are of texts in one another.
 fn expect_nested(rt: &impl Abort, alloc: Global, text: Nested, wanted: Nested) -> Result<(), Fail> {
     let text = nested(alloc, text)?;
     let wanted = nested(alloc, wanted)?;
@@ -387,6 +387,6 @@ fn queries_are_read_as_deep_as_a_text_is_nested(rt: HostRuntime) -> Result<(), F
 }
 
 #[test]
-fn bytes_that_are_no_text_are_told(rt: HostRuntime) -> Result<(), Fail> {
+fn bytes_that_are_no_text_are_reported(rt: HostRuntime) -> Result<(), Fail> {
     expect_bytes(&rt, rt.alloc(), b"{\"by\":[\"\xff\"]}", "J1 NotJson")
 }

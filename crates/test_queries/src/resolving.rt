@@ -1,8 +1,8 @@
 use crate::building::{over, rows_where, schema};
 use arrayvec::ArrayVec;
+use arrow_json::read_query;
 use query::QueryFault::{AmbiguousColumn, NoColumn, WrongKind};
 use query::{Expr, Op, Query, QueryFault, QueryText, resolve};
-use query_json::read_query;
 use std::alloc::Global;
 use std::process::Abort;
 use std::test::Fail;
@@ -17,7 +17,7 @@ fn assert_fault(
     let schema = schema(alloc)?;
     match resolve(alloc, query, &schema) {
         Ok(resolved) => assert!(rt; fault == None && resolved.fits(&schema), "{query:?}"),
-        Err(told) => assert!(rt; Some(told) == fault, "{told:?} for {query:?}"),
+        Err(report) => assert!(rt; Some(report) == fault, "{report:?} for {query:?}"),
     }
     Ok(())
 }
@@ -209,7 +209,7 @@ fn operators_take_their_kinds(rt: HostRuntime) -> Result<(), Fail> {
     expect_each(&rt, rt.alloc(), FILTER, OTHERS)
 }
 
-/// Columns that are keys, or of which the ends are told.
+/// Columns that are keys, or of which the ends are reported.
 const KEYS: Cases = &[
     ("k", None),
     ("v", None),

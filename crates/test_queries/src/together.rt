@@ -32,8 +32,8 @@ fn numbers(alloc: Global) -> Result<Vec<u32>, AllocError> {
 fn each_piece_passes_the_gate_once(rt: HostRuntime) -> Result<(), Fail> {
     for pieces in [1, 2, 4, 64] {
         let gate = Counting::new();
-        let told = answered(&rt, rt.alloc(), (PAIRS, SUMS), pieces, &gate)?;
-        assert!(rt; told.as_str() == PAIRS_SUMS, "{told} in {pieces}");
+        let report = answered(&rt, rt.alloc(), (PAIRS, SUMS), pieces, &gate)?;
+        assert!(rt; report.as_str() == PAIRS_SUMS, "{report} in {pieces}");
         assert!(rt; gate.has_let_in(pieces), "in {pieces}");
     }
     Ok(())
@@ -44,14 +44,14 @@ fn each_piece_passes_the_gate_once(rt: HostRuntime) -> Result<(), Fail> {
 #[test]
 fn the_first_piece_and_the_last_are_at_work_together(rt: HostRuntime) -> Result<(), Fail> {
     for pieces in [2, 4, 8, 64] {
-        for (held, awaited) in [(0, pieces - 1), (pieces - 1, 0)] {
-            let gate = Holding::new(held, awaited);
-            let told = answered(&rt, rt.alloc(), (PAIRS, SUMS), pieces, &gate)?;
+        for (holder, awaited) in [(0, pieces - 1), (pieces - 1, 0)] {
+            let gate = Holding::new(holder, awaited);
+            let report = answered(&rt, rt.alloc(), (PAIRS, SUMS), pieces, &gate)?;
             assert!(rt;
-                told.as_str() == PAIRS_SUMS,
-                "{told}, {held} of {pieces} waits"
+                report.as_str() == PAIRS_SUMS,
+                "{report}, {holder} of {pieces} waits"
             );
-            assert!(rt; gate.has_held(), "{held} of {pieces} waits");
+            assert!(rt; gate.has_waited(), "{holder} of {pieces} waits");
         }
     }
     Ok(())
@@ -68,8 +68,8 @@ fn each_piece_passes_with_its_own_number(rt: HostRuntime) -> Result<(), Fail> {
     );
     let wanted = answered(&rt, rt.alloc(), texts, 1, &OpenGate)?;
     let gate = Ordered::new(PIECES);
-    let told = answered(&rt, rt.alloc(), texts, PIECES, &gate)?;
-    assert!(rt; told.as_str() == wanted.as_str());
+    let report = answered(&rt, rt.alloc(), texts, PIECES, &gate)?;
+    assert!(rt; report.as_str() == wanted.as_str());
     assert!(rt; gate.was_kept());
     Ok(())
 }
@@ -77,8 +77,8 @@ fn each_piece_passes_with_its_own_number(rt: HostRuntime) -> Result<(), Fail> {
 #[test]
 fn one_piece_is_looked_at_without_threads(rt: HostRuntime) -> Result<(), Fail> {
     let gate = Counting::new();
-    let told = answered_alone(&rt, rt.alloc(), (PAIRS, SUMS), &gate)?;
-    assert!(rt; told.as_str() == PAIRS_SUMS, "{told}");
+    let report = answered_alone(&rt, rt.alloc(), (PAIRS, SUMS), &gate)?;
+    assert!(rt; report.as_str() == PAIRS_SUMS, "{report}");
     assert!(rt; gate.has_let_in(1));
     Ok(())
 }

@@ -365,7 +365,7 @@ const REFUSED: &[Case] = &[
         ],
         words: Some(Shown::Texts(&[Some("x")])),
     },
-    // The least column with a null is told.
+    // The least column with a null is reported.
     Case {
         fields: ZEROS,
         calls: &[(
@@ -390,7 +390,7 @@ const REFUSED: &[Case] = &[
         stats: &[r#"ColumnStats { rows: 0, nulls: 0, sum: Some(0), least: None, greatest: None }"#],
         words: None,
     },
-    // The least column of another type is told, or that is missing.
+    // The least column of another type is reported, or that is missing.
     Case {
         fields: LONG_AND_TEXT,
         calls: &[
@@ -546,7 +546,7 @@ fn expect(rt: &impl Abort, alloc: Global, cases: &[Case]) -> Result<(), Fail> {
             let batch = batch_of(alloc, *batch)?;
             assert!(rt; table.admit(*worker, &batch) == *answer, "case {i}");
         }
-        assert_held(rt, alloc, &*table.version()?, case, i)?;
+        assert_present(rt, alloc, &*table.version()?, case, i)?;
     }
     Ok(())
 }
@@ -572,7 +572,7 @@ fn numbers_and_texts_are_added(rt: HostRuntime) -> Result<(), Fail> {
 }
 
 /// Asserts what a version holds.
-fn assert_held(
+fn assert_present(
     rt: &impl Abort,
     alloc: Global,
     version: &Version,

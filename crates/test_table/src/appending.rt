@@ -207,7 +207,7 @@ fn a_snapshot_shows_what_was_appended_before(rt: HostRuntime) -> Result<(), Fail
     play::<Snapshots, _>(&rt, rt.alloc(), &Schema::new(Vec::new(rt.alloc()))?, 3, 0)
 }
 
-/// The second worker sees what the others appended before it asked, and sees the same again where nothing was appended since.
+/// The second worker sees what the others appended before it looked, and sees the same again where nothing was appended since.
 struct Snapshots;
 
 impl Scene for Snapshots {

@@ -87,7 +87,7 @@ impl Scene for Learning {
 }
 
 /// The first worker appends 1 and 2, adds a column, and appends 3 with x. The reader sees the column without having been
-/// told, and what it saw before stays.
+/// reported, and what it saw before stays.
 fn learn_of_x<
     C: Ledger,
     Q: Ledger,
@@ -211,7 +211,7 @@ fn each_worker_adds_a_column(rt: HostRuntime) -> Result<(), Fail> {
     play::<EachAdds, _>(&rt, rt.alloc(), &fields_of(rt.alloc(), ONE_AND_TWO)?, 2, 0)
 }
 
-/// The first worker appends and adds a column, the second adds one and appends; what is gathered is asked and exported.
+/// The first worker appends and adds a column, the second adds one and appends; what is gathered is queried and exported.
 struct EachAdds;
 
 impl Scene for EachAdds {

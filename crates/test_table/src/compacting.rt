@@ -209,7 +209,7 @@ fn joined_texts_keep_the_codes_of_the_table(rt: HostRuntime) -> Result<(), Fail>
 }
 
 #[test]
-fn joined_columns_hold_what_their_parts_held(rt: HostRuntime) -> Result<(), Fail> {
+fn joined_columns_hold_the_items_of_their_parts(rt: HostRuntime) -> Result<(), Fail> {
     for (batches, shown) in JOINED {
         let mut table = grown(rt.alloc(), batches)?.expect(&rt, "there are batches");
         table.compact(u32::MAX)?;

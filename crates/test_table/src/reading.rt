@@ -20,7 +20,7 @@ fn a_reader_sees_what_it_learnt(rt: HostRuntime) -> Result<(), Fail> {
 }
 
 /// A reader sees both workers' batches once it has learnt of the later one, and no less after it has learnt of the earlier one
-/// and after a batch was refused; one more batch it sees without having been told. A version that it had before stays as it was.
+/// and after a batch was refused; one more batch it sees without having been given a receipt. A version that it had before stays as it was.
 struct Learning;
 
 impl Scene for Learning {
@@ -43,7 +43,7 @@ impl Scene for Learning {
             let opening = reader.latest()?;
             learn_both(rt, alloc, &table, &mut workers, reader)?;
             look_again(rt, alloc, &table, &mut workers, reader)?;
-            look_untold(rt, alloc, &table, &mut workers, reader)?;
+            look_unprompted(rt, alloc, &table, &mut workers, reader)?;
             assert!(rt; opening.rows() == 0 && opening.book_len() == 0);
         }
         table.close(rt);
@@ -113,7 +113,7 @@ fn look_again<
 }
 
 /// A batch is appended, and the reader sees it at its next look.
-fn look_untold<
+fn look_unprompted<
     C: Ledger,
     Q: Ledger,
     K: Ledger,

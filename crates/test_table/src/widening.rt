@@ -337,8 +337,8 @@ pub(crate) fn expect_groups_alone(
     let query = by_second(alloc)?;
     assert!(rt; query.fits(version.schema()));
     let answer = version.answer_alone(alloc, &query, &OpenGate)?;
-    let told = format!(in alloc; "{answer:?}")?;
-    assert!(rt; told.as_str() == GROUPS, "{told}");
+    let reported = format!(in alloc; "{answer:?}")?;
+    assert!(rt; reported.as_str() == GROUPS, "{reported}");
     Ok(())
 }
 

@@ -1,7 +1,7 @@
 use arrays::{BatchFault, BuildFault, SchemaFault};
+use arrow_json::JsonFault;
 use colbits::NoMemory;
 use query::QueryFault;
-use query_json::JsonFault;
 use shared::{AddFault, OpenFault, Refusal};
 use std::alloc::{AllocError, AllocFailed};
 use std::io;

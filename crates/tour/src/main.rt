@@ -8,9 +8,9 @@ ghost use Rattle.table.specs.Stored.{stored_fields};
 
 use answers::OpenGate;
 use arrays::{DataType, Field, IntBuilder, OffsetWidth, RecordBatch, Schema, TextBuilder};
+use arrow_json::read_query;
 use fault::Fault;
 use query::resolve;
-use query_json::read_query;
 use shared::{Blanks, Naming, Pair, Version, open};
 use std::alloc::Global;
 use std::marker::Brand;
@@ -71,7 +71,7 @@ fn work<C: Ledger, Q: Ledger, K: Ledger, N: Naming, W: Wait, T: Threads + Sync>(
         field(alloc, "mayor", DataType::Utf8)?,
     )?;
 
-    // A receipt may be told to anyone: what the reader then sees has the batch. It takes no lock.
+    // A receipt may be given to anyone: what the reader then sees has the batch. It takes no lock.
     readers[0].learn(&receipt);
     let version = readers[0].latest()?;
     print(threads, rt, &version)?;

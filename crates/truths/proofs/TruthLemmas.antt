@@ -1,4 +1,4 @@
--- Truth values, told place by place.
+-- Truth values, given place by place.
 use Rattle.std.proofs.Common.{◌≡◌, ◌∙◌, ℕ, ◌+◌, ◌<◌, List, [], map, Bool, true, false, not, cond, length, Option, Some, slice_index_or, get_or, ap, sym, refl, arith, zero-add, le-ltb}
 use Rattle.std.specs.List.{range_with_len}
 use Rattle.std.proofs.lemmas.List.FromFn.{fill_by_all, length-map-range_with_len, get_or-map-range_with_len}

@@ -1,4 +1,4 @@
-//! Arrays of truth values, told place by place.
+//! Arrays of truth values, given place by place.
 
 ghost use Rattle.std.specs.Prelude.{◌≡◌, ◌+◌, ◌<◌, ◌≤◌, ℕ, Bool, true, map, IfOk, IsTrue};
 ghost use Rattle.std.specs.List.{range_with_len};
@@ -28,7 +28,7 @@ pub trait Truths {
         ensures count { result ≡ count self.now }
         ensures short { result ≤ most_slots };
 
-    /// Whether there is a value at each place, as far as can be told without a look at each.
+    /// Whether there is a value at each place, as far as is known without a look at each.
     fn are_known(&self) -> bool
         ensures { IsTrue result → (i : ℕ) → i < count self.now → known self.now i ≡ true };
 

@@ -1,4 +1,4 @@
-//! Arrays of truth values told place by place, and the validity of two views together. Users name `kernels`; this is for the
+//! Arrays of truth values given place by place, and the validity of two views together. Users name `kernels`; this is for the
 //! crates that compute on views.
 #![tactic(auto)]
 

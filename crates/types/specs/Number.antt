@@ -33,7 +33,7 @@ is_of_type t (negsuc n) = if t.signed then nat_lt n (2 ^ (8 * bytes_of t.bits - 
 unfoldable pub bytes_of_number : IntType → ℤ → List ℕ
 bytes_of_number t z = to_le_bytes (bits_of t.bits) (if t.signed then cast_unsigned (bits_of t.bits) z else natural z)
 
--- What a type's own arithmetic gives of an exact result: unless it is told to be outside, the exact result is of the type, and the
+-- What a type's own arithmetic gives of an exact result: unless it is said to be outside, the exact result is of the type, and the
 -- number is this result.
 pub record IsResult (t : IntType) (exact z : ℤ) (outside : Bool) : Type 0 where
   pub of_type : outside ≡ false → is_of_type t exact ≡ true

@@ -48,7 +48,7 @@ impl Model for Schema {
 }
 
 impl Schema {
-    /// The schema of the fields. The first fault is told, of each kind at the least column; what was
+    /// The schema of the fields. The first fault is reported, of each kind at the least column; what was
     /// handed in is gone then.
     pub fn new(fields: Vec<Field>) -> Result<Schema, SchemaFault>
         ensures ok { IfOk result (λ s. (s ≡ fields_of fields.items)

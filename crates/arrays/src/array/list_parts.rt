@@ -16,8 +16,8 @@ impl Array {
     /// An array of lists of the field's type, of parts that come from outside: each slot holds the items of the child between
     /// its offsets. The child is lawful already, and isn't checked again.
     ///
-    /// The first fault of the other parts is told, in the order of the faults' table; the parts are gone then. Want
-    /// of memory may be told in its stead.
+    /// The first fault of the other parts is reported, in the order of the faults' table; the parts are gone then. Want
+    /// of memory may be reported in its stead.
     ///
     /// Offsets `[0, 2, 2, 3]` over the child `[1, 2, 3]` hold `[[1, 2], [], [3]]`.
     pub fn try_list(

@@ -15,7 +15,7 @@ use std::alloc::Global;
 use std::marker::Model;
 use types::{Field, MOST_SLOTS, OffsetWidth};
 
-/// A column of lists in the making, of which the lengths are told: their offsets begin at 0, and a null has no
+/// A column of lists in the making, of which the lengths are given: their offsets begin at 0, and a null has no
 /// items. The items come as an array at the end.
 #[derive(Drop)]
 pub struct ListBuilder {

@@ -14,7 +14,7 @@ use std::alloc::Global;
 use std::marker::Model;
 use types::OffsetWidth;
 
-/// Offsets of which the lengths are told one by one: they begin at 0, and a null is empty. Whoever pushes a length sees
+/// Offsets of which the lengths are given one by one: they begin at 0, and a null is empty. Whoever pushes a length sees
 /// to it that the offsets can count it.
 #[derive(Drop)]
 pub(crate) struct OffsetsBuilder {

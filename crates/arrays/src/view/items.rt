@@ -22,7 +22,7 @@ impl<'a> View<'a> {
         }
     }
 
-    /// Number `i` of a view of integers of this type, none where the slot is null. The view isn't asked for its type,
+    /// Number `i` of a view of integers of this type, none where the slot is null. The view's type isn't looked at,
     /// as `int_at` asks it.
     pub fn int_as(&self, ty: IntType, i: usize) -> Option<i128>
         requires int { self.now.kind ≡ kind.int ty }
@@ -51,7 +51,7 @@ impl<'a> View<'a> {
     }
 
     /// Text `i` of a view of texts without a dictionary whose offsets are of this width, none where the slot is null. The
-    /// view isn't asked for its type, as `text_at` asks it.
+    /// view's type isn't looked at, as `text_at` does.
     pub fn text_as(&self, width: OffsetWidth, i: usize) -> Option<&'a str>
         requires text { self.now.kind ≡ kind.texts width }
         requires within { i < length self.now.items }

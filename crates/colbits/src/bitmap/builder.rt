@@ -101,7 +101,7 @@ impl BitmapBuilder {
         ensures ok { OnOk result (self.new ≡ self.old ++ bits.now) }
         ensures err { OnErr result (self.new ≡ self.old) }
     {
-        self.push_places(&Told { bits })
+        self.push_places(&Reported { bits })
     }
 
     /// Adds a bit for each place at the end.
@@ -242,11 +242,11 @@ impl Places for Ones {
 
 /// The bits of a bitmap.
 #[derive(Drop)]
-struct Told<'a, 'b> {
+struct Reported<'a, 'b> {
     bits: &'a Bits<'b>,
 }
 
-impl<'a, 'b> Places for Told<'a, 'b> {
+impl<'a, 'b> Places for Reported<'a, 'b> {
     ghost at = { λ p i. bit_of p.bits.now i };
 
     ghost count = { λ p. length p.bits.now };

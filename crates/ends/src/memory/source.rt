@@ -35,7 +35,7 @@ impl Model for MemorySource {
 }
 
 impl MemorySource {
-    /// A source of these bytes, which gives as many as are asked for and never fails.
+    /// A source of these bytes, which gives as many as are requested and never fails.
     pub fn new(bytes: Vec<u8>) -> Self
         ensures { result ≡ record {
           remaining = bytes.items;

@@ -34,7 +34,7 @@ pub(crate) trait Pairs {
         ensures count { result ≡ count self.now }
         ensures short { result ≤ most_slots };
 
-    /// Whether both items are there at each place, as far as can be told without a look at each.
+    /// Whether both items are there at each place, as far as is known without a look at each.
     fn are_there(&self) -> bool
         ensures { IsTrue result → (i : ℕ) → i < count self.now → both self.now i ≡ true };
 

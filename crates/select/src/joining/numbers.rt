@@ -42,7 +42,7 @@ fn joined_numbers(
     requires kinds { All (λ (s : Seen). s.kind ≡ kind.int ty) views.now }
     requires short { slots ≤ most_slots }
     ensures numbers { IfOk result (λ v. AreNumbersOf ty (joined_items views.now) v.items) }
-    ensures told { IfOk result (λ v. All TellsNulls views.now) }
+    ensures reported { IfOk result (λ v. All TellsNulls views.now) }
 {
     // A buffer is padded by at most 63 bytes, so that the numbers aren't copied again.
     let mut values = Vec::with_capacity(alloc, slots * ty.bits.bytes() + 63)?;

@@ -88,7 +88,7 @@ impl<'a, 'b> JoinedSlots<'a, 'b> {
         (low, i - self.starts[low])
     }
 
-    /// Which of slots `i` to `i + 63` are valid, asked one by one: they may lie in several views.
+    /// Which of slots `i` to `i + 63` are valid, one by one: they may lie in several views.
     #[inline(never)]
     fn bit_by_bit(&self, i: usize) -> u64
         requires { i + 64 ≤ self.now.slots }

@@ -48,7 +48,7 @@ fn is_word(bits: &Bits<'_>, first: usize) -> bool
     true
 }
 
-/// Asserts that the words from each bit on are told, from the end on too.
+/// Asserts that the words from each bit on are reported, from the end on too.
 fn assert_words(rt: &impl Abort, start: usize, len: usize)
     requires { start + len ≤ 520 }
 {

@@ -1,6 +1,6 @@
 //! Faults of arrays alone.
 
-use super::Held::{self, Bytes, Cut, Int32s, Nothing, Offsets};
+use super::Content::{self, Bytes, Cut, Int32s, Nothing, Offsets};
 use super::Inner::{Bits, Indices, Texts};
 use super::{BOTH, LONGER, SHORT, Whole, expect_faults};
 use arrays::LayoutFault::{
@@ -11,7 +11,7 @@ use std::test::Fail;
 use test_samples::WIDTHS;
 
 /// The numbers 1, 0, 2, 4 and 8.
-const FIVE: Held = Int32s(&[1, 0, 2, 4, 8]);
+const FIVE: Content = Int32s(&[1, 0, 2, 4, 8]);
 
 const OF_NUMBERS: &[(Option<LayoutFault>, &[Whole])] = &[
     // The second bitmap says of one slot that it is null, and of more past the end.
@@ -92,7 +92,7 @@ const OF_NUMBERS: &[(Option<LayoutFault>, &[Whole])] = &[
     ),
 ];
 
-const ZEROS: Held = Bytes(&[0; 8]);
+const ZEROS: Content = Bytes(&[0; 8]);
 
 /// Arrays of one slot.
 const OF_SHAPES: &[(Option<LayoutFault>, &[Whole])] = &[
@@ -149,9 +149,9 @@ const OF_SHAPES: &[(Option<LayoutFault>, &[Whole])] = &[
 ];
 
 /// The offsets and the bytes of four texts, of which the second is no UTF-8.
-const SPREAD: Held = Offsets(&[0, 3, 5, 5, 9]);
+const SPREAD: Content = Offsets(&[0, 3, 5, 5, 9]);
 
-const NAMES: Held = Bytes(b"joe\xff\xffmark");
+const NAMES: Content = Bytes(b"joe\xff\xffmark");
 
 const OF_TEXTS: &[(Option<LayoutFault>, &[Whole])] = &[
     // No slots may have no offsets, and offsets may begin past 0. Bytes that no slot names, and those of a null, may

@@ -12,7 +12,7 @@ mod orders;
 mod texts;
 mod validity;
 
-use super::Held::{Bytes, Nothing, Offsets};
+use super::Content::{Bytes, Nothing, Offsets};
 use super::Inner::{self, Numbers};
 use super::{Slot, in_lists};
 use Place::{Entries, InLists, InNulls, Top};
@@ -105,10 +105,10 @@ fn expect_row(
     let (name, form) = row;
     for place in places {
         let array = placed(alloc, widths, *place, form.parts(alloc, widths)?)?;
-        let told = validate(alloc, array).err();
+        let reported = validate(alloc, array).err();
         assert!(rt;
-            told == fault,
-            "{told:?} for {fault:?}: {name}, {place:?}, {widths:?}"
+            reported == fault,
+            "{reported:?} for {fault:?}: {name}, {place:?}, {widths:?}"
         );
     }
     Ok(())

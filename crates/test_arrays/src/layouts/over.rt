@@ -1,6 +1,6 @@
 //! Faults of lists and of codes, and of the arrays under them.
 
-use super::Held::{self, Bytes, Int32s, Nothing, Offsets};
+use super::Content::{self, Bytes, Int32s, Nothing, Offsets};
 use super::Inner::{Bits, Indices, Texts};
 use super::{BOTH, LONGER, Part, SHORT, UNSIGNED, Whole, expect_faults};
 use arrays::LayoutFault::{
@@ -10,7 +10,7 @@ use std::test::Fail;
 use test_samples::{NARROW, NARROW_IN_WIDE, WIDTHS};
 
 /// The offsets of two texts of one byte each.
-const PAIR: Held = Offsets(&[0, 1, 2]);
+const PAIR: Content = Offsets(&[0, 1, 2]);
 
 const WORDS: Part = (0, Texts, 2, None, &[Nothing, PAIR, Bytes(b"ab")]);
 
@@ -18,7 +18,7 @@ const WORDS: Part = (0, Texts, 2, None, &[Nothing, PAIR, Bytes(b"ab")]);
 const SPOILT: Part = (0, Texts, 2, None, &[Nothing, PAIR, Bytes(b"\xffb")]);
 
 /// The offsets of three texts of one byte each.
-const THREE: Held = Offsets(&[0, 1, 2, 3]);
+const THREE: Content = Offsets(&[0, 1, 2, 3]);
 
 /// The last is no UTF-8.
 const ENDING: Part = (0, Texts, 3, None, &[Nothing, THREE, Bytes(b"ab\xff")]);
@@ -150,9 +150,9 @@ fn tells_faults_of_arrays_over_texts(rt: HostRuntime) -> Result<(), Fail> {
 }
 
 /// No slots.
-const NO_ITEMS: &[Held] = &[Nothing, Bytes(&[])];
+const NO_ITEMS: &[Content] = &[Nothing, Bytes(&[])];
 
-const NO_TEXTS: &[Held] = &[Nothing, Bytes(&[]), Bytes(&[])];
+const NO_TEXTS: &[Content] = &[Nothing, Bytes(&[]), Bytes(&[])];
 
 /// Arrays without slots, by their types.
 const TYPES: &[(Option<LayoutFault>, &[Whole])] = &[

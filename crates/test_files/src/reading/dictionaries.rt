@@ -1,4 +1,4 @@
-//! Dictionary-encoded columns: their fields, their dictionaries and indices, and what is told of them.
+//! Dictionary-encoded columns: their fields, their dictionaries and indices, and what is reported of them.
 
 use super::{Cases, expect_each, expect_each_type};
 use std::test::Fail;

@@ -1,4 +1,4 @@
-//! Columns of lists: their fields, their offsets and children, and what is told of them.
+//! Columns of lists: their fields, their offsets and children, and what is reported of them.
 
 use super::{Cases, expect_each, expect_each_type};
 use std::alloc::Global;
@@ -32,7 +32,7 @@ fn nested(alloc: Global, lists: usize) -> Result<String, Fail> {
     Ok(field)
 }
 
-/// What is told of the ninth list.
+/// What is reported of the ninth list.
 const NINTH: &str =
     "J4 UnsupportedType at /schema/fields/0/children/0/children/0/children/0/children/0/children/0/children/0/children/0/children/0";
 

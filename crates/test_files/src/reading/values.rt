@@ -16,7 +16,7 @@ const OF_UINT8: &str = r#""bitWidth":8,"isSigned":false"#;
 
 const BAD: &str = "J5 BadNumber at /batches/0/columns/0/DATA/0";
 
-/// Types, numbers as a file spells them, and what is told of the file.
+/// Types, numbers as a file spells them, and what is reported of the file.
 const SPELLINGS: [(&str, Cases); 3] = [
     (
         OF_INT64,
@@ -305,7 +305,7 @@ fn reads_large_texts_and_lists(rt: HostRuntime) -> Result<(), Fail> {
     Ok(())
 }
 
-/// Each kind of fault, and how it is told.
+/// Each kind of fault, and how it is reported.
 const KINDS: [(JsonFaultKind, &str); 23] = [
     (JsonFaultKind::NotJson, "J1 NotJson"),
     (JsonFaultKind::MissingMember, "J2 MissingMember"),
@@ -372,13 +372,13 @@ const KINDS: [(JsonFaultKind, &str); 23] = [
 ];
 
 #[test]
-fn kinds_are_told(rt: HostRuntime) -> Result<(), Fail> {
+fn kinds_are_reported(rt: HostRuntime) -> Result<(), Fail> {
     for (kind, wanted) in KINDS {
         let shown = format!(in rt.alloc(); "{kind}")?;
-        let told = fault_text(rt.alloc(), &JsonFault::at(rt.alloc(), kind, &[]))?;
+        let reported = fault_text(rt.alloc(), &JsonFault::at(rt.alloc(), kind, &[]))?;
         assert!(rt;
-            shown.as_str() == wanted && told.as_str() == wanted,
-            "{told}"
+            shown.as_str() == wanted && reported.as_str() == wanted,
+            "{reported}"
         );
     }
     Ok(())

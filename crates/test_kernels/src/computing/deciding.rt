@@ -200,7 +200,7 @@ fn texts_are_compared_whatever_their_widths(rt: HostRuntime) -> Result<(), Fail>
 }
 
 #[test]
-fn nulls_are_told_whatever_the_widths(rt: HostRuntime) -> Result<(), Fail> {
+fn nulls_are_reported_whatever_the_widths(rt: HostRuntime) -> Result<(), Fail> {
     for widths in WIDTHS {
         expect_computed_at(&rt, rt.alloc(), widths, widths, &NULLS)?;
     }

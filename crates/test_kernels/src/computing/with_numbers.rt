@@ -144,7 +144,7 @@ fn stands(op: CmpOp, item: i128, number: i128) -> bool {
 }
 
 /// Whether each slot of a view tells how that of another stands to the number.
-fn is_told(made: &View<'_>, op: CmpOp, a: &View<'_>, number: i128) -> bool {
+fn is_reported(made: &View<'_>, op: CmpOp, a: &View<'_>, number: i128) -> bool {
     let (ViewType::Int(_), ViewType::Bool) = (a.ty(), made.ty()) else {
         return false;
     };
@@ -163,15 +163,15 @@ fn is_told(made: &View<'_>, op: CmpOp, a: &View<'_>, number: i128) -> bool {
     true
 }
 
-/// Asserts what is told of so many slots, from each start within a byte on.
-fn assert_told(rt: &impl Abort, alloc: Global, op: CmpOp, number: i128) -> Result<(), Fail> {
+/// Asserts what is reported of so many slots, from each start within a byte on.
+fn assert_reported(rt: &impl Abort, alloc: Global, op: CmpOp, number: i128) -> Result<(), Fail> {
     let column = numbers(alloc)?;
     for len in LENGTHS {
         for start in 0..8 {
             let a = slots_of(&column, start, len);
             let made = compare_number(alloc, op, &a, number)?;
             assert!(rt;
-                is_told(&made.view(), op, &a, number),
+                is_reported(&made.view(), op, &a, number),
                 "{len} from {start} with {number}"
             );
         }
@@ -190,7 +190,7 @@ fn numbers_are_compared_with_a_number(rt: HostRuntime) -> Result<(), Fail> {
         CmpOp::Ge,
     ] {
         for number in [-1, 0, 31, 63] {
-            assert_told(&rt, rt.alloc(), op, number)?;
+            assert_reported(&rt, rt.alloc(), op, number)?;
         }
     }
     Ok(())

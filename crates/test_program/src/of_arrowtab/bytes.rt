@@ -45,7 +45,7 @@ fn is_read(alloc: Global, whole: &[u8], most: usize) -> bool {
         source = source.in_pieces(most);
     }
 
-    // At the end there is nothing, however often it is asked for.
+    // At the end there is nothing, however often it is requested.
     gives(alloc, &mut source, whole)
         && source.remaining().is_empty()
         && source.failures() == 0
@@ -86,7 +86,7 @@ fn tells_each_failed_read(rt: HostRuntime) {
     assert!(rt; gives_all_digits(rt.alloc()));
 }
 
-/// Whether the failure of this read is told, with these bytes left, which are then given.
+/// Whether the failure of this read is reported, with these bytes left, which are then given.
 fn fails_before(alloc: Global, call: u64, left: &[u8]) -> bool {
     let Ok(mut source) = digits(alloc, call) else {
         return false;
@@ -164,7 +164,7 @@ fn tells_each_failed_write(rt: HostRuntime) {
     }
 }
 
-/// Whether the failure of this write is told, behind these bytes.
+/// Whether the failure of this write is reported, behind these bytes.
 fn fails_behind(alloc: Global, call: u64, taken: &[u8]) -> bool {
     let mut sink = MemorySink::new(alloc).in_pieces(2).failing(Plan::At(call));
     let failed = write_whole(&mut sink, b"01234").is_err();

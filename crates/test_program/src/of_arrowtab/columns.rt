@@ -96,7 +96,7 @@ fn a_column_may_not_be_added(rt: HostRuntime) {
     }
 }
 
-/// A query, a field, a file, and which of their faults is told: the query is read first, then the field, then the file, and the
+/// A query, a field, a file, and which of their faults is reported: the query is read first, then the field, then the file, and the
 /// column is added last.
 const FIRST: [(&str, &str, &str, &str); 4] = [
     ("{", "{", "{", "arrowtab: query: J1 NotJson\n"),

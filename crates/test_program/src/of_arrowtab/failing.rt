@@ -96,7 +96,7 @@ fn each_call_of_an_end_fails(rt: HostRuntime) {
     }
 }
 
-/// Whether each call of an end that fails is told, and at last, where none does, what is printed without failures.
+/// Whether each call of an end that fails is reported, and at last, where none does, what is printed without failures.
 fn all_fail(
     rt: &(impl Wait + Threads + Sync),
     alloc: Global,

@@ -1,4 +1,4 @@
-//! How the name of a file is told.
+//! How the name of a file is reported.
 
 use super::expect;
 
@@ -20,7 +20,7 @@ const NULL: &str =
     r#"{"schema":{"fields":[{"name":"n","nullable":false,"type":{"name":"int","bitWidth":8,"isSigned":true},"children":[]}]},"batches":[{"count":1,"columns":[{"name":"n","count":1,"VALIDITY":[0],"DATA":[0]}]}]}"#;
 
 #[test]
-fn a_name_is_told_in_one_line(rt: HostRuntime) {
+fn a_name_is_reported_in_one_line(rt: HostRuntime) {
     for (name, wanted) in NAMES {
         let words = ["arrowtab", "stats", name];
         expect(&rt, rt.alloc(), &words, ("{", None), wanted);

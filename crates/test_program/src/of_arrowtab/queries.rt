@@ -170,7 +170,7 @@ fn expect_negated(
     }
 }
 
-// A query that isn't read is told before a source is touched, one that doesn't resolve once all files are loaded.
+// A query that isn't read is reported before a source is touched, one that doesn't resolve once all files are loaded.
 #[test]
 fn reads_the_query_first(rt: HostRuntime) {
     for (query, failures, line) in [

@@ -1,11 +1,11 @@
-//! How refusals are told.
+//! How refusals are reported.
 
 use super::assert_case;
 use arrowtab::refusal::refusal_text;
 use std::alloc::Global;
 use table::Refusal;
 
-/// Each refusal, and how it is told.
+/// Each refusal, and how it is reported.
 const TOLD: [(Refusal, &str); 6] = [
     (
         Refusal::SchemaDiffers { column: 2 },
@@ -22,20 +22,20 @@ const TOLD: [(Refusal, &str); 6] = [
 ];
 
 #[test]
-fn refusals_are_told(rt: HostRuntime) {
+fn refusals_are_reported(rt: HostRuntime) {
     for (refusal, wanted) in TOLD {
-        let is_right = is_told(rt.alloc(), refusal, wanted);
+        let is_right = is_reported(rt.alloc(), refusal, wanted);
         assert_case(&rt, is_right, &["refusal"], wanted);
     }
 }
 
-/// Whether a refusal is told and shown as this.
-fn is_told(alloc: Global, refusal: Refusal, wanted: &str) -> bool {
-    let Ok(told) = refusal_text(alloc, refusal) else {
+/// Whether a refusal is reported and shown as this.
+fn is_reported(alloc: Global, refusal: Refusal, wanted: &str) -> bool {
+    let Ok(report) = refusal_text(alloc, refusal) else {
         return false;
     };
     let Ok(shown) = format!(in alloc; "{refusal}") else {
         return false;
     };
-    told.as_str() == wanted && shown.as_str() == wanted
+    report.as_str() == wanted && shown.as_str() == wanted
 }

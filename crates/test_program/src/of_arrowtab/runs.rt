@@ -97,7 +97,7 @@ const PRINTED: [(&str, &str, &str); 14] = [
         r#"{"count":2,"columns":[{"name":"l","count":2,"OFFSET":[0,2,2],"children":[{"name":"item","count":2,"OFFSET":["0",1,"2"],"children":[{"name":"item","count":2,"DATA":["a","b"]}]}]}]}"#,
         "rows 2\nworker 0 calls 1 rows 2\n\"l\" list<largelist<largeutf8>> rows=2 nulls=0 sum=- least=- greatest=-\n",
     ),
-    // Truth values and texts that are told as JSON spells them.
+    // Truth values and texts that are reported as JSON spells them.
     (
         r#"{"name":"b","nullable":false,"type":{"name":"bool"},"children":[]},{"name":"\"s\"","nullable":false,"type":{"name":"utf8"},"children":[]}"#,
         r#"{"count":1,"columns":[{"name":"b","count":1,"DATA":[true]},{"name":"s","count":1,"DATA":["a\"b\n"]}]}"#,

@@ -32,7 +32,7 @@ const NO_OTHER: &str =
 const CUT: &str =
     r#"{"schema":{"fields":[{"name":"n","nullable":false,"type":{"name":"int","bitWidth":8,"isSigned":true}"#;
 
-/// Two files, and what is told of them.
+/// Two files, and what is reported of them.
 const RUNS: [(&str, &str, &str); 5] = [
     (
         FIVE_AND_SEVEN,

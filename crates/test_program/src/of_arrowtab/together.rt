@@ -18,7 +18,7 @@ const OTHER: &str =
 const PAIRS: &str =
     r#"{"schema":{"fields":[{"name":"k","nullable":true,"type":{"name":"utf8"},"children":[]},{"name":"v","nullable":true,"type":{"name":"int","bitWidth":32,"isSigned":true},"children":[]}]},"batches":[{"count":4,"columns":[{"name":"k","count":4,"VALIDITY":[0,1,0,1],"OFFSET":[0,0,1,1,2],"DATA":["","b","","a"]},{"name":"v","count":4,"VALIDITY":[1,1,1,0],"DATA":[1,2,3,0]}]}]}"#;
 
-/// How many workers load the numbers and a second file, its name, which that is, and what is told of both.
+/// How many workers load the numbers and a second file, its name, which that is, and what is reported of both.
 const RUNS: [(&str, &str, &str, &str); 5] = [
     (
         "2",
@@ -45,7 +45,7 @@ const RUNS: [(&str, &str, &str, &str); 5] = [
         OTHER,
         "arrowtab: M: batch 0: A1 SchemaDiffers column=0\n",
     ),
-    // The file of a refusal is told before any worker begins.
+    // The file of a refusal is reported before any worker begins.
     ("64", "B", "{", "arrowtab: B: J1 NotJson\n"),
 ];
 
@@ -74,7 +74,7 @@ fn several_workers_print_what_one_would(rt: HostRuntime) {
 /// How many workers there are, and pieces of the rows, which are four.
 const WORKERS: [&str; 4] = ["1", "2", "4", "64"];
 
-/// A query over the pairs, and what is told.
+/// A query over the pairs, and what is reported.
 const ANSWERS: [(&str, &str); 2] = [
     (
         r#"{"by":["k"],"aggs":[{"agg":"sum","column":"v"}]}"#,

@@ -1,4 +1,4 @@
-//! Files that are parsed side by side: however many workers there are, one thing is told of five files.
+//! Files that are parsed side by side: however many workers there are, one thing is reported of five files.
 ghost use Rattle.std.specs.Prelude.{◌≡◌, IfOk};
 
 use super::{Outcome, assert_case, ran, source};
@@ -21,7 +21,7 @@ const SUM: &str = r#"{"aggs":[{"agg":"rows"},{"agg":"sum","column":"n"}]}"#;
 
 const WORKERS: [&str; 4] = ["1", "2", "4", "64"];
 
-/// What each of five files is, by a letter, and what is told of them: s is seven, n has no batches, c is cut, and the source
+/// What each of five files is, by a letter, and what is reported of them: s is seven, n has no batches, c is cut, and the source
 /// of f fails.
 const RUNS: [([u8; 5], &str); 18] = [
     (*b"sssss", "5 35\n"),
@@ -45,17 +45,17 @@ const RUNS: [([u8; 5], &str); 18] = [
 ];
 
 #[test]
-fn the_first_fault_is_told(rt: HostRuntime) {
+fn the_first_fault_is_reported(rt: HostRuntime) {
     for (files, wanted) in RUNS {
         for workers in WORKERS {
-            let is_right = is_told(&rt, rt.alloc(), workers, files, wanted);
+            let is_right = is_reported(&rt, rt.alloc(), workers, files, wanted);
             assert_case(&rt, is_right, &[workers], wanted);
         }
     }
 }
 
 /// Whether this is what so many workers tell of five files.
-fn is_told(
+fn is_reported(
     rt: &(impl Wait + Threads + Sync),
     alloc: Global,
     workers: &str,

@@ -188,7 +188,7 @@ Example: arrowtab query --query '{\"by\":[\"city\"],\"aggs\":[{\"agg\":\"rows\"}
 ";
 
 /// Prints a fault to this output.
-fn told(alloc: Global, fault: &JobFault, out: MemorySink) -> Outcome
+fn report(alloc: Global, fault: &JobFault, out: MemorySink) -> Outcome
     requires { out.failures < 2 ^ 64 - 1 }
 {
     let mut out = out;
@@ -199,7 +199,7 @@ fn told(alloc: Global, fault: &JobFault, out: MemorySink) -> Outcome
 
 /// Whether a fault comes to this status, and prints this.
 fn prints(alloc: Global, fault: &JobFault, status: u8, out: &str, err: &str) -> bool {
-    told(alloc, fault, MemorySink::new(alloc)).is(status, out, err)
+    report(alloc, fault, MemorySink::new(alloc)).is(status, out, err)
 }
 
 #[test]
@@ -207,16 +207,16 @@ fn help_may_fail(rt: HostRuntime) {
     assert!(rt; tells_that_help_failed(rt.alloc()));
 }
 
-/// Whether help that is cut off in its second write is told, and with status 1.
+/// Whether help that is cut off in its second write is reported, and with status 1.
 fn tells_that_help_failed(alloc: Global) -> bool {
     let Err(help) = job_of(alloc, "arrowtab --help") else {
         return false;
     };
     let out = MemorySink::new(alloc).in_pieces(7).failing(Plan::At(1));
-    told(alloc, &help, out).is(1, "Tells w", "arrowtab: output failed\n")
+    report(alloc, &help, out).is(1, "Tells w", "arrowtab: output failed\n")
 }
 
-/// Words that are no job, what `clap` says of them, and whether that is the help that was asked for.
+/// Words that are no job, what `clap` says of them, and whether that is the help that was requested.
 const NO_JOBS: [(&str, &str, bool); 16] = [
     ("arrowtab --help", HELP, true),
     ("bin/arrowtab -h", HELP, true),
@@ -309,7 +309,7 @@ For more information, try '--help'.
 ];
 
 #[test]
-fn what_is_no_job_is_told(rt: HostRuntime) {
+fn what_is_no_job_is_reported(rt: HostRuntime) {
     for (line, text, is_help) in NO_JOBS {
         let is_right = tells(rt.alloc(), job_of(rt.alloc(), line), text, is_help);
         assert_case(&rt, is_right, &[line], text);
@@ -317,7 +317,7 @@ fn what_is_no_job_is_told(rt: HostRuntime) {
     assert!(rt; tells(rt.alloc(), job(rt.alloc(), &[]), HELP, false));
 }
 
-/// Whether there is no job, and that is told by this text: help on the output, and anything else on the error sink.
+/// Whether there is no job, and that is reported by this text: help on the output, and anything else on the error sink.
 fn tells(alloc: Global, job: Result<Job, JobFault>, text: &str, is_help: bool) -> bool {
     let Err(fault) = job else {
         return false;

@@ -2,16 +2,16 @@ use Rattle.std.proofs.Common.{◌∙◌, List, filter, map}
 use Rattle.std.specs.Arc.{arc_value}
 use Rattle.std.proofs.lemmas.Result.{err_from_is_err_and}
 use Rattle.arrays.specs.Batch.{Batch}
-use Rattle.query.specs.Asked.{asked}
+use Rattle.query.specs.QueryShape.{query_shape}
 use Rattle.answers.specs.Answers.{all_rows, first_fields, shape_of}
 use Rattle.answers.specs.Groups.{is_kept}
 use Rattle.answers.proofs.GroupLemmas.{as_long}
-use Rattle.answers.proofs.ToldLemmas.{told_all}
+use Rattle.answers.proofs.ReportedLemmas.{reported_all}
 use Rattle.answers.proofs.WholeLemmas.{all_joined, is_answer, is_refusal}
 use Rattle.answers.proofs.answering.answer.Goals as goal
 
-pub look_at_pieces-requires-clause-asked : goal.look_at_pieces-requires-clause-asked
-look_at_pieces-requires-clause-asked g c κs lives = record {
+pub look_at_pieces-requires-clause-scan : goal.look_at_pieces-requires-clause-scan
+look_at_pieces-requires-clause-scan g c κs lives = record {
   types = c.requires.types;
   fits = c.requires.fits;
   comparable = c.count_all-rows.ensures.comparable;
@@ -40,6 +40,6 @@ returns-clause-ok g c =
     let fields = first_fields batches in
     let q = c.args.query.now in
     let run = all_joined fields q (all_rows batches) c.args.pieces c.in_ok-whole.whole c.requires.one c.in_ok-whole.ensures in
-    let rows = filter (is_kept fields (asked q).filter) (all_rows batches) in
+    let rows = filter (is_kept fields (query_shape q).filter) (all_rows batches) in
     is_answer fields q (all_rows batches) c.in_ok-whole.whole (map shape_of c.in_ok-groups.groups.items) run
-    (c.in_ok-groups.ensures ∙ told_all q.by.items q.aggs.items rows c.in_ok-whole.whole c.len.result c.len.ensures run.kept.0)
+    (c.in_ok-groups.ensures ∙ reported_all q.by.items q.aggs.items rows c.in_ok-whole.whole c.len.result c.len.ensures run.kept.0)

@@ -5,7 +5,7 @@ use Rattle.std.proofs.lemmas.List.Elements.{All-nil}
 use Rattle.std.specs.Arc.{arc_value}
 use Rattle.arrays.specs.Batch.{Batch, rows_of}
 use Rattle.types.specs.Shape.{kind_of_field}
-use Rattle.query.specs.Asked.{asked}
+use Rattle.query.specs.QueryShape.{query_shape}
 use Rattle.query.specs.Columns.{sort_at}
 use Rattle.query.specs.Fault.{agg_fault, fits}
 use Rattle.query.specs.declared.expr.Agg.{Agg}
@@ -28,7 +28,7 @@ tell_comparable-requires c =
     let batch : Batch = c.deref.result.now in
     let below : place < length batches = omega (arith, length-map c.args.batches.now arc_value) in
     let here : batch ≡ get_or batches place batch = mapped_at arc_value c.args.batches.now place c.batch-item.result batch (omega arith) c.batch-item.is c.deref.ensures in
-    let q = what_fits batch.fields (asked c.args.query.now) (at_next (λ (b : Batch). fits b.fields (asked c.args.query.now) ≡ true) batches place batch c.requires.fits below here) in
+    let q = what_fits batch.fields (query_shape c.args.query.now) (at_next (λ (b : Batch). fits b.fields (query_shape c.args.query.now) ≡ true) batches place batch c.requires.fits below here) in
     subst (λ (l : List (Agg ℕ)). All (λ (a : Agg ℕ). agg_fault (sort_at batch.fields) a ≡ None) l) (sym c.as_slice.ensures.value) q.aggs
 
 pub overflow_add-rows : goal.overflow_add-rows

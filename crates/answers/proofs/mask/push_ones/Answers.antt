@@ -1,6 +1,6 @@
 use Rattle.std.proofs.Common.{◌∙◌, ◌+◌, ◌++◌, ap, append-nil, arith, length, map, sym, w64}
 use Rattle.std.specs.Int.{trailing_zeros}
-use Rattle.answers.proofs.MaskLemmas.{first_one, no_ones, one_put, one_told}
+use Rattle.answers.proofs.MaskLemmas.{first_one, no_ones, one_put, one_reported}
 use Rattle.answers.proofs.mask.push_ones.Goals as goal
 
 pub loop-left-preserved : goal.loop-left-preserved
@@ -12,7 +12,7 @@ loop-left-preserved c =
 pub loop-left-smaller : goal.loop-left-smaller
 loop-left-smaller c =
     let left = c.loop-left.left in
-    omega (arith, ap length (one_told left (trailing_zeros w64 left) (first_one left (omega (arith, c.loop-left-test.true)) (omega arith))))
+    omega (arith, ap length (one_reported left (trailing_zeros w64 left) (first_one left (omega (arith, c.loop-left-test.true)) (omega arith))))
 
 pub returns : goal.returns
 returns c =

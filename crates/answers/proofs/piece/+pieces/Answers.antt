@@ -17,7 +17,7 @@ join-late-requires-send-F g t c κs within =
 pub put_together-requires : goal.put_together-requires
 put_together-requires g t c =
     let bs : List Batch = map arc_value c.args.scan.now.batches.now in
-    let a = c.requires.asked in
+    let a = c.requires.scan in
     let middle = c.args.from + (c.args.count - c.back_of-high.result) in (
       first_fields bs,
       c.args.scan.now.query.now,
@@ -41,7 +41,7 @@ put_together-requires g t c =
 pub returns : goal.returns
 returns g t c =
     let bs : List Batch = map arc_value c.args.scan.now.batches.now in
-    let a = c.requires.asked in
+    let a = c.requires.scan in
     let pieces = c.args.scan.now.cuts.pieces in
     let from = c.args.from in
     let middle = from + (c.args.count - c.back_of-high.result) in

@@ -11,7 +11,7 @@ look_at_rows-requires-clause-order g c κs within =
     let pieces = c.args.scan.now.cuts.pieces in
     let place = c.args.place in
     subst (λ n. n ≤ c.at-last.result) (sym c.at-first.ensures)
-    (subst (λ n. cut_at c.args.scan.now.cuts.rows pieces place ≤ n) (sym c.at-last.ensures) (cuts_rise c.args.scan.now.cuts.rows pieces place (place + 1) c.requires.asked.one (omega arith)))
+    (subst (λ n. cut_at c.args.scan.now.cuts.rows pieces place ≤ n) (sym c.at-last.ensures) (cuts_rise c.args.scan.now.cuts.rows pieces place (place + 1) c.requires.scan.one (omega arith)))
 
 pub returns : goal.returns
 returns g c =
@@ -19,7 +19,7 @@ returns g c =
     let rows = all_rows bs in
     let pieces = c.args.scan.now.cuts.pieces in
     let from = c.args.place in
-    let counted = c.requires.asked.counted in
+    let counted = c.requires.scan.counted in
     are_looked (first_fields bs) c.args.scan.now.query.now rows pieces from (from + 1) c.at-first.result c.at-last.result c.look_at_rows.result
     (c.at-first.ensures ∙ ap (λ n. cut_at n pieces from) counted) (c.at-last.ensures ∙ ap (λ n. cut_at n pieces (from + 1)) counted)
     c.look_at_rows.ensures.ok c.look_at_rows.ensures.err

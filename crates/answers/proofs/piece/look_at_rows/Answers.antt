@@ -5,7 +5,7 @@ use Rattle.std.proofs.lemmas.List.{length-map}
 use Rattle.std.proofs.lemmas.List.Elements.{All-nil}
 use Rattle.arrays.specs.Batch.{Batch, Table, rows_of}
 use Rattle.types.specs.Shape.{kind_of_field}
-use Rattle.query.specs.Asked.{asked}
+use Rattle.query.specs.QueryShape.{query_shape}
 use Rattle.query.specs.Fault.{fits}
 use Rattle.query.specs.declared.fault.QueryFault.TheVariants.{Overflow}
 use Rattle.answers.specs.Answers.{all_rows, first_fields}
@@ -22,7 +22,7 @@ loop-batch-init g c =
     let q = c.args.scan.now.query.now in
     let none = none_between c.args.from c.args.to in (
       refl,
-      subst (λ (l : Table). HasRun fields q l c.in_ok-grouping.grouping) (sym none) (record { good = All-nil (IsGood fields (asked q).filter); kept = c.in_ok-grouping.ensures }),
+      subst (λ (l : Table). HasRun fields q l c.in_ok-grouping.grouping) (sym none) (record { good = All-nil (IsGood fields (query_shape q).filter); kept = c.in_ok-grouping.ensures }),
     )
 
 pub add_part-requires-clause-fits : goal.add_part-requires-clause-fits
@@ -32,7 +32,7 @@ add_part-requires-clause-fits g c κs within =
     let batch : Batch = c.deref-in-loop-batch.result.now in
     let below : place < length batches = omega (arith, length-map c.args.scan.now.batches.now arc_value) in
     let here : batch ≡ get_or batches place batch = mapped_at arc_value c.args.scan.now.batches.now place c.batch-item.result batch (omega arith) c.batch-item.is c.deref-in-loop-batch.ensures in
-    at_next (λ (b : Batch). fits b.fields (asked c.args.scan.now.query.now) ≡ true) batches place batch c.requires.asked.fits below here
+    at_next (λ (b : Batch). fits b.fields (query_shape c.args.scan.now.query.now) ≡ true) batches place batch c.requires.scan.fits below here
 
 pub add_part-requires-clause-room : goal.add_part-requires-clause-room
 add_part-requires-clause-room g c κs within =
@@ -42,7 +42,7 @@ add_part-requires-clause-room g c κs within =
     let below : place < length batches = omega (arith, length-map c.args.scan.now.batches.now arc_value) in
     let here : batch ≡ get_or batches place batch = mapped_at arc_value c.args.scan.now.batches.now place c.batch-item.result batch (omega arith) c.batch-item.is c.deref-in-loop-batch.ensures in
     let alike : map kind_of_field batch.fields ≡ map kind_of_field (first_fields batches) =
-    at_next (λ (b : Batch). map kind_of_field b.fields ≡ map kind_of_field (first_fields batches)) batches place batch c.requires.asked.types below here in
+    at_next (λ (b : Batch). map kind_of_field b.fields ≡ map kind_of_field (first_fields batches)) batches place batch c.requires.scan.types below here in
     let rows : c.from-rows.result ≡ batch.rows = c.from-rows.ensures ∙ c.rows.ensures ∙ ap (λ (b : Batch). b.rows) (c.deref.ensures ∙ sym c.deref-in-loop-batch.ensures) in
     let front = all_rows (take place batches) in
     let start = c.within-start.result in
@@ -51,7 +51,7 @@ add_part-requires-clause-room g c κs within =
     let last : c.within-end.result ≡ min (c.args.to - length front) batch.rows = c.within-end.ensures ∙ ap (λ m. min (c.args.to - m) c.from-rows.result) c.loop-batch.invariant.0 ∙ ap (min (c.args.to - length front)) rows in
     let part = between c.args.from c.args.to front in (
       part,
-      piece_few batches place batch below here c.args.from c.args.to start n first (ap (λ m. m - start) last) (2 ^ 40) c.requires.asked.few,
+      piece_few batches place batch below here c.args.from c.args.to start n first (ap (λ m. m - start) last) (2 ^ 40) c.requires.scan.few,
       has_kept_alike (first_fields batches) batch.fields c.args.scan.now.query.now part c.loop-batch.grouping (sym alike) c.loop-batch.invariant.1.kept,
     )
 
@@ -63,7 +63,7 @@ overflow_add-before g c =
     let below : place < length batches = omega (arith, length-map c.args.scan.now.batches.now arc_value) in
     let here : batch ≡ get_or batches place batch = mapped_at arc_value c.args.scan.now.batches.now place c.batch-item.result batch (omega arith) c.batch-item.is c.deref-in-loop-batch.ensures in
     let rows : c.from-rows.result ≡ batch.rows = c.from-rows.ensures ∙ c.rows.ensures ∙ ap (λ (b : Batch). b.rows) (c.deref.ensures ∙ sym c.deref-in-loop-batch.ensures) in
-    record { fits = omega (arith, c.loop-batch.invariant.0, rows, few_next batches place batch below here (2 ^ 40) c.requires.asked.few) }
+    record { fits = omega (arith, c.loop-batch.invariant.0, rows, few_next batches place batch below here (2 ^ 40) c.requires.scan.few) }
 
 pub returns-in-Err-Bad-clause-err : goal.returns-in-Err-Bad-clause-err
 returns-in-Err-Bad-clause-err g c =
@@ -73,7 +73,7 @@ returns-in-Err-Bad-clause-err g c =
     let below : place < length batches = omega (arith, length-map c.args.scan.now.batches.now arc_value) in
     let here : batch ≡ get_or batches place batch = mapped_at arc_value c.args.scan.now.batches.now place c.batch-item.result batch (omega arith) c.batch-item.is c.deref-in-loop-batch.ensures in
     let alike : map kind_of_field batch.fields ≡ map kind_of_field (first_fields batches) =
-    at_next (λ (b : Batch). map kind_of_field b.fields ≡ map kind_of_field (first_fields batches)) batches place batch c.requires.asked.types below here in
+    at_next (λ (b : Batch). map kind_of_field b.fields ≡ map kind_of_field (first_fields batches)) batches place batch c.requires.scan.types below here in
     let rows : c.from-rows.result ≡ batch.rows = c.from-rows.ensures ∙ c.rows.ensures ∙ ap (λ (b : Batch). b.rows) (c.deref.ensures ∙ sym c.deref-in-loop-batch.ensures) in
     let front = all_rows (take place batches) in
     let start = c.within-start.result in
@@ -81,7 +81,7 @@ returns-in-Err-Bad-clause-err g c =
     let first : start ≡ min (c.args.from - length front) batch.rows = c.within-start.ensures ∙ ap (λ m. min (c.args.from - m) c.from-rows.result) c.loop-batch.invariant.0 ∙ ap (min (c.args.from - length front)) rows in
     let last : c.within-end.result ≡ min (c.args.to - length front) batch.rows = c.within-end.ensures ∙ ap (λ m. min (c.args.to - m) c.from-rows.result) c.loop-batch.invariant.0 ∙ ap (min (c.args.to - length front)) rows in
     let count = ap (λ m. m - start) last in
-    let f = (asked c.args.scan.now.query.now).filter in
+    let f = (query_shape c.args.scan.now.query.now).filter in
     let bad : IsBadRow batch start n f c.in-Err-Bad.row = subst (StopsAt batch start n f) c.in-Err-Bad.field-0-is c.in-Err-Bad.ensures.err in
     let from = c.args.from in
     let to = c.args.to in (
@@ -101,7 +101,7 @@ loop-batch-preserved g c =
     let below : place < length batches = omega (arith, length-map c.args.scan.now.batches.now arc_value) in
     let here : batch ≡ get_or batches place batch = mapped_at arc_value c.args.scan.now.batches.now place c.batch-item.result batch (omega arith) c.batch-item.is c.deref-in-loop-batch.ensures in
     let alike : map kind_of_field batch.fields ≡ map kind_of_field (first_fields batches) =
-    at_next (λ (b : Batch). map kind_of_field b.fields ≡ map kind_of_field (first_fields batches)) batches place batch c.requires.asked.types below here in
+    at_next (λ (b : Batch). map kind_of_field b.fields ≡ map kind_of_field (first_fields batches)) batches place batch c.requires.scan.types below here in
     let rows : c.from-rows.result ≡ batch.rows = c.from-rows.ensures ∙ c.rows.ensures ∙ ap (λ (b : Batch). b.rows) (c.deref.ensures ∙ sym c.deref-in-loop-batch.ensures) in
     let front = all_rows (take place batches) in
     let start = c.within-start.result in

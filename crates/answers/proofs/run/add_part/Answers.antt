@@ -1,7 +1,7 @@
 use Rattle.std.proofs.Common.{filter, length, ◌≡◌, ◌∙◌, ◌+◌, ◌≤◌, ◌++◌, ap, append_assoc, arith, length-append, subst, sym}
 use Rattle.std.proofs.lemmas.List.Elements.{filter-append}
 use Rattle.arrays.specs.Batch.{Table}
-use Rattle.query.specs.Asked.{asked}
+use Rattle.query.specs.QueryShape.{query_shape}
 use Rattle.std.proofs.lemmas.List.{append-nil}
 use Rattle.answers.specs.Groups.{is_kept}
 use Rattle.answers.specs.Grouping.{HasGroups}
@@ -15,9 +15,9 @@ loop-at-init g c =
     let b = c.args.batch.now in
     let q = c.args.scan.now.query.now in (
       omega arith,
-      λ before has. subst (λ (l : Table). HasKept b.fields q l c.begin.new.self) (sym (append-nil before)) (c.in_ok-begin.ensures.kept (filter (is_kept b.fields (asked q).filter) before) has),
+      λ before has. subst (λ (l : Table). HasKept b.fields q l c.begin.new.self) (sym (append-nil before)) (c.in_ok-begin.ensures.kept (filter (is_kept b.fields (query_shape q).filter) before) has),
       λ i below. absurd (omega (arith, below)),
-      c.in_ok-begin.ensures.ready (filter (is_kept b.fields (asked q).filter) c.requires.room.0) c.requires.room.2,
+      c.in_ok-begin.ensures.ready (filter (is_kept b.fields (query_shape q).filter) c.requires.room.0) c.requires.room.2,
     )
 
 pub add_slice-requires-clause-room : goal.add_slice-requires-clause-room
@@ -44,14 +44,14 @@ loop-at-preserved g c =
           subst (λ (l : Table). HasKept b.fields q l c.add_slice.new.grouping)
           (append_assoc before front (rows_in b (start + at) len) ∙ ap (λ (l : Table). before ++ l) (sym (rows_split b start at len)))
           (c.in-Ok.ensures.ok (before ++ front) (c.loop-at.invariant.1 before has)),
-      sound_more b (asked q).filter start at len c.loop-at.invariant.2 c.in-Ok.ensures.sound.each,
+      sound_more b (query_shape q).filter start at len c.loop-at.invariant.2 c.in-Ok.ensures.sound.each,
       c.in-Ok.ensures.ready,
     )
 
 pub returns-in-Err-Bad-clause-err : goal.returns-in-Err-Bad-clause-err
 returns-in-Err-Bad-clause-err g c =
     let b = c.args.batch.now in
-    let f = (asked c.args.scan.now.query.now).filter in
+    let f = (query_shape c.args.scan.now.query.now).filter in
     let start = c.args.start in
     let at = c.loop-at.at in
     let len = c.min-len.result in
@@ -71,7 +71,7 @@ returns-clause-sound g c = record { each = λ i below. c.loop-at.invariant.2 i (
 pub add_count-requires-clause-room : goal.add_count-requires-clause-room
 add_count-requires-clause-room g c =
     let b = c.args.batch.now in
-    let f = (asked c.args.scan.now.query.now).filter in
+    let f = (query_shape c.args.scan.now.query.now).filter in
     let r = c.requires.room in
     let all = all_kept b.fields f r.0 (c.counts_all.ensures c.if-counts_all.true).1 in
     (filter (is_kept b.fields f) r.0, omega (arith, r.1, ap length all), r.2)
@@ -80,7 +80,7 @@ pub returns-then-counts_all-clause-ok : goal.returns-then-counts_all-clause-ok
 returns-then-counts_all-clause-ok g c = λ before has.
     let b = c.args.batch.now in
     let q = c.args.scan.now.query.now in
-    let f = (asked q).filter in
+    let f = (query_shape q).filter in
     let p = is_kept b.fields f in
     let more = rows_in b c.args.start c.args.rows in
     let alone = c.counts_all.ensures c.if-counts_all.true in

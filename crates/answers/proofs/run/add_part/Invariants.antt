@@ -1,6 +1,6 @@
 use Rattle.std.proofs.Common.{◌-◌, ◌≤◌, ◌++◌}
 use Rattle.arrays.specs.Batch.{Table}
-use Rattle.query.specs.Asked.{asked}
+use Rattle.query.specs.QueryShape.{query_shape}
 use Rattle.answers.specs.Grouping.{IsReadyFor}
 use Rattle.answers.specs.Runs.{HasKept, rows_in}
 use Rattle.answers.proofs.RunLemmas.{AreSoundTo}
@@ -11,7 +11,7 @@ abbrev pub invariant-loop-at : goal.invariant-loop-at
 invariant-loop-at g l =
     (l.at ≤ l.rows)
     × ((before : Table) → HasKept l.batch.fields l.query before l.fn.grouping → HasKept l.batch.fields l.query (before ++ rows_in l.batch l.start l.at) l.grouping)
-    × AreSoundTo l.batch (asked l.query).filter l.start l.at
+    × AreSoundTo l.batch (query_shape l.query).filter l.start l.at
     × IsReadyFor l.batch l.query l.grouping
 
 abbrev pub decreases-loop-at : goal.decreases-loop-at

@@ -3,7 +3,7 @@ use Rattle.std.specs.Prelude.{All}
 use Rattle.std.proofs.lemmas.List.{length-map}
 use Rattle.std.proofs.lemmas.List.Elements.{filter-append}
 use Rattle.arrays.specs.Batch.{Table, row_of}
-use Rattle.query.specs.Asked.{asked}
+use Rattle.query.specs.QueryShape.{query_shape}
 use Rattle.answers.specs.Grouping.{HasGroups}
 use Rattle.answers.specs.Groups.{is_kept}
 use Rattle.answers.specs.Runs.{kept_in, rows_in}
@@ -19,7 +19,7 @@ pub add-requires-clause-room : goal.add-requires-clause-room
 add-requires-clause-room c =
     let s = c.args.slice in
     let b = s.batch.now in
-    let f = (asked c.args.query.now).filter in
+    let f = (query_shape c.args.query.now).filter in
     let r = c.requires.room in
     let kept = kept_in c.in_ok-values.values s.start s.len in
     let more = rows_in b s.start s.len in
@@ -32,7 +32,7 @@ pub add_count-requires-clause-room : goal.add_count-requires-clause-room
 add_count-requires-clause-room c =
     let s = c.args.slice in
     let b = s.batch.now in
-    let f = (asked c.args.query.now).filter in
+    let f = (query_shape c.args.query.now).filter in
     let r = c.requires.room in
     let more = rows_in b s.start s.len in
     let kept = kept_in c.in_ok-values.values s.start s.len in
@@ -46,7 +46,7 @@ returns-then-counts_rows-clause-ok c = λ rows has.
     let s = c.args.slice in
     let b = s.batch.now in
     let q = c.args.query.now in
-    let f = (asked q).filter in
+    let f = (query_shape q).filter in
     let p = is_kept b.fields f in
     let more = rows_in b s.start s.len in
     let kept = kept_in c.in_ok-values.values s.start s.len in
@@ -60,7 +60,7 @@ returns-clause-ok c = λ rows has.
     let s = c.args.slice in
     let b = s.batch.now in
     let q = c.args.query.now in
-    let f = (asked q).filter in
+    let f = (query_shape q).filter in
     let p = is_kept b.fields f in
     let more = rows_in b s.start s.len in
     let e : filter p rows ++ map (row_of b.columns) c.deref.result.now ≡ filter p (rows ++ more) =

@@ -8,15 +8,15 @@ pub returns-in-Ok-clause-ok : goal.returns-in-Ok-clause-ok
 returns-in-Ok-clause-ok g c =
     let r = c.args.request in
     let column = option_map field_of r.column in
-    let held = subst (Holds r.workers c.args.files.items column) (sym c.deref.ensures) c.in-Ok.ensures.ok in
-    output_shows r.wanted r.workers c.args.files.items column c.deref.result.now c.output_of.result string_bytes held c.output_of.ensures.output
+    let history_is = subst (Holds r.workers c.args.files.items column) (sym c.deref.ensures) c.in-Ok.ensures.ok in
+    output_shows r.wanted r.workers c.args.files.items column c.deref.result.now c.output_of.result string_bytes history_is c.output_of.ensures.output
 
 pub returns-in-Ok-clause-err : goal.returns-in-Ok-clause-err
 returns-in-Ok-clause-err g c =
     let r = c.args.request in
     let column = option_map field_of r.column in
-    let held = subst (Holds r.workers c.args.files.items column) (sym c.deref.ensures) c.in-Ok.ensures.ok in
-    output_stops r.wanted r.workers c.args.files.items column c.deref.result.now c.output_of.result held c.output_of.ensures.err
+    let history_is = subst (Holds r.workers c.args.files.items column) (sym c.deref.ensures) c.in-Ok.ensures.ok in
+    output_stops r.wanted r.workers c.args.files.items column c.deref.result.now c.output_of.result history_is c.output_of.ensures.err
 
 pub returns-clause-err : goal.returns-clause-err
 returns-clause-err g c =

@@ -1,10 +1,10 @@
 use Rattle.std.proofs.Common.{arith, ◌∙◌, String, List, Global, ap, length, string_bytes, subst, sym}
 use Rattle.std.proofs.lemmas.List.{length-map}
-use Rattle.job.specs.Asked.{names_of}
+use Rattle.job.specs.Jobs.{names_of}
 use Rattle.arrowtab.specs.Run.{front}
 use Rattle.ends.specs.Sink.{AppendsFront}
-use Rattle.arrowtab.specs.Told.{TookFault}
-use Rattle.arrowtab.proofs.RunLemmas.{excuse_told, named}
+use Rattle.arrowtab.specs.FaultLine.{TookFault}
+use Rattle.arrowtab.proofs.RunLemmas.{excuse_reported, named}
 use Rattle.arrowtab.proofs.invocation.run.Goals as goal
 
 pub returns-in-Ok-clause-quiet : goal.returns-in-Ok-clause-quiet
@@ -22,6 +22,6 @@ tell-requires-clause-named g c =
 
 pub returns-clause-excused : goal.returns-clause-excused
 returns-clause-excused g c = λ _.
-    excuse_told c.args.job.now _ _ _ _ _ _ _ _ c.in-Err.fault
+    excuse_reported c.args.job.now _ _ _ _ _ _ _ _ c.in-Err.fault
     (subst (λ (names : List (String Global)). TookFault (names_of names) c.in-Err.fault (g.E.Sink.failures c.args.err.now) (g.E.Sink.failures c.tell.new.err) (g.E.Sink.taken c.args.err.now) (g.E.Sink.taken c.tell.new.err)) c.deref.ensures.value c.tell.ensures)
     c.in-Err.ensures.err

@@ -1,6 +1,6 @@
 use Rattle.std.proofs.Common.{◌∙◌, refl, subst}
 use Rattle.query.specs.Resolved.{named}
-use Rattle.query_json.specs.QueryAsked.{ReadsQueryText}
+use Rattle.json_query.specs.QueryDocument.{ReadsQueryText}
 use Rattle.arrowtab.proofs.wanted.wanted_of.Goals as goal
 
 pub returns-in-Ok-clause-ok : goal.returns-in-Ok-clause-ok

@@ -2,7 +2,7 @@ use Rattle.std.proofs.Common.{◌∙◌, ◌∷◌, ap, arith, length, map, subs
 use Rattle.std.specs.List.{AllZip}
 use Rattle.std.specs.Vec.Iter.{into_iter_items}
 use Rattle.arrowtab.specs.Parsed.{IsParsed}
-use Rattle.arrowtab.proofs.ParseLemmas.{AddsSoFar-more, AddsSoFar-none, AddsSoFar-whole, told_stops}
+use Rattle.arrowtab.proofs.ParseLemmas.{AddsSoFar-more, AddsSoFar-none, AddsSoFar-whole, reported_stops}
 use Rattle.arrowtab.proofs.windows.add_files.Goals as goal
 
 pub loop-parsed-init : goal.loop-parsed-init
@@ -26,7 +26,7 @@ pub returns-in-Err-clause-err : goal.returns-in-Err-clause-err
 returns-in-Err-clause-err g c =
     let texts = map (λ t. t.items) c.args.texts.items in
     let at = c.loop-parsed in
-    told_stops texts c.args.files.now.items at.files.items _ _ c.in-Err.fault c.len.result c.text_fault.result at.invariant.0 (c.in-Some.ensures.steps.0 ∙ ap (λ p. p ∷ into_iter_items c.next.new.self) c.in-Err.is) (omega (arith, c.len.ensures, at.files.ok.0)) c.text_fault.ensures
+    reported_stops texts c.args.files.now.items at.files.items _ _ c.in-Err.fault c.len.result c.text_fault.result at.invariant.0 (c.in-Some.ensures.steps.0 ∙ ap (λ p. p ∷ into_iter_items c.next.new.self) c.in-Err.is) (omega (arith, c.len.ensures, at.files.ok.0)) c.text_fault.ensures
 
 pub returns-clause-ok : goal.returns-clause-ok
 returns-clause-ok g c =

@@ -19,8 +19,8 @@ loop-w-preserved g c =
     )
 
 -- what the buffer holds in the end
-held : (g : given.Over) (c : goal.In_ok-buffer g) → ArePlaces (g.P.Places.at c.args.places.now) c.len-len.result c.in_ok-buffer.buffer
-held g c =
+present : (g : given.Over) (c : goal.In_ok-buffer g) → ArePlaces (g.P.Places.at c.args.places.now) c.len-len.result c.in_ok-buffer.buffer
+present g c =
     let f = g.P.Places.at c.args.places.now in
     let n = c.len-len.result in
     let w = c.loop-w.w in
@@ -39,10 +39,10 @@ returns g c =
     let f = g.P.Places.at c.args.places.now in
     let n = c.len-len.result in
     let buffer = c.in_ok-buffer.buffer in
-    bits-filled f buffer n (held g c).bits_are ∙ ap (λ m. map f (range_with_len 0 m)) c.len-len.ensures
+    bits-filled f buffer n (present g c).bits_are ∙ ap (λ m. map f (range_with_len 0 m)) c.len-len.ensures
 
 pub invariant_of-result : goal.invariant_of-result
 invariant_of-result g c =
     let f = g.P.Places.at c.args.places.now in
-    let all = held g c in
+    let all = present g c in
     record { length_is = all.long; past = past-filled f c.in_ok-buffer.buffer c.len-len.result all.bits_are }

@@ -6,14 +6,14 @@ use Rattle.evaluate.proofs.columns.both.Goals as goal
 pub values_of-requires : goal.values_of-requires
 values_of-requires c =
     given_rows _ c.kleene_and.result c.kleene_and.ensures.err
-    (λ e told. ap is_of_operands (truths_stop c.args.a.now c.args.b.now e c.requires.sorts c.requires.lengths told))
+    (λ e reported. ap is_of_operands (truths_stop c.args.a.now c.args.b.now e c.requires.sorts c.requires.lengths reported))
 
 pub returns-clause-ok : goal.returns-clause-ok
 returns-clause-ok c =
     given_values _ _ c.kleene_and.result c.values_of.result c.values_of.ensures c.kleene_and.ensures.ok
-    (λ r told. and_made c.args.a.now c.args.b.now r c.requires.sorts told.1)
+    (λ r reported. and_made c.args.a.now c.args.b.now r c.requires.sorts reported.1)
 
 pub returns-clause-err : goal.returns-clause-err
 returns-clause-err c =
     given_stop _ _ c.kleene_and.result c.values_of.result c.values_of.ensures c.kleene_and.ensures.err
-    (λ e told. ap stop_of (truths_stop c.args.a.now c.args.b.now e c.requires.sorts c.requires.lengths told))
+    (λ e reported. ap stop_of (truths_stop c.args.a.now c.args.b.now e c.requires.sorts c.requires.lengths reported))

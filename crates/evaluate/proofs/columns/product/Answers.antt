@@ -4,14 +4,14 @@ use Rattle.evaluate.proofs.columns.product.Goals as goal
 
 pub values_of-requires : goal.values_of-requires
 values_of-requires c =
-    given_rows _ c.mul.result c.mul.ensures.err (λ e told. results_fit ◌*ℤ◌ c.args.a.now c.args.b.now e c.requires.sorts c.requires.lengths told)
+    given_rows _ c.mul.result c.mul.ensures.err (λ e reported. results_fit ◌*ℤ◌ c.args.a.now c.args.b.now e c.requires.sorts c.requires.lengths reported)
 
 pub returns-clause-ok : goal.returns-clause-ok
 returns-clause-ok c =
     given_values _ _ c.mul.result c.values_of.result c.values_of.ensures c.mul.ensures.ok
-    (λ r told. results_made ◌*ℤ◌ c.args.a.now c.args.b.now r c.requires.sorts c.requires.lengths told.0 told.1)
+    (λ r reported. results_made ◌*ℤ◌ c.args.a.now c.args.b.now r c.requires.sorts c.requires.lengths reported.0 reported.1)
 
 pub returns-clause-err : goal.returns-clause-err
 returns-clause-err c =
     given_stop _ _ c.mul.result c.values_of.result c.values_of.ensures c.mul.ensures.err
-    (λ e told. results_stop ◌*ℤ◌ c.args.a.now c.args.b.now e c.requires.sorts c.requires.lengths told)
+    (λ e reported. results_stop ◌*ℤ◌ c.args.a.now c.args.b.now e c.requires.sorts c.requires.lengths reported)

@@ -17,8 +17,8 @@ returns-in-Column-clause-ok c =
     let n = length a.items in
     let r = c.of_two-in-Column.result in
     let seen = subst (λ (v : Seen). IfOk r (AreMade (sorts.of_two o (sort_of_kind a.kind) (sort_of_kind v.kind)) (λ i. of_two o (item_at a.items i) (item_at v.items i)) n)) c.view.ensures c.of_two-in-Column.ensures.ok in
-    let told = subst (λ s. IfOk r (AreMade s (λ i. of_two o (item_at a.items i) (item_at b.items i)) n)) (sym (columns_sort o a.kind b.kind)) seen in
-    subst (λ w. IfOk r (AreMade (sort_of_two o (sort_of_kind a.kind) (sort_in w)) (λ i. of_two o (item_at a.items i) (item_in w i)) n)) (sym c.in-Column.is) told
+    let reported = subst (λ s. IfOk r (AreMade s (λ i. of_two o (item_at a.items i) (item_at b.items i)) n)) (sym (columns_sort o a.kind b.kind)) seen in
+    subst (λ w. IfOk r (AreMade (sort_of_two o (sort_of_kind a.kind) (sort_in w)) (λ i. of_two o (item_at a.items i) (item_in w i)) n)) (sym c.in-Column.is) reported
 
 pub returns-in-Column-clause-err : goal.returns-in-Column-clause-err
 returns-in-Column-clause-err c =
@@ -28,8 +28,8 @@ returns-in-Column-clause-err c =
     let n = length a.items in
     let r = c.of_two-in-Column.result in
     let seen = subst (λ (v : Seen). IfErr r (StopsMaking (sorts.of_two o (sort_of_kind a.kind) (sort_of_kind v.kind)) (λ i. of_two o (item_at a.items i) (item_at v.items i)) n)) c.view.ensures c.of_two-in-Column.ensures.err in
-    let told = subst (λ s. IfErr r (StopsMaking s (λ i. of_two o (item_at a.items i) (item_at b.items i)) n)) (sym (columns_sort o a.kind b.kind)) seen in
-    subst (λ w. IfErr r (StopsMaking (sort_of_two o (sort_of_kind a.kind) (sort_in w)) (λ i. of_two o (item_at a.items i) (item_in w i)) n)) (sym c.in-Column.is) told
+    let reported = subst (λ s. IfErr r (StopsMaking s (λ i. of_two o (item_at a.items i) (item_at b.items i)) n)) (sym (columns_sort o a.kind b.kind)) seen in
+    subst (λ w. IfErr r (StopsMaking (sort_of_two o (sort_of_kind a.kind) (sort_in w)) (λ i. of_two o (item_at a.items i) (item_in w i)) n)) (sym c.in-Column.is) reported
 
 pub of_two-requires-in-Column-clause-sorts : goal.of_two-requires-in-Column-clause-sorts
 of_two-requires-in-Column-clause-sorts c =

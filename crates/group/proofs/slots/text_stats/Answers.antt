@@ -12,11 +12,11 @@ loop-i-preserved c =
     let i = c.loop-i.i in
     let items = take i s.items in
     let shown = λ (o : Option (Bor (List ℕ))). option_map (λ (t : Bor (List ℕ)). text t.now) o in
-    let told = λ (o : Option (Bor (List ℕ))). Some (item_of_text (option_copied o)) in
+    let reported = λ (o : Option (Bor (List ℕ))). Some (item_of_text (option_copied o)) in
     elim c.match-text_at.branch [
       | in-Some w ↦ (
           let x = text w.in-Some.text.now in
-          let grown = take-item s.items i x (c.text_at.ensures ∙ ap told w.in-Some.is) in (
+          let grown = take-item s.items i x (c.text_at.ensures ∙ ap reported w.in-Some.is) in (
             walk-value s.kind c.loop-i.nulls c.match-text_at.nulls (shown c.loop-i.least) (shown c.loop-i.greatest) (shown c.match-text_at.least) (shown c.match-text_at.greatest) items (take (i + 1) s.items) x
                 c.loop-i.invariant.0 (text_is s.kind w.in-Some.text.now c.requires) grown w.nulls-is
                 (ap shown w.least-is ∙ ap Some w.lesser.ensures)
@@ -24,7 +24,7 @@ loop-i-preserved c =
             omega (arith, w.nulls-is, c.loop-i.invariant.1),
           ))
       | in-None w ↦ (
-          let grown = take-item s.items i null (c.text_at.ensures ∙ ap told w.in-None.is) in (
+          let grown = take-item s.items i null (c.text_at.ensures ∙ ap reported w.in-None.is) in (
             walk-null s.kind c.loop-i.nulls c.match-text_at.nulls (shown c.loop-i.least) (shown c.loop-i.greatest) (shown c.match-text_at.least) (shown c.match-text_at.greatest) items (take (i + 1) s.items)
                 c.loop-i.invariant.0 grown w.nulls-is (ap shown w.least-is) (ap shown w.greatest-is),
             omega (arith, w.nulls-is, c.loop-i.invariant.1),

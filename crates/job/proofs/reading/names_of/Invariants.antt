@@ -1,5 +1,5 @@
 use Rattle.std.proofs.Common.{◌≡◌, map, take}
-use Rattle.job.specs.Asked.{names_of}
+use Rattle.job.specs.Jobs.{names_of}
 use Rattle.job.proofs.reading.names_of.Given as goal
 
 -- the names so far are those of the files so far

@@ -5,7 +5,7 @@ use Rattle.kernels.specs.Arithmetic.{operands_fault, arithmetic_fault}
 use Rattle.arrays.specs.Packed.{IsBufferOf}
 use Rattle.arrays.specs.Shown.{kept}
 use Rattle.truths.specs.Valid.{both_valid}
-use Rattle.kernels.proofs.ResultLemmas.{column_numbers, told, told_on, computed, AreOperands}
+use Rattle.kernels.proofs.ResultLemmas.{column_numbers, reported, reported_on, computed, AreOperands}
 use Rattle.kernels.proofs.arithmetic.computed.Goals as goal
 
 pub returns-in_err-numbers-clause-err : goal.returns-in_err-numbers-clause-err
@@ -24,8 +24,8 @@ returns-in_err-numbers-clause-err g c =
       of_b = column_numbers ty c.ints-y.result.values.now b c.ints-y.ensures.values;
     } in
     let valid_is : c.bits_of.result ≡ kept (both_valid a b) = c.bits_of.ensures ∙ c.in_ok-validity.ensures in
-    told_on c.from_residual-in_err-numbers.result (operands_fault a b) (arithmetic_fault f a b) c.in_err-numbers.field-0.0 c.from_residual-in_err-numbers.ensures.1
-    (told f ty x y a b c.bits_of.result c.ints-x.result.slots c.in_err-numbers.field-0.0 are valid_is c.ints-x.ensures.slots c.in_err-numbers.ensures.err)
+    reported_on c.from_residual-in_err-numbers.result (operands_fault a b) (arithmetic_fault f a b) c.in_err-numbers.field-0.0 c.from_residual-in_err-numbers.ensures.1
+    (reported f ty x y a b c.bits_of.result c.ints-x.result.slots c.in_err-numbers.field-0.0 are valid_is c.ints-x.ensures.slots c.in_err-numbers.ensures.err)
 
 pub returns-clause-ok : goal.returns-clause-ok
 returns-clause-ok g c =

@@ -8,8 +8,8 @@ use Rattle.arrays.specs.Packed.{IsBufferOf}
 use Rattle.arrays.specs.Shown.{kept}
 use Rattle.truths.specs.Valid.{both_valid}
 use Rattle.types.proofs.RangeLemmas.{IsOfType-from_test}
-use Rattle.kernels.proofs.BesideLemmas.{beside_numbers, beside_size, fault_beside, kept_beside, number_fits, told_beside}
-use Rattle.kernels.proofs.ResultLemmas.{column_numbers, told, told_on, computed, AreOperands}
+use Rattle.kernels.proofs.BesideLemmas.{beside_numbers, beside_size, fault_beside, kept_beside, number_fits, reported_beside}
+use Rattle.kernels.proofs.ResultLemmas.{column_numbers, reported, reported_on, computed, AreOperands}
 use Rattle.kernels.proofs.arithmetic.computed_with.Goals as goal
 
 pub narrow-requires : goal.narrow-requires
@@ -24,20 +24,20 @@ returns-in_err-numbers-clause-err g c =
     let z = c.args.number in
     let b = number_beside a z in
     let x = number_at ty c.ints-x.result.values.now in
-    let held = g.T.Integer.value c.narrow.result in
-    let y : ℕ → ℤ = λ j. held in
+    let present = g.T.Integer.value c.narrow.result in
+    let y : ℕ → ℤ = λ j. present in
     let fits = number_fits ty a z c.requires.kind c.requires.has in
     let are : AreOperands ty x y a b = record {
       kind_a = c.requires.kind;
       kind_b = c.requires.kind;
       lengths = sym (beside_size a z);
       of_a = column_numbers ty c.ints-x.result.values.now a c.ints-x.ensures.values;
-      of_b = beside_numbers a z held (c.narrow.ensures ∙ to_z-of_z w128 z c.ranges.number);
+      of_b = beside_numbers a z present (c.narrow.ensures ∙ to_z-of_z w128 z c.ranges.number);
     } in
     let valid_is : c.bits_of.result ≡ kept (both_valid a b) = c.bits_of.ensures ∙ c.in_ok-validity.ensures ∙ kept_beside a z in
-    told_on c.from_residual-in_err-numbers.result (number_fault a z) (fault_with f a z) c.in_err-numbers.field-0.0 c.from_residual-in_err-numbers.ensures.1
-    (told_beside f a z c.in_err-numbers.field-0.0 fits
-    (told f ty x y a b c.bits_of.result c.ints-x.result.slots c.in_err-numbers.field-0.0 are valid_is c.ints-x.ensures.slots c.in_err-numbers.ensures.err))
+    reported_on c.from_residual-in_err-numbers.result (number_fault a z) (fault_with f a z) c.in_err-numbers.field-0.0 c.from_residual-in_err-numbers.ensures.1
+    (reported_beside f a z c.in_err-numbers.field-0.0 fits
+    (reported f ty x y a b c.bits_of.result c.ints-x.result.slots c.in_err-numbers.field-0.0 are valid_is c.ints-x.ensures.slots c.in_err-numbers.ensures.err))
 
 pub returns-clause-ok : goal.returns-clause-ok
 returns-clause-ok g c =
@@ -47,15 +47,15 @@ returns-clause-ok g c =
     let z = c.args.number in
     let b = number_beside a z in
     let x = number_at ty c.ints-x.result.values.now in
-    let held = g.T.Integer.value c.narrow.result in
-    let y : ℕ → ℤ = λ j. held in
+    let present = g.T.Integer.value c.narrow.result in
+    let y : ℕ → ℤ = λ j. present in
     let fits = number_fits ty a z c.requires.kind c.requires.has in
     let are : AreOperands ty x y a b = record {
       kind_a = c.requires.kind;
       kind_b = c.requires.kind;
       lengths = sym (beside_size a z);
       of_a = column_numbers ty c.ints-x.result.values.now a c.ints-x.ensures.values;
-      of_b = beside_numbers a z held (c.narrow.ensures ∙ to_z-of_z w128 z c.ranges.number);
+      of_b = beside_numbers a z present (c.narrow.ensures ∙ to_z-of_z w128 z c.ranges.number);
     } in
     let n = c.ints-x.result.slots in
     let valid = c.bits_of.result in

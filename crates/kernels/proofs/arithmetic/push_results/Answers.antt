@@ -3,8 +3,8 @@ use Rattle.std.proofs.lemmas.List.{append-nil}
 use Rattle.types.specs.Number.{IsOfType, is_of_type}
 use Rattle.types.proofs.RangeLemmas.{IsOfType-from_test}
 use Rattle.colbits.proofs.BitLemmas.{bits-zero}
-use Rattle.kernels.specs.Computed.{held_at, result_at}
-use Rattle.kernels.proofs.CheckedLemmas.{AreOutside-more, bytes_of_results-none, held, is_of_type-held_at, pushed_is, results_grown}
+use Rattle.kernels.specs.Computed.{result_or_zero, result_at}
+use Rattle.kernels.proofs.CheckedLemmas.{AreOutside-more, bytes_of_results-none, present, is_of_type-result_or_zero, pushed_is, results_grown}
 use Rattle.kernels.proofs.arithmetic.push_results.Goals as goal
 
 pub loop-j-init : goal.loop-j-init
@@ -23,8 +23,8 @@ push-requires g c =
     let exact = result_at g.O.Operation.exact (g.A.Side.number c.args.a.now) (g.B.Side.number c.args.b.now) in
     let j = c.args.start + c.loop-j.j in
     let number = c.exact_number-number in
-    let told = held ty exact j number.result number.ensures.some number.ensures.none in
-    subst (IsOfType ty) (sym (pushed_is ty exact j number.result c.unwrap_or.result told c.unwrap_or.ensures)) (IsOfType-from_test ty (held_at ty exact j) (is_of_type-held_at ty exact j))
+    let reported = present ty exact j number.result number.ensures.some number.ensures.none in
+    subst (IsOfType ty) (sym (pushed_is ty exact j number.result c.unwrap_or.result reported c.unwrap_or.ensures)) (IsOfType-from_test ty (result_or_zero ty exact j) (is_of_type-result_or_zero ty exact j))
 
 pub loop-j-preserved : goal.loop-j-preserved
 loop-j-preserved g c =
@@ -33,12 +33,12 @@ loop-j-preserved g c =
     let start = c.args.start in
     let j = c.loop-j.j in
     let number = c.exact_number-number in
-    let told = held ty exact (start + j) number.result number.ensures.some number.ensures.none in
+    let reported = present ty exact (start + j) number.result number.ensures.some number.ensures.none in
     record {
       numbers =
           results_grown ty exact start j c.args.numbers.now.items c.loop-j.numbers.items c.push.new.numbers.items _ c.loop-j.invariant.numbers c.in_ok-push.ensures.ok
-          (pushed_is ty exact (start + j) number.result c.unwrap_or.result told c.unwrap_or.ensures);
+          (pushed_is ty exact (start + j) number.result c.unwrap_or.result reported c.unwrap_or.ensures);
       outside =
-          AreOutside-more ty exact start j c.loop-j.outside c.from.result (is_some number.result) c.is_none.result (omega arith) c.from.ensures c.is_none.ensures told.outside
+          AreOutside-more ty exact start j c.loop-j.outside c.from.result (is_some number.result) c.is_none.result (omega arith) c.from.ensures c.is_none.ensures reported.outside
           c.loop-j.invariant.outside;
     }

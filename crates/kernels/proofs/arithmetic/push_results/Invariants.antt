@@ -2,7 +2,7 @@ use Rattle.std.proofs.Common.{◌≡◌, ◌++◌}
 use Rattle.kernels.specs.Computed.{AreOutside, bytes_of_results, result_at}
 use Rattle.kernels.proofs.arithmetic.push_results.Given as goal
 
--- the slots so far are told, and their results added
+-- the slots so far are reported, and their results added
 abbrev pub invariant-loop-j : goal.invariant-loop-j
 invariant-loop-j g l =
     let ty = g.T.Integer.ty in

@@ -15,8 +15,8 @@ returns-clause-ok c =
     let r = c.compute_with.result in
     let f = flipped ◌-ℤ◌ in
     let passed = subst (λ w. IfOk r (λ x. (fault_with f a w ≡ None) × (x ≡ shown a.kind (results f a.items (number_beside a w).items)))) (to_z-of_z w128 z c.ranges.number) c.compute_with.ensures.ok in
-    let told = subst (λ fault. IfOk r (λ x. (fault ≡ None) × (x ≡ shown a.kind (results f a.items (number_beside a z).items)))) (fault_flipped ◌-ℤ◌ a z) passed in
-    subst (λ items. IfOk r (λ x. (fault_from ◌-ℤ◌ z a ≡ None) × (x ≡ shown a.kind items))) (results_flipped ◌-ℤ◌ a z) told
+    let reported = subst (λ fault. IfOk r (λ x. (fault ≡ None) × (x ≡ shown a.kind (results f a.items (number_beside a z).items)))) (fault_flipped ◌-ℤ◌ a z) passed in
+    subst (λ items. IfOk r (λ x. (fault_from ◌-ℤ◌ z a ≡ None) × (x ≡ shown a.kind items))) (results_flipped ◌-ℤ◌ a z) reported
 
 pub returns-clause-err : goal.returns-clause-err
 returns-clause-err c =

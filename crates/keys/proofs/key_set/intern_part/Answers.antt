@@ -11,9 +11,9 @@ returns-clause-keys c =
     let ts = c.args.texts.now in
     let W = IsWithin (length ts) in
     let p = c.args.part in
-    let held = All-cons W p [] c.requires.named (All-nil W) in
+    let all_within = All-cons W p [] c.requires.named (All-nil W) in
     on_ok_weaker c.place_of_part.result
-    (keys_inserted ts c.each_once.ensures (parts_shown c.args.keys.now) (parts_shown c.place_of_part.new.self) (p ∷ []) held c.requires.within)
+    (keys_inserted ts c.each_once.ensures (parts_shown c.args.keys.now) (parts_shown c.place_of_part.new.self) (p ∷ []) all_within c.requires.within)
     c.place_of_part.ensures.keys
 
 pub returns-clause-id : goal.returns-clause-id

@@ -1,6 +1,6 @@
 use Rattle.std.proofs.Common.{◌∙◌, ap, get_or, sym, take}
 use Rattle.shared.specs.Left.{Left}
-use Rattle.loads.proofs.ToldLemmas.{least_more, least_same}
+use Rattle.loads.proofs.ReportLemmas.{least_more, least_same}
 use Rattle.loads.proofs.outcomes.least_stop.Goals as goal
 use Rattle.loads.proofs.outcomes.least_stop.Goals.{in-Some, in_default}
 

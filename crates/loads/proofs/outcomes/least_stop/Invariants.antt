@@ -1,5 +1,5 @@
 use Rattle.std.proofs.Common.{take}
-use Rattle.loads.specs.Told.{IsLeastStop}
+use Rattle.loads.specs.Report.{IsLeastStop}
 use Rattle.loads.proofs.outcomes.least_stop.Given as goal
 
 abbrev pub invariant-loop-outcome : goal.invariant-loop-outcome

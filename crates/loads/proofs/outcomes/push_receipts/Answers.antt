@@ -2,7 +2,7 @@ use Rattle.std.proofs.Common.{◌∙◌, ◌++◌, ◌∷◌, [], Some, ap, arit
 use Rattle.std.specs.Prelude.{option_map}
 use Rattle.shared.specs.Left.{Left}
 use Rattle.shared.specs.Known.{Known}
-use Rattle.loads.proofs.ToldLemmas.{pushed_items, receipt_more, receipts_same}
+use Rattle.loads.proofs.ReportLemmas.{pushed_items, receipt_more, receipts_same}
 use Rattle.loads.proofs.outcomes.push_receipts.Goals as goal
 use Rattle.loads.proofs.outcomes.push_receipts.Goals.{in-Some, in_default}
 

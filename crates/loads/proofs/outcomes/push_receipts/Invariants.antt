@@ -1,5 +1,5 @@
 use Rattle.std.proofs.Common.{◌≡◌, ◌+◌, ◌≤◌, ◌++◌, length, take, vec_capacity, vec_len}
-use Rattle.loads.specs.Told.{last_receipts}
+use Rattle.loads.specs.Report.{last_receipts}
 use Rattle.loads.proofs.outcomes.push_receipts.Given as goal
 
 abbrev pub invariant-loop-outcome : goal.invariant-loop-outcome

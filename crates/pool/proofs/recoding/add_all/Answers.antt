@@ -6,7 +6,7 @@ use Rattle.arrays.specs.Slot.{item_of}
 use Rattle.pool.specs.Places.{AreKnown, with_item}
 use Rattle.pool.specs.Texts.{firsts, texts_of}
 use Rattle.pool.proofs.PrefixLemmas.{prefix_take}
-use Rattle.pool.proofs.RecodeLemmas.{Recoded-none, Recoded-item, pool-item, full_in_all, told_of_all, begins_as_before}
+use Rattle.pool.proofs.RecodeLemmas.{Recoded-none, Recoded-item, pool-item, full_in_all, reported_of_all, begins_as_before}
 use Rattle.pool.proofs.recoding.add_all.Goals as goal
 
 pub loop-i-init : goal.loop-i-init
@@ -22,7 +22,7 @@ returns-in_err-place-clause-err c =
     let i = c.loop-i.i in
     let x = slice_index_or items i null in
     let at : slice_get items i ≡ Some x = slice_get-get_or items i null (omega (arith, c.loop-i-test.true, c.slots-slots.ensures.count)) in
-    told_of_all c.from_residual-in_err-place.result c.in_err-place.field-0.0 (with_item c.loop-i.pool x) (firsts (old ++ texts_of items))
+    reported_of_all c.from_residual-in_err-place.result c.in_err-place.field-0.0 (with_item c.loop-i.pool x) (firsts (old ++ texts_of items))
     c.from_residual-in_err-place.ensures.1 (elim c.in_err-place.ensures.fault [ inl h ↦ inl h | inr h ↦ inr h.0 ])
     (full_in_all old items i x c.loop-i.pool at c.loop-i.invariant.recoded.pool_is)
 

@@ -2,7 +2,7 @@ use Rattle.std.proofs.Common.{◌++◌, ◌∙◌, length, refl, ap}
 use Rattle.std.proofs.lemmas.Option.{slice_get_read}
 use Rattle.pool.specs.Texts.{firsts, texts_of, is_too_full}
 use Rattle.pool.specs.Unified.{all_texts}
-use Rattle.pool.proofs.RecodeLemmas.{told_of_all}
+use Rattle.pool.proofs.RecodeLemmas.{reported_of_all}
 use Rattle.pool.proofs.UnifyLemmas.{Unified-view, full_in_views}
 use Rattle.pool.proofs.unifying.recode_all.Goals as goal
 
@@ -13,7 +13,7 @@ returns-in_err-column-clause-err c =
     let v = c.view-item.result in
     let pool = c.loop-view.pool in
     let at = slice_get_read views (length views) i v refl c.loop-view-test.true c.view-item.is in
-    told_of_all c.from_residual-in_err-column.result c.in_err-column.field-0.0 (firsts (pool ++ texts_of v.items)) (all_texts views)
+    reported_of_all c.from_residual-in_err-column.result c.in_err-column.field-0.0 (firsts (pool ++ texts_of v.items)) (all_texts views)
     c.from_residual-in_err-column.ensures.1 c.in_err-column.ensures.err
     (full_in_views views i v pool at c.loop-view.invariant.pool_is)
 

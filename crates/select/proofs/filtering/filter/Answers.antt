@@ -17,4 +17,4 @@ returns-clause-err c =
     let mask = c.args.mask.now in
     let same : length mask.items ≡ length s.items = omega (arith, c.len.ensures, c.len-2.ensures, c.if-len.false) in
     let none = filter_fault-none s mask (sym c.in-Bool.ensures) same in
-    IfErr-weaker c.keep_true.result _ _ (λ e told. elim told [ inl h ↦ inr (inr (h.0, (none, h.1))) | inr h ↦ inr (inl (h, none)) ]) c.keep_true.ensures.err
+    IfErr-weaker c.keep_true.result _ _ (λ e reported. elim reported [ inl h ↦ inr (inr (h.0, (none, h.1))) | inr h ↦ inr (inl (h, none)) ]) c.keep_true.ensures.err

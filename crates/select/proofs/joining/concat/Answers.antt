@@ -30,7 +30,7 @@ returns-in-Some-clause-err c =
     let first = first-kind views c.index-views-0.result c.requires c.index-views-0.is ∙ sym c.ty-ty.ensures in
     let none = fault-of views k true first c.if-not-are_of.ensures in
     IfErr-weaker c.join.result _ _
-    (λ e told. elim told [
+    (λ e reported. elim reported [
       | inl h ↦ inr (inr (h.0, (none, ap (λ k. is_joined_too_big k views) first ∙ or-right (is_past (length (joined_items views))) (is_content_too_big k views) h.1)))
       | inr h ↦ inr (inl (h, none))
     ])

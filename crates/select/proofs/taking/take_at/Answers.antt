@@ -22,7 +22,7 @@ returns-clause-err g c =
     let indices = c.args.indices.now in
     let none = take_fault-int s indices g.T.Integer.ty c.requires ∙ ap (λ n. option_map (λ row. IndexOutOfRange row) (outside n indices.items)) (sym c.slots.ensures.count) ∙ ap (option_map (λ row. IndexOutOfRange row)) c.in_ok-rows.ensures.inside in
     IfErr-weaker c.gather.result _ _
-    (λ e told. elim told [
+    (λ e reported. elim reported [
       | inl h ↦ inr (inr (h.0, (none, ap (is_too_big s.kind) (sym (c.in_ok-rows.ensures.rows s.items)) ∙ h.1)))
       | inr h ↦ inr (inl (h, indices_fault-int indices g.T.Integer.ty c.requires))
     ])

@@ -10,37 +10,37 @@ use Rattle.arrays.specs.Typed.{IsItemOf}
 use Rattle.group.specs.declared.stats.ColumnStats.{ColumnStats}
 use Rattle.table.specs.Cause.{batch_cause}
 use Rattle.group.specs.Columns.{AreJoined}
-use Rattle.table.specs.Held.{show}
+use Rattle.table.specs.Storage.{show}
 use Rattle.table.specs.Recoded.{full_cause}
 use Rattle.table.proofs.KeptLemmas.{IsFew}
-use Rattle.table.proofs.ReadyLemmas.{told, full-batch, pools-count, pools-dictionaries, pools-grown, ready, stats-count, stats-few, stored-lawful}
+use Rattle.table.proofs.ReadyLemmas.{reported, full-batch, pools-count, pools-dictionaries, pools-grown, ready, stats-count, stats-few, stored-lawful}
 use Rattle.table.proofs.admission.recoded.Goals as goal
 
 pub stored_columns-requires-clause-count : goal.stored_columns-requires-clause-count
 stored_columns-requires-clause-count c =
-    pools-count c.args.held.now c.args.batch.now c.requires.held c.requires.allowed c.columns.ensures.lawful
+    pools-count c.args.storage.now c.args.batch.now c.requires.storage c.requires.allowed c.columns.ensures.lawful
     (subst (All (λ (d : Seen). All (IsItemOf d.kind) d.items)) c.columns.ensures.value c.tell_all.ensures)
     c.args.pools.now.items c.requires.pools c.columns-2.result.now c.columns-2.ensures.value
 
 pub stored_columns-requires-clause-dictionaries : goal.stored_columns-requires-clause-dictionaries
 stored_columns-requires-clause-dictionaries c =
     ap (map (option_map arc_value)) c.deref.ensures.value
-    ∙ pools-dictionaries c.args.held.now c.args.batch.now c.requires.held c.requires.allowed c.columns.ensures.lawful
+    ∙ pools-dictionaries c.args.storage.now c.args.batch.now c.requires.storage c.requires.allowed c.columns.ensures.lawful
     (subst (All (λ (d : Seen). All (IsItemOf d.kind) d.items)) c.columns.ensures.value c.tell_all.ensures)
     c.args.pools.now.items c.requires.pools c.columns-2.result.now c.columns-2.ensures.value
 
 pub returns-in_err-columns-clause-err : goal.returns-in_err-columns-clause-err
 returns-in_err-columns-clause-err c =
-    told c.from_residual.result c.in_err-columns.field-0.0 (full_cause c.args.pools.now.items c.columns-2.result.now)
-    (batch_cause (arc_value c.args.held.now.schema) (show c.args.held.now).history c.args.batch.now) c.from_residual.ensures.1 c.in_err-columns.ensures.err
-    (full-batch c.args.held.now c.args.batch.now c.requires.held c.requires.allowed c.columns.ensures.lawful
+    reported c.from_residual.result c.in_err-columns.field-0.0 (full_cause c.args.pools.now.items c.columns-2.result.now)
+    (batch_cause (arc_value c.args.storage.now.schema) (show c.args.storage.now).history c.args.batch.now) c.from_residual.ensures.1 c.in_err-columns.ensures.err
+    (full-batch c.args.storage.now c.args.batch.now c.requires.storage c.requires.allowed c.columns.ensures.lawful
     (subst (All (λ (d : Seen). All (IsItemOf d.kind) d.items)) c.columns.ensures.value c.tell_all.ensures)
     c.args.pools.now.items c.requires.pools c.columns-2.result.now c.columns-2.ensures.value)
 
 pub joined_all-requires-clause-count : goal.joined_all-requires-clause-count
 joined_all-requires-clause-count c =
     ap (λ (l : List ColumnStats). length l) (c.deref-5.ensures.value ∙ ap (λ (v : Vec ColumnStats Global). v.items) c.deref-4.ensures)
-    ∙ stats-count c.args.held.now c.args.batch.now c.requires.held c.requires.allowed c.columns.ensures.lawful
+    ∙ stats-count c.args.storage.now c.args.batch.now c.requires.storage c.requires.allowed c.columns.ensures.lawful
     (subst (All (λ (d : Seen). All (IsItemOf d.kind) d.items)) c.columns.ensures.value c.tell_all.ensures)
     c.args.pools.now.items c.requires.pools c.columns-2.result.now c.columns-2.ensures.value
     (arc_value c.args.batch_stats).items c.requires.stats
@@ -50,8 +50,8 @@ joined_all-requires-clause-count c =
 pub joined_all-requires-clause-few : goal.joined_all-requires-clause-few
 joined_all-requires-clause-few c =
     subst (λ (l : List ColumnStats). AllZip IsFew l c.deref-5.result.now) (ap (λ (v : Vec ColumnStats Global). v.items) (sym c.deref-2.ensures) ∙ sym c.deref-3.ensures.value)
-    (subst (λ (l : List ColumnStats). AllZip IsFew (arc_value c.args.held.now.stats).items l) (ap (λ (v : Vec ColumnStats Global). v.items) (sym c.deref-4.ensures) ∙ sym c.deref-5.ensures.value)
-    (stats-few c.args.held.now c.args.batch.now c.requires.held c.requires.allowed c.columns.ensures.lawful
+    (subst (λ (l : List ColumnStats). AllZip IsFew (arc_value c.args.storage.now.stats).items l) (ap (λ (v : Vec ColumnStats Global). v.items) (sym c.deref-4.ensures) ∙ sym c.deref-5.ensures.value)
+    (stats-few c.args.storage.now c.args.batch.now c.requires.storage c.requires.allowed c.columns.ensures.lawful
     (subst (All (λ (d : Seen). All (IsItemOf d.kind) d.items)) c.columns.ensures.value c.tell_all.ensures)
     c.args.pools.now.items c.requires.pools c.columns-2.result.now c.columns-2.ensures.value
     (arc_value c.args.batch_stats).items c.requires.stats))
@@ -60,16 +60,16 @@ pub under-batch-requires : goal.under-batch-requires
 under-batch-requires c =
     let columns = c.in_ok-columns.field-0.columns.items in
     ap (λ (f : List FieldShape). batch_fault f c.rows.result columns) c.in_ok-clone.ensures.cases
-    ∙ ap (λ n. batch_fault (arc_value c.args.held.now.schema) n columns) c.rows.ensures
-    ∙ ap (λ (l : List Seen). batch_fault (arc_value c.args.held.now.schema) c.args.batch.now.rows l) c.in_ok-columns.ensures.columns
-    ∙ stored-lawful c.args.held.now c.args.batch.now c.requires.held c.requires.allowed c.columns.ensures.lawful
+    ∙ ap (λ n. batch_fault (arc_value c.args.storage.now.schema) n columns) c.rows.ensures
+    ∙ ap (λ (l : List Seen). batch_fault (arc_value c.args.storage.now.schema) c.args.batch.now.rows l) c.in_ok-columns.ensures.columns
+    ∙ stored-lawful c.args.storage.now c.args.batch.now c.requires.storage c.requires.allowed c.columns.ensures.lawful
     (subst (All (λ (d : Seen). All (IsItemOf d.kind) d.items)) c.columns.ensures.value c.tell_all.ensures)
     c.args.pools.now.items c.requires.pools c.columns-2.result.now c.columns-2.ensures.value
 
 pub returns-clause-ok : goal.returns-clause-ok
 returns-clause-ok c =
     let batch = c.in_ok-new.ensures.ok ∙ c.under-batch.ensures in
-    ready c.args.held.now c.args.batch.now c.requires.held c.requires.allowed c.columns.ensures.lawful
+    ready c.args.storage.now c.args.batch.now c.requires.storage c.requires.allowed c.columns.ensures.lawful
     (subst (All (λ (d : Seen). All (IsItemOf d.kind) d.items)) c.columns.ensures.value c.tell_all.ensures)
     c.args.pools.now.items c.requires.pools c.columns-2.result.now c.columns-2.ensures.value
     (record { batch = c.in_ok-new.field-0; batch_stats = c.args.batch_stats; stats = c.in_ok-new-2.field-0; dictionaries = c.in_ok-columns.field-0.dictionaries })
@@ -79,12 +79,12 @@ returns-clause-ok c =
     (ap (λ (b : Batch). b.columns) batch ∙ c.in_ok-columns.ensures.columns)
     c.in_ok-columns.ensures.dictionaries
     c.requires.stats
-    (subst (λ (v : Vec ColumnStats Global). AreJoined (arc_value c.args.held.now.stats).items (arc_value c.args.batch_stats).items v.items) (sym c.in_ok-new-2.ensures.ok)
-    (subst (λ (l : List ColumnStats). AreJoined (arc_value c.args.held.now.stats).items l c.in_ok-stats.stats.items) (c.deref-5.ensures.value ∙ ap (λ (v : Vec ColumnStats Global). v.items) c.deref-4.ensures)
+    (subst (λ (v : Vec ColumnStats Global). AreJoined (arc_value c.args.storage.now.stats).items (arc_value c.args.batch_stats).items v.items) (sym c.in_ok-new-2.ensures.ok)
+    (subst (λ (l : List ColumnStats). AreJoined (arc_value c.args.storage.now.stats).items l c.in_ok-stats.stats.items) (c.deref-5.ensures.value ∙ ap (λ (v : Vec ColumnStats Global). v.items) c.deref-4.ensures)
     (subst (λ (l : List ColumnStats). AreJoined l c.deref-5.result.now c.in_ok-stats.stats.items)
     (c.deref-3.ensures.value ∙ ap (λ (v : Vec ColumnStats Global). v.items) c.deref-2.ensures) c.in_ok-stats.ensures)))
 
 pub returns-clause-pools : goal.returns-clause-pools
-returns-clause-pools c = c.in_ok-columns.ensures.pools ∙ pools-grown c.args.held.now c.args.batch.now c.requires.held c.requires.allowed c.columns.ensures.lawful
+returns-clause-pools c = c.in_ok-columns.ensures.pools ∙ pools-grown c.args.storage.now c.args.batch.now c.requires.storage c.requires.allowed c.columns.ensures.lawful
     (subst (All (λ (d : Seen). All (IsItemOf d.kind) d.items)) c.columns.ensures.value c.tell_all.ensures)
     c.args.pools.now.items c.requires.pools c.columns-2.result.now c.columns-2.ensures.value

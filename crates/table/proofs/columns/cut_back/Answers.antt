@@ -3,7 +3,7 @@ use Rattle.std.specs.List.{zip}
 use Rattle.std.proofs.lemmas.Option.{slice_get_read}
 use Rattle.std.proofs.lemmas.Slice.Zip.{get_or-zip, length-zip}
 use Rattle.table.specs.Recoded.{entry_count, shortened}
-use Rattle.table.proofs.HeldLemmas.{all_zip-at}
+use Rattle.table.proofs.StorageLemmas.{all_zip-at}
 use Rattle.table.proofs.RecodedLemmas.{Written-all, Written-length, Written-more, Written-read}
 use Rattle.table.proofs.columns.cut_back.Goals as goal
 

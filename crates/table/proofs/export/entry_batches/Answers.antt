@@ -4,14 +4,14 @@ use Rattle.std.proofs.lemmas.List.Elements.{All-push}
 use Rattle.std.specs.Arc.{arc_value}
 use Rattle.arrays.specs.Batch.{Table, rows_of}
 use Rattle.table.specs.Export.{IsUnder}
-use Rattle.table.specs.Held.{show}
+use Rattle.table.specs.Storage.{show}
 use Rattle.table.specs.declared.entry.Entry.{Entry}
 use Rattle.table.proofs.ExportLemmas.{Shared, lies, tables-all}
 use Rattle.table.proofs.export.entry_batches.Goals as goal
 
 pub part_of-requires : goal.part_of-requires
 part_of-requires c =
-    let h = c.args.held.now in
+    let h = c.args.storage.now in
     let k = c.loop-entry.entry-index in
     let entries = c.deref-entry-items.result.now in
     let p = c.in_batch-batch.result in
@@ -23,7 +23,7 @@ part_of-requires c =
 
 pub overflow_add-place : goal.overflow_add-place
 overflow_add-place c =
-    let h = c.args.held.now in
+    let h = c.args.storage.now in
     let k = c.loop-entry.entry-index in
     let entries = c.deref-entry-items.result.now in
     let p = c.in_batch-batch.result in
@@ -35,7 +35,7 @@ overflow_add-place c =
 
 pub loop-entry-preserved : goal.loop-entry-preserved
 loop-entry-preserved c =
-    let h = c.args.held.now in
+    let h = c.args.storage.now in
     let k = c.loop-entry.entry-index in
     let entries = c.deref-entry-items.result.now in
     let p = c.in_batch-batch.result in
@@ -60,4 +60,4 @@ loop-entry-preserved c =
 pub returns-clause-tables : goal.returns-clause-tables
 returns-clause-tables c =
     c.loop-entry.invariant.0
-    ∙ tables-all c.args.held.now c.loop-entry.entry-index (omega (arith, c.loop-entry-test.false, ap (λ (l : List Entry). length l) c.deref-entry-items.ensures.value))
+    ∙ tables-all c.args.storage.now c.loop-entry.entry-index (omega (arith, c.loop-entry-test.false, ap (λ (l : List Entry). length l) c.deref-entry-items.ensures.value))

@@ -4,15 +4,15 @@ use Rattle.std.specs.declared.alloc.Global.{Global}
 use Rattle.std.specs.declared.sync.Arc.{Arc}
 use Rattle.arrays.specs.Batch.{Batch, Table, rows_of}
 use Rattle.table.specs.Export.{IsPlace, IsUnder, passed}
-use Rattle.table.specs.Held.{batches_of, book_of, show}
+use Rattle.table.specs.Storage.{batches_of, book_of, show}
 use Rattle.table.specs.Lawful.{counted}
 use Rattle.table.proofs.export.entry_batches.Given as goal
 
 -- the batches so far are those of the first entries, and the place is behind them
 abbrev pub invariant-loop-entry : goal.invariant-loop-entry
 invariant-loop-entry l =
-    (map (λ (b : Arc Batch Global). rows_of (arc_value b)) l.batches.items ≡ take l.entry-index (map (λ (e : ℕ × Table). e.1) (show l.held).history))
-    × All (λ (b : Arc Batch Global). IsUnder (show l.held).fields (arc_value b)) l.batches.items
-    × (passed (batches_of l.held) l.place ≡ counted (take l.entry-index (book_of l.held)))
-    × IsPlace (batches_of l.held) l.place
-    × (l.place.batch ≤ length l.held.batches.items - 1)
+    (map (λ (b : Arc Batch Global). rows_of (arc_value b)) l.batches.items ≡ take l.entry-index (map (λ (e : ℕ × Table). e.1) (show l.storage).history))
+    × All (λ (b : Arc Batch Global). IsUnder (show l.storage).fields (arc_value b)) l.batches.items
+    × (passed (batches_of l.storage) l.place ≡ counted (take l.entry-index (book_of l.storage)))
+    × IsPlace (batches_of l.storage) l.place
+    × (l.place.batch ≤ length l.storage.batches.items - 1)

@@ -5,7 +5,7 @@ use Rattle.std.specs.List.{AllByRecursion}
 use Rattle.arrays.specs.Batch.{Batch, rows_of}
 use Rattle.arrays.specs.File.{File}
 use Rattle.arrays.specs.Shape.{FieldShape}
-use Rattle.table.specs.Held.{show}
+use Rattle.table.specs.Storage.{show}
 use Rattle.table.specs.Export.{IsLawful, IsUnder}
 use Rattle.table.proofs.ExportLemmas.{Shared, are-batches, are-lawful, are-under}
 use Rattle.table.proofs.export.file_of.Goals as goal
@@ -32,4 +32,4 @@ returns-clause-under c =
 pub returns-clause-lawful : goal.returns-clause-lawful
 returns-clause-lawful c =
     subst (λ (f : File). AllByRecursion IsLawful f.batches) (sym c.new.ensures)
-    (are-lawful (show c.args.held.now).fields c.in_ok-batches.batches.items c.in_ok-batches.ensures.under)
+    (are-lawful (show c.args.storage.now).fields c.in_ok-batches.batches.items c.in_ok-batches.ensures.under)

@@ -3,12 +3,12 @@ use Rattle.arrays.specs.Kind.{Kind, depth, has_dict_in_list}
 use Rattle.arrays.specs.Shape.{FieldShape, field_of, is_nullable, kind_of_field}
 use Rattle.types.proofs.ShapeLemmas.{kind_of_field-field_of}
 use Rattle.table.specs.Contents.{Contents}
-use Rattle.table.specs.Held.{show}
+use Rattle.table.specs.Storage.{show}
 use Rattle.table.specs.Widened.{with_field}
-use Rattle.table.specs.declared.held.Held.{Held}
+use Rattle.table.specs.declared.storage.Storage.{Storage}
 use Rattle.table.proofs.AddLemmas.{fits-stored}
 use Rattle.table.proofs.PutLemmas.{if-ok}
-use Rattle.table.proofs.WiderLemmas.{wider-held, wider-shows}
+use Rattle.table.proofs.WiderLemmas.{wider-storage, wider-shows}
 use Rattle.table.proofs.widening.stage.Goals as goal
 
 pub wider-requires-clause-depth : goal.wider-requires-clause-depth
@@ -23,16 +23,16 @@ wider-requires-clause-no_dict c =
 
 pub returns-clause-lawful : goal.returns-clause-lawful
 returns-clause-lawful c =
-    let held = c.args.held.now in
+    let storage = c.args.storage.now in
     let f = field_of c.in_ok-field.field in
     let fits = fits-stored (field_of c.args.field.now) c.requires.allowed in
     let nullable : is_nullable f ≡ true = ap is_nullable c.in_ok-field.ensures ∙ fits.nullable in
-    if-ok (λ (h : Held) wide. wider-held held h f nullable c.requires.held wide) c.wider.result c.wider.ensures
+    if-ok (λ (h : Storage) wide. wider-storage storage h f nullable c.requires.storage wide) c.wider.result c.wider.ensures
 
 pub returns-clause-shows : goal.returns-clause-shows
 returns-clause-shows c =
-    let held = c.args.held.now in
+    let storage = c.args.storage.now in
     let f = field_of c.in_ok-field.field in
     let fits = fits-stored (field_of c.args.field.now) c.requires.allowed in
     let nullable : is_nullable f ≡ true = ap is_nullable c.in_ok-field.ensures ∙ fits.nullable in
-    if-ok (λ (h : Held) wide. ◌∙◌ {A = Contents} (wider-shows held h f nullable c.requires.held wide) (ap (λ (g : FieldShape). with_field (show held) g) c.in_ok-field.ensures)) c.wider.result c.wider.ensures
+    if-ok (λ (h : Storage) wide. ◌∙◌ {A = Contents} (wider-shows storage h f nullable c.requires.storage wide) (ap (λ (g : FieldShape). with_field (show storage) g) c.in_ok-field.ensures)) c.wider.result c.wider.ensures

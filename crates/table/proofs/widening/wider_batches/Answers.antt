@@ -4,7 +4,7 @@ use Rattle.std.specs.declared.alloc.Global.{Global}
 use Rattle.std.specs.declared.sync.Arc.{Arc}
 use Rattle.arrays.specs.Batch.{Batch}
 use Rattle.arrays.specs.Shape.{field_of}
-use Rattle.table.proofs.HeldLemmas.{all-of-map}
+use Rattle.table.proofs.StorageLemmas.{all-of-map}
 use Rattle.table.proofs.widening.wider_batches.Goals as goal
 
 pub wider_batch-requires-clause-under : goal.wider_batch-requires-clause-under

@@ -3,7 +3,7 @@
 use super::Place::{InLists, InNulls, Top};
 use super::forms::Form::{Alone, Lists, Over, Truths, Words};
 use super::{Group, INT8, INT64, expect};
-use crate::layouts::Held::{Bytes, Int32s, Nothing, Offsets};
+use crate::layouts::Content::{Bytes, Int32s, Nothing, Offsets};
 use crate::layouts::Inner::{Indices, Texts};
 use crate::layouts::Part;
 use arrays::LayoutFault::{ChildDiffers, OffsetPastEnd, TooDeep};

@@ -3,7 +3,7 @@
 use super::Place::{Entries, InLists, InNulls, Top};
 use super::forms::Form::{Alone, Codes, Over, Values};
 use super::{Group, INT8, expect, expect_at};
-use crate::layouts::Held::{self, Bytes, Int32s, Nothing, Offsets};
+use crate::layouts::Content::{self, Bytes, Int32s, Nothing, Offsets};
 use crate::layouts::Inner::{Bits, Indices, Texts};
 use crate::layouts::{LONGER, Part};
 use arrays::LayoutFault::{
@@ -13,7 +13,7 @@ use arrays::OffsetWidth;
 use std::test::Fail;
 use test_samples::{NARROW, WIDTHS};
 
-const EMPTY: Held = Bytes(&[]);
+const EMPTY: Content = Bytes(&[]);
 
 const TEXTS: Part = (0, Texts, 0, None, &[EMPTY; 3]);
 

@@ -1,6 +1,6 @@
-//! Parts of arrays, each told in a line.
+//! Parts of arrays, each given in a line.
 
-use crate::layouts::Held::{Int32s, Nothing, Offsets};
+use crate::layouts::Content::{Int32s, Nothing, Offsets};
 use crate::layouts::{Inner, Part, assembled, buffer, parts};
 use Form::{Alone, Codes, Lists, Over, Truths, Values, Words};
 use arrays::{DataType, OffsetWidth, RawArray};

@@ -2,7 +2,7 @@
 
 use super::forms::Form::{Alone, Lists, Words};
 use super::{ANYWHERE, Group, OF_LISTS, expect_at};
-use crate::layouts::Held::{self, Bytes, Cut, Nothing};
+use crate::layouts::Content::{self, Bytes, Cut, Nothing};
 use crate::layouts::Inner::Texts;
 use arrays::LayoutFault::{
     BufferTooShort, MissingBuffer, OffsetDecreases, OffsetNegative, OffsetPastEnd, TooLong,
@@ -11,7 +11,7 @@ use arrays::{DataType, OffsetWidth, validate};
 use std::test::Fail;
 use test_samples::{Positions, Shown, WIDTHS, has_width, raw, shows};
 
-const EMPTY: Held = Bytes(&[]);
+const EMPTY: Content = Bytes(&[]);
 
 const TEXTS: &[Group] = &[
     (

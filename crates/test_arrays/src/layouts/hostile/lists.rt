@@ -3,7 +3,7 @@
 use super::Place::{InLists, InNulls, Top};
 use super::forms::Form::{self, Lists, Over, Words};
 use super::{Group, INT8, INT64, LEAST_NARROW, MOST_NARROW, OF_LISTS, expect};
-use crate::layouts::Held::{self, Bytes, Cut, Nothing, Offsets};
+use crate::layouts::Content::{self, Bytes, Cut, Nothing, Offsets};
 use crate::layouts::Inner::{self, Bits, Indices, Numbers, Texts};
 use crate::layouts::{Part, parts};
 use arrays::LayoutFault::{
@@ -15,7 +15,7 @@ use std::alloc::Global;
 use std::test::Fail;
 use test_samples::{WIDTHS, Widths};
 
-const EMPTY: Held = Bytes(&[]);
+const EMPTY: Content = Bytes(&[]);
 
 const NUMBERS: Part = (0, INT8, 0, None, &[Nothing, EMPTY]);
 
@@ -337,7 +337,7 @@ fn lists_have_the_one_child_of_their_items(rt: HostRuntime) -> Result<(), Fail> 
     )
 }
 
-const ONE_ITEM: &[Held] = &[Nothing, Offsets(&[0, 1])];
+const ONE_ITEM: &[Content] = &[Nothing, Offsets(&[0, 1])];
 
 /// A list of a list of truth values, and of a text: the type of its items, and the item.
 const OF_LISTS_AND_TEXTS: &[(usize, Inner, Form)] = &[
@@ -358,7 +358,7 @@ fn child_fault(
 }
 
 /// Whether a child is lawful where its width is that of the items alone.
-fn is_told(
+fn is_reported(
     alloc: Global,
     widths: Widths,
     others: Widths,
@@ -375,8 +375,8 @@ fn the_child_has_the_width_of_the_items(rt: HostRuntime) -> Result<(), Fail> {
     for widths in WIDTHS {
         for others in WIDTHS {
             for case in OF_LISTS_AND_TEXTS {
-                let is_told = is_told(rt.alloc(), widths, others, *case)?;
-                assert!(rt; is_told, "{widths:?} over {others:?}");
+                let is_reported = is_reported(rt.alloc(), widths, others, *case)?;
+                assert!(rt; is_reported, "{widths:?} over {others:?}");
             }
         }
     }

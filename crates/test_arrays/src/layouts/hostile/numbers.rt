@@ -2,7 +2,7 @@
 
 use super::forms::Form::{Alone, Over, Values};
 use super::{ANYWHERE, Group, INT8, INT64, expect};
-use crate::layouts::Held::{Bytes, Nothing, Offsets};
+use crate::layouts::Content::{Bytes, Nothing, Offsets};
 use crate::layouts::Inner::{self, Bits, Numbers, Texts};
 use crate::layouts::{LONGER, Part, UNSIGNED};
 use arrays::LayoutFault::{BufferTooShort, ChildDiffers, ExtraBuffer, MissingBuffer};

@@ -1,9 +1,9 @@
-//! Arrays with several faults, of which the first is told, and arrays without that one.
+//! Arrays with several faults, of which the first is reported, and arrays without that one.
 
 use super::Place::Top;
 use super::forms::Form::{Alone, Over, Values, Words};
 use super::{ANYWHERE, Group, INT8, OF_LISTS, expect, expect_at, expect_texts};
-use crate::layouts::Held::{self, Bytes, Int32s, Nothing, Offsets};
+use crate::layouts::Content::{self, Bytes, Int32s, Nothing, Offsets};
 use crate::layouts::Inner::{Bits, Indices, Texts};
 use crate::layouts::Part;
 use arrays::LayoutFault::{
@@ -13,9 +13,9 @@ use arrays::LayoutFault::{
 use std::test::Fail;
 use test_samples::NARROW;
 
-const EMPTY: Held = Bytes(&[]);
+const EMPTY: Content = Bytes(&[]);
 
-const SEVEN: Held = Bytes(&[7]);
+const SEVEN: Content = Bytes(&[7]);
 
 const NUMBERS: &[Group] = &[
     (
@@ -321,13 +321,13 @@ const CODES: &[Group] = &[
 ];
 
 #[test]
-fn the_first_of_several_faults_is_told(rt: HostRuntime) -> Result<(), Fail> {
+fn the_first_of_several_faults_is_reported(rt: HostRuntime) -> Result<(), Fail> {
     expect(&rt, rt.alloc(), ANYWHERE, NUMBERS)?;
     expect_texts(&rt, rt.alloc(), TEXTS)
 }
 
 #[test]
-fn the_fault_above_is_told_first(rt: HostRuntime) -> Result<(), Fail> {
+fn the_fault_above_is_reported_first(rt: HostRuntime) -> Result<(), Fail> {
     expect(&rt, rt.alloc(), OF_LISTS, LISTS)?;
     expect_at(&rt, rt.alloc(), NARROW, &[Top], CODES)
 }

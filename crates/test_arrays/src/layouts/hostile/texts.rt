@@ -2,7 +2,7 @@
 
 use super::forms::Form::{Alone, Over, Words};
 use super::{Group, INT8, LEAST_NARROW, MOST_NARROW, expect_texts};
-use crate::layouts::Held::{self, Bytes, Cut, Nothing, Offsets};
+use crate::layouts::Content::{self, Bytes, Cut, Nothing, Offsets};
 use crate::layouts::Inner::Texts;
 use crate::layouts::Part;
 use arrays::LayoutFault::{
@@ -11,7 +11,7 @@ use arrays::LayoutFault::{
 };
 use std::test::Fail;
 
-const EMPTY: Held = Bytes(&[]);
+const EMPTY: Content = Bytes(&[]);
 
 const POSITIONS: &[Group] = &[
     (

@@ -2,7 +2,7 @@
 
 use super::forms::Form::{Alone, Truths, Words};
 use super::{ANYWHERE, Group, INT8, expect, expect_texts};
-use crate::layouts::Held::{Bytes, Nothing, Offsets};
+use crate::layouts::Content::{Bytes, Nothing, Offsets};
 use crate::layouts::Inner::Texts;
 use arrays::LayoutFault::{BufferTooShort, NullCountDiffers};
 use std::test::Fail;

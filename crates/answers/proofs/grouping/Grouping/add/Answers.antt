@@ -2,7 +2,7 @@ use Rattle.std.proofs.Common.{◌≡◌, ◌∙◌, ◌<◌, ◌≤◌, ◌^◌,
 use Rattle.std.specs.Prelude.{All}
 use Rattle.std.proofs.lemmas.List.{length-map}
 use Rattle.arrays.specs.Batch.{Row, row_of}
-use Rattle.query.specs.Asked.{asked}
+use Rattle.query.specs.QueryShape.{query_shape}
 use Rattle.query.specs.Columns.{sort_at}
 use Rattle.query.specs.Fault.{agg_fault, key_fault}
 use Rattle.tallies.specs.Columns.{column_of, show_column}
@@ -24,7 +24,7 @@ use Rattle.answers.proofs.grouping.Grouping.add.Goals as goal
 pub invariant_of-columns-clause-plain : goal.invariant_of-columns-clause-plain
 invariant_of-columns-clause-plain c =
     subst (All (λ p. key_fault (sort_at c.args.batch.now.fields) p ≡ None)) (sym c.as_slice-by.ensures.value)
-    (what_fits c.args.batch.now.fields (asked c.args.query.now) c.requires.fits).by
+    (what_fits c.args.batch.now.fields (query_shape c.args.query.now) c.requires.fits).by
 
 pub add_to_columns-requires-clause-fits : goal.add_to_columns-requires-clause-fits
 add_to_columns-requires-clause-fits c =
@@ -33,7 +33,7 @@ add_to_columns-requires-clause-fits c =
     let g = c.args.self.now in
     subst (All (λ (t : TallyColumn). agg_fault (sort_at c.args.batch.now.fields) (show_column t).agg ≡ None)) (sym c.deref_mut.ensures.value)
     (columns_fit (λ a. agg_fault (sort_at c.args.batch.now.fields) a ≡ None) (tables_of q.by.items r.0 g.keys) q.aggs.items g.columns.items r.2.0.columns_are
-    (what_fits c.args.batch.now.fields (asked q) c.requires.fits).aggs)
+    (what_fits c.args.batch.now.fields (query_shape q) c.requires.fits).aggs)
 
 pub add_to_columns-requires-clause-lengths : goal.add_to_columns-requires-clause-lengths
 add_to_columns-requires-clause-lengths c =

@@ -1,6 +1,6 @@
 use Rattle.std.proofs.Common.{◌≡◌, None, subst, sym}
 use Rattle.std.specs.Prelude.{All, OnOk}
-use Rattle.query.specs.Asked.{asked}
+use Rattle.query.specs.QueryShape.{query_shape}
 use Rattle.query.specs.Columns.{sort_at}
 use Rattle.query.specs.Fault.{key_fault}
 use Rattle.keys.specs.Memo.{KnowsEntries}
@@ -11,7 +11,7 @@ use Rattle.answers.proofs.grouping.Grouping.begin.Goals as goal
 pub invariant_of-begin-clause-plain : goal.invariant_of-begin-clause-plain
 invariant_of-begin-clause-plain c =
     subst (All (λ p. key_fault (sort_at c.args.batch.now.fields) p ≡ None)) (sym c.as_slice-by.ensures.value)
-    (what_fits c.args.batch.now.fields (asked c.args.query.now) c.requires).by
+    (what_fits c.args.batch.now.fields (query_shape c.args.query.now) c.requires).by
 
 pub returns-clause-kept : goal.returns-clause-kept
 returns-clause-kept c = λ rows h. on_ok_weaker c.begin.result (λ r. (h.0, r)) (c.begin.ensures.kept c.args.self.now.keys h.1)

@@ -8,12 +8,12 @@ returns g c = λ j h.
     let f = g.Self.Places.at c.args.self.now in
     let i = c.args.i in
     let P = λ (k word : ℕ). (n : ℕ) → n < 64 → bit_in word n ≡ f (i + (64 * k + n)) in
-    let told = each-of_four P _ _ _ _
+    let reported = each-of_four P _ _ _ _
     (λ n m. c.word-a.ensures n m ∙ ap f (omega arith))
     (λ n m. c.word-b.ensures n m ∙ ap f (omega arith))
     (λ n m. c.word-c.ensures n m ∙ ap f (omega arith))
     (λ n m. c.word-d.ensures n m ∙ ap f (omega arith)) in
     ap (bit c.lanes_of.result) (omega arith)
     ∙ c.lanes_of.ensures (j / 64) (j % 64) (omega arith) (omega arith)
-    ∙ told (j / 64) (omega arith) (j % 64) (omega arith)
+    ∙ reported (j / 64) (omega arith) (j % 64) (omega arith)
     ∙ ap f (omega arith)

@@ -6,7 +6,7 @@ use Rattle.indexmap.specs.IndexSet.{insert_key}
 use Rattle.keys.specs.Parts.{IsWithin, item_of_part, key_of_parts, keys_shown}
 use Rattle.keys.specs.PartSets.{parts_shown, parts_stored}
 use Rattle.keys.specs.Same.{same_key}
-use Rattle.keys.proofs.PartLemmas.{keys-grown, stored_held, stored_key}
+use Rattle.keys.proofs.PartLemmas.{keys-grown, stored_present, stored_key}
 use Rattle.keys.proofs.key_set.KeySet.intern_key.Goals as goal
 
 pub key_at-requires : goal.key_at-requires
@@ -16,7 +16,7 @@ key_at-requires c =
 
 pub renamed_parts-requires-clause-named : goal.renamed_parts-requires-clause-named
 renamed_parts-requires-clause-named c =
-    stored_held c.other.inside.texts (parts_shown c.other.inside.keys) c.args.place c.in-Parts.parts.now (c.key_at.ensures.there ∙ ap (λ s. Some (parts_stored s)) c.in-Parts.is)
+    stored_present c.other.inside.texts (parts_shown c.other.inside.keys) c.args.place c.in-Parts.parts.now (c.key_at.ensures.there ∙ ap (λ s. Some (parts_stored s)) c.in-Parts.is)
     c.other.invariant
 
 pub renamed_parts-requires-clause-few : goal.renamed_parts-requires-clause-few
@@ -27,7 +27,7 @@ renamed_part-requires c =
     let os = c.other.inside.texts in
     let p = c.in-Alone.part in
     All-head (IsWithin (length os)) p []
-    (stored_held os (parts_shown c.other.inside.keys) c.args.place (p ∷ []) (c.key_at.ensures.there ∙ ap (λ s. Some (parts_stored s)) c.in-Alone.is) c.other.invariant)
+    (stored_present os (parts_shown c.other.inside.keys) c.args.place (p ∷ []) (c.key_at.ensures.there ∙ ap (λ s. Some (parts_stored s)) c.in-Alone.is) c.other.invariant)
 
 pub returns-in_ok-renamed-in-Alone-clause-keys : goal.returns-in_ok-renamed-in-Alone-clause-keys
 returns-in_ok-renamed-in-Alone-clause-keys c =

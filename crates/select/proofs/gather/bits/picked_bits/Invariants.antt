@@ -6,7 +6,7 @@ use Rattle.select.proofs.gather.bits.picked_bits.Given as goal
 -- the bytes so far have the bits of their rows
 abbrev pub invariant-loop-word : goal.invariant-loop-word
 invariant-loop-word g l = record {
-  told : g.R.Rows.rest l.rows l.place ≡ drop (64 * l._word) (g.R.Rows.picks l.rows);
+  reported : g.R.Rows.rest l.rows l.place ≡ drop (64 * l._word) (g.R.Rows.picks l.rows);
   long : length l.bytes.items ≡ 8 * l._word;
   packed : (i : ℕ) → i < 64 * l._word → bit l.bytes.items i ≡ is_stored l.bits (get_or (g.R.Rows.picks l.rows) i None);
 }

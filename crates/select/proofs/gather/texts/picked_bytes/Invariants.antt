@@ -6,6 +6,6 @@ use Rattle.select.proofs.gather.texts.picked_bytes.Given as goal
 
 abbrev pub invariant-loop-slot : goal.invariant-loop-slot
 invariant-loop-slot g l = record {
-  told : g.R.Rows.rest l.rows l.place ≡ drop l._slot (g.R.Rows.picks l.rows);
+  reported : g.R.Rows.rest l.rows l.place ≡ drop l._slot (g.R.Rows.picks l.rows);
   filled : l.bytes.items ≡ all_bytes (picked (items_of_texts l.texts) (take l._slot (g.R.Rows.picks l.rows)));
 }

@@ -16,18 +16,18 @@ use Rattle.select.proofs.gather.texts.picked_offsets.Goals as goal
 
 pub next-row-requires : goal.next-row-requires
 next-row-requires g c =
-    some_left _ (g.R.Rows.picks c.args.rows.now) c.loop-slot._slot c.loop-slot.invariant.told (omega (arith, c.slots-count.ensures.count, c.loop-slot-test.true))
+    some_left _ (g.R.Rows.picks c.args.rows.now) c.loop-slot._slot c.loop-slot.invariant.reported (omega (arith, c.slots-count.ensures.count, c.loop-slot-test.true))
 
 pub text_at-requires : goal.text_at-requires
 text_at-requires g c =
     let picks = g.R.Rows.picks c.args.rows.now in
-    let next = is_next picks c.loop-slot._slot c.next-row.result _ _ c.loop-slot.invariant.told c.next-row.ensures in
+    let next = is_next picks c.loop-slot._slot c.next-row.result _ _ c.loop-slot.invariant.reported c.next-row.ensures in
     all-at (IsPick c.args.texts.now.slots) picks c.loop-slot._slot c.next-row.result c.requires.within next.here
 
 pub loop-slot-init : goal.loop-slot-init
 loop-slot-init g c =
     let is : c.push.new.bytes.items ≡ bytes_of_number (offset_type c.args.width) (pos 0) = search rules in
-    record { told = c.first-place.ensures; laid = offsets-none c.args.width c.push.new.bytes.items is }
+    record { reported = c.first-place.ensures; laid = offsets-none c.args.width c.push.new.bytes.items is }
 
 pub returns-in_err-end-clause-err : goal.returns-in_err-end-clause-err
 returns-in_err-end-clause-err g c =
@@ -35,7 +35,7 @@ returns-in_err-end-clause-err g c =
     let items = items_of_texts c.args.texts.now in
     let j = c.loop-slot._slot in
     let x = item_of_text (option_copied c.text_at.result) in
-    let next = is_next picks j c.next-row.result _ _ c.loop-slot.invariant.told c.next-row.ensures in
+    let next = is_next picks j c.next-row.result _ _ c.loop-slot.invariant.reported c.next-row.ensures in
     full_of_all c.from_residual-in_err-end.result c.in_err-end.field-0.0 _ _ c.from_residual-in_err-end.ensures.1 c.in_err-end.ensures.err
     (full-offsets c.args.width items picks j c.next-row.result c.loop-slot.offsets.items c.loop-slot.end (text_length x) x next.here c.loop-slot.invariant.laid c.text_at.ensures refl)
 
@@ -51,10 +51,10 @@ loop-slot-preserved g c =
     let longer = picked items (take (j + 1) picks) in
     let o = option_copied c.text_at.result in
     let size = text_length (item_of_text o) in
-    let next = is_next picks j c.next-row.result _ _ c.loop-slot.invariant.told c.next-row.ensures in
+    let next = is_next picks j c.next-row.result _ _ c.loop-slot.invariant.reported c.next-row.ensures in
     let end_is = c.in_ok-end.ensures.ok in
     record {
-      told = next.rest;
+      reported = next.rest;
       laid =
           subst (AreOffsetsOf w longer more) (sym end_is)
           (offsets-more w old longer offsets more c.loop-slot.end size o (item_of_text o) c.loop-slot.invariant.laid refl

@@ -8,7 +8,7 @@ use Rattle.arrays.specs.Dictionary.{is_code}
 use Rattle.arrays.specs.Number.{natural}
 use Rattle.arrays.specs.Slot.{item_of}
 use Rattle.select.proofs.NamedLemmas.{cast_fits, cast_is, index_below, row_at}
-use Rattle.select.proofs.RestLemmas.{told_next}
+use Rattle.select.proofs.RestLemmas.{reported_next}
 use Rattle.select.proofs.StoredLemmas.{FitsSigned-from_type}
 use Rattle.select.proofs.indices.IndicesRows.next.Goals as goal
 use Rattle.types.specs.Limits.{most_slots}
@@ -41,7 +41,7 @@ returns-in-Some g c =
     let at = c.args.place.now.at in
     let below = index_below t r.values.now r.validity r.slots at c.args.self.now c.self.view_is c.requires in
     let code = subst (λ o. is_code most_slots (item_of o) ≡ true) (sym c.in-Some.ensures.value) (c.self.invariant.each at below) in
-    told_next c.args.self.now at _
+    reported_next c.args.self.now at _
     (ap (λ picks. slice_get picks at) (sym c.self.view_is)
     ∙ row_at t r.values.now r.validity r.slots at below
     ∙ ap (λ o. Some (option_map natural o)) (sym c.in-Some.ensures.value)
@@ -54,5 +54,5 @@ returns-in-None g c =
     let t = g.T.Integer.ty in
     let at = c.args.place.now.at in
     let below = index_below t r.values.now r.validity r.slots at c.args.self.now c.self.view_is c.requires in
-    told_next c.args.self.now at None
+    reported_next c.args.self.now at None
     (ap (λ picks. slice_get picks at) (sym c.self.view_is) ∙ row_at t r.values.now r.validity r.slots at below ∙ ap (λ o. Some (option_map natural o)) (sym c.in-None.ensures.value))

@@ -18,5 +18,5 @@ returns c =
     IfOk-weaker c.from_numbers.result _ _
     (λ a is. is
     ∙ numbers-joined c.args.ty c.args.views.now c.args.slots c.in_ok-joined_numbers.field-0.items c.in_ok-values.values c.in_ok-validity.validity c.buffer_of.result
-    c.requires.slots c.in_ok-joined_numbers.ensures.told c.in_ok-validity.ensures c.buffer_of.ensures c.in_ok-joined_numbers.ensures.numbers c.in_ok-values.ensures)
+    c.requires.slots c.in_ok-joined_numbers.ensures.reported c.in_ok-validity.ensures c.buffer_of.ensures c.in_ok-joined_numbers.ensures.numbers c.in_ok-values.ensures)
     c.from_numbers.ensures

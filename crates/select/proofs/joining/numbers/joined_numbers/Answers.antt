@@ -18,5 +18,5 @@ loop-view-preserved c =
       numbers =
           subst (λ xs. AreNumbersOf t xs longer) (sym (joined-more views k s c.loop-view-test.true c.view-item.is))
           (AreNumbersOf-more t (joined_items (take k views)) s c.loop-view.values.items here longer c.loop-view.invariant.numbers c.numbers.ensures c.in_ok-extend_from_slice.ensures.items);
-      told = All-more TellsNulls views k s c.loop-view-test.true c.view-item.is c.loop-view.invariant.told (TellsNulls-numbers t here s c.numbers.ensures);
+      reported = All-more TellsNulls views k s c.loop-view-test.true c.view-item.is c.loop-view.invariant.reported (TellsNulls-numbers t here s c.numbers.ensures);
     }

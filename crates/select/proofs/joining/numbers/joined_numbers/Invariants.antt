@@ -7,5 +7,5 @@ use Rattle.select.proofs.joining.numbers.joined_numbers.Given as goal
 abbrev pub invariant-loop-view : goal.invariant-loop-view
 invariant-loop-view l = record {
   numbers : AreNumbersOf l.ty (joined_items (take l.view-index l.views)) l.values.items;
-  told : All TellsNulls (take l.view-index l.views);
+  reported : All TellsNulls (take l.view-index l.views);
 }

@@ -14,10 +14,10 @@ see-requires g c = subst IsLegalKnown (sym c.self.invariant.8) c.self.invariant.
 
 pub see-requires-2 : goal.see-requires-2
 see-requires-2 g c =
-    let told = c.in_ok-version.ensures in
+    let reported = c.in_ok-version.ensures in
     let w = c.self.inside in
     let f = stored_field (field_of c.args.field.now) in
-    subst IsLegalKnown (sym (known_widened g.N.Naming-1.fields w.front c.add.new.front w.state c.add_column_shown.new.self f c.self.invariant.8 c.add.ensures.added told.added)) told.legal
+    subst IsLegalKnown (sym (known_widened g.N.Naming-1.fields w.front c.add.new.front w.state c.add_column_shown.new.self f c.self.invariant.8 c.add.ensures.added reported.added)) reported.legal
 
 pub count_column-requires : goal.count_column-requires
 count_column-requires g c =
@@ -26,21 +26,21 @@ count_column-requires g c =
 
 pub show_version-requires : goal.show_version-requires
 show_version-requires g c =
-    let told = c.in_ok-version.ensures in
+    let reported = c.in_ok-version.ensures in
     let w = c.self.inside in
-    known_widened g.N.Naming-1.fields w.front c.add.new.front w.state c.add_column_shown.new.self (stored_field (field_of c.args.field.now)) c.self.invariant.8 c.add.ensures.added told.added
-    ∙ ap known_of (sym told.shown.1)
+    known_widened g.N.Naming-1.fields w.front c.add.new.front w.state c.add_column_shown.new.self (stored_field (field_of c.args.field.now)) c.self.invariant.8 c.add.ensures.added reported.added
+    ∙ ap known_of (sym reported.shown.1)
 
 pub invariant_of-self-2 : goal.invariant_of-self-2
 invariant_of-self-2 g c =
     let is = c.self.invariant in
-    let told = c.in_ok-version.ensures in
+    let reported = c.in_ok-version.ensures in
     let w = c.self.inside in
     let s = w.state in
     let next = c.add_column_shown.new.self in
     let f = stored_field (field_of c.args.field.now) in
     let n = length s.fields + 1 in
-    let same = ap (λ (t : Contents). t.history) told.added in (
+    let same = ap (λ (t : Contents). t.history) reported.added in (
       balanced_wider n w.books.calls.total w.books.rows.total s.history next.history is.0 same,
       workers_wider n g.C.Ledger.parts s.history next.history is.1 same,
       is.2,
@@ -48,11 +48,11 @@ invariant_of-self-2 g c =
       is.4,
       is.5,
       is.6,
-      told.shown.0,
-      known_widened g.N.Naming-1.fields w.front c.add.new.front s next f is.8 c.add.ensures.added told.added,
-      omega (arith, ap (λ (t : Contents). length t.fields) told.added, length-append s.fields (f ∷ []), is.9, c.count_column.ensures.total),
-      told.legal,
-      some_each c.show_version.new.publisher (λ p is_shown. subst (g.P.Publish.shows p) told.shown.1 is_shown) c.show_version.ensures,
+      reported.shown.0,
+      known_widened g.N.Naming-1.fields w.front c.add.new.front s next f is.8 c.add.ensures.added reported.added,
+      omega (arith, ap (λ (t : Contents). length t.fields) reported.added, length-append s.fields (f ∷ []), is.9, c.count_column.ensures.total),
+      reported.legal,
+      some_each c.show_version.new.publisher (λ p is_shown. subst (g.P.Publish.shows p) reported.shown.1 is_shown) c.show_version.ensures,
       is.12,
       is.13,
       is.14,
@@ -60,12 +60,12 @@ invariant_of-self-2 g c =
 
 pub returns-clause-widened : goal.returns-clause-widened
 returns-clause-widened g c =
-    let told = c.in_ok-version.ensures in
+    let reported = c.in_ok-version.ensures in
     let w = c.self.inside in
     let first = g.N.Naming-1.fields in
     let s = w.state in
     let next = c.add_column_shown.new.self in
     let f = stored_field (field_of c.args.field.now) in
-    let known = known_widened first w.front c.add.new.front s next f c.self.invariant.8 c.add.ensures.added told.added in
+    let known = known_widened first w.front c.add.new.front s next f c.self.invariant.8 c.add.ensures.added reported.added in
     widened_by (known_after first w.front) (known_after first c.add.new.front) s next f c.args.worker.now c.see.new.self c.see-2.new.self c.count_column.new.self
-    c.self.invariant.8 known told.added told.legal c.see.ensures.begun c.see.ensures.seen c.see-2.ensures.seen c.count_column.ensures.counted
+    c.self.invariant.8 known reported.added reported.legal c.see.ensures.begun c.see.ensures.seen c.see-2.ensures.seen c.count_column.ensures.counted

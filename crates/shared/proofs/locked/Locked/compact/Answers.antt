@@ -8,8 +8,8 @@ use Rattle.shared.proofs.locked.Locked.compact.Goals as goal
 
 pub show_version-requires : goal.show_version-requires
 show_version-requires g c =
-    let told = c.in_ok-version.ensures in
-    c.self.invariant.8 ∙ sym (known_joined c.args.max_rows c.self.inside.state c.compact_shown.new.self told.compacted) ∙ ap known_of (sym told.shown.1)
+    let reported = c.in_ok-version.ensures in
+    c.self.invariant.8 ∙ sym (known_joined c.args.max_rows c.self.inside.state c.compact_shown.new.self reported.compacted) ∙ ap known_of (sym reported.shown.1)
 
 pub invariant_of-self-2 : goal.invariant_of-self-2
 invariant_of-self-2 g c =

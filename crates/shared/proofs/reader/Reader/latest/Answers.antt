@@ -2,7 +2,7 @@ use Rattle.std.proofs.Common.{◌≡◌, ◌∙◌, ap, subst, sym}
 use Rattle.std.specs.Arc.{arc_value}
 use Rattle.shared.specs.Changes.{known_after}
 use Rattle.shared.specs.Known.{IsLegalKnown, known_of}
-use Rattle.shared.proofs.KnownLemmas.{told_begins}
+use Rattle.shared.proofs.KnownLemmas.{reported_begins}
 use Rattle.table.specs.Contents.{Contents}
 use Rattle.shared.proofs.reader.Reader.latest.Goals as goal
 
@@ -10,7 +10,7 @@ pub returns-clause-begun : goal.returns-clause-begun
 returns-clause-begun g c =
     let first = g.N.Naming-1.fields in
     let shown : known_after first c.own.inside.front ≡ known_of (arc_value c.in_ok-version.version) = c.own.invariant ∙ sym (ap known_of c.in_ok-version.ensures.cases) in
-    told_begins first c.self.inside.known c.own.inside.front c.args.self.now (known_of (arc_value c.in_ok-version.version)) (c.self.view_is ∙ c.look.ensures) shown c.if-not-begins.ensures
+    reported_begins first c.self.inside.known c.own.inside.front c.args.self.now (known_of (arc_value c.in_ok-version.version)) (c.self.view_is ∙ c.look.ensures) shown c.if-not-begins.ensures
 
 pub returns-clause-known : goal.returns-clause-known
 returns-clause-known g c = ap (known_after g.N.Naming-1.fields) c.again.ensures ∙ c.own.invariant ∙ sym (ap known_of c.in_ok-version.ensures.cases)

@@ -11,4 +11,4 @@ returns-in-Ok-clause-whole g c = subst (λ ws. All (IsWhole (known_of (arc_value
 
 pub all_of-requires-clause-all : goal.all_of-requires-clause-all
 all_of-requires-clause-all g c =
-    subst (λ ws. AllThere c.args.self ws) (c.deref.ensures.value ∙ sym c.deref_mut.ensures.value) (subst (λ n. AllThere n c.deref.result.now) c.self.view_is c.in_default.ensures.told)
+    subst (λ ws. AllThere c.args.self ws) (c.deref.ensures.value ∙ sym c.deref_mut.ensures.value) (subst (λ n. AllThere n c.deref.result.now) c.self.view_is c.in_default.ensures.reported)

@@ -1,19 +1,19 @@
-use Rattle.table.specs.Held.{batches_of}
+use Rattle.table.specs.Storage.{batches_of}
 use Rattle.table.specs.Lawful.{table_of}
 use Rattle.table.proofs.JoinedLemmas.{after-commit, compacted-table, texts-begin}
-use Rattle.table.proofs.PutLemmas.{Held-same}
+use Rattle.table.proofs.PutLemmas.{Storage-same}
 use Rattle.table.proofs.state.TableState.join.Goals as goal
 
 pub commit-requires-clause-begun : goal.commit-requires-clause-begun
 commit-requires-clause-begun g c =
-    texts-begin c.self.inside.held (table_of (batches_of c.self.inside.held)) c.self.inside.pools.items c.self.invariant.1
+    texts-begin c.self.inside.storage (table_of (batches_of c.self.inside.storage)) c.self.inside.pools.items c.self.invariant.1
 
 pub commit-requires-clause-lawful : goal.commit-requires-clause-lawful
-commit-requires-clause-lawful g c = λ h next. Held-same c.in_ok-next.next h next c.in_ok-next.ensures.lawful
+commit-requires-clause-lawful g c = λ h next. Storage-same c.in_ok-next.next h next c.in_ok-next.ensures.lawful
 
 pub invariant_of-self : goal.invariant_of-self
 invariant_of-self g c =
-    after-commit c.commit.result c.self.inside.held c.in_ok-next.next c.commit.new.held c.self.inside.pools c.commit.new.pools c.self.invariant.0 c.self.invariant.1
+    after-commit c.commit.result c.self.inside.storage c.in_ok-next.next c.commit.new.storage c.self.inside.pools c.commit.new.pools c.self.invariant.0 c.self.invariant.1
     c.in_ok-next.ensures.lawful
-    (c.in_ok-next.ensures.compacted.fields, compacted-table c.self.inside.held c.in_ok-next.next c.args.max_rows c.in_ok-next.ensures.compacted)
+    (c.in_ok-next.ensures.compacted.fields, compacted-table c.self.inside.storage c.in_ok-next.next c.args.max_rows c.in_ok-next.ensures.compacted)
     c.commit.ensures.next c.commit.ensures.pools c.commit.ensures.kept c.commit.ensures.back

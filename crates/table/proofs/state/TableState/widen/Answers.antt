@@ -2,17 +2,17 @@ use Rattle.std.proofs.Common.{◌≡◌, ◌∙◌, ◌++◌, [], ◌∷◌, ℕ
 use Rattle.std.specs.declared.alloc.Global.{Global}
 use Rattle.std.specs.declared.vec.Vec.{Vec}
 use Rattle.arrays.specs.Shape.{field_of}
-use Rattle.table.specs.Held.{batches_of}
+use Rattle.table.specs.Storage.{batches_of}
 use Rattle.table.specs.Lawful.{table_of}
 use Rattle.table.specs.Ready.{BeginWithTexts}
 use Rattle.table.specs.Stored.{stored_field}
 use Rattle.table.proofs.JoinedLemmas.{texts-begin}
-use Rattle.table.proofs.WiderLemmas.{added-held}
+use Rattle.table.proofs.WiderLemmas.{added-storage}
 use Rattle.table.proofs.state.TableState.widen.Goals as goal
 
 pub commit-requires-clause-begun : goal.commit-requires-clause-begun
 commit-requires-clause-begun g c =
-    let h = c.self.inside.held in
+    let h = c.self.inside.storage in
     subst (BeginWithTexts h (table_of (batches_of h))) (sym c.reserve.ensures.items) (texts-begin h (table_of (batches_of h)) c.self.inside.pools.items c.self.invariant.1)
 
 pub invariant_of-self-2 : goal.invariant_of-self-2
@@ -23,5 +23,5 @@ invariant_of-self-2 g c =
     ∙ ap (λ (v : Vec (List (List ℕ)) Global). v.items ++ c.new.result ∷ []) c.in_ok-seen.ensures.pools
     ∙ ap (λ (l : List (List (List ℕ))). l ++ c.new.result ∷ []) c.reserve.ensures.items
     ∙ ap (λ (ts : List (List ℕ)). olds ++ ts ∷ []) c.new.ensures in
-    added-held c.self.inside.held c.in_ok-stage.field-0 c.commit.new.held (stored_field (field_of c.args.field.now)) olds c.push_reserved.new.self.items c.self.invariant.0 c.self.invariant.1
+    added-storage c.self.inside.storage c.in_ok-stage.field-0 c.commit.new.storage (stored_field (field_of c.args.field.now)) olds c.push_reserved.new.self.items c.self.invariant.0 c.self.invariant.1
     c.in_ok-stage.ensures.lawful c.in_ok-stage.ensures.shows c.in_ok-seen.ensures.next pushed

@@ -1,7 +1,7 @@
 use Rattle.std.proofs.Common.{map}
 use Rattle.std.proofs.lemmas.List.Elements.{All-map}
 use Rattle.std.specs.Arc.{arc_value}
-use Rattle.query.specs.Asked.{asked}
+use Rattle.query.specs.QueryShape.{query_shape}
 use Rattle.table.specs.History.{rows}
 use Rattle.table.specs.Lawful.{IsStored}
 use Rattle.table.proofs.AnswerLemmas.{answers_table, fits_each, refuses_table, same_types}
@@ -15,16 +15,16 @@ answer-requires-clause-types g c κs within =
 pub answer-requires-clause-fits : goal.answer-requires-clause-fits
 answer-requires-clause-fits g c κs within =
     let batches = c.batches.result.now in
-    fits_each c.args.self.now.fields (asked c.args.query.now) (map arc_value batches) c.requires.fits (All-map (IsStored c.args.self.now.fields) arc_value batches c.batches.ensures.lawful)
+    fits_each c.args.self.now.fields (query_shape c.args.query.now) (map arc_value batches) c.requires.fits (All-map (IsStored c.args.self.now.fields) arc_value batches c.batches.ensures.lawful)
 
 pub returns-clause-ok : goal.returns-clause-ok
 returns-clause-ok g c =
     let batches = c.batches.result.now in
     let stored = All-map (IsStored c.args.self.now.fields) arc_value batches c.batches.ensures.lawful in
-    answers_table c.args.self.now.fields (asked c.args.query.now) (map arc_value batches) (rows c.args.self.now.history) stored c.batches.ensures.rows c.answer.result c.answer.ensures.ok
+    answers_table c.args.self.now.fields (query_shape c.args.query.now) (map arc_value batches) (rows c.args.self.now.history) stored c.batches.ensures.rows c.answer.result c.answer.ensures.ok
 
 pub returns-clause-err : goal.returns-clause-err
 returns-clause-err g c =
     let batches = c.batches.result.now in
     let stored = All-map (IsStored c.args.self.now.fields) arc_value batches c.batches.ensures.lawful in
-    refuses_table c.args.self.now.fields (asked c.args.query.now) (map arc_value batches) (rows c.args.self.now.history) stored c.batches.ensures.rows c.answer.result c.answer.ensures.err
+    refuses_table c.args.self.now.fields (query_shape c.args.query.now) (map arc_value batches) (rows c.args.self.now.history) stored c.batches.ensures.rows c.answer.result c.answer.ensures.err

@@ -7,44 +7,44 @@ use Rattle.std.proofs.lemmas.Option.{slice_get-get_or, slice_get_read}
 use Rattle.group.specs.declared.stats.ColumnStats.{ColumnStats}
 use Rattle.table.specs.Contents.{Contents}
 use Rattle.arrays.specs.Batch.{Table}
-use Rattle.table.proofs.HeldLemmas.{length-pieces, length-stats, piece-at, stats-at}
+use Rattle.table.proofs.StorageLemmas.{length-pieces, length-stats, piece-at, stats-at}
 use Rattle.table.proofs.version.Version.batch_stats.Goals as goal
 
 pub index-requires : goal.index-requires
 index-requires c =
-    let held = c.held.result.now in
-    omega (arith, c.requires.batch, length-pieces held c.held.ensures.lawful, ap (λ (s : Contents). length s.batches) c.held.ensures.shown, held.batch_stats.ok.0)
+    let storage = c.storage.result.now in
+    omega (arith, c.requires.batch, length-pieces storage c.storage.ensures.lawful, ap (λ (s : Contents). length s.batches) c.storage.ensures.shown, storage.batch_stats.ok.0)
 
 pub index-requires-2 : goal.index-requires-2
 index-requires-2 c =
-    let held = c.held.result.now in
+    let storage = c.storage.result.now in
     let tables = c.args.self.now.batches in
-    let shown = ap (λ (s : Contents). s.batches) c.held.ensures.shown in
-    let below : c.args.b < held.batch_stats.len =
-    omega (arith, c.requires.batch, length-pieces held c.held.ensures.lawful, ap (λ (s : Contents). length s.batches) c.held.ensures.shown, held.batch_stats.ok.0) in
-    let there = slice_get_read held.batch_stats.items held.batch_stats.len c.args.b c.index.result.now held.batch_stats.ok.0 below c.index.ensures in
+    let shown = ap (λ (s : Contents). s.batches) c.storage.ensures.shown in
+    let below : c.args.b < storage.batch_stats.len =
+    omega (arith, c.requires.batch, length-pieces storage c.storage.ensures.lawful, ap (λ (s : Contents). length s.batches) c.storage.ensures.shown, storage.batch_stats.ok.0) in
+    let there = slice_get_read storage.batch_stats.items storage.batch_stats.len c.args.b c.index.result.now storage.batch_stats.ok.0 below c.index.ensures in
     let at = ap (λ (l : List Table). slice_get l c.args.b) shown ∙ slice_get-get_or tables c.args.b [] c.requires.batch in
-    let are = piece-at held c.held.ensures.lawful c.args.b (get_or tables c.args.b []) c.index.result.now at there in
-    let count = length-stats (arc_value held.schema) (get_or tables c.args.b []) (arc_value c.index.result.now).items are in
-    let fields = ap (λ (s : Contents). length s.fields) c.held.ensures.shown in
+    let are = piece-at storage c.storage.ensures.lawful c.args.b (get_or tables c.args.b []) c.index.result.now at there in
+    let count = length-stats (arc_value storage.schema) (get_or tables c.args.b []) (arc_value c.index.result.now).items are in
+    let fields = ap (λ (s : Contents). length s.fields) c.storage.ensures.shown in
     let same = ap (λ (v : Vec ColumnStats Global). vec_len v) c.deref.ensures in
     omega (arith, c.requires.column, count, fields, same, (arc_value c.index.result.now).ok.0)
 
 pub returns : goal.returns
 returns c =
-    let held = c.held.result.now in
+    let storage = c.storage.result.now in
     let tables = c.args.self.now.batches in
-    let shown = ap (λ (s : Contents). s.batches) c.held.ensures.shown in
-    let below : c.args.b < held.batch_stats.len =
-    omega (arith, c.requires.batch, length-pieces held c.held.ensures.lawful, ap (λ (s : Contents). length s.batches) c.held.ensures.shown, held.batch_stats.ok.0) in
-    let there = slice_get_read held.batch_stats.items held.batch_stats.len c.args.b c.index.result.now held.batch_stats.ok.0 below c.index.ensures in
+    let shown = ap (λ (s : Contents). s.batches) c.storage.ensures.shown in
+    let below : c.args.b < storage.batch_stats.len =
+    omega (arith, c.requires.batch, length-pieces storage c.storage.ensures.lawful, ap (λ (s : Contents). length s.batches) c.storage.ensures.shown, storage.batch_stats.ok.0) in
+    let there = slice_get_read storage.batch_stats.items storage.batch_stats.len c.args.b c.index.result.now storage.batch_stats.ok.0 below c.index.ensures in
     let at = ap (λ (l : List Table). slice_get l c.args.b) shown ∙ slice_get-get_or tables c.args.b [] c.requires.batch in
     let stats = arc_value c.index.result.now in
-    let are = piece-at held c.held.ensures.lawful c.args.b (get_or tables c.args.b []) c.index.result.now at there in
-    let count = length-stats (arc_value held.schema) (get_or tables c.args.b []) stats.items are in
-    let within : c.args.k < stats.len = omega (arith, c.requires.column, count, ap (λ (s : Contents). length s.fields) c.held.ensures.shown, stats.ok.0) in
+    let are = piece-at storage c.storage.ensures.lawful c.args.b (get_or tables c.args.b []) c.index.result.now at there in
+    let count = length-stats (arc_value storage.schema) (get_or tables c.args.b []) stats.items are in
+    let within : c.args.k < stats.len = omega (arith, c.requires.column, count, ap (λ (s : Contents). length s.fields) c.storage.ensures.shown, stats.ok.0) in
     let read = subst (λ (v : Vec ColumnStats Global). c.index-2.result.now ≡ get_or v.items c.args.k c.index-2.result.now) c.deref.ensures c.index-2.ensures in
     let one = slice_get_read stats.items stats.len c.args.k c.index-2.result.now stats.ok.0 within read in
     λ f named.
-    stats-at (arc_value held.schema) (get_or tables c.args.b []) stats.items c.args.k f c.index-2.result.now are
-    (ap (λ (s : Contents). slice_get s.fields c.args.k) c.held.ensures.shown ∙ named) one
+    stats-at (arc_value storage.schema) (get_or tables c.args.b []) stats.items c.args.k f c.index-2.result.now are
+    (ap (λ (s : Contents). slice_get s.fields c.args.k) c.storage.ensures.shown ∙ named) one

@@ -9,11 +9,11 @@ use Rattle.arrays.specs.Batch.{Batch, rows_of}
 use Rattle.arrays.specs.Seen.{Seen}
 use Rattle.arrays.specs.Shape.{FieldShape}
 use Rattle.table.specs.Contents.{Contents}
-use Rattle.table.specs.Held.{batches_of, book_of, dictionaries_in}
+use Rattle.table.specs.Storage.{batches_of, book_of, dictionaries_in}
 use Rattle.table.specs.History.{book, rows}
 use Rattle.compaction.specs.Under.{NamesFront}
 use Rattle.table.specs.Lawful.{EndsWithEntry, IsStored, NamesFronts, dictionaries_of, table_of}
-use Rattle.table.proofs.HeldLemmas.{all-of-map, book-shown, rows-shown}
+use Rattle.table.proofs.StorageLemmas.{all-of-map, book-shown, rows-shown}
 use Rattle.table.proofs.version.Version.batches.Goals as goal
 
 abbrev Shared : Type 0
@@ -22,38 +22,38 @@ Shared = Arc Batch Global
 pub returns-clause-value : goal.returns-clause-value
 returns-clause-value c =
     ap (map (λ (b : Arc Batch Global). rows_of (arc_value b))) c.deref.ensures.value
-    ∙ sym (map-map rows_of (λ (b : Arc Batch Global). arc_value b) c.held.result.now.batches.items)
-    ∙ ap (λ (s : Contents). s.batches) c.held.ensures.shown
+    ∙ sym (map-map rows_of (λ (b : Arc Batch Global). arc_value b) c.storage.result.now.batches.items)
+    ∙ ap (λ (s : Contents). s.batches) c.storage.ensures.shown
 
 pub returns-clause-lawful : goal.returns-clause-lawful
 returns-clause-lawful c =
-    let held = c.held.result.now in
+    let storage = c.storage.result.now in
     subst (λ (l : List (Arc Batch Global)). Rattle.std.proofs.Common.All (λ b. IsStored c.args.self.now.fields (arc_value b)) l) (sym c.deref.ensures.value)
-    (subst (λ (f : List FieldShape). Rattle.std.proofs.Common.All (λ (b : Arc Batch Global). IsStored f (arc_value b)) held.batches.items) (ap (λ (s : Contents). s.fields) c.held.ensures.shown)
-    (all-of-map (IsStored (arc_value held.schema)) (λ (b : Arc Batch Global). arc_value b) held.batches.items c.held.ensures.lawful.lawful.stored))
+    (subst (λ (f : List FieldShape). Rattle.std.proofs.Common.All (λ (b : Arc Batch Global). IsStored f (arc_value b)) storage.batches.items) (ap (λ (s : Contents). s.fields) c.storage.ensures.shown)
+    (all-of-map (IsStored (arc_value storage.schema)) (λ (b : Arc Batch Global). arc_value b) storage.batches.items c.storage.ensures.lawful.lawful.stored))
 
 pub returns-clause-rows : goal.returns-clause-rows
 returns-clause-rows c =
     ap (λ (l : List Shared). table_of (map (λ (b : Shared). arc_value b) l)) c.deref.ensures.value
-    ∙ sym (rows-shown c.held.result.now c.held.ensures.lawful)
-    ∙ ap (λ (s : Contents). rows s.history) c.held.ensures.shown
+    ∙ sym (rows-shown c.storage.result.now c.storage.ensures.lawful)
+    ∙ ap (λ (s : Contents). rows s.history) c.storage.ensures.shown
 
 pub returns-clause-ends : goal.returns-clause-ends
 returns-clause-ends c i within =
-    let held = c.held.result.now in
-    let same : book_of held ≡ book c.args.self.now.history = sym (book-shown held c.held.ensures.lawful) ∙ ap (λ (s : Contents). book s.history) c.held.ensures.shown in
-    let below : i ≤ length (batches_of held) = omega (arith, within, ap (λ (l : List Shared). length l) c.deref.ensures.value, length-map held.batches.items (λ (b : Shared). arc_value b)) in
+    let storage = c.storage.result.now in
+    let same : book_of storage ≡ book c.args.self.now.history = sym (book-shown storage c.storage.ensures.lawful) ∙ ap (λ (s : Contents). book s.history) c.storage.ensures.shown in
+    let below : i ≤ length (batches_of storage) = omega (arith, within, ap (λ (l : List Shared). length l) c.deref.ensures.value, length-map storage.batches.items (λ (b : Shared). arc_value b)) in
     subst (λ (b : List (ℕ × ℕ)). EndsWithEntry (map (λ (b : Shared). arc_value b) c.deref.result.now) b i) same
-    (subst (λ (l : List Shared). EndsWithEntry (map (λ (b : Shared). arc_value b) l) (book_of held) i) (sym c.deref.ensures.value)
-    (c.held.ensures.lawful.lawful.ends i below))
+    (subst (λ (l : List Shared). EndsWithEntry (map (λ (b : Shared). arc_value b) l) (book_of storage) i) (sym c.deref.ensures.value)
+    (c.storage.ensures.lawful.lawful.ends i below))
 
 pub returns-clause-fronts : goal.returns-clause-fronts
 returns-clause-fronts c =
-    let held = c.held.result.now in
-    let same : dictionaries_in held ≡ dictionaries_of c.args.self.now.fields (rows c.args.self.now.history) =
-    c.held.ensures.lawful.lawful.texts
-    ∙ ap (dictionaries_of (arc_value held.schema)) (sym (rows-shown held c.held.ensures.lawful))
-    ∙ ap (λ (s : Contents). dictionaries_of s.fields (rows s.history)) c.held.ensures.shown in
+    let storage = c.storage.result.now in
+    let same : dictionaries_in storage ≡ dictionaries_of c.args.self.now.fields (rows c.args.self.now.history) =
+    c.storage.ensures.lawful.lawful.texts
+    ∙ ap (dictionaries_of (arc_value storage.schema)) (sym (rows-shown storage c.storage.ensures.lawful))
+    ∙ ap (λ (s : Contents). dictionaries_of s.fields (rows s.history)) c.storage.ensures.shown in
     subst (λ (l : List Shared). All (λ b. NamesFronts c.args.self.now.fields (rows c.args.self.now.history) (arc_value b)) l) (sym c.deref.ensures.value)
-    (subst (λ (ds : List (Option Seen)). All (λ (b : Shared). AllZip NamesFront (arc_value b).columns ds) held.batches.items) same
-    (all-of-map (λ (b : Batch). AllZip NamesFront b.columns (dictionaries_in held)) (λ (b : Shared). arc_value b) held.batches.items c.held.ensures.lawful.lawful.fronts))
+    (subst (λ (ds : List (Option Seen)). All (λ (b : Shared). AllZip NamesFront (arc_value b).columns ds) storage.batches.items) same
+    (all-of-map (λ (b : Batch). AllZip NamesFront b.columns (dictionaries_in storage)) (λ (b : Shared). arc_value b) storage.batches.items c.storage.ensures.lawful.lawful.fronts))

@@ -1,7 +1,7 @@
 use Rattle.std.proofs.Common.{◌∙◌, ap, length, sym}
 use Rattle.table.specs.Contents.{Contents}
-use Rattle.table.proofs.HeldLemmas.{length-book}
+use Rattle.table.proofs.StorageLemmas.{length-book}
 use Rattle.table.proofs.version.Version.book_len.Goals as goal
 
 pub returns : goal.returns
-returns c = c.len.ensures ∙ c.held.result.now.book.ok.0 ∙ sym (length-book c.held.result.now) ∙ ap (λ (s : Contents). length s.history) c.held.ensures.shown
+returns c = c.len.ensures ∙ c.storage.result.now.book.ok.0 ∙ sym (length-book c.storage.result.now) ∙ ap (λ (s : Contents). length s.history) c.storage.ensures.shown

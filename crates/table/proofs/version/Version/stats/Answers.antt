@@ -8,32 +8,32 @@ use Rattle.arrays.specs.Shape.{kind_of_field}
 use Rattle.group.specs.Summary.{AreStats}
 use Rattle.group.specs.declared.stats.ColumnStats.{ColumnStats}
 use Rattle.table.specs.Contents.{Contents}
-use Rattle.table.specs.Held.{batches_of}
+use Rattle.table.specs.Storage.{batches_of}
 use Rattle.arrays.specs.Batch.{Table, column}
 use Rattle.table.specs.History.{rows}
 use Rattle.table.specs.Lawful.{table_of}
-use Rattle.table.proofs.HeldLemmas.{length-stats, rows-shown, stats-at}
+use Rattle.table.proofs.StorageLemmas.{length-stats, rows-shown, stats-at}
 use Rattle.table.proofs.version.Version.stats.Goals as goal
 
 pub index-requires : goal.index-requires
 index-requires c =
-    let held = c.held.result.now in
-    let count = length-stats (arc_value held.schema) (table_of (batches_of held)) (arc_value held.stats).items c.held.ensures.lawful.lawful.statistics in
-    let fields = ap (λ (s : Contents). length s.fields) c.held.ensures.shown in
+    let storage = c.storage.result.now in
+    let count = length-stats (arc_value storage.schema) (table_of (batches_of storage)) (arc_value storage.stats).items c.storage.ensures.lawful.lawful.statistics in
+    let fields = ap (λ (s : Contents). length s.fields) c.storage.ensures.shown in
     let same = ap (λ (v : Vec ColumnStats Global). vec_len v) c.deref.ensures in
-    omega (arith, c.requires, count, fields, same, (arc_value held.stats).ok.0)
+    omega (arith, c.requires, count, fields, same, (arc_value storage.stats).ok.0)
 
 pub returns : goal.returns
 returns c =
-    let held = c.held.result.now in
-    let is = c.held.ensures.lawful in
-    let stats = arc_value held.stats in
-    let count = length-stats (arc_value held.schema) (table_of (batches_of held)) stats.items is.lawful.statistics in
-    let below : c.args.k < stats.len = omega (arith, c.requires, count, ap (λ (s : Contents). length s.fields) c.held.ensures.shown, stats.ok.0) in
+    let storage = c.storage.result.now in
+    let is = c.storage.ensures.lawful in
+    let stats = arc_value storage.stats in
+    let count = length-stats (arc_value storage.schema) (table_of (batches_of storage)) stats.items is.lawful.statistics in
+    let below : c.args.k < stats.len = omega (arith, c.requires, count, ap (λ (s : Contents). length s.fields) c.storage.ensures.shown, stats.ok.0) in
     let read = subst (λ (v : Vec ColumnStats Global). c.index.result.now ≡ Rattle.std.proofs.Common.get_or v.items c.args.k c.index.result.now) c.deref.ensures c.index.ensures in
     let there = slice_get_read stats.items stats.len c.args.k c.index.result.now stats.ok.0 below read in
     λ f at.
-    subst (λ (s : Contents). AreStats c.index.result.now (kind_of_field f) (column (rows s.history) c.args.k)) c.held.ensures.shown
-    (subst (λ (t : Table). AreStats c.index.result.now (kind_of_field f) (column t c.args.k)) (sym (rows-shown held is))
-    (stats-at (arc_value held.schema) (table_of (batches_of held)) stats.items c.args.k f c.index.result.now is.lawful.statistics
-    (ap (λ (s : Contents). slice_get s.fields c.args.k) c.held.ensures.shown ∙ at) there))
+    subst (λ (s : Contents). AreStats c.index.result.now (kind_of_field f) (column (rows s.history) c.args.k)) c.storage.ensures.shown
+    (subst (λ (t : Table). AreStats c.index.result.now (kind_of_field f) (column t c.args.k)) (sym (rows-shown storage is))
+    (stats-at (arc_value storage.schema) (table_of (batches_of storage)) stats.items c.args.k f c.index.result.now is.lawful.statistics
+    (ap (λ (s : Contents). slice_get s.fields c.args.k) c.storage.ensures.shown ∙ at) there))

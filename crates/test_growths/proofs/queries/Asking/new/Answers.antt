@@ -1,5 +1,5 @@
 use Rattle.std.proofs.Common.{◌∙◌, ap, sym}
-use Rattle.query.specs.Asked.{asked}
+use Rattle.query.specs.QueryShape.{query_shape}
 use Rattle.query.specs.Fault.{fits}
 use Rattle.table.specs.Contents.{Contents}
 use Rattle.test_growths.proofs.queries.Asking.new.Goals as goal
@@ -7,6 +7,6 @@ use Rattle.test_growths.proofs.queries.Asking.new.Goals as goal
 pub invariant_of-result : goal.invariant_of-result
 invariant_of-result c = record {
   fits =
-      ap (λ fs. fits fs (asked c.in_ok-query.query)) (ap (λ (v : Contents). v.fields) (sym c.deref.ensures) ∙ sym c.schema.ensures)
+      ap (λ fs. fits fs (query_shape c.in_ok-query.query)) (ap (λ (v : Contents). v.fields) (sym c.deref.ensures) ∙ sym c.schema.ensures)
       ∙ c.in_ok-query.ensures.fits;
 }

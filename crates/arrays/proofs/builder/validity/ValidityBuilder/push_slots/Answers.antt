@@ -22,15 +22,15 @@ returns-in_ok-push_places-in-Some-clause-ok c =
     let s = c.self.inside in
     let ones = replicate s.before true in
     let slots = range_with_len 0 c.args.count in
-    let told = map (bit_of c.in-Some.bits) slots in
+    let reported = map (bit_of c.in-Some.bits) slots in
     ap (λ xs. ones ++ xs) c.in_ok-push_places-in-Some.ensures.ok
-    ∙ sym (append_assoc ones s.after told)
-    ∙ ap (λ xs. xs ++ told) c.self.view_is
+    ∙ sym (append_assoc ones s.after reported)
+    ∙ ap (λ xs. xs ++ reported) c.self.view_is
     ∙ ap (λ v. c.args.self.now ++ map (valid_in v) slots) (sym c.in-Some.is)
 
 pub invariant_of-self-in-Some : goal.invariant_of-self-in-Some
 invariant_of-self-in-Some c =
     let s = c.self.inside in
-    let told = map (bit_of c.in-Some.bits) (range_with_len 0 c.args.count) in
-    short_still c.push_places.result s.before c.args.count _ s.after c.push_places.new.self told c.args.self.now c.self.view_is
+    let reported = map (bit_of c.in-Some.bits) (range_with_len 0 c.args.count) in
+    short_still c.push_places.result s.before c.args.count _ s.after c.push_places.new.self reported c.args.self.now c.self.view_is
     (length-map-range_with_len (bit_of c.in-Some.bits) 0 c.args.count) c.requires.room c.push_places.ensures.ok c.push_places.ensures.err

@@ -26,8 +26,8 @@ returns-clause-ok g c =
     let n = 64 * c.loop-w.w in
     let rest = c.len-len.result - 64 * (c.len-len.result / 64) in
     let end : 64 * (c.len-len.result / 64) ≡ n = omega arith in
-    let told : (j : ℕ) → j < rest → bit_in c.last_word.result j ≡ f (n + j) =
+    let reported : (j : ℕ) → j < rest → bit_in c.last_word.result j ≡ f (n + j) =
     λ j below. c.last_word.ensures j ∙ ap (λ b. b && f (64 * (c.len-len.result / 64) + j)) (lt-ltb j rest below) ∙ ap (λ m. f (m + j)) end in
     on_ok_weaker c.push_word-2.result
-    (λ grows. places-grown f c.args.self.now c.loop-w.self c.push_word-2.new.self n rest _ c.last_word.result c.loop-w.invariant grows told (omega (arith, c.len-len.ensures)))
+    (λ grows. places-grown f c.args.self.now c.loop-w.self c.push_word-2.new.self n rest _ c.last_word.result c.loop-w.invariant grows reported (omega (arith, c.len-len.ensures)))
     c.push_word-2.ensures.ok

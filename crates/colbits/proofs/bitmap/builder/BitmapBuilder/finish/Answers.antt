@@ -7,8 +7,8 @@ use Rattle.colbits.proofs.WordLemmas.{ArePlaces}
 use Rattle.colbits.proofs.bitmap.builder.BitmapBuilder.finish.Goals as goal
 
 -- what the buffer holds in the end
-held : (c : goal.In_ok-buffer) → ArePlaces (bit_of c.args.self) c.self.inside.len c.in_ok-buffer.buffer
-held c =
+present : (c : goal.In_ok-buffer) → ArePlaces (bit_of c.args.self) c.self.inside.len c.in_ok-buffer.buffer
+present c =
     let s = c.self.inside in
     let size = shown_length s.bytes.items s.last s.len c.args.self c.self.view_is in
     let all =
@@ -18,13 +18,13 @@ held c =
 
 pub invariant_of-result : goal.invariant_of-result
 invariant_of-result c =
-    let all = held c in
+    let all = present c in
     record { length_is = all.long; past = past-filled (bit_of c.args.self) c.in_ok-buffer.buffer c.self.inside.len all.bits_are }
 
 pub returns : goal.returns
 returns c =
     let s = c.self.inside in
     let size = shown_length s.bytes.items s.last s.len c.args.self c.self.view_is in
-    bits-filled (bit_of c.args.self) c.in_ok-buffer.buffer s.len (held c).bits_are
+    bits-filled (bit_of c.args.self) c.in_ok-buffer.buffer s.len (present c).bits_are
     ∙ ap (λ n. map (bit_of c.args.self) (range_with_len 0 n)) size
     ∙ listed c.args.self

@@ -22,10 +22,10 @@ returns c =
     let kept : Keeps c.if-words-self.self-inside.bytes.items c.if-words-self.self-inside.last (n / 64) n xs =
     elim c.if-words-self.branch [
       | then-words-self w ↦ (
-          let told : (j : ℕ) → j < 64 → bit_in w.word_from-self-inside.result j ≡ bit s.bytes.items (8 * (8 * (n / 64)) + 0 + j) =
+          let reported : (j : ℕ) → j < 64 → bit_in w.word_from-self-inside.result j ≡ bit s.bytes.items (8 * (8 * (n / 64)) + 0 + j) =
           λ j small. w.word_from-self-inside.ensures j small ∙ ap (λ bytes. bit bytes (8 * (8 * (n / 64)) + 0 + j)) w.deref.ensures.value in
           subst (λ (i : Inside). Keeps i.bytes.items i.last (n / 64) n xs) (sym w.self-inside-is)
-          (Keeps-words s.bytes.items w.truncate.new.self.items s.last w.word_from-self-inside.result (s.len / 64) (n / 64) n xs before w.if-words-self.true w.truncate.ensures.items told))
+          (Keeps-words s.bytes.items w.truncate.new.self.items s.last w.word_from-self-inside.result (s.len / 64) (n / 64) n xs before w.if-words-self.true w.truncate.ensures.items reported))
       | else-words-self w ↦ (
           let same : s.len / 64 ≡ n / 64 = omega arith in
           subst (λ (i : Inside). Keeps i.bytes.items i.last (n / 64) n xs) (sym w.self-inside-is)

@@ -1,8 +1,0 @@
-use Rattle.serde_json.specs.View.{items_view}
-use Rattle.arrow_json.specs.JsonCatalog.{HasId}
-use Rattle.json_places.specs.JsonMember.{ReadsFirst}
-use Rattle.arrow_json.proofs.catalog.entry_ids.Given as goal
-
--- the numbers so far are read
-abbrev pub invariant-loop-index : goal.invariant-loop-index
-invariant-loop-index l = ReadsFirst HasId (items_view l.entries) l.index-counter l.ids.items

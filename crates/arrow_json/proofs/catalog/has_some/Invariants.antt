@@ -1,9 +1,0 @@
-use Rattle.std.proofs.Common.{◌≡◌, ℕ, ◌<◌, map, Some, option_map}
-use Rattle.std.specs.List.{slice_get}
-use Rattle.arrow_json.specs.EncodingParts.{parts_of}
-use Rattle.arrow_json.specs.JsonEncoding.{Encoding}
-use Rattle.arrow_json.proofs.catalog.has_some.Given as goal
-
--- none so far
-abbrev pub invariant-loop-encoding : goal.invariant-loop-encoding
-invariant-loop-encoding l = (i : ℕ) → i < l.encoding-index → (e : Encoding) → slice_get (map (option_map parts_of) l.encodings) i ≡ Some (Some e) → ⊥

@@ -1,5 +1,0 @@
-use Rattle.arrow_json.proofs.JsonFiles.{encodings_listed}
-use Rattle.arrow_json.proofs.file.file_schema.Goals as goal
-
-pub returns-in-Ok-clause-encodings : goal.returns-in-Ok-clause-encodings
-returns-in-Ok-clause-encodings c = encodings_listed _ _ _ c.in_ok-schema.ensures.ok c.in-Ok.ensures.encodings

@@ -1,5 +1,0 @@
-use Rattle.arrow_json.proofs.FieldTexts.{field_text_law}
-use Rattle.arrow_json.proofs.laws.read_field_has_no_fault.Goals as goal
-
-pub returns : goal.returns
-returns c = field_text_law

@@ -1,0 +1,35 @@
+-- Items that are read one by one.
+use Rattle.std.proofs.Common.{◌≡◌, ℕ, zero, suc, List, [], ◌∷◌, length, Some, refl, ap, subst}
+use Rattle.std.specs.Prelude.{slice_get, ⊤}
+use Rattle.serde_json.specs.Data.{Data, Items, no_items, item}
+use Rattle.serde_json.specs.Events.{items_len}
+use Rattle.serde_json.specs.Find.{get_item}
+use Rattle.json_base.specs.JsonMember.{ReadsEach}
+
+-- As many items as values, each read as its value.
+abbrev pub AreRead : {A : Type 0} (R : Data → A → Type 0) (ds : Items) (xs : List A) → Type 0
+AreRead R no_items [] = ⊤
+AreRead R no_items (x ∷ xs) = ⊥
+AreRead R (item d ds) [] = ⊥
+AreRead R (item d ds) (x ∷ xs) = R d x × AreRead R ds xs
+
+moved : {A : Type 0} (R : Data → A → Type 0) (d e : Data) (x y : A) → R d x → Some d ≡ Some e → Some x ≡ Some y → R e y
+moved R d e x y r p q =
+    let same : d ≡ e = cc in
+    let also : x ≡ y = cc in
+    subst (λ a. R a y) same (subst (λ b. R d b) also r)
+
+many : {A : Type 0} (R : Data → A → Type 0) (ds : Items) (xs : List A) → AreRead R ds xs → length xs ≡ items_len ds
+many R no_items [] h = refl
+many R no_items (x ∷ xs) h = absurd h
+many R (item d ds) [] h = absurd h
+many R (item d ds) (x ∷ xs) h = ap suc (many R ds xs h.1)
+
+one : {A : Type 0} (R : Data → A → Type 0) (ds : Items) (xs : List A) → AreRead R ds xs → (i : ℕ) (d : Data) (x : A) → get_item i ds ≡ Some d → slice_get xs i ≡ Some x → R d x
+one R no_items xs h i d x at is = absurd cc
+one R (item e ds) [] h i d x at is = absurd h
+one R (item e ds) (y ∷ ys) h zero d x at is = moved R e d y x h.0 at is
+one R (item e ds) (y ∷ ys) h (suc i) d x at is = one R ds ys h.1 i d x at is
+
+pub each_read : {A : Type 0} (R : Data → A → Type 0) (ds : Items) (xs : List A) → AreRead R ds xs → ReadsEach R ds xs
+each_read R ds xs h = record { len = many R ds xs h; each = one R ds xs h }

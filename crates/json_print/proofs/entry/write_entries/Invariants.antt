@@ -1,0 +1,12 @@
+use Rattle.std.proofs.Common.{◌≡◌, ◌++◌, drop}
+use Rattle.arrays.specs.Shape.{fields_of}
+use Rattle.json.specs.Tree.{items_tokens}
+use Rattle.serde_json.specs.Written.{items_outline}
+use Rattle.json_print.specs.DictionaryData.{entries_data}
+use Rattle.json_print.proofs.entry.write_entries.Given as goal
+
+-- with the fields that are left all is written
+abbrev pub invariant-loop-place : goal.invariant-loop-place
+invariant-loop-place l =
+    l.out ++ items_tokens (items_outline (entries_data l.place (drop l.place l.dictionaries) (fields_of (drop l.place l.fields))))
+    ≡ l.fn.out ++ items_tokens (items_outline (entries_data 0 l.dictionaries (fields_of l.fields)))

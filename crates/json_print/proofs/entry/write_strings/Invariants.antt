@@ -1,0 +1,14 @@
+use Rattle.std.proofs.Common.{◌≡◌, ◌++◌, drop, map}
+use Rattle.std.specs.String.{string_bytes}
+use Rattle.json.specs.Tree.{items_tokens}
+use Rattle.serde_json.specs.Data.{array}
+use Rattle.serde_json.specs.Written.{items_outline}
+use Rattle.json_print.specs.ColumnData.{each, text_data}
+use Rattle.json_print.specs.DictionaryData.{text_items}
+use Rattle.json_print.specs.Written.{tokens_of}
+use Rattle.json_print.proofs.entry.write_strings.Given as goal
+
+-- with the texts that are left all is written
+abbrev pub invariant-loop-text : goal.invariant-loop-text
+invariant-loop-text l =
+    l.out ++ items_tokens (items_outline (each text_data (text_items (map string_bytes (drop l.text-index l.texts))))) ≡ l.fn.out ++ tokens_of (array (each text_data (text_items (map string_bytes l.texts))))

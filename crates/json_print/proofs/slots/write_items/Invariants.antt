@@ -1,0 +1,11 @@
+use Rattle.std.proofs.Common.{◌≡◌, ◌++◌, drop}
+use Rattle.json.specs.Tree.{items_tokens}
+use Rattle.serde_json.specs.Written.{items_outline}
+use Rattle.json_print.specs.ColumnData.{each}
+use Rattle.json_print.specs.Slots.{part_data}
+use Rattle.arrays.specs.Lengths.{joined_items}
+use Rattle.json_print.proofs.slots.write_items.Given as goal
+
+-- with the columns that are left all is written
+abbrev pub invariant-loop-column : goal.invariant-loop-column
+invariant-loop-column l = l.out ++ items_tokens (items_outline (each (part_data l.part) (joined_items (drop l.column-index l.columns)))) ≡ l.fn.out ++ items_tokens (items_outline (each (part_data l.part) (joined_items l.columns)))

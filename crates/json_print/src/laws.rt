@@ -1,0 +1,13 @@
+//! What holds of the texts that are printed.
+
+ghost use Rattle.std.specs.Prelude.{◌≡◌, ◌≤◌, Some};
+ghost use Rattle.serde_json.specs.Data.{Data, depth};
+ghost use Rattle.serde_json.specs.Read.{max_depth, read};
+ghost use Rattle.serde_json.specs.Written.{compact_text};
+ghost use Rattle.json_print.specs.Plain.{IsPlain};
+
+/// The compact text of a plain value is JSON of that value, and of no other.
+#[tactic(auto, using(crate::proofs::ReadBack::read_back))]
+pub fn plain_values_read_back()
+    ensures { (d : Data) → IsPlain d → depth d ≤ max_depth → read (compact_text d) ≡ Some d }
+{}

@@ -1,0 +1,20 @@
+use Rattle.std.proofs.Common.{◌+◌, ◌*◌, map}
+use Rattle.serde_json.specs.Data.{depth, items_depth}
+use Rattle.serde_json.specs.View.{view, items_view}
+use Rattle.json_base.specs.JsonMember.{ReadsFirst}
+use Rattle.json_query.specs.QueryExpr.{ReadsExpr, named_tree}
+use Rattle.json_query.proofs.expr.+exprs.Given as goal
+
+-- the expressions so far are read
+abbrev pub invariant-read_all-loop-index : goal.invariant-read_all-loop-index
+invariant-read_all-loop-index l = ReadsFirst ReadsExpr (items_view l.values) l.index-counter (map named_tree l.exprs.items)
+
+-- three calls go one level down
+abbrev pub decreases-read_expr : goal.decreases-read_expr
+decreases-read_expr l = 3 * depth (view l.value.now) + 1
+
+abbrev pub decreases-read_operator : goal.decreases-read_operator
+decreases-read_operator l = 3 * depth (view l.object.now)
+
+abbrev pub decreases-read_all : goal.decreases-read_all
+decreases-read_all l = 3 * items_depth (items_view l.values.now) + 2

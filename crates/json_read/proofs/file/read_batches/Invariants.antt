@@ -1,0 +1,15 @@
+use Rattle.std.proofs.Common.{map, option_map}
+use Rattle.std.specs.Arc.{arc_value}
+use Rattle.json_read.specs.CatalogParts.{coding_of}
+use Rattle.serde_json.specs.View.{items_view}
+use Rattle.json_base.specs.JsonMember.{ReadsFirst}
+use Rattle.json_read.specs.JsonFile.{AreUnder}
+use Rattle.json_read.specs.JsonBatch.{ReadsBatch}
+use Rattle.json_base.specs.JsonTable.{table_of}
+use Rattle.json_read.proofs.file.read_batches.Given as goal
+
+-- the batches so far are read
+abbrev pub invariant-loop-index : goal.invariant-loop-index
+invariant-loop-index l =
+    ReadsFirst (ReadsBatch (arc_value l.schema) (map (option_map coding_of) l.catalog)) (items_view l.values) l.index-counter (map table_of (map arc_value l.batches.items))
+    × AreUnder (arc_value l.schema) (map arc_value l.batches.items)

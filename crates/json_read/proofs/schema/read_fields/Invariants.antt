@@ -1,0 +1,14 @@
+use Rattle.std.proofs.Common.{map, option_map}
+use Rattle.serde_json.specs.View.{items_view}
+use Rattle.arrays.specs.Shape.{fields_of}
+use Rattle.json_base.specs.JsonMember.{ReadsFirst}
+use Rattle.json_read.specs.EncodingParts.{parts_of}
+use Rattle.json_read.specs.JsonEncoding.{HasEncoding}
+use Rattle.json_read.specs.JsonFields.{ReadsField}
+use Rattle.json_read.proofs.schema.read_fields.Given as goal
+
+-- the fields so far are read, and their encodings
+abbrev pub invariant-loop-index : goal.invariant-loop-index
+invariant-loop-index l =
+    ReadsFirst ReadsField (items_view l.values) l.index-counter (fields_of l.fields.items)
+    × ReadsFirst HasEncoding (items_view l.values) l.index-counter (map (option_map parts_of) l.encodings.items)

@@ -1,0 +1,30 @@
+-- The dictionaries of a file. (Arrow integration testing, "JSON test data format", DictionaryBatch)
+use Rattle.std.specs.Prelude.{◌≡◌, ℕ, List, Some, option_and_then}
+use Rattle.types.specs.declared.offset_width.OffsetWidth.TheVariants.{Narrow}
+use Rattle.arrays.specs.Item.{Item}
+use Rattle.serde_json.specs.Data.{Data, item, no_items}
+use Rattle.serde_json.specs.Find.{as_array}
+use Rattle.json_base.specs.JsonNumber.{count_of}
+use Rattle.json_base.specs.JsonMember.{member_of}
+use Rattle.json_read.specs.JsonSchema.{only_item}
+use Rattle.json_read.specs.JsonColumn.{ReadsPlain, texts}
+use Rattle.json_base.specs.declared.path.Member.TheVariants as member
+
+-- A batch object with one column, of texts as utf8 has them.
+pub record ReadsTexts (d : Data) (items : List Item) : Type 0 where
+  pub n : ℕ
+  pub count : option_and_then count_of (member_of member.Count d) ≡ Some n
+  pub column : Data
+  pub columns : option_and_then as_array (member_of member.Columns d) ≡ Some (item column no_items)
+  pub reads : ReadsPlain (texts Narrow) n column items
+
+-- Such a batch object, or an array of exactly one.
+pub data HasTexts (d : Data) (items : List Item) : Type 0 where
+  bare : ReadsTexts d items → HasTexts d items
+  wrapped : (batch : Data) → only_item d ≡ Some batch → ReadsTexts batch items → HasTexts d items
+
+-- The entry of a dictionary of the texts.
+pub record ReadsEntry (d : Data) (items : List Item) : Type 0 where
+  pub wrapper : Data
+  pub at_wrapper : member_of member.Texts d ≡ Some wrapper
+  pub reads : HasTexts wrapper items

@@ -1,0 +1,19 @@
+//! Reads Arrow's JSON integration files into record batches. Users name `arrow_json`, which passes this on.
+#![tactic(auto)]
+
+mod batch;
+mod catalog;
+mod codes;
+mod column;
+mod dictionary;
+mod encoding;
+pub mod field;
+pub mod file;
+pub mod laws;
+mod list;
+mod place;
+mod schema;
+mod type_object;
+
+pub use field::read_field;
+pub use file::{read_file, read_file_from_vec};

@@ -1,0 +1,63 @@
+-- What is reported of the workers' outcomes.
+use Rattle.std.specs.Prelude.{◌≡◌, ◌≢◌, ◌⊎◌, ◌≤◌, All, IfSome, List, Option, None, Some, nat_lt, if◌then◌else◌}
+use Rattle.std.specs.List.{Any, filter_map, zip}
+use Rattle.arrays.specs.Batch.{Batch}
+use Rattle.shared.specs.Hand.{Hand, calls_of_hand}
+use Rattle.shared.specs.Known.{Known}
+use Rattle.shared.specs.Left.{Left}
+use Rattle.table.specs.declared.refusal.Refusal.TheVariants as refusal
+use Rattle.loads.specs.Loaded.{AreRun, Stop}
+use Rattle.loads.specs.declared.fault.LoadFault.{LoadFault}
+use Rattle.loads.specs.declared.fault.LoadFault.TheVariants.{NoMemory, Refused}
+
+-- The receipts of the last batches, without those who have none.
+abbrev pub last_receipts : List Left → List Known
+last_receipts outcomes = filter_map (λ o. o.last) outcomes
+
+abbrev pub IsWantOfMemory : Stop → Type 0
+IsWantOfMemory s = s.2 ≡ refusal.NoMemory
+
+-- A worker was stopped so, and not for want of memory; who was stopped in a lesser file was for want of memory.
+pub record IsLeast (stop : Stop) (outcomes : List Left) : Type 0 where
+  pub known : stop.2 ≢ refusal.NoMemory
+  pub met : Any (λ o. o.stop ≡ Some stop) outcomes
+  pub least : All (λ o. IfSome o.stop (λ s. IsWantOfMemory s ⊎ (stop.0 ≤ s.0))) outcomes
+
+-- The least such stop; none, where nobody was stopped but for want of memory.
+abbrev pub IsLeastStop : Option Stop → List Left → Type 0
+IsLeastStop None outcomes = All (λ o. IfSome o.stop IsWantOfMemory) outcomes
+IsLeastStop (Some stop) outcomes = IsLeast stop outcomes
+
+-- A worker was stopped, and nobody but for want of memory.
+pub record IsShort (outcomes : List Left) : Type 0 where
+  pub met : Any (λ o. o.stop ≢ None) outcomes
+  pub all : All (λ o. IfSome o.stop IsWantOfMemory) outcomes
+
+abbrev pub IsReportOf : LoadFault → List Left → Type 0
+IsReportOf (Refused file batch refusal) outcomes = IsLeast (file, batch, refusal) outcomes
+IsReportOf NoMemory outcomes = IsShort outcomes
+
+-- Nobody was stopped.
+abbrev pub AllFinished : List Left → Type 0
+AllFinished outcomes = All (λ o. o.stop ≡ None) outcomes
+
+-- What is to be reported of the outcomes, if anything.
+abbrev pub IsReport : Option LoadFault → List Left → Type 0
+IsReport None outcomes = AllFinished outcomes
+IsReport (Some fault) outcomes = IsReportOf fault outcomes
+
+-- What stands against loading: what the outcomes tell, or that there was no room for the answer and nothing was begun.
+abbrev pub Stands : LoadFault → List (List Batch) → List Hand → List Hand → Type 0
+Stands fault files old new = ((outcomes : List Left) × AreRun files old new outcomes × IsReportOf fault outcomes) ⊎ ((fault ≡ NoMemory) × (new ≡ old))
+
+-- The receipts are the last of each worker that appended, in order.
+abbrev pub AreReceipts : List Known → List (List Batch) → List Hand → List Hand → Type 0
+AreReceipts receipts files old new = (outcomes : List Left) × AreRun files old new outcomes × (receipts ≡ last_receipts outcomes)
+
+-- What a worker has seen, where it appended anything.
+abbrev pub seen_of : Hand × Hand → Option Known
+seen_of p = if nat_lt (calls_of_hand p.0) (calls_of_hand p.1) then Some p.1.seen else None
+
+-- The receipts are of all that the workers that appended have seen, in order.
+abbrev pub AreNewest : List Known → List Hand → List Hand → Type 0
+AreNewest receipts old new = receipts ≡ filter_map seen_of (zip old new)

@@ -1,8 +1,0 @@
--- What the proofs of this crate share.
-mod Forms
-mod ExprFaults
-mod Pushes
-mod Exprs
-mod AskedFaults
-mod ExprLaws
-mod AskedLaws

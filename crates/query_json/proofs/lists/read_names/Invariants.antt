@@ -1,9 +1,0 @@
-use Rattle.std.proofs.Common.{map, string_bytes}
-use Rattle.serde_json.specs.View.{items_view}
-use Rattle.json_places.specs.JsonMember.{ReadsFirst}
-use Rattle.query_json.specs.QueryAsked.{ReadsName}
-use Rattle.query_json.proofs.lists.read_names.Given as goal
-
--- the names so far are read
-abbrev pub invariant-loop-index : goal.invariant-loop-index
-invariant-loop-index l = ReadsFirst ReadsName (items_view l.values) l.index-counter (map string_bytes l.names.items)

@@ -1,6 +1,0 @@
--- The words of this crate's contracts.
-pub mod QueryForm
-pub mod QueryExpr
-pub mod QueryExprFault
-pub mod QueryAsked
-pub mod QueryAskedFault

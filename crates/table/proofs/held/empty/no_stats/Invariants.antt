@@ -1,7 +1,0 @@
-use Rattle.std.proofs.Common.{[], take}
-use Rattle.arrays.specs.Shape.{fields_of}
-use Rattle.compaction.specs.Statistics.{AreStatsOf}
-use Rattle.table.proofs.held.empty.no_stats.Given as goal
-
-abbrev pub invariant-loop-field : goal.invariant-loop-field
-invariant-loop-field l = AreStatsOf (fields_of (take l.field-index l.fields)) [] l.stats.items

@@ -1,5 +1,0 @@
-//! What holds of the texts of files.
-#![tactic(auto)]
-
-pub mod laws;
-pub mod whole;
