@@ -15,3 +15,7 @@ pub mod PieceLemmas
 pub mod WholeLemmas
 pub mod ReportedLemmas
 pub mod SendingLemmas
+pub mod MergingCellLemmas
+pub mod MergingKeyLemmas
+pub mod MergingGroupLemmas
+pub mod MergingLemmas

@@ -74,7 +74,7 @@ mapped-same : (f g : List Item → Table) (ks : Keys) → ((k : List Item) → f
 mapped-same f g [] same = refl
 mapped-same f g (k ∷ ks) same = ap (λ (t : Table). t ∷ map f ks) (same k) ∙ ap (λ (l : List Table). g k ∷ l) (mapped-same f g ks same)
 
-not_among : (k : List Item) (ks : Keys) → AllByRecursion (λ y. same_key k y ≡ false) ks → is_among ks k ≡ false
+pub not_among : (k : List Item) (ks : Keys) → AllByRecursion (λ y. same_key k y ≡ false) ks → is_among ks k ≡ false
 not_among k [] h = refl
 not_among k (y ∷ ks) h = ap (λ b. b || is_among ks k) h.0 ∙ not_among k ks h.1
 

@@ -5,3 +5,4 @@ pub mod Runs
 pub mod Masks
 pub mod Pieces
 pub mod Answers
+pub mod Merging

@@ -12,6 +12,7 @@ mod cuts;
 mod filter;
 mod grouping;
 pub mod groups;
+pub mod laws;
 mod mask;
 mod neighbours;
 mod piece;

@@ -181,7 +181,7 @@ sum-append [] ys = refl
 sum-append (x ∷ xs) [] = ap (λ l. Some (fold ◌+ℤ◌ x l)) (append-nil xs)
 sum-append (x ∷ xs) (y ∷ ys) = ap Some (fold-append ◌+ℤ◌ x xs (y ∷ ys) ∙ fold-sum (fold ◌+ℤ◌ x xs) y ys)
 
-valid_items-one : (k : Kind) (x : Item) → is_list k ≡ false → IsItemOf k x → not (is_null x) ≡ is_ordered k x
+pub valid_items-one : (k : Kind) (x : Item) → is_list k ≡ false → IsItemOf k x → not (is_null x) ≡ is_ordered k x
 valid_items-one (kind.int t) null plain h = refl
 valid_items-one (kind.int t) (int z) plain h = refl
 valid_items-one (kind.int t) (boolean b) plain h = absurd h
