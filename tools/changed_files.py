@@ -20,7 +20,7 @@ SECONDS = 10
 
 def shipped():
     folder = os.path.join(TOP, "examples")
-    for name in sorted(os.listdir(folder)):
+    for name in sorted(name for name in os.listdir(folder) if name.endswith(".json")):
         with open(os.path.join(folder, name), "rb") as file:
             yield file.read()
 

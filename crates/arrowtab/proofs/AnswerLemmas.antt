@@ -1,19 +1,11 @@
 -- What was made of the files, as an answer of the sources' bytes.
-use Rattle.std.proofs.Common.{Result, Ok, Err, IfOk, IfErr, ◌≡◌, ◌∙◌, ℕ, List, [], ◌∷◌, length, get_or, map, Option, None, Some, option_map, ap, sym, refl, subst}
+use Rattle.std.proofs.Common.{Result, Ok, Err, IfOk, IfErr, ◌≡◌, ◌∙◌, ℕ, List, [], ◌∷◌, length, map, Option, None, Some, String, Global, option_map, string_bytes, ap, sym, refl, subst}
 use Rattle.std.proofs.lemmas.List.{length-map}
-use Rattle.std.proofs.lemmas.Simd.{map-map}
 use Rattle.std.proofs.lemmas.Slice.Zip.{AllZip-long}
-use Rattle.std.specs.List.{AllByRecursion, range_with_len}
-use Rattle.arrays.specs.Batch as batch
-use Rattle.arrays.specs.Batch.{Batch}
 use Rattle.arrays.specs.File.{File}
-use Rattle.arrays.specs.Item.{Item, null}
-use Rattle.arrays.specs.Seen.{Seen}
 use Rattle.arrays.specs.Shape.{FieldShape, field_of}
 use Rattle.json_read.specs.JsonField.{IsFieldText}
-use Rattle.json_read.specs.JsonFile.{AreUnder, file_of}
-use Rattle.json_base.specs.JsonTable as read
-use Rattle.json_base.specs.JsonTable.{FileData, table_of}
+use Rattle.json_read.specs.JsonFile.{file_of}
 use Rattle.job.specs.declared.jobs.Command.{Command}
 use Rattle.job.specs.declared.jobs.Command.TheVariants as command
 use Rattle.job.specs.declared.jobs.Job.{Job}
@@ -23,40 +15,26 @@ use Rattle.table.specs.History.{History}
 use Rattle.table.specs.declared.refusal.Refusal.{Refusal}
 use Rattle.arrowtab.specs.Column.{IsColumn, column_text, fields_with, history_with}
 use Rattle.arrowtab.specs.Explained.{Explains, ExplainsColumn, ExplainsFiles, ExplainsText}
-use Rattle.arrowtab.specs.Loaded.{FileBatch, IsLoaded, IsStopped, batches_of}
+use Rattle.arrowtab.specs.Loaded.{IsLoaded, IsStopped}
+use Rattle.reports.specs.FileBatches.{FileBatch, batches_of}
 use Rattle.arrowtab.specs.Output.{Prints, PrintsNothing}
-use Rattle.arrowtab.specs.Run.{Answers, AreRead, Inputs, Refuses, RefusesQuery, table_fields}
+use Rattle.arrowtab.specs.Run.{Answers, AreRead, Inputs, Refuses, RefusesQuery}
+use Rattle.reports.specs.FileBatches.{table_fields}
 use Rattle.arrowtab.specs.Wanted.{IsColumnUnread, IsRequest, IsUnread, IsWanted, PrintsWanted, RefusesWanted}
-use Rattle.arrowtab.specs.Worked.{IsRefusedOver, Shows, StopsColumn, StopsWanted, batch_of, listed}
+use Rattle.arrowtab.specs.Worked.{IsRefusedOver, Shows, StopsColumn, StopsWanted, listed}
+use Rattle.reports.specs.FileBatches.{batch_of}
+use Rattle.reports.specs.QueryFaults.{IsUnreadQuery}
+use Rattle.reports.proofs.FileLemmas.{AreKept, data_of, file-listed}
 use Rattle.loads.specs.Loaded.{fields_for}
-use Rattle.arrowtab.specs.declared.run_fault.ColumnFault.{ColumnFault}
-use Rattle.arrowtab.specs.declared.run_fault.ColumnFault.TheVariants as column
-use Rattle.arrowtab.specs.declared.run_fault.FileFault.TheVariants.{CannotRead, Json, Refused}
-use Rattle.arrowtab.specs.declared.run_fault.RunFault.{RunFault}
-use Rattle.arrowtab.specs.declared.run_fault.RunFault.TheVariants.{NoMemory, OfColumn, OfFile, QueryUnread, QueryRefused}
+use Rattle.reports.specs.declared.run_fault.ColumnFault.{ColumnFault}
+use Rattle.reports.specs.declared.run_fault.ColumnFault.TheVariants as column
+use Rattle.reports.specs.declared.run_fault.FileFault.TheVariants.{CannotRead, Json, Refused}
+use Rattle.reports.specs.declared.run_fault.RunFault.{RunFault}
+use Rattle.reports.specs.declared.run_fault.RunFault.TheVariants.{NoMemory, OfColumn, OfFile, QueryUnread, QueryRefused}
 use Rattle.arrowtab.specs.declared.wanted.Request.{Request}
 use Rattle.arrowtab.specs.declared.wanted.Wanted.{Wanted}
 
 -- ---- batches of files, as the files' bytes say them
-
-rows_of_table : (b : Batch) → read.rows_of (table_of b) ≡ batch.rows_of b
-rows_of_table b = ap (λ (f : ℕ → List Item). map f (range_with_len 0 b.rows)) (λ j. λ i. map-map (λ (c : List Item). get_or c i null) (λ (s : Seen). s.items) b.columns j)
-
-abbrev data_of : List File → List FileData
-data_of files = map file_of files
-
-abbrev AreKept : List File → Type 0
-AreKept files = AllByRecursion (λ f. AreUnder f.fields f.batches) files
-
-abbrev seen_under : List FieldShape → List Batch → List FileBatch
-seen_under fields bs = batches_of (record { fields = fields; tables = map table_of bs })
-
-file-listed : (fields : List FieldShape) (bs : List Batch) → AreUnder fields bs → seen_under fields bs ≡ map batch_of bs
-file-listed fields [] under = refl
-file-listed fields (b ∷ bs) under =
-    ap (λ (fs : List FieldShape). record { fields = fs; rows = read.rows_of (table_of b) } ∷ seen_under fields bs) (sym under.0)
-    ∙ ap (λ (t : batch.Table). record { fields = b.fields; rows = t } ∷ seen_under fields bs) (rows_of_table b)
-    ∙ ap (λ (l : List FileBatch). batch_of b ∷ l) (file-listed fields bs under.1)
 
 files-listed : (files : List File) → AreKept files → map batches_of (data_of files) ≡ listed files
 files-listed [] kept = refl
@@ -190,6 +168,14 @@ text_explains job inputs before after (QueryUnread f) why = why
 text_explains job inputs before after (QueryRefused f) why = absurd why
 text_explains job inputs before after (OfColumn (column.Unread f)) why = why
 text_explains job inputs before after (OfColumn (column.Refused fault)) why = absurd why
+
+-- the fault of a query's text is one of the command that has the text
+pub text_unread : (text : String Global) (fault : RunFault) → IsUnreadQuery (string_bytes text) fault → IsUnread (command.Query text) fault
+text_unread text NoMemory why = tt
+text_unread text (OfFile file fault) why = absurd why
+text_unread text (QueryUnread f) why = why
+text_unread text (QueryRefused f) why = absurd why
+text_unread text (OfColumn f) why = absurd why
 
 pub query_unread : (job : Job) (fault : RunFault) → IsUnread job.command fault → ExplainsText job fault
 query_unread job NoMemory why = tt

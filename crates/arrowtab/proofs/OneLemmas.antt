@@ -5,7 +5,8 @@ use Rattle.std.specs.List.{AllByRecursion, flat_map}
 use Rattle.arrays.specs.Batch.{Table}
 use Rattle.arrays.specs.Shape.{FieldShape}
 use Rattle.table.specs.History.{History, of}
-use Rattle.arrowtab.specs.Loaded.{FileBatch, IsLoaded, added_by, tables_of}
+use Rattle.arrowtab.specs.Loaded.{IsLoaded, added_by}
+use Rattle.reports.specs.FileBatches.{FileBatch, tables_of}
 use Rattle.arrowtab.proofs.PlanLemmas.{by_recursion, planned_alone, same_test}
 
 -- tables that worker 0 added

@@ -14,13 +14,13 @@ use Rattle.ends.specs.declared.source.SourceFault.TheVariants.{ReadFailed}
 use Rattle.json.proofs.Found.{Some_inj}
 use Rattle.json_base.specs.JsonTable.{FileData}
 use Rattle.json_base.specs.declared.fault.JsonFault.{JsonFault}
-use Rattle.arrowtab.proofs.ParseLemmas.{zip_more}
+use Rattle.reports.proofs.ParseLemmas.{texts_under, zip_more}
 use Rattle.arrowtab.specs.Explained.{ExplainsFiles, IsOfFirst}
-use Rattle.arrowtab.specs.Parsed.{AddsFiles, IsFirstUnread, IsTextOf, StopsParsing}
+use Rattle.reports.specs.Parsed.{AddsFiles, IsFirstUnread, IsTextOf, StopsParsing}
 use Rattle.arrowtab.specs.Run.{AreRead, Inputs}
-use Rattle.arrowtab.specs.declared.run_fault.FileFault.TheVariants.{CannotRead, Json, Refused}
-use Rattle.arrowtab.specs.declared.run_fault.RunFault.{RunFault}
-use Rattle.arrowtab.specs.declared.run_fault.RunFault.TheVariants.{NoMemory, OfColumn, OfFile, QueryUnread, QueryRefused}
+use Rattle.reports.specs.declared.run_fault.FileFault.TheVariants.{CannotRead, Json, Refused}
+use Rattle.reports.specs.declared.run_fault.RunFault.{RunFault}
+use Rattle.reports.specs.declared.run_fault.RunFault.TheVariants.{NoMemory, OfColumn, OfFile, QueryUnread, QueryRefused}
 
 -- ---- lists beside one another
 
@@ -67,12 +67,6 @@ reported_read (i ∷ inputs) [] [] reported read = absurd reported
 reported_read (i ∷ inputs) [] (f ∷ files) reported read = absurd reported
 reported_read (i ∷ inputs) (t ∷ texts) [] reported read = absurd read
 reported_read (i ∷ inputs) (t ∷ texts) (f ∷ files) reported read = (one_read i t f reported.0 read.0, reported_read inputs texts files reported.1 read.1)
-
-texts_under : (texts : List (List ℕ)) (files : List File) → AllZip IsTextOf texts files → AllByRecursion (λ f. AreUnder f.fields f.batches) files
-texts_under [] [] read = tt
-texts_under [] (f ∷ files) read = absurd read
-texts_under (t ∷ texts) [] read = absurd read
-texts_under (t ∷ texts) (f ∷ files) read = (read.0.1, texts_under texts files read.1)
 
 reported_stands : (input : Option (List ℕ)) (text : List ℕ) (f : JsonFault) → IsRead input text → BytesFault text f.kind f.path → IfSome input (λ bytes. BytesFault bytes f.kind f.path)
 reported_stands None text f reported stands = tt

@@ -7,15 +7,15 @@ use Rattle.std.specs.Io.KnownBytes.{Appends}
 use Rattle.job.specs.Jobs.{names_of}
 use Rattle.job.specs.declared.jobs.Job.{Job}
 use Rattle.arrowtab.specs.Explained.{Explains}
-use Rattle.arrowtab.specs.Loaded.{batches_of}
+use Rattle.reports.specs.FileBatches.{batches_of}
 use Rattle.ends.specs.Line.{line_taken, sink_failed}
 use Rattle.arrowtab.specs.Run.{Excuse, Inputs, column_not_read, column_refused, error_failed, no_memory, not_read, query_not_read, query_refused, refused, source_failed}
-use Rattle.arrowtab.specs.FaultLine.{IsLineOf, IsOfFile, TookFault, built, not_built}
-use Rattle.arrowtab.specs.declared.run_fault.ColumnFault.TheVariants as column
-use Rattle.arrowtab.specs.declared.run_fault.ColumnFault.TheVariants.{Unread}
-use Rattle.arrowtab.specs.declared.run_fault.FileFault.TheVariants.{CannotRead, Json, Refused}
-use Rattle.arrowtab.specs.declared.run_fault.RunFault.{RunFault}
-use Rattle.arrowtab.specs.declared.run_fault.RunFault.TheVariants.{NoMemory, OfColumn, OfFile, QueryUnread, QueryRefused}
+use Rattle.arrowtab.specs.TookFault.{IsLineOf, IsOfFile, TookFault, built, not_built}
+use Rattle.reports.specs.declared.run_fault.ColumnFault.TheVariants as column
+use Rattle.reports.specs.declared.run_fault.ColumnFault.TheVariants.{Unread}
+use Rattle.reports.specs.declared.run_fault.FileFault.TheVariants.{CannotRead, Json, Refused}
+use Rattle.reports.specs.declared.run_fault.RunFault.{RunFault}
+use Rattle.reports.specs.declared.run_fault.RunFault.TheVariants.{NoMemory, OfColumn, OfFile, QueryUnread, QueryRefused}
 
 -- the file of a fault that has a cause is one of those that were read
 pub named : (job : Job) (count : ℕ) (inputs : Inputs) (before after : List ℕ) (fault : RunFault) → length inputs ≡ count → length before ≡ count → Explains job inputs before after fault → IsOfFile count fault

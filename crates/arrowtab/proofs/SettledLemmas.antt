@@ -21,8 +21,9 @@ use Rattle.group.proofs.TallyLemmas.{no_greatest_of_lists, no_least_of_lists}
 use Rattle.group.specs.Joined.{better, both_sums}
 use Rattle.group.specs.Stats.{greater, greatest_of, is_bytes, is_number, is_truth, least_of, lesser, nulls_of, number_of, sum_of}
 use Rattle.table.specs.History.{History, of, rows}
-use Rattle.arrowtab.specs.Loaded.{FileBatch, IsLoaded, added_by}
-use Rattle.arrowtab.specs.Shown.{column_line, column_lines, field_line, rows_line, shown, worker_line, worker_lines}
+use Rattle.arrowtab.specs.Loaded.{IsLoaded, added_by}
+use Rattle.reports.specs.FileBatches.{FileBatch}
+use Rattle.reports.specs.Shown.{column_line, column_lines, field_line, rows_line, shown, worker_line, worker_lines}
 use Rattle.arrowtab.proofs.PlanLemmas.{by_recursion}
 
 -- ---- of two values the first in an order, whichever is named first

@@ -18,11 +18,13 @@ use Rattle.table.specs.Contents.{Contents}
 use Rattle.table.specs.History.{History, of}
 use Rattle.table.specs.declared.refusal.Refusal.{Refusal}
 use Rattle.arrowtab.specs.Column.{fields_with}
-use Rattle.arrowtab.specs.Loaded.{FileBatch, IsLoaded, IsStopped, added_by, tables_of}
+use Rattle.arrowtab.specs.Loaded.{IsLoaded, IsStopped, added_by}
+use Rattle.reports.specs.FileBatches.{FileBatch, tables_of}
 use Rattle.arrowtab.specs.Wanted.{IsUnprinted, PrintsWanted, RefusesWanted}
-use Rattle.arrowtab.specs.Worked.{Holds, IsRefusedOver, Shows, StopsLoading, StopsWanted, batch_of, listed}
-use Rattle.arrowtab.specs.declared.run_fault.RunFault.{RunFault}
-use Rattle.arrowtab.specs.declared.run_fault.RunFault.TheVariants.{NoMemory, OfColumn, OfFile, QueryUnread, QueryRefused}
+use Rattle.arrowtab.specs.Worked.{Holds, IsRefusedOver, Shows, StopsLoading, StopsWanted, listed}
+use Rattle.reports.specs.FileBatches.{batch_of}
+use Rattle.reports.specs.declared.run_fault.RunFault.{RunFault}
+use Rattle.reports.specs.declared.run_fault.RunFault.TheVariants.{NoMemory, OfColumn, OfFile, QueryUnread, QueryRefused}
 use Rattle.arrowtab.specs.declared.wanted.Wanted.{Wanted}
 use Rattle.arrowtab.specs.declared.wanted.Wanted.TheVariants as wanted
 use Rattle.arrowtab.proofs.PlanLemmas.{all_from, map_begun, planned-map}

@@ -4,13 +4,13 @@ use Rattle.arrowtab.specs.Run.{AreRead, FailedFile, FailedQuery, FailedRead, Inp
 use Rattle.json_base.specs.JsonTable.{FileData}
 use Rattle.job.specs.declared.jobs.Job.{Job}
 use Rattle.arrowtab.specs.Column.{FailedColumn, RefusesColumn}
-use Rattle.arrowtab.specs.declared.run_fault.ColumnFault.{ColumnFault}
-use Rattle.arrowtab.specs.declared.run_fault.ColumnFault.TheVariants as column
-use Rattle.arrowtab.specs.declared.run_fault.ColumnFault.TheVariants.{Unread}
-use Rattle.arrowtab.specs.declared.run_fault.FileFault.{FileFault}
-use Rattle.arrowtab.specs.declared.run_fault.FileFault.TheVariants.{CannotRead, Json, Refused}
-use Rattle.arrowtab.specs.declared.run_fault.RunFault.{RunFault}
-use Rattle.arrowtab.specs.declared.run_fault.RunFault.TheVariants.{NoMemory, OfColumn, OfFile, QueryUnread, QueryRefused}
+use Rattle.reports.specs.declared.run_fault.ColumnFault.{ColumnFault}
+use Rattle.reports.specs.declared.run_fault.ColumnFault.TheVariants as column
+use Rattle.reports.specs.declared.run_fault.ColumnFault.TheVariants.{Unread}
+use Rattle.reports.specs.declared.run_fault.FileFault.{FileFault}
+use Rattle.reports.specs.declared.run_fault.FileFault.TheVariants.{CannotRead, Json, Refused}
+use Rattle.reports.specs.declared.run_fault.RunFault.{RunFault}
+use Rattle.reports.specs.declared.run_fault.RunFault.TheVariants.{NoMemory, OfColumn, OfFile, QueryUnread, QueryRefused}
 
 -- The cause of a fault of reading a file: a failure of its source in this call, or a fault of its bytes.
 abbrev pub ExplainsRead : Inputs → List ℕ → List ℕ → ℕ → FileFault → Type 0

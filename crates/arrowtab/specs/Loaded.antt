@@ -3,22 +3,11 @@ use Rattle.std.specs.Prelude.{◌≡◌, ◌≢◌, ◌<◌, ◌++◌, ◌%◌, 
 use mathlib.Core.List.{IsPrefix}
 use Rattle.arrays.specs.Shape.{FieldShape}
 use Rattle.arrays.specs.Batch.{Table}
-use Rattle.json_base.specs.JsonTable.{FileData, rows_of}
 use Rattle.table.specs.History.{History, of}
 use Rattle.loads.specs.Plan.{planned}
+use Rattle.reports.specs.FileBatches.{FileBatch, tables_of}
 use Rattle.table.specs.Cause.{IsLegal, difference, handed_cause}
 use Rattle.table.specs.declared.refusal.Refusal.{Refusal}
-
--- A batch of a file: the fields of the file, and the rows.
-pub record FileBatch : Type 0 where
-  pub fields : List FieldShape
-  pub rows : Table
-
-abbrev pub batches_of : FileData → List FileBatch
-batches_of f = map (λ t. record { fields = f.fields; rows = rows_of t }) f.tables
-
-abbrev pub tables_of : List FileBatch → List Table
-tables_of batches = map (λ b. b.rows) batches
 
 -- The tables that a worker added, in order.
 abbrev pub added_by : History → ℕ → List Table

@@ -1,12 +1,11 @@
 -- What the program writes, and why it refuses: stated over the bytes that its sources tell.
-use Rattle.std.specs.Prelude.{◌≡◌, ◌<◌, ◌∷◌, ℕ, List, [], map, Option, Some, IfSome, slice_get, string_bytes}
+use Rattle.std.specs.Prelude.{◌≡◌, ◌<◌, ℕ, List, map, Option, Some, IfSome, slice_get, string_bytes}
 use Rattle.std.specs.List.{AllZip}
 use Rattle.std.specs.Io.KnownBytes.{Appends, Keeps}
 use Rattle.ends.specs.Line.{memory_line, output_line}
 use Rattle.ends.specs.Sink.{AppendsFront}
 use Rattle.arrays.specs.Shape.{FieldShape}
 use Rattle.table.specs.History.{History}
-use Rattle.table.specs.Stored.{stored_fields}
 use Rattle.job.specs.Jobs.{names_of}
 use Rattle.job.specs.declared.jobs.Command.{Command}
 use Rattle.job.specs.declared.jobs.Command.TheVariants.{Stats, Export, Query}
@@ -14,11 +13,12 @@ use Rattle.job.specs.declared.jobs.Job.{Job}
 use Rattle.query.specs.FaultText.{query_fault_text}
 use Rattle.query.specs.declared.fault.QueryFault.{QueryFault}
 use Rattle.json_query.specs.QueryDocumentFault.{QueryBytesFault}
-use Rattle.arrowtab.specs.AddFaultText.{add_fault_text}
+use Rattle.reports.specs.AddFaultText.{add_fault_text}
 use Rattle.arrowtab.specs.Column.{FailedColumn, IsAllowed, IsColumn, RefusesColumn, column_text, fields_with, history_with}
 use Rattle.arrowtab.specs.Output.{Prints, PrintsNothing}
-use Rattle.arrowtab.specs.Lines.{column_line, unread_line, file_line, query_line, refusal_line}
-use Rattle.arrowtab.specs.Loaded.{IsLoaded, IsStopped, batches_of}
+use Rattle.reports.specs.Lines.{column_line, unread_line, file_line, query_line, refusal_line}
+use Rattle.arrowtab.specs.Loaded.{IsLoaded, IsStopped}
+use Rattle.reports.specs.FileBatches.{batches_of, table_fields}
 use Rattle.json_read.specs.JsonFile.{Reads, BytesFault}
 use Rattle.json_base.specs.JsonFaultText.{fault_text}
 use Rattle.json_base.specs.JsonTable.{FileData}
@@ -34,11 +34,6 @@ Inputs = List (Option (List ℕ))
 -- There is a file for each source, and the bytes of a source that tells them are read as its file.
 abbrev pub AreRead : Inputs → List FileData → Type 0
 AreRead inputs files = AllZip (λ input file. IfSome input (λ bytes. Reads bytes file)) inputs files
-
--- The fields of the table: those of the first file, as they are stored.
-abbrev pub table_fields : List FileData → List FieldShape
-table_fields [] = []
-table_fields (file ∷ files) = stored_fields file.fields
 
 -- The text is the job's output for the files of these sources: a legal history has each of its workers add its list of their
 -- batches, in order, and behind all of them comes the job's column, where it has one.

@@ -1,26 +1,24 @@
 -- What a job wants to be printed, its query being read.
-use Rattle.std.specs.Prelude.{◌≡◌, ℕ, List, Err, Option, Some, option_map, string_bytes, ⊤}
-use Rattle.answers.specs.Groups.{groups}
+use Rattle.std.specs.Prelude.{◌≡◌, ℕ, List, Option, Some, option_map, string_bytes, ⊤}
 use Rattle.arrays.specs.Shape.{FieldShape, field_of}
 use Rattle.json_read.specs.JsonField.{FieldTextFault}
 use Rattle.job.specs.declared.jobs.Command.{Command}
 use Rattle.job.specs.declared.jobs.Command.TheVariants as command
 use Rattle.job.specs.declared.jobs.Job.{Job}
-use Rattle.query.specs.QueryShape.{QueryShape}
 use Rattle.query.specs.Resolved.{named}
 use Rattle.query.specs.declared.fault.QueryFault.{QueryFault}
-use Rattle.query.specs.declared.fault.QueryFault.TheVariants.{Overflow}
 use Rattle.query.specs.declared.queries.QueryText.{QueryText}
 use Rattle.json_query.specs.QueryDocument.{ReadsQueryText}
-use Rattle.table.specs.History.{History, rows}
+use Rattle.table.specs.History.{History}
 use Rattle.arrowtab.specs.Column.{IsColumn, column_text}
-use Rattle.arrowtab.specs.Output.{exported}
-use Rattle.arrowtab.specs.Queried.{PrintsGroups, RefusesGroups}
+use Rattle.reports.specs.Exported.{exported}
+use Rattle.reports.specs.Queried.{PrintsGroups, RefusesGroups}
 use Rattle.arrowtab.specs.Run.{FailedQuery}
-use Rattle.arrowtab.specs.Shown.{shown}
-use Rattle.arrowtab.specs.declared.run_fault.ColumnFault.TheVariants as column
-use Rattle.arrowtab.specs.declared.run_fault.RunFault.{RunFault}
-use Rattle.arrowtab.specs.declared.run_fault.RunFault.TheVariants.{NoMemory, OfColumn, OfFile, QueryUnread, QueryRefused}
+use Rattle.reports.specs.QueryFaults.{IsUnanswered}
+use Rattle.reports.specs.Shown.{shown}
+use Rattle.reports.specs.declared.run_fault.ColumnFault.TheVariants as column
+use Rattle.reports.specs.declared.run_fault.RunFault.{RunFault}
+use Rattle.reports.specs.declared.run_fault.RunFault.TheVariants.{NoMemory, OfColumn, OfFile, QueryUnread, QueryRefused}
 use Rattle.arrowtab.specs.declared.wanted.Request.{Request}
 use Rattle.arrowtab.specs.declared.wanted.Wanted.{Wanted}
 use Rattle.arrowtab.specs.declared.wanted.Wanted.TheVariants.{Stats, Export, Groups}
@@ -64,22 +62,6 @@ abbrev pub RefusesWanted : Wanted → List FieldShape → History → QueryFault
 RefusesWanted Stats fields h fault = ⊥
 RefusesWanted Export fields h fault = ⊥
 RefusesWanted (Groups query) fields h fault = RefusesGroups (named query) fields h fault
-
--- The fault of answering a query by positions.
-abbrev pub IsUnplaced : QueryShape ℕ → List FieldShape → History → RunFault → Type 0
-IsUnplaced placed fields h NoMemory = ⊤
-IsUnplaced placed fields h (OfFile file fault) = ⊥
-IsUnplaced placed fields h (QueryUnread f) = ⊥
-IsUnplaced placed fields h (QueryRefused f) = (row : ℕ) × (groups fields placed (rows h) ≡ Err row) × (f ≡ Overflow row)
-IsUnplaced placed fields h (OfColumn f) = ⊥
-
--- The fault of answering a query by names.
-abbrev pub IsUnanswered : QueryShape (List ℕ) → List FieldShape → History → RunFault → Type 0
-IsUnanswered query fields h NoMemory = ⊤
-IsUnanswered query fields h (OfFile file fault) = ⊥
-IsUnanswered query fields h (QueryUnread f) = ⊥
-IsUnanswered query fields h (QueryRefused f) = RefusesGroups query fields h f
-IsUnanswered query fields h (OfColumn f) = ⊥
 
 -- The fault of printing what is wanted.
 abbrev pub IsUnprinted : Wanted → List FieldShape → History → RunFault → Type 0

@@ -1,6 +1,5 @@
 -- What so many workers make of files, and what stops them.
 use Rattle.std.specs.Prelude.{◌≡◌, ℕ, All, List, ◌∷◌, length, map, Option, Some, ⊤}
-use Rattle.arrays.specs.Batch.{Batch, rows_of}
 use Rattle.arrays.specs.File.{File}
 use Rattle.arrays.specs.Shape.{FieldShape}
 use Rattle.loads.specs.Loaded.{AllLoaded, batches_of, fields_for}
@@ -10,17 +9,15 @@ use Rattle.table.specs.Contents.{Contents}
 use Rattle.table.specs.History.{History}
 use Rattle.table.specs.Widened.{add_fault}
 use Rattle.arrowtab.specs.Column.{IsAllowed, fields_with, history_with}
-use Rattle.arrowtab.specs.Loaded.{FileBatch, IsLoaded, IsStopped}
+use Rattle.arrowtab.specs.Loaded.{IsLoaded, IsStopped}
+use Rattle.reports.specs.FileBatches.{FileBatch, batch_of}
 use Rattle.arrowtab.specs.Wanted.{PrintsWanted, RefusesWanted}
-use Rattle.arrowtab.specs.declared.run_fault.ColumnFault.{ColumnFault}
-use Rattle.arrowtab.specs.declared.run_fault.ColumnFault.TheVariants as column
-use Rattle.arrowtab.specs.declared.run_fault.FileFault.TheVariants.{CannotRead, Json, Refused}
-use Rattle.arrowtab.specs.declared.run_fault.RunFault.{RunFault}
-use Rattle.arrowtab.specs.declared.run_fault.RunFault.TheVariants.{NoMemory, OfColumn, OfFile, QueryUnread, QueryRefused}
+use Rattle.reports.specs.declared.run_fault.ColumnFault.{ColumnFault}
+use Rattle.reports.specs.declared.run_fault.ColumnFault.TheVariants as column
+use Rattle.reports.specs.declared.run_fault.FileFault.TheVariants.{CannotRead, Json, Refused}
+use Rattle.reports.specs.declared.run_fault.RunFault.{RunFault}
+use Rattle.reports.specs.declared.run_fault.RunFault.TheVariants.{NoMemory, OfColumn, OfFile, QueryUnread, QueryRefused}
 use Rattle.arrowtab.specs.declared.wanted.Wanted.{Wanted}
-
-abbrev pub batch_of : Batch → FileBatch
-batch_of b = record { fields = b.fields; rows = rows_of b }
 
 -- The batches of each file.
 abbrev pub listed : List File → List (List FileBatch)

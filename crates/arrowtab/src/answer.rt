@@ -6,16 +6,14 @@ ghost use Rattle.arrowtab.specs.Run.{Answers};
 ghost use Rattle.arrowtab.specs.Wanted.{IsUnprinted, PrintsWanted};
 ghost use Rattle.arrowtab.specs.Worked.{Shows, StopsWanted};
 
-use crate::export::export_text;
 use crate::groups::groups_text;
 use crate::reading::read_files;
-use crate::report::stats_text;
-use crate::run_fault::RunFault;
 use crate::together::load_together;
 use crate::wanted::{Request, Wanted, request_of};
 use arrays::File;
 use ends::Source;
 use job::Job;
+use reports::{RunFault, export_text, stats_text};
 use std::alloc::Global;
 use std::sync::Wait;
 use std::thread::Threads;

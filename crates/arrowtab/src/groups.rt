@@ -1,15 +1,14 @@
-//! The output of `query`.
+//! The output of `query`, over rows that are looked at in several pieces.
 ghost use Rattle.std.specs.Prelude.{◌≡◌, ◌≤◌, IfErr, IfOk, string_bytes, true};
-ghost use Rattle.arrowtab.specs.Queried.{PrintsGroups, PrintsPlaced};
-ghost use Rattle.arrowtab.specs.Wanted.{IsUnanswered, IsUnplaced};
 ghost use Rattle.query.specs.QueryShape.{query_shape};
 ghost use Rattle.query.specs.Fault.{fits};
 ghost use Rattle.query.specs.Resolved.{named};
+ghost use Rattle.reports.specs.Queried.{PrintsGroups, PrintsPlaced};
+ghost use Rattle.reports.specs.QueryFaults.{IsUnanswered, IsUnplaced};
 
-use crate::group_lines::group_lines;
-use crate::run_fault::RunFault;
 use answers::OpenGate;
-use query::{Query, QueryFault, QueryText, resolve};
+use query::{Query, QueryText};
+use reports::{RunFault, answer_text, placed_query};
 use std::alloc::Global;
 use std::thread::Threads;
 use table::Version;
@@ -27,12 +26,9 @@ pub(crate) fn groups_text<T: Threads + Sync>(
     ensures output { IfOk result (λ text. PrintsGroups (named query.now) version.now.fields version.now.history (string_bytes text)) }
     ensures err { IfErr result (IsUnanswered (named query.now) version.now.fields version.now.history) }
 {
-    match resolve(alloc, query, version.schema()) {
+    match placed_query(alloc, query, version) {
         Ok(placed) => placed_text(threads, alloc, &placed, pieces, version),
-        Err(fault) => match fault {
-            QueryFault::NoMemory => Err(RunFault::NoMemory),
-            _ => Err(RunFault::QueryRefused(fault)),
-        },
+        Err(fault) => Err(fault),
     }
 }
 
@@ -50,11 +46,8 @@ fn placed_text<T: Threads + Sync>(
     ensures output { IfOk result (λ text. PrintsPlaced (query_shape query.now) version.now.fields version.now.history (string_bytes text)) }
     ensures err { IfErr result (IsUnplaced (query_shape query.now) version.now.fields version.now.history) }
 {
-    match version.answer(threads, alloc, query, pieces, &OpenGate) {
-        Ok(answer) => Ok(group_lines(alloc, &answer)?),
-        Err(fault) => match fault {
-            QueryFault::NoMemory => Err(RunFault::NoMemory),
-            _ => Err(RunFault::QueryRefused(fault)),
-        },
-    }
+    answer_text(
+        alloc,
+        version.answer(threads, alloc, query, pieces, &OpenGate),
+    )
 }

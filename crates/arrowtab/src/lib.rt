@@ -3,18 +3,11 @@
 #![tactic(auto)]
 
 mod answer;
-mod export;
-mod group_lines;
 mod groups;
 mod invocation;
 pub mod laws;
-mod name;
 mod reading;
-pub mod refusal;
-mod report;
-mod run_fault;
 mod tell;
-mod text;
 mod together;
 mod wanted;
 mod windows;
@@ -25,3 +18,4 @@ pub use ends::{
 };
 pub use invocation::run;
 pub use job::{Command, Job, JobFault, job, print_fault};
+pub use reports::refusal;

@@ -5,10 +5,10 @@ ghost use Rattle.json_read.specs.JsonFile.{AreUnder, file_of};
 ghost use Rattle.arrowtab.specs.Explained.{ExplainsFiles, IsOfFirst};
 ghost use Rattle.arrowtab.specs.Run.{AreRead};
 
-use crate::run_fault::{FileFault, RunFault};
 use crate::windows::add_files;
 use arrays::File;
 use ends::{Source, SourceFault, read_whole};
+use reports::{FileFault, RunFault};
 use std::alloc::Global;
 use std::thread::Threads;
 

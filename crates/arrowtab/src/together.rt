@@ -14,10 +14,10 @@ ghost use Rattle.shared.specs.Missing.{AllThere};
 ghost use Rattle.table.specs.Stored.{stored_field};
 ghost use Rattle.table.specs.Widened.{add_fault};
 
-use crate::run_fault::{ColumnFault, FileFault, RunFault};
 use answers::OpenGate;
 use arrays::{Field, File, RecordBatch};
 use loads::{LoadFault, load_all};
+use reports::{ColumnFault, FileFault, RunFault};
 use shared::{Blanks, GatherCause, Naming, Pair, Publish, SharedTable, Shown, Worker, open};
 use std::alloc::Global;
 use std::marker::Brand;

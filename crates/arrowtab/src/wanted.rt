@@ -5,11 +5,11 @@ ghost use Rattle.arrowtab.specs.Column.{IsColumn};
 ghost use Rattle.arrowtab.specs.Explained.{ExplainsText};
 ghost use Rattle.arrowtab.specs.Wanted.{IsColumnUnread, IsRequest, IsUnread, IsWanted};
 
-use crate::run_fault::{ColumnFault, RunFault};
 use arrays::Field;
-use arrow_json::{JsonFaultKind, read_field, read_query};
+use arrow_json::{JsonFaultKind, read_field};
 use job::{Command, Job};
 use query::QueryText;
+use reports::{ColumnFault, RunFault, read_query_text};
 use std::alloc::Global;
 
 /// A command whose query is read.
@@ -72,12 +72,9 @@ pub(crate) fn wanted_of(alloc: Global, command: &Command) -> Result<Wanted, RunF
     match command {
         Command::Stats => Ok(Wanted::Stats),
         Command::Export => Ok(Wanted::Export),
-        Command::Query(text) => match read_query(alloc, text.as_str().as_bytes()) {
+        Command::Query(text) => match read_query_text(alloc, text.as_str().as_bytes()) {
             Ok(query) => Ok(Wanted::Groups(query)),
-            Err(fault) => match fault.kind {
-                JsonFaultKind::NoMemory => Err(RunFault::NoMemory),
-                _ => Err(RunFault::QueryUnread(fault)),
-            },
+            Err(fault) => Err(fault),
         },
     }
 }

@@ -1,12 +1,12 @@
 //! Files that are read from their texts, side by side.
-ghost use Rattle.std.specs.Prelude.{◌≡◌, ◌≢◌, ◌⊎◌, IfErr, IfOk, OnOk, length, map};
+ghost use Rattle.std.specs.Prelude.{IfErr, IfOk, OnOk, length, map};
 ghost use Rattle.std.specs.List.{AllZip};
-ghost use Rattle.arrowtab.specs.Parsed.{AddsFiles, IsParsed, StopsParsing};
+ghost use Rattle.reports.specs.Parsed.{AddsFiles, IsParsed, StopsParsing};
 
-use crate::run_fault::{FileFault, RunFault};
 use arrays::File;
-use arrow_json::{JsonFault, JsonFaultKind, read_file_from_vec};
+use arrow_json::{JsonFault, read_file_from_vec};
 use colbits::NoMemory;
+use reports::{RunFault, text_fault};
 use std::alloc::Global;
 use std::thread::{Threads, map_vec};
 
@@ -47,17 +47,4 @@ fn parse_all<T: Threads + Sync>(
         { read_file_from_vec(alloc, text) },
     )?;
     Ok(parsed)
-}
-
-/// The fault of the file at a place, whose text isn't read.
-fn text_fault(place: usize, fault: JsonFault) -> RunFault
-    ensures { (result ≡ RunFault.NoMemory) ⊎ ((fault.kind ≢ JsonFaultKind.NoMemory) × (result ≡ RunFault.OfFile place (FileFault.Json fault))) }
-{
-    match fault.kind {
-        JsonFaultKind::NoMemory => RunFault::NoMemory,
-        _ => RunFault::OfFile {
-            file: place,
-            fault: FileFault::Json(fault),
-        },
-    }
 }

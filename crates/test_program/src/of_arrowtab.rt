@@ -17,7 +17,9 @@ mod windows;
 mod words;
 
 use arrowtab::memory::{MemorySink, MemorySource};
-use arrowtab::{job, run};
+use arrowtab::{Command, Job, job, run};
+use embed::RunFault;
+use reports::line_of;
 use std::alloc::{AllocError, Global};
 use std::process::Abort;
 use std::sync::Wait;
@@ -104,6 +106,62 @@ fn ran_over(
     )
 }
 
+/// Whether the library gives of the same files what a run came to. It has one worker, and adds no column.
+fn is_of_library(
+    alloc: Global,
+    words: &[&str],
+    files: (&str, Option<&str>),
+    came: &Outcome,
+) -> bool {
+    let Ok(job) = job(alloc, words) else {
+        return false;
+    };
+    if job.workers != 1 || job.column.is_some() {
+        return true;
+    }
+    match files.1 {
+        Some(second) => {
+            let given = given(alloc, &job, &[files.0.as_bytes(), second.as_bytes()]);
+            is_same(alloc, &job, given, came)
+        }
+        None => {
+            let given = given(alloc, &job, &[files.0.as_bytes()]);
+            is_same(alloc, &job, given, came)
+        }
+    }
+}
+
+/// What the library gives of files for a job.
+fn given(alloc: Global, job: &Job, texts: &[&[u8]]) -> Result<String, RunFault> {
+    match &job.command {
+        Command::Stats => embed::stats(alloc, texts),
+        Command::Export => embed::export(alloc, texts),
+        Command::Query(query_text) => embed::query(alloc, query_text.as_str().as_bytes(), texts),
+    }
+}
+
+/// Whether the library's answer is what a run came to: its output, or the line of its fault.
+fn is_same(alloc: Global, job: &Job, given: Result<String, RunFault>, came: &Outcome) -> bool {
+    match given {
+        Ok(text) => came.is(0, text.as_str(), ""),
+        Err(fault) => match line_of(alloc, name_of(job, &fault), &fault) {
+            Ok(line) => came.is(1, "", line.as_str()),
+            Err(_) => false,
+        },
+    }
+}
+
+/// The name of a fault's file, if it is one of a file.
+fn name_of<'a>(job: &'a Job, fault: &RunFault) -> &'a str {
+    match fault {
+        RunFault::OfFile { file, fault: _ } => match job.names.get(*file) {
+            Some(name) => name.as_str(),
+            None => "",
+        },
+        _ => "",
+    }
+}
+
 /// Asserts what a run over one file or two of these texts tells: its output, or the line of its fault.
 pub(crate) fn expect(
     rt: &(impl Abort + Wait + Threads + Sync),
@@ -113,7 +171,7 @@ pub(crate) fn expect(
     wanted: &str,
 ) {
     let is_right = match ran_over(rt, alloc, words, files) {
-        Some(came) => came.tells(wanted),
+        Some(came) => came.tells(wanted) && is_of_library(alloc, words, files, &came),
         None => false,
     };
     assert_case(rt, is_right, words, files.0);

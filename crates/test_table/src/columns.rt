@@ -86,8 +86,8 @@ impl Scene for Learning {
     }
 }
 
-/// The first worker appends 1 and 2, adds a column, and appends 3 with x. The reader sees the column without having been
-/// reported, and what it saw before stays.
+/// The first worker appends 1 and 2, adds a column, and appends 3 with x. The reader sees the column without a receipt of
+/// it, and what it saw before stays.
 fn learn_of_x<
     C: Ledger,
     Q: Ledger,

@@ -3,7 +3,7 @@
 
 mod fault;
 
-ghost use Rattle.std.specs.Prelude.{◌≡◌};
+ghost use Rattle.std.specs.Prelude.{◌≡◌, length};
 ghost use Rattle.table.specs.Stored.{stored_fields};
 
 use answers::OpenGate;
@@ -11,7 +11,7 @@ use arrays::{DataType, Field, IntBuilder, OffsetWidth, RecordBatch, Schema, Text
 use arrow_json::read_query;
 use fault::Fault;
 use query::resolve;
-use shared::{Blanks, Naming, Pair, Version, open};
+use shared::{Blanks, Naming, Pair, Publish, Reader, SharedTable, Shown, Version, Worker, open};
 use std::alloc::Global;
 use std::marker::Brand;
 use std::process::ExitCode;
@@ -59,7 +59,26 @@ fn work<C: Ledger, Q: Ledger, K: Ledger, N: Naming, W: Wait, T: Threads + Sync>(
         wait, alloc, schema, 2, 1, blanks, pair,
     )?;
     let (mut workers, mut readers) = (workers, readers);
+    grow(wait, alloc, &table, &mut workers, &mut readers[0])?;
+    print(threads, rt, &*readers[0].latest()?)?;
 
+    // All workers together know each one's share.
+    let gathered = table.gather(wait, workers);
+    let workers = gathered.ok().map(|all| all.workers.len());
+    println!(rt; "{workers:?}")?;
+    Ok(())
+}
+
+/// Appends three batches, joins them and adds a column. The reader then knows of the first.
+fn grow<C: Ledger, Q: Ledger, K: Ledger, N: Naming, P: Publish<Item = Shown<N>>, W: Wait>(
+    wait: &W,
+    alloc: Global,
+    table: &SharedTable<C, Q, K, N, P>,
+    workers: &mut [Worker<C, Q, K, N>],
+    reader: &mut Reader<N>,
+) -> Result<(), Fault>
+    requires { length workers.now ≡ 2 }
+{
     // Workers and readers may each go to a thread of their own.
     let receipt = table.append(wait, &mut workers[0], &batch(alloc, "Lisbon", 545_923)?)?;
     table.append(wait, &mut workers[1], &batch(alloc, "Braga", 193_324)?)?;
@@ -72,14 +91,7 @@ fn work<C: Ledger, Q: Ledger, K: Ledger, N: Naming, W: Wait, T: Threads + Sync>(
     )?;
 
     // A receipt may be given to anyone: what the reader then sees has the batch. It takes no lock.
-    readers[0].learn(&receipt);
-    let version = readers[0].latest()?;
-    print(threads, rt, &version)?;
-
-    // All workers together know each one's share.
-    let gathered = table.gather(wait, workers);
-    let workers = gathered.ok().map(|all| all.workers.len());
-    println!(rt; "{workers:?}")?;
+    reader.learn(&receipt);
     Ok(())
 }
 

@@ -3,7 +3,7 @@ use Rattle.std.proofs.lemmas.List.{length-map}
 use Rattle.job.specs.Jobs.{names_of}
 use Rattle.arrowtab.specs.Run.{front}
 use Rattle.ends.specs.Sink.{AppendsFront}
-use Rattle.arrowtab.specs.FaultLine.{TookFault}
+use Rattle.arrowtab.specs.TookFault.{TookFault}
 use Rattle.arrowtab.proofs.RunLemmas.{excuse_reported, named}
 use Rattle.arrowtab.proofs.invocation.run.Goals as goal
 

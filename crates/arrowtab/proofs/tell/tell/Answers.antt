@@ -1,6 +1,6 @@
 use Rattle.std.proofs.Common.{subst, string_bytes}
 use Rattle.ends.specs.Line.{TookLine}
-use Rattle.arrowtab.specs.FaultLine.{built}
+use Rattle.arrowtab.specs.TookFault.{built}
 use Rattle.arrowtab.proofs.tell.tell.Goals as goal
 
 pub returns-in-Ok : goal.returns-in-Ok

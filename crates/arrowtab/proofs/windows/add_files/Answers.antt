@@ -1,8 +1,8 @@
 use Rattle.std.proofs.Common.{◌∙◌, ◌∷◌, ap, arith, length, map, subst, sym}
 use Rattle.std.specs.List.{AllZip}
 use Rattle.std.specs.Vec.Iter.{into_iter_items}
-use Rattle.arrowtab.specs.Parsed.{IsParsed}
-use Rattle.arrowtab.proofs.ParseLemmas.{AddsSoFar-more, AddsSoFar-none, AddsSoFar-whole, reported_stops}
+use Rattle.reports.specs.Parsed.{IsParsed}
+use Rattle.reports.proofs.ParseLemmas.{AddsSoFar-more, AddsSoFar-none, AddsSoFar-whole, reported_stops}
 use Rattle.arrowtab.proofs.windows.add_files.Goals as goal
 
 pub loop-parsed-init : goal.loop-parsed-init

@@ -1,6 +1,6 @@
 use Rattle.std.proofs.Common.{◌≡◌, length, map}
 use Rattle.std.specs.Vec.Iter.{into_iter_items, into_iter_len}
-use Rattle.arrowtab.proofs.ParseLemmas.{AddsSoFar}
+use Rattle.reports.proofs.ParseLemmas.{AddsSoFar}
 use Rattle.arrowtab.proofs.windows.add_files.Given as goal
 
 -- The files of the texts that were looked at, and what the others were parsed to.

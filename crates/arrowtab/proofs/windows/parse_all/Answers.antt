@@ -1,7 +1,7 @@
 use denote.Param.Send.{param_send}
 use Rattle.std.proofs.Common.{arith, slice_index_or, subst, sym}
-use Rattle.arrowtab.specs.Parsed.{IsParsed}
-use Rattle.arrowtab.proofs.ParseLemmas.{each_zip, zip_map}
+use Rattle.reports.specs.Parsed.{IsParsed}
+use Rattle.reports.proofs.ParseLemmas.{each_zip, zip_map}
 use Rattle.arrowtab.proofs.SendingLemmas.{parsed-send}
 use Rattle.arrowtab.proofs.windows.parse_all.Goals as goal
 

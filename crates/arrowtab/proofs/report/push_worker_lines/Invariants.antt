@@ -1,8 +1,0 @@
-use Rattle.std.proofs.Common.{◌≡◌, ◌++◌, string_bytes}
-use Rattle.arrowtab.specs.Shown.{worker_lines}
-use Rattle.arrowtab.proofs.report.push_worker_lines.Given as goal
-
--- the lines so far are written
-abbrev pub invariant-loop-worker : goal.invariant-loop-worker
-invariant-loop-worker l =
-    string_bytes l.text ≡ string_bytes l.initial.text ++ worker_lines l.worker l.version.history

@@ -1,0 +1,9 @@
+use Rattle.std.proofs.Common.{◌≡◌, take}
+use Rattle.embed.specs.Loaded.{HasAdded, all_batches}
+use Rattle.reports.proofs.FileLemmas.{data_of}
+use Rattle.reports.specs.FileBatches.{table_fields}
+use Rattle.embed.proofs.loading.load_files.Given as goal
+
+-- the files so far are loaded
+abbrev pub invariant-loop-place : goal.invariant-loop-place
+invariant-loop-place l = (l.table.fields ≡ table_fields (data_of l.files)) × HasAdded (all_batches (take l.place (data_of l.files))) l.table.fields l.table.history

@@ -1,0 +1,4 @@
+-- The words of this crate's contracts.
+pub mod Loaded
+pub mod Refused
+pub mod Output

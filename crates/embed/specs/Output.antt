@@ -1,0 +1,64 @@
+-- What is printed of files, and the line of a fault.
+use Rattle.std.specs.Prelude.{◌≡◌, ℕ, List, [], ⊤}
+use Rattle.std.specs.Fmt.{decimal}
+use Rattle.arrays.specs.Shape.{FieldShape}
+use Rattle.json_query.specs.QueryDocument.{ReadsQueryText}
+use Rattle.json_query.specs.QueryDocumentFault.{QueryBytesFault}
+use Rattle.query.specs.QueryShape.{QueryShape}
+use Rattle.query.specs.declared.fault.QueryFault.{QueryFault}
+use Rattle.table.specs.History.{History}
+use Rattle.reports.specs.Exported.{exported}
+use Rattle.reports.specs.FaultLine.{line_under}
+use Rattle.reports.specs.Queried.{PrintsGroups, RefusesGroups}
+use Rattle.reports.specs.Shown.{shown}
+use Rattle.reports.specs.declared.run_fault.RunFault.{RunFault}
+use Rattle.reports.specs.declared.run_fault.RunFault.TheVariants.{NoMemory, OfColumn, OfFile, QueryUnread, QueryRefused}
+use Rattle.embed.specs.Loaded.{Holds}
+use Rattle.embed.specs.Refused.{Stops}
+
+-- What is said holds of the table of these texts' files.
+pub record OfTable (texts : List (List ℕ)) (says : List FieldShape → History → Type 0) : Type 0 where
+  pub fields : List FieldShape
+  pub history : History
+  pub holds : Holds texts fields history
+  pub is : says fields history
+
+-- All files can be loaded into one table.
+abbrev pub AreLoadable : List (List ℕ) → Type 0
+AreLoadable texts = OfTable texts (λ fields h. ⊤)
+
+-- The text is what `stats` prints of them, for one worker.
+abbrev pub IsStats : List (List ℕ) → List ℕ → Type 0
+IsStats texts text = OfTable texts (λ fields h. text ≡ shown 1 fields h)
+
+-- The text is what `export` prints of them.
+abbrev pub IsExport : List (List ℕ) → List ℕ → Type 0
+IsExport texts text = OfTable texts (λ fields h. text ≡ exported fields h)
+
+-- The text is what `query` prints of them, for the query that the bytes are read as.
+abbrev pub IsAnswered : List ℕ → List (List ℕ) → List ℕ → Type 0
+IsAnswered query texts text = (shape : QueryShape (List ℕ)) × ReadsQueryText query shape × OfTable texts (λ fields h. PrintsGroups shape fields h text)
+
+-- The query that the bytes are read as is refused over them.
+abbrev pub IsQueryRefused : List ℕ → List (List ℕ) → QueryFault → Type 0
+IsQueryRefused query texts fault = (shape : QueryShape (List ℕ)) × ReadsQueryText query shape × OfTable texts (λ fields h. RefusesGroups shape fields h fault)
+
+-- The fault of a query over files.
+abbrev pub StopsQuery : List ℕ → List (List ℕ) → RunFault → Type 0
+StopsQuery query texts NoMemory = ⊤
+StopsQuery query texts (OfFile file fault) = Stops texts (OfFile file fault)
+StopsQuery query texts (QueryUnread f) = QueryBytesFault query f.kind f.path
+StopsQuery query texts (QueryRefused f) = IsQueryRefused query texts f
+StopsQuery query texts (OfColumn f) = ⊥
+
+-- The name of a fault's file, if it is one of a file: its number, from 0.
+abbrev pub file_name : RunFault → List ℕ
+file_name NoMemory = []
+file_name (OfFile file fault) = decimal file
+file_name (QueryUnread f) = []
+file_name (QueryRefused f) = []
+file_name (OfColumn f) = []
+
+-- The line of a fault.
+abbrev pub fault_line : RunFault → List ℕ
+fault_line fault = line_under (file_name fault) fault

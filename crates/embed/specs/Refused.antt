@@ -1,0 +1,65 @@
+-- Why files can't be loaded.
+use Rattle.std.specs.Prelude.{◌≡◌, ◌++◌, ℕ, List, Some, slice_get, take, ⊤}
+use Rattle.std.specs.List.{AllZip}
+use Rattle.arrays.specs.Shape.{FieldShape}
+use Rattle.json_base.specs.JsonTable.{FileData}
+use Rattle.json_base.specs.declared.fault.JsonFault.{JsonFault}
+use Rattle.json_read.specs.JsonFile.{BytesFault, Reads}
+use Rattle.table.specs.Cause.{IsLegal, handed_cause}
+use Rattle.table.specs.declared.refusal.Refusal.{Refusal}
+use Rattle.reports.specs.FileBatches.{FileBatch, batches_of, table_fields}
+use Rattle.reports.specs.declared.run_fault.FileFault.TheVariants.{CannotRead, Json, Refused}
+use Rattle.reports.specs.declared.run_fault.RunFault.{RunFault}
+use Rattle.reports.specs.declared.run_fault.RunFault.TheVariants.{NoMemory, OfColumn, OfFile, QueryUnread, QueryRefused}
+use Rattle.embed.specs.Loaded.{added, all_batches}
+
+-- This text is no file, and those before it are.
+pub record IsUnread (texts : List (List ℕ)) (file : ℕ) (fault : JsonFault) : Type 0 where
+  pub text : List ℕ
+  pub files : List FileData
+  pub at : slice_get texts file ≡ Some text
+  pub read : AllZip Reads (take file texts) files
+  pub stands : BytesFault text fault.kind fault.path
+
+-- After some batches a cause stands for one of these, all those before it being added.
+pub record IsStoppedIn (before batches : List FileBatch) (fields : List FieldShape) (number : ℕ) (refusal : Refusal) : Type 0 where
+  pub batch : FileBatch
+  pub at : slice_get batches number ≡ Some batch
+  pub legal : IsLegal fields (added (before ++ take number batches))
+  pub stands : handed_cause fields (added (before ++ take number batches)) batch.fields batch.rows ≡ Some refusal
+
+-- The fault of adding the batches of the file at a place, after some batches.
+abbrev pub StopsIn : List FileBatch → List FileBatch → List FieldShape → ℕ → RunFault → Type 0
+StopsIn before batches fields place NoMemory = ⊤
+StopsIn before batches fields place (OfFile file CannotRead) = ⊥
+StopsIn before batches fields place (OfFile file (Json f)) = ⊥
+StopsIn before batches fields place (OfFile file (Refused number refusal)) = (file ≡ place) × IsStoppedIn before batches fields number refusal
+StopsIn before batches fields place (QueryUnread f) = ⊥
+StopsIn before batches fields place (QueryRefused f) = ⊥
+StopsIn before batches fields place (OfColumn f) = ⊥
+
+-- A batch of this file is refused, after those of the files before it.
+pub record IsRefused (files : List FileData) (file number : ℕ) (refusal : Refusal) : Type 0 where
+  pub one : FileData
+  pub at : slice_get files file ≡ Some one
+  pub stopped : IsStoppedIn (all_batches (take file files)) (batches_of one) (table_fields files) number refusal
+
+-- The fault of loading files.
+abbrev pub StopsLoading : List FileData → RunFault → Type 0
+StopsLoading files NoMemory = ⊤
+StopsLoading files (OfFile file CannotRead) = ⊥
+StopsLoading files (OfFile file (Json f)) = ⊥
+StopsLoading files (OfFile file (Refused number refusal)) = IsRefused files file number refusal
+StopsLoading files (QueryUnread f) = ⊥
+StopsLoading files (QueryRefused f) = ⊥
+StopsLoading files (OfColumn f) = ⊥
+
+-- The fault of reading files from their texts, or of loading them.
+abbrev pub Stops : List (List ℕ) → RunFault → Type 0
+Stops texts NoMemory = ⊤
+Stops texts (OfFile file CannotRead) = ⊥
+Stops texts (OfFile file (Json f)) = IsUnread texts file f
+Stops texts (OfFile file (Refused number refusal)) = (files : List FileData) × AllZip Reads texts files × IsRefused files file number refusal
+Stops texts (QueryUnread f) = ⊥
+Stops texts (QueryRefused f) = ⊥
+Stops texts (OfColumn f) = ⊥

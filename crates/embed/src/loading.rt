@@ -1,0 +1,97 @@
+//! Files that are loaded into one table, one after the other.
+ghost use Rattle.std.specs.Prelude.{◌≡◌, ◌≢◌, ◌⊎◌, ◌++◌, IfErr, IfOk, List, OnOk, map};
+ghost use Rattle.std.specs.Arc.{arc_value};
+ghost use Rattle.std.specs.List.{AllByRecursion};
+ghost use Rattle.embed.specs.Loaded.{HasAdded, Holds, all_batches};
+ghost use Rattle.embed.specs.Refused.{Stops, StopsIn, StopsLoading};
+ghost use Rattle.json_read.specs.JsonFile.{AreUnder, file_of};
+ghost use Rattle.reports.specs.FileBatches.{FileBatch, batch_of, table_fields};
+ghost use Rattle.table.specs.Stored.{stored_fields};
+
+use crate::reading::read_files;
+use arrays::{File, RecordBatch, Schema};
+use colbits::NoMemory;
+use reports::{FileFault, RunFault};
+use std::alloc::Global;
+use std::sync::Arc;
+use table::{Refusal, TableState, Version};
+
+/// The table of the files of these texts, as it is once all are loaded.
+pub fn load_texts(alloc: Global, texts: &[&[u8]]) -> Result<Arc<Version>, RunFault>
+    ensures ok { IfOk result (λ v. Holds (map (λ t. t.now) texts.now) (arc_value v).fields (arc_value v).history) }
+    ensures err { IfErr result (Stops (map (λ t. t.now) texts.now)) }
+{
+    match read_files(alloc, texts) {
+        Ok(files) => match load_files(alloc, &files) {
+            Ok(table) => Ok(table.version()?),
+            Err(fault) => Err(fault),
+        },
+        Err(fault) => Err(fault),
+    }
+}
+
+/// A table with all batches of the files.
+fn load_files(alloc: Global, files: &[File]) -> Result<TableState, RunFault>
+    requires { AllByRecursion (λ f. AreUnder f.fields f.batches) files.now }
+    ensures fields { IfOk result (λ t. t.fields ≡ table_fields (map file_of files.now)) }
+    ensures loaded { IfOk result (λ t. HasAdded (all_batches (map file_of files.now)) t.fields t.history) }
+    ensures err { IfErr result (StopsLoading (map file_of files.now)) }
+{
+    let schema = first_schema(alloc, files)?;
+    let mut table = TableState::new(alloc, schema)?;
+    for place in 0..files.len() {
+        match add_batches(&mut table, place, files[place].batches()) {
+            Ok(()) => {}
+            Err(fault) => return Err(fault),
+        }
+    }
+    Ok(table)
+}
+
+/// A copy of the first file's schema, of no fields where there is no file.
+fn first_schema(alloc: Global, files: &[File]) -> Result<Schema, NoMemory>
+    ensures { IfOk result (λ s. stored_fields s ≡ table_fields (map file_of files.now)) }
+{
+    match files.first() {
+        Some(file) => file.schema().copy(alloc),
+        None => match Schema::new(Vec::new(alloc)) {
+            Ok(schema) => Ok(schema),
+            Err(_) => unreachable!(),
+        },
+    }
+}
+
+/// Adds the batches of the file at a place, in order, up to the first one that is refused.
+fn add_batches(
+    table: &mut TableState,
+    place: usize,
+    batches: &[Arc<RecordBatch>],
+) -> Result<(), RunFault>
+    ensures fields { OnOk result (table.new.fields ≡ table.old.fields) }
+    ensures loaded { (before : List FileBatch) → HasAdded before table.old.fields table.old.history
+        → OnOk result (HasAdded (before ++ map batch_of (map arc_value batches.now)) table.old.fields table.new.history) }
+    ensures err { (before : List FileBatch) → HasAdded before table.old.fields table.old.history
+        → IfErr result (StopsIn before (map batch_of (map arc_value batches.now)) table.old.fields place) }
+{
+    for number in 0..batches.len() {
+        match table.admit(0, &batches[number]) {
+            Ok(_) => {}
+            Err(refusal) => return Err(refusal_fault(place, number, refusal)),
+        }
+    }
+    Ok(())
+}
+
+/// The fault of a batch of a file that is refused.
+fn refusal_fault(file: usize, batch: usize, refusal: Refusal) -> RunFault
+    ensures { ((refusal ≡ Refusal.NoMemory) × (result ≡ RunFault.NoMemory))
+        ⊎ ((refusal ≢ Refusal.NoMemory) × (result ≡ RunFault.OfFile file (FileFault.Refused batch refusal))) }
+{
+    match refusal {
+        Refusal::NoMemory => RunFault::NoMemory,
+        _ => RunFault::OfFile {
+            file,
+            fault: FileFault::Refused { batch, refusal },
+        },
+    }
+}

@@ -1,0 +1,7 @@
+-- What the proofs of this crate share, and those of the crates above.
+mod ReportLemmas
+mod ExportLemmas
+mod GroupLineLemmas
+pub mod FileLemmas
+pub mod ParseLemmas
+pub mod QueryLemmas

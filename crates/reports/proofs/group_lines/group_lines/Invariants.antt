@@ -1,0 +1,8 @@
+use Rattle.std.proofs.Common.{◌≡◌, map, string_bytes, take}
+use Rattle.answers.specs.Answers.{shape_of}
+use Rattle.reports.specs.GroupLines.{group_lines}
+use Rattle.reports.proofs.group_lines.group_lines.Given as goal
+
+-- The lines of the groups so far.
+abbrev pub invariant-loop-group : goal.invariant-loop-group
+invariant-loop-group l = string_bytes l.text ≡ group_lines (map shape_of (take l.group-index l.answer.groups.items))

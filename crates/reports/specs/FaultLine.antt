@@ -1,0 +1,33 @@
+-- The lines of faults, by what they are faults of.
+use Rattle.std.specs.Prelude.{ℕ, List}
+use Rattle.reports.specs.AddFaultText.{add_fault_text}
+use Rattle.reports.specs.Lines.{column_line, unread_line, file_line, query_line, refusal_line}
+use Rattle.ends.specs.Line.{memory_line}
+use Rattle.json_base.specs.JsonFaultText.{fault_text}
+use Rattle.query.specs.FaultText.{query_fault_text}
+use Rattle.reports.specs.declared.run_fault.ColumnFault.{ColumnFault}
+use Rattle.reports.specs.declared.run_fault.ColumnFault.TheVariants as column
+use Rattle.reports.specs.declared.run_fault.ColumnFault.TheVariants.{Unread}
+use Rattle.reports.specs.declared.run_fault.FileFault.{FileFault}
+use Rattle.reports.specs.declared.run_fault.FileFault.TheVariants.{CannotRead, Json, Refused}
+use Rattle.reports.specs.declared.run_fault.RunFault.{RunFault}
+use Rattle.reports.specs.declared.run_fault.RunFault.TheVariants.{NoMemory, OfColumn, OfFile, QueryUnread, QueryRefused}
+
+-- The line of a file's fault.
+abbrev pub fault_line : List ℕ → FileFault → List ℕ
+fault_line name CannotRead = unread_line name
+fault_line name (Json f) = file_line name f.kind f.path
+fault_line name (Refused number refusal) = refusal_line name number refusal
+
+-- What is reported of a fault of the column.
+abbrev pub column_fault_text : ColumnFault → List ℕ
+column_fault_text (Unread f) = fault_text f.kind f.path
+column_fault_text (column.Refused fault) = add_fault_text fault
+
+-- The line of a fault, with this name for its file, if it is one of a file.
+abbrev pub line_under : List ℕ → RunFault → List ℕ
+line_under name NoMemory = memory_line
+line_under name (OfFile file fault) = fault_line name fault
+line_under name (QueryUnread f) = query_line (fault_text f.kind f.path)
+line_under name (QueryRefused f) = query_line (query_fault_text f)
+line_under name (OfColumn f) = column_line (column_fault_text f)

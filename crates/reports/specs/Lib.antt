@@ -1,0 +1,12 @@
+-- The words of this crate's contracts.
+pub mod RefusalText
+pub mod Shown
+pub mod GroupLines
+pub mod Queried
+pub mod Exported
+pub mod FileBatches
+pub mod AddFaultText
+pub mod Lines
+pub mod FaultLine
+pub mod Parsed
+pub mod QueryFaults

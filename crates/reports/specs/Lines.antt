@@ -1,0 +1,34 @@
+-- The lines of faults.
+use Rattle.std.specs.Prelude.{ℕ, List, ◌++◌, ◌||◌, ◌==◌, chars, codes, cond, encode_utf8, flat_map, nat_lt}
+use Rattle.std.specs.Fmt.{decimal}
+use Rattle.ends.specs.Line.{message}
+use Rattle.json.specs.Print.{escape_byte}
+use Rattle.reports.specs.RefusalText.{refusal_text}
+use Rattle.json_base.specs.JsonFaultText.{fault_text}
+use Rattle.table.specs.declared.refusal.Refusal.{Refusal}
+use Rattle.json_base.specs.declared.path.Step.{Step}
+use Rattle.json_base.specs.declared.fault.JsonFaultKind.{JsonFaultKind}
+
+-- A character of a file's name as it is reported: a control character and the backslash as in a JSON string, any other as it is.
+-- (RFC 8259, 7. Strings; U+007F, which may stand there as it is, is reported so too)
+abbrev pub escaped_char : ℕ → List ℕ
+escaped_char c = cond (nat_lt c 32 || (c == 92)) (escape_byte c) (cond (c == 127) (codes "\\u007f") (encode_utf8 c))
+
+-- The name in one line.
+abbrev pub escaped_name : List ℕ → List ℕ
+escaped_name name = flat_map escaped_char (chars name)
+
+abbrev pub unread_line : List ℕ → List ℕ
+unread_line name = message (escaped_name name ++ codes ": cannot be read")
+
+abbrev pub file_line : List ℕ → JsonFaultKind → List Step → List ℕ
+file_line name kind path = message (escaped_name name ++ codes ": " ++ fault_text kind path)
+
+abbrev pub query_line : List ℕ → List ℕ
+query_line what = message (codes "query: " ++ what)
+
+abbrev pub column_line : List ℕ → List ℕ
+column_line what = message (codes "column: " ++ what)
+
+abbrev pub refusal_line : List ℕ → ℕ → Refusal → List ℕ
+refusal_line name number refusal = message (escaped_name name ++ codes ": batch " ++ decimal number ++ codes ": " ++ refusal_text refusal)

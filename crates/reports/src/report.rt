@@ -1,0 +1,86 @@
+//! The output of `stats`.
+ghost use Rattle.arrays.specs.Item.{Item};
+ghost use Rattle.std.specs.Prelude.{List, ◌≡◌, ◌++◌, length, OnOk, IfOk, string_bytes};
+ghost use Rattle.arrays.specs.Shape.{field_of, kind_of_field};
+ghost use Rattle.reports.specs.Shown.{shown, worker_lines, column_lines, field_line};
+ghost use Rattle.group.specs.Summary.{AreStats};
+ghost use Rattle.table.specs.Cause.{IsLegal};
+ghost use Rattle.table.specs.History.{of, rows};
+
+use crate::text::{column_line, push_rows_line, push_worker_line};
+use arrays::Field;
+use colbits::NoMemory;
+use group::ColumnStats;
+use std::alloc::Global;
+use table::Version;
+
+/// What `stats` prints for so many workers and a version of the table that they loaded.
+pub fn stats_text(alloc: Global, workers: u32, version: &Version) -> Result<String, NoMemory>
+    ensures legal { OnOk result (IsLegal version.now.fields version.now.history) }
+    ensures output { IfOk result (λ text. string_bytes text ≡ shown workers version.now.fields version.now.history) }
+{
+    let mut text = String::new(alloc);
+    push_rows_line(&mut text, version.rows())?;
+    push_worker_lines(&mut text, workers, version)?;
+    push_column_lines(alloc, &mut text, version)?;
+    Ok(text)
+}
+
+/// Adds a line for each worker.
+fn push_worker_lines(text: &mut String, workers: u32, version: &Version) -> Result<(), NoMemory>
+    ensures { OnOk result (string_bytes text.new
+        ≡ string_bytes text.old ++ worker_lines workers version.now.history) }
+{
+    for worker in 0..workers {
+        let (calls, rows) = share(version, worker);
+        push_worker_line(text, worker, calls, rows)?;
+    }
+    Ok(())
+}
+
+/// How many batches a worker added, and how many rows they have together.
+fn share(version: &Version, worker: u32) -> (u64, u64)
+    ensures calls { result.0 ≡ length (of version.now.history worker) }
+    ensures rows { result.1 ≡ length (rows (of version.now.history worker)) }
+{
+    let mut calls = 0;
+    let mut rows = 0;
+    for place in 0..version.book_len() {
+        let entry = version.book_at(place);
+        if entry.worker == worker {
+            calls += 1;
+            rows += u64::from(entry.rows);
+        }
+    }
+    (calls, rows)
+}
+
+/// Adds a line for each column.
+fn push_column_lines(alloc: Global, text: &mut String, version: &Version) -> Result<(), NoMemory>
+    ensures { OnOk result (string_bytes text.new ≡ string_bytes text.old
+        ++ column_lines version.now.fields (rows version.now.history)) }
+{
+    let fields = version.schema().fields();
+    for k in 0..fields.len() {
+        let field = &fields[k];
+        let stats = version.stats(k);
+        push_field_line(alloc, text, field, stats)?;
+    }
+    Ok(())
+}
+
+/// Adds the line of a column with these statistics.
+fn push_field_line(
+    alloc: Global,
+    text: &mut String,
+    field: &Field,
+    stats: &ColumnStats,
+) -> Result<(), NoMemory>
+    ensures { (items : List Item) → AreStats stats.now (kind_of_field (field_of field.now)) items
+        → OnOk result (string_bytes text.new
+        ≡ string_bytes text.old ++ field_line (field_of field.now) items) }
+{
+    let line = column_line(alloc, &field.name, &field.ty, stats)?;
+    text.push_str(line.as_str())?;
+    Ok(())
+}

@@ -1,0 +1,160 @@
+//! The lines of `stats`, as text.
+ghost use Rattle.std.specs.Prelude.{◌≡◌, ◌++◌, OnOk, IfOk, option_map, string_bytes};
+ghost use Rattle.types.specs.Kind.{kind_of};
+ghost use Rattle.group.specs.Summary.{scalar_item};
+ghost use Rattle.json.specs.Print.{quoted};
+ghost use Rattle.reports.specs.Shown.{cell, column_line, kind_name, rows_line, sum_text, type_name, value_text, worker_line};
+
+use arrays::{DataType, IntType, Width};
+use colbits::NoMemory;
+use group::{ColumnStats, Scalar};
+use serde_json::Value;
+use std::alloc::{AllocError, Global};
+
+/// Adds the line that says how many rows there are.
+pub(crate) fn push_rows_line(text: &mut String, rows: u64) -> Result<(), NoMemory>
+    ensures { OnOk result (string_bytes text.new ≡ string_bytes text.old ++ rows_line rows) }
+{
+    text.push_str("rows ")?;
+    write!(text, "{rows}")?;
+    text.push_str("\n")?;
+    Ok(())
+}
+
+/// Adds the line of a worker.
+pub(crate) fn push_worker_line(
+    text: &mut String,
+    worker: u32,
+    calls: u64,
+    rows: u64,
+) -> Result<(), NoMemory>
+    ensures { OnOk result (string_bytes text.new
+        ≡ string_bytes text.old ++ worker_line worker calls rows) }
+{
+    text.push_str("worker ")?;
+    write!(text, "{worker}")?;
+    text.push_str(" calls ")?;
+    write!(text, "{calls}")?;
+    text.push_str(" rows ")?;
+    write!(text, "{rows}")?;
+    text.push_str("\n")?;
+    Ok(())
+}
+
+/// The line of a column of a type with these statistics.
+pub(crate) fn column_line(
+    alloc: Global,
+    name: &str,
+    ty: &DataType,
+    stats: &ColumnStats,
+) -> Result<String, NoMemory>
+    ensures { IfOk result (λ text. string_bytes text ≡ column_line name.now (kind_of ty.now) stats.now.rows stats.now.nulls
+        stats.now.sum (option_map scalar_item stats.now.least) (option_map scalar_item stats.now.greatest)) }
+{
+    let mut text = quoted(alloc, name)?;
+    text.push_str(" ")?;
+    push_type(&mut text, ty)?;
+    text.push_str(" rows=")?;
+    write!(text, "{}", stats.rows)?;
+    text.push_str(" nulls=")?;
+    write!(text, "{}", stats.nulls)?;
+    text.push_str(" sum=")?;
+    push_sum(&mut text, stats.sum)?;
+    text.push_str(" least=")?;
+    push_value(alloc, &mut text, &stats.least)?;
+    text.push_str(" greatest=")?;
+    push_value(alloc, &mut text, &stats.greatest)?;
+    text.push_str("\n")?;
+    Ok(text)
+}
+
+/// Adds the name of a type.
+fn push_type(text: &mut String, ty: &DataType) -> Result<(), AllocError>
+    ensures { OnOk result (string_bytes text.new ≡ string_bytes text.old ++ kind_name (kind_of ty.now)) }
+{
+    match ty {
+        DataType::Int(int) => text.push_str(type_name(*int)),
+        DataType::Bool => text.push_str("bool"),
+        DataType::Utf8 => text.push_str("utf8"),
+        DataType::LargeUtf8 => text.push_str("largeutf8"),
+        DataType::List(item) => {
+            text.push_str("list<")?;
+            push_type(text, &item.ty)?;
+            text.push_str(">")
+        }
+        DataType::LargeList(item) => {
+            text.push_str("largelist<")?;
+            push_type(text, &item.ty)?;
+            text.push_str(">")
+        }
+        DataType::Dict => text.push_str("dictionary"),
+    }
+}
+
+/// A text as a JSON string.
+fn quoted(alloc: Global, value: &str) -> Result<String, AllocError>
+    ensures { IfOk result (λ text. string_bytes text ≡ quoted value.now) }
+{
+    Value::String(String::from_str(alloc, value)?).to_string(alloc)
+}
+
+/// Adds a sum, or a dash where there is none.
+fn push_sum(text: &mut String, sum: Option<i128>) -> Result<(), AllocError>
+    ensures { OnOk result (string_bytes text.new ≡ string_bytes text.old ++ sum_text sum) }
+{
+    match sum {
+        None => text.push_str("-"),
+        Some(number) => {
+            write!(text, "{number}")?;
+            Ok(())
+        }
+    }
+}
+
+/// Adds a value, or a dash where there is none.
+fn push_value(alloc: Global, text: &mut String, value: &Option<Scalar>) -> Result<(), AllocError>
+    ensures { OnOk result (string_bytes text.new
+        ≡ string_bytes text.old ++ value_text (option_map scalar_item value.now)) }
+{
+    match value {
+        None => text.push_str("-"),
+        Some(scalar) => push_scalar(alloc, text, scalar),
+    }
+}
+
+/// Adds a value.
+pub(crate) fn push_scalar(
+    alloc: Global,
+    text: &mut String,
+    value: &Scalar,
+) -> Result<(), AllocError>
+    ensures { OnOk result (string_bytes text.new ≡ string_bytes text.old ++ cell (scalar_item value.now)) }
+{
+    match value {
+        Scalar::Int(number) => {
+            write!(text, "{number}")?;
+            Ok(())
+        }
+        Scalar::Bool(truth) => text.push_str(if *truth { "true" } else { "false" }),
+        Scalar::Text(value) => {
+            let value = quoted(alloc, value.as_str())?;
+            text.push_str(value.as_str())
+        }
+    }
+}
+
+/// The name of an integer type.
+fn type_name(ty: IntType) -> &'static str
+    ensures { result.now ≡ type_name ty.bits ty.signed }
+{
+    match (ty.bits, ty.signed) {
+        (Width::W8, true) => "int8",
+        (Width::W8, false) => "uint8",
+        (Width::W16, true) => "int16",
+        (Width::W16, false) => "uint16",
+        (Width::W32, true) => "int32",
+        (Width::W32, false) => "uint32",
+        (Width::W64, true) => "int64",
+        (Width::W64, false) => "uint64",
+    }
+}

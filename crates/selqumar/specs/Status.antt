@@ -1,0 +1,63 @@
+-- What a call leaves in the caller's buffer, by its status.
+use Rattle.std.specs.Prelude.{◌≡◌, ◌≢◌, ◌⊎◌, ◌<◌, ◌≤◌, ◌++◌, ℕ, List, [], Result, Ok, Err, drop, length, string_bytes}
+use Rattle.std.specs.declared.alloc.Global.{Global}
+use Rattle.std.specs.declared.string.String.{String}
+use Rattle.reports.specs.declared.run_fault.RunFault.{RunFault}
+use Rattle.reports.specs.declared.run_fault.RunFault.TheVariants.{NoMemory}
+use Rattle.embed.specs.Output.{AreLoadable, fault_line}
+
+-- The text is at the front of the buffer, whose rest stayed as it was.
+pub record IsWritten (text old new : List ℕ) (needed : ℕ) : Type 0 where
+  pub count : needed ≡ length text
+  pub fits : length text ≤ length old
+  pub buffer : new ≡ text ++ drop (length text) old
+
+-- The buffer is shorter than the text, and stayed as it was.
+pub record IsTooShort (text old new : List ℕ) (needed : ℕ) : Type 0 where
+  pub count : needed ≡ length text
+  pub short : length old < length text
+  pub kept : new ≡ old
+
+-- ---- by what an answer has to say
+
+-- Status 0: such a text is in the buffer.
+abbrev pub IsGiven : (List ℕ → Type 0) → List ℕ → List ℕ → ℕ → Type 0
+IsGiven says old new needed = (text : List ℕ) × says text × IsWritten text old new needed
+
+-- The text is the line of a fault that stands, and isn't want of memory.
+abbrev pub IsLine : (RunFault → Type 0) → List ℕ → Type 0
+IsLine stands text = (fault : RunFault) × (fault ≢ NoMemory) × stands fault × (text ≡ fault_line fault)
+
+-- Status 1: such a line is in the buffer.
+abbrev pub IsReported : (RunFault → Type 0) → List ℕ → List ℕ → ℕ → Type 0
+IsReported stands old new needed = (text : List ℕ) × IsLine stands text × IsWritten text old new needed
+
+-- Status 2: the buffer is too short for such a text, or for such a line.
+abbrev pub IsShort : (List ℕ → Type 0) → (RunFault → Type 0) → List ℕ → List ℕ → ℕ → Type 0
+IsShort says stands old new needed = (text : List ℕ) × (says text ⊎ IsLine stands text) × IsTooShort text old new needed
+
+-- Status 3: nothing was written.
+pub record IsKept (old new : List ℕ) (needed_old needed_new : ℕ) : Type 0 where
+  pub buffer : new ≡ old
+  pub needed : needed_new ≡ needed_old
+
+-- Nothing is said of files that can be loaded into one table.
+abbrev pub IsValid : List (List ℕ) → List ℕ → Type 0
+IsValid files text = (text ≡ []) × AreLoadable files
+
+-- ---- the same by the answer itself
+
+abbrev pub Answered : Type 0
+Answered = Result (String Global) RunFault
+
+abbrev pub IsGivenBy : Answered → List ℕ → List ℕ → ℕ → Type 0
+IsGivenBy answered old new needed = (text : String Global) × (answered ≡ Ok text) × IsWritten (string_bytes text) old new needed
+
+abbrev pub IsLineBy : Answered → List ℕ → Type 0
+IsLineBy answered text = (fault : RunFault) × (fault ≢ NoMemory) × (answered ≡ Err fault) × (text ≡ fault_line fault)
+
+abbrev pub IsReportedBy : Answered → List ℕ → List ℕ → ℕ → Type 0
+IsReportedBy answered old new needed = (text : List ℕ) × IsLineBy answered text × IsWritten text old new needed
+
+abbrev pub IsShortBy : Answered → List ℕ → List ℕ → ℕ → Type 0
+IsShortBy answered old new needed = (text : List ℕ) × (((given : String Global) × (answered ≡ Ok given) × (text ≡ string_bytes given)) ⊎ IsLineBy answered text) × IsTooShort text old new needed

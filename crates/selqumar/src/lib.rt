@@ -1,0 +1,93 @@
+//! `arrowtab` for C, Rust and Python: what it prints of files with one worker, put into the caller's buffer. Each call takes the
+//! bytes of files, or a handle in which a table of files is open, and answers a status:
+//!
+//! - 0: all of the text is at the front of `out`, and `needed` is its length; the rest of `out` stays as it was.
+//! - 1: a fault stands; its line is at the front of `out`, and `needed` is its length. A file is named by its number, from 0.
+//! - 2: `out` is shorter than the text or the line; `needed` is its length, and `out` stays as it was.
+//! - 3: a growth was refused; `out` and `needed` stay as they were.
+//! - 4: no table is open in the handle; `out` and `needed` stay as they were.
+#![tactic(auto)]
+
+ghost use Rattle.std.specs.Prelude.{◌≡◌, ◌≤◌, map};
+ghost use Rattle.embed.specs.Output.{IsAnswered, IsExport, IsStats, StopsQuery};
+ghost use Rattle.embed.specs.Refused.{Stops};
+ghost use Rattle.selqumar.specs.Status.{IsGiven, IsKept, IsReported, IsShort, IsValid};
+
+mod boxed;
+mod handle;
+mod opened;
+mod slot;
+mod status;
+
+use crate::status::{put, validity};
+use std::alloc::Global;
+
+/// What `stats` prints of the files.
+#[unsafe(no_mangle)]
+pub extern "C" fn selqumar_stats(
+    alloc: Global,
+    files: &[&[u8]],
+    out: &mut [u8],
+    needed: &mut usize,
+) -> u32
+    ensures status { result ≤ 3 }
+    ensures given { result ≡ 0 → IsGiven (IsStats (map (λ f. f.now) files.now)) out.old out.new needed.new }
+    ensures fault { result ≡ 1 → IsReported (Stops (map (λ f. f.now) files.now)) out.old out.new needed.new }
+    ensures short { result ≡ 2 → IsShort (IsStats (map (λ f. f.now) files.now)) (Stops (map (λ f. f.now) files.now)) out.old out.new needed.new }
+    ensures memory { result ≡ 3 → IsKept out.old out.new needed.old needed.new }
+{
+    put(alloc, embed::stats(alloc, files), out, needed)
+}
+
+/// What `export` prints of the files.
+#[unsafe(no_mangle)]
+pub extern "C" fn selqumar_export(
+    alloc: Global,
+    files: &[&[u8]],
+    out: &mut [u8],
+    needed: &mut usize,
+) -> u32
+    ensures status { result ≤ 3 }
+    ensures given { result ≡ 0 → IsGiven (IsExport (map (λ f. f.now) files.now)) out.old out.new needed.new }
+    ensures fault { result ≡ 1 → IsReported (Stops (map (λ f. f.now) files.now)) out.old out.new needed.new }
+    ensures short { result ≡ 2 → IsShort (IsExport (map (λ f. f.now) files.now)) (Stops (map (λ f. f.now) files.now)) out.old out.new needed.new }
+    ensures memory { result ≡ 3 → IsKept out.old out.new needed.old needed.new }
+{
+    put(alloc, embed::export(alloc, files), out, needed)
+}
+
+/// What `query` prints of the files.
+#[unsafe(no_mangle)]
+pub extern "C" fn selqumar_query(
+    alloc: Global,
+    files: &[&[u8]],
+    query: &[u8],
+    out: &mut [u8],
+    needed: &mut usize,
+) -> u32
+    ensures status { result ≤ 3 }
+    ensures given { result ≡ 0 → IsGiven (IsAnswered query.now (map (λ f. f.now) files.now)) out.old out.new needed.new }
+    ensures fault { result ≡ 1 → IsReported (StopsQuery query.now (map (λ f. f.now) files.now)) out.old out.new needed.new }
+    ensures short { result ≡ 2 → IsShort (IsAnswered query.now (map (λ f. f.now) files.now)) (StopsQuery query.now (map (λ f. f.now) files.now))
+        out.old out.new needed.new }
+    ensures memory { result ≡ 3 → IsKept out.old out.new needed.old needed.new }
+{
+    put(alloc, embed::query(alloc, query, files), out, needed)
+}
+
+/// Nothing, where all files can be loaded into one table.
+#[unsafe(no_mangle)]
+pub extern "C" fn selqumar_validate(
+    alloc: Global,
+    files: &[&[u8]],
+    out: &mut [u8],
+    needed: &mut usize,
+) -> u32
+    ensures status { result ≤ 3 }
+    ensures given { result ≡ 0 → IsGiven (IsValid (map (λ f. f.now) files.now)) out.old out.new needed.new }
+    ensures fault { result ≡ 1 → IsReported (Stops (map (λ f. f.now) files.now)) out.old out.new needed.new }
+    ensures short { result ≡ 2 → IsShort (IsValid (map (λ f. f.now) files.now)) (Stops (map (λ f. f.now) files.now)) out.old out.new needed.new }
+    ensures memory { result ≡ 3 → IsKept out.old out.new needed.old needed.new }
+{
+    put(alloc, validity(alloc, files), out, needed)
+}

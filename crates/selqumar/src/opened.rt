@@ -1,0 +1,133 @@
+//! Calls on a table that stays open between them.
+ghost use Rattle.std.specs.Prelude.{◌≡◌, ◌≢◌, ◌≤◌, List, None, [], map, ℕ};
+ghost use Rattle.embed.specs.Output.{IsAnswered, IsExport, IsStats, StopsQuery};
+ghost use Rattle.embed.specs.Refused.{Stops};
+ghost use Rattle.selqumar.specs.Handle.{IsOpenOver};
+ghost use Rattle.selqumar.specs.Status.{IsGiven, IsKept, IsReported, IsShort, IsWritten};
+
+use crate::handle::{Handle, export_of, groups_of, load, stats_of};
+use crate::status::{GIVEN, NOT_OPEN, put};
+use std::alloc::Global;
+
+/// Opens a table of the files, in place of the one that is open.
+#[unsafe(no_mangle)]
+pub extern "C" fn selqumar_open(
+    alloc: Global,
+    files: &[&[u8]],
+    handle: &mut Handle,
+    out: &mut [u8],
+    needed: &mut usize,
+) -> u32
+    ensures status { result ≤ 3 }
+    ensures opened { result ≡ 0 → IsOpenOver (map (λ f. f.now) files.now) handle.new.slot.table }
+    ensures given { result ≡ 0 → IsWritten [] out.old out.new needed.new }
+    ensures unchanged { result ≢ 0 → handle.new.slot.table ≡ handle.old.slot.table }
+    ensures fault { result ≡ 1 → IsReported (Stops (map (λ f. f.now) files.now)) out.old out.new needed.new }
+    ensures short { result ≡ 2 → IsShort (λ text. ⊥) (Stops (map (λ f. f.now) files.now)) out.old out.new needed.new }
+    ensures memory { result ≡ 3 → IsKept out.old out.new needed.old needed.new }
+{
+    match load(alloc, files) {
+        Ok(table) => {
+            let before = handle.take(alloc);
+            handle.put(table);
+            drop(before);
+            *needed = 0;
+            GIVEN
+        }
+        Err(fault) => put(alloc, Err(fault), out, needed),
+    }
+}
+
+/// What `stats` prints of the files of the table that is open.
+#[unsafe(no_mangle)]
+pub extern "C" fn selqumar_open_stats(
+    alloc: Global,
+    handle: &mut Handle,
+    out: &mut [u8],
+    needed: &mut usize,
+) -> u32
+    ensures status { result ≤ 4 }
+    ensures given { (texts : List (List ℕ)) → IsOpenOver texts handle.old.slot.table → result ≡ 0 → IsGiven (IsStats texts) out.old out.new needed.new }
+    ensures fault { result ≢ 1 }
+    ensures short { (texts : List (List ℕ)) → IsOpenOver texts handle.old.slot.table → result ≡ 2
+        → IsShort (IsStats texts) (λ fault. ⊥) out.old out.new needed.new }
+    ensures memory { result ≡ 3 → IsKept out.old out.new needed.old needed.new }
+    ensures closed { result ≡ 4 → (handle.old.slot.table ≡ None) × IsKept out.old out.new needed.old needed.new }
+    ensures none { handle.old.slot.table ≡ None → result ≡ 4 }
+    ensures unchanged { handle.new.slot.table ≡ handle.old.slot.table }
+{
+    match handle.take(alloc) {
+        Some(table) => {
+            let answered = stats_of(alloc, &table.version);
+            handle.put(table);
+            put(alloc, answered, out, needed)
+        }
+        None => NOT_OPEN,
+    }
+}
+
+/// What `export` prints of the files of the table that is open.
+#[unsafe(no_mangle)]
+pub extern "C" fn selqumar_open_export(
+    alloc: Global,
+    handle: &mut Handle,
+    out: &mut [u8],
+    needed: &mut usize,
+) -> u32
+    ensures status { result ≤ 4 }
+    ensures given { (texts : List (List ℕ)) → IsOpenOver texts handle.old.slot.table → result ≡ 0 → IsGiven (IsExport texts) out.old out.new needed.new }
+    ensures fault { result ≢ 1 }
+    ensures short { (texts : List (List ℕ)) → IsOpenOver texts handle.old.slot.table → result ≡ 2
+        → IsShort (IsExport texts) (λ fault. ⊥) out.old out.new needed.new }
+    ensures memory { result ≡ 3 → IsKept out.old out.new needed.old needed.new }
+    ensures closed { result ≡ 4 → (handle.old.slot.table ≡ None) × IsKept out.old out.new needed.old needed.new }
+    ensures none { handle.old.slot.table ≡ None → result ≡ 4 }
+    ensures unchanged { handle.new.slot.table ≡ handle.old.slot.table }
+{
+    match handle.take(alloc) {
+        Some(table) => {
+            let answered = export_of(alloc, &table.version);
+            handle.put(table);
+            put(alloc, answered, out, needed)
+        }
+        None => NOT_OPEN,
+    }
+}
+
+/// What `query` prints of them: a line for each group. Where no table is open, the query isn't read.
+#[unsafe(no_mangle)]
+pub extern "C" fn selqumar_open_query(
+    alloc: Global,
+    handle: &mut Handle,
+    query: &[u8],
+    out: &mut [u8],
+    needed: &mut usize,
+) -> u32
+    ensures status { result ≤ 4 }
+    ensures given { (texts : List (List ℕ)) → IsOpenOver texts handle.old.slot.table → result ≡ 0 → IsGiven (IsAnswered query.now texts) out.old out.new needed.new }
+    ensures fault { (texts : List (List ℕ)) → IsOpenOver texts handle.old.slot.table → result ≡ 1
+        → IsReported (StopsQuery query.now texts) out.old out.new needed.new }
+    ensures short { (texts : List (List ℕ)) → IsOpenOver texts handle.old.slot.table → result ≡ 2
+        → IsShort (IsAnswered query.now texts) (StopsQuery query.now texts) out.old out.new needed.new }
+    ensures memory { result ≡ 3 → IsKept out.old out.new needed.old needed.new }
+    ensures closed { result ≡ 4 → (handle.old.slot.table ≡ None) × IsKept out.old out.new needed.old needed.new }
+    ensures none { handle.old.slot.table ≡ None → result ≡ 4 }
+    ensures unchanged { handle.new.slot.table ≡ handle.old.slot.table }
+{
+    match handle.take(alloc) {
+        Some(table) => {
+            let answered = groups_of(alloc, query, &table.version);
+            handle.put(table);
+            put(alloc, answered, out, needed)
+        }
+        None => NOT_OPEN,
+    }
+}
+
+/// Closes the table that is open, if one is.
+#[unsafe(no_mangle)]
+pub extern "C" fn selqumar_close(alloc: Global, handle: &mut Handle)
+    ensures { handle.new.slot.table ≡ None }
+{
+    drop(handle.take(alloc));
+}

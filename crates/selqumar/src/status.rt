@@ -1,0 +1,72 @@
+//! Statuses of calls, and what they leave in the caller's buffer.
+ghost use Rattle.std.specs.Prelude.{◌≡◌, ◌⊎◌, ◌≤◌, IfErr, IfOk, map, string_bytes};
+ghost use Rattle.embed.specs.Refused.{Stops};
+ghost use Rattle.selqumar.specs.Status.{IsGivenBy, IsKept, IsReportedBy, IsShortBy, IsTooShort, IsValid, IsWritten};
+
+use embed::{RunFault, line_of, validate};
+use std::alloc::Global;
+
+/// All of the text is in the buffer.
+pub(crate) const GIVEN: u32 = 0;
+
+/// The line of a fault is in the buffer.
+const FAULT: u32 = 1;
+
+/// The buffer is too short.
+const SHORT: u32 = 2;
+
+/// A growth was refused.
+const NO_MEMORY: u32 = 3;
+
+/// No table is open.
+pub(crate) const NOT_OPEN: u32 = 4;
+
+/// Puts the text of an answer, or the line of its fault, into a buffer, and answers the status.
+pub(crate) fn put(
+    alloc: Global,
+    answered: Result<String, RunFault>,
+    out: &mut [u8],
+    needed: &mut usize,
+) -> u32
+    ensures status { result ≤ 3 }
+    ensures given { result ≡ 0 → IsGivenBy answered out.old out.new needed.new }
+    ensures fault { result ≡ 1 → IsReportedBy answered out.old out.new needed.new }
+    ensures short { result ≡ 2 → IsShortBy answered out.old out.new needed.new }
+    ensures memory { result ≡ 3 → IsKept out.old out.new needed.old needed.new }
+{
+    match answered {
+        Ok(text) => put_text(text.as_bytes(), GIVEN, out, needed),
+        Err(RunFault::NoMemory) => NO_MEMORY,
+        Err(fault) => match line_of(alloc, &fault) {
+            Ok(line) => put_text(line.as_bytes(), FAULT, out, needed),
+            Err(_) => NO_MEMORY,
+        },
+    }
+}
+
+/// Puts a text at the front of a buffer, and answers the status, or that the buffer is too short.
+fn put_text(text: &[u8], status: u32, out: &mut [u8], needed: &mut usize) -> u32
+    requires { status ≤ 1 }
+    ensures status { result ≡ status ⊎ (result ≡ 2) }
+    ensures written { result ≤ 1 → IsWritten text.now out.old out.new needed.new }
+    ensures short { result ≡ 2 → IsTooShort text.now out.old out.new needed.new }
+{
+    let len = text.len();
+    *needed = len;
+    if out.len() < len {
+        return SHORT;
+    }
+    out[..len].copy_from_slice(text);
+    status
+}
+
+/// An empty text, where all files can be loaded into one table.
+pub(crate) fn validity(alloc: Global, files: &[&[u8]]) -> Result<String, RunFault>
+    ensures ok { IfOk result (λ text. IsValid (map (λ f. f.now) files.now) (string_bytes text)) }
+    ensures err { IfErr result (Stops (map (λ f. f.now) files.now)) }
+{
+    match validate(alloc, files) {
+        Ok(()) => Ok(String::new(alloc)),
+        Err(fault) => Err(fault),
+    }
+}

@@ -1,0 +1,128 @@
+/* Calls the library where requests for memory are refused, one after the other, or many times over: see `library.py`.
+
+     library refused CALL FILES
+     library repeated CALL FILES
+
+   `refusals.c` has to be loaded. The query of `query` is the text of the variable QUERY. The status is 0 where all is as it should be. */
+#include "selqumar.h"
+#include <stdio.h>
+#include <stdlib.h>
+#include <string.h>
+
+enum { MOST_FILES = 16, ROOM = 1 << 20, TIMES = 1000, UNTOUCHED = 12345 };
+
+/* What `refusals.c` understands. */
+static const size_t ALONE = (size_t)1 << 62, AND_ALL_BEHIND = (size_t)1 << 32, WAS_NONE_REFUSED = (size_t)1 << 61, KEEP_IN_MIND = (size_t)1 << 60,
+                    ARE_AS_MANY = ((size_t)1 << 60) + 1;
+
+static struct selqumar_bytes files[MOST_FILES];
+static size_t count;
+static const char *name, *query;
+
+struct answer {
+  uint32_t status;
+  size_t needed;
+  uint8_t *out;
+};
+
+/* Opens a table of the files, calls the function on it, and closes it. */
+static void call_on_table(struct answer *answer) {
+  struct selqumar_handle handle = SELQUMAR_CLOSED;
+  answer->status = selqumar_open(files, count, &handle, answer->out, ROOM, &answer->needed);
+  if (answer->status != SELQUMAR_GIVEN)
+    return;
+  answer->needed = UNTOUCHED;
+  if (!strcmp(name, "open_stats"))
+    answer->status = selqumar_open_stats(&handle, answer->out, ROOM, &answer->needed);
+  else if (!strcmp(name, "open_export"))
+    answer->status = selqumar_open_export(&handle, answer->out, ROOM, &answer->needed);
+  else
+    answer->status = selqumar_open_query(&handle, (const uint8_t *)query, strlen(query), answer->out, ROOM, &answer->needed);
+  if (!handle.is_open)
+    answer->status = SELQUMAR_NOT_OPEN;
+  selqumar_close(&handle);
+}
+
+/* Calls the function, over a buffer that it finds filled. */
+static void call(struct answer *answer) {
+  memset(answer->out, 0xA5, ROOM);
+  answer->needed = UNTOUCHED;
+  if (!strncmp(name, "open_", 5))
+    call_on_table(answer);
+  else if (!strcmp(name, "stats"))
+    answer->status = selqumar_stats(files, count, answer->out, ROOM, &answer->needed);
+  else if (!strcmp(name, "export"))
+    answer->status = selqumar_export(files, count, answer->out, ROOM, &answer->needed);
+  else if (!strcmp(name, "validate"))
+    answer->status = selqumar_validate(files, count, answer->out, ROOM, &answer->needed);
+  else
+    answer->status = selqumar_query(files, count, (const uint8_t *)query, strlen(query), answer->out, ROOM, &answer->needed);
+}
+
+static int is_same(const struct answer *one, const struct answer *other) {
+  return one->status == other->status && one->needed == other->needed && !memcmp(one->out, other->out, ROOM);
+}
+
+/* Asks for so many bytes, and gives back what it got. Whether it got any. */
+static int granted(size_t bytes) {
+  void *volatile block = malloc(bytes);
+  free(block);
+  return block != 0;
+}
+
+static int read_file(const char *path) {
+  FILE *file = fopen(path, "rb");
+  static uint8_t bytes[ROOM];
+  if (!file || count == MOST_FILES)
+    return 0;
+  size_t length = fread(bytes, 1, ROOM, file);
+  fclose(file);
+  uint8_t *data = malloc(length + 1);
+  memcpy(data, bytes, length);
+  files[count++] = (struct selqumar_bytes){data, length};
+  return 1;
+}
+
+/* With each request refused, alone and with all behind it, a call gives its answer or says that memory ran out. */
+static int refused(struct answer *right, struct answer *other, struct answer *none) {
+  for (int on = 0; on < 2; on++) {
+    for (size_t number = 1;; number++) {
+      granted(ALONE + (on ? AND_ALL_BEHIND : 0) + number);
+      call(other);
+      if (granted(WAS_NONE_REFUSED)) {
+        if (number < 10 || !is_same(other, right))
+          return printf("request %zu was not met\n", number), 1;
+        break;
+      }
+      if (!is_same(other, right) && !is_same(other, none))
+        return printf("request %zu: status %u\n", number, other->status), 1;
+    }
+  }
+  return 0;
+}
+
+/* After a thousand calls as many blocks of memory are in use as after one. */
+static int repeated(struct answer *right, struct answer *other) {
+  if (granted(KEEP_IN_MIND))
+    return printf("refusals.c isn't loaded, or is another\n"), 1;
+  for (int time = 0; time < TIMES; time++) {
+    call(other);
+    if (!is_same(other, right))
+      return printf("call %d gives another answer\n", time), 1;
+  }
+  return granted(ARE_AS_MANY) ? 0 : (printf("another number of blocks is in use\n"), 1);
+}
+
+int main(int words, char **word) {
+  struct answer right = {0, 0, malloc(ROOM)}, other = {0, 0, malloc(ROOM)}, none = {SELQUMAR_NO_MEMORY, UNTOUCHED, malloc(ROOM)};
+  if (words < 3)
+    return 2;
+  name = word[2];
+  query = getenv("QUERY");
+  for (int i = 3; i < words; i++)
+    if (!read_file(word[i]))
+      return 2;
+  memset(none.out, 0xA5, ROOM);
+  call(&right);
+  return strcmp(word[1], "refused") ? repeated(&right, &other) : refused(&right, &other, &none);
+}
