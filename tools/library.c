@@ -1,15 +1,19 @@
-/* Calls the library where requests for memory are refused, one after the other, or many times over: see `library.py`.
+/* Calls the library where requests for memory are refused, one after the other, many times over, on a small stack, or with null: see `library.py`.
 
      library refused CALL FILES
      library repeated CALL FILES
+     library stack CALL FILES
+     library nulls CALL FILES
 
-   `refusals.c` has to be loaded. The query of `query` is the text of the variable QUERY. The status is 0 where all is as it should be. */
+   For the first two `refusals.c` has to be loaded. The query of `query` is the text of the variable QUERY. The status is 0 where all is as it should
+   be. */
 #include "selqumar.h"
+#include <pthread.h>
 #include <stdio.h>
 #include <stdlib.h>
 #include <string.h>
 
-enum { MOST_FILES = 16, ROOM = 1 << 20, TIMES = 1000, UNTOUCHED = 12345 };
+enum { MOST_FILES = 16, ROOM = 1 << 20, TIMES = 1000, UNTOUCHED = 12345, STACK = 128 << 10 };
 
 /* What `refusals.c` understands. */
 static const size_t ALONE = (size_t)1 << 62, AND_ALL_BEHIND = (size_t)1 << 32, WAS_NONE_REFUSED = (size_t)1 << 61, KEEP_IN_MIND = (size_t)1 << 60,
@@ -113,6 +117,57 @@ static int repeated(struct answer *right, struct answer *other) {
   return granted(ARE_AS_MANY) ? 0 : (printf("another number of blocks is in use\n"), 1);
 }
 
+static void *call_in_thread(void *answer) {
+  call(answer);
+  return NULL;
+}
+
+/* A thread with as much stack as the header says comes to the same answer. */
+static int stack(struct answer *right, struct answer *other) {
+  pthread_t thread;
+  pthread_attr_t small;
+  pthread_attr_init(&small);
+  if (pthread_attr_setstacksize(&small, STACK) || pthread_create(&thread, &small, call_in_thread, other) || pthread_join(thread, NULL))
+    return printf("there is no thread\n"), 1;
+  return is_same(other, right) ? 0 : (printf("another answer\n"), 1);
+}
+
+/* With no files, a file without bytes, no query and no room, null is as good as an address. */
+static int nulls(struct answer *right, struct answer *other) {
+  static uint8_t nowhere[16];
+  struct selqumar_bytes empty = {nowhere, 0}, none = {NULL, 0};
+  size_t needed = 0, also = 0;
+  selqumar_close(NULL);
+  for (count = 0; count < 3; count++) {
+    for (size_t i = 0; i < count; i++)
+      files[i] = i ? files[i] : empty;
+    call(right);
+    files[0] = count ? none : files[0];
+    call(other);
+    if (!is_same(other, right))
+      return printf("%zu files: another answer\n", count), 1;
+  }
+  struct selqumar_handle one = SELQUMAR_CLOSED, two = SELQUMAR_CLOSED;
+  if (selqumar_open(NULL, 0, &one, NULL, 0, &needed) || selqumar_open((const struct selqumar_bytes *)nowhere, 0, &two, nowhere, 0, &also) || needed || also)
+    return printf("no files aren't opened\n"), 1;
+  uint32_t statuses[][2] = {
+      {selqumar_open_stats(&one, NULL, 0, &needed), selqumar_open_stats(&two, nowhere, 0, &also)},
+      {selqumar_open_export(&one, NULL, 0, &needed), selqumar_open_export(&two, nowhere, 0, &also)},
+      {selqumar_open_query(&one, NULL, 0, NULL, 0, &needed), selqumar_open_query(&two, nowhere, 0, nowhere, 0, &also)},
+      {selqumar_stats(NULL, 0, NULL, 0, &needed), selqumar_stats((const struct selqumar_bytes *)nowhere, 0, nowhere, 0, &also)},
+      {selqumar_export(NULL, 0, NULL, 0, &needed), selqumar_export((const struct selqumar_bytes *)nowhere, 0, nowhere, 0, &also)},
+      {selqumar_query(NULL, 0, NULL, 0, NULL, 0, &needed), selqumar_query((const struct selqumar_bytes *)nowhere, 0, nowhere, 0, nowhere, 0, &also)},
+      {selqumar_validate(NULL, 0, NULL, 0, &needed), selqumar_validate((const struct selqumar_bytes *)nowhere, 0, nowhere, 0, &also)},
+  };
+  for (size_t i = 0; i < sizeof statuses / sizeof *statuses; i++)
+    if (statuses[i][0] != statuses[i][1])
+      return printf("call %zu: status %u and %u\n", i, statuses[i][0], statuses[i][1]), 1;
+  selqumar_close(&one);
+  selqumar_close(&two);
+  selqumar_close(&two);
+  return needed == also ? 0 : (printf("another length\n"), 1);
+}
+
 int main(int words, char **word) {
   struct answer right = {0, 0, malloc(ROOM)}, other = {0, 0, malloc(ROOM)}, none = {SELQUMAR_NO_MEMORY, UNTOUCHED, malloc(ROOM)};
   if (words < 3)
@@ -124,5 +179,9 @@ int main(int words, char **word) {
       return 2;
   memset(none.out, 0xA5, ROOM);
   call(&right);
+  if (!strcmp(word[1], "stack"))
+    return stack(&right, &other);
+  if (!strcmp(word[1], "nulls"))
+    return nulls(&right, &other);
   return strcmp(word[1], "refused") ? repeated(&right, &other) : refused(&right, &other, &none);
 }

@@ -3,17 +3,18 @@
 
     tools/library.py PROGRAM [FOLDER]
 
-Where a folder is named, the library that stands there is taken. Each case is a call over some files; the program gets the same files
-under the names `0`, `1` and so on, since the library names them by their numbers. The last line is 'N passed, M failed'."""
+Without a folder the library is built in `build`; where one is named, that which stands there is taken. Each case is a call over some files; the program
+gets the same files under the names `0`, `1` and so on, since the library names them by their numbers. `library_build.py` and `library_python.py` have
+further cases. The last line is 'N passed, M failed'."""
 import ctypes
 import json
 import os
-import re
 import shutil
 import subprocess
 import sys
 import tempfile
 
+import library_build
 from refusals import TOP, built, compiler
 
 QUERY = b'{"by":["city"],"aggs":[{"agg":"rows"},{"agg":"sum","column":"people"}]}'
@@ -31,7 +32,7 @@ def check(what, fault):
     global passed, failed
     if fault:
         failed += 1
-        print(f"{what}: {fault}")
+        print(f"{what}: {fault}", flush=True)
     else:
         passed += 1
 
@@ -65,33 +66,38 @@ def cases():
     yield "counts that are only stated", [mixed.replace(b'"count":', b'"count":2147483647,"c":', 1)]
 
 
-def printed(program, room, call, files):
-    """What the program gives for a call: whether it is an answer, and the text."""
+def written(room, files):
+    """The names of the files in a folder: their numbers."""
     for number, file in enumerate(files):
         with open(os.path.join(room, str(number)), "wb") as out:
             out.write(file)
-    words = {"stats": ["stats"], "validate": ["stats"], "export": ["export"], "query": ["query", "--query", QUERY.decode()]}[call]
-    ran = subprocess.run([program, *words, *map(str, range(len(files)))], cwd=room, stdin=subprocess.DEVNULL, capture_output=True, timeout=SECONDS)
+    return [str(number) for number in range(len(files))]
+
+
+def printed(program, room, call, files, query=QUERY):
+    """What the program gives for a call: whether it is an answer, and the text."""
+    words = {"stats": ["stats"], "validate": ["stats"], "export": ["export"], "query": ["query", "--query", query.decode()]}[call]
+    ran = subprocess.run([program, *words, *written(room, files)], cwd=room, stdin=subprocess.DEVNULL, capture_output=True, timeout=SECONDS)
     if ran.returncode == 0:
         return True, "" if call == "validate" else ran.stdout.decode()
     return False, ran.stderr.decode()
 
 
-def given(selqumar, call, files):
+def given(selqumar, call, files, query=QUERY):
     """The same of the library, through Python."""
     run = {"stats": selqumar.stats_text, "export": selqumar.export, "validate": lambda files: selqumar.validate(files) or "",
-           "query": lambda files: selqumar.query_text(files, QUERY)}[call]
+           "query": lambda files: selqumar.query_text(files, query)}[call]
     try:
         return True, run(files)
     except selqumar.Fault as fault:
         return False, f"{fault}\n"
 
 
-def opened(selqumar, call, files):
+def opened(selqumar, call, files, query=QUERY):
     """The same of a table that is opened over the files, asked twice."""
     try:
         with selqumar.Table(files) as table:
-            run = {"stats": table.stats_text, "export": table.export, "query": lambda: table.query_text(QUERY)}[call]
+            run = {"stats": table.stats_text, "export": table.export, "query": lambda: table.query_text(query)}[call]
             run()
             return True, run()
     except selqumar.Fault as fault:
@@ -115,6 +121,35 @@ def check_cases(program, selqumar, room):
     check("export of no files", difference(selqumar.export([none.encode()]), none))
 
 
+def batch(*values):
+    """A batch of numbers, of which None is null."""
+    column = {"name": "n", "count": len(values), "VALIDITY": [int(it is not None) for it in values], "DATA": [it or 0 for it in values]}
+    return {"count": len(values), "columns": [column]}
+
+
+def numbers(nullable, *batches):
+    """A file of one column of numbers."""
+    field = {"name": "n", "nullable": nullable, "type": {"name": "int", "bitWidth": 8, "isSigned": True}, "children": []}
+    return json.dumps({"schema": {"fields": [field]}, "batches": list(batches)}).encode()
+
+
+def check_refused_batch(program, selqumar, room):
+    """No call passes over a batch that is refused: each reports it, where the same files without the batch have an answer."""
+    query = b'{"aggs":[{"agg":"rows"},{"agg":"sum","column":"n"}]}'
+    good, refused, last = batch(1, 2), batch(3, None), batch(4)
+    for place, batches in enumerate([(refused, good, last), (good, refused, last), (good, last, refused)]):
+        for front in ([], [numbers(False, good)]):
+            files = [*front, numbers(False, *batches), numbers(False, last)]
+            without = [*front, numbers(False, *(it for it in batches if it is not refused)), numbers(False, last)]
+            line = f"arrowtab: {len(front)}: batch {place}: A2 NullInNonNullable column=0 row=1\n"
+            for call in CALLS:
+                what = f"{call}, batch {place} of file {len(front)} is refused"
+                check(what, difference((given(selqumar, call, files, query), printed(program, room, call, files, query)), ((False, line),) * 2))
+                check(f"{what}: without it", difference(given(selqumar, call, without, query), printed(program, room, call, without, query)))
+                if call in OPEN_CALLS:
+                    check(f"{what}: a table", difference(opened(selqumar, call, files, query), (False, line)))
+
+
 def check_values(selqumar):
     """The values of Python, from the outputs that README shows."""
     files = [example("mixed.json")]
@@ -128,23 +163,9 @@ def check_values(selqumar):
     table = selqumar.Table(files)
     check("a table as values", difference((table.stats(), table.query(QUERY)), (selqumar.stats(files), groups)))
     table.close()
-    try:
-        table.stats()
-        check("a table that is closed", "it answers")
-    except ValueError:
-        check("a table that is closed", None)
     number = {"name": "n", "nullable": True, "type": {"name": "int", "bitWidth": 8, "isSigned": True}, "children": []}
     twice = json.dumps({"schema": {"fields": [number, number]}, "batches": []}).encode()
     check("columns of one name", difference([column.name for column in selqumar.stats([twice]).columns], ["n", "n"]))
-
-
-def check_readme():
-    """README's lines of Python print what stands behind the last of them."""
-    with open(os.path.join(TOP, "README.md"), encoding="utf-8") as file:
-        lines = re.search(r"^```python\n(.*?)^```$", file.read(), re.M | re.S)[1]
-    names = {**os.environ, "PYTHONPATH": os.path.join(TOP, "python")}
-    ran = subprocess.run([sys.executable, "-c", lines], cwd=TOP, env=names, capture_output=True, text=True, timeout=SECONDS)
-    check("README's Python", difference(ran.stdout.rstrip("\n"), lines.rstrip("\n").rpartition("  # ")[2]))
 
 
 # ---- buffers
@@ -191,57 +212,121 @@ def check_buffers(program, library, room):
 # ---- C and Rust
 
 
-def check_program(what, words, program, room):
-    """A program of an example prints of each file what the program does."""
+def both(program, room, query, files):
+    """What the program prints of files and of a query, or the first fault."""
+    is_answer, text = printed(program, room, "stats", files)
+    is_last, last = printed(program, room, "query", files, query) if is_answer else (False, text)
+    return is_last, text + last if is_last else last
+
+
+def check_example(what, example_program, program, room):
+    """The program of an example prints of each file what the program does."""
+    others = [b'{"by":["town"]}', b"{", b'{"aggs":[{"agg":"rows"}]}']
     for name, file in shipped().items():
-        for files in ([file], [file, file], [file[:100]]):
-            is_answer, text = printed(program, room, "stats", files)
-            ran = subprocess.run([words, *map(str, range(len(files)))], cwd=room, capture_output=True, timeout=SECONDS)
-            got = (ran.returncode == 0, (ran.stdout if ran.returncode == 0 else ran.stderr).decode())
-            check(f"{what} over {name}", difference(got, (is_answer, text)))
+        for files in ([file], [file, file], [file[:100]], [file] * 70):
+            for query in (others if len(files) == 1 else others[2:]):
+                wanted = both(program, room, query, files)
+                ran = subprocess.run([example_program, query.decode(), *written(room, files)], cwd=room, capture_output=True, timeout=SECONDS)
+                got = (ran.returncode == 0, (ran.stdout if ran.returncode == 0 else ran.stderr).decode())
+                check(f"{what} over {name}", difference(got, wanted))
+    for name in ("not-there", "."):
+        ran = subprocess.run([example_program, "{}", name], cwd=room, capture_output=True, timeout=SECONDS)
+        check(f"{what} over {name}", difference((ran.returncode, ran.stdout, ran.stderr.count(b"\n"), name.encode() in ran.stderr), (2, b"", 1, True)))
+    ran = subprocess.run(f"cat 0 | {example_program} '{{}}' /dev/stdin", shell=True, cwd=room, capture_output=True, timeout=SECONDS)
+    check(f"{what} over a pipe", difference(ran.returncode, 0))
 
 
-def check_c_and_rust(program, folder, room):
-    archive = os.path.join(folder, "libselqumar.a")
+HEADER = """#include "selqumar.h"
+int main(void) { size_t needed = 0; selqumar_close(NULL); return selqumar_stats(NULL, 0, NULL, 0, &needed) != SELQUMAR_SHORT || SELQUMAR_VERSION < 1; }
+"""
+
+
+def check_header(archive, folder):
+    """The header is C of each standard and C++, without a warning."""
+    for name, words in (("h.c", ["cc", "-std=c99"]), ("h.c", ["cc", "-std=c17"]), ("h.cc", ["c++", "-std=c++11"]), ("h.cc", ["c++", "-std=c++20"])):
+        if not shutil.which(words[0]):
+            print(f"not tried: {words[0]}", flush=True)
+            continue
+        with open(os.path.join(folder, name), "w", encoding="utf-8") as file:
+            file.write(HEADER)
+        words = [*words, "-Wall", "-Wextra", "-Wpedantic", "-Werror", f"-I{TOP}/include", name, archive, "-o", "h"]
+        ran = subprocess.run(words, cwd=folder, capture_output=True, timeout=SECONDS)
+        check(f"the header by {words[0]} {words[1]}", difference((ran.returncode, ran.stderr), (0, b"")) or
+              difference(subprocess.run([os.path.join(folder, "h")], timeout=SECONDS).returncode, 0))
+
+
+def check_c_and_rust(program, archive, folder, room):
     for source in ("examples/embed.c", "tools/library.c"):
         out = os.path.join(folder, os.path.basename(source)[:-2])
-        subprocess.run([*compiler(), "-O1", "-Wall", "-Werror", f"-I{TOP}/include", os.path.join(TOP, source), archive, "-o", out], check=True)
-    check_program("C", os.path.join(folder, "embed"), program, room)
+        words = [*compiler(), "-O1", "-Wall", "-Wextra", "-Wpedantic", "-Werror", "-pthread", f"-I{TOP}/include", os.path.join(TOP, source), archive, "-o", out]
+        subprocess.run(words, check=True)
+    check_example("C", os.path.join(folder, "embed"), program, room)
+    check_header(archive, folder)
     if not shutil.which("rustc"):
-        print("Rust is left out: there is no rustc")
+        print("not tried: Rust", flush=True)
         return
     out = os.path.join(folder, "embed_rs")
     subprocess.run(["rustc", "-O", os.path.join(TOP, "examples", "embed.rs"), "-C", f"link-arg={archive}", "-o", out], check=True)
-    check_program("Rust", out, program, room)
+    check_example("Rust", out, program, room)
 
 
-def check_memory(folder, room):
-    """A thousand calls keep no more memory than one, and each gives its answer or says that memory ran out, whichever request is refused."""
-    loaded = {**os.environ, "QUERY": QUERY.decode(), "LD_PRELOAD": built(room)}
-    for how in ("repeated", "refused"):
-        for call in [*CALLS, *(f"open_{call}" for call in OPEN_CALLS)]:
-            words = [os.path.join(folder, "library"), how, call, os.path.join(TOP, "examples", "mixed.json")]
-            ran = subprocess.run(words, env=loaded, capture_output=True, timeout=SECONDS)
-            check(f"{how} {call}", None if ran.returncode == 0 else f"status {ran.returncode} {ran.stdout!r:.200}")
+def nested():
+    """A file and a filter that are as deep as any."""
+    kind = {"name": "n", "nullable": True, "type": {"name": "int", "bitWidth": 8, "isSigned": True}, "children": []}
+    column = {"name": "n", "count": 0, "VALIDITY": [], "DATA": []}
+    for _ in range(8):
+        kind = {"name": "n", "nullable": True, "type": {"name": "list"}, "children": [kind]}
+        column = {"name": "n", "count": 0, "VALIDITY": [], "OFFSET": [], "children": [column]}
+    file = {"schema": {"fields": [kind]}, "batches": [{"count": 0, "columns": [column]}], "x": "arrays"}
+    text = json.dumps(file).replace('"arrays"', "[" * 126 + "]" * 126)
+    filter_ = {"op": "is_null", "args": [{"column": "n"}]}
+    for _ in range(30):
+        filter_ = {"op": "not", "args": [filter_]}
+    return text.encode(), json.dumps({"filter": filter_, "aggs": [{"agg": "rows"}]})
+
+
+def check_memory(program, folder, room):
+    """A thousand calls keep no more memory than one, and each gives its answer or says that memory ran out, whichever request is refused. Each has
+    stack enough in a thread of 128 kB, and takes null where there is nothing."""
+    deep, query = nested()
+    with open(os.path.join(room, "deep"), "wb") as file:
+        file.write(deep)
+    check("the deepest file and filter", difference(printed(program, room, "query", [deep], query.encode()), (True, "0\n")))
+    loaded = {"LD_PRELOAD": built(room)}
+    mixed = os.path.join(TOP, "examples", "mixed.json")
+    for call in [*CALLS, *(f"open_{call}" for call in OPEN_CALLS)]:
+        for how, more, files in (("repeated", loaded, [mixed]), ("refused", loaded, [mixed]), ("nulls", {}, [mixed, mixed]), ("stack", {}, [mixed]),
+                                 ("stack", {"QUERY": query}, [os.path.join(room, "deep")])):
+            words = [os.path.join(folder, "library"), how, call, *files]
+            ran = subprocess.run(words, env={**os.environ, "QUERY": QUERY.decode(), **more}, capture_output=True, timeout=SECONDS)
+            check(f"{how} {call} of {os.path.basename(files[0])}", None if ran.returncode == 0 else f"status {ran.returncode} {ran.stdout!r:.200}")
+
+
+def library_in(words):
+    """The folder that has the library, which is built where none is named."""
+    if words:
+        return os.path.abspath(words[0])
+    folder = os.path.join(TOP, "build")
+    subprocess.run([os.path.join(TOP, "tools", "library"), folder], check=True)
+    return folder
 
 
 def main():
     program = os.path.abspath(sys.argv[1])
-    with tempfile.TemporaryDirectory() as folder, tempfile.TemporaryDirectory() as room:
-        if len(sys.argv) > 2:
-            for name in ("libselqumar.a", "libselqumar.so"):
-                shutil.copy(os.path.join(sys.argv[2], name), folder)
-        else:
-            subprocess.run([os.path.join(TOP, "tools", "library"), folder], check=True)
-        library = os.environ["SELQUMAR_LIBRARY"] = os.path.join(folder, "libselqumar.so")
-        sys.path.insert(0, os.path.join(TOP, "python"))
-        import selqumar
+    place = library_in(sys.argv[2:])
+    library = os.environ["SELQUMAR_LIBRARY"] = os.path.join(place, "libselqumar.so")
+    sys.path.insert(0, os.path.join(TOP, "python"))
+    import library_python
+    import selqumar
+    with tempfile.TemporaryDirectory() as folder, tempfile.TemporaryDirectory() as room, tempfile.TemporaryDirectory() as other:
         check_cases(program, selqumar, room)
+        check_refused_batch(program, selqumar, room)
         check_values(selqumar)
-        check_readme()
         check_buffers(program, ctypes.CDLL(library), room)
-        check_c_and_rust(program, folder, room)
-        check_memory(folder, room)
+        check_c_and_rust(program, os.path.join(place, "libselqumar.a"), folder, room)
+        check_memory(program, folder, room)
+        for what, fault in [*library_build.cases(folder), *library_python.cases(selqumar, library, other)]:
+            check(what, fault)
     print(f"{passed} passed, {failed} failed")
     return failed > 0
 

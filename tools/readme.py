@@ -1,10 +1,12 @@
 #!/usr/bin/env python3
-"""Runs each command of README.md's tour, and compares what it prints; and looks for README's Rust in the crate that the gate runs.
+"""Runs each command of README.md's tour and its Python, and compares what they print; and looks for README's Rust in the crate that the gate runs.
 
     tools/readme.py PROGRAM
 
-A command begins with `$ `, and what it prints stands below it, standard error behind standard output. Each block runs in a folder with
-the shipped files, where `./arrowtab` is the program. The last line is 'N passed, M failed', of commands and blocks of Rust."""
+A command begins with `$ `, and what it prints stands below it, standard error behind standard output; what Python prints stands behind its last line.
+docs/help.txt is what `arrowtab --help` prints.
+All run in a folder with the shipped files, where the program is built, and the library that `tools/library build` left. The last line is
+'N passed, M failed', of commands and blocks."""
 import os
 import re
 import shutil
@@ -14,7 +16,8 @@ import tempfile
 import textwrap
 
 TOP = os.path.dirname(os.path.dirname(os.path.abspath(__file__)))
-SHIPPED = ("examples", "crates/program/data")
+SHIPPED = ("examples", "crates/program/data", "tools", "python")
+LIBRARY = os.path.join(TOP, "build", "libselqumar.so.1")
 # A command that takes longer waits for something that never comes.
 SECONDS = 60
 
@@ -37,17 +40,26 @@ def commands(block):
 
 
 def room_for(program, room):
-    """A folder with the shipped files and the program."""
+    """A folder with the shipped files, the program and the library."""
     for name in SHIPPED:
-        shutil.copytree(os.path.join(TOP, name), os.path.join(room, name))
+        shutil.copytree(os.path.join(TOP, name), os.path.join(room, name), ignore=shutil.ignore_patterns("__pycache__"))
+    os.mkdir(os.path.join(room, "build"))
     os.symlink(program, os.path.join(room, "arrowtab"))
+    os.symlink(program, os.path.join(room, "build", "arrowtab"))
+    os.symlink(LIBRARY, os.path.join(room, "build", os.path.basename(LIBRARY)))
 
 
-def fault_of(command, printed, room):
+def fault_of(words, printed, room):
     """What a command printed, where that is something else."""
-    run = subprocess.run(["bash", "-c", command], cwd=room, stdin=subprocess.DEVNULL, capture_output=True, text=True, timeout=SECONDS)
+    names = {name: value for name, value in os.environ.items() if name != "SELQUMAR_LIBRARY"}
+    run = subprocess.run(words, cwd=room, env={**names, "PYTHONPATH": "python"}, stdin=subprocess.DEVNULL, capture_output=True, text=True, timeout=SECONDS)
     given = (run.stdout + run.stderr).rstrip("\n")
-    return None if given == printed else f"$ {command}\n{given}"
+    return None if given == printed else f"$ {words[-1]}\n{given}"
+
+
+def python_fault(block, room):
+    """The same of lines of Python: what they print stands behind the last one."""
+    return fault_of([sys.executable, "-c", block], block.rstrip("\n").rpartition("  # ")[2], room)
 
 
 def is_run(block):
@@ -62,13 +74,15 @@ def main():
     with tempfile.TemporaryDirectory() as room:
         room_for(program, room)
         for language, block in blocks(text_of("README.md")):
+            found = [fault_of(["bash", "-c", command], printed, room) for command, printed in commands(block)]
             if language == "rust":
-                count += 1
-                faults += [] if is_run(block) else [f"no lines of the tour: {block}"]
-            for command, printed in commands(block):
-                count += 1
-                fault = fault_of(command, printed, room)
-                faults += [fault] if fault else []
+                found.append(None if is_run(block) else f"no lines of the tour: {block}")
+            if language == "python":
+                found.append(python_fault(block, room))
+            count += len(found)
+            faults += filter(None, found)
+        faults += filter(None, [fault_of(["./arrowtab", "--help"], text_of("docs/help.txt").rstrip("\n"), room)])
+        count += 1
     print("\n".join(faults), end="\n" if faults else "")
     print(f"{count - len(faults)} passed, {len(faults)} failed")
     return 1 if faults else 0

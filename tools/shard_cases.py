@@ -3,20 +3,23 @@
 
     tools/shard_cases.py PROGRAM
 
-Some cases aim at what chance misses: an overflow at one row, sums past 64 bits. Others have a file that is refused in the third shard, a
-program that is killed once or always, and a shard without rows. The last line is 'N passed, M failed'; without GNU parallel none is run."""
+Most run in threads, some by GNU parallel, whose package is `parallel`: without it these fail. Some cases aim at what chance misses: an overflow at one
+row, sums past 64 bits. Others have a file that is refused in the third shard, a program that is killed once or always, and a shard without rows.
+`shard_use.py` has further cases. The last line is 'N passed, M failed'."""
 import json
 import os
 import random
-import shutil
-import subprocess
 import sys
 import tempfile
 from concurrent.futures import ThreadPoolExecutor
 
-SHARDS = os.path.join(os.path.dirname(os.path.abspath(__file__)), "shards")
+import shard_use
+from shard_use import PARALLEL, SHARDS, WAYS, executable, given
+
 SEED = 20
 CASES = {"values": 110, "overflow": 50, "sums": 40}
+# Of so many cases one goes by GNU parallel.
+SOME = 8
 TEXTS = ["", "a", "b", "é", 'q"', "a b", "\n", "null"]
 # Each column: its name, the bits of its numbers and whether they have a sign; no bits for texts and truth values.
 COLUMNS = [("t", None, "utf8"), ("b", None, "bool"), ("i", 16, True), ("n", 64, True), ("u", 64, False), ("s", 8, True)]
@@ -118,16 +121,11 @@ def written(room, files):
     return names
 
 
-def given(words):
-    run = subprocess.run(words, capture_output=True, timeout=120)
-    return run.returncode, run.stdout, run.stderr
-
-
-def fault_of(program, query, names, shards, other=None, wanted=None):
+def fault_of(program, room, query, names, shards, way, other=None, wanted=None):
     """What shards give, where that isn't what one machine gives."""
     query = json.dumps(query)
-    wanted = wanted or given([program, "query", "--query", query, *names])
-    found = given([SHARDS, "--arrowtab", other or program, "--shards", str(shards), query, *names, "--", "--jobs", "2"])
+    wanted = wanted or given([program, "query", "--query", query, *names], room)
+    found = given([SHARDS, "--arrowtab", other or program, "--shards", str(shards), way, query, *names], room)
     return None if found == wanted else f"{found} and not {wanted}, of {query}"
 
 
@@ -136,15 +134,8 @@ def random_case(program, room, aim, place):
     files = files_of(chance, aim)
     if aim == "overflow":
         aimed(chance, files)
-    return fault_of(program, query_of(chance, aim), written(f"{room}/{aim}{place}", files), chance.randint(1, 5))
-
-
-def wrapper(room, name, body):
-    path = f"{room}/{name}"
-    with open(path, "w") as file:
-        file.write(f"#!/bin/sh\n{body}\n")
-    os.chmod(path, 0o755)
-    return path
+    query, shards = query_of(chance, aim), chance.randint(1, 5)
+    return fault_of(program, room, query, written(f"{room}/{aim}{place}", files), shards, PARALLEL if place % SOME == 0 else WAYS["threads"])
 
 
 def stated_cases(program, room):
@@ -152,29 +143,34 @@ def stated_cases(program, room):
     chance = random.Random(SEED)
     query = {"by": ["t"], "aggs": [{"agg": "rows"}, {"agg": "sum", "column": "u"}]}
     files = [{"schema": schema(), "batches": [batch(chance, 5, "values")]} for _ in range(4)]
-    names = written(f"{room}/stated", files)
     other = dict(files[2], schema={"fields": schema()["fields"][:5]}, batches=[dict(files[2]["batches"][0], columns=files[2]["batches"][0]["columns"][:5])])
-    yield "other fields in the third shard", fault_of(program, query, written(f"{room}/other", [*files[:2], other, files[3]]), 4)
-    yield "no file in the third shard", fault_of(program, query, written(f"{room}/cut", [*files[:2], "{", files[3]]), 4)
-    yield "other fields, and no file behind", fault_of(program, query, written(f"{room}/both", [*files[:2], other, "["]), 4)
-    yield "no such column", fault_of(program, {"by": ["w"]}, names, 4)
-    yield "no query", fault_of(program, {"by": 3}, names, 4)
-    yield "a shard without rows", fault_of(program, query, written(f"{room}/none", [files[0], {"schema": schema(), "batches": []}, files[1]]), 3)
-    once = wrapper(room, "once", f'mkdir "{room}/killed" 2> /dev/null && kill -KILL $$\nexec "{program}" "$@"')
-    yield "a program that is killed once", fault_of(program, query, names, 4, once)
-    always = wrapper(room, "always", f'case "$*" in *3.json*) kill -KILL $$ ;; esac\nexec "{program}" "$@"')
-    yield "a program that is killed always", fault_of(program, query, names, 4, always, (3, b"", b"shards: a shard is lost\n"))
+    cases = [
+        ("other fields in the third shard", query, [*files[:2], other, files[3]]),
+        ("no file in the third shard", query, [*files[:2], "{", files[3]]),
+        ("other fields, and no file behind", query, [*files[:2], other, "["]),
+        ("no such column", {"by": ["w"]}, files),
+        ("no query", {"by": 3}, files),
+        ("a shard without rows", query, [files[0], {"schema": schema(), "batches": []}, files[1]]),
+    ]
+    for what, way in WAYS.items():
+        for place, (name, asked, some) in enumerate(cases):
+            names = written(f"{room}/stated {what} {place}", some)
+            yield f"{name}, {what}", fault_of(program, room, asked, names, len(some), way)
+        names = written(f"{room}/stated {what}", files)
+        once = executable(room, f"once {what}", f'mkdir "{room}/killed {what}" 2> /dev/null && kill -KILL $$\nexec "{program}" "$@"')
+        yield f"a program that is killed once, {what}", fault_of(program, room, query, names, 4, way, once)
+        always = executable(room, f"always {what}", f'case "$*" in *3.json*) kill -KILL $$ ;; esac\nexec "{program}" "$@"')
+        lost = (3, b"", b"shards: shard 4 of 4 is lost: status 137\n")
+        yield f"a program that is killed always, {what}", fault_of(program, room, query, names, 4, way, always, lost)
 
 
 def main():
     program = os.path.abspath(sys.argv[1])
-    if not shutil.which("parallel"):
-        print(f"skipped: {sum(CASES.values()) + 8} cases of tools/shards, for GNU parallel isn't here\n0 passed, 0 failed")
-        return 0
     passed = failed = 0
     with tempfile.TemporaryDirectory() as room, ThreadPoolExecutor(os.cpu_count()) as pool:
         cases = [(f"{aim} {place}", pool.submit(random_case, program, room, aim, place)) for aim, many in CASES.items() for place in range(many)]
-        for name, fault in [*((name, case.result()) for name, case in cases), *stated_cases(program, room)]:
+        chance = ((name, case.result()) for name, case in cases)
+        for name, fault in [*chance, *stated_cases(program, room), *shard_use.cases(program, room)]:
             passed, failed = passed + (fault is None), failed + (fault is not None)
             if fault:
                 print(f"{name}: {fault}", flush=True)
