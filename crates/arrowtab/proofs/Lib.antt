@@ -1,7 +1,7 @@
 -- What the proofs of this crate share.
 mod SendingLemmas
 mod ReadLemmas
-mod PlanLemmas
+pub mod PlanLemmas
 mod WorkedLemmas
 mod AnswerLemmas
 mod RunLemmas
@@ -9,4 +9,3 @@ mod TogetherLemmas
 mod WideLemmas
 mod SettledLemmas
 mod OneLemmas
-mod AloneLemmas

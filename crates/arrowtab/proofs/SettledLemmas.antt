@@ -20,7 +20,11 @@ use Rattle.group.proofs.JoinLemmas.{are_bytes, are_numbers, are_truths, bytes_of
 use Rattle.group.proofs.TallyLemmas.{no_greatest_of_lists, no_least_of_lists}
 use Rattle.group.specs.Joined.{better, both_sums}
 use Rattle.group.specs.Stats.{greater, greatest_of, is_bytes, is_number, is_truth, least_of, lesser, nulls_of, number_of, sum_of}
+use Rattle.shared.proofs.BalanceLemmas.{rows_widened}
+use Rattle.table.proofs.WidenedLemmas.{length-widened, of-widened, rows-widened, table-column}
 use Rattle.table.specs.History.{History, of, rows}
+use Rattle.table.specs.Widened.{widened}
+use Rattle.arrowtab.specs.Column.{fields_with, history_with}
 use Rattle.arrowtab.specs.Loaded.{IsLoaded, added_by}
 use Rattle.reports.specs.FileBatches.{FileBatch}
 use Rattle.reports.specs.Shown.{column_line, column_lines, field_line, rows_line, shown, worker_line, worker_lines}
@@ -230,11 +234,34 @@ module _ (workers : ℕ) (files : List (List FileBatch)) (fields : List FieldSha
       let greatest : greatest_of kd (column (rows h) c) ≡ greatest_of kd (column (rows k) c) = same_stat c (greatest_of kd) (better greater) (greatest-append kd) (flip_greatest kd) in
       λ j. column_line name kd (count j) (nulls j) (sum j) (least j) (greatest j)
 
-  pub same_shown : shown workers fields h ≡ shown workers fields k
-  same_shown =
+  same_shown : (schema : List FieldShape) → shown workers schema h ≡ shown workers schema k
+  same_shown schema =
       let count : length (rows h) ≡ length (rows k) = same_of (λ t. length t) (λ m n. m + n) (λ s t. length-append s t) (λ s t. omega arith) in
       let lines : worker_lines workers h ≡ worker_lines workers k =
       mapped_same (λ w. worker_line w (length (of h w)) (length (rows (of h w)))) (λ w. worker_line w (length (of k w)) (length (rows (of k w)))) (range_with_len 0 workers)
       (numbers_below 0 workers (λ w less. let below : w < workers = omega (arith, less) in λ j. worker_line w (same_calls w below j) (length (same_rows w below j)))) in
-      let columns : column_lines fields (rows h) ≡ column_lines fields (rows k) = ap (λ (line : ℕ × FieldShape → List ℕ). flat_map line (enumerate_from 0 fields)) (λ j. λ p. same_line p.1 p.0 j) in
+      let columns : column_lines schema (rows h) ≡ column_lines schema (rows k) = ap (λ (line : ℕ × FieldShape → List ℕ). flat_map line (enumerate_from 0 schema)) (λ j. λ p. same_line p.1 p.0 j) in
       λ j. rows_line (count j) ++ lines j ++ columns j
+
+-- nulls behind the rows don't show in it
+widened_shown : (n workers : ℕ) (schema : List FieldShape) (h : History) → shown workers schema (widened n h) ≡ shown workers schema h
+widened_shown n workers schema h =
+    let wide = widened n h in
+    let count : length (rows wide) ≡ length (rows h) = rows_widened n h in
+    let calls : (w : ℕ) → length (of wide w) ≡ length (of h w) = λ w. ap (λ (l : History). length l) (of-widened n h w) ∙ length-widened n (of h w) in
+    let counts : (w : ℕ) → length (rows (of wide w)) ≡ length (rows (of h w)) = λ w. ap (λ (l : History). length (rows l)) (of-widened n h w) ∙ rows_widened n (of h w) in
+    let items : (c : ℕ) → column (rows wide) c ≡ column (rows h) c = λ c. ap (λ (t : Table). column t c) (rows-widened n h) ∙ table-column n (rows h) c in
+    let lines : worker_lines workers wide ≡ worker_lines workers h =
+    mapped_same (λ w. worker_line w (length (of wide w)) (length (rows (of wide w)))) (λ w. worker_line w (length (of h w)) (length (rows (of h w)))) (range_with_len 0 workers)
+    (numbers_below 0 workers (λ w less. λ j. worker_line w (calls w j) (counts w j))) in
+    let columns : column_lines schema (rows wide) ≡ column_lines schema (rows h) =
+    ap (λ (line : ℕ × FieldShape → List ℕ). flat_map line (enumerate_from 0 schema)) (λ j. λ p. field_line p.1 (items p.0 j)) in
+    λ j. rows_line (count j) ++ lines j ++ columns j
+
+pub same_with : (added : Option FieldShape) (workers : ℕ) (files : List (List FileBatch)) (fields : List FieldShape) (h k : History) → IsLoaded workers files fields h → IsLoaded workers files fields k
+    → shown workers (fields_with added fields) (history_with added fields h) ≡ shown workers (fields_with added fields) (history_with added fields k)
+same_with None workers files fields h k one other = same_shown workers files fields h k one other fields
+same_with (Some f) workers files fields h k one other =
+    let n = length fields + 1 in
+    let schema = fields_with (Some f) fields in
+    widened_shown n workers schema h ∙ same_shown workers files fields h k one other schema ∙ sym (widened_shown n workers schema k)

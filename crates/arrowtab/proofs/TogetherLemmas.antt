@@ -10,8 +10,9 @@ use mathlib.Core.List.{IsPrefix}
 use Rattle.arrays.specs.Batch.{Batch, Table, rows_of}
 use Rattle.arrays.specs.File.{File}
 use Rattle.arrays.specs.Shape.{FieldShape}
-use Rattle.loads.specs.Loaded.{AllLoaded, AreRun, batches_of, before_stop, fields_for, IsAlike, IsStopped as IsHalted, Loaded, pairs_of, StandsFor, Stop}
+use Rattle.loads.specs.Loaded.{AllLoaded, AreRun, batches_of, before_stop, fields_for, IsStopped as IsHalted, Loaded, pairs_of, StandsFor, Stop}
 use Rattle.loads.specs.Plan.{planned}
+use Rattle.loads.proofs.LoadLemmas.{HasLoaded, IsAlike, has_loaded}
 use Rattle.loads.specs.Report.{IsLeast, Stands}
 use Rattle.loads.specs.declared.fault.LoadFault.TheVariants as load
 use Rattle.shared.specs.Balance.{IsOfWorkers}
@@ -45,6 +46,19 @@ same_at (x ∷ xs) (suc i) c d below = same_at xs i c d (omega (arith, below))
 -- a beginning's pairs of a worker begin that worker's
 of_begun : (h k : History) (w : ℕ) → IsPrefix h k → IsPrefix (of h w) (of k w)
 of_begun h k w begun = (of begun.0 w, sym (filter-append (λ e. e.0 == w) h begun.0) ∙ ap (λ (l : History). of l w) begun.1)
+
+-- ---- what each worker loaded
+
+no_outcome : Left
+no_outcome = record { last = None; stop = None }
+
+pub has_planned : (files : List (List Batch)) (old new : List Hand) (w : ℕ) → AllLoaded files old new → w < length old → HasLoaded (planned files (length old) w) (get_or old w nobody) (get_or new w nobody)
+has_planned files old new w all below = has_loaded (planned files (length old) w) (get_or old w nobody) (get_or new w nobody) (all.each w nobody below)
+
+has_run : (files : List (List Batch)) (old new : List Hand) (outcomes : List Left) (w : ℕ) → AreRun files old new outcomes → w < length old
+    → HasLoaded (before_stop files (length old) w (get_or outcomes w no_outcome).stop) (get_or old w nobody) (get_or new w nobody)
+has_run files old new outcomes w are below =
+    has_loaded (before_stop files (length old) w (get_or outcomes w no_outcome).stop) (get_or old w nobody) (get_or new w nobody) (are.each w nobody no_outcome below).loaded
 
 -- ---- a worker that was new
 
@@ -82,7 +96,8 @@ pub record Added (fields : List FieldShape) (h : History) (place : ℕ) (bs : Li
 
 added_new : (fields : List FieldShape) (k : Known) (place : ℕ) (bs : List Batch) (old new : Hand) → k.fields ≡ fields → IsNew fields place old → Loaded bs old new → IsWhole k new
     → Added fields k.history place bs new
-added_new fields k place bs old new same was is whole =
+added_new fields k place bs old new same was loaded whole =
+    let is = has_loaded bs old new loaded in
     let opened : old.seen.fields ≡ fields = ap (λ (s : Known). s.fields) was.seen in
     let ended : IsPrefix new.seen.fields fields = subst (λ (fs : List FieldShape). IsPrefix new.seen.fields fs) same whole.begun.fields in
     let stay : new.seen.fields ≡ fields = between old.seen.fields new.seen.fields fields opened is.begun.fields ended in
@@ -132,8 +147,7 @@ pub stopped_stay : (files : List File) (fields : List FieldShape) (old new : Lis
     → Stands (load.Refused file number e) (batches_of files) old new → IsPrefix fields v.fields → length v.fields ≡ length fields + sum_by columns_of_hand new → v.fields ≡ fields
 stopped_stay files fields old new v file number e are (inr none) opened counted = let wants : load.Refused file number e ≡ load.NoMemory = none.0 in absurd (cc)
 stopped_stay files fields old new v file number e are (inl reported) opened counted =
-    let none : Left = record { last = None; stop = None } in
-    fields_stay fields old new v are reported.1.kept (λ w below. (reported.1.each w nobody none below).loaded.columns) opened counted
+    fields_stay fields old new v are reported.1.kept (λ w below. (has_run (batches_of files) old new reported.0 w reported.1 below).columns) opened counted
 
 -- ---- what they loaded
 
@@ -169,7 +183,7 @@ holds_all workers files fields old new v some count same are all whole known leg
 pub all_fit : (files : List File) (fields : List FieldShape) (old new : List Hand) (v : Contents) → 1 ≤ length old → AreNew fields 0 old → AllLoaded (batches_of files) old new
     → All (IsWhole (known_of v)) new → IsPrefix fields v.fields → length v.fields ≡ length fields + sum_by columns_of_hand new → AllByRecursion (AllByRecursion (Fits fields)) (batches_of files)
 all_fit files fields old new v some are all whole opened counted =
-    let stay = fields_stay fields old new v are all.kept (λ w below. (all.each w nobody below).columns) opened counted in
+    let stay = fields_stay fields old new v are all.kept (λ w below. (has_planned (batches_of files) old new w all below).columns) opened counted in
     each_planned (Fits fields) (length old) (batches_of files) some (λ w below.
     by_recursion (Fits fields) (planned (batches_of files) (length old) w)
     (added_new fields (known_of v) w (planned (batches_of files) (length old) w) (get_or old w nobody) (get_or new w nobody) stay
@@ -315,14 +329,13 @@ all_there workers fields old new back size kept are is numbered n below =
 pub loaded_there : (workers table : ℕ) (files : List File) (fields : List FieldShape) (old new back : List Hand) → table ≡ workers → length old ≡ workers → AreNew fields 0 old
     → AllLoaded (batches_of files) old new → back ≡ new → AllThere table back
 loaded_there workers table files fields old new back same size are all is =
-    subst (λ n. AllThere n back) (sym same) (all_there workers fields old new back size all.kept are is (λ w below. (all.each w nobody below).number))
+    subst (λ n. AllThere n back) (sym same) (all_there workers fields old new back size all.kept are is (λ w below. (has_planned (batches_of files) old new w all below).number))
 
 pub stopped_there : (workers table : ℕ) (files : List File) (fields : List FieldShape) (old new back : List Hand) (file number : ℕ) (e : Refusal) → table ≡ workers → length old ≡ workers → AreNew fields 0 old
     → Stands (load.Refused file number e) (batches_of files) old new → back ≡ new → AllThere table back
 stopped_there workers table files fields old new back file number e same size are (inr none) is = let wants : load.Refused file number e ≡ load.NoMemory = none.0 in absurd (cc)
 stopped_there workers table files fields old new back file number e same size are (inl reported) is =
-    let none : Left = record { last = None; stop = None } in
-    subst (λ n. AllThere n back) (sym same) (all_there workers fields old new back size reported.1.kept are is (λ w below. (reported.1.each w nobody none below).loaded.number))
+    subst (λ n. AllThere n back) (sym same) (all_there workers fields old new back size reported.1.kept are is (λ w below. (has_run (batches_of files) old new reported.0 w reported.1 below).number))
 
 -- ---- the workers, written back
 
@@ -334,7 +347,7 @@ pub ok_holds : {A : Type 0} (workers table : ℕ) (files : List File) (fields : 
     → IfOk r (λ v. All (IsWhole (known_of (seen v))) back) → IfOk r (λ v. IsOfWorkers table (seen v).history) → IfOk r (λ v. IsLegalKnown (known_of (seen v)))
     → IfOk r (λ v. IsPrefix fields (seen v).fields) → IfOk r (λ v. length (seen v).fields ≡ length fields + sum_by columns_of_hand back) → IfOk r (λ v. Holds workers files None (seen v))
 ok_holds workers table files fields old new back (Ok v) seen some same size stored are all is whole known legal opened counted =
-    let stay = fields_stay fields old new (seen v) are all.kept (λ w below. (all.each w nobody below).columns) opened
+    let stay = fields_stay fields old new (seen v) are all.kept (λ w below. (has_planned (batches_of files) old new w all below).columns) opened
     (subst (λ (hands : List Hand). length (seen v).fields ≡ length fields + sum_by columns_of_hand hands) is counted) in
     holds_all workers files fields old new (seen v) some size stored are all
     (subst (λ (hands : List Hand). All (IsWhole (known_of (seen v))) hands) is whole)

@@ -13,6 +13,7 @@ use Rattle.arrays.specs.First.{first}
 use Rattle.arrays.specs.Shape.{FieldShape}
 use Rattle.loads.specs.Loaded.{AllLoaded, Loaded, batches_of, fields_for, pairs_of}
 use Rattle.loads.specs.Plan.{planned}
+use Rattle.loads.proofs.LoadLemmas.{has_loaded}
 use Rattle.shared.specs.Balance.{IsOfWorkers}
 use Rattle.shared.specs.Hand.{AreNew, Hand, HasWidened, IsNew, IsWhole, columns_of_hand}
 use Rattle.shared.specs.Known.{IsLegalKnown, Known, known_of}
@@ -29,7 +30,7 @@ use Rattle.arrowtab.specs.Loaded.{IsLoaded}
 use Rattle.arrowtab.specs.Worked.{AreAsWide, Holds, IsWidenedFirst, listed}
 use Rattle.reports.specs.declared.run_fault.RunFault.{RunFault}
 use Rattle.arrowtab.proofs.PlanLemmas.{all_from, by_recursion, each_planned, same_test, whole_begun}
-use Rattle.arrowtab.proofs.TogetherLemmas.{all_there, new_at, nobody, none_added}
+use Rattle.arrowtab.proofs.TogetherLemmas.{all_there, has_planned, new_at, nobody, none_added}
 use Rattle.arrowtab.proofs.WorkedLemmas.{Fits, loaded_of}
 
 -- ---- as many columns
@@ -86,7 +87,8 @@ pub record Brought (fields : List FieldShape) (place : ℕ) (bs : List Batch) (w
 
 brought_new : (fields : List FieldShape) (place : ℕ) (bs : List Batch) (old new : Hand) → IsNew fields place old → Loaded bs old new → All (λ b. length b.fields ≡ length fields) bs
     → Brought fields place bs new
-brought_new fields place bs old new was is wide =
+brought_new fields place bs old new was loaded wide =
+    let is = has_loaded bs old new loaded in
     let opened : old.seen.fields ≡ fields = ap (λ (s : Known). s.fields) was.seen in
     let one : (i : ℕ) (d : Batch) → i < length bs → (difference fields (get_or bs i d).fields ≡ None) × IsTableOf fields (rows_of (get_or bs i d))
     = λ i d below.
@@ -253,7 +255,7 @@ module _ (fields : List FieldShape) (f : FieldShape) (files : List File) (old mi
       let many = same_many (stored_field f) mid new widened_first in
       let none = none_added mid (λ w below.
       let inside : w < n = omega (arith, below, all.kept) in
-      (all.each w nobody inside).columns ∙ (new_at fields 0 old w w nobody are inside (sym (zero-add w))).columns) in
+      (has_planned (batches_of files) old mid w all inside).columns ∙ (new_at fields 0 old w w nobody are inside (sym (zero-add w))).columns) in
       let size : length v.fields ≡ length fields + 1 = omega (arith, counted, one_added (stored_field f) mid new widened_first none) in
       let first_opened : IsPrefix fields widened_first.first.seen.fields =
       subst (λ (l : List Hand). IsPrefix fields (get_or l 0 nobody).seen.fields) widened_first.was (brought 0 some).opened in
@@ -297,7 +299,7 @@ pub wide_there : (f : FieldShape) (files : List File) (fields : List FieldShape)
 wide_there f files fields count old mid new back size are all first is =
     all_there count fields old new back size (same_many f mid new first ∙ all.kept) are is
     (λ w below.
-    next_at f mid new first (λ h. h.number ≡ (get_or old w nobody).number) w (omega (arith, below, all.kept)) (all.each w nobody below).number (λ one. first.widened.number ∙ one))
+    next_at f mid new first (λ h. h.number ≡ (get_or old w nobody).number) w (omega (arith, below, all.kept)) (has_planned (batches_of files) old mid w all below).number (λ one. first.widened.number ∙ one))
 
 each_wide : (n : ℕ) (files : List (List Batch)) → All (All (λ b. length b.fields ≡ n)) files → AllByRecursion (AllByRecursion (λ (b : Batch). length b.fields ≡ n)) files
 each_wide n files all =

@@ -12,10 +12,10 @@ mod together;
 mod wanted;
 mod windows;
 
-pub use arrow_json::{JsonFault, JsonFaultKind, Member, Path, Step, fault_text};
 pub use ends::{
     ReadFailed, Sink, Source, SourceFault, WriteFailed, memory, read_whole, write_whole,
 };
 pub use invocation::run;
 pub use job::{Command, Job, JobFault, job, print_fault};
+pub use json_base::{JsonFault, JsonFaultKind, Member, Path, Step, fault_text};
 pub use reports::refusal;

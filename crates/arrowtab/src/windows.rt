@@ -4,8 +4,9 @@ ghost use Rattle.std.specs.List.{AllZip};
 ghost use Rattle.reports.specs.Parsed.{AddsFiles, IsParsed, StopsParsing};
 
 use arrays::File;
-use arrow_json::{JsonFault, read_file_from_vec};
 use colbits::NoMemory;
+use json_base::JsonFault;
+use json_read::read_file_from_vec;
 use reports::{RunFault, text_fault};
 use std::alloc::Global;
 use std::thread::{Threads, map_vec};

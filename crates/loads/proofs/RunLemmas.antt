@@ -3,29 +3,22 @@ use Rattle.std.proofs.Common.{◌≡◌, ◌∙◌, ℕ, zero, suc, ◌<◌, Lis
 use Rattle.std.specs.List.{AllZip, cons_option, filter_map, zip}
 use Rattle.std.proofs.lemmas.List.{get_or-map}
 use Rattle.std.proofs.lemmas.List.Elements.{AllZip-get_or}
-use Rattle.std.specs.Prelude.{All, is_some, unwrap_or}
+use Rattle.std.specs.Prelude.{is_some, unwrap_or}
 use Rattle.arrays.specs.Batch.{Batch}
 use Rattle.shared.specs.Hand.{Hand, IsLeft, calls_of_hand}
-use Rattle.shared.specs.Known.{Begins, Known}
+use Rattle.shared.specs.Known.{Known}
 use Rattle.shared.specs.Left.{Left}
-use Rattle.table.specs.History.{History, rows}
-use Rattle.table.specs.Widened.{widened}
-use Rattle.loads.specs.Loaded.{AllLoaded, AreRun, HasLast, IsAlike, IsLoadedBy, IsNewest, IsRun, IsStopped, Loaded, before_stop, outcome_of, pairs_of}
+use Rattle.table.specs.History.{History}
+use Rattle.loads.proofs.LoadLemmas.{loaded_left}
+use Rattle.loads.specs.Loaded.{AllLoaded, AreRun, HasLast, IsLoadedBy, IsNewest, IsRun, IsStopped, Loaded, before_stop, outcome_of}
 use Rattle.loads.specs.Report.{AllFinished, AreNewest, last_receipts, seen_of}
 
-run_left : (files : List (List Batch)) (workers place : ℕ) (old mid new : Hand) (o : Left) → IsRun files workers place old mid o → IsLeft None mid new
+-- what is left with it afterwards doesn't count
+pub run_left : (files : List (List Batch)) (workers place : ℕ) (old mid new : Hand) (o : Left) (p : Option Left) → IsRun files workers place old mid o → IsLeft p mid new
     → IsRun files workers place old new o
-run_left files workers place old mid new o is left = record {
+run_left files workers place old mid new o p is left = record {
   stopped = subst (λ (k : Known). IfSome o.stop (IsStopped files workers place k)) (sym left.seen) is.stopped;
-  loaded = record {
-    number = left.number ∙ is.loaded.number;
-    calls = ap (λ (h : History). length h) left.mine ∙ is.loaded.calls;
-    rows = ap (λ (h : History). length (rows h)) left.mine ∙ is.loaded.rows;
-    mine = left.mine ∙ is.loaded.mine ∙ ap (λ (k : Known). widened (length k.fields) (old.mine ++ pairs_of old.number (before_stop files workers place o.stop))) (sym left.seen);
-    columns = left.columns ∙ is.loaded.columns;
-    begun = subst (λ (k : Known). Begins old.seen k) (sym left.seen) is.loaded.begun;
-    alike = subst (λ (k : Known). All (IsAlike old.seen k) (before_stop files workers place o.stop)) (sym left.seen) is.loaded.alike;
-  };
+  loaded = loaded_left (before_stop files workers place o.stop) old mid new p is.loaded left;
   last = is.last ∙ ap (λ (h : History). nat_lt (calls_of_hand old) (length h)) (sym left.mine);
   newest = λ none. subst (λ (k : Known). IfSome o.last (λ r. r ≡ k)) (sym left.seen) (is.newest none);
 }
@@ -56,7 +49,7 @@ are_run files old mid new outcomes size same done taken =
           ap (λ (os : List Left). get_or os place o) same
           ∙ get_or-map outcome_of mid place d o (omega (arith, below, size))
           ∙ ap (λ p. unwrap_or p none) one.left in
-          run_left files (length old) place (get_or old place d) (get_or mid place d) (get_or new place d) (get_or outcomes place o)
+          run_left files (length old) place (get_or old place d) (get_or mid place d) (get_or new place d) (get_or outcomes place o) None
           (subst (IsRun files (length old) place (get_or old place d) (get_or mid place d)) (sym is) one.run) (left_at place d below);
       left = λ place d below. (left_at place d below).rest;
     }

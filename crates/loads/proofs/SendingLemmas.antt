@@ -15,14 +15,14 @@ use Rattle.shared.proofs.SendingLemmas.{table-sync}
 use Rattle.shared.specs.contracts.shared_table.SharedTable as table
 use Rattle.shared.specs.declared.naming.Naming as naming
 use Rattle.shared.specs.declared.shown.Publish as publish
-use Rattle.table.specs.Contents.{Contents}
+use Rattle.shared.specs.Showing.{Showing}
 
 pub loading-sync : (ℓ : NamedLft) (A : RattleType) → IsSync A → IsSync (loading.the_row ℓ A)
 loading-sync ℓ A a =
     let T = loading.the_type ℓ A in
     recorded_sync (Struct (shape T)) T.D T.to T.to_one (struct_sync (shape T) (search (a, sendable) depth 20, (shr_slice_sync ℓ.mir ℓ.lft file.the_row file-sync, (search sendable, tt))))
 
-module _ (C Q K N P : RattleType) (c : ledger.Ghosts C.Denot) (q : ledger.Ghosts Q.Denot) (k : ledger.Ghosts K.Denot) (n : naming.Ghosts N.Denot) (m : names.Ghosts N.Denot) (p : publish.Ghosts P.Denot Contents) (send-P : IsSend P) where
+module _ (C Q K N P : RattleType) (c : ledger.Ghosts C.Denot) (q : ledger.Ghosts Q.Denot) (k : ledger.Ghosts K.Denot) (n : naming.Ghosts N.Denot) (m : names.Ghosts N.Denot) (p : publish.Ghosts P.Denot Showing) (send-P : IsSend P) where
   pub gated-sync : (ℓ : NamedLft) (W G : RattleType) → IsSync W → IsSync G → IsSync (gated.the_row ℓ C Q K N P W G c q k n m p)
   gated-sync ℓ W G w g =
       let T = gated.the_type ℓ C Q K N P W G c q k n m p in

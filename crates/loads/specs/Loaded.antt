@@ -1,13 +1,12 @@
 -- How far workers come through their files.
-use Rattle.std.specs.Prelude.{◌≡◌, ◌⊎◌, ℕ, ◌+◌, ◌%◌, ◌<◌, ◌++◌, All, IfSome, List, [], ◌∷◌, length, map, slice_get, slice_index_or, sum_by, take, Option, None, Some, is_some, nat_lt, unwrap_or}
-use mathlib.Core.List.{IsPrefix}
+use Rattle.std.specs.Prelude.{◌≡◌, ◌⊎◌, ℕ, ◌%◌, ◌<◌, ◌++◌, IfSome, List, [], ◌∷◌, length, map, slice_get, slice_index_or, take, Option, None, Some, is_some, nat_lt, unwrap_or}
 use Rattle.arrays.specs.Batch.{Batch, rows_of}
 use Rattle.arrays.specs.File.{File}
 use Rattle.arrays.specs.Shape.{FieldShape}
-use Rattle.shared.specs.Hand.{Hand, calls_of_hand, rows_of_hand}
+use Rattle.shared.specs.Hand.{Hand, HasAdded, calls_of_hand, rows_of_hand}
 use Rattle.shared.specs.Known.{Begins, Known}
 use Rattle.shared.specs.Left.{Left}
-use Rattle.table.specs.Cause.{IsTableOf, batch_cause, difference}
+use Rattle.table.specs.Cause.{batch_cause}
 use Rattle.table.specs.History.{History}
 use Rattle.table.specs.Stored.{stored_fields}
 use Rattle.table.specs.Widened.{widened}
@@ -28,24 +27,20 @@ fields_for (file ∷ files) = stored_fields file.fields
 abbrev pub pairs_of : ℕ → List Batch → History
 pairs_of worker bs = map (λ b. (worker, rows_of b)) bs
 
--- The names and the stored types of the batch's fields were those of the table when it was added, between what was known before
--- and what is known since; and its rows were rows of these.
-pub record IsAlike (old new : Known) (b : Batch) : Type 0 where
-  pub fields : List FieldShape
-  pub begun : IsPrefix old.fields fields
-  pub ended : IsPrefix fields new.fields
-  pub same : difference fields b.fields ≡ None
-  pub shaped : IsTableOf fields (rows_of b)
-
--- It appended these batches more, each by a call of its own, and nothing else.
-pub record Loaded (bs : List Batch) (old new : Hand) : Type 0 where
+-- It appended nothing, and may have seen more.
+pub record IsIdle (old new : Hand) : Type 0 where
   pub number : new.number ≡ old.number
-  pub calls : calls_of_hand new ≡ calls_of_hand old + length bs
-  pub rows : rows_of_hand new ≡ rows_of_hand old + sum_by (λ b. b.rows) bs
-  pub mine : new.mine ≡ widened (length new.seen.fields) (old.mine ++ pairs_of old.number bs)
+  pub calls : calls_of_hand new ≡ calls_of_hand old
+  pub rows : rows_of_hand new ≡ rows_of_hand old
+  pub mine : new.mine ≡ widened (length new.seen.fields) old.mine
   pub columns : new.columns ≡ old.columns
   pub begun : Begins old.seen new.seen
-  pub alike : All (IsAlike old.seen new.seen) bs
+
+-- It appended these batches, each by a call of its own, and nothing else: nothing stood against a batch by the fields and the
+-- history that the table had at that call, and they are behind all that it had seen before.
+abbrev pub Loaded : List Batch → Hand → Hand → Type 0
+Loaded [] old new = IsIdle old new
+Loaded (b ∷ bs) old new = (mid : Hand) × HasAdded b old mid × Loaded bs mid new
 
 -- Want of memory is reported, or what stands for the batch after all that is known.
 abbrev pub StandsFor : Known → Batch → Refusal → Type 0

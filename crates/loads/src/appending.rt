@@ -23,6 +23,7 @@ pub(crate) trait Append<C: Ledger, Q: Ledger, K: Ledger, N: Naming> {
         ensures raised { OnOk result (Loaded (batch.now ∷ []) worker.old worker.new) }
         ensures receipt { IfOk result (λ r. r ≡ worker.new.seen) }
         ensures kept { OnErr result (Loaded [] worker.old worker.new) }
+        ensures left { worker.new.left ≡ worker.old.left }
         ensures cause { IfErr result (StandsFor worker.new.seen batch.now) };
 }
 

@@ -48,6 +48,7 @@ fn add_files<C: Ledger, Q: Ledger, K: Ledger, N: Naming, A: Append<C, Q, K, N>>(
     ensures loaded { Loaded (before_stop (batches_of files.now) count place result) worker.old worker.new }
     ensures last { HasLast first worker.new last.new }
     ensures newest { result ≡ None → IsNewest worker.new last.new }
+    ensures left { worker.new.left ≡ worker.old.left }
 {
     worker.tell();
     for (number, file) in files.iter().enumerate() {
@@ -79,6 +80,8 @@ fn add_batches<C: Ledger, Q: Ledger, K: Ledger, N: Naming, A: Append<C, Q, K, N>
     ensures stands { IfErr result (λ s. (b : Batch) → slice_get (map arc_value batches.now) s.0 ≡ Some b → StandsFor worker.new.seen b s.1) }
     ensures last { HasLast first worker.new last.new }
     ensures newest { OnOk result (IsNewest worker.new last.new) }
+    ensures first { first ≤ calls_of_hand worker.new }
+    ensures left { worker.new.left ≡ worker.old.left }
 {
     worker.tell();
     for (number, batch) in batches.iter().enumerate() {

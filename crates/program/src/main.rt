@@ -1,5 +1,6 @@
 //! `arrowtab stats FILE..` prints the statistics of the columns of Arrow integration JSON files, `arrowtab export FILE..` the
-//! table that they are, and `arrowtab query --query QUERY FILE..` what a query asks of it. With `--workers N` so many load the files.
+//! table that they are, and `arrowtab query --query QUERY FILE..` what a query asks of it. With `--workers N` so many load the files;
+//! with `--add-column FIELD` a column comes behind the others then.
 //!
 //! It ends with status 0 where all of that was written, 1 where a fault was reported on standard error
 //! instead, and 2 where its arguments are others. `arrowtab --help` tells what it takes.

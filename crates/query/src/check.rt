@@ -3,9 +3,10 @@
 ghost use Rattle.std.specs.Prelude.{◌≡◌, map};
 ghost use Rattle.std.specs.Result.{result_err};
 ghost use Rattle.query.specs.Checked.{checked, all_checked};
+ghost use Rattle.query.specs.Tree as tree;
 ghost use Rattle.query.specs.Tree.{tree_of, trees};
 
-use crate::expr::Expr;
+use crate::expr::{Expr, Op};
 use crate::fault::QueryFault;
 use crate::sort::{Sort, sort_of_one, sort_of_two};
 use types::Schema;
@@ -36,21 +37,34 @@ pub(crate) fn checked<C: Column>(expr: &Expr<C>, schema: &Schema) -> Result<Sort
         Expr::Column(column) => column.sort_in(schema),
         Expr::Int(number) => Ok(Sort::Literal(*number)),
         Expr::Text(_) => Ok(Sort::Text),
-        Expr::Op(op, operands) => match operands.as_slice() {
-            [operand] => {
-                let sort = checked(operand, schema)?;
-                sort_of_one(*op, sort).ok_or(QueryFault::WrongKind)
-            }
-            [left, right] => {
-                let left = checked(left, schema)?;
-                let right = checked(right, schema)?;
-                sort_of_two(*op, left, right).ok_or(QueryFault::WrongKind)
-            }
-            others => {
-                walk(others, schema)?;
-                Err(QueryFault::WrongKind)
-            }
-        },
+        Expr::Op(op, operands) => checked_operator(*op, operands, schema),
+    }
+}
+
+/// The sort of an operator over operands, or the first fault: theirs, before the operator's.
+#[cycle(check)]
+#[tactic(auto, using(crate::proofs::CheckLemmas::operands))]
+fn checked_operator<C: Column>(
+    op: Op,
+    operands: &[Expr<C>],
+    schema: &Schema,
+) -> Result<Sort, QueryFault>
+    ensures { result ≡ checked (C.sort_in schema.now) (tree.op op (trees (map tree_of operands.now))) }
+{
+    match operands {
+        [operand] => {
+            let sort = checked(operand, schema)?;
+            sort_of_one(op, sort).ok_or(QueryFault::WrongKind)
+        }
+        [left, right] => {
+            let left = checked(left, schema)?;
+            let right = checked(right, schema)?;
+            sort_of_two(op, left, right).ok_or(QueryFault::WrongKind)
+        }
+        others => {
+            walk(others, schema)?;
+            Err(QueryFault::WrongKind)
+        }
     }
 }
 

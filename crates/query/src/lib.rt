@@ -1,7 +1,7 @@
 //! Queries over the columns of a table: which rows, by which keys, and what of each group. Columns are called by name as a
 //! query is written, and by position as it is answered.
 //!
-//! Start with these: a [`QueryText`] names its columns (`query_json::read_query` reads one from JSON), and [`resolve`] makes a
+//! Start with these: a [`QueryText`] names its columns (`json_query::read_query` reads one from JSON), and [`resolve`] makes a
 //! [`Query`] of it under a schema, or returns the first fault. [`Query::fits`] looks whether a query that was made by hand fits
 //! a schema, which who answers it asks for. An [`Expr`] is a filter, an [`Agg`] what is computed of a group.
 #![tactic(auto)]

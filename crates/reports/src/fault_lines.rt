@@ -7,8 +7,8 @@ ghost use Rattle.reports.specs.FaultLine.{column_fault_text, fault_line, line_un
 use crate::name::push_name;
 use crate::refusal::refusal_text;
 use crate::run_fault::{ColumnFault, FileFault, RunFault};
-use arrow_json::{JsonFault, fault_text};
 use colbits::NoMemory;
+use json_base::{JsonFault, fault_text};
 use query::query_fault_text;
 use std::alloc::Global;
 use table::{AddFault, Refusal};

@@ -5,7 +5,8 @@ ghost use Rattle.query.specs.Resolved.{named};
 ghost use Rattle.reports.specs.QueryFaults.{IsUnreadQuery};
 
 use crate::run_fault::RunFault;
-use arrow_json::{JsonFaultKind, read_query};
+use json_base::JsonFaultKind;
+use json_query::read_query;
 use query::QueryText;
 use std::alloc::Global;
 

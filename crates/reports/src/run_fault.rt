@@ -1,8 +1,8 @@
 //! Why there is no output.
 ghost use Rattle.std.specs.Prelude.{◌≡◌, ◌≢◌, ◌⊎◌};
 
-use arrow_json::{JsonFault, JsonFaultKind};
 use colbits::NoMemory;
+use json_base::{JsonFault, JsonFaultKind};
 use query::QueryFault;
 use std::alloc::AllocFailed;
 use table::{AddFault, Refusal};

@@ -156,9 +156,9 @@ added k s next b ready number old mid new same numbered known begun mid_is allow
     })
 
 -- a worker has added the column that the table has behind all that the worker then saw
-pub widened_by : (k l : Known) (s next : Contents) (f : FieldShape) (old mid later new : Hand) → k ≡ known_of s → l ≡ known_of next → next ≡ with_field s f → IsLegal next.fields next.history
-    → Begins old.seen k → mid ≡ having_seen k old → later ≡ having_seen l mid → new ≡ having_counted later → HasWidened f old new
-widened_by k l s next f old mid later new k_is l_is added legal begun mid_is later_is new_is =
+pub widened_by : (k l : Known) (s next : Contents) (f : FieldShape) (old mid later new : Hand) → k ≡ known_of s → l ≡ known_of next → next ≡ with_field s f → IsLegalKnown (known_of s)
+    → IsLegal next.fields next.history → Begins old.seen k → mid ≡ having_seen k old → later ≡ having_seen l mid → new ≡ having_counted later → HasWidened f old new
+widened_by k l s next f old mid later new k_is l_is added stood legal begun mid_is later_is new_is =
     let is : new ≡ having_counted (having_seen l (having_seen k old)) =
     new_is ∙ ap having_counted later_is ∙ ap (λ (w : Hand). having_counted (having_seen l w)) mid_is in
     let wide : l ≡ with_column k f = l_is ∙ ap known_of added ∙ ap (λ (i : Known). with_column i f) (sym k_is) in
@@ -167,6 +167,7 @@ widened_by k l s next f old mid later new k_is l_is added legal begun mid_is lat
       number = refl;
       before = k;
       begun = begun;
+      stood = subst IsLegalKnown (sym k_is) stood;
       seen = wide;
       legal = subst IsLegalKnown (sym l_is) legal;
       mine = widened-again (length k.fields) (length l.fields) few old.mine;

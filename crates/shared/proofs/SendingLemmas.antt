@@ -16,10 +16,10 @@ use Rattle.shared.specs.contracts.locked.Locked.TheInside as inside
 use Rattle.shared.specs.contracts.shared_table.SharedTable as table
 use Rattle.shared.specs.declared.naming.Naming as naming
 use Rattle.shared.specs.declared.shown.Publish as publish
-use Rattle.table.specs.Contents.{Contents}
+use Rattle.shared.specs.Showing.{Showing}
 use Rattle.table.proofs.SendingLemmas.{state-send, version-send, version-sync}
 
-module _ (C Q K N P : RattleType) (c : ledger.Ghosts C.Denot) (q : ledger.Ghosts Q.Denot) (k : ledger.Ghosts K.Denot) (n : naming.Ghosts N.Denot) (m : names.Ghosts N.Denot) (p : publish.Ghosts P.Denot Contents) (send-P : IsSend P) where
+module _ (C Q K N P : RattleType) (c : ledger.Ghosts C.Denot) (q : ledger.Ghosts Q.Denot) (k : ledger.Ghosts K.Denot) (n : naming.Ghosts N.Denot) (m : names.Ghosts N.Denot) (p : publish.Ghosts P.Denot Showing) (send-P : IsSend P) where
   inside-send : IsSend (inside.the_row C Q K N P m c q k n p)
   inside-send =
       let T = inside.the_type C Q K N P m c q k n p in

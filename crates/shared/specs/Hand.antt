@@ -117,11 +117,12 @@ pub record HasAdded (b : Batch) (old new : Hand) : Type 0 where
   pub columns : new.columns ≡ old.columns
   pub left : new.left ≡ old.left
 
--- It added a column of the field behind what begins with all that it had seen, and nothing else.
+-- It added a column of the field behind what begins with all that it had seen and is legal, and nothing else.
 pub record HasWidened (f : FieldShape) (old new : Hand) : Type 0 where
   pub number : new.number ≡ old.number
   pub before : Known
   pub begun : Begins old.seen before
+  pub stood : IsLegalKnown before
   pub seen : new.seen ≡ with_column before f
   pub legal : IsLegalKnown new.seen
   pub mine : new.mine ≡ widened (length new.seen.fields) old.mine

@@ -3,9 +3,11 @@ pub mod Known
 pub mod Changes
 pub mod Left
 pub mod Named
+pub mod Showing
 pub mod Parts
 pub mod Hand
 pub mod Missing
 pub mod Balance
 pub mod Gathered
+pub mod Joined
 pub mod Opened

@@ -9,6 +9,7 @@ ghost use Rattle.shared.specs.Balance.{IsOfWorkers};
 ghost use Rattle.shared.specs.Changes.{known_after};
 ghost use Rattle.shared.specs.Hand.{HasAdded, HasSeen, HasWidened, IsPartOf, IsWhole, calls_of_hand, columns_of_hand, rows_of_hand};
 ghost use Rattle.shared.specs.Known.{IsLegalKnown, known_of};
+ghost use Rattle.shared.specs.Showing.{next_number};
 ghost use Rattle.table.specs.Cause.{IsLegal, batch_cause, early_cause};
 ghost use Rattle.table.specs.Compacted.{IsCompacted};
 ghost use Rattle.table.specs.Contents.{Contents, admitted};
@@ -31,8 +32,8 @@ use std::sync::ledger::Ledger;
 use std::sync::{Arc, Wait};
 use table::{AddFault, Ready, Refusal, TableState, Version};
 
-/// A table with its history, the ledgers of its workers' calls and rows, the version of it that was requested last, and who
-/// shows versions to readers. Each time that its lock is got, what is known by the front is what the table holds, each entry of
+/// A table with its history, the ledgers of its workers' calls, rows and columns, the version of it that was requested last, and
+/// who shows versions to readers. Each time that its lock is got, what is known by the front is what the table holds, each entry of
 /// its history is of one of the table's workers, the ledgers count its entries, its rows and the fields that came since it was opened, and readers are
 /// shown the table.
 #[derive(Drop)]
@@ -64,6 +65,7 @@ impl<C: Ledger, Q: Ledger, K: Ledger, N: Naming, P: Publish<Item = Shown<N>>> Mo
     ghost use Rattle.shared.specs.Balance.{IsBalanced, IsOfWorkers};
     ghost use Rattle.shared.specs.Changes.{known_after};
     ghost use Rattle.shared.specs.Known.{IsLegalKnown, known_of};
+    ghost use Rattle.shared.specs.Showing.{next_number};
 
     ghost view = { λ l. l.state };
 
@@ -78,7 +80,7 @@ impl<C: Ledger, Q: Ledger, K: Ledger, N: Naming, P: Publish<Item = Shown<N>>> Mo
         × (known_after N.fields l.front ≡ known_of l.state)
         × (length l.state.fields ≡ length N.fields + l.books.columns.total)
         × IsLegalKnown (known_of l.state)
-        × IfSome l.publisher (λ p. P.shows p l.state)
+        × IfSome l.publisher (λ p. P.shows p (record { contents = l.state; number = l.number }))
         × (K.parts ≡ C.parts)
         × (l.nothing.columns.parts ≡ 0)
         × (l.nothing.columns.amount ≡ 0) };
@@ -142,6 +144,7 @@ impl<C: Ledger, Q: Ledger, K: Ledger, N: Naming, P: Publish<Item = Shown<N>>> Lo
         ensures same { self.new ≡ self.old }
         ensures seen { HasSeen worker.old worker.new }
         ensures all { worker.new.seen ≡ known_of self.old }
+        ensures known { IsOfWorkers C.parts self.old.history }
         ensures version { IfOk result (λ v. arc_value v ≡ self.old) }
     {
         worker.see(wait, &self.front);
@@ -160,6 +163,7 @@ impl<C: Ledger, Q: Ledger, K: Ledger, N: Naming, P: Publish<Item = Shown<N>>> Lo
         ensures kept { OnErr result (self.new ≡ self.old) }
         ensures seen { HasSeen worker.old worker.new }
         ensures all { worker.new.seen ≡ known_of self.old }
+        ensures known { IsOfWorkers C.parts self.old.history }
         ensures version { IfOk result (λ v. arc_value v ≡ self.new) }
     {
         worker.see(wait, &self.front);
@@ -318,7 +322,7 @@ fn admit(
     }
 }
 
-/// Shows readers a version, where anybody shows it.
+/// Shows readers a version, by the next number, where anybody shows it.
 fn show_version<W: Wait, N: Naming, P: Publish<Item = Shown<N>>>(
     wait: &W,
     publisher: &mut Option<P>,
@@ -327,13 +331,15 @@ fn show_version<W: Wait, N: Naming, P: Publish<Item = Shown<N>>>(
     number: &mut u64,
 )
     requires { known_after N.fields front.now ≡ known_of (arc_value version) }
-    ensures { IfSome publisher.new (λ p. P.shows p (arc_value version)) }
+    ensures shown { IfSome publisher.new (λ p. P.shows p (record { contents = arc_value version; number = number.new })) }
+    ensures counted { IfSome publisher.old (λ p. number.new ≡ next_number number.old) }
 {
     let next = publisher.is_some().then_some(version);
     show(wait, publisher, next, front, number);
 }
 
-/// Shows readers the next version, which there is where anybody shows it, and counts it.
+/// Shows readers the next version, which there is where anybody shows it, by the next number: a reader tells by it that it isn't
+/// the one that it has.
 fn show<W: Wait, N: Naming, P: Publish<Item = Shown<N>>>(
     wait: &W,
     publisher: &mut Option<P>,
@@ -343,7 +349,8 @@ fn show<W: Wait, N: Naming, P: Publish<Item = Shown<N>>>(
 )
     requires there { is_some next ≡ is_some publisher.old }
     requires version { IfSome next (λ v. known_after N.fields front.now ≡ known_of (arc_value v)) }
-    ensures shown { IfSome next (λ v. IfSome publisher.new (λ p. P.shows p (arc_value v))) }
+    ensures shown { IfSome next (λ v. IfSome publisher.new (λ p. P.shows p (record { contents = arc_value v; number = number.new }))) }
+    ensures counted { IfSome publisher.old (λ p. number.new ≡ next_number number.old) }
     ensures same { is_some publisher.new ≡ is_some publisher.old }
 {
     let Some(version) = next else {

@@ -91,7 +91,7 @@ fn new_readers<N: Naming, R: Wait + Drop>(
     requires few { IsFew count }
     requires front { front.now ≡ [] }
     requires version { ((arc_value version).history ≡ []) × ((arc_value version).fields ≡ N.fields) }
-    ensures shown { IfOk result (λ r. IfSome r.0 (λ p. (published p ≡ arc_value version) × (pending p ≡ []))) }
+    ensures shown { IfOk result (λ r. IfSome r.0 (λ p. (published p ≡ record { contents = arc_value version; number = 0 }) × (pending p ≡ []))) }
     ensures readers { IfOk result (λ r. r.1.items ≡ replicate count (record { fields = N.fields; history = [] })) }
     ensures err { IfErr result (λ e. (e ≡ OpenFault.NoMemory) ⊎ ((e ≡ OpenFault.NoPlace) × (1 ≤ count))) }
 {
@@ -117,7 +117,7 @@ fn new_publisher<N: Naming, R: Wait + Drop>(
     front: &Front<Event, N>,
 ) -> Result<Publisher<N, R>, NoMemory>
     requires { known_after N.fields front.now ≡ known_of (arc_value version.now) }
-    ensures { IfOk result (λ p. (published p ≡ arc_value version.now) × (pending p ≡ [])) }
+    ensures { IfOk result (λ p. (published p ≡ record { contents = arc_value version.now; number = 0 }) × (pending p ≡ [])) }
 {
     let first = Shown::new(version, front, 0)?;
     let second = Shown::new(version, front, 0)?;
@@ -135,7 +135,7 @@ fn publish_twice<N: Naming, R: Wait + Drop>(
 ) -> Result<(), NoMemory>
     requires front { known_after N.fields front.now ≡ known_of (arc_value version.now) }
     requires nothing { pending publisher.old ≡ [] }
-    ensures { OnOk result ((published publisher.new ≡ arc_value version.now) × (pending publisher.new ≡ [])) }
+    ensures { OnOk result ((published publisher.new ≡ record { contents = arc_value version.now; number = 0 }) × (pending publisher.new ≡ [])) }
 {
     publisher
         .append(Shown::new(version, front, 0)?)

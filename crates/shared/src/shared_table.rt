@@ -9,6 +9,7 @@ ghost use Rattle.shared.specs.Balance.{IsOfWorkers};
 ghost use Rattle.shared.specs.Gathered.{Stands};
 ghost use Rattle.shared.specs.Hand.{HasAdded, HasSeen, HasWidened, IsKept, IsRaised, IsWhole, calls_of_hand, columns_of_hand, rows_of_hand};
 ghost use Rattle.shared.specs.Known.{IsLegalKnown, known_of};
+ghost use Rattle.shared.specs.Joined.{AreJoined};
 ghost use Rattle.shared.specs.Missing.{AllThere};
 ghost use Rattle.table.specs.Cause.{batch_cause};
 ghost use Rattle.table.specs.History.{rows};
@@ -79,7 +80,7 @@ impl<C: Ledger, Q: Ledger, K: Ledger, N: Naming, P: Publish<Item = Shown<N>>> Sh
     ) -> SharedTable<C, Q, K, N, P>
         requires empty { (state.history ≡ []) × (history.1 ≡ []) }
         requires fields { state.fields ≡ N.fields }
-        requires shown { IfSome publisher (λ p. P.shows p state) }
+        requires shown { IfSome publisher (λ p. P.shows p (record { contents = state; number = 0 })) }
         requires totals { (ledgers.0.calls.total ≡ 0) × (ledgers.0.rows.total ≡ 0) × (ledgers.0.columns.total ≡ 0) }
         requires no_parts { (ledgers.1.calls.parts ≡ 0) × (ledgers.1.rows.parts ≡ 0) × (ledgers.1.columns.parts ≡ 0) }
         requires no_amounts { (ledgers.1.calls.amount ≡ 0) × (ledgers.1.rows.amount ≡ 0) × (ledgers.1.columns.amount ≡ 0) }
@@ -137,6 +138,7 @@ impl<C: Ledger, Q: Ledger, K: Ledger, N: Naming, P: Publish<Item = Shown<N>>> Sh
         ensures kept { IsKept worker.old worker.new }
         ensures seen { HasSeen worker.old worker.new }
         ensures all { IfOk result (λ v. known_of (arc_value v) ≡ worker.new.seen) }
+        ensures known { IfOk result (λ v. IsOfWorkers self.now (arc_value v).history) }
     {
         self.lock.lock(wait).snapshot(wait, worker)
     }
@@ -153,6 +155,8 @@ impl<C: Ledger, Q: Ledger, K: Ledger, N: Naming, P: Publish<Item = Shown<N>>> Sh
         ensures kept { IsKept worker.old worker.new }
         ensures seen { HasSeen worker.old worker.new }
         ensures all { IfOk result (λ v. known_of (arc_value v) ≡ worker.new.seen) }
+        ensures known { IfOk result (λ v. IsOfWorkers self.now (arc_value v).history) }
+        ensures joined { IfOk result (λ v. AreJoined (arc_value v).fields max_rows (arc_value v).batches) }
         ensures apart { IfOk result (λ v. AreApart (arc_value v).fields max_rows (arc_value v).batches) }
     {
         self.lock.lock(wait).compact(wait, worker, max_rows)

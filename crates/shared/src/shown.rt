@@ -5,7 +5,7 @@ ghost use Rattle.left_right.specs.Handles.{pending, published};
 ghost use Rattle.std.specs.Arc.{arc_value};
 ghost use Rattle.shared.specs.Changes.{known_after};
 ghost use Rattle.shared.specs.Known.{known_of};
-ghost use Rattle.table.specs.Contents.{Contents};
+ghost use Rattle.shared.specs.Showing.{Showing};
 
 use crate::naming::{Event, Naming};
 use crate::seal::Seal;
@@ -19,7 +19,7 @@ use table::Version;
 
 /// A version with the changes up to it. No value of it leaves this crate.
 ///
-/// Clauses see the version.
+/// Clauses see the version and its number.
 #[derive(Drop)]
 pub struct Shown<N: Naming> {
     pub(crate) version: Arc<Version>,
@@ -29,31 +29,31 @@ pub struct Shown<N: Naming> {
 }
 
 impl<N: Naming> Model for Shown<N> {
-    ghost use Rattle.table.specs.Contents.{Contents, contents_code};
+    ghost use Rattle.shared.specs.Showing.{Showing, showing_code};
 
-    ghost Value = { Contents };
+    ghost Value = { Showing };
 
-    ghost coded = { contents_code };
+    ghost coded = { showing_code };
 
     ghost use Rattle.std.specs.Prelude.{◌≡◌};
     ghost use Rattle.std.specs.Arc.{arc_value};
     ghost use Rattle.shared.specs.Changes.{known_after};
     ghost use Rattle.shared.specs.Known.{known_of};
 
-    ghost view = { λ s. arc_value s.version };
+    ghost view = { λ s. record { contents = arc_value s.version; number = s.number } };
 
     ghost invariant = { λ s. known_after N.fields s.front ≡ known_of (arc_value s.version) };
 }
 
 impl<N: Naming> Shown<N> {
-    /// A copy of a version with the changes up to it.
+    /// A copy of a version with the changes up to it, of this number.
     pub(crate) fn new(
         version: &Arc<Version>,
         front: &Front<Event, N>,
         number: u64,
     ) -> Result<Shown<N>, AllocError>
         requires { known_after N.fields front.now ≡ known_of (arc_value version.now) }
-        ensures { IfOk result (λ s. s ≡ arc_value version.now) }
+        ensures { IfOk result (λ s. s ≡ record { contents = arc_value version.now; number = number }) }
     {
         let version = version.clone()?;
         Ok(Shown {
@@ -83,7 +83,7 @@ impl<N: Naming> Shown<N> {
 }
 
 impl<N: Naming> Absorb<Shown<N>> for Shown<N> {
-    type State = Version;
+    type State = Shown<N>;
 
     ghost state = { λ s. s };
 

@@ -1,8 +1,8 @@
-use Rattle.std.proofs.Common.{◌+◌, ◌<◌, length, map, take, subst, sym, arith}
+use Rattle.std.proofs.Common.{◌∙◌, ◌+◌, ◌<◌, ◌≤◌, ap, length, map, take, subst, sym, arith}
 use Rattle.std.proofs.lemmas.List.{length-map}
 use Rattle.std.specs.Arc.{arc_value}
 use Rattle.arrays.specs.File.{File}
-use Rattle.shared.specs.Hand.{Hand}
+use Rattle.shared.specs.Hand.{Hand, calls_of_hand}
 use Rattle.loads.specs.Loaded.{Loaded, batches_of}
 use Rattle.loads.specs.Plan.{planned}
 use Rattle.loads.proofs.LoadLemmas.{batches_at, is_stopped, last_moved, loaded_file, loaded_other, loaded_stopped, mapped_length, newest_moved}
@@ -26,14 +26,18 @@ loop-number-preserved g c =
             loaded = subst is_new (sym w.worker-is)
                 (loaded_file files count place n bs old mid new below w.if-number-count.true
                 (batches_at c.args.files.now n c.index-files-number.result bs c.loop-number-test.true c.index-files-number.is w.batches.ensures.value)
-                c.loop-number.invariant.loaded w.in_default.ensures.loaded);
+                c.loop-number.invariant.left c.loop-number.invariant.loaded w.in_default.ensures.loaded);
             last = last_moved c.args.first new c.if-number-count.worker w.add_batches-added.new.last c.if-number-count.last w.worker-is w.last-is w.add_batches-added.ensures.last;
             newest = newest_moved new c.if-number-count.worker w.add_batches-added.new.last c.if-number-count.last w.worker-is w.last-is w.in_default.ensures.newest;
+            first = subst (λ (h : Hand). c.args.first ≤ calls_of_hand h) (sym w.worker-is) w.add_batches-added.ensures.first;
+            left = ap (λ (h : Hand). h.left) w.worker-is ∙ w.add_batches-added.ensures.left ∙ c.loop-number.invariant.left;
           }
       | else-number-count w ↦ record {
         loaded = subst is_new (sym w.worker-is) (loaded_other files count place n old mid below w.if-number-count.false c.loop-number.invariant.loaded);
         last = last_moved c.args.first mid c.if-number-count.worker c.loop-number.last c.if-number-count.last w.worker-is w.last-is c.loop-number.invariant.last;
         newest = newest_moved mid c.if-number-count.worker c.loop-number.last c.if-number-count.last w.worker-is w.last-is c.loop-number.invariant.newest;
+        first = subst (λ (h : Hand). c.args.first ≤ calls_of_hand h) (sym w.worker-is) c.loop-number.invariant.first;
+        left = ap (λ (h : Hand). h.left) w.worker-is ∙ c.loop-number.invariant.left;
       }
     ]
 
@@ -53,4 +57,5 @@ returns-in-Err-clause-loaded g c =
     let n = c.loop-number.number in
     let bs = map arc_value c.batches.result.now in
     let at = batches_at c.args.files.now n c.index-files-number.result bs c.loop-number-test.true c.index-files-number.is c.batches.ensures.value in
-    loaded_stopped files c.args.count c.args.place n c.in-Err.batch bs c.args.worker.now c.loop-number.worker c.add_batches-added.new.worker at c.loop-number.invariant.loaded c.in-Err.ensures.stopped
+    loaded_stopped files c.args.count c.args.place n c.in-Err.batch bs c.args.worker.now c.loop-number.worker c.add_batches-added.new.worker at
+    c.loop-number.invariant.left c.loop-number.invariant.loaded c.in-Err.ensures.stopped

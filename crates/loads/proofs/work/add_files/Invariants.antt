@@ -1,4 +1,5 @@
-use Rattle.std.proofs.Common.{take}
+use Rattle.std.proofs.Common.{◌≡◌, ◌≤◌, take}
+use Rattle.shared.specs.Hand.{calls_of_hand}
 use Rattle.loads.specs.Loaded.{HasLast, IsNewest, Loaded, batches_of}
 use Rattle.loads.specs.Plan.{planned}
 use Rattle.loads.proofs.work.add_files.Given as goal
@@ -8,4 +9,6 @@ invariant-loop-number g l = record {
   loaded : Loaded (planned (take l.number (batches_of l.files)) l.count l.place) l.fn.worker l.worker;
   last : HasLast l.first l.worker l.last;
   newest : IsNewest l.worker l.last;
+  first : l.first ≤ calls_of_hand l.worker;
+  left : l.worker.left ≡ l.fn.worker.left;
 }

@@ -1,6 +1,7 @@
 use Rattle.std.proofs.Common.{◌≡◌, ◌∙◌, [], ap, arith, inl, inr, sym}
 use Rattle.std.specs.Arc.{arc_value}
 use Rattle.shared.proofs.SeenLemmas.{some_each}
+use Rattle.table.specs.Contents.{Contents}
 use Rattle.shared.proofs.opening.open.Goals as goal
 use Rattle.shared.proofs.opening.open.Goals.{then-workers-gt-MOST-via-then-workers-gt-MOST, then-workers-gt-MOST-via-else-workers-gt-MOST+then-readers-gt-MOST}
 
@@ -9,7 +10,7 @@ new-table-requires-clause-shown g c =
     let state = c.in_ok-state.state in
     let same : arc_value c.into_parts-opened.result.1 ≡ state =
     c.into_parts-opened.ensures.version ∙ ap (λ fs. record { fields = fs; history = []; batches = [] }) c.requires.pair.2 ∙ sym c.in_ok-state.ensures in
-    some_each c.in_ok-publisher.publisher (λ p is. ((state, is.0 ∙ same), is.1)) c.in_ok-publisher.ensures.shown
+    some_each c.in_ok-publisher.publisher (λ p is. ((record { contents = state; number = 0 }, is.0 ∙ ap (λ (s : Contents). record { contents = s; number = 0 }) same), is.1)) c.in_ok-publisher.ensures.shown
 
 pub returns-clause-readers : goal.returns-clause-readers
 returns-clause-readers g c = c.in_ok-publisher.ensures.readers

@@ -52,7 +52,8 @@ invariant_of-self-2 g c =
       known_widened g.N.Naming-1.fields w.front c.add.new.front s next f is.8 c.add.ensures.added reported.added,
       omega (arith, ap (λ (t : Contents). length t.fields) reported.added, length-append s.fields (f ∷ []), is.9, c.count_column.ensures.total),
       reported.legal,
-      some_each c.show_version.new.publisher (λ p is_shown. subst (g.P.Publish.shows p) reported.shown.1 is_shown) c.show_version.ensures,
+      some_each c.show_version.new.publisher
+          (λ p is_shown. subst (λ (t : Contents). g.P.Publish.shows p (record { contents = t; number = c.show_version.new.number })) reported.shown.1 is_shown) c.show_version.ensures.shown,
       is.12,
       is.13,
       is.14,
@@ -68,4 +69,4 @@ returns-clause-widened g c =
     let f = stored_field (field_of c.args.field.now) in
     let known = known_widened first w.front c.add.new.front s next f c.self.invariant.8 c.add.ensures.added reported.added in
     widened_by (known_after first w.front) (known_after first c.add.new.front) s next f c.args.worker.now c.see.new.self c.see-2.new.self c.count_column.new.self
-    c.self.invariant.8 known reported.added reported.legal c.see.ensures.begun c.see.ensures.seen c.see-2.ensures.seen c.count_column.ensures.counted
+    c.self.invariant.8 known reported.added c.self.invariant.10 reported.legal c.see.ensures.begun c.see.ensures.seen c.see-2.ensures.seen c.count_column.ensures.counted

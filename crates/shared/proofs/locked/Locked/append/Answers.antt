@@ -87,7 +87,7 @@ invariant_of-self-2 g c =
       known_added g.N.Naming-1.fields c.self.inside.front c.add.new.front s next worker c.args.batch.now b is.8 c.add.ensures.added c.requires reported.added reported.legal,
       omega (arith, ap (λ (t : Contents). length t.fields) reported.added, is.9, c.raise.ensures.column_total),
       reported.legal,
-      shown_next g.P.Publish.shows arc_value c.in_ok-entry.next c.show.new.publisher next (reported.shown ∙ c.is_some.ensures ∙ sym c.show.ensures.same) reported.version c.show.ensures.shown,
+      shown_next (λ p (t : Contents). g.P.Publish.shows p (record { contents = t; number = c.show.new.number })) arc_value c.in_ok-entry.next c.show.new.publisher next (reported.shown ∙ c.is_some.ensures ∙ sym c.show.ensures.same) reported.version c.show.ensures.shown,
       is.12,
       is.13,
       is.14,

@@ -4,6 +4,7 @@ use Rattle.arrays.specs.Shape.{FieldShape}
 use Rattle.shared.proofs.SeenLemmas.{copy_kept, known_joined, some_each}
 use Rattle.shared.specs.Balance.{IsBalanced, IsOfWorkers}
 use Rattle.shared.specs.Known.{IsLegalKnown, known_of}
+use Rattle.table.specs.Contents.{Contents}
 use Rattle.shared.proofs.locked.Locked.compact.Goals as goal
 
 pub show_version-requires : goal.show_version-requires
@@ -30,7 +31,8 @@ invariant_of-self-2 g c =
       is.8 ∙ sym same,
       ap (λ (fs : List FieldShape). length fs) joined.fields ∙ is.9,
       subst IsLegalKnown (sym same) is.10,
-      some_each c.show_version.new.publisher (λ p is_shown. subst (g.P.Publish.shows p) shown.1 is_shown) c.show_version.ensures,
+      some_each c.show_version.new.publisher
+          (λ p is_shown. subst (λ (t : Contents). g.P.Publish.shows p (record { contents = t; number = c.show_version.new.number })) shown.1 is_shown) c.show_version.ensures.shown,
       is.12,
       is.13,
       is.14,

@@ -1,9 +1,12 @@
 use Rattle.std.proofs.Common.{◌∙◌, List, ap, subst, sym}
+use Rattle.std.specs.Arc.{arc_value}
 use Rattle.arrays.specs.Shape.{FieldShape}
-use Rattle.compaction.specs.Groups.{AreApart}
+use Rattle.compaction.specs.Groups.{AreApart, AreGroups}
 use Rattle.compaction.proofs.GroupLemmas.{groups-apart}
 use Rattle.shared.proofs.SeenLemmas.{known_joined, ok_with, seen_kept}
+use Rattle.shared.specs.Balance.{IsOfWorkers}
 use Rattle.shared.specs.Known.{known_of}
+use Rattle.table.specs.History.{History}
 use Rattle.table.specs.Contents.{Contents}
 use Rattle.shared.proofs.shared_table.SharedTable.compact.Goals as goal
 
@@ -14,6 +17,29 @@ pub returns-clause-all : goal.returns-clause-all
 returns-clause-all g c =
     ok_with c.compact.result
     (λ v joined is. ap known_of is ∙ known_joined c.args.max_rows c.deref_mut.result.now c.compact.new.self joined ∙ sym c.compact.ensures.all)
+    c.compact.ensures.compacted
+    c.compact.ensures.version
+
+pub returns-clause-known : goal.returns-clause-known
+returns-clause-known g c =
+    let count = sym c.self.invariant ∙ c.self.view_is in
+    ok_with c.compact.result
+    (λ v joined is.
+    subst (λ n. IsOfWorkers n (arc_value v).history) count
+    (subst (λ (h : History). IsOfWorkers g.C.Ledger.parts h) (sym (ap (λ (s : Contents). s.history) is ∙ joined.history)) c.compact.ensures.known))
+    c.compact.ensures.compacted
+    c.compact.ensures.version
+
+pub returns-clause-joined : goal.returns-clause-joined
+returns-clause-joined g c =
+    let old = c.deref_mut.result.now in
+    let max = c.args.max_rows in
+    ok_with c.compact.result
+    (λ v joined is. (
+      old.batches,
+      subst (λ (s : Contents). AreGroups s.fields max old.batches s.batches) (sym is)
+          (subst (λ (fs : List FieldShape). AreGroups fs max old.batches c.compact.new.self.batches) (sym joined.fields) joined.groups),
+    ))
     c.compact.ensures.compacted
     c.compact.ensures.version
 

@@ -1,5 +1,5 @@
-use Rattle.arrowtab.proofs.AloneLemmas.{export_alone, query_alone, query_stops_alone, stats_alone, stops_alone}
-use Rattle.arrowtab.proofs.laws.the_library_gives_what_one_worker_prints.Goals as goal
+use Rattle.embed_laws.proofs.AloneLemmas.{export_alone, query_alone, query_stops_alone, stats_alone, stops_alone}
+use Rattle.embed_laws.proofs.laws.the_library_gives_what_one_worker_prints.Goals as goal
 
 pub returns-clause-stats : goal.returns-clause-stats
 returns-clause-stats c = λ job texts text one bare. stats_alone job texts text one bare

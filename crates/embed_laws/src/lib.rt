@@ -1,0 +1,4 @@
+//! That the library gives what the program prints.
+#![tactic(auto)]
+
+pub mod laws;
