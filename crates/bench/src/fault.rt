@@ -1,7 +1,5 @@
 //! Why a run ended early.
 
-ghost use Rattle.std.specs.Prelude.{◌≡◌, ◌≢◌};
-
 /// Why there is nothing more to print.
 #[derive(Clone, Copy)]
 pub(crate) enum Fault {
@@ -9,12 +7,8 @@ pub(crate) enum Fault {
     Arguments,
     /// Memory ran out, or what was to be measured was refused.
     Memory,
-    /// The same, or nothing was to be run.
-    NeverRun,
-    /// The text is no query.
+    /// The text is no query of the table.
     NoQuery,
-    /// It is none of this table.
-    OtherTable,
     /// The query had no answer.
     NoAnswer,
     /// The output was not taken.
@@ -27,19 +21,14 @@ impl Fault {
         match self {
             Fault::Arguments => "bad arguments",
             Fault::Memory => "no memory",
-            Fault::NeverRun => "no memory, or never run",
-            Fault::NoQuery => "no query",
-            Fault::OtherTable => "no query of this table",
+            Fault::NoQuery => "no query of this table",
             Fault::NoAnswer => "no answer",
             Fault::Output => "no output",
         }
     }
 
     /// The status that the program ends with.
-    pub(crate) fn status(self) -> u8
-        ensures arguments { self ≡ Fault.Arguments → result ≡ 2 }
-        ensures others { self ≢ Fault.Arguments → result ≡ 1 }
-    {
+    pub(crate) fn status(self) -> u8 {
         match self {
             Fault::Arguments => 2,
             _ => 1,

@@ -1,137 +1,144 @@
-//! `bench kernels KERNEL ROWS TIMES` makes two columns of so many rows, runs a kernel on them so many times, and
-//! prints how many slots of the last result are null. KERNEL is `add`, `less`, `equal` (of texts), `and`, `filter`, `take`,
-//! `take-texts`, `recode-few`, `recode-many`, `recode-codes`, `add-number` or `greater-number`. `bench kernels concat ROWS TIMES` puts
-//! sixteen columns of so many rows together behind one another, `bench kernels stats-of ROWS TIMES` prints the
-//! statistics of one column, and `bench kernels null-count ROWS TIMES` how many of its slots are null. `bench kernels nulls ROWS TIMES` makes a column of nulls,
-//! and prints how many.
-//! `bench kernels BITS ROWS TIMES`, with `bits-and`, `bits-or`, `bits-not` or `bits-and-within` (a byte) for BITS, makes a bitmap
-//! of two of so many bits, and prints how many bits of the last are 1. `bench kernels PARTS ROWS TIMES`, with `validate-numbers` or
-//! `validate-texts` for PARTS, checks the parts of a column, and prints how many nulls they state. `bench kernels admit ROWS TIMES` makes
-//! a table of a batch of two columns of 64-bit numbers, and prints how many rows it has; `bench kernels gather ROWS TIMES` gathers the
-//! statistics of such columns, and prints how many rows they have together.
-//!
-//! Without words it runs each once, on few rows.
-
-mod appending;
-mod bitmaps;
-mod columns;
-mod kernel;
-mod nulls;
-mod pieces;
-mod statistics;
-mod validation;
+//! `bench kernels KERNEL ROWS TIMES` makes two columns of so many rows, runs a kernel on them so many times, and prints how many
+//! slots of the last result are null. KERNEL is one of `EACH`.
 
 use crate::fault::Fault;
-use crate::words::number;
-use appending::{rows_admitted, rows_gathered};
-use bitmaps::{Bitwise, nulls_counted};
-use group::Scalar;
-use kernel::Kernel;
-use statistics::stats_after;
-use validation::Parts;
+use crate::making::{Nulls, Rule, digits, longs, shorts, truths};
+use crate::{number, word};
+use arrays::{Array, DataType, OffsetWidth, View, ViewType};
+use kernels::{CmpOp, add, add_number, compare, compare_number, kleene_and};
+use pool::{TextPool, recode};
+use select::{filter, take};
+use std::alloc::Global;
+use types::INT32;
 
-/// How many rows each runs on without words.
-const FEW: u32 = 1000;
-
-/// All that can be run.
-const EACH: [&str; 24] = [
-    "add",
-    "less",
-    "equal",
-    "and",
-    "filter",
-    "take",
-    "take-texts",
-    "recode-few",
-    "recode-many",
-    "recode-codes",
-    "add-number",
-    "greater-number",
-    "bits-and",
-    "bits-or",
-    "bits-not",
-    "bits-and-within",
-    "null-count",
-    "validate-numbers",
-    "validate-texts",
-    "concat",
-    "stats-of",
-    "nulls",
-    "admit",
-    "gather",
-];
-
-/// Runs what the words ask for.
-pub(crate) fn run(rt: &HostRuntime, words: &[String]) -> Result<(), Fault> {
-    match words.first() {
-        Some(name) => run_one(rt, name.as_str(), number(words, 1)?, number(words, 2)?),
-        None => run_each(rt),
-    }
+/// A kernel, and the columns that it is run on.
+#[derive(Clone, Copy)]
+enum Kernel {
+    /// `add` of numbers of 64 bits.
+    Add,
+    /// `compare` of the same, by `Lt`.
+    Less,
+    /// `compare` of texts, by `Eq`.
+    Equal,
+    /// `kleene_and`.
+    And,
+    /// `filter` of numbers of 64 bits.
+    Filter,
+    /// `take` of numbers of 32 bits.
+    Take,
+    /// `take` of texts.
+    TakeTexts,
+    /// `recode` of texts of which a thousand differ, into an empty pool. The second column is of no use.
+    RecodeFew,
+    /// `recode` of texts of which 200,000 differ.
+    RecodeMany,
+    /// `add_number` of numbers of 64 bits and 1. The second column is of no use.
+    AddNumber,
+    /// `compare_number` of the same, by `Gt` and 5.
+    GreaterNumber,
 }
 
-// Runs each once.
-fn run_each(rt: &HostRuntime) -> Result<(), Fault> {
-    for name in EACH {
-        run_one(rt, name, FEW, 1)?;
+/// All kernels, by their names.
+const EACH: [(&str, Kernel); 11] = [
+    ("add", Kernel::Add),
+    ("less", Kernel::Less),
+    ("equal", Kernel::Equal),
+    ("and", Kernel::And),
+    ("filter", Kernel::Filter),
+    ("take", Kernel::Take),
+    ("take-texts", Kernel::TakeTexts),
+    ("recode-few", Kernel::RecodeFew),
+    ("recode-many", Kernel::RecodeMany),
+    ("add-number", Kernel::AddNumber),
+    ("greater-number", Kernel::GreaterNumber),
+];
+
+/// Runs the kernel that the words ask for.
+pub(crate) fn run(rt: &HostRuntime, words: &[String]) -> Result<(), Fault> {
+    let name = word(words, 0)?;
+    for (own, kernel) in EACH {
+        if own == name {
+            return tell(rt, kernel, number(words, 1)?, number(words, 2)?);
+        }
+    }
+    Err(Fault::Arguments)
+}
+
+/// Runs each once, on few rows.
+pub(crate) fn run_each(rt: &HostRuntime) -> Result<(), Fault> {
+    for (_name, kernel) in EACH {
+        tell(rt, kernel, 1000, 1)?;
     }
     Ok(())
 }
 
-// Runs what goes by this name on so many rows, so many times.
-fn run_one(rt: &HostRuntime, name: &str, rows: u32, times: u32) -> Result<(), Fault> {
-    match name {
-        "stats-of" => tell_stats(rt, rows, times),
-        "concat" => tell(rt, pieces::nulls_after(rt.alloc(), rows, times)),
-        "nulls" => tell(rt, nulls::nulls_made(rt.alloc(), rows, times)),
-        "null-count" => tell(rt, nulls_counted(rt.alloc(), rows, times)),
-        "admit" => tell(rt, rows_admitted(rt.alloc(), rows, times)),
-        "gather" => tell(rt, rows_gathered(rt.alloc(), rows, times)),
-        name => match Kernel::of_name(name) {
-            Some(kernel) => tell(rt, kernel.nulls_after(rt.alloc(), rows, times)),
-            None => tell_bits(rt, name, rows, times),
-        },
+// Runs a kernel so many times, and prints how many slots of the last result are null, 0 where there is none.
+fn tell(rt: &HostRuntime, kernel: Kernel, count: u32, times: u32) -> Result<(), Fault> {
+    match nulls_after(rt.alloc(), kernel, count, times) {
+        Some(nulls) => println!(rt; "{nulls}").or(Err(Fault::Output)),
+        None => Err(Fault::Memory),
     }
 }
 
-// Makes bitmaps so many times and prints how many bits of the last are 1.
-fn tell_bits(rt: &HostRuntime, name: &str, len: u32, times: u32) -> Result<(), Fault> {
-    match Bitwise::of_name(name) {
-        Some(bitwise) => tell(rt, bitwise.ones_after(rt.alloc(), len, times)),
-        None => tell_parts(rt, name, len, times),
+// How many slots of the last result are null.
+fn nulls_after(alloc: Global, kernel: Kernel, count: u32, times: u32) -> Option<usize> {
+    let (a, b) = (first(alloc, kernel, count)?, second(alloc, kernel, count)?);
+    let mut nulls = 0;
+    for _ in 0..times {
+        nulls = result(alloc, kernel, &a.view(), &b.view())?
+            .view()
+            .null_count();
+    }
+    Some(nulls)
+}
+
+// The first column.
+fn first(alloc: Global, kernel: Kernel, count: u32) -> Option<Array> {
+    let (nulls, all) = (Nulls::Sparse(3), Rule::Spread(3, 0));
+    match kernel {
+        Kernel::Equal | Kernel::TakeTexts => digits(alloc, count, nulls, Rule::Pairs(1, 1_000_000)),
+        Kernel::And => truths(alloc, count, nulls, all),
+        Kernel::Take => shorts(alloc, DataType::Int(INT32), count, nulls, all),
+        Kernel::RecodeFew => digits(alloc, count, nulls, Rule::Spread(3, 1_000)),
+        Kernel::RecodeMany => digits(alloc, count, nulls, Rule::Spread(3, 200_000)),
+        _ => longs(alloc, count, nulls, all),
     }
 }
 
-// Checks the parts of a column so many times and prints how many nulls they state.
-fn tell_parts(rt: &HostRuntime, name: &str, rows: u32, times: u32) -> Result<(), Fault> {
-    match Parts::of_name(name) {
-        Some(parts) => tell(rt, parts.nulls_after(rt.alloc(), rows, times)),
-        None => Err(Fault::Arguments),
+// The second.
+fn second(alloc: Global, kernel: Kernel, count: u32) -> Option<Array> {
+    let (nulls, all) = (Nulls::Sparse(8), Rule::Spread(8, 0));
+    match kernel {
+        Kernel::Add | Kernel::Less => longs(alloc, count, nulls, all),
+        Kernel::Equal => digits(alloc, count, nulls, Rule::Pairs(0, 1_000_000)),
+        Kernel::And | Kernel::Filter => truths(alloc, count, nulls, all),
+        Kernel::Take | Kernel::TakeTexts => {
+            let ty = DataType::Int(INT32);
+            shorts(alloc, ty, count, Nulls::Never, Rule::Spread(0, count))
+        }
+        _ => truths(alloc, 0, nulls, all),
     }
 }
 
-// Prints how many nulls the result has, or how many ones, or rows, if there is one.
-fn tell(rt: &HostRuntime, count: Option<usize>) -> Result<(), Fault> {
-    let Some(count) = count else {
-        return Err(Fault::Memory);
+// The result, none where the kernel refused.
+fn result(alloc: Global, kernel: Kernel, a: &View<'_>, b: &View<'_>) -> Option<Array> {
+    match kernel {
+        Kernel::Add => add(alloc, a, b).ok(),
+        Kernel::Less => compare(alloc, CmpOp::Lt, a, b).ok(),
+        Kernel::Equal => compare(alloc, CmpOp::Eq, a, b).ok(),
+        Kernel::And => kleene_and(alloc, a, b).ok(),
+        Kernel::Filter => filter(alloc, a, b).ok(),
+        Kernel::Take | Kernel::TakeTexts => take(alloc, a, b).ok(),
+        Kernel::RecodeFew | Kernel::RecodeMany => recoded(alloc, a),
+        Kernel::AddNumber => add_number(alloc, a, 1).ok(),
+        Kernel::GreaterNumber => compare_number(alloc, CmpOp::Gt, a, 5).ok(),
+    }
+}
+
+// The places of texts in a pool of their own, none where they aren't texts or the pool refused.
+fn recoded(alloc: Global, view: &View<'_>) -> Option<Array> {
+    let ViewType::Text(OffsetWidth::Narrow) = view.ty() else {
+        return None;
     };
-    println!(rt; "{count}").or(Err(Fault::Output))
-}
-
-// Gathers statistics so many times and prints the last: how many are null, the sum, the least and the greatest.
-fn tell_stats(rt: &HostRuntime, rows: u32, times: u32) -> Result<(), Fault> {
-    let Some(stats) = stats_after(rt.alloc(), rows, times) else {
-        return Err(Fault::NeverRun);
-    };
-    let nulls = stats.nulls;
-    let sum = stats.sum.unwrap_or(0);
-    let (least, greatest) = (number_of(stats.least), number_of(stats.greatest));
-    println!(rt; "{nulls} {sum} {least} {greatest}").or(Err(Fault::Output))
-}
-
-// A number, 0 where there is none.
-fn number_of(scalar: Option<Scalar>) -> i128 {
-    match scalar {
-        Some(Scalar::Int(number)) => number,
-        _ => 0,
-    }
+    recode(alloc, view, &mut TextPool::new(alloc)).ok()
 }

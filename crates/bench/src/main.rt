@@ -1,68 +1,61 @@
-//! `bench SUBJECT WORD..` runs what scripts measure: `bench kernels`, `bench table`, `bench compaction`, `bench query`, `bench loads` or
-//! `bench readers`, each with the words that its module tells. Without words it runs on little, and without a subject each does.
+//! `bench SUBJECT WORD..` runs what scripts measure: `bench kernels`, `bench table` or `bench query`, each with the words that its
+//! module tells. Without a subject each runs on little.
 //!
 //! It ends with status 0 where that was printed, 1 where a fault was reported on standard error in place of it, and 2 where the
 //! words ask for nothing.
 #![tactic(auto)]
 
-mod compaction_runs;
 mod fault;
 mod kernel_runs;
-mod load_runs;
 mod making;
 mod query_runs;
-mod reader_runs;
-mod subject;
 mod table_runs;
-mod words;
 
 use fault::Fault;
 use std::env;
 use std::process::ExitCode;
-use std::sync::Wait;
 use std::thread::Threads;
-use std::time::Clock;
-use subject::{EACH, Subject};
 
 fn main(rt: HostRuntime) -> ExitCode {
-    match run(&rt, &rt, &rt) {
+    match run(&rt, &rt) {
         Ok(()) => ExitCode::SUCCESS,
         Err(fault) => report(&rt, fault),
     }
 }
 
 // Runs the subject that the first word names on those behind it, or each on little where there is none.
-fn run<W: Wait + Clock + Sync, T: Threads + Sync>(
-    wait: &W,
-    threads: &T,
-    rt: &HostRuntime,
-) -> Result<(), Fault> {
+fn run<T: Threads + Sync>(threads: &T, rt: &HostRuntime) -> Result<(), Fault> {
     let Ok(mut words) = env::args(rt) else {
         return Err(Fault::Arguments);
     };
     let _program = words.next();
-    let Some(name) = words.next() else {
-        return run_each(wait, threads, rt);
+    let Some(subject) = words.next() else {
+        kernel_runs::run_each(rt)?;
+        table_runs::tell(rt, 3, 10, 2)?;
+        return query_runs::tell(threads, rt, query_runs::SUM_BY_TEXT, (1, 1000), (1, 1));
     };
     let Ok(words) = words.collect::<Vec<String>>(rt.alloc()) else {
         return Err(Fault::Memory);
     };
-    match Subject::of_name(name.as_str()) {
-        Some(subject) => subject.run(wait, threads, rt, words.as_slice()),
+    match subject.as_str() {
+        "kernels" => kernel_runs::run(rt, &words),
+        "table" => table_runs::run(rt, &words),
+        "query" => query_runs::run(threads, rt, &words),
+        _ => Err(Fault::Arguments),
+    }
+}
+
+// The word at a place.
+fn word(words: &[String], place: usize) -> Result<&str, Fault> {
+    match words.get(place) {
+        Some(word) => Ok(word.as_str()),
         None => Err(Fault::Arguments),
     }
 }
 
-// Runs each on little.
-fn run_each<W: Wait + Clock + Sync, T: Threads + Sync>(
-    wait: &W,
-    threads: &T,
-    rt: &HostRuntime,
-) -> Result<(), Fault> {
-    for subject in EACH {
-        subject.run(wait, threads, rt, &[])?;
-    }
-    Ok(())
+// The number that the word at a place is: of rows, of times or of what else its subject counts.
+fn number(words: &[String], place: usize) -> Result<u32, Fault> {
+    word(words, place)?.parse().or(Err(Fault::Arguments))
 }
 
 // Says why nothing more was printed.

@@ -1,10 +1,38 @@
 //! What columns and batches are made of: each value follows from its row.
 
-ghost use Rattle.std.specs.Prelude.{◌≡◌, ◌*◌, ◌%◌, ◌^◌};
-
-use arrays::{Array, DataType, Field, IntType, RawArray, RecordBatch, Schema, Width, validate};
-use colbits::{BitmapBuf, Buffer, Places};
+use arrays::{Array, DataType, Field, RawArray, RecordBatch, Schema, validate};
+use colbits::{BitmapBuf, Buffer};
 use std::alloc::Global;
+use types::INT64;
+
+/// How the number of a row follows from it.
+#[derive(Clone, Copy)]
+pub(crate) enum Rule {
+    /// In no order, from a salt on; so many differ.
+    Spread(u32, u32),
+    /// The same of each two rows together.
+    Pairs(u32, u32),
+    /// The row itself, but of the first rows, so many, numbers from another on.
+    Rising(u32, u32),
+}
+
+impl Rule {
+    /// The number of a row.
+    fn of(self, row: u32) -> u32 {
+        match self {
+            Rule::Spread(salt, distinct) => among(row.wrapping_add(salt), distinct),
+            Rule::Pairs(salt, distinct) => among((row / 2).wrapping_add(salt), distinct),
+            Rule::Rising(fresh, first) if row < fresh => first.wrapping_add(row),
+            Rule::Rising(_, _) => row,
+        }
+    }
+}
+
+/// A number that follows from its place, of so many, or of all of 32 bits where these are none.
+fn among(place: u32, distinct: u32) -> u32 {
+    let number = place.wrapping_mul(2_654_435_761);
+    number.checked_rem(distinct).unwrap_or(number)
+}
 
 /// Which slots of a column are null.
 #[derive(Clone, Copy)]
@@ -15,195 +43,114 @@ pub(crate) enum Nulls {
     Sparse(u32),
 }
 
-impl Nulls {
-    /// The bitmap of so many rows, if there is need of one, and how many of them are null.
-    fn validity(self, alloc: Global, rows: u32) -> Option<(Option<Buffer>, u64)> {
-        let Nulls::Sparse(salt) = self else {
-            return Some((None, 0));
-        };
-        let bitmap = BitmapBuf::from_places(alloc, &Sparse { rows, salt }).ok()?;
-        let ones = bitmap.bits().count_ones() as u64;
-        let nulls = u64::from(rows).saturating_sub(ones);
-        Some((Some(bitmap.into_buffer()), nulls))
+/// A column of numbers of 64 bits.
+pub(crate) fn longs(alloc: Global, rows: u32, nulls: Nulls, rule: Rule) -> Option<Array> {
+    let mut bytes = Vec::with_capacity(alloc, 8 * rows as usize + 63).ok()?;
+    for row in 0..rows {
+        let number = i64::from(rule.of(row));
+        bytes.extend_from_slice(&number.to_le_bytes()).ok()?;
     }
+    column(alloc, DataType::Int(INT64), rows, nulls, bytes)
 }
 
-/// All rows but each twentieth.
-#[derive(Drop)]
-struct Sparse {
+/// A column of numbers of 32 bits.
+pub(crate) fn shorts(
+    alloc: Global,
+    ty: DataType,
     rows: u32,
-    salt: u32,
-}
-
-impl Places for Sparse {
-    ghost use Rattle.std.specs.Prelude.{◌+◌, ◌%◌, ◌==◌, not};
-
-    ghost at = { λ s i. not ((i + s.salt) % 20 == 0) };
-
-    ghost count = { λ s. s.rows };
-
-    fn len(&self) -> usize {
-        self.rows as usize
+    nulls: Nulls,
+    rule: Rule,
+) -> Option<Array> {
+    let mut bytes = Vec::with_capacity(alloc, 4 * rows as usize + 63).ok()?;
+    for row in 0..rows {
+        bytes.extend_from_slice(&rule.of(row).to_le_bytes()).ok()?;
     }
+    column(alloc, ty, rows, nulls, bytes)
+}
 
-    fn at(&self, i: usize) -> bool {
-        !(i + self.salt as usize).is_multiple_of(20)
+/// A column of truth values: the highest byte of each number has eight.
+pub(crate) fn truths(alloc: Global, rows: u32, nulls: Nulls, rule: Rule) -> Option<Array> {
+    let count = rows / 8 + 1;
+    let mut bytes = Vec::with_capacity(alloc, count as usize + 63).ok()?;
+    for place in 0..count {
+        bytes.push((rule.of(place) >> 24) as u8).ok()?;
     }
+    column(alloc, DataType::Bool, rows, nulls, bytes)
 }
 
-/// A number of 32 bits that follows from its place.
-pub(crate) fn spread(place: u32) -> u32
-    ensures { result ≡ place * 2654435761 % 2 ^ 32 }
-{
-    place.wrapping_mul(2_654_435_761)
+/// A column of the digits of numbers.
+pub(crate) fn digits(alloc: Global, rows: u32, nulls: Nulls, rule: Rule) -> Option<Array> {
+    let mut offsets = Vec::with_capacity(alloc, 4 * rows as usize + 67).ok()?;
+    let mut bytes = Vec::new(alloc);
+    offsets.extend_from_slice(&[0; 4]).ok()?;
+    for row in 0..rows {
+        let digits = rule.of(row).to_string(alloc).ok()?;
+        bytes.extend_from_slice(digits.as_bytes()).ok()?;
+        let end = u32::try_from(bytes.len()).ok()?;
+        offsets.extend_from_slice(&end.to_le_bytes()).ok()?;
+    }
+    let buffers = vec![in alloc;
+        validity(alloc, rows, nulls)?,
+        Some(Buffer::from_vec(offsets).ok()?),
+        Some(Buffer::from_vec(bytes).ok()?),
+    ]
+    .ok()?;
+    array(alloc, DataType::Utf8, rows, buffers)
 }
 
-/// The type of signed numbers of 64 bits.
-pub(crate) fn long() -> DataType {
-    int(Width::W64, true)
+/// A column whose values lie behind one another.
+fn column(alloc: Global, ty: DataType, rows: u32, nulls: Nulls, values: Vec<u8>) -> Option<Array> {
+    let values = Some(Buffer::from_vec(values).ok()?);
+    let buffers = vec![in alloc; validity(alloc, rows, nulls)?, values].ok()?;
+    array(alloc, ty, rows, buffers)
 }
 
-/// A type of numbers.
-pub(crate) fn int(bits: Width, signed: bool) -> DataType {
-    DataType::Int(IntType { bits, signed })
+/// The bitmap of so many rows, if there is need of one; none, where memory ran out.
+fn validity(alloc: Global, rows: u32, nulls: Nulls) -> Option<Option<Buffer>> {
+    let Nulls::Sparse(salt) = nulls else {
+        return Some(None);
+    };
+    let mut valid = Vec::with_capacity(alloc, rows as usize).ok()?;
+    for row in 0..rows {
+        valid.push(!row.wrapping_add(salt).is_multiple_of(20)).ok()?;
+    }
+    Some(Some(BitmapBuf::from_bools(alloc, &valid).ok()?.into_buffer()))
 }
 
-/// A field that can be null.
+/// The array of these buffers.
+fn array(alloc: Global, ty: DataType, rows: u32, buffers: Vec<Option<Buffer>>) -> Option<Array> {
+    let raw = RawArray {
+        ty,
+        length: u64::from(rows),
+        null_count: None,
+        buffers,
+        children: Vec::new(alloc),
+        dictionary: None,
+    };
+    validate(alloc, raw).ok()
+}
+
+/// The batch of columns that go by these names, all of which may hold nulls.
+pub(crate) fn batch(
+    alloc: Global,
+    names: &[&str],
+    rows: u32,
+    columns: Vec<Array>,
+) -> Option<RecordBatch> {
+    let mut fields = Vec::new(alloc);
+    for (name, column) in names.iter().zip(columns.iter()) {
+        fields
+            .push(field(alloc, *name, column.ty().copy(alloc).ok()?)?)
+            .ok()?;
+    }
+    RecordBatch::new(Schema::new(fields).ok()?, rows, columns).ok()
+}
+
+/// A field that may hold nulls.
 pub(crate) fn field(alloc: Global, name: &str, ty: DataType) -> Option<Field> {
     Some(Field {
         name: String::from_str(alloc, name).ok()?,
         nullable: true,
         ty,
     })
-}
-
-/// The bytes of so many numbers of 64 bits behind one another.
-pub(crate) fn long_bytes<F: Fn(u32) -> u32>(alloc: Global, rows: u32, number: F) -> Option<Vec<u8>>
-    requires { F.IsAlwaysCallable number }
-{
-    let mut bytes = Vec::with_capacity(alloc, 8 * rows as usize + 63).ok()?;
-    for row in 0..rows {
-        let number = i64::from(number(row));
-        bytes.extend_from_slice(&number.to_le_bytes()).ok()?;
-    }
-    Some(bytes)
-}
-
-/// The bytes of so many numbers of 32 bits behind one another.
-pub(crate) fn short_bytes<F: Fn(u32) -> u32>(alloc: Global, rows: u32, number: F) -> Option<Vec<u8>>
-    requires { F.IsAlwaysCallable number }
-{
-    let mut bytes = Vec::with_capacity(alloc, 4 * rows as usize + 63).ok()?;
-    for row in 0..rows {
-        bytes.extend_from_slice(&number(row).to_le_bytes()).ok()?;
-    }
-    Some(bytes)
-}
-
-/// The parts of a column whose values lie behind one another.
-pub(crate) fn value_parts(
-    alloc: Global,
-    ty: DataType,
-    rows: u32,
-    nulls: Nulls,
-    values: Vec<u8>,
-) -> Option<RawArray> {
-    let (validity, nulls) = nulls.validity(alloc, rows)?;
-    let values = Some(Buffer::from_vec(values).ok()?);
-    let buffers = vec![in alloc; validity, values].ok()?;
-    Some(parts(alloc, ty, rows, nulls, buffers))
-}
-
-/// The parts of a column of the digits of numbers.
-pub(crate) fn digit_parts<F: Fn(u32) -> u32>(
-    alloc: Global,
-    rows: u32,
-    nulls: Nulls,
-    number: F,
-) -> Option<RawArray>
-    requires { F.IsAlwaysCallable number }
-{
-    let (validity, nulls) = nulls.validity(alloc, rows)?;
-    let mut offsets = Vec::with_capacity(alloc, 4 * rows as usize + 67).ok()?;
-    let mut bytes = Vec::new(alloc);
-    offsets.extend_from_slice(&[0; 4]).ok()?;
-    for row in 0..rows {
-        let digits = number(row).to_string(alloc).ok()?;
-        bytes.extend_from_slice(digits.as_bytes()).ok()?;
-        let end = u32::try_from(bytes.len()).ok()?;
-        offsets.extend_from_slice(&end.to_le_bytes()).ok()?;
-    }
-    let offsets = Some(Buffer::from_vec(offsets).ok()?);
-    let bytes = Some(Buffer::from_vec(bytes).ok()?);
-    let buffers = vec![in alloc; validity, offsets, bytes].ok()?;
-    Some(parts(alloc, DataType::Utf8, rows, nulls, buffers))
-}
-
-/// A column whose values lie behind one another.
-pub(crate) fn value_column(
-    alloc: Global,
-    ty: DataType,
-    rows: u32,
-    nulls: Nulls,
-    values: Vec<u8>,
-) -> Option<Array> {
-    validate(alloc, value_parts(alloc, ty, rows, nulls, values)?).ok()
-}
-
-/// A column of numbers of 64 bits.
-pub(crate) fn long_column<F: Fn(u32) -> u32>(
-    alloc: Global,
-    rows: u32,
-    nulls: Nulls,
-    number: F,
-) -> Option<Array>
-    requires { F.IsAlwaysCallable number }
-{
-    value_column(alloc, long(), rows, nulls, long_bytes(alloc, rows, number)?)
-}
-
-/// A column of the digits of numbers.
-pub(crate) fn digit_column<F: Fn(u32) -> u32>(
-    alloc: Global,
-    rows: u32,
-    nulls: Nulls,
-    number: F,
-) -> Option<Array>
-    requires { F.IsAlwaysCallable number }
-{
-    validate(alloc, digit_parts(alloc, rows, nulls, number)?).ok()
-}
-
-/// The parts of an array with this null count.
-fn parts(
-    alloc: Global,
-    ty: DataType,
-    rows: u32,
-    nulls: u64,
-    buffers: Vec<Option<Buffer>>,
-) -> RawArray {
-    RawArray {
-        ty,
-        length: u64::from(rows),
-        null_count: Some(nulls),
-        buffers,
-        children: Vec::new(alloc),
-        dictionary: None,
-    }
-}
-
-/// A batch of so many rows of two columns of 64-bit numbers.
-pub(crate) fn long_batch(alloc: Global, rows: u32) -> Option<RecordBatch> {
-    let (first, second) = (field(alloc, "a", long())?, field(alloc, "b", long())?);
-    let fields = vec![in alloc; first, second].ok()?;
-    let (rising, spread) = (
-        long_column(alloc, rows, Nulls::Never, |row| row)?,
-        long_column(alloc, rows, Nulls::Never, spread)?,
-    );
-    RecordBatch::new(
-        Schema::new(fields).ok()?,
-        rows,
-        vec![in alloc; rising, spread].ok()?,
-    )
-    .ok()
 }

@@ -1,27 +1,28 @@
 //! `bench query QUERY BATCHES ROWS TIMES PIECES` fills a table with so many batches of so many rows, each with texts `k` of which
 //! 1,000 differ, numbers `g` of which 100,000 differ, and numbers `v`. It answers the query, whose JSON text QUERY is, so many
 //! times in so many pieces, and prints of each answer how many groups it has, and the numbers of their cells added up.
-//!
-//! Without words it answers a query over one batch of 1,000 rows.
 
 ghost use Rattle.std.specs.Prelude.{◌≡◌, ◌≤◌, true};
 ghost use Rattle.query.specs.QueryShape.{query_shape};
 ghost use Rattle.query.specs.Fault.{fits};
 
-mod batches;
-
 use crate::fault::Fault;
-use crate::words::number;
+use crate::making::{Nulls, Rule, batch, digits, longs, shorts};
+use crate::{number, word};
 use answers::{Answer, OpenGate};
+use arrays::{DataType, RecordBatch};
 use arrow_json::read_query;
-use batches::filled;
 use group::Scalar;
 use query::{Query, resolve};
+use std::alloc::Global;
+use std::sync::Arc;
 use std::thread::Threads;
-use table::Version;
+use table::{TableState, Version};
+use types::INT32;
 
-/// The query that is answered without words.
-const SUM_BY_TEXT: &str = "{\"by\":[\"k\"],\"aggs\":[{\"agg\":\"sum\",\"column\":\"v\"}]}";
+/// A query of the table.
+pub(crate) const SUM_BY_TEXT: &str =
+    "{\"by\":[\"k\"],\"aggs\":[{\"agg\":\"sum\",\"column\":\"v\"}]}";
 
 /// Runs what the words ask for.
 pub(crate) fn run<T: Threads + Sync>(
@@ -29,41 +30,42 @@ pub(crate) fn run<T: Threads + Sync>(
     rt: &HostRuntime,
     words: &[String],
 ) -> Result<(), Fault> {
-    let Some(query) = words.first() else {
-        return tell_answered(rt, threads, SUM_BY_TEXT, (1, 1000), (1, 1));
-    };
     let shape = (number(words, 1)?, number(words, 2)?);
     let often = (number(words, 3)?, number(words, 4)?);
-    tell_answered(rt, threads, query.as_str(), shape, often)
+    tell(threads, rt, word(words, 0)?, shape, often)
 }
 
-// Fills a table with so many batches of so many rows, and prints what the query answers, so many times in so many pieces.
-fn tell_answered<T: Threads + Sync>(
-    rt: &HostRuntime,
+/// Fills a table with so many batches of so many rows, and prints what the query answers, so many times in so many pieces.
+pub(crate) fn tell<T: Threads + Sync>(
     threads: &T,
+    rt: &HostRuntime,
     query: &str,
     (batches, rows): (u32, u32),
     (times, pieces): (u32, u32),
 ) -> Result<(), Fault> {
-    if !(1..=64).contains(&pieces) {
-        return Err(Fault::Arguments);
-    }
-    let Some(version) = filled(rt.alloc(), batches, rows) else {
+    let Some(filled) = filled(rt.alloc(), batches, rows) else {
         return Err(Fault::Memory);
     };
+    let version = &*filled;
     let Ok(text) = read_query(rt.alloc(), query.as_bytes()) else {
         return Err(Fault::NoQuery);
     };
     let Ok(query) = resolve(rt.alloc(), &text, version.schema()) else {
-        return Err(Fault::OtherTable);
+        return Err(Fault::NoQuery);
     };
-    tell_each(rt, threads, &version, &query, times, pieces)
+    if !(1..=64).contains(&pieces) {
+        return Err(Fault::Arguments);
+    }
+    if !query.fits(version.schema()) {
+        return Err(Fault::NoQuery);
+    }
+    tell_each(threads, rt, version, &query, times, pieces)
 }
 
 // Prints what the query answers each time, as soon as it does.
 fn tell_each<T: Threads + Sync>(
-    rt: &HostRuntime,
     threads: &T,
+    rt: &HostRuntime,
     version: &Version,
     query: &Query,
     times: u32,
@@ -96,4 +98,31 @@ fn sum_of(answer: &Answer) -> i128 {
         }
     }
     sum
+}
+
+// A table of so many batches of so many rows; none where memory ran out.
+fn filled(alloc: Global, batches: u32, rows: u32) -> Option<Arc<Version>> {
+    let fields = batch_from(alloc, 0, 0)?.schema().copy(alloc).ok()?;
+    let mut table = TableState::new(alloc, fields).ok()?;
+    for place in 0..batches {
+        let batch = batch_from(alloc, place.wrapping_mul(rows), rows)?;
+        table.admit(0, &batch).ok()?;
+    }
+    table.version().ok()
+}
+
+// The batch whose first row has this number.
+fn batch_from(alloc: Global, first: u32, rows: u32) -> Option<RecordBatch> {
+    let (k, g) = (
+        Rule::Spread(first.wrapping_add(1), 1000),
+        Rule::Spread(first.wrapping_add(2), 100_000),
+    );
+    let v = Rule::Spread(first.wrapping_add(3), 1 << 31);
+    let columns = vec![in alloc;
+        digits(alloc, rows, Nulls::Sparse(1), k)?,
+        shorts(alloc, DataType::Int(INT32), rows, Nulls::Sparse(2), g)?,
+        longs(alloc, rows, Nulls::Sparse(3), v)?,
+    ]
+    .ok()?;
+    batch(alloc, &["k", "g", "v"], rows, columns)
 }

@@ -43,15 +43,6 @@ fn packs_places(rt: HostRuntime) {
 }
 
 #[test]
-fn slices_bits(rt: HostRuntime) -> Result<(), Fail> {
-    let bools = [true, true, false, true, false, true];
-    let bitmap = BitmapBuf::from_bools(rt.alloc(), &bools)?;
-    let part = bitmap.bits().slice(3, 3);
-    assert!(rt; has_bits(&part, &[true, false, true]) && part.count_ones() == 2);
-    Ok(())
-}
-
-#[test]
 fn pads_buffers(rt: HostRuntime) -> Result<(), Fail> {
     for (length, stored) in [(0, 0), (64, 64), (65, 128)] {
         let buffer = Buffer::from_vec(vec![in rt.alloc(); 7; length]?)?;

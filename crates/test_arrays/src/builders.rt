@@ -68,20 +68,6 @@ fn builds_validities(rt: HostRuntime) -> Result<(), Fail> {
 }
 
 #[test]
-fn a_validity_is_kept_where_a_slot_is_null(rt: HostRuntime) -> Result<(), Fail> {
-    for (place, kept) in [(2, Some(0x03)), (3, None)] {
-        let validity = validity_of(rt.alloc(), &AllBut { place, len: 3 })?;
-        let is_kept = match (buffer_of(validity), kept) {
-            (Some(buffer), Some(byte)) => buffer.bytes() == [byte].as_slice(),
-            (None, None) => true,
-            _ => false,
-        };
-        assert!(rt; is_kept, "where place {place} is null");
-    }
-    Ok(())
-}
-
-#[test]
 fn adds_the_bytes_of_numbers(rt: HostRuntime) -> Result<(), Fail> {
     let mut bytes = Vec::new(rt.alloc());
     <i8 as Integer>::push(&mut bytes, -1)?;
@@ -117,15 +103,6 @@ fn builds_numbers(rt: HostRuntime) -> Result<(), Fail> {
     Ok(())
 }
 
-#[test]
-fn builds_numbers_without_a_null(rt: HostRuntime) -> Result<(), Fail> {
-    let mut builder = IntBuilder::with_capacity(rt.alloc(), INT32, 1)?;
-    builder.push(Some(70_000))?;
-    let array = builder.finish()?;
-    assert!(rt; is_result_of_numbers(&array, &[Some(70_000)]));
-    Ok(())
-}
-
 /// The numbers 5, null and -6.
 fn pushed(alloc: Global) -> Result<IntBuilder, Fail>
     ensures ty { IfOk result (λ b. b.ty ≡ INT16) }
@@ -150,27 +127,6 @@ fn numbers(alloc: Global, has_validity: bool) -> Result<Array, Fail>
     };
     let values = Buffer::from_bytes(alloc, &[1, 0, 0xfe, 0xff, 3, 0, 4, 0])?;
     Ok(Array::from_numbers(alloc, INT16, 4, validity, values)?)
-}
-
-#[test]
-fn pushes_numbers_of_a_known_type(rt: HostRuntime) -> Result<(), Fail> {
-    let array = pushed(rt.alloc())?.finish()?;
-    assert!(rt; is_result_of_numbers(&array, &[Some(5), None, Some(-6)]));
-    Ok(())
-}
-
-#[test]
-fn extends_numbers_without_a_null(rt: HostRuntime) -> Result<(), Fail> {
-    let more = numbers(rt.alloc(), false)?;
-    let whole = more.view();
-    let builder = IntBuilder::with_capacity(rt.alloc(), INT16, 7)?;
-    let array = builder
-        .extended::<i16>(&whole)?
-        .extended::<i16>(&whole.slice(1, 2))?
-        .finish()?;
-    let expected = [Some(1), Some(-2), Some(3), Some(4), Some(-2), Some(3)];
-    assert!(rt; is_result_of_numbers(&array, &expected));
-    Ok(())
 }
 
 /// The pushed numbers and four more, of which one is null if there is a validity.
@@ -206,15 +162,6 @@ fn builds_truth_values(rt: HostRuntime) -> Result<(), Fail> {
     builder.push(None)?;
     let array = builder.finish()?;
     assert!(rt; is_result_of_bools(&array, &[Some(true), Some(false), Some(true), None]));
-    Ok(())
-}
-
-#[test]
-fn builds_truth_values_without_a_null(rt: HostRuntime) -> Result<(), Fail> {
-    let mut builder = BoolBuilder::with_capacity(rt.alloc(), 3)?;
-    push_bools(&mut builder)?;
-    let array = builder.finish()?;
-    assert!(rt; is_result_of_bools(&array, &[Some(true), Some(false), Some(true)]));
     Ok(())
 }
 
@@ -254,29 +201,6 @@ fn builds_texts(rt: HostRuntime) -> Result<(), Fail> {
     Ok(())
 }
 
-#[test]
-fn builds_texts_without_a_null(rt: HostRuntime) -> Result<(), Fail> {
-    for width in [OffsetWidth::Narrow, OffsetWidth::Wide] {
-        let mut builder = TextBuilder::with_capacity(rt.alloc(), width, 1, 2)?;
-        builder.push(Some("ab"))?;
-        let array = builder.finish()?;
-        assert!(rt; is_result(&array, Shown::Texts(&[Some("ab")])));
-        assert!(rt; has_width(&array.view(), width));
-    }
-    Ok(())
-}
-
-#[test]
-fn builds_no_texts(rt: HostRuntime) -> Result<(), Fail> {
-    for width in [OffsetWidth::Narrow, OffsetWidth::Wide] {
-        let array = TextBuilder::with_capacity(rt.alloc(), width, 0, 0)?.finish()?;
-        let view = array.view();
-        assert!(rt; shows(&view, Shown::Texts(&[])) && has_offsets(&view, &[0]));
-        assert!(rt; has_width(&view, width));
-    }
-    Ok(())
-}
-
 /// Puts the lengths 1, null, 0 and 2 at the end.
 fn push_lengths(builder: &mut ListBuilder) -> Result<(), BuildFault>
     requires { builder.old.lengths ≡ [] }
@@ -307,12 +231,14 @@ fn builds_lists_with_their_items_field(rt: HostRuntime) -> Result<(), Fail> {
     for width in [OffsetWidth::Narrow, OffsetWidth::Wide] {
         for (name, nullable) in [("item", true), ("entry", false)] {
             let array = lists(rt.alloc(), width, name, nullable)?;
-            let view = array.view();
-            assert!(rt;
-                shows(&view, BUILT) && has_item(&view, name, nullable),
-                "{name}"
-            );
-            assert!(rt; has_offsets(&view, BUILT_OFFSETS) && has_width(&view, width));
+            let copy = array.copy(rt.alloc())?;
+            for view in [array.view(), copy.view()] {
+                assert!(rt;
+                    shows(&view, BUILT) && has_item(&view, name, nullable),
+                    "{name}"
+                );
+                assert!(rt; has_offsets(&view, BUILT_OFFSETS) && has_width(&view, width));
+            }
         }
     }
     Ok(())

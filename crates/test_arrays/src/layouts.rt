@@ -1,23 +1,16 @@
 //! Tests of the faults of parts, and of their order.
 
-mod alone;
 mod deep;
 mod hostile;
-mod over;
+mod worked;
 
 use Content::{Bytes, Cut, Int32s, Nothing, Offsets};
 use Inner::{Bits, Indices, Numbers, Texts};
-use arrays::{
-    Array, DataType, IntType, LayoutFault, OffsetWidth, RawArray, ViewType, Width, validate,
-};
+use arrays::{DataType, IntType, OffsetWidth, RawArray, Width};
 use colbits::Buffer;
 use std::alloc::Global;
-use std::process::Abort;
 use std::test::Fail;
-use test_samples::{
-    INT32, Positions, WIDTHS, Widths, has_width, list_of, lists_of, offset_bytes, raw,
-    shows_numbers,
-};
+use test_samples::{Widths, list_of, lists_of, offset_bytes, raw};
 
 /// A type that isn't a list: of numbers the width, and whether they are signed.
 #[derive(Clone, Copy)]
@@ -44,14 +37,9 @@ enum Content {
 /// So many lists in one another and the type in them, the length, the null count, and what lies at each position.
 type Part = (usize, Inner, u64, Option<u64>, &'static [Content]);
 
-const SHORT: Inner = Numbers(Width::W16, true);
-
 const LONGER: Inner = Numbers(Width::W32, true);
 
 const UNSIGNED: Inner = Numbers(Width::W16, false);
-
-/// The validity of two slots that are valid.
-const BOTH: Content = Bytes(&[0x03]);
 
 /// The parts, without children or a dictionary, whose offsets are of these widths.
 fn parts(alloc: Global, widths: Widths, part: Part) -> Result<RawArray, Fail> {
@@ -108,38 +96,6 @@ fn assembled(alloc: Global, widths: Widths, whole: Whole) -> Result<RawArray, Fa
     Ok(array)
 }
 
-/// Asserts the fault of each, in groups of one fault, whose offsets are of these widths.
-fn expect_at(
-    rt: &impl Abort,
-    alloc: Global,
-    widths: Widths,
-    groups: &[(Option<LayoutFault>, &[Whole])],
-) -> Result<(), Fail> {
-    for (fault, wholes) in groups {
-        for (i, whole) in wholes.iter().enumerate() {
-            let reported = validate(alloc, assembled(alloc, widths, *whole)?).err();
-            assert!(rt;
-                reported == *fault,
-                "{reported:?} for {fault:?}, {i}, {widths:?}"
-            );
-        }
-    }
-    Ok(())
-}
-
-/// Asserts it at each of several widths.
-fn expect_faults(
-    rt: &impl Abort,
-    alloc: Global,
-    several: &[Widths],
-    groups: &[(Option<LayoutFault>, &[Whole])],
-) -> Result<(), Fail> {
-    for widths in several {
-        expect_at(rt, alloc, *widths, groups)?;
-    }
-    Ok(())
-}
-
 /// What lies at the two positions of lists.
 type Slot = [Content; 2];
 
@@ -163,39 +119,4 @@ fn in_lists(
         inner = list;
     }
     Ok(inner)
-}
-
-/// The number 42.
-const NUMBER: Positions = &[None, Some(&[42, 0, 0, 0])];
-
-/// A slot of one item.
-const ONE_ITEM: Slot = [Nothing, Offsets(&[0, 1])];
-
-/// Whether the number stands in eight lists.
-fn is_in_eight_lists(array: &Array, widths: Widths) -> bool {
-    let mut view = array.view();
-    for list in 0..8 {
-        if !has_width(&view, widths.of_lists(8 - list)) || view.len() != 1 {
-            return false;
-        }
-        let ViewType::List(_, _) = view.ty() else {
-            return false;
-        };
-        match view.list_at(0) {
-            Some(items) => view = items,
-            None => return false,
-        }
-    }
-    shows_numbers(&view, &[Some(42)])
-}
-
-#[test]
-fn reads_the_number_in_eight_lists(rt: HostRuntime) -> Result<(), Fail> {
-    for widths in WIDTHS {
-        let number = raw(rt.alloc(), DataType::Int(INT32), 1, NUMBER)?;
-        let lists = in_lists(rt.alloc(), widths, 8, number, ONE_ITEM)?;
-        let array = validate(rt.alloc(), lists)?;
-        assert!(rt; is_in_eight_lists(&array, widths), "{widths:?}");
-    }
-    Ok(())
 }

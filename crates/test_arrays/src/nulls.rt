@@ -1,12 +1,12 @@
 //! Tests of columns of nulls.
 
-use arrays::{Array, DataType, ViewType, has_dict_in_list, is_too_deep};
+use arrays::{Array, DataType, OffsetWidth, has_dict_in_list, is_too_deep};
 use std::alloc::Global;
 use std::process::Abort;
 use std::test::Fail;
 use test_samples::{
-    Flat, INT8, INT16, INT32, INT64, Layers, NAMES, NARROW, Sample, Shown, UINT8, UINT16, UINT32,
-    UINT64, WIDTHS, has_layers, is_result, lists_of, sampled_at,
+    Flat, INT8, INT16, INT32, INT64, Layers, NAMES, Sample, Shown, UINT8, UINT16, UINT32, UINT64,
+    WIDTHS, field, has_layers, is_result, list_of, lists_of, sampled_at,
 };
 
 /// Three nulls of the type of a sample, and what no slots of it are.
@@ -60,13 +60,33 @@ fn makes_nulls_of_each_type(rt: HostRuntime) -> Result<(), Fail> {
     Ok(())
 }
 
+/// Whether nulls are of this very type, the names of its items included.
+fn are_of(rt: &impl Abort, alloc: Global, ty: &DataType) -> Result<bool, Fail> {
+    let column = nulls(rt, alloc, ty, 3)?;
+    let own = format!(in alloc; "{:?}", column.ty())?;
+    let wanted = format!(in alloc; "{ty:?}")?;
+    Ok(own == wanted)
+}
+
 #[test]
-fn makes_null_numbers(rt: HostRuntime) -> Result<(), Fail> {
+fn nulls_are_of_the_very_type(rt: HostRuntime) -> Result<(), Fail> {
     for ty in [INT8, INT16, INT32, INT64, UINT8, UINT16, UINT32, UINT64] {
-        let ty = DataType::Int(ty);
-        let column = nulls(&rt, rt.alloc(), &ty, 3)?;
-        assert!(rt; column.view().ty().is_same(ViewType::of(&ty)));
-        assert!(rt; is_result(&column, Shown::Numbers(&[None, None, None])));
+        assert!(rt; are_of(&rt, rt.alloc(), &DataType::Int(ty))?, "{ty:?}");
+    }
+    for ty in [
+        DataType::Bool,
+        DataType::Utf8,
+        DataType::LargeUtf8,
+        DataType::Dict,
+    ] {
+        assert!(rt; are_of(&rt, rt.alloc(), &ty)?, "{ty:?}");
+    }
+    for width in [OffsetWidth::Narrow, OffsetWidth::Wide] {
+        let item = field(rt.alloc(), "entry", false, DataType::Utf8)?;
+        let lists = DataType::of_lists(width, Box::new(rt.alloc(), item)?);
+        assert!(rt; are_of(&rt, rt.alloc(), &lists)?, "{lists:?}");
+        let lists = list_of(rt.alloc(), width, lists)?;
+        assert!(rt; are_of(&rt, rt.alloc(), &lists)?, "{lists:?}");
     }
     Ok(())
 }

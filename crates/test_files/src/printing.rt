@@ -4,6 +4,7 @@ ghost use Rattle.std.specs.Prelude.{◌≡◌, IfOk};
 ghost use Rattle.std.specs.Arc.{arc_value};
 
 use arrays::{Array, DataType, File, RecordBatch, Schema, validate};
+use arrow_json::laws::tell_file;
 use arrow_json::{print_file, read_file};
 use std::alloc::Global;
 use std::process::Abort;
@@ -13,7 +14,7 @@ use test_samples::{coded, field, raw};
 
 /// Files as they come, and as they are printed: 64-bit numbers as strings, 0 and no text under nulls, offsets from 0
 /// on, the items of lists that are there alone, and no member that isn't needed.
-const FILES: [(&str, &str); 9] = [
+const FILES: [(&str, &str); 12] = [
     (
         r#"{"schema":{"fields":[{"name":"n","nullable":true,"type":{"name":"int","bitWidth":64,"isSigned":true},"children":[]}]},"batches":[{"count":3,"columns":[{"name":"n","count":3,"VALIDITY":[1,0,1],"DATA":["9223372036854775807","x",-1]}]}]}"#,
         r#"{"batches":[{"columns":[{"DATA":["9223372036854775807","0","-1"],"VALIDITY":[1,0,1],"count":3,"name":"n"}],"count":3}],"schema":{"fields":[{"children":[],"name":"n","nullable":true,"type":{"bitWidth":64,"isSigned":true,"name":"int"}}]}}"#,
@@ -25,6 +26,19 @@ const FILES: [(&str, &str); 9] = [
     (
         r#"{"schema":{"fields":[{"name":"k","nullable":true,"type":{"name":"utf8"},"children":[]},{"name":"v","nullable":true,"type":{"name":"int","bitWidth":32,"isSigned":true},"children":[]}]},"batches":[{"count":4,"columns":[{"name":"k","count":4,"VALIDITY":[0,1,0,1],"OFFSET":[0,0,1,1,2],"DATA":["","b","","a"]},{"name":"v","count":4,"VALIDITY":[1,1,1,0],"DATA":[1,2,3,7]}]}]}"#,
         r#"{"batches":[{"columns":[{"DATA":["","b","","a"],"OFFSET":[0,0,1,1,2],"VALIDITY":[0,1,0,1],"count":4,"name":"k"},{"DATA":[1,2,3,0],"VALIDITY":[1,1,1,0],"count":4,"name":"v"}],"count":4}],"schema":{"fields":[{"children":[],"name":"k","nullable":true,"type":{"name":"utf8"}},{"children":[],"name":"v","nullable":true,"type":{"bitWidth":32,"isSigned":true,"name":"int"}}]}}"#,
+    ),
+    // A dictionary with a text that comes twice and a null; a null by its code, and one by its entry. Its batch may stand in an array.
+    (
+        r#"{"schema":{"fields":[{"name":"s","nullable":true,"type":{"name":"utf8"},"children":[],"dictionary":{"id":7,"indexType":{"name":"int","bitWidth":8,"isSigned":true},"isOrdered":false}}]},"dictionaries":[{"id":7,"data":[{"count":4,"columns":[{"name":"x","count":4,"VALIDITY":[1,1,1,0],"OFFSET":[0,1,2,3,3],"DATA":["a","b","a",""]}]}]}],"batches":[{"count":5,"columns":[{"name":"s","count":5,"VALIDITY":[1,1,1,0,1],"DATA":[2,0,3,9,1]}]}]}"#,
+        r#"{"batches":[{"columns":[{"DATA":[0,0,0,0,1],"VALIDITY":[1,1,0,0,1],"count":5,"name":"s"}],"count":5}],"dictionaries":[{"data":{"columns":[{"DATA":["a","b"],"OFFSET":[0,1,2],"VALIDITY":[1,1],"count":2,"name":"s"}],"count":2},"id":0}],"schema":{"fields":[{"children":[],"dictionary":{"id":0,"indexType":{"bitWidth":32,"isSigned":true,"name":"int"},"isOrdered":false},"name":"s","nullable":true,"type":{"name":"utf8"}}]}}"#,
+    ),
+    (
+        r#"{"schema":{"fields":[{"name":"s","nullable":true,"type":{"name":"utf8"},"children":[],"dictionary":{"id":7,"indexType":{"name":"int","bitWidth":8,"isSigned":true},"isOrdered":false}}]},"dictionaries":[{"id":7,"data":{"count":4,"columns":[{"name":"x","count":4,"VALIDITY":[1,1,1,0],"OFFSET":[0,1,2,3,3],"DATA":["a","b","a",""]}]}}],"batches":[{"count":5,"columns":[{"name":"s","count":5,"VALIDITY":[1,1,1,0,1],"DATA":[2,0,3,9,1]}]}]}"#,
+        r#"{"batches":[{"columns":[{"DATA":[0,0,0,0,1],"VALIDITY":[1,1,0,0,1],"count":5,"name":"s"}],"count":5}],"dictionaries":[{"data":{"columns":[{"DATA":["a","b"],"OFFSET":[0,1,2],"VALIDITY":[1,1],"count":2,"name":"s"}],"count":2},"id":0}],"schema":{"fields":[{"children":[],"dictionary":{"id":0,"indexType":{"bitWidth":32,"isSigned":true,"name":"int"},"isOrdered":false},"name":"s","nullable":true,"type":{"name":"utf8"}}]}}"#,
+    ),
+    (
+        r#"{"schema":{"fields":[{"name":"l","nullable":true,"type":{"name":"list"},"children":[{"name":"item","nullable":true,"type":{"name":"int","bitWidth":8,"isSigned":true},"children":[]}]}]},"batches":[{"count":0,"columns":[{"name":"l","count":0,"VALIDITY":[],"OFFSET":[0],"children":[{"name":"item","count":0,"VALIDITY":[],"DATA":[]}]}]}]}"#,
+        r#"{"batches":[{"columns":[{"OFFSET":[0],"VALIDITY":[],"children":[{"DATA":[],"VALIDITY":[],"count":0,"name":"item"}],"count":0,"name":"l"}],"count":0}],"schema":{"fields":[{"children":[{"children":[],"name":"item","nullable":true,"type":{"bitWidth":8,"isSigned":true,"name":"int"}}],"name":"l","nullable":true,"type":{"name":"list"}}]}}"#,
     ),
     // Offsets above 0 at the start, and items under a null.
     (
@@ -57,19 +71,14 @@ const FILES: [(&str, &str); 9] = [
 ];
 
 #[test]
-fn files_are_printed(rt: HostRuntime) -> Result<(), Fail> {
+fn files_are_printed_and_read_back(rt: HostRuntime) -> Result<(), Fail> {
     for (file, wanted) in FILES {
-        let read = read_file(rt.alloc(), file.as_bytes())?;
-        assert_eq!(rt; print_file(rt.alloc(), &read)?.as_str(), wanted);
-    }
-    Ok(())
-}
-
-#[test]
-fn what_is_printed_reads_back(rt: HostRuntime) -> Result<(), Fail> {
-    for (_file, printed) in FILES {
-        let read = read_file(rt.alloc(), printed.as_bytes())?;
-        assert_eq!(rt; print_file(rt.alloc(), &read)?.as_str(), printed);
+        for text in [file, wanted] {
+            let read = read_file(rt.alloc(), text.as_bytes())?;
+            // What this says is what the law of reading back asks of a file.
+            tell_file(&read);
+            assert_eq!(rt; print_file(rt.alloc(), &read)?.as_str(), wanted);
+        }
     }
     Ok(())
 }

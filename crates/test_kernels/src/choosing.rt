@@ -1,16 +1,15 @@
 //! Tests of rows that are taken, kept or copied, and of what is refused.
 
-use crate::pieces::Piece::{self, All, Part, Repeated};
-use crate::pieces::{INT8S, NUMBERS, Selected, Slots, TRUTHS, is_selected};
+use crate::pieces::Piece::{self, All, Part};
+use crate::pieces::{INT8S, NUMBERS, Selected, TRUTHS, is_selected};
 use arrays::{Array, DataType, OffsetWidth, View, validate};
 use select::{SelectFault, concat, copy, filter, take};
 use std::alloc::Global;
 use std::process::Abort;
 use std::test::Fail;
-use test_samples::Sample::{self, Coded, Lists, ListsOfLists, Of, Texts};
+use test_samples::Sample::{Coded, Lists, ListsOfLists, Of, Texts};
 use test_samples::{
-    Flat, INT8, INT32, NAMES, NARROW, Positions, Shown, UINT8, UINT32, UINT64, WIDTHS, Widths,
-    field, has_item, raw_lists,
+    Flat, INT8, NAMES, NARROW, Shown, UINT8, UINT64, WIDTHS, Widths, field, has_item, raw_lists,
 };
 
 /// Whether rows are taken by indices, kept by a mask, or all copied.
@@ -48,13 +47,6 @@ const INDICES: Piece = Part(
     4,
 );
 
-/// The indices 2, 0, 1, of 32 bits.
-const THREE: Positions = &[None, Some(b"\x02\0\0\0\0\0\0\0\x01\0\0\0")];
-
-const SIGNED: Slots = (Of((Flat::Int(INT32), 3, THREE)), 0, 3);
-
-const UNSIGNED: Slots = (Of((Flat::Int(UINT32), 3, THREE)), 0, 3);
-
 /// The indices 4, null, 0, 4, 2, 3.
 const REPEATED: Piece = All(Of((
     Flat::Int(UINT8),
@@ -77,11 +69,6 @@ const MASK_OF_CODES: Piece = All(Of((Flat::Bool, 5, &[Some(&[0x0f]), Some(&[0x1e
 
 /// The truth values true, null, false, null, true.
 const MASK_OF_PART: Piece = Part(TRUTHS, 3, 5);
-
-/// The same numbers and truth values so often that they fill words.
-const MANY: Slots = (NUMBERS, 3, 5);
-
-const MANY_TRUTHS: Slots = (TRUTHS, 3, 5);
 
 /// The numbers of the lists.
 const FIRST: &[Option<i128>] = &[Some(12), Some(-7), Some(25)];
@@ -127,30 +114,6 @@ static TAKEN: [Chosen; 6] = [
         Part(TRUTHS, 3, 3),
         Choice::Take(INDICES),
         Selected::Slots(Shown::Bools(&[Some(false), None, None, Some(true)])),
-    ),
-];
-
-static TAKEN_OFTEN: [Chosen; 4] = [
-    // Many indices.
-    (
-        Part(NUMBERS, 3, 3),
-        Choice::Take(Repeated(SIGNED, 50, 0, 150)),
-        Selected::Repeats(150, &[Some(6), Some(4), None]),
-    ),
-    (
-        Part(NUMBERS, 0, 3),
-        Choice::Take(Repeated(SIGNED, 50, 0, 150)),
-        Selected::Repeats(150, &[Some(3), Some(1), Some(2)]),
-    ),
-    (
-        Part(NUMBERS, 3, 3),
-        Choice::Take(Repeated(UNSIGNED, 50, 0, 150)),
-        Selected::Repeats(150, &[Some(6), Some(4), None]),
-    ),
-    (
-        Part(NUMBERS, 0, 3),
-        Choice::Take(Repeated(UNSIGNED, 50, 0, 150)),
-        Selected::Repeats(150, &[Some(3), Some(1), Some(2)]),
     ),
 ];
 
@@ -224,20 +187,6 @@ static KEPT: [Chosen; 4] = [
         Part(NUMBERS, 3, 0),
         Choice::Filter(Part(TRUTHS, 5, 0)),
         Selected::Slots(Shown::Numbers(&[])),
-    ),
-];
-
-static KEPT_OFTEN: [Chosen; 2] = [
-    // More rows than a word has.
-    (
-        Repeated(MANY, 60, 0, 300),
-        Choice::Filter(Repeated(MANY_TRUTHS, 60, 0, 300)),
-        Selected::Repeats(120, &[Some(4), None]),
-    ),
-    (
-        Repeated(MANY, 60, 4, 290),
-        Choice::Filter(Repeated(MANY_TRUTHS, 60, 4, 290)),
-        Selected::Repeats(116, &[None, Some(4)]),
     ),
 ];
 
@@ -350,11 +299,6 @@ fn numbers_and_truths_are_taken(rt: HostRuntime) -> Result<(), Fail> {
 }
 
 #[test]
-fn numbers_are_taken_by_many_indices(rt: HostRuntime) -> Result<(), Fail> {
-    expect_chosen_at(&rt, rt.alloc(), NARROW, &TAKEN_OFTEN)
-}
-
-#[test]
 fn lists_are_taken_without_what_lies_between(rt: HostRuntime) -> Result<(), Fail> {
     expect_chosen(&rt, rt.alloc(), &TAKEN_LISTS)
 }
@@ -367,11 +311,6 @@ fn texts_and_codes_are_taken(rt: HostRuntime) -> Result<(), Fail> {
 #[test]
 fn numbers_and_truths_are_kept(rt: HostRuntime) -> Result<(), Fail> {
     expect_chosen_at(&rt, rt.alloc(), NARROW, &KEPT)
-}
-
-#[test]
-fn more_rows_are_kept_than_a_word_has(rt: HostRuntime) -> Result<(), Fail> {
-    expect_chosen_at(&rt, rt.alloc(), NARROW, &KEPT_OFTEN)
 }
 
 #[test]
@@ -394,7 +333,7 @@ const HUGE: Piece = All(Of((
     ],
 )));
 
-static REFUSED: [(Piece, Choice, SelectFault); 11] = [
+static REFUSED: [(Piece, Choice, SelectFault); 9] = [
     (
         TENS,
         Choice::Take(All(Of((INT8S, 4, &[None, Some(&[0, 2, 1, 7])])))),
@@ -419,16 +358,6 @@ static REFUSED: [(Piece, Choice, SelectFault); 11] = [
         EMPTY,
         Choice::Take(ZERO),
         SelectFault::IndexOutOfRange { row: 0 },
-    ),
-    (
-        Part(NUMBERS, 3, 2),
-        Choice::Take(Repeated(SIGNED, 50, 1, 149)),
-        SelectFault::IndexOutOfRange { row: 2 },
-    ),
-    (
-        Part(NUMBERS, 3, 2),
-        Choice::Take(Repeated(UNSIGNED, 50, 1, 149)),
-        SelectFault::IndexOutOfRange { row: 2 },
     ),
     (
         TENS,

@@ -1,23 +1,17 @@
 //! Tests of views that are joined.
 
-use crate::pieces::Piece::{self, All, Part, Repeated};
-use crate::pieces::{INT8S, NUMBERS, Selected, Slots, TRUTHS, is_selected, repeats_numbers};
+use crate::pieces::Piece::{self, All, Part};
+use crate::pieces::{NUMBERS, Selected, TRUTHS, is_selected};
 use arrays::{Array, View};
 use select::{SelectFault, concat};
 use std::alloc::Global;
 use std::process::Abort;
 use std::test::Fail;
-use test_samples::Sample::{self, Coded, Lists, ListsOfLists, Of, Texts};
-use test_samples::{
-    Flat, INT8, INT16, INT32, INT64, NAMES, NARROW, Positions, Shown, UINT8, UINT16, UINT32,
-    UINT64, WIDTHS, Widths, sampled_at, slots_of,
-};
+use test_samples::Sample::{Coded, Lists, ListsOfLists, Of, Texts};
+use test_samples::{Flat, INT32, INT64, NAMES, NARROW, Positions, Shown, UINT32, WIDTHS, Widths};
 
 /// The text é.
 const ACCENTED: Piece = All(Texts((None, &[0, 2], b"\xc3\xa9")));
-
-/// Bytes of ones.
-const ONES: Positions = &[None, Some(&[255; 8])];
 
 /// The numbers of the lists.
 const FIRST: &[Option<i128>] = &[Some(12), Some(-7), Some(25)];
@@ -47,66 +41,6 @@ static NUMBERS_AND_TRUTHS: [Joined; 2] = [
             Some(false),
             Some(true),
         ])),
-    ),
-];
-
-/// Numbers of each type.
-static OF_TYPES: [Joined; 8] = [
-    (
-        &[
-            All(Of((Flat::Int(INT8), 8, ONES))),
-            All(Of((Flat::Int(INT8), 8, ONES))),
-        ],
-        Selected::Slots(Shown::Numbers(&[Some(-1); 16])),
-    ),
-    (
-        &[
-            All(Of((Flat::Int(INT16), 4, ONES))),
-            All(Of((Flat::Int(INT16), 4, ONES))),
-        ],
-        Selected::Slots(Shown::Numbers(&[Some(-1); 8])),
-    ),
-    (
-        &[
-            All(Of((Flat::Int(INT32), 2, ONES))),
-            All(Of((Flat::Int(INT32), 2, ONES))),
-        ],
-        Selected::Slots(Shown::Numbers(&[Some(-1); 4])),
-    ),
-    (
-        &[
-            All(Of((Flat::Int(INT64), 1, ONES))),
-            All(Of((Flat::Int(INT64), 1, ONES))),
-        ],
-        Selected::Slots(Shown::Numbers(&[Some(-1); 2])),
-    ),
-    (
-        &[
-            All(Of((Flat::Int(UINT8), 8, ONES))),
-            All(Of((Flat::Int(UINT8), 8, ONES))),
-        ],
-        Selected::Slots(Shown::Numbers(&[Some(0xff); 16])),
-    ),
-    (
-        &[
-            All(Of((Flat::Int(UINT16), 4, ONES))),
-            All(Of((Flat::Int(UINT16), 4, ONES))),
-        ],
-        Selected::Slots(Shown::Numbers(&[Some(0xffff); 8])),
-    ),
-    (
-        &[
-            All(Of((Flat::Int(UINT32), 2, ONES))),
-            All(Of((Flat::Int(UINT32), 2, ONES))),
-        ],
-        Selected::Slots(Shown::Numbers(&[Some(0xffff_ffff); 4])),
-    ),
-    (
-        &[
-            All(Of((Flat::Int(UINT64), 1, ONES))),
-            All(Of((Flat::Int(UINT64), 1, ONES))),
-        ],
-        Selected::Slots(Shown::Numbers(&[Some(0xffff_ffff_ffff_ffff); 2])),
     ),
 ];
 
@@ -248,34 +182,10 @@ fn numbers_and_truths_are_joined_from_any_slot(rt: HostRuntime) -> Result<(), Fa
 }
 
 #[test]
-fn numbers_of_each_type_are_joined(rt: HostRuntime) -> Result<(), Fail> {
-    expect_joined(&rt, rt.alloc(), NARROW, &OF_TYPES)
-}
-
-#[test]
 fn texts_lists_and_codes_are_joined(rt: HostRuntime) -> Result<(), Fail> {
     for widths in WIDTHS {
         expect_joined(&rt, rt.alloc(), widths, &OTHERS)?;
     }
-    Ok(())
-}
-
-/// The numbers 4, null, 6 over and over again.
-const LONG: Slots = (NUMBERS, 3, 3);
-
-/// Parts of a long column, of which the first begins with 6.
-const LONG_PIECES: &[Piece] = &[
-    Repeated(LONG, 70, 5, 100),
-    Repeated(LONG, 70, 0, 3),
-    Repeated(LONG, 70, 0, 200),
-];
-
-#[test]
-fn long_columns_are_joined(rt: HostRuntime) -> Result<(), Fail> {
-    let joined = joined(rt.alloc(), NARROW, LONG_PIECES)??;
-    let (first, others) = (slots_of(&joined, 0, 100), slots_of(&joined, 100, 300));
-    assert!(rt; repeats_numbers(&first, 100, &[Some(6), Some(4), None]));
-    assert!(rt; repeats_numbers(&others, 203, &[Some(4), None, Some(6)]));
     Ok(())
 }
 
@@ -304,52 +214,6 @@ fn views_of_several_types_are_refused(rt: HostRuntime) -> Result<(), Fail> {
                 answer.err() == Some(SelectFault::TypesDiffer),
                 "case {i}, {widths:?}"
             );
-        }
-    }
-    Ok(())
-}
-
-/// The text `a`.
-const LETTER: Sample = Texts((None, &[0, 1], b"a"));
-
-/// Whether two pieces are of one width.
-fn are_alike(sample: Sample, widths: Widths, others: Widths) -> bool {
-    match sample {
-        Texts(_) => widths.texts == others.texts,
-        Lists => widths.inner == others.inner,
-        ListsOfLists => widths.inner == others.inner && widths.outer == others.outer,
-        _ => true,
-    }
-}
-
-/// Whether a sample is joined with the same at other widths where these don't differ, and else refused.
-fn is_reported(
-    alloc: Global,
-    sample: Sample,
-    widths: Widths,
-    others: Widths,
-) -> Result<bool, Fail> {
-    let arrays = [
-        sampled_at(alloc, widths, sample)?,
-        sampled_at(alloc, others, sample)?,
-    ];
-    let [first, second] = &arrays;
-    let fault = concat(alloc, &[first.view(), second.view()]).err();
-    Ok(if are_alike(sample, widths, others) {
-        fault == None
-    } else {
-        fault == Some(SelectFault::TypesDiffer)
-    })
-}
-
-#[test]
-fn views_of_several_widths_are_refused(rt: HostRuntime) -> Result<(), Fail> {
-    for widths in WIDTHS {
-        for others in WIDTHS {
-            for (i, sample) in [LETTER, Lists, ListsOfLists, Coded].iter().enumerate() {
-                let is_reported = is_reported(rt.alloc(), *sample, widths, others)?;
-                assert!(rt; is_reported, "sample {i}, {widths:?} and {others:?}");
-            }
         }
     }
     Ok(())

@@ -2,7 +2,7 @@
 #![tactic(auto)]
 
 #[cfg(test)]
-mod cases;
+mod ends;
 #[cfg(test)]
 mod gates;
 #[cfg(test)]
@@ -10,10 +10,8 @@ mod hands;
 #[cfg(test)]
 mod loading;
 #[cfg(test)]
-mod looking_on;
+mod played;
+#[cfg(test)]
+mod scenes;
 #[cfg(test)]
 mod soaking;
-#[cfg(test)]
-mod testing;
-#[cfg(test)]
-mod widening;

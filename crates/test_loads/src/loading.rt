@@ -1,194 +1,241 @@
 //! Which worker loads what, and what is reported where a batch is refused.
 
-use crate::cases::Case;
-use crate::gates::{Counting, Holding};
-use crate::testing::{NUMBERS, expect_added, load, play};
-use arrow_json::read_file;
-use crews::OpenGate;
+use crate::played::expect;
+use crate::scenes::{Answer, End, Files, Passed, Place, Scene, Soak, Step};
 use loads::LoadFault;
-use shared::{Naming, Publish, Refusal, SharedTable, Shown, Worker};
-use std::alloc::Global;
-use std::process::Abort;
-use std::sync::Wait;
-use std::sync::ledger::Ledger;
+use shared::Refusal;
 use std::test::Fail;
-use std::thread::Threads;
+
+/// A file without batches, whose column `n` of numbers holds no null.
+const NUMBERS: &str =
+    r#"{"schema":{"fields":[{"name":"n","nullable":false,"type":{"name":"int","bitWidth":8,"isSigned":true}}]},"batches":[]}"#;
 
 /// The numbers 1 and 2 in a batch, 3 in another.
 const ONE_TO_THREE: &str =
-    r#"{"schema":{"fields":[{"name":"n","nullable":true,"type":{"name":"int","bitWidth":8,"isSigned":true},"children":[]}]},"batches":[{"count":2,"columns":[{"name":"n","count":2,"VALIDITY":[1,1],"DATA":[1,2]}]},{"count":1,"columns":[{"name":"n","count":1,"VALIDITY":[1],"DATA":[3]}]}]}"#;
+    r#"{"schema":{"fields":[{"name":"n","nullable":true,"type":{"name":"int","bitWidth":8,"isSigned":true}}]},"batches":[{"count":2,"columns":[{"count":2,"DATA":[1,2]}]},{"count":1,"columns":[{"count":1,"DATA":[3]}]}]}"#;
 
 /// The number 4.
 const FOUR: &str =
-    r#"{"schema":{"fields":[{"name":"n","nullable":true,"type":{"name":"int","bitWidth":8,"isSigned":true},"children":[]}]},"batches":[{"count":1,"columns":[{"name":"n","count":1,"VALIDITY":[1],"DATA":[4]}]}]}"#;
+    r#"{"schema":{"fields":[{"name":"n","nullable":true,"type":{"name":"int","bitWidth":8,"isSigned":true}}]},"batches":[{"count":1,"columns":[{"count":1,"DATA":[4]}]}]}"#;
 
 /// The number 5, and in another batch 6 and a null.
 const FIVE_SIX_NULL: &str =
-    r#"{"schema":{"fields":[{"name":"n","nullable":true,"type":{"name":"int","bitWidth":8,"isSigned":true},"children":[]}]},"batches":[{"count":1,"columns":[{"name":"n","count":1,"VALIDITY":[1],"DATA":[5]}]},{"count":2,"columns":[{"name":"n","count":2,"VALIDITY":[1,0],"DATA":[6,0]}]}]}"#;
+    r#"{"schema":{"fields":[{"name":"n","nullable":true,"type":{"name":"int","bitWidth":8,"isSigned":true}}]},"batches":[{"count":1,"columns":[{"count":1,"DATA":[5]}]},{"count":2,"columns":[{"count":2,"VALIDITY":[1,0],"DATA":[6,0]}]}]}"#;
 
 /// The number 7 under another name.
 const OTHER_NAME: &str =
-    r#"{"schema":{"fields":[{"name":"m","nullable":true,"type":{"name":"int","bitWidth":8,"isSigned":true},"children":[]}]},"batches":[{"count":1,"columns":[{"name":"m","count":1,"VALIDITY":[1],"DATA":[7]}]}]}"#;
+    r#"{"schema":{"fields":[{"name":"m","nullable":true,"type":{"name":"int","bitWidth":8,"isSigned":true}}]},"batches":[{"count":1,"columns":[{"count":1,"DATA":[7]}]}]}"#;
+
+/// The number 8, with a null in the column `m`.
+const EIGHT_AND_NULL: &str =
+    r#"{"schema":{"fields":[{"name":"n","nullable":true,"type":{"name":"int","bitWidth":8,"isSigned":true}},{"name":"m","nullable":true,"type":{"name":"int","bitWidth":8,"isSigned":true}}]},"batches":[{"count":1,"columns":[{"count":1,"DATA":[8]},{"count":1,"VALIDITY":[0],"DATA":[0]}]}]}"#;
+
+/// Numbers of 64 bits.
+const LONG: &str =
+    r#"{"schema":{"fields":[{"name":"n","nullable":true,"type":{"name":"int","bitWidth":64,"isSigned":true}}]},"batches":[]}"#;
+
+pub(crate) static LOADED: [Scene; 7] = [
+    // Files go to the workers by turns, and both are at work together: the first waits for the second.
+    Scene {
+        file: NUMBERS,
+        workers: 2,
+        readers: 0,
+        steps: &[Step::Load(
+            Files::Texts(&[ONE_TO_THREE, FOUR, ONE_TO_THREE]),
+            Passed::Held(4, 1),
+            Answer::Loaded(2, 4),
+        )],
+        soak: None,
+        end: End::Numbers(&[
+            &[
+                &[Some(1), Some(2)],
+                &[Some(3)],
+                &[Some(1), Some(2)],
+                &[Some(3)],
+            ],
+            &[&[Some(4)]],
+        ]),
+    },
+    // A worker without a file appends nothing. When files are loaded again, appends are counted from 0 on.
+    Scene {
+        file: NUMBERS,
+        workers: 3,
+        readers: 0,
+        steps: &[
+            Step::Load(
+                Files::Texts(&[ONE_TO_THREE]),
+                Passed::Free(2, 0),
+                Answer::Loaded(1, 1),
+            ),
+            Step::Load(
+                Files::Texts(&[FOUR]),
+                Passed::Free(1, 0),
+                Answer::Loaded(1, 2),
+            ),
+        ],
+        soak: None,
+        end: End::Numbers(&[&[&[Some(1), Some(2)], &[Some(3)], &[Some(4)]], &[], &[]]),
+    },
+    // The gate knows workers by their places, and not by their numbers.
+    Scene {
+        file: NUMBERS,
+        workers: 2,
+        readers: 0,
+        steps: &[
+            Step::Reverse,
+            Step::Load(
+                Files::Texts(&[ONE_TO_THREE, FOUR]),
+                Passed::Held(2, 1),
+                Answer::Loaded(2, 2),
+            ),
+        ],
+        soak: None,
+        end: End::Numbers(&[&[&[Some(4)]], &[&[Some(1), Some(2)], &[Some(3)]]]),
+    },
+    // One worker loads all files in their order, and stops at the first that is refused.
+    Scene {
+        file: NUMBERS,
+        workers: 1,
+        readers: 0,
+        steps: &[Step::Load(
+            Files::Texts(&[FOUR, ONE_TO_THREE, OTHER_NAME, FIVE_SIX_NULL]),
+            Passed::Free(4, 0),
+            Answer::Fault(
+                LoadFault::Refused {
+                    file: 2,
+                    batch: 0,
+                    refusal: Refusal::SchemaDiffers { column: 0 },
+                },
+                "L1 Refused file=2 batch=0 refusal=A1 SchemaDiffers column=0",
+            ),
+        )],
+        soak: None,
+        end: End::Numbers(&[&[&[Some(4)], &[Some(1), Some(2)], &[Some(3)]]]),
+    },
+    // The least file that was refused is reported. The second worker leaves the file behind it alone.
+    Scene {
+        file: NUMBERS,
+        workers: 2,
+        readers: 0,
+        steps: &[Step::Load(
+            Files::Texts(&[FOUR, FOUR, FOUR, FIVE_SIX_NULL, OTHER_NAME, FOUR]),
+            Passed::Free(3, 3),
+            Answer::Fault(
+                LoadFault::Refused {
+                    file: 3,
+                    batch: 1,
+                    refusal: Refusal::NullInNonNullable { column: 0, row: 1 },
+                },
+                "L1 Refused file=3 batch=1 refusal=A2 NullInNonNullable column=0 row=1",
+            ),
+        )],
+        soak: None,
+        end: End::Numbers(&[&[&[Some(4)], &[Some(4)]], &[&[Some(4)], &[Some(5)]]]),
+    },
+    // Where a column was added, a batch without it isn't filled up.
+    Scene {
+        file: NUMBERS,
+        workers: 2,
+        readers: 0,
+        steps: &[
+            Step::Add(1, "m"),
+            Step::Load(
+                Files::Texts(&[FOUR]),
+                Passed::Free(1, 0),
+                Answer::Fault(
+                    LoadFault::Refused {
+                        file: 0,
+                        batch: 0,
+                        refusal: Refusal::SchemaDiffers { column: 1 },
+                    },
+                    "L1 Refused file=0 batch=0 refusal=A1 SchemaDiffers column=1",
+                ),
+            ),
+            Step::Load(
+                Files::Texts(&[EIGHT_AND_NULL, EIGHT_AND_NULL]),
+                Passed::Free(1, 1),
+                Answer::Loaded(2, 1),
+            ),
+        ],
+        soak: None,
+        end: End::Numbers(&[&[&[Some(8)]], &[&[Some(8)]]]),
+    },
+    // Many workers append for long: nothing is lost, and each worker's batches stay in their order.
+    Scene {
+        file: LONG,
+        workers: 16,
+        readers: 0,
+        steps: &[Step::Load(
+            Files::Numbers(16, 625),
+            Passed::Free(625, 625),
+            Answer::Loaded(16, 9999),
+        )],
+        soak: None,
+        end: End::Counted(16, 625),
+    },
+];
+
+/// Some append for long while the others look on: nothing is lost, and nothing that was seen goes.
+pub(crate) static SOAKED: [Scene; 3] = [
+    Scene {
+        file: LONG,
+        workers: 2,
+        readers: 2,
+        steps: &[],
+        soak: Some(Soak {
+            count: 2,
+            turns: 500,
+            columns: 0,
+        }),
+        end: End::Counted(2, 500),
+    },
+    // One worker joins what the others append.
+    Scene {
+        file: LONG,
+        workers: 17,
+        readers: 16,
+        steps: &[],
+        soak: Some(Soak {
+            count: 16,
+            turns: 625,
+            columns: 0,
+        }),
+        end: End::Counted(16, 625),
+    },
+    // One adds columns.
+    Scene {
+        file: LONG,
+        workers: 16,
+        readers: 2,
+        steps: &[],
+        soak: Some(Soak {
+            count: 16,
+            turns: 200,
+            columns: 10,
+        }),
+        end: End::Counted(16, 200),
+    },
+];
 
 #[test]
-fn files_go_to_the_workers_in_turn(rt: HostRuntime) -> Result<(), Fail> {
-    let file = read_file(rt.alloc(), NUMBERS.as_bytes())?;
-    play(&rt, &rt, rt.alloc(), file.schema(), 2, 0, Case::InTurn)
-}
-
-/// The first of two workers loads the first and the third file, the second the second, and both are at work together.
-pub(crate) fn in_turn<
-    C: Ledger + Send + Sync,
-    Q: Ledger + Send + Sync,
-    K: Ledger + Send + Sync,
-    N: Naming + Send + Sync,
-    P: Publish<Item = Shown<N>> + Send,
-    W: Wait + Sync,
-    T: Threads + Abort + Sync,
->(
-    wait: &W,
-    rt: &T,
-    alloc: Global,
-    table: SharedTable<C, Q, K, N, P>,
-    workers: Vec<Worker<C, Q, K, N>>,
-) -> Result<(), Fail> {
-    let mut workers = workers;
-    let gate = Holding::new();
-    let files = [ONE_TO_THREE, FOUR, ONE_TO_THREE];
-    let receipts = load(wait, rt, alloc, &table, &mut workers, &files, &gate)??;
-    assert!(rt; gate.has_waited());
-    assert!(rt; receipts.len() == 2);
-    let last = receipts[0].entry().max(receipts[1].entry());
-    assert!(rt; last == 4);
-    let ones: &[_] = &[
-        [Some(1), Some(2)].as_slice(),
-        &[Some(3)],
-        &[Some(1), Some(2)],
-        &[Some(3)],
-    ];
-    expect_added(wait, rt, alloc, table, workers, &[ones, &[&[Some(4)]]])
-}
-
-#[test]
-fn a_worker_without_a_file_appends_nothing(rt: HostRuntime) -> Result<(), Fail> {
-    let file = read_file(rt.alloc(), NUMBERS.as_bytes())?;
-    play(&rt, &rt, rt.alloc(), file.schema(), 3, 0, Case::Alone)
-}
-
-/// Of three workers only the first has a file, and it has one when files are loaded again: appends are counted from 0 on then.
-pub(crate) fn alone<
-    C: Ledger + Send + Sync,
-    Q: Ledger + Send + Sync,
-    K: Ledger + Send + Sync,
-    N: Naming + Send + Sync,
-    P: Publish<Item = Shown<N>> + Send,
-    W: Wait + Sync,
-    T: Threads + Abort + Sync,
->(
-    wait: &W,
-    rt: &T,
-    alloc: Global,
-    table: SharedTable<C, Q, K, N, P>,
-    workers: Vec<Worker<C, Q, K, N>>,
-) -> Result<(), Fail> {
-    let mut workers = workers;
-    let gate = Counting::new();
-    let receipts = load(
-        wait,
-        rt,
-        alloc,
-        &table,
-        &mut workers,
-        &[ONE_TO_THREE],
-        &gate,
-    )??;
-    assert!(rt; gate.has_let_in(2, 0));
-    assert!(rt; receipts.len() == 1 && receipts[0].entry() == 1);
-    let again = Counting::new();
-    let receipts = load(wait, rt, alloc, &table, &mut workers, &[FOUR], &again)??;
-    assert!(rt; again.has_let_in(1, 0));
-    assert!(rt; receipts.len() == 1 && receipts[0].entry() == 2);
-    let ones: &[_] = &[[Some(1), Some(2)].as_slice(), &[Some(3)], &[Some(4)]];
-    expect_added(wait, rt, alloc, table, workers, &[ones, &[], &[]])
-}
-
-#[test]
-fn the_least_file_that_was_refused_is_reported(rt: HostRuntime) -> Result<(), Fail> {
-    let file = read_file(rt.alloc(), NUMBERS.as_bytes())?;
-    play(&rt, &rt, rt.alloc(), file.schema(), 2, 0, Case::Refused)
-}
-
-/// The second worker stops at the second batch of file 1, and leaves file 3 alone; the first stops at file 2.
-pub(crate) fn refused<
-    C: Ledger + Send + Sync,
-    Q: Ledger + Send + Sync,
-    K: Ledger + Send + Sync,
-    N: Naming + Send + Sync,
-    P: Publish<Item = Shown<N>> + Send,
-    W: Wait + Sync,
-    T: Threads + Abort + Sync,
->(
-    wait: &W,
-    rt: &T,
-    alloc: Global,
-    table: SharedTable<C, Q, K, N, P>,
-    workers: Vec<Worker<C, Q, K, N>>,
-) -> Result<(), Fail> {
-    let mut workers = workers;
-    let gate = Counting::new();
-    let files = [FOUR, FIVE_SIX_NULL, OTHER_NAME, FOUR];
-    let answer = load(wait, rt, alloc, &table, &mut workers, &files, &gate)?;
-    assert!(rt; gate.has_let_in(2, 2));
-    let fault = answer.err().expect(rt, "two files are refused");
-    let text = format!(in alloc; "{fault}")?;
-    assert_eq!(rt;
-        text.as_str(),
-        "L1 Refused file=1 batch=1 refusal=A2 NullInNonNullable column=0 row=1"
-    );
-    for worker in workers.iter_mut() {
-        assert!(rt; worker.take_left().is_none());
+fn workers_load_files(rt: HostRuntime) -> Result<(), Fail> {
+    for number in 0..LOADED.len() {
+        expect(&rt, &rt, rt.alloc(), Place::Loaded(number))?;
     }
-    expect_added(
-        wait,
-        rt,
-        alloc,
-        table,
-        workers,
-        &[&[&[Some(4)]], &[&[Some(5)]]],
-    )
+    Ok(())
 }
 
 #[test]
-fn one_worker_loads_all(rt: HostRuntime) -> Result<(), Fail> {
-    let file = read_file(rt.alloc(), NUMBERS.as_bytes())?;
-    play(&rt, &rt, rt.alloc(), file.schema(), 1, 0, Case::Whole)
+fn two_readers_look_on_while_two_workers_append(rt: HostRuntime) -> Result<(), Fail> {
+    expect(&rt, &rt, rt.alloc(), Place::Soaked(0))
 }
 
-/// One worker loads all files in their order, and stops at the first that is refused.
-pub(crate) fn whole<
-    C: Ledger + Send + Sync,
-    Q: Ledger + Send + Sync,
-    K: Ledger + Send + Sync,
-    N: Naming + Send + Sync,
-    P: Publish<Item = Shown<N>> + Send,
-    W: Wait + Sync,
-    T: Threads + Abort + Sync,
->(
-    wait: &W,
-    rt: &T,
-    alloc: Global,
-    table: SharedTable<C, Q, K, N, P>,
-    workers: Vec<Worker<C, Q, K, N>>,
-) -> Result<(), Fail> {
-    let mut workers = workers;
-    let files = [FOUR, ONE_TO_THREE, OTHER_NAME, FIVE_SIX_NULL];
-    let answer = load(wait, rt, alloc, &table, &mut workers, &files, &OpenGate)?;
-    let other = LoadFault::Refused {
-        file: 2,
-        batch: 0,
-        refusal: Refusal::SchemaDiffers { column: 0 },
-    };
-    assert!(rt; answer.err() == Some(other));
-    let ones: &[_] = &[[Some(4)].as_slice(), &[Some(1), Some(2)], &[Some(3)]];
-    expect_added(wait, rt, alloc, table, workers, &[ones])
+#[test]
+fn sixteen_readers_look_on_while_one_worker_joins(rt: HostRuntime) -> Result<(), Fail> {
+    expect(&rt, &rt, rt.alloc(), Place::Soaked(1))
+}
+
+#[test]
+fn two_readers_look_on_while_one_worker_adds_columns(rt: HostRuntime) -> Result<(), Fail> {
+    expect(&rt, &rt, rt.alloc(), Place::Soaked(2))
 }

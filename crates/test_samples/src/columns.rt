@@ -3,8 +3,9 @@
 use crate::fields::item;
 use crate::integers::INT8;
 use crate::parts::{Parts, Positions, Words, raw, raw_flat, raw_words};
+use crate::values::{raw_bools, raw_numbers, raw_texts};
 use crate::widths::{NARROW, Widths, offset_bytes};
-use arrays::{Array, DataType, Field, OffsetWidth, RawArray, validate};
+use arrays::{Array, DataType, Field, IntType, OffsetWidth, RawArray, validate};
 use std::alloc::Global;
 use std::test::Fail;
 
@@ -68,6 +69,9 @@ fn raw_lists_of_lists(alloc: Global, widths: Widths) -> Result<RawArray, Fail> {
 /// An array that tests start from.
 #[derive(Clone, Copy)]
 pub enum Sample {
+    Numbers(IntType, &'static [Option<i128>]),
+    Bools(&'static [Option<bool>]),
+    Strings(&'static [Option<&'static str>]),
     Of(Parts),
     Texts(Words),
     Coded,
@@ -78,6 +82,9 @@ pub enum Sample {
 /// The parts of a sample whose offsets are of these widths.
 pub fn raw_sample(alloc: Global, widths: Widths, sample: Sample) -> Result<RawArray, Fail> {
     match sample {
+        Sample::Numbers(ty, numbers) => raw_numbers(alloc, ty, numbers),
+        Sample::Bools(bools) => raw_bools(alloc, bools),
+        Sample::Strings(texts) => raw_texts(alloc, widths.texts, texts),
         Sample::Of(parts) => raw_flat(alloc, parts),
         Sample::Texts(words) => raw_words(alloc, widths.texts, words),
         Sample::Coded => raw_coded(alloc),

@@ -1,32 +1,37 @@
-//! What tests make batches and tables of.
+//! Batches that several scenes append.
 
-use arrays::{RecordBatch, Schema};
-use std::alloc::Global;
-use std::test::Fail;
-use table::TableState;
-use test_samples::{Sample, field, sampled};
+use test_samples::{Batch, INT8, INT64, Sample};
 
-/// So many rows, and of each column the name, whether it may hold nulls, and what it holds.
-pub(crate) type Batch = (u32, &'static [(&'static str, bool, Sample)]);
+/// The numbers 7 and 9.
+pub(crate) const NUMBERS: Batch = (2, &[("s", true, SEVEN_AND_NINE)]);
 
-/// The batch of these columns.
-pub(crate) fn batch_of(alloc: Global, batch: Batch) -> Result<RecordBatch, Fail> {
-    let (rows, columns) = batch;
-    let (mut fields, mut arrays) = (Vec::new(alloc), Vec::new(alloc));
-    for (name, nullable, sample) in columns {
-        let array = sampled(alloc, *sample)?;
-        fields.push(field(alloc, *name, *nullable, array.ty().copy(alloc)?)?)?;
-        arrays.push(array)?;
-    }
-    Ok(RecordBatch::new(Schema::new(fields)?, rows, arrays)?)
-}
+pub(crate) const SEVEN_AND_NINE: Sample = Sample::Numbers(INT8, &[Some(7), Some(9)]);
 
-/// The fields of this batch.
-pub(crate) fn fields_of(alloc: Global, batch: Batch) -> Result<Schema, Fail> {
-    Ok(batch_of(alloc, batch)?.schema().copy(alloc)?)
-}
+pub(crate) const ONE_TO_THREE: Batch = (
+    3,
+    &[(
+        "s",
+        true,
+        Sample::Numbers(INT8, &[Some(1), Some(2), Some(3)]),
+    )],
+);
 
-/// A table for batches of the fields of this one.
-pub(crate) fn table_for(alloc: Global, batch: Batch) -> Result<TableState, Fail> {
-    Ok(TableState::new(alloc, fields_of(alloc, batch)?)?)
-}
+/// No number.
+pub(crate) const NONE: Batch = (0, &[("s", true, Sample::Numbers(INT8, &[]))]);
+
+/// Numbers to which a column is added.
+pub(crate) const ONE_AND_TWO: Batch = (
+    2,
+    &[("n", true, Sample::Numbers(INT64, &[Some(1), Some(2)]))],
+);
+
+/// A number behind them, with a text in the column that was added.
+pub(crate) const THREE_AND_X: Batch = (
+    1,
+    &[
+        ("n", true, THREE),
+        ("m", true, Sample::Strings(&[Some("x")])),
+    ],
+);
+
+pub(crate) const THREE: Sample = Sample::Numbers(INT64, &[Some(3)]);

@@ -1,153 +1,173 @@
-//! Neighbouring batches joined in a table that workers append to, and what workers and readers see of it.
+//! Neighbouring batches joined, and what workers and readers see of them.
 
-use crate::admitting::shows_all;
-use crate::appended::{append, expect_entry};
-use crate::batches::{Batch, fields_of};
-use crate::compacting::{JOINED_TEXTS, ONE_B, TEXTS, has_sizes};
-use crate::scenes::{Scene, play};
-use shared::{Entry, Naming, Publish, Reader, SharedTable, Shown, Version, Worker};
-use std::alloc::Global;
-use std::process::Abort;
-use std::sync::Wait;
-use std::sync::ledger::Ledger;
+use crate::facts::{Fact, Facts};
+use crate::scenes::{End, Group, Scene, Step, expect};
 use std::test::Fail;
-use std::thread::Threads;
-use test_samples::{Flat, Sample, Shown as Slots};
+use test_samples::{Batch, INT8, Sample, Shown};
 
-/// The texts b and x.
-const B_AND_X: Batch = (
-    2,
-    &[(
-        "s",
-        true,
-        Sample::Of((
-            Flat::Utf8,
-            2,
-            &[None, Some(b"\0\0\0\0\x01\0\0\0\x02\0\0\0"), Some(b"bx")],
-        )),
-    )],
+const B: Batch = (1, &[("s", true, Sample::Strings(&[Some("b")]))]);
+
+const B_AND_X: Batch = (2, &[("s", true, Sample::Strings(&[Some("b"), Some("x")]))]);
+
+/// Batches of 2, 3, no and 4 rows.
+const TEXTS: &[Batch] = &[
+    (2, &[("s", true, Sample::Strings(&[Some("b"), None]))]),
+    (
+        3,
+        &[(
+            "s",
+            true,
+            Sample::Strings(&[Some("a"), Some("b"), Some("c")]),
+        )],
+    ),
+    (0, &[("s", true, Sample::Strings(&[]))]),
+    (4, &[("s", true, Sample::Strings(&[Some("a"); 4]))]),
+];
+
+const BOOK: &[(u32, u32)] = &[(0, 2), (1, 3), (0, 0), (1, 4)];
+
+/// The first two batches in one, and the last two, with the codes of the table's dictionary.
+const FRONT: Shown = Shown::Encoded(
+    &[Some(0), None, Some(1), Some(0), Some(2)],
+    &[Some("b"), Some("a"), Some("c")],
+    &[Some("b"), None, Some("a"), Some("b"), Some("c")],
 );
 
-/// What they show behind the others.
-const CODED_B_AND_X: Slots = Slots::Encoded(
-    &[Some(0), Some(3)],
-    &[Some("b"), Some("a"), Some("c"), Some("x")],
-    &[Some("b"), Some("x")],
+const BACK: Shown = Shown::Encoded(
+    &[Some(1); 4],
+    &[Some("b"), Some("a"), Some("c")],
+    &[Some("a"); 4],
 );
 
-/// Two workers append the batches by turns.
-fn append_by_turns<
-    C: Ledger,
-    Q: Ledger,
-    K: Ledger,
-    N: Naming,
-    P: Publish<Item = Shown<N>>,
-    R: Wait + Abort,
->(
-    rt: &R,
-    alloc: Global,
-    table: &SharedTable<C, Q, K, N, P>,
-    workers: &mut [Worker<C, Q, K, N>],
-) -> Result<(), Fail> {
-    assert!(rt; workers.len() == 2);
-    for (place, batch) in TEXTS.iter().enumerate() {
-        append(rt, alloc, table, &mut workers[place % 2], *batch)?;
-    }
-    Ok(())
-}
+const TWO: Facts = &[
+    Fact::Sizes(&[5, 4]),
+    Fact::Book(BOOK),
+    Fact::Column(0, 0, FRONT),
+    Fact::Column(1, 0, BACK),
+];
 
-/// Asserts that a version shows the batches as they are joined, and a book of each of them.
-fn expect_joined(rt: &impl Abort, version: &Version) {
-    assert!(rt; has_sizes(version.batches(), &[5, 4]));
-    assert!(rt; shows_all(version.batches(), JOINED_TEXTS));
-    assert!(rt; version.rows() == 9 && version.book_len() == 4);
-    expect_entry(rt, version, 0, Entry { worker: 0, rows: 2 });
-    expect_entry(rt, version, 1, Entry { worker: 1, rows: 3 });
-    expect_entry(rt, version, 2, Entry { worker: 0, rows: 0 });
-    expect_entry(rt, version, 3, Entry { worker: 1, rows: 4 });
-}
+/// All in one, which is exported as it came.
+const ONE: Facts = &[
+    Fact::Sizes(&[9]),
+    Fact::Book(BOOK),
+    Fact::Exported(0, 0, Shown::Named(&[Some("b"), None])),
+    Fact::Exported(1, 0, Shown::Named(&[Some("a"), Some("b"), Some("c")])),
+    Fact::Exported(2, 0, Shown::Named(&[])),
+    Fact::Exported(3, 0, Shown::Named(&[Some("a"); 4])),
+];
+
+/// The texts, and a batch that comes behind them.
+const APPENDED: Facts = &[
+    Fact::Sizes(&[5, 4, 2]),
+    Fact::Book(&[(0, 2), (1, 3), (0, 0), (1, 4), (1, 2)]),
+    Fact::Column(0, 0, FRONT),
+    Fact::Column(
+        2,
+        0,
+        Shown::Encoded(
+            &[Some(0), Some(3)],
+            &[Some("b"), Some("a"), Some("c"), Some("x")],
+            &[Some("b"), Some("x")],
+        ),
+    ),
+];
+
+/// Three rows of other types.
+const EACH: Batch = (
+    3,
+    &[
+        ("b", true, Sample::Bools(&[Some(true), None, Some(true)])),
+        ("n", true, Sample::Numbers(INT8, &[Some(5), None, Some(6)])),
+        ("l", true, Sample::ListsOfLists),
+    ],
+);
+
+const LISTS_TWICE: Shown = Shown::ListsOfLists(&[
+    Some(&[Some(&[Some(12), Some(-7), Some(25)]), None]),
+    None,
+    Some(&[Some(&[Some(0), Some(-127), Some(127), Some(50)]), Some(&[])]),
+    Some(&[Some(&[Some(12), Some(-7), Some(25)]), None]),
+    None,
+    Some(&[Some(&[Some(0), Some(-127), Some(127), Some(50)]), Some(&[])]),
+]);
+
+pub(crate) static JOINED: [Scene; 4] = [
+    Scene {
+        fields: B,
+        workers: 2,
+        readers: 0,
+        steps: &[
+            Step::Join(0, 9, &[Fact::Sizes(&[]), Fact::Book(&[])]),
+            Step::Turns(TEXTS),
+            Step::Join(0, 0, &[Fact::Sizes(&[2, 3, 0, 4])]),
+            Step::Join(0, 1, &[Fact::Sizes(&[2, 3, 0, 4])]),
+            Step::Join(0, 3, &[Fact::Sizes(&[2, 3, 4])]),
+            Step::Join(0, 4, &[Fact::Sizes(&[2, 3, 4])]),
+            Step::Join(0, 9, ONE),
+            Step::Join(0, u32::MAX, ONE),
+        ],
+        end: End::Gathered(ONE),
+    },
+    // The table keeps what was joined, a second time changes nothing, and it goes on. Who looked before keeps what it saw.
+    Scene {
+        fields: B,
+        workers: 2,
+        readers: 1,
+        steps: &[
+            Step::Turns(TEXTS),
+            Step::Latest(0, &[Fact::Sizes(&[2, 3, 0, 4])]),
+            Step::Join(1, 5, TWO),
+            Step::Latest(0, TWO),
+            Step::Look(0, TWO),
+            Step::Join(0, 5, TWO),
+            Step::Owns(1, 2, 7),
+            Step::Append(1, B_AND_X, Ok(4)),
+            Step::Latest(0, APPENDED),
+        ],
+        end: End::Gathered(APPENDED),
+    },
+    // Truth values whose bits don't end with a byte, numbers, and lists.
+    Scene {
+        fields: EACH,
+        workers: 1,
+        readers: 0,
+        steps: &[
+            Step::Turns(&[EACH, EACH]),
+            Step::Join(
+                0,
+                u32::MAX,
+                &[
+                    Fact::Sizes(&[6]),
+                    Fact::Column(
+                        0,
+                        0,
+                        Shown::Bools(&[Some(true), None, Some(true), Some(true), None, Some(true)]),
+                    ),
+                    Fact::Column(
+                        0,
+                        1,
+                        Shown::Numbers(&[Some(5), None, Some(6), Some(5), None, Some(6)]),
+                    ),
+                    Fact::Column(0, 2, LISTS_TWICE),
+                ],
+            ),
+        ],
+        end: End::Closed,
+    },
+    // An array holds no more rows.
+    Scene {
+        fields: (0, &[]),
+        workers: 1,
+        readers: 0,
+        steps: &[
+            Step::Turns(&[(2_147_483_647, &[]), (2_147_483_647, &[])]),
+            Step::Join(0, u32::MAX, &[Fact::Sizes(&[2_147_483_647, 2_147_483_647])]),
+        ],
+        end: End::Closed,
+    },
+];
 
 #[test]
-fn a_reader_and_a_worker_see_what_was_joined(rt: HostRuntime) -> Result<(), Fail> {
-    play::<Seen, _>(&rt, rt.alloc(), &fields_of(rt.alloc(), ONE_B)?, 2, 1)
-}
-
-/// A reader looks, a worker joins the batches, the reader looks again, and then the other worker does.
-struct Seen;
-
-impl Scene for Seen {
-    fn play<
-        C: Ledger + Send + Sync,
-        Q: Ledger + Send + Sync,
-        K: Ledger + Send + Sync,
-        N: Naming + Send + Sync,
-        P: Publish<Item = Shown<N>> + Send,
-        R: Wait + Threads + Abort + Sync,
-    >(
-        rt: &R,
-        alloc: Global,
-        table: SharedTable<C, Q, K, N, P>,
-        workers: Vec<Worker<C, Q, K, N>>,
-        readers: Vec<Reader<N>>,
-    ) -> Result<(), Fail> {
-        let (mut workers, mut readers) = (workers, readers);
-        append_by_turns(rt, alloc, &table, &mut workers)?;
-        assert!(rt; workers.len() == 2);
-        for reader in readers.iter_mut() {
-            let before = reader.latest()?;
-            expect_joined(rt, &*table.compact(rt, &mut workers[1], 5)?);
-            expect_joined(rt, &*reader.latest()?);
-            expect_joined(rt, &*table.snapshot(rt, &mut workers[0])?);
-            assert!(rt; has_sizes(before.batches(), &[2, 3, 0, 4]));
-        }
-        assert!(rt; workers[1].calls() == 2 && workers[1].rows() == 7);
-        let gathered = table.gather(rt, workers).ok().expect(rt, "all are there");
-        expect_joined(rt, &*gathered.version);
-        Ok(())
-    }
-}
-
-#[test]
-fn a_table_goes_on_after_its_batches_were_joined(rt: HostRuntime) -> Result<(), Fail> {
-    play::<GoingOn, _>(&rt, rt.alloc(), &fields_of(rt.alloc(), ONE_B)?, 2, 1)
-}
-
-/// A worker joins the batches twice, and the second time changes nothing; the other worker appends, and a reader looks.
-struct GoingOn;
-
-impl Scene for GoingOn {
-    fn play<
-        C: Ledger + Send + Sync,
-        Q: Ledger + Send + Sync,
-        K: Ledger + Send + Sync,
-        N: Naming + Send + Sync,
-        P: Publish<Item = Shown<N>> + Send,
-        R: Wait + Threads + Abort + Sync,
-    >(
-        rt: &R,
-        alloc: Global,
-        table: SharedTable<C, Q, K, N, P>,
-        workers: Vec<Worker<C, Q, K, N>>,
-        readers: Vec<Reader<N>>,
-    ) -> Result<(), Fail> {
-        let (mut workers, mut readers) = (workers, readers);
-        append_by_turns(rt, alloc, &table, &mut workers)?;
-        assert!(rt; workers.len() == 2);
-        expect_joined(rt, &*table.compact(rt, &mut workers[0], 5)?);
-        expect_joined(rt, &*table.compact(rt, &mut workers[0], 5)?);
-        assert!(rt; append(rt, alloc, &table, &mut workers[1], B_AND_X)? == 4);
-        for reader in readers.iter_mut() {
-            expect_appended(rt, &*reader.latest()?);
-        }
-        Ok(())
-    }
-}
-
-/// Asserts that a version shows a batch behind those that were joined, with codes of its own.
-fn expect_appended(rt: &impl Abort, version: &Version) {
-    assert!(rt; has_sizes(version.batches(), &[5, 4, 2]));
-    assert!(rt; shows_all(version.batches(), JOINED_TEXTS));
-    assert!(rt; shows_all(version.batches(), &[(2, 0, CODED_B_AND_X)]));
-    assert!(rt; version.rows() == 11 && version.book_len() == 5);
-    expect_entry(rt, version, 4, Entry { worker: 1, rows: 2 });
+fn neighbours_are_joined_while_they_fit(rt: HostRuntime) -> Result<(), Fail> {
+    expect(&rt, rt.alloc(), Group::Joined)
 }

@@ -1,18 +1,18 @@
-//! Tests of tables: of one thread, and of those that several workers append to and readers read.
+//! Tests of tables: each scene is played on a table of one thread, and on one that several workers append to and readers read.
 #![tactic(auto)]
 
 #[cfg(test)]
 mod admitting;
 #[cfg(test)]
-mod appended;
+mod alone;
+#[cfg(test)]
+mod answering;
 #[cfg(test)]
 mod appending;
 #[cfg(test)]
 mod batches;
 #[cfg(test)]
-mod columns;
-#[cfg(test)]
-mod compacting;
+mod facts;
 #[cfg(test)]
 mod joining;
 #[cfg(test)]
@@ -20,10 +20,12 @@ mod limits;
 #[cfg(test)]
 mod opening;
 #[cfg(test)]
+mod played;
+#[cfg(test)]
+mod printing;
+#[cfg(test)]
 mod reading;
 #[cfg(test)]
 mod scenes;
-#[cfg(test)]
-mod showing;
 #[cfg(test)]
 mod widening;

@@ -1,77 +1,151 @@
-//! Tables with workers and readers that tests play on.
+//! What is done with a table, step by step, and what must come of it.
 
-ghost use Rattle.std.specs.Prelude.{◌≡◌};
-ghost use Rattle.table.specs.Stored.{stored_fields};
-
-use arrays::Schema;
-use shared::{Blanks, Naming, Pair, Publish, Reader, SharedTable, Shown, Worker, open};
+use crate::admitting::{ADDED, REFUSED};
+use crate::alone::play_alone;
+use crate::appending::APPENDED;
+use crate::facts::Facts;
+use crate::joining::JOINED;
+use crate::opening::OPENED;
+use crate::played::play;
+use crate::reading::READ;
+use crate::widening::{TYPED, WIDENED};
+use arrays::{DataType, Field, IntType};
+use shared::OpenFault;
 use std::alloc::Global;
-use std::marker::Brand;
 use std::process::Abort;
 use std::sync::Wait;
-use std::sync::ledger::Ledger;
 use std::test::Fail;
-use std::thread::Threads;
+use table::{AddFault, Refusal};
+use test_samples::{Batch, WIDE_IN_NARROW, field, lists_of};
 
-/// What a test does with a table, its workers and its readers.
-pub(crate) trait Scene {
-    /// Plays on a table that nothing was appended to.
-    fn play<
-        C: Ledger + Send + Sync,
-        Q: Ledger + Send + Sync,
-        K: Ledger + Send + Sync,
-        N: Naming + Send + Sync,
-        P: Publish<Item = Shown<N>> + Send,
-        R: Wait + Threads + Abort + Sync,
-    >(
-        rt: &R,
-        alloc: Global,
-        table: SharedTable<C, Q, K, N, P>,
-        workers: Vec<Worker<C, Q, K, N>>,
-        readers: Vec<Reader<N>>,
-    ) -> Result<(), Fail>;
+/// A table, and what is done with it.
+#[derive(Drop)]
+pub(crate) struct Scene {
+    /// A batch of the table's fields.
+    pub(crate) fields: Batch,
+    pub(crate) workers: u32,
+    pub(crate) readers: u32,
+    pub(crate) steps: &'static [Step],
+    pub(crate) end: End,
 }
 
-/// Plays a scene on a table for batches of the schema, with so many workers and readers.
-pub(crate) fn play<S: Scene, R: Wait + Threads + Abort + Sync>(
-    rt: &R,
-    alloc: Global,
-    schema: &Schema,
-    workers: u32,
-    readers: u32,
-) -> Result<(), Fail> {
-    let pair = Pair::new(alloc, schema)?;
-    let blanks = Blanks::new(workers);
-    play_under::<Brand, Brand, Brand, Brand, S, R>(
-        rt, alloc, schema, workers, readers, blanks, pair,
+/// What somebody does. Workers, readers and receipts are named by their numbers.
+#[derive(Drop)]
+pub(crate) enum Step {
+    /// A worker appends a batch, and is answered so.
+    Append(u32, Batch, Result<u32, Refusal>),
+    /// The workers append these batches by turns.
+    Turns(&'static [Batch]),
+    /// Each worker appends this batch, and each reader then sees so many rows.
+    Each(Batch, u64),
+    /// A worker joins neighbouring batches up to so many rows, and is shown this.
+    Join(u32, u32, Facts),
+    /// A worker adds a column, and is answered so.
+    Add(u32, Column, Result<(), AddFault>),
+    /// A worker looks, and is shown this.
+    Look(u32, Facts),
+    /// So does a reader.
+    Latest(u32, Facts),
+    /// A reader is given a receipt of those before.
+    Learn(u32, usize),
+    /// A worker has had so many calls accepted, of so many rows together.
+    Owns(u32, u32, u64),
+}
+
+/// How a scene ends.
+#[derive(Drop)]
+pub(crate) enum End {
+    /// There is no table.
+    Unopened(OpenFault),
+    Closed,
+    /// The table is gathered, and shows this.
+    Gathered(Facts),
+}
+
+/// A field: its name, whether it may hold nulls, and how many lists there are over its type.
+pub(crate) type Column = (&'static str, bool, usize, Flat);
+
+/// A type without children.
+#[derive(Clone, Copy)]
+pub(crate) enum Flat {
+    Int(IntType),
+    Bool,
+    Utf8,
+    LargeUtf8,
+    Dict,
+}
+
+/// The field of a column.
+pub(crate) fn field_of(alloc: Global, column: Column) -> Result<Field, Fail> {
+    let (name, nullable, lists, flat) = column;
+    let ty = match flat {
+        Flat::Int(int) => DataType::Int(int),
+        Flat::Bool => DataType::Bool,
+        Flat::Utf8 => DataType::Utf8,
+        Flat::LargeUtf8 => DataType::LargeUtf8,
+        Flat::Dict => DataType::Dict,
+    };
+    field(
+        alloc,
+        name,
+        nullable,
+        lists_of(alloc, WIDE_IN_NARROW, lists, ty)?,
     )
 }
 
-/// The same, under the names of two ledgers and of a history.
-fn play_under<
-    C: Ledger + Send + Sync,
-    Q: Ledger + Send + Sync,
-    K: Ledger + Send + Sync,
-    N: Naming + Send + Sync,
-    S: Scene,
-    R: Wait + Threads + Abort + Sync,
->(
-    rt: &R,
-    alloc: Global,
-    schema: &Schema,
-    workers: u32,
-    readers: u32,
-    blanks: Blanks,
-    pair: Pair,
-) -> Result<(), Fail>
-    requires calls { (blanks.calls.name ≡ C.name) × (blanks.calls.parts ≡ C.parts) × (blanks.calls.parts ≡ workers) }
-    requires rows { (blanks.rows.name ≡ Q.name) × (blanks.rows.parts ≡ Q.parts) × (blanks.rows.parts ≡ workers) }
-    requires columns { (blanks.columns.name ≡ K.name) × (blanks.columns.parts ≡ K.parts) × (blanks.columns.parts ≡ workers) }
-    requires pair { (pair.book ≡ N.book) × (pair.fields ≡ N.fields) × (pair.fields ≡ stored_fields schema.now) }
-{
-    let schema = schema.copy(alloc)?;
-    let (table, workers, readers) = open::<C, Q, K, N, &R>(
-        rt, alloc, schema, workers, readers, blanks, pair,
-    )?;
-    S::play(rt, alloc, table, workers, readers)
+/// The scenes of a test.
+#[derive(Clone, Copy)]
+pub(crate) enum Group {
+    Added,
+    Refused,
+    Appended,
+    Joined,
+    Opened,
+    Read,
+    Widened,
+    Typed,
+}
+
+impl Group {
+    /// These scenes.
+    fn scenes(self) -> &'static [Scene] {
+        match self {
+            Group::Added => &ADDED,
+            Group::Refused => &REFUSED,
+            Group::Appended => &APPENDED,
+            Group::Joined => &JOINED,
+            Group::Opened => &OPENED,
+            Group::Read => &READ,
+            Group::Widened => &WIDENED,
+            Group::Typed => &TYPED,
+        }
+    }
+}
+
+/// A scene by its place. It names no text, as what is handed to a function over a table's publisher mustn't.
+#[derive(Clone, Copy)]
+pub(crate) struct Place {
+    pub(crate) group: Group,
+    pub(crate) number: usize,
+}
+
+impl Place {
+    /// The scene; none behind the last.
+    pub(crate) fn scene(self) -> Option<&'static Scene> {
+        self.group.scenes().get(self.number)
+    }
+}
+
+/// Asserts that each scene goes as it must, on a table of one thread too.
+pub(crate) fn expect<R: Wait + Abort>(rt: &R, alloc: Global, group: Group) -> Result<(), Fail> {
+    for number in 0..group.scenes().len() {
+        let place = Place { group, number };
+        let alone = play_alone(alloc, place)?;
+        let shared = play(rt, alloc, place)?;
+        assert!(rt;
+            alone.is_none() && shared.is_none(),
+            "scene {number}, step {alone:?} or {shared:?}"
+        );
+    }
+    Ok(())
 }

@@ -1,348 +1,253 @@
-//! Columns added to a table of one thread.
+//! Columns added to a table in use.
 
-use crate::admitting::shows_all;
-use crate::batches::{Batch, batch_of, table_for};
-use answers::OpenGate;
-use arrays::{DataType, Field, File, OffsetWidth, ViewType};
-use arrayvec::ArrayVec;
-use query::{Agg, Query};
-use std::alloc::Global;
-use std::process::Abort;
+use crate::batches::{ONE_AND_TWO, THREE, THREE_AND_X};
+use crate::facts::{Cell, Fact, Facts, Stats};
+use crate::scenes::{Column, End, Flat, Group, Scene, Step, expect};
+use shared::Refusal;
 use std::test::Fail;
-use std::thread::Threads;
-use table::{AddFault, Refusal, TableState, Version};
-use test_samples::{
-    Flat, INT8, INT64, Parts, Sample, Shown, UINT16, WIDE_IN_NARROW, field, list_of, lists_of,
-    shows,
-};
+use table::AddFault;
+use test_samples::{Batch, INT8, INT64, Sample, Shown, UINT16};
 
-/// The numbers 1 and 2.
-const TWO_NUMBERS: Parts = (
-    Flat::Int(INT64),
-    2,
-    &[None, Some(b"\x01\0\0\0\0\0\0\0\x02\0\0\0\0\0\0\0")],
+/// Texts, numbers and large texts.
+const M: Column = ("m", true, 0, Flat::Utf8);
+
+const L: Column = ("l", true, 0, Flat::Int(INT8));
+
+const K: Column = ("k", true, 0, Flat::LargeUtf8);
+
+const FOUR_AND_Y: Batch = (
+    1,
+    &[
+        ("n", true, Sample::Numbers(INT64, &[Some(4)])),
+        ("m", true, Sample::Strings(&[Some("y")])),
+    ],
 );
 
-pub(crate) const ONE_AND_TWO: Batch = (2, &[("n", true, Sample::Of(TWO_NUMBERS))]);
-
-/// The number 3.
-pub(crate) const THREE: Sample = Sample::Of((
-    Flat::Int(INT64),
+const THREE_X_AND_7: Batch = (
     1,
-    &[None, Some(b"\x03\0\0\0\0\0\0\0")],
-));
+    &[
+        ("n", true, THREE),
+        ("m", true, Sample::Strings(&[Some("x")])),
+        ("l", true, Sample::Numbers(INT8, &[Some(7)])),
+    ],
+);
 
-/// The text x.
-pub(crate) const X: Sample = Sample::Of((
-    Flat::Utf8,
-    1,
-    &[None, Some(b"\0\0\0\0\x01\0\0\0"), Some(b"x")],
-));
+/// A table to which 1 and 2 were appended.
+const NARROW: Facts = &[Fact::Fields(1), Fact::Book(&[(0, 2)])];
 
-pub(crate) const THREE_AND_X: Batch = (1, &[("n", true, THREE), ("m", true, X)]);
-
-/// What a table shows to which 1 and 2 were added, and then a column m.
-const WITHOUT_X: &[(usize, usize, Shown)] = &[
-    (0, 0, Shown::Numbers(&[Some(1), Some(2)])),
-    (0, 1, Shown::Encoded(&[None, None], &[], &[None, None])),
+/// The same with a column of texts.
+const NO_X: Facts = &[
+    Fact::Fields(2),
+    Fact::Book(&[(0, 2)]),
+    Fact::Column(0, 0, Shown::Numbers(&[Some(1), Some(2)])),
+    Fact::Column(0, 1, Shown::Encoded(&[None, None], &[], &[None, None])),
+    Fact::Words(1, Some(Shown::Texts(&[]))),
+    Fact::Stats(1, (2, 2, None, Cell::Nothing, Cell::Nothing)),
 ];
 
-/// What it shows behind that, where 3 with x was added then.
-const X_BEHIND: &[(usize, usize, Shown)] = &[
-    (1, 0, Shown::Numbers(&[Some(3)])),
-    (1, 1, Shown::Encoded(&[Some(0)], &[Some("x")], &[Some("x")])),
+/// Behind that, 3 with x.
+const X_BEHIND: Facts = &[
+    Fact::Fields(2),
+    Fact::Book(&[(0, 2), (0, 1)]),
+    Fact::Column(0, 1, Shown::Encoded(&[None, None], &[], &[None, None])),
+    Fact::Column(1, 0, Shown::Numbers(&[Some(3)])),
+    Fact::Column(1, 1, Shown::Encoded(&[Some(0)], &[Some("x")], &[Some("x")])),
+    Fact::Words(1, Some(Shown::Texts(&[Some("x")]))),
+    Fact::Stats(1, (3, 2, None, Cell::Text("x"), Cell::Text("x"))),
 ];
 
-/// Both in one batch.
-const JOINED: &[(usize, usize, Shown)] = &[
-    (0, 0, Shown::Numbers(&[Some(1), Some(2), Some(3)])),
-    (
-        0,
+/// What two workers appended, of whom either added the column.
+const X_AND_Y: Facts = &[
+    Fact::Fields(2),
+    Fact::Book(&[(0, 2), (0, 1), (1, 1)]),
+    Fact::Column(0, 1, Shown::Named(&[None, None])),
+    Fact::Column(1, 1, Shown::Encoded(&[Some(0)], &[Some("x")], &[Some("x")])),
+    Fact::Column(2, 0, Shown::Numbers(&[Some(4)])),
+    Fact::Column(
+        2,
         1,
-        Shown::Encoded(
-            &[None, None, Some(0)],
-            &[Some("x")],
-            &[None, None, Some("x")],
-        ),
+        Shown::Encoded(&[Some(1)], &[Some("x"), Some("y")], &[Some("y")]),
     ),
 ];
 
-/// A table that 1 and 2 were added to.
-fn one_and_two(alloc: Global) -> Result<TableState, Fail> {
-    let mut table = table_for(alloc, ONE_AND_TWO)?;
-    table.admit(0, &batch_of(alloc, ONE_AND_TWO)?)?;
-    Ok(table)
-}
+/// Two workers, of whom each added a column.
+const BOTH: Facts = &[
+    Fact::Fields(3),
+    Fact::Book(&[(0, 2), (1, 1)]),
+    Fact::Column(0, 2, Shown::Numbers(&[None, None])),
+    Fact::Column(1, 2, Shown::Numbers(&[Some(7)])),
+    Fact::Exported(0, 1, Shown::Named(&[None, None])),
+    Fact::Exported(1, 1, Shown::Named(&[Some("x")])),
+    Fact::Exported(1, 2, Shown::Numbers(&[Some(7)])),
+];
 
-/// The same with a column m of texts, and then 3 with x.
-fn with_x(alloc: Global) -> Result<TableState, Fail> {
-    let mut table = one_and_two(alloc)?;
-    table.add_column(field(alloc, "m", true, DataType::Utf8)?)?;
-    table.admit(0, &batch_of(alloc, THREE_AND_X)?)?;
-    Ok(table)
-}
+/// The two batches in one, with codes of the table.
+const JOINED: Facts = &[
+    Fact::Sizes(&[3]),
+    Fact::Column(0, 0, Shown::Numbers(&[Some(1), Some(2), Some(3)])),
+    Fact::Column(0, 1, X_LAST),
+    Fact::Exported(0, 1, Shown::Named(&[None, None])),
+];
 
-/// The statistics of the second column, as they are printed.
-fn second_stats(rt: &impl Abort, alloc: Global, version: &Version) -> Result<String, Fail> {
-    assert!(rt; version.schema().len() == 2);
-    Ok(format!(in alloc; "{:?}", version.stats(1))?)
-}
+const X_LAST: Shown = Shown::Encoded(
+    &[None, None, Some(0)],
+    &[Some("x")],
+    &[None, None, Some("x")],
+);
 
-/// Whether the dictionary of the second column has these texts.
-fn has_second_words(version: &Version, words: Shown) -> bool {
-    if version.schema().len() != 2 {
-        return false;
-    }
-    match version.dictionary(1) {
-        Some(found) => shows(&found.view(), words),
-        None => false,
-    }
-}
+/// The same with large texts.
+const WIDER: Facts = &[
+    Fact::Fields(3),
+    Fact::Sizes(&[3]),
+    Fact::Column(0, 1, X_LAST),
+    Fact::Column(0, 2, Shown::Texts(&[None, None, None])),
+];
 
-/// Whether the second of two fields is m, of texts in a dictionary.
-fn has_m(version: &Version) -> bool {
-    match version.schema().fields() {
-        [_, m] => {
-            m.name.as_str() == "m" && m.nullable && ViewType::of(&m.ty).is_same(ViewType::Dict)
-        }
-        _ => false,
-    }
-}
-
-/// Asserts that a version shows 1 and 2, and nulls in a second column.
-pub(crate) fn expect_no_x(rt: &impl Abort, alloc: Global, version: &Version) -> Result<(), Fail> {
-    assert!(rt; version.rows() == 2 && version.book_len() == 1);
-    assert!(rt; version.batches().len() == 1 && shows_all(version.batches(), WITHOUT_X));
-    assert!(rt; has_m(version) && has_second_words(version, Shown::Texts(&[])));
-    let stats = second_stats(rt, alloc, version)?;
-    assert!(rt;
-        stats.as_str()
-            == "ColumnStats { rows: 2, nulls: 2, sum: None, least: None, greatest: None }",
-        "{stats}"
-    );
-    Ok(())
-}
-
-/// Asserts that a version shows 1 and 2 with nulls, and behind them 3 with x.
-pub(crate) fn expect_x(rt: &impl Abort, alloc: Global, version: &Version) -> Result<(), Fail> {
-    assert!(rt; version.rows() == 3 && version.book_len() == 2);
-    assert!(rt; version.batches().len() == 2 && shows_all(version.batches(), WITHOUT_X));
-    assert!(rt; shows_all(version.batches(), X_BEHIND));
-    assert!(rt; has_m(version) && has_second_words(version, Shown::Texts(&[Some("x")])));
-    let stats = second_stats(rt, alloc, version)?;
-    assert!(rt;
-        stats.as_str()
-            == "ColumnStats { rows: 3, nulls: 2, sum: None, least: Some(Text(\"x\")), greatest: Some(Text(\"x\")) }",
-        "{stats}"
-    );
-    Ok(())
-}
+pub(crate) static WIDENED: [Scene; 5] = [
+    // What was shown before stays; a batch without the column is refused.
+    Scene {
+        fields: ONE_AND_TWO,
+        workers: 2,
+        readers: 1,
+        steps: &[
+            Step::Append(0, ONE_AND_TWO, Ok(0)),
+            Step::Learn(0, 0),
+            Step::Latest(0, NARROW),
+            Step::Look(0, NARROW),
+            Step::Add(0, M, Ok(())),
+            Step::Latest(0, NO_X),
+            Step::Look(0, NO_X),
+            Step::Append(0, THREE_AND_X, Ok(1)),
+            Step::Learn(0, 1),
+            Step::Latest(0, X_BEHIND),
+            Step::Append(1, ONE_AND_TWO, Err(Refusal::SchemaDiffers { column: 1 })),
+            Step::Owns(0, 2, 3),
+            Step::Owns(1, 0, 0),
+            Step::Latest(0, X_BEHIND),
+        ],
+        end: End::Gathered(X_BEHIND),
+    },
+    // Who adds the column need not be who appended.
+    Scene {
+        fields: ONE_AND_TWO,
+        workers: 2,
+        readers: 0,
+        steps: &[
+            Step::Append(0, ONE_AND_TWO, Ok(0)),
+            Step::Add(0, M, Ok(())),
+            Step::Append(0, THREE_AND_X, Ok(1)),
+            Step::Append(1, FOUR_AND_Y, Ok(2)),
+            Step::Owns(1, 1, 1),
+        ],
+        end: End::Gathered(X_AND_Y),
+    },
+    Scene {
+        fields: ONE_AND_TWO,
+        workers: 2,
+        readers: 1,
+        steps: &[
+            Step::Append(0, ONE_AND_TWO, Ok(0)),
+            Step::Add(1, M, Ok(())),
+            Step::Append(0, THREE_AND_X, Ok(1)),
+            Step::Append(1, FOUR_AND_Y, Ok(2)),
+            Step::Owns(0, 2, 3),
+        ],
+        end: End::Gathered(X_AND_Y),
+    },
+    Scene {
+        fields: ONE_AND_TWO,
+        workers: 2,
+        readers: 0,
+        steps: &[
+            Step::Append(0, ONE_AND_TWO, Ok(0)),
+            Step::Add(0, M, Ok(())),
+            Step::Add(1, L, Ok(())),
+            Step::Append(1, THREE_X_AND_7, Ok(1)),
+        ],
+        end: End::Gathered(BOTH),
+    },
+    // Batches are joined before another column is added, and behind it.
+    Scene {
+        fields: ONE_AND_TWO,
+        workers: 2,
+        readers: 1,
+        steps: &[
+            Step::Append(0, ONE_AND_TWO, Ok(0)),
+            Step::Add(1, M, Ok(())),
+            Step::Append(0, THREE_AND_X, Ok(1)),
+            Step::Latest(0, X_BEHIND),
+            Step::Join(0, 100, JOINED),
+            Step::Latest(0, JOINED),
+            Step::Add(0, K, Ok(())),
+            Step::Latest(0, WIDER),
+            Step::Join(1, 100, WIDER),
+            Step::Latest(0, WIDER),
+        ],
+        end: End::Closed,
+    },
+];
 
 #[test]
-fn older_rows_show_null_in_a_new_column(rt: HostRuntime) -> Result<(), Fail> {
-    let mut table = one_and_two(rt.alloc())?;
-    let before = table.version()?;
-    table.add_column(field(rt.alloc(), "m", true, DataType::Utf8)?)?;
-    let between = table.version()?;
-    expect_no_x(&rt, rt.alloc(), &*between)?;
-    table.admit(0, &batch_of(rt.alloc(), THREE_AND_X)?)?;
-    expect_x(&rt, rt.alloc(), &*table.version()?)?;
-    // What was handed out before stays.
-    assert!(rt; before.schema().len() == 1 && before.rows() == 2);
-    expect_no_x(&rt, rt.alloc(), &*between)
+fn columns_are_added_between_batches(rt: HostRuntime) -> Result<(), Fail> {
+    expect(&rt, rt.alloc(), Group::Widened)
 }
 
-#[test]
-fn the_versions_have_the_new_column(rt: HostRuntime) -> Result<(), Fail> {
-    let mut table = one_and_two(rt.alloc())?;
-    let before = table.version()?;
-    let added = field(rt.alloc(), "m", true, DataType::Utf8)?;
-    let (one, other) = table.add_column_shown(&added)?;
-    for version in [one, other, table.version()?] {
-        expect_no_x(&rt, rt.alloc(), &*version)?;
-    }
-    assert!(rt; before.schema().len() == 1 && before.rows() == 2);
-    Ok(())
-}
+/// A statistic of a column of nulls.
+const NO_NUMBERS: Stats = (2, 2, Some(0), Cell::Nothing, Cell::Nothing);
 
-#[test]
-fn a_batch_without_the_new_column_is_refused(rt: HostRuntime) -> Result<(), Fail> {
-    let mut table = with_x(rt.alloc())?;
-    let refused = table.admit(1, &batch_of(rt.alloc(), ONE_AND_TWO)?);
-    assert!(rt; refused == Err(Refusal::SchemaDiffers { column: 1 }));
-    assert!(rt; table.version()?.rows() == 3);
-    Ok(())
-}
+const NO_VALUES: Stats = (2, 2, None, Cell::Nothing, Cell::Nothing);
 
-/// Types of columns that are added.
-pub(crate) fn types(alloc: Global) -> Result<Vec<DataType>, Fail> {
-    let mut types = vec![in alloc; DataType::Bool, DataType::Utf8, DataType::LargeUtf8]?;
-    types.push(DataType::Dict)?;
-    types.push(DataType::Int(INT8))?;
-    types.push(DataType::Int(UINT16))?;
-    types.push(list_of(alloc, OffsetWidth::Narrow, DataType::Bool)?)?;
-    types.push(lists_of(alloc, WIDE_IN_NARROW, 8, DataType::LargeUtf8)?)?;
-    Ok(types)
-}
-
-/// Asserts that a version shows 1 and 2, and nulls in a column of each type.
-pub(crate) fn expect_nulls(rt: &impl Abort, version: &Version) {
-    assert!(rt; version.rows() == 2 && version.schema().len() == 9);
-    for k in 1..9usize {
-        assert!(rt;
-            version.stats(k).rows == 2 && version.stats(k).nulls == 2,
-            "column {k}"
-        );
-    }
-    for batch in version.batches() {
-        for (k, column) in batch.columns().iter().enumerate() {
-            let nulls = column.view().null_count();
-            assert!(rt;
-                column.len() == 2 && nulls == if k == 0 { 0 } else { 2 },
-                "column {k}"
-            );
-        }
-    }
-}
+pub(crate) static TYPED: [Scene; 2] = [
+    Scene {
+        fields: ONE_AND_TWO,
+        workers: 1,
+        readers: 0,
+        steps: &[
+            Step::Append(0, ONE_AND_TWO, Ok(0)),
+            Step::Add(0, ("m", true, 0, Flat::Bool), Ok(())),
+            Step::Add(0, ("m", true, 0, Flat::Dict), Ok(())),
+            Step::Add(0, ("m", true, 0, Flat::Int(UINT16)), Ok(())),
+            Step::Add(0, ("m", true, 1, Flat::Bool), Ok(())),
+            Step::Add(0, ("m", true, 8, Flat::LargeUtf8), Ok(())),
+            Step::Look(
+                0,
+                &[
+                    Fact::Fields(6),
+                    Fact::Column(0, 0, Shown::Numbers(&[Some(1), Some(2)])),
+                    Fact::Column(0, 1, Shown::Bools(&[None, None])),
+                    Fact::Column(0, 2, Shown::Named(&[None, None])),
+                    Fact::Column(0, 3, Shown::Numbers(&[None, None])),
+                    Fact::Stats(1, NO_VALUES),
+                    Fact::Stats(3, NO_NUMBERS),
+                    Fact::Stats(4, NO_VALUES),
+                    Fact::BatchStats(0, 5, NO_VALUES),
+                ],
+            ),
+        ],
+        end: End::Closed,
+    },
+    // A refusal changes nothing.
+    Scene {
+        fields: ONE_AND_TWO,
+        workers: 1,
+        readers: 1,
+        steps: &[
+            Step::Append(0, ONE_AND_TWO, Ok(0)),
+            Step::Add(0, ("m", true, 1, Flat::Dict), Err(AddFault::DictInList)),
+            Step::Add(0, ("m", true, 8, Flat::Dict), Err(AddFault::DictInList)),
+            Step::Add(0, ("m", true, 9, Flat::Dict), Err(AddFault::TooDeep)),
+            Step::Add(0, ("m", false, 9, Flat::Dict), Err(AddFault::NotNullable)),
+            Step::Add(0, ("m", false, 0, Flat::Dict), Err(AddFault::NotNullable)),
+            Step::Owns(0, 1, 2),
+            Step::Look(0, NARROW),
+            Step::Latest(0, NARROW),
+            Step::Append(0, ONE_AND_TWO, Ok(1)),
+        ],
+        end: End::Gathered(&[Fact::Fields(1), Fact::Sizes(&[2, 2])]),
+    },
+];
 
 #[test]
 fn columns_of_each_type_are_added(rt: HostRuntime) -> Result<(), Fail> {
-    let mut table = one_and_two(rt.alloc())?;
-    for ty in types(rt.alloc())? {
-        table.add_column(field(rt.alloc(), "m", true, ty)?)?;
-    }
-    expect_nulls(&rt, &*table.version()?);
-    Ok(())
-}
-
-/// Whether a field may hold nulls, how many lists its type has over a dictionary, and why it isn't added.
-pub(crate) type Refused = (bool, usize, AddFault);
-
-pub(crate) const REFUSED: [Refused; 5] = [
-    (true, 1, AddFault::DictInList),
-    (true, 8, AddFault::DictInList),
-    (true, 9, AddFault::TooDeep),
-    (false, 9, AddFault::NotNullable),
-    (false, 0, AddFault::NotNullable),
-];
-
-/// The field that is refused.
-pub(crate) fn refused_field(alloc: Global, refused: Refused) -> Result<Field, Fail> {
-    let (nullable, lists, _fault) = refused;
-    let ty = lists_of(alloc, WIDE_IN_NARROW, lists, DataType::Dict)?;
-    field(alloc, "m", nullable, ty)
-}
-
-#[test]
-fn a_refusal_changes_nothing(rt: HostRuntime) -> Result<(), Fail> {
-    let mut table = one_and_two(rt.alloc())?;
-    for refused in REFUSED {
-        let (_nullable, lists, fault) = refused;
-        let added = table.add_column(refused_field(rt.alloc(), refused)?);
-        assert!(rt; added == Err(fault), "{lists} lists");
-        let version = table.version()?;
-        assert!(rt; version.schema().len() == 1 && version.rows() == 2);
-    }
-    Ok(())
-}
-
-/// Whether a version shows the two batches as one.
-pub(crate) fn is_joined(version: &Version) -> bool {
-    version.rows() == 3 && version.batches().len() == 1 && shows_all(version.batches(), JOINED)
-}
-
-/// Whether a version shows them as one, with nulls in a third column of large texts.
-pub(crate) fn is_joined_and_wider(version: &Version) -> bool {
-    let nulls = Shown::Texts(&[None, None, None]);
-    version.schema().len() == 3
-        && is_joined(version)
-        && shows_all(version.batches(), &[(0, 2, nulls)])
-}
-
-#[test]
-fn batches_are_joined_before_and_after(rt: HostRuntime) -> Result<(), Fail> {
-    let mut table = with_x(rt.alloc())?;
-    table.compact(100)?;
-    assert!(rt; is_joined(&*table.version()?));
-    table.add_column(field(rt.alloc(), "l", true, DataType::LargeUtf8)?)?;
-    assert!(rt; is_joined_and_wider(&*table.version()?));
-    Ok(())
-}
-
-/// Whether the batches of a file show no text in the second column, and then x.
-pub(crate) fn shows_x(file: &File) -> bool {
-    let named = Shown::Named(&[Some("x")]);
-    let nulls = Shown::Named(&[None, None]);
-    file.batches().len() == 2 && shows_all(file.batches(), &[(0, 1, nulls), (1, 1, named)])
-}
-
-#[test]
-fn a_new_column_is_exported(rt: HostRuntime) -> Result<(), Fail> {
-    let mut table = with_x(rt.alloc())?;
-    table.compact(100)?;
-    let file = table.version()?.export(rt.alloc())?;
-    assert!(rt; file.schema().len() == 2 && shows_x(&file));
-    Ok(())
-}
-
-/// Without a filter, by the second column: how many rows there are, and the sum of the first.
-fn by_second(alloc: Global) -> Result<Query, Fail> {
-    let mut by = ArrayVec::new();
-    by.push(1);
-    Ok(Query {
-        filter: None,
-        by,
-        aggs: vec![in alloc; Agg::Rows, Agg::Sum(0)]?,
-    })
-}
-
-/// What is answered.
-const GROUPS: &str =
-    "Answer { groups: [Group { keys: [None], cells: [Some(Int(2)), Some(Int(3))] }, Group { keys: [Some(Text(\"x\"))], cells: [Some(Int(1)), Some(Int(3))] }] }";
-
-/// What a query answers in so many pieces, as it is printed.
-fn answered(
-    rt: &(impl Abort + Threads + Sync),
-    alloc: Global,
-    version: &Version,
-    query: &Query,
-    pieces: u32,
-) -> Result<String, Fail> {
-    assert!(rt; query.fits(version.schema()));
-    assert!(rt; 1 <= pieces && pieces <= 64);
-    let answer = version.answer(rt, alloc, query, pieces, &OpenGate)?;
-    Ok(format!(in alloc; "{answer:?}")?)
-}
-
-/// Asserts what is answered in one piece and in two.
-fn expect_groups(
-    rt: &(impl Abort + Threads + Sync),
-    alloc: Global,
-    version: &Version,
-) -> Result<(), Fail> {
-    let query = by_second(alloc)?;
-    for pieces in [1u32, 2] {
-        let answer = answered(rt, alloc, version, &query, pieces)?;
-        assert!(rt; answer.as_str() == GROUPS, "{answer}");
-    }
-    Ok(())
-}
-
-/// Asserts what is answered where no thread may be started.
-pub(crate) fn expect_groups_alone(
-    rt: &impl Abort,
-    alloc: Global,
-    version: &Version,
-) -> Result<(), Fail> {
-    let query = by_second(alloc)?;
-    assert!(rt; query.fits(version.schema()));
-    let answer = version.answer_alone(alloc, &query, &OpenGate)?;
-    let reported = format!(in alloc; "{answer:?}")?;
-    assert!(rt; reported.as_str() == GROUPS, "{reported}");
-    Ok(())
-}
-
-#[test]
-fn rows_are_grouped_by_a_new_column(rt: HostRuntime) -> Result<(), Fail> {
-    expect_groups(&rt, rt.alloc(), &*with_x(rt.alloc())?.version()?)
+    expect(&rt, rt.alloc(), Group::Typed)
 }

@@ -107,13 +107,3 @@ fn bits_grow_and_are_cut(rt: HostRuntime) -> Result<(), Fail> {
     }
     Ok(())
 }
-
-#[test]
-fn bits_may_have_room_before_they_grow(rt: HostRuntime) -> Result<(), Fail> {
-    let mut builder = BitmapBuilder::with_capacity(rt.alloc(), 3)?;
-    put(&rt, rt.alloc(), &mut builder, Push::Places(9))?;
-    let bitmap = builder.finish()?;
-    assert!(rt; bitmap.bits().len() == 9);
-    assert!(rt; bitmap.into_buffer().bytes() == [0xfb, 0x01].as_slice());
-    Ok(())
-}

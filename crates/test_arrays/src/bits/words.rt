@@ -172,21 +172,13 @@ impl Operation {
 }
 
 #[test]
-fn combines_by_and(rt: HostRuntime) {
-    Operation::And.assert_at_each_length(&rt, rt.alloc());
-}
-
-#[test]
-fn combines_by_or(rt: HostRuntime) {
-    Operation::Or.assert_at_each_length(&rt, rt.alloc());
-}
-
-#[test]
-fn combines_by_and_not(rt: HostRuntime) {
-    Operation::AndNot.assert_at_each_length(&rt, rt.alloc());
-}
-
-#[test]
-fn flips_bits(rt: HostRuntime) {
-    Operation::Not.assert_at_each_length(&rt, rt.alloc());
+fn makes_of_each_two_bits_what_the_operation_says(rt: HostRuntime) {
+    for operation in [
+        Operation::And,
+        Operation::Or,
+        Operation::AndNot,
+        Operation::Not,
+    ] {
+        operation.assert_at_each_length(&rt, rt.alloc());
+    }
 }

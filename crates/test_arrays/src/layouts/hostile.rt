@@ -3,7 +3,7 @@
 
 mod depths;
 mod dictionaries;
-mod forms;
+pub(super) mod forms;
 mod large;
 mod lengths;
 mod lists;
@@ -24,14 +24,14 @@ use std::test::Fail;
 use test_samples::{NARROW, Positions, WIDTHS, Widths, raw};
 
 /// What it is, and its parts.
-type Row = (&'static str, Form);
+pub(super) type Row = (&'static str, Form);
 
 /// The rows of one fault, or of none.
-type Group = (Option<LayoutFault>, &'static [Row]);
+pub(super) type Group = (Option<LayoutFault>, &'static [Row]);
 
 /// Where an array stands. Nothing above it names any of its slots, and all of them are looked at.
 #[derive(Clone, Copy, Debug)]
-enum Place {
+pub(super) enum Place {
     Top,
     /// In so many lists in one another.
     InLists(usize),
@@ -130,7 +130,7 @@ fn expect_rows(
 }
 
 /// Asserts the fault of each row of each group, at each place.
-fn expect_at(
+pub(super) fn expect_at(
     rt: &impl Abort,
     alloc: Global,
     widths: Widths,
@@ -144,7 +144,12 @@ fn expect_at(
 }
 
 /// Asserts it at all widths.
-fn expect(rt: &impl Abort, alloc: Global, places: &[Place], groups: &[Group]) -> Result<(), Fail> {
+pub(super) fn expect(
+    rt: &impl Abort,
+    alloc: Global,
+    places: &[Place],
+    groups: &[Group],
+) -> Result<(), Fail> {
     for widths in WIDTHS {
         expect_at(rt, alloc, widths, places, groups)?;
     }

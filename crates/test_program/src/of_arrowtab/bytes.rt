@@ -1,56 +1,10 @@
 //! Where bytes come from and go to, in pieces and with failures.
-ghost use Rattle.std.specs.Prelude.{◌≡◌, ◌^◌, ◌-◌, ◌<◌, All, IfOk, length};
+ghost use Rattle.std.specs.Prelude.{◌≡◌, ◌^◌, ◌-◌, ◌<◌, IfOk};
 
 use super::{assert_case, source};
 use arrowtab::memory::{MemorySink, MemorySource, Plan};
-use arrowtab::{Source, SourceFault, WriteFailed, read_whole, write_whole};
+use arrowtab::{SourceFault, read_whole, write_whole};
 use std::alloc::{AllocError, Global};
-
-/// Bytes that tell their places apart.
-fn pattern(alloc: Global, length: usize) -> Result<Vec<u8>, AllocError> {
-    let mut bytes = Vec::new(alloc);
-    for i in 0..length {
-        bytes.push((i % 251) as u8)?;
-    }
-    Ok(bytes)
-}
-
-/// How many bytes, how many of them a read gives at most, and the name of the case.
-const LENGTHS: [(usize, usize, &str); 5] = [
-    (150_000, 1, "1"),
-    (150_000, 3, "3"),
-    (150_000, 70_000, "70000"),
-    (150_000, usize::MAX, "all"),
-    (0, usize::MAX, "none"),
-];
-
-#[test]
-fn reads_to_the_end(rt: HostRuntime) {
-    for (length, most, name) in LENGTHS {
-        let is_right = match pattern(rt.alloc(), length) {
-            Ok(whole) => is_read(rt.alloc(), whole.as_slice(), most),
-            Err(_) => false,
-        };
-        assert_case(&rt, is_right, &["a read gives"], name);
-    }
-}
-
-/// Whether a source of these bytes, which gives them in pieces, is read to its end.
-fn is_read(alloc: Global, whole: &[u8], most: usize) -> bool {
-    let Ok(bytes) = Vec::from_slice(alloc, whole) else {
-        return false;
-    };
-    let mut source = MemorySource::new(bytes);
-    if most > 0 {
-        source = source.in_pieces(most);
-    }
-
-    // At the end there is nothing, however often it is requested.
-    gives(alloc, &mut source, whole)
-        && source.remaining().is_empty()
-        && source.failures() == 0
-        && gives(alloc, &mut source, b"")
-}
 
 /// Whether a source gives these bytes, and then its end.
 fn gives(alloc: Global, source: &mut MemorySource, wanted: &[u8]) -> bool
@@ -104,55 +58,6 @@ fn gives_all_digits(alloc: Global) -> bool {
         Ok(mut source) => gives(alloc, &mut source, b"0123456789"),
         Err(_) => false,
     }
-}
-
-/// Reads one source of several, as a program over a list of files does.
-fn read_at<S: Source>(
-    alloc: Global,
-    sources: &mut [S],
-    index: usize,
-) -> Result<Vec<u8>, SourceFault>
-    requires within { index < length sources.old }
-    requires room { All (λ source. S.failures source < 2 ^ 64 - 1) sources.old }
-{
-    read_whole(alloc, &mut sources[index])
-}
-
-#[test]
-fn reads_one_of_many(rt: HostRuntime) {
-    assert!(rt; reads_the_second(rt.alloc()));
-}
-
-/// Whether reading the second of two sources leaves the first as it was.
-fn reads_the_second(alloc: Global) -> bool {
-    let Ok(first) = source(alloc, "first") else {
-        return false;
-    };
-    let Ok(second) = source(alloc, "second") else {
-        return false;
-    };
-    let mut sources = [first, second];
-    let Ok(bytes) = read_at(alloc, &mut sources, 1) else {
-        return false;
-    };
-    bytes.as_slice() == b"second".as_slice()
-        && sources[0].remaining() == b"first".as_slice()
-        && sources[1].remaining().is_empty()
-}
-
-#[test]
-fn writes_a_byte_at_a_time(rt: HostRuntime) {
-    let mut sink = MemorySink::new(rt.alloc()).in_pieces(1);
-    assert!(rt; writes_pieces(&mut sink).is_ok());
-    assert!(rt; sink.taken() == b"one, two".as_slice() && sink.failures() == 0);
-}
-
-fn writes_pieces(sink: &mut MemorySink) -> Result<(), WriteFailed>
-    requires { sink.old.failures < 2 ^ 64 - 1 }
-{
-    write_whole(sink, b"one")?;
-    write_whole(sink, b"")?;
-    write_whole(sink, b", two")
 }
 
 // Five bytes, two a write, are three writes.

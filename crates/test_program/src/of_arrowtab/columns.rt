@@ -91,15 +91,19 @@ const FAULTS: [(&str, &str); 10] = [
 #[test]
 fn a_column_may_not_be_added(rt: HostRuntime) {
     for (field, wanted) in FAULTS {
-        let words = ["arrowtab", "export", "--add-column", field, "A"];
-        expect(&rt, rt.alloc(), &words, (FILE, None), wanted);
+        for command in ["stats", "export"] {
+            let words = ["arrowtab", command, "--add-column", field, "A"];
+            expect(&rt, rt.alloc(), &words, (FILE, None), wanted);
+        }
     }
 }
 
 /// A query, a field, a file, and which of their faults is reported: the query is read first, then the field, then the file, and the
 /// column is added last.
-const FIRST: [(&str, &str, &str, &str); 4] = [
+const FIRST: [(&str, &str, &str, &str); 5] = [
     ("{", "{", "{", "arrowtab: query: J1 NotJson\n"),
+    // A query that is read and names no column, over a file that isn't.
+    (r#"{"by":["o"]}"#, NUMBERS, "{", "arrowtab: A: J1 NotJson\n"),
     ("{}", "{", "{", "arrowtab: column: J1 NotJson\n"),
     ("{}", FULL, "{", "arrowtab: A: J1 NotJson\n"),
     (

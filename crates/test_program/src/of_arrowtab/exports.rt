@@ -42,6 +42,10 @@ const LARGE_OUT: &str =
 const LETTERS: &str =
     r#"{"schema":{"fields":[{"name":"s","nullable":true,"type":{"name":"utf8"},"children":[],"dictionary":{"id":7,"indexType":{"name":"int","bitWidth":8,"isSigned":true},"isOrdered":false}}]},"dictionaries":[{"id":7,"data":[{"count":4,"columns":[{"name":"x","count":4,"VALIDITY":[1,1,1,0],"OFFSET":[0,1,2,3,3],"DATA":["a","b","a",""]}]}]}],"batches":[{"count":5,"columns":[{"name":"s","count":5,"VALIDITY":[1,1,1,0,1],"DATA":[2,0,3,9,1]}]}]}"#;
 
+/// The same, whose dictionary's batch stands in no array.
+const BARE_LETTERS: &str =
+    r#"{"schema":{"fields":[{"name":"s","nullable":true,"type":{"name":"utf8"},"children":[],"dictionary":{"id":7,"indexType":{"name":"int","bitWidth":8,"isSigned":true},"isOrdered":false}}]},"dictionaries":[{"id":7,"data":{"count":4,"columns":[{"name":"x","count":4,"VALIDITY":[1,1,1,0],"OFFSET":[0,1,2,3,3],"DATA":["a","b","a",""]}]}}],"batches":[{"count":5,"columns":[{"name":"s","count":5,"VALIDITY":[1,1,1,0,1],"DATA":[2,0,3,9,1]}]}]}"#;
+
 const LETTERS_OUT: &str =
     r#"{"batches":[{"columns":[{"DATA":[0,0,0,0,1],"VALIDITY":[1,1,0,0,1],"count":5,"name":"s"}],"count":5}],"dictionaries":[{"data":{"columns":[{"DATA":["a","b"],"OFFSET":[0,1,2],"VALIDITY":[1,1],"count":2,"name":"s"}],"count":2},"id":0}],"schema":{"fields":[{"children":[],"dictionary":{"id":0,"indexType":{"bitWidth":32,"isSigned":true,"name":"int"},"isOrdered":false},"name":"s","nullable":true,"type":{"name":"utf8"}}]}}
 "#;
@@ -70,12 +74,13 @@ const BOTH_OUT: &str =
 "#;
 
 /// One file or two, and what is exported.
-const EXPORTED: [(&str, Option<&str>, &str); 8] = [
+const EXPORTED: [(&str, Option<&str>, &str); 9] = [
     (NUMBERS, None, NUMBERS_OUT),
     (TEXTS, None, TEXTS_OUT),
     (LISTS, None, LISTS_OUT),
     (LARGE, None, LARGE_OUT),
     (LETTERS, None, LETTERS_OUT),
+    (BARE_LETTERS, None, LETTERS_OUT),
     (EMPTY, None, EMPTY_OUT),
     (BARE, None, BARE_OUT),
     (TEXTS, Some(MORE), BOTH_OUT),

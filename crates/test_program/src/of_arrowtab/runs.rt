@@ -19,7 +19,7 @@ const OUTPUT: &str =
 const TEMPLATE: &str = r#"{"schema":{"fields":[FIELD]},"batches":[BATCHES]}"#;
 
 /// Fields, batches, and what is printed of their file.
-const PRINTED: [(&str, &str, &str); 14] = [
+const PRINTED: [(&str, &str, &str); 15] = [
     // No batch.
     (
         r#"{"name":"n","nullable":true,"type":{"name":"int","bitWidth":8,"isSigned":false},"children":[]}"#,
@@ -71,6 +71,11 @@ const PRINTED: [(&str, &str, &str); 14] = [
     (
         r#"{"name":"l","nullable":true,"type":{"name":"list"},"children":[{"name":"item","nullable":true,"type":{"name":"int","bitWidth":8,"isSigned":true},"children":[]}]}"#,
         r#"{"count":0,"columns":[{"name":"l","count":0,"VALIDITY":[],"OFFSET":[],"children":[{"name":"item","count":0,"VALIDITY":[],"DATA":[]}]}]}"#,
+        "rows 0\nworker 0 calls 1 rows 0\n\"l\" list<int8> rows=0 nulls=0 sum=- least=- greatest=-\n",
+    ),
+    (
+        r#"{"name":"l","nullable":true,"type":{"name":"list"},"children":[{"name":"item","nullable":true,"type":{"name":"int","bitWidth":8,"isSigned":true},"children":[]}]}"#,
+        r#"{"count":0,"columns":[{"name":"l","count":0,"VALIDITY":[],"OFFSET":[0],"children":[{"name":"item","count":0,"VALIDITY":[],"DATA":[]}]}]}"#,
         "rows 0\nworker 0 calls 1 rows 0\n\"l\" list<int8> rows=0 nulls=0 sum=- least=- greatest=-\n",
     ),
     // Lists in lists: of two lists and of none, and null.

@@ -6,24 +6,52 @@ use arrowtab::memory::{MemorySink, Plan};
 use arrowtab::{Command, Job, JobFault, job, print_fault};
 use std::alloc::Global;
 
-/// Words, each behind one space, the command that they ask for, or the text of its query, and the files that it is about.
-const JOBS: [(&str, &str, &str); 11] = [
-    ("arrowtab stats A", "stats", "A"),
-    ("a/b stats B A B", "stats", "B A B"),
+/// Words, each behind one space, the command that they ask for, or the text of its query, the files that it is about, how many
+/// workers, and the text of a column, a dash where there is none.
+const JOBS: [(&str, &str, &str, u32, &str); 18] = [
+    ("arrowtab stats A", "stats", "A", 1, "-"),
+    ("a/b stats B A B", "stats", "B A B", 1, "-"),
     // An empty name.
-    ("arrowtab stats ", "stats", ""),
-    ("arrowtab stats stats help", "stats", "stats help"),
-    ("arrowtab stats -- -h --", "stats", "-h --"),
-    ("arrowtab export A", "export", "A"),
-    ("arrowtab export B A B", "export", "B A B"),
-    ("arrowtab query --query {} A", "{}", "A"),
-    ("arrowtab query B --query={} A", "{}", "B A"),
+    ("arrowtab stats ", "stats", "", 1, "-"),
+    ("arrowtab stats stats help", "stats", "stats help", 1, "-"),
+    ("arrowtab stats -- -h --", "stats", "-h --", 1, "-"),
+    ("arrowtab export A", "export", "A", 1, "-"),
+    ("arrowtab export B A B", "export", "B A B", 1, "-"),
+    ("arrowtab query --query {} A", "{}", "A", 1, "-"),
+    ("arrowtab query B --query={} A", "{}", "B A", 1, "-"),
     // An empty query.
-    ("arrowtab query --query  A", "", "A"),
+    ("arrowtab query --query  A", "", "A", 1, "-"),
     (
         "arrowtab query --query query -- --query",
         "query",
         "--query",
+        1,
+        "-",
+    ),
+    ("arrowtab export A --workers=64", "export", "A", 64, "-"),
+    ("arrowtab stats --workers +7 A", "stats", "A", 7, "-"),
+    (
+        "arrowtab query --workers 2 --query {} A B",
+        "{}",
+        "A B",
+        2,
+        "-",
+    ),
+    ("arrowtab stats --add-column {} A", "stats", "A", 1, "{}"),
+    ("arrowtab export A --add-column=", "export", "A", 1, ""),
+    (
+        "arrowtab query --add-column [] --query {} A",
+        "{}",
+        "A",
+        1,
+        "[]",
+    ),
+    (
+        "arrowtab stats -- --add-column",
+        "stats",
+        "--add-column",
+        1,
+        "-",
     ),
 ];
 
@@ -45,19 +73,19 @@ fn name_of(command: &Command) -> &str {
 }
 
 #[test]
-fn a_command_takes_files(rt: HostRuntime) {
-    for (line, command, names) in JOBS {
-        let is_right = asks(rt.alloc(), line, command, names);
+fn words_ask_for_a_job(rt: HostRuntime) {
+    for (line, command, names, workers, column) in JOBS {
+        let is_right = match job_of(rt.alloc(), line) {
+            Ok(job) => {
+                name_of(&job.command) == command
+                    && are(&job.names, names)
+                    && job.workers == workers
+                    && is_column(&job.column, column)
+            }
+            Err(_) => false,
+        };
         assert_case(&rt, is_right, &[line], command);
     }
-}
-
-/// Whether a line asks for this command over these files, by one worker.
-fn asks(alloc: Global, line: &str, command: &str, names: &str) -> bool {
-    let Ok(job) = job_of(alloc, line) else {
-        return false;
-    };
-    name_of(&job.command) == command && are(&job.names, names) && job.workers == 1
 }
 
 fn are(names: &[String], wanted: &str) -> bool {
@@ -65,52 +93,9 @@ fn are(names: &[String], wanted: &str) -> bool {
     found.eq(wanted.split(' '))
 }
 
-/// Words, and how many workers they ask for.
-const CREWS: [(&str, u32); 4] = [
-    ("arrowtab stats --workers 1 A", 1),
-    ("arrowtab export A --workers=64", 64),
-    ("arrowtab stats --workers +7 A", 7),
-    ("arrowtab query --workers 2 --query {} A B", 2),
-];
-
-#[test]
-fn a_command_takes_a_number_of_workers(rt: HostRuntime) {
-    for (line, workers) in CREWS {
-        let is_right = workers_of(rt.alloc(), line) == workers;
-        assert_case(&rt, is_right, &[line], "workers");
-    }
-}
-
-/// How many workers a line asks for, or 0 where it asks for no job.
-fn workers_of(alloc: Global, line: &str) -> u32 {
-    match job_of(alloc, line) {
-        Ok(job) => job.workers,
-        Err(_) => 0,
-    }
-}
-
-/// Words, and the text of the column that they ask for, a dash where they ask for none.
-const COLUMNS: [(&str, &str); 4] = [
-    ("arrowtab stats --add-column {} A", "{}"),
-    ("arrowtab export A --add-column=", ""),
-    ("arrowtab query --add-column [] --query {} A", "[]"),
-    ("arrowtab stats -- --add-column", "-"),
-];
-
-#[test]
-fn a_command_takes_a_column(rt: HostRuntime) {
-    for (line, column) in COLUMNS {
-        let is_right = has_column(rt.alloc(), line, column);
-        assert_case(&rt, is_right, &[line], column);
-    }
-}
-
-/// Whether a line asks for a column of this text, where it's a dash for none.
-fn has_column(alloc: Global, line: &str, wanted: &str) -> bool {
-    let Ok(job) = job_of(alloc, line) else {
-        return false;
-    };
-    match &job.column {
+/// Whether a column is of this text, where it's a dash for none.
+fn is_column(column: &Option<String>, wanted: &str) -> bool {
+    match column {
         Some(column) => column.as_str() == wanted,
         None => wanted == "-",
     }

@@ -234,20 +234,10 @@ const IN_A_LIST: &[Group] = &[(
 )];
 
 #[test]
-fn codes_have_two_positions_of_enough_bytes(rt: HostRuntime) -> Result<(), Fail> {
-    expect_at(&rt, rt.alloc(), NARROW, &[Top], POSITIONS)?;
-    expect_at(&rt, rt.alloc(), NARROW, &[Top], SIZES)?;
-    expect_at(&rt, rt.alloc(), NARROW, &[Top], COUNTS)
-}
-
-#[test]
-fn codes_that_are_valid_name_an_entry(rt: HostRuntime) -> Result<(), Fail> {
-    expect_at(&rt, rt.alloc(), NARROW, &[Top], CODES)
-}
-
-#[test]
-fn codes_have_a_dictionary_of_texts_and_stand_in_no_list(rt: HostRuntime) -> Result<(), Fail> {
-    expect_at(&rt, rt.alloc(), NARROW, &[Top], PARTS)?;
+fn codes_from_outside_are_checked(rt: HostRuntime) -> Result<(), Fail> {
+    for groups in [POSITIONS, SIZES, COUNTS, CODES, PARTS] {
+        expect_at(&rt, rt.alloc(), NARROW, &[Top], groups)?;
+    }
     expect_at(&rt, rt.alloc(), NARROW, &[Entries], AS_ENTRIES)?;
     let lists = [InLists(1), InLists(2), InLists(8), InNulls(1), InNulls(8)];
     expect(&rt, rt.alloc(), &lists, IN_A_LIST)

@@ -14,7 +14,7 @@ type Bitmap = Option<&'static [u8]>;
 
 /// The parts of an array.
 #[derive(Clone, Copy)]
-pub(super) enum Form {
+pub(in crate::layouts) enum Form {
     Alone(Part),
     /// Over its children and its dictionary.
     Over(Part, &'static [Part], Option<Part>),
@@ -32,7 +32,7 @@ pub(super) enum Form {
 
 impl Form {
     /// The parts, with offsets of these widths.
-    pub(super) fn parts(self, alloc: Global, widths: Widths) -> Result<RawArray, Fail> {
+    pub(in crate::layouts) fn parts(self, alloc: Global, widths: Widths) -> Result<RawArray, Fail> {
         match self {
             Alone(part) => parts(alloc, widths, part),
             Over(own, children, dictionary) => {

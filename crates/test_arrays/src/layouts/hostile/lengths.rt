@@ -188,19 +188,11 @@ const ENTRIES: &[Group] = &[
 ];
 
 #[test]
-fn lengths_of_numbers_and_texts_are_limited(rt: HostRuntime) -> Result<(), Fail> {
+fn lengths_are_limited(rt: HostRuntime) -> Result<(), Fail> {
     expect(&rt, rt.alloc(), ANYWHERE, NUMBERS)?;
-    expect_texts(&rt, rt.alloc(), TEXTS)
-}
-
-#[test]
-fn lengths_of_lists_and_of_their_items_are_limited(rt: HostRuntime) -> Result<(), Fail> {
+    expect_texts(&rt, rt.alloc(), TEXTS)?;
     expect(&rt, rt.alloc(), OF_LISTS, LISTS)?;
-    expect(&rt, rt.alloc(), OF_LISTS, ITEMS)
-}
-
-#[test]
-fn lengths_of_codes_and_of_dictionaries_are_limited(rt: HostRuntime) -> Result<(), Fail> {
+    expect(&rt, rt.alloc(), OF_LISTS, ITEMS)?;
     expect_at(&rt, rt.alloc(), NARROW, &[Top], CODES)?;
     expect_at(&rt, rt.alloc(), NARROW, &[Top], ENTRIES)
 }

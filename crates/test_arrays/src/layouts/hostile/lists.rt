@@ -313,28 +313,14 @@ const DEEPER: &[Group] = &[(
 )];
 
 #[test]
-fn lists_have_two_positions_of_enough_bytes(rt: HostRuntime) -> Result<(), Fail> {
-    expect(&rt, rt.alloc(), OF_LISTS, POSITIONS)?;
-    expect(&rt, rt.alloc(), OF_LISTS, SIZES)?;
-    expect(&rt, rt.alloc(), OF_LISTS, COUNTS)
-}
-
-#[test]
-fn offsets_of_lists_rise_and_end_with_the_items(rt: HostRuntime) -> Result<(), Fail> {
-    expect(&rt, rt.alloc(), OF_LISTS, RISING)?;
-    expect(&rt, rt.alloc(), OF_LISTS, PAST_END)
-}
-
-#[test]
-fn lists_have_the_one_child_of_their_items(rt: HostRuntime) -> Result<(), Fail> {
-    expect(&rt, rt.alloc(), OF_LISTS, CHILDREN)?;
-    expect(&rt, rt.alloc(), OF_LISTS, UNNAMED)?;
-    expect(
-        &rt,
-        rt.alloc(),
-        &[Top, InLists(1), InLists(6), InNulls(6)],
-        DEEPER,
-    )
+fn lists_from_outside_are_checked(rt: HostRuntime) -> Result<(), Fail> {
+    for groups in [
+        POSITIONS, SIZES, COUNTS, RISING, PAST_END, CHILDREN, UNNAMED,
+    ] {
+        expect(&rt, rt.alloc(), OF_LISTS, groups)?;
+    }
+    let places = [Top, InLists(1), InLists(6), InNulls(6)];
+    expect(&rt, rt.alloc(), &places, DEEPER)
 }
 
 const ONE_ITEM: &[Content] = &[Nothing, Offsets(&[0, 1])];

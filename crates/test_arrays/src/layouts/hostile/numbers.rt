@@ -144,13 +144,9 @@ const PARTS: &[Group] = &[
 ];
 
 #[test]
-fn numbers_have_all_their_bytes(rt: HostRuntime) -> Result<(), Fail> {
-    expect(&rt, rt.alloc(), ANYWHERE, WIDTHS)?;
-    expect(&rt, rt.alloc(), ANYWHERE, SIZES)
-}
-
-#[test]
-fn numbers_stand_at_two_positions_and_alone(rt: HostRuntime) -> Result<(), Fail> {
-    expect(&rt, rt.alloc(), ANYWHERE, POSITIONS)?;
-    expect(&rt, rt.alloc(), ANYWHERE, PARTS)
+fn numbers_from_outside_are_checked(rt: HostRuntime) -> Result<(), Fail> {
+    for groups in [WIDTHS, SIZES, POSITIONS, PARTS] {
+        expect(&rt, rt.alloc(), ANYWHERE, groups)?;
+    }
+    Ok(())
 }

@@ -323,11 +323,7 @@ const CODES: &[Group] = &[
 #[test]
 fn the_first_of_several_faults_is_reported(rt: HostRuntime) -> Result<(), Fail> {
     expect(&rt, rt.alloc(), ANYWHERE, NUMBERS)?;
-    expect_texts(&rt, rt.alloc(), TEXTS)
-}
-
-#[test]
-fn the_fault_above_is_reported_first(rt: HostRuntime) -> Result<(), Fail> {
+    expect_texts(&rt, rt.alloc(), TEXTS)?;
     expect(&rt, rt.alloc(), OF_LISTS, LISTS)?;
     expect_at(&rt, rt.alloc(), NARROW, &[Top], CODES)
 }

@@ -309,20 +309,9 @@ const PARTS: &[Group] = &[
 ];
 
 #[test]
-fn texts_stand_at_three_positions_and_alone(rt: HostRuntime) -> Result<(), Fail> {
-    expect_texts(&rt, rt.alloc(), POSITIONS)?;
-    expect_texts(&rt, rt.alloc(), SIZES)?;
-    expect_texts(&rt, rt.alloc(), PARTS)
-}
-
-#[test]
-fn offsets_of_texts_rise_and_end_with_the_bytes(rt: HostRuntime) -> Result<(), Fail> {
-    expect_texts(&rt, rt.alloc(), RISING)?;
-    expect_texts(&rt, rt.alloc(), PAST_END)
-}
-
-#[test]
-fn texts_that_are_valid_are_utf8(rt: HostRuntime) -> Result<(), Fail> {
-    expect_texts(&rt, rt.alloc(), CHARACTERS)?;
-    expect_texts(&rt, rt.alloc(), SLOTS)
+fn texts_from_outside_are_checked(rt: HostRuntime) -> Result<(), Fail> {
+    for groups in [POSITIONS, SIZES, PARTS, RISING, PAST_END, CHARACTERS, SLOTS] {
+        expect_texts(&rt, rt.alloc(), groups)?;
+    }
+    Ok(())
 }

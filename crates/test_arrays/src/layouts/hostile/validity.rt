@@ -166,13 +166,9 @@ const COUNTS_OF_TEXTS: &[Group] = &[
 ];
 
 #[test]
-fn bitmaps_hold_a_bit_for_each_slot(rt: HostRuntime) -> Result<(), Fail> {
+fn bitmaps_and_null_counts_are_checked(rt: HostRuntime) -> Result<(), Fail> {
     expect(&rt, rt.alloc(), ANYWHERE, BITMAPS)?;
-    expect_texts(&rt, rt.alloc(), BITMAPS_OF_TEXTS)
-}
-
-#[test]
-fn stated_null_counts_are_those_of_the_bitmap(rt: HostRuntime) -> Result<(), Fail> {
+    expect_texts(&rt, rt.alloc(), BITMAPS_OF_TEXTS)?;
     expect(&rt, rt.alloc(), ANYWHERE, COUNTS)?;
     expect_texts(&rt, rt.alloc(), COUNTS_OF_TEXTS)
 }

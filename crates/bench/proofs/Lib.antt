@@ -1,2 +1,0 @@
-mod FileLemmas
-pub mod SendingLemmas
