@@ -1,5 +1,5 @@
 #!/usr/bin/env python3
-"""Measures kernels, selections, pools and statistics beside plain Rust loops with the same checks.
+"""Measures kernels, selections and pools beside plain Rust loops with the same checks.
 
     bench/kernels.py [RUNS [KERNEL..]]
 
@@ -16,10 +16,9 @@ import time
 
 import programs
 
-KERNELS = [("add", 8_000_000, 10), ("less", 8_000_000, 40), ("add-number", 8_000_000, 10), ("greater-number", 8_000_000, 40), ("equal", 1_000_000, 40), ("and", 64_000_000, 60), ("filter", 8_000_000, 20), ("take", 8_000_000, 5),
-           ("take-texts", 1_000_000, 8), ("concat", 16_000_000, 10), ("recode-few", 1_000_000, 20), ("recode-many", 1_000_000, 5), ("stats-of", 8_000_000, 30),
-           ("null-count", 64_000_000, 800), ("bits-and", 64_000_000, 200), ("bits-or", 64_000_000, 200), ("bits-not", 64_000_000, 200),
-           ("bits-and-within", 64_000_000, 200), ("validate-numbers", 8_000_000, 8000), ("validate-texts", 1_000_000, 100)]
+KERNELS = [("add", 8_000_000, 10), ("less", 8_000_000, 40), ("add-number", 8_000_000, 10), ("greater-number", 8_000_000, 40), ("equal", 1_000_000, 40),
+           ("and", 64_000_000, 60), ("filter", 8_000_000, 20), ("take", 8_000_000, 5), ("take-texts", 1_000_000, 8), ("recode-few", 1_000_000, 20),
+           ("recode-many", 1_000_000, 5)]
 
 
 def seconds(program, kernel, rows, times):

@@ -255,20 +255,6 @@ fn take_texts(a: &Texts, rows: &[u32]) -> Result<Texts, usize> {
     Ok(Texts { validity, offsets, bytes })
 }
 
-/// The columns behind one another.
-fn concat(pieces: &[Numbers]) -> Numbers {
-    let rows: usize = pieces.iter().map(|piece| piece.values.len()).sum();
-    let mut validity = Bits::with_capacity(rows);
-    let mut values = Vec::with_capacity(rows);
-    for piece in pieces {
-        for (k, word) in piece.validity.0.iter().enumerate() {
-            validity.push(*word, (piece.values.len() - 64 * k).min(64));
-        }
-        values.extend_from_slice(&piece.values);
-    }
-    Numbers { validity: Bitmap(validity.words), values }
-}
-
 /// The places of the texts in a pool of their own, or the row whose text the pool can't have.
 fn recode(a: &Texts) -> Result<ShortNumbers, usize> {
     let rows = a.offsets.len() - 1;
@@ -296,103 +282,8 @@ fn recode(a: &Texts) -> Result<ShortNumbers, usize> {
     Ok(ShortNumbers { validity: Bitmap(a.validity.0.clone()), values })
 }
 
-struct Stats {
-    nulls: usize,
-    sum: i128,
-    least: i64,
-    greatest: i64,
-}
-
-fn stats(a: &Numbers) -> Stats {
-    let mut stats = Stats { nulls: a.validity.zeros(a.values.len()), sum: 0, least: i64::MAX, greatest: i64::MIN };
-    for (numbers, valid) in a.values.chunks(64).zip(&a.validity.0) {
-        // the halves of 64 numbers add up without an overflow
-        let (mut low, mut high) = (0, 0);
-        for (i, number) in numbers.iter().enumerate() {
-            let is_valid = valid >> i & 1 == 1;
-            let added = if is_valid { *number } else { 0 };
-            low += added & 0xFFFF_FFFF;
-            high += added >> 32;
-            stats.least = stats.least.min(if is_valid { *number } else { i64::MAX });
-            stats.greatest = stats.greatest.max(if is_valid { *number } else { i64::MIN });
-        }
-        stats.sum += (i128::from(high) << 32) + i128::from(low);
-    }
-    stats
-}
-
-/// Bits that lie in bytes from any bit on.
-struct Packed {
-    bytes: Vec<u8>,
-    start: usize,
-    len: usize,
-}
-
-impl Packed {
-    /// Bits in no order.
-    fn new(len: usize, start: usize, salt: u32) -> Packed {
-        let bytes = (0..len as u32 / 8 + 9).map(|k| (spread(k.wrapping_add(salt)) >> 24) as u8).collect();
-        Packed { bytes, start, len }
-    }
-
-    /// The whole words from the first bit of the first byte on.
-    fn words(&self) -> impl Iterator<Item = u64> + '_ {
-        let words = self.bytes.chunks_exact(8).map(|word| u64::from_le_bytes(word.try_into().unwrap()));
-        words.take(self.len / 64)
-    }
-
-    /// The whole words from a bit within the first byte on.
-    fn words_within(&self) -> impl Iterator<Item = u64> + '_ {
-        let next = self.bytes[8..].chunks(8);
-        self.words().zip(next).map(|(low, next)| low >> self.start | u64::from(next[0]) << (64 - self.start))
-    }
-
-    /// The bits behind the whole words, as a word.
-    fn rest(&self) -> u64 {
-        let first = self.len / 64 * 64;
-        let bit = |i: usize| u64::from(self.bytes[(self.start + i) / 8] >> ((self.start + i) % 8) & 1);
-        (first..self.len).fold(0, |word, i| word | bit(i) << (i - first))
-    }
-
-    /// The words of what is made of each two bits, the bits past the last 0.
-    fn combined(&self, other: &Packed, both: impl Fn(u64, u64) -> u64) -> Vec<u64> {
-        let mut words = Vec::with_capacity(self.len.div_ceil(64));
-        if self.start == 0 && other.start == 0 {
-            words.extend(self.words().zip(other.words()).map(|(a, b)| both(a, b)));
-        } else {
-            words.extend(self.words_within().zip(other.words_within()).map(|(a, b)| both(a, b)));
-        }
-        if self.len % 64 > 0 {
-            words.push(both(self.rest(), other.rest()) & ((1 << (self.len % 64)) - 1));
-        }
-        words
-    }
-}
-
 fn ones(words: impl Iterator<Item = u64>) -> usize {
     words.map(|word| word.count_ones() as usize).sum()
-}
-
-/// How many of the bits are 0.
-fn null_count(bits: &Packed) -> usize {
-    bits.len - ones(bits.words()) - bits.rest().count_ones() as usize
-}
-
-/// Whether the parts of a column of numbers are long enough and have so many nulls.
-fn are_numbers(values: &[i64], validity: &Bitmap, rows: usize, nulls: usize) -> bool {
-    values.len() >= rows && validity.0.len() >= rows.div_ceil(64) && validity.zeros(rows) == nulls
-}
-
-/// Whether the parts of a column of texts are: offsets that begin at no less than 0, rise, and end within the bytes, each between two characters
-/// of what is a text as a whole, and so many nulls.
-fn are_texts(offsets: &[i32], bytes: &[u8], validity: &Bitmap, rows: usize, nulls: usize) -> bool {
-    if offsets.len() != rows + 1 || offsets[0] < 0 || offsets.windows(2).any(|pair| pair[1] < pair[0]) || offsets[rows] as usize > bytes.len() {
-        return false;
-    }
-    let Ok(text) = std::str::from_utf8(bytes) else {
-        return false;
-    };
-    offsets.iter().all(|offset| text.is_char_boundary(*offset as usize)) && validity.zeros(rows) == nulls
 }
 
 /// The result of the last of so many calls.
@@ -442,47 +333,9 @@ fn main() {
             let (a, b) = (texts(rows, 3), places(rows));
             last_of(times, || take_texts(black_box(&a), black_box(&b)).unwrap()).validity.zeros(rows)
         }
-        "concat" => {
-            let pieces: Vec<Numbers> = (0..16).map(|salt| numbers(rows / 16, salt)).collect();
-            last_of(times, || concat(black_box(&pieces))).validity.zeros(rows / 16 * 16)
-        }
         "recode-few" | "recode-many" => {
             let a = repeated_texts(rows, 3, if words[1] == "recode-few" { 1_000 } else { 200_000 });
             last_of(times, || recode(black_box(&a)).unwrap()).validity.zeros(rows)
-        }
-        "stats-of" => {
-            let a = numbers(rows, 3);
-            let stats = last_of(times, || stats(black_box(&a)));
-            println!("{} {} {} {}", stats.nulls, stats.sum, stats.least, stats.greatest);
-            return;
-        }
-        "null-count" => {
-            let mut bytes: Vec<u8> = validity(rows, 3).0.iter().flat_map(|word| word.to_le_bytes()).collect();
-            bytes.resize(rows / 8 + 9, 0);
-            let bits = Packed { bytes, start: 0, len: rows };
-            last_of(times, || null_count(black_box(&bits)))
-        }
-        "validate-numbers" => {
-            let a = numbers(rows, 3);
-            let nulls = a.validity.zeros(rows);
-            assert!(last_of(times, || are_numbers(black_box(&a.values), black_box(&a.validity), rows, nulls)));
-            nulls
-        }
-        "validate-texts" => {
-            let a = texts(rows, 3);
-            let nulls = a.validity.zeros(rows);
-            assert!(last_of(times, || are_texts(black_box(&a.offsets), black_box(a.bytes.as_bytes()), black_box(&a.validity), rows, nulls)));
-            nulls
-        }
-        "bits-and" | "bits-or" | "bits-not" | "bits-and-within" => {
-            let (first, second) = if words[1] == "bits-and-within" { (3, 5) } else { (0, 0) };
-            let (a, b) = (Packed::new(rows, first, 3), Packed::new(rows, second, 8));
-            let result = last_of(times, || match words[1].as_str() {
-                "bits-or" => black_box(&a).combined(black_box(&b), |a, b| a | b),
-                "bits-not" => black_box(&a).combined(black_box(&a), |a, _| !a),
-                _ => black_box(&a).combined(black_box(&b), |a, b| a & b),
-            });
-            ones(result.into_iter())
         }
         _ => {
             let (a, b) = (truths(rows, 3), truths(rows, 8));

@@ -3,9 +3,9 @@
 
     tools/refused_requests.py PROGRAM
 
-Each run gives exactly the answer of a run that nothing was refused in, or `arrowtab: no memory` with status 1 and nothing on standard
-output. With several workers the runs are of one file, or print statistics, which don't depend on who was first. The last line is
-'N passed, M failed', of cases."""
+Each run gives exactly the answer of a run that nothing was refused in, be it an output or the line of a fault, or `arrowtab: no memory` with
+status 1 and nothing on standard output. With several workers the runs are of one file, or print statistics or a fault, which don't depend on
+who was first. The last line is 'N passed, M failed', of cases."""
 import concurrent.futures
 import os
 import subprocess
@@ -23,21 +23,55 @@ def example(name):
     return os.path.join(TOP, "examples", name)
 
 
-def cases():
-    """The words of each case."""
+def field(name, nullable=True):
+    """The text of a field of texts."""
+    return f'{{"name":"{name}","nullable":{str(nullable).lower()},"type":{{"name":"utf8"}}}}'
+
+
+# A file of which the second number is none.
+BAD_FILE = """{"schema":{"fields":[{"name":"n","nullable":true,"type":{"name":"int","bitWidth":8,"isSigned":true},"children":[]}]},
+"batches":[{"count":2,"columns":[{"name":"n","count":2,"VALIDITY":[1,1],"DATA":[1,128]}]}]}"""
+
+
+def cases(bad_file):
+    """The words of each case, and what stands on standard error in the end."""
+    for words in answered():
+        yield words, ""
+    yield from refused(bad_file)
+
+
+def answered():
+    """The words of runs that end with an output."""
     query = '{"filter":{"op":"lt","args":[{"column":"people"},{"int":200000}]},"by":["city"],"aggs":[{"agg":"rows"},{"agg":"sum","column":"people"}]}'
     yield ["--help"]
     for name in ("primitive.json", "mixed.json", "lists.json", "dictionaries.json", "large.json"):
         yield ["stats", example(name)]
         yield ["export", example(name)]
     lists = '{"name":"l","nullable":true,"type":{"name":"list"},"children":[{"name":"item","nullable":true,"type":{"name":"utf8"}}]}'
-    texts = '{"name":"m","nullable":true,"type":{"name":"utf8"}}'
+    texts = field("m")
     yield ["export", "--add-column", lists, example("mixed.json")]
     for workers in ("1", "2", "4"):
         yield ["query", "--workers", workers, "--query", '{"by":["m"],"aggs":[{"agg":"rows"}]}', "--add-column", texts, example("mixed.json")]
         yield ["stats", "--workers", workers, example("mixed.json"), example("mixed.json")]
         yield ["export", "--workers", workers, example("dictionaries.json")]
         yield ["query", "--workers", workers, "--query", query, example("mixed.json")]
+
+
+def refused(bad_file):
+    """The words of runs that end with a fault, and what is said of it: of the command line, a file, a batch, the query or a column."""
+    mixed, lists, none = example("mixed.json"), example("lists.json"), bad_file + ".none"
+    overflow = '{"filter":{"op":"lt","args":[{"op":"add","args":[{"column":"people"},{"int":9223372036854775000}]},{"int":0}]},"by":["city"]}'
+    yield ["stats"], "error: "
+    yield ["stats", "--workers", "65", mixed], "error: "
+    for workers in (["--workers", "1"], ["--workers", "2"]):
+        yield ["stats", *workers, none], f"arrowtab: {none}: cannot be read\n"
+        yield ["stats", *workers, mixed, bad_file], f"arrowtab: {bad_file}: J5 BadNumber at /batches/0/columns/0/DATA/1\n"
+        yield ["export", *workers, mixed, lists], f"arrowtab: {lists}: batch 0: A1 SchemaDiffers column=0\n"
+        yield ["query", *workers, "--query", '{"by":[1]}', mixed], "arrowtab: query: J3 WrongMember at /by/0\n"
+        yield ["query", *workers, "--query", '{"by":["town"]}', mixed], "arrowtab: query: Q1 NoColumn\n"
+        yield ["query", *workers, "--query", overflow, mixed], "arrowtab: query: Q4 Overflow row=0\n"
+        yield ["stats", *workers, "--add-column", '{"name":"m"}', mixed], "arrowtab: column: J2 MissingMember at /nullable\n"
+        yield ["stats", *workers, "--add-column", field("m", nullable=False), mixed], "arrowtab: column: N1 NotNullable\n"
 
 
 class Sweep:
@@ -66,9 +100,11 @@ class Sweep:
             os.close(read)
         return given, met
 
-    def fault(self, words, on):
+    def fault(self, words, said, on):
         """Why a case isn't as it should be, and how many requests were refused in it."""
         answer, _ = self.run(words, 0, False)
+        if bool(said) != bool(answer[0]) or said.encode() not in answer[2] or said and answer[1]:
+            return f"{answer[0]} {answer[2][:200]!r} where nothing was refused", 1
         number = 1
         while True:
             given, met = self.run(words, number, on)
@@ -84,7 +120,10 @@ def main():
     failed, refused, count = 0, 0, 0
     with tempfile.TemporaryDirectory() as room, concurrent.futures.ThreadPoolExecutor(os.cpu_count()) as pool:
         sweep = Sweep(program, built(room))
-        tasks = [(words, on, pool.submit(sweep.fault, words, on)) for words in cases() for on in (False, True)]
+        bad_file = os.path.join(room, "bad.json")
+        with open(bad_file, "w", encoding="utf-8") as file:
+            file.write(BAD_FILE)
+        tasks = [(words, on, pool.submit(sweep.fault, words, said, on)) for words, said in cases(bad_file) for on in (False, True)]
         for words, on, task in tasks:
             found, number = task.result()
             count += 1
