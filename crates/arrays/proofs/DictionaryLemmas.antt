@@ -1,9 +1,13 @@
 -- An array of codes with a dictionary, and a dictionary from an array of texts.
-use Rattle.std.proofs.Common.{◌≡◌, ◌∙◌, ℕ, ◌+◌, List, [], ◌∷◌, map, Bool, true, false, not, ◌||◌, ◌&&◌, int_lt, pos, length, cond, Option, Some, None, ap, sym, refl, subst, arith, zero-add, slice_index_or}
+use Rattle.std.proofs.Common.{◌≡◌, ◌∙◌, ℕ, ◌+◌, List, [], ◌∷◌, map, Bool, true, false, not, ◌||◌, ◌&&◌, int_lt, nat_lt, pos, negsuc, get_or, length, length-append, ◌++◌, ◌<◌, ◌≤◌, option_map, cond, Option, Some, None, ap, sym, refl, subst, arith, zero-add, slice_index_or}
 use Rattle.std.specs.List.{All, range_with_len}
+use mathlib.Core.List.{IsPrefix}
+use Rattle.std.proofs.lemmas.Bool.{and_parts, le-ltb, lt-ltb, ltb-true}
+use Rattle.std.proofs.lemmas.List.{get_or_append_left}
+use Rattle.std.proofs.lemmas.List.Elements.{All-tail}
 use Rattle.std.proofs.lemmas.Simd.{map-map}
 use Rattle.std.proofs.lemmas.List.FromFn.{get_or-map-range_with_len}
-use Rattle.layout.specs.Item.{Item, null, int}
+use Rattle.layout.specs.Item.{Item, boolean, int, list, null, text}
 use Rattle.types.specs.Kind as kind
 use Rattle.types.specs.Kind.{Kind, int32, kind_of, kind_step, same_kind}
 use Rattle.types.specs.declared.data_type.DataType.{DataType, fold_out-DataType, map-DataType}
@@ -13,7 +17,7 @@ use Rattle.layout.specs.Layout.{Buffers, column, codes, code_at, is_valid, valid
 use Rattle.types.specs.Number.{natural, is_negative}
 use Rattle.types.specs.First.{first}
 use Rattle.layout.specs.Fault.{is_no_code, least_row}
-use Rattle.arrays.specs.Dictionary.{encoded, is_code, looked_up}
+use Rattle.arrays.specs.Dictionary.{codes_of, encoded, entries_shown, is_code, looked_up, over}
 use Rattle.layout.specs.Seen.{Seen}
 use Rattle.layout.specs.Reading.{Reading, inner_of, read_parts}
 use Rattle.layout.specs.Checked.{checked_texts}
@@ -21,8 +25,9 @@ use Rattle.layout.proofs.FirstFaultLemmas.{IsWhole, own_fault-whole}
 use Rattle.layout.proofs.LawfulLemmas.{texts_of, either_false, none_present, no_dictionary}
 use Rattle.layout.proofs.ListLemmas.{map-range-below}
 use Rattle.layout.proofs.RowLemmas.{least_none}
+use Rattle.arrays.proofs.DictionaryViews.{codes-whole, codes_fit, codes_lawful, named-part}
 use Rattle.arrays.proofs.SlotLemmas.{whole}
-use Rattle.layout.proofs.SeenLemmas.{seen-kind, length-column}
+use Rattle.layout.proofs.SeenLemmas.{Fits-seen, length-column, part-all, seen-kind}
 
 -- ---- texts
 
@@ -155,6 +160,66 @@ MakesDict-array k n buffers children present_words shown words lawful shows numb
     let alone = numbers_alone n buffers children present_words lawful_int in
     subst (λ (s : Seen). MakesDict n buffers children s words) shows_int
     (makes_numbers n buffers children present_words words alone.0 alone.1 lawful_int (subst (λ (s : Seen). All (λ c. is_code (length words.items) c ≡ true) s.items) (sym shows_int) all))
+
+-- ---- a longer dictionary
+
+code-below : (n m : ℕ) → is_code n (int (pos m)) ≡ true → m < n
+code-below n m h = ltb-true m n (and_parts (not (nat_lt m 0)) (nat_lt m n) h).1
+
+below-code : (n m : ℕ) → m < n → is_code n (int (pos m)) ≡ true
+below-code n m below = ap (λ b. not b && nat_lt m n) (le-ltb m 0 (omega arith)) ∙ lt-ltb m n below
+
+looked-longer : (entries rest : List Item) (code : Item) → is_code (length entries) code ≡ true → looked_up (entries ++ rest) code ≡ looked_up entries code
+looked-longer entries rest null names = refl
+looked-longer entries rest (int (negsuc m)) names = cc
+looked-longer entries rest (boolean b) names = cc
+looked-longer entries rest (text t) names = cc
+looked-longer entries rest (list xs) names = cc
+looked-longer entries rest (int (pos m)) names = get_or_append_left entries rest null m (code-below (length entries) m names)
+
+-- a code names an entry of a longer dictionary too
+pub code-longer : (m n : ℕ) (code : Item) → m ≤ n → is_code m code ≡ true → is_code n code ≡ true
+code-longer m n null le names = refl
+code-longer m n (int (negsuc k)) le names = cc
+code-longer m n (boolean b) le names = cc
+code-longer m n (text t) le names = cc
+code-longer m n (list xs) le names = cc
+code-longer m n (int (pos k)) le names = below-code n k (omega (arith, le, code-below m k names))
+
+-- and the same one
+pub all-looked : (entries rest codes : List Item) → All (λ c. is_code (length entries) c ≡ true) codes → map (looked_up (entries ++ rest)) codes ≡ map (looked_up entries) codes
+all-looked entries rest [] all = refl
+all-looked entries rest (c ∷ codes) all =
+    ap (λ x. x ∷ map (looked_up (entries ++ rest)) codes) (looked-longer entries rest c (all 0 null (omega arith)))
+    ∙ ap (λ l. looked_up entries c ∷ l) (all-looked entries rest codes (All-tail (λ c. is_code (length entries) c ≡ true) c codes all))
+
+-- The parts of a dictionary-encoded array make one over a longer dictionary.
+pub record MakesOver (n : ℕ) (buffers : Buffers) (children : List Reading) (shown words : Seen) : Type 0 where
+  pub lawful : (read_parts kind.dict n None buffers children (Some (checked_texts words))).fault ≡ None
+  pub shows : (read_parts kind.dict n None buffers children (Some (checked_texts words))).seen ≡ over shown words
+
+pub MakesOver-array : (k : Kind) (n : ℕ) (buffers : Buffers) (children : List Reading) (words : Option Seen) (shown other : Seen)
+    → (read_parts k n None buffers children (option_map checked_texts words)).fault ≡ None → (read_parts k n None buffers children (option_map checked_texts words)).seen ≡ shown
+    → shown.kind ≡ kind.dict → IsPrefix shown.entries.items other.items
+    → MakesOver n buffers children shown other
+MakesOver-array k n buffers children words shown other lawful shows dict begun =
+    let w = option_map checked_texts words in
+    let is : k ≡ kind.dict = sym (seen-kind k n None buffers children w) ∙ ap (λ (q : Seen). q.kind) shows ∙ dict in
+    let same = ap (λ q. read_parts q n None buffers children w) is in
+    let lawful_dict = sym (ap (λ (q : Reading). q.fault) same) ∙ lawful in
+    let shows_dict = sym (ap (λ (q : Reading). q.seen) same) ∙ shows in
+    let whole_part = part-all n (read_parts kind.dict n None buffers children w).seen (Fits-seen kind.dict n None buffers children w) ∙ shows_dict in
+    let fit = subst (λ (q : Seen). All (λ c. is_code (length q.entries.items) c ≡ true) q.codes) whole_part (codes_fit n buffers children words 0 n lawful_dict (omega arith)) in
+    let named = subst (λ (q : Seen). q.items ≡ map (looked_up q.entries.items) q.codes) whole_part (named-part n buffers children w 0 n) in
+    let le : length shown.entries.items ≤ length other.items = omega (arith, length-append shown.entries.items begun.0, ap (λ (l : List Item). length l) begun.1) in
+    let made = MakesDict-array (kind.int int32) n buffers children None (codes_of shown) other (codes_lawful n buffers children w lawful_dict) (codes-whole n buffers children w ∙ ap codes_of shows_dict) refl
+    (λ i d below. code-longer (length shown.entries.items) (length other.items) (get_or shown.codes i d) le (fit i d below)) in
+    let same_items : map (looked_up other.items) shown.codes ≡ shown.items =
+    ap (λ (l : List Item). map (looked_up l) shown.codes) (sym begun.1) ∙ all-looked shown.entries.items begun.0 shown.codes fit ∙ sym named in
+    record {
+      lawful = made.lawful;
+      shows = made.shows ∙ ap (λ xs. record { kind = kind.dict; validity = shown.validity; items = xs; codes = shown.codes; entries = entries_shown other }) same_items;
+    }
 
 pub kind_of-Dict : kind_of Dict ≡ kind.dict
 kind_of-Dict = fold_out-DataType Kind Kind kind_step (λ f. f.ty) Dict ∙ ap (λ o. kind_step (map-DataType DataType Field Kind Kind kind_of (fold-Field Kind Kind kind_step (λ f. f.ty)) o)) outs-Dict

@@ -77,6 +77,12 @@ slice-nil start len = ap (take len) (drop-nil start) ∙ take-nil len where
   drop-nil zero = refl
   drop-nil (suc n) = refl
 
+-- the codes of a whole array
+pub codes-whole : (n : ℕ) (buffers : Buffers) (children : List Reading) (dictionary : Option Reading)
+    → (read_parts (kind.int int32) n None buffers children None).seen ≡ codes_of (read_parts kind.dict n None buffers children dictionary).seen
+unfolding read_parts codes column
+codes-whole n buffers children dictionary = refl
+
 pub codes-seen : (n : ℕ) (buffers : Buffers) (children : List Reading) (dictionary : Option Reading) (start len : ℕ)
     → part start len (read_parts (kind.int int32) n None buffers children None).seen ≡ codes_of (part start len (read_parts kind.dict n None buffers children dictionary).seen)
 unfolding read_parts codes column
@@ -104,7 +110,7 @@ named_slots n buffers child entries =
 slice-map : {X Y : Type 0} (f : X → Y) (xs : List X) (start len : ℕ) → slice (map f xs) start len ≡ map f (slice xs start len)
 slice-map f xs start len = ap (take len) (drop-map f start xs) ∙ take-map f len (drop start xs)
 
-named-part : (n : ℕ) (buffers : Buffers) (children : List Reading) (dictionary : Option Reading) (start len : ℕ) → let s = part start len (read_parts kind.dict n None buffers children dictionary).seen in
+pub named-part : (n : ℕ) (buffers : Buffers) (children : List Reading) (dictionary : Option Reading) (start len : ℕ) → let s = part start len (read_parts kind.dict n None buffers children dictionary).seen in
     s.items ≡ map (looked_up s.entries.items) s.codes
 unfolding read_parts codes column
 named-part n buffers children dictionary start len =
@@ -131,7 +137,7 @@ counted : (words : Option Seen) → entry_count (option_map inner_of (option_map
 counted None = refl
 counted (Some s) = refl
 
-codes_fit : (n : ℕ) (buffers : Buffers) (children : List Reading) (words : Option Seen) (start len : ℕ)
+pub codes_fit : (n : ℕ) (buffers : Buffers) (children : List Reading) (words : Option Seen) (start len : ℕ)
     → (read_parts kind.dict n None buffers children (option_map checked_texts words)).fault ≡ None → start + len ≤ n → let s = part start len (read_parts kind.dict n None buffers children (option_map checked_texts words)).seen in
     All (λ c. is_code (length s.entries.items) c ≡ true) s.codes
 unfolding read_parts codes

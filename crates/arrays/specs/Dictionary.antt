@@ -42,3 +42,7 @@ texts_alone e = record { kind = kind.utf8; validity = e.validity; items = e.item
 -- The whole dictionary of a column.
 abbrev pub dictionary_of : Seen → Seen
 dictionary_of s = texts_alone s.entries
+
+-- The same codes over another dictionary, in which each of them names the same text.
+abbrev pub over : Seen → Seen → Seen
+over s dictionary = record { kind = kind.dict; validity = s.validity; items = s.items; codes = s.codes; entries = entries_shown dictionary }

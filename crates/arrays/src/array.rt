@@ -1,7 +1,8 @@
 ghost use Rattle.std.specs.Prelude.{◌≡◌, length, true, Some, IfOk, IfErr, None, is_some, ◌==◌, ◌⊎◌};
 ghost use Rattle.std.specs.List.{All};
+ghost use mathlib.Core.List.{IsPrefix};
 ghost use Rattle.std.specs.Arc.{arc_value};
-ghost use Rattle.arrays.specs.Dictionary.{encoded, is_code};
+ghost use Rattle.arrays.specs.Dictionary.{encoded, is_code, over};
 ghost use Rattle.types.specs.Kind as kind;
 ghost use Rattle.types.specs.Kind.{int32, kind_of};
 ghost use Rattle.layout.specs.Reading.{fault, reading};
@@ -178,6 +179,22 @@ impl Array {
             parts,
             encoding: Some(Encoding::of(dictionary)),
         }
+    }
+
+    /// The same column over a longer dictionary, which begins with the texts of its own and may be shared. The codes are
+    /// shared, and nothing is checked. `NoMemory` only where sharing is refused.
+    ///
+    /// Codes `[1, null, 0]` over `["a", "b"]` are `["b", null, "a"]` over `["a", "b", "c"]` too.
+    pub fn with_dictionary(&self, dictionary: Arc<Words>) -> Result<Array, NoMemory>
+        requires kind { self.now.kind ≡ kind.dict }
+        requires begun { IsPrefix self.now.entries.items (arc_value dictionary).items }
+        ensures { IfOk result (λ a. a ≡ over self.now (arc_value dictionary)) }
+    {
+        let encoding = Encoding::of(dictionary);
+        Ok(Array {
+            parts: self.parts.clone()?,
+            encoding: Some(encoding),
+        })
     }
 
     /// The parts of an array of texts.

@@ -2,12 +2,13 @@
 
 ghost use Rattle.std.specs.Prelude.{◌≡◌, pos, [], ◌∷◌, Some, IfOk};
 ghost use Rattle.layout.specs.Offsets.{AreOffsetBytes, offsets_in};
-ghost use Rattle.arrays.specs.Item.{int, null};
+ghost use Rattle.arrays.specs.Item.{int, null, text};
 ghost use Rattle.arrays.specs.Kind as kind;
 ghost use Rattle.arrays.specs.Kind.{int32};
 
 use arrays::{
-    Array, DataType, IntBuilder, IntType, LayoutFault, OffsetSlots, OffsetWidth, ViewType, Words,
+    Array, DataType, IntBuilder, IntType, LayoutFault, OffsetSlots, OffsetWidth, TextBuilder,
+    ViewType, Words,
 };
 use colbits::Buffer;
 use std::alloc::Global;
@@ -229,5 +230,61 @@ fn makes_and_copies_a_dictionary(rt: HostRuntime) -> Result<(), Fail> {
     let array = encoded(&rt, rt.alloc())?;
     let copy = array.copy(rt.alloc())?;
     assert!(rt; is_copied(&array, &copy, ENCODED));
+    Ok(())
+}
+
+/// A column of a text.
+fn one(alloc: Global, first: &str) -> Result<Array, Fail>
+    ensures kind { IfOk result (λ a. a.kind ≡ kind.utf8) }
+    ensures items { IfOk result (λ a. a.items ≡ text first.now ∷ []) }
+{
+    let mut texts = TextBuilder::with_capacity(alloc, OffsetWidth::Narrow, 1, 0)?;
+    texts.push(Some(first))?;
+    Ok(texts.finish()?)
+}
+
+/// A column of two texts.
+fn two(alloc: Global, first: &str, second: &str) -> Result<Array, Fail>
+    ensures kind { IfOk result (λ a. a.kind ≡ kind.utf8) }
+    ensures items { IfOk result (λ a. a.items ≡ text first.now ∷ text second.now ∷ []) }
+{
+    let mut texts = TextBuilder::with_capacity(alloc, OffsetWidth::Narrow, 2, 0)?;
+    texts.push(Some(first))?;
+    texts.push(Some(second))?;
+    Ok(texts.finish()?)
+}
+
+/// The codes 0 and null.
+fn first_code(alloc: Global) -> Result<Array, Fail>
+    ensures kind { IfOk result (λ a. a.kind ≡ kind.int int32) }
+    ensures items { IfOk result (λ a. a.items ≡ int (pos 0) ∷ null ∷ []) }
+{
+    let mut builder = IntBuilder::with_capacity(alloc, INT32, 2)?;
+    builder.push(Some(0))?;
+    builder.push(None)?;
+    Ok(builder.finish()?)
+}
+
+/// A column of a text and null, over a dictionary of one text and over one of two.
+fn over_both(alloc: Global, first: &str, second: &str) -> Result<(Array, Array), Fail> {
+    let short = Arc::new(alloc, Words::of(one(alloc, first)?))?;
+    let long = Arc::new(alloc, Words::of(two(alloc, first, second)?))?;
+    let array = Array::dict(first_code(alloc)?, short);
+    let longer = array.with_dictionary(long)?;
+    Ok((array, longer))
+}
+
+#[test]
+fn shows_the_same_over_a_longer_dictionary(rt: HostRuntime) -> Result<(), Fail> {
+    let (array, longer) = over_both(rt.alloc(), "a", "b")?;
+    let codes: &[Option<i128>] = &[Some(0), None];
+    let texts: &[Option<&str>] = &[Some("a"), None];
+    assert!(rt; shows(&array.view(), Shown::Encoded(codes, &[Some("a")], texts)));
+    assert!(rt;
+        shows(
+            &longer.view(),
+            Shown::Encoded(codes, &[Some("a"), Some("b")], texts)
+        )
+    );
     Ok(())
 }
