@@ -1,5 +1,5 @@
 -- The rows and the columns of lawful batches.
-use Rattle.std.proofs.Common.{◌≡◌, ◌∙◌, ℕ, zero, suc, ◌≤◌, ◌<◌, List, [], ◌∷◌, length, map, Bool, true, false, not, cond, eqb, ◌&&◌, Option, None, Some, option_map, position, get_or, ap, sym, refl, arith, eq-eqb}
+use Rattle.std.proofs.Common.{◌≡◌, ◌∙◌, ℕ, zero, suc, ◌≤◌, ◌<◌, List, [], ◌∷◌, length, map, Bool, true, false, not, cond, eqb, Option, None, Some, option_map, position, get_or, ap, sym, refl, arith, eq-eqb}
 use Rattle.std.specs.Prelude.{is_some, nat_lt}
 use Rattle.std.specs.List.{list_any, range_with_len, zip}
 use Rattle.std.specs.Option.{option_or}
@@ -11,8 +11,7 @@ use Rattle.std.proofs.lemmas.Simd.{map-map}
 use Rattle.arrays.specs.Batch.{Batch, bad_length, batch_fault, differing_length, differing_type, row_of, rows_of, column}
 use Rattle.arrays.specs.declared.batch.BatchFault.TheVariants.{ColumnCount, LengthsDiffer, TypeDiffers}
 use Rattle.arrays.specs.Item.{null}
-use Rattle.arrays.specs.Kind as kind
-use Rattle.arrays.specs.Kind.{Kind, bytes_of, same_kind}
+use Rattle.arrays.specs.Kind.{same_kind}
 use Rattle.arrays.specs.Seen.{Seen}
 use Rattle.arrays.specs.Shape.{FieldShape, kind_of_field}
 use Rattle.layout.proofs.ChildLemmas.{same_kinds}

@@ -5,13 +5,15 @@ use Rattle.std.specs.Arc.{arc_value}
 use Rattle.std.specs.declared.alloc.Global.{Global}
 use Rattle.std.specs.declared.sync.Arc.{Arc}
 use Rattle.std.specs.List.{AllZip, enumerate_from, list_any, range_with_len, zip}
-use Rattle.std.proofs.lemmas.List.{ext_get_or, get_or-map, get_or_default, length-map, take_all, take_more}
+use mathlib.Core.List.{IsPrefix}
+use Rattle.std.proofs.lemmas.List.{append-nil, ext_get_or, get_or-map, get_or_default, length-map, take_all, take_more}
 use Rattle.std.proofs.lemmas.List.Elements.{All-append, All-cons, All-head, All-map, All-nil, All-tail}
 use Rattle.std.proofs.lemmas.List.Folds.{list_any_at}
 use Rattle.std.proofs.lemmas.List.FromFn.{get_or-map-range_with_len, length-map-range_with_len}
 use Rattle.std.proofs.lemmas.Slice.Zip.{AllZip-long}
 use Rattle.arrays.proofs.ListArrays.{same_kind-refl}
 use Rattle.arrays.specs.Batch.{Batch, Row, Table, batch_fault, column, row_of, rows_of}
+use Rattle.arrays.specs.Dictionary.{over}
 use Rattle.arrays.specs.Item.{Item, null}
 use Rattle.arrays.specs.Kind as kind
 use Rattle.arrays.specs.Kind.{Kind, same_kind}
@@ -20,11 +22,11 @@ use Rattle.arrays.specs.Seen.{Seen}
 use Rattle.arrays.specs.Shape.{FieldShape, kind_of_field}
 use Rattle.group.proofs.ColumnsLemmas.{all_zip-more, all_zip-push}
 use Rattle.select.specs.Joined.{kind_of_first}
-use Rattle.compaction.specs.Columns.{AreJoinable, IsColumnOf, IsJoined}
+use Rattle.compaction.specs.Columns.{AreJoinable, IsColumnOf, IsJoined, IsOver}
 use Rattle.compaction.specs.Fronts.{IsBatchOf}
 use Rattle.compaction.specs.Groups.{is_big, together}
 use Rattle.compaction.specs.Under.{IsDictionary, IsUnder, NamesFront}
-use Rattle.compaction.proofs.BatchLemmas.{count-of, faultless, kind-at, row-item, wrong_kind}
+use Rattle.compaction.proofs.BatchLemmas.{column-is, count-of, faultless, kind-at, length-rows_of, row-item, whole, wrong_kind}
 use Rattle.compaction.proofs.FitLemmas.{big-any, column-append, is_big_at}
 use Rattle.compaction.proofs.FrontLemmas.{any_field, enumerated-at, length-enumerated}
 
@@ -71,7 +73,7 @@ fits-at-column fields t k f fits below =
     either true h = h refl
     either false h = refl
 
-batch-of : (fields : List FieldShape) (dictionaries : List (Option Seen)) (b : Batch) → IsUnder fields dictionaries b → IsBatchOf fields b
+pub batch-of : (fields : List FieldShape) (dictionaries : List (Option Seen)) (b : Batch) → IsUnder fields dictionaries b → IsBatchOf fields b
 batch-of fields dictionaries b is = record { same = is.same; lawful = is.lawful }
 
 pub batches-of : (fields : List FieldShape) (dictionaries : List (Option Seen)) (batches : List Batch) → All (IsUnder fields dictionaries) batches → All (IsBatchOf fields) batches
@@ -182,7 +184,7 @@ items-at t n (f ∷ fields) (c ∷ columns) (suc j) d all below =
 abbrev pub AreWide : List FieldShape → Table → Type 0
 AreWide fields t = All (λ (row : Row). length row ≡ length fields) t
 
-wide-rows : (fields : List FieldShape) (b : Batch) → IsBatchOf fields b → AreWide fields (rows_of b)
+pub wide-rows : (fields : List FieldShape) (b : Batch) → IsBatchOf fields b → AreWide fields (rows_of b)
 wide-rows fields b is =
     All-map (λ (row : Row). length row ≡ length fields) (row_of b.columns) (range_with_len 0 b.rows)
     (λ i d within. length-map b.columns (λ (c : Seen). get_or c.items (get_or (range_with_len 0 b.rows) i d) null) ∙ count-of fields b is)
@@ -256,3 +258,45 @@ pub batch-rows : (fields : List FieldShape) (dictionaries : List (Option Seen)) 
 batch-rows fields dictionaries batches b under all count =
     let t = together (map rows_of batches) in
     ap (λ n. map (row_of b.columns) (range_with_len 0 n)) count ∙ rows-are fields t b.columns all (wide-together fields batches (batches-of fields dictionaries batches under))
+
+-- ---- a batch over longer dictionaries
+
+pub is-over : (words s c : Seen) → s.kind ≡ kind.dict → c ≡ over s words → IsOver (Some words) s c
+is-over words s c dict made = record {
+  kind = ap (λ (q : Seen). q.kind) made ∙ sym dict;
+  items = ap (λ (q : Seen). q.items) made;
+  front = subst (λ (q : Seen). IsPrefix q.entries.items words.items) (sym made) ([], append-nil words.items);
+}
+
+pub column-over : (fields : List FieldShape) (dictionaries : List (Option Seen)) (b : Batch) (k : ℕ) (o : Option Seen) (s c : Seen) → k < length fields → IsUnder fields dictionaries b → s ≡ get_or b.columns k s
+    → IsOver o s c → IsColumn (rows_of b) (k, get_or fields k any_field) c
+column-over fields dictionaries b k o s c below under at is =
+    let of = batch-of fields dictionaries b under in
+    record {
+      kind = is.kind ∙ ap (λ (q : Seen). q.kind) at ∙ kind-at fields b k any_field of below s;
+      items = is.items ∙ ap (λ (q : Seen). q.items) at ∙ sym (column-is b k s under.lawful (omega (arith, below, count-of fields b of)));
+    }
+
+pub encoded-at : (fields : List FieldShape) (dictionaries : List (Option Seen)) (b : Batch) (k : ℕ) (o : Option Seen) (s : Seen) → k < length fields → AllZip IsDictionary fields dictionaries → IsUnder fields dictionaries b
+    → s ≡ get_or b.columns k s → o ≡ get_or dictionaries k o → is_some o ≡ same_kind s.kind kind.dict
+encoded-at fields dictionaries b k o s below are under at is =
+    encoded-as (get_or fields k any_field) o (subst (IsDictionary (get_or fields k any_field)) (sym is) (all_zip-at IsDictionary fields dictionaries k any_field o are below))
+    ∙ ap (λ j. same_kind j kind.dict) (sym (ap (λ (q : Seen). q.kind) at ∙ kind-at fields b k any_field (batch-of fields dictionaries b under) below s))
+
+pub front-at : (fields : List FieldShape) (dictionaries : List (Option Seen)) (b : Batch) (k : ℕ) (o : Option Seen) (s : Seen) → k < length fields → IsUnder fields dictionaries b
+    → s ≡ get_or b.columns k s → o ≡ get_or dictionaries k o → NamesFront s o
+front-at fields dictionaries b k o s below under at is =
+    subst (λ q. NamesFront q o) (sym at)
+    (subst (NamesFront (get_or b.columns k s)) (sym is) (all_zip-at NamesFront b.columns dictionaries k s o under.fronts (omega (arith, below, count-of fields b (batch-of fields dictionaries b under)))))
+
+pub lawful-over : (fields : List FieldShape) (dictionaries : List (Option Seen)) (b : Batch) (columns : List Seen) → IsUnder fields dictionaries b → AllZip (IsColumn (rows_of b)) (enumerate_from 0 fields) columns
+    → batch_fault fields b.rows columns ≡ None
+lawful-over fields dictionaries b columns under all =
+    ap (λ n. batch_fault fields n columns) (sym (length-rows_of b))
+    ∙ columns-lawful fields (rows_of b) columns all (ap is_past (length-rows_of b) ∙ (whole b.fields b.rows b.columns under.lawful).small)
+
+pub rows-over : (fields : List FieldShape) (dictionaries : List (Option Seen)) (b made : Batch) → IsUnder fields dictionaries b → AllZip (IsColumn (rows_of b)) (enumerate_from 0 fields) made.columns
+    → made.rows ≡ b.rows → rows_of made ≡ rows_of b
+rows-over fields dictionaries b made under all count =
+    ap (λ n. map (row_of made.columns) (range_with_len 0 n)) (count ∙ sym (length-rows_of b))
+    ∙ rows-are fields (rows_of b) made.columns all (wide-rows fields b (batch-of fields dictionaries b under))

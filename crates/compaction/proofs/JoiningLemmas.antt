@@ -1,14 +1,15 @@
 -- Columns of several batches as one.
-use Rattle.std.proofs.Common.{◌≡◌, ◌∙◌, inl, inr, ℕ, ◌+◌, ◌≤◌, ◌<◌, ◌&&◌, pos, negsuc, List, [], ◌∷◌, ◌++◌, length, map, take, All, Bool, true, false, not, Option, None, Some, get_or, ap, sym, refl, subst, arith, length-append}
-use Rattle.std.specs.Prelude.{flat_map, nat_lt}
+use Rattle.std.proofs.Common.{◌≡◌, ◌∙◌, inl, inr, ℕ, ◌+◌, ◌≤◌, ◌<◌, List, [], ◌∷◌, ◌++◌, length, map, take, All, Bool, true, false, Option, None, Some, get_or, ap, sym, refl, subst, arith, length-append}
+use Rattle.std.specs.Prelude.{flat_map}
 use mathlib.Core.List.{IsPrefix}
-use Rattle.std.proofs.lemmas.Bool.{and_parts, le-ltb, lt-ltb, ltb-true, or_from, true≢false}
-use Rattle.std.proofs.lemmas.List.{append-nil, get_or_append_left, map-append, take_more}
+use Rattle.std.proofs.lemmas.Bool.{or_from, true≢false}
+use Rattle.std.proofs.lemmas.List.{append-nil, map-append, take_more}
 use Rattle.std.proofs.lemmas.List.Elements.{All-append, All-map, All-tail}
 use Rattle.std.proofs.lemmas.List.Sums.{list_all-from_AllPass}
+use Rattle.arrays.proofs.DictionaryLemmas.{all-looked, code-longer}
 use Rattle.arrays.proofs.ListArrays.{same_kind-refl}
 use Rattle.arrays.specs.Dictionary.{codes_of, encoded, is_code, looked_up}
-use Rattle.arrays.specs.Item.{Item, boolean, int, list, null, text}
+use Rattle.arrays.specs.Item.{Item}
 use Rattle.arrays.specs.Kind as kind
 use Rattle.arrays.specs.Kind.{Kind, int32, same_kind}
 use Rattle.arrays.specs.Lengths.{is_past, joined_items}
@@ -37,34 +38,6 @@ memory-only all full reported none fits is =
     ]
 
 -- ---- codes of a longer dictionary
-
-code-below : (n m : ℕ) → is_code n (int (pos m)) ≡ true → m < n
-code-below n m h = ltb-true m n (and_parts (not (nat_lt m 0)) (nat_lt m n) h).1
-
-below-code : (n m : ℕ) → m < n → is_code n (int (pos m)) ≡ true
-below-code n m below = ap (λ b. not b && nat_lt m n) (le-ltb m 0 (omega arith)) ∙ lt-ltb m n below
-
-looked-longer : (entries rest : List Item) (code : Item) → is_code (length entries) code ≡ true → looked_up (entries ++ rest) code ≡ looked_up entries code
-looked-longer entries rest null names = refl
-looked-longer entries rest (int (negsuc m)) names = cc
-looked-longer entries rest (boolean b) names = cc
-looked-longer entries rest (text t) names = cc
-looked-longer entries rest (list xs) names = cc
-looked-longer entries rest (int (pos m)) names = get_or_append_left entries rest null m (code-below (length entries) m names)
-
-code-longer : (m n : ℕ) (code : Item) → m ≤ n → is_code m code ≡ true → is_code n code ≡ true
-code-longer m n null le names = refl
-code-longer m n (int (negsuc k)) le names = cc
-code-longer m n (boolean b) le names = cc
-code-longer m n (text t) le names = cc
-code-longer m n (list xs) le names = cc
-code-longer m n (int (pos k)) le names = below-code n k (omega (arith, le, code-below m k names))
-
-all-looked : (entries rest codes : List Item) → All (λ c. is_code (length entries) c ≡ true) codes → map (looked_up (entries ++ rest)) codes ≡ map (looked_up entries) codes
-all-looked entries rest [] all = refl
-all-looked entries rest (c ∷ codes) all =
-    ap (λ x. x ∷ map (looked_up (entries ++ rest)) codes) (looked-longer entries rest c (all 0 null (omega arith)))
-    ∙ ap (λ l. looked_up entries c ∷ l) (all-looked entries rest codes (All-tail (λ c. is_code (length entries) c ≡ true) c codes all))
 
 -- The codes of all columns.
 abbrev pub all_codes : List Seen → List Item

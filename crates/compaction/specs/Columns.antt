@@ -28,3 +28,9 @@ pub record IsJoined (dictionary : Option Seen) (columns : List Seen) (c : Seen) 
   pub kind : c.kind ≡ kind_of_first columns
   pub items : c.items ≡ joined_items columns
   pub front : NamesFront c dictionary
+
+-- The same items, under the given dictionary.
+pub record IsOver (dictionary : Option Seen) (column c : Seen) : Type 0 where
+  pub kind : c.kind ≡ column.kind
+  pub items : c.items ≡ column.items
+  pub front : NamesFront c dictionary

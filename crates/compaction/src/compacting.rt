@@ -25,8 +25,8 @@ pub struct Compacted {
 
 /// The batches with neighbours joined: from the first on, a batch is joined to those before it where all of them together have
 /// at most `max_rows` rows, no more than an array holds, and where no offset would be past 2^31 - 1. Which they are is counted
-/// without memory. The codes of dictionary-encoded columns are joined under the dictionary that is given for the column. A
-/// batch that stays alone is shared, and so are its statistics.
+/// without memory. All batches are over the dictionaries that are given, so that no older one is kept alive. The columns of a
+/// batch that stays alone are shared, and so are its statistics.
 pub fn compact(
     alloc: Global,
     schema: &Arc<Schema>,

@@ -15,13 +15,14 @@ ghost use Rattle.compaction.specs.Under.{IsDictionary, IsUnder};
 ghost use Rattle.types.specs.Limits.{most_slots};
 
 use crate::columns::column_of;
+use crate::dictionaries::with_dictionaries;
 use arrays::{Array, RecordBatch, Schema, View, Words};
 use colbits::NoMemory;
 use select::{SelectFault, concat};
 use std::alloc::Global;
 use std::sync::Arc;
 
-/// All rows as one batch. A batch that is alone is shared.
+/// All rows as one batch, over the dictionaries. The columns of a batch that is alone are shared.
 pub(crate) fn batch_of(
     alloc: Global,
     schema: &Arc<Schema>,
@@ -37,7 +38,7 @@ pub(crate) fn batch_of(
     ensures rows { IfOk result (λ b. rows_of (arc_value b) ≡ together (map rows_of (map arc_value batches.now))) }
 {
     match batches {
-        [only] => Ok(only.clone()?),
+        [only] => with_dictionaries(alloc, schema, dictionaries, only),
         _ => Ok(Arc::new(alloc, joined(alloc, schema, dictionaries, batches)?)?),
     }
 }

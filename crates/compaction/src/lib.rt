@@ -3,9 +3,11 @@
 
 mod columns;
 mod compacting;
+mod dictionaries;
 mod groups;
 mod joining;
 mod sizes;
 mod statistics;
 
 pub use compacting::{Compacted, compact};
+pub use dictionaries::{names_whole, with_dictionaries};

@@ -6,5 +6,6 @@ pub mod CodedLemmas
 pub mod PoolLemmas
 pub mod RecodeLemmas
 pub mod UnifyLemmas
+pub mod FrontLemmas
 pub mod PrefixLemmas
 pub mod SendingLemmas

@@ -4,3 +4,4 @@ pub mod Codes
 pub mod Places
 pub mod CodedViews
 pub mod Unified
+pub mod Front

@@ -32,6 +32,7 @@ pub fn recode(alloc: Global, view: &View<'_>, pool: &mut TextPool) -> Result<Arr
     ensures err { IfErr result (λ e. ((e ≡ PoolFault.TextsFull)
         × (is_too_full (firsts (pool.old ++ texts_of view.now.items)) ≡ true)) ⊎ (e ≡ PoolFault.NoMemory)) }
     ensures kept { OnErr result (pool.new ≡ pool.old) }
+    ensures begins { IsPrefix pool.old pool.new }
 {
     let len = pool.len();
     let codes = add_all(alloc, view, pool);

@@ -1,13 +1,15 @@
 ghost use Rattle.std.specs.Prelude.{◌≡◌, ◌<◌, ◌≤◌, ◌==◌, ◌++◌, ◌∷◌, false, IfSome, [], length, map, take, true, slice_get, sum_by, Some, IfOk, IfErr, OnOk, OnErr, option_copied};
+ghost use Rattle.std.specs.Option.{ForSome};
 ghost use Rattle.std.specs.String.{string_bytes};
 ghost use Rattle.arrays.specs.Item as item;
 ghost use Rattle.arrays.specs.Kind as kind;
 ghost use Rattle.arrays.specs.Shown.{shown};
+ghost use Rattle.pool.specs.Front.{IsFront};
 ghost use Rattle.pool.specs.Texts.{IsPoolFault, is_among, is_once, is_too_full, place_of, with_text};
 ghost use Rattle.types.specs.Limits.{most_slots};
 
 use crate::fault::PoolFault;
-use arrays::{Array, BuildFault, OffsetWidth, TextBuilder};
+use arrays::{Array, BuildFault, OffsetWidth, TextBuilder, View, Words};
 use colbits::NoMemory;
 use indexmap::IndexSet;
 use std::alloc::Global;
@@ -101,6 +103,23 @@ impl TextPool {
     pub fn to_array(&self, alloc: Global) -> Result<Array, NoMemory>
         ensures { IfOk result (λ d. d ≡ shown kind.utf8 (map item.text self.now)) }
     {
+        self.column(alloc, None)
+    }
+
+    /// The texts as a column, in their order, of which the first stand in a dictionary: they are copied from there, as they lie
+    /// in memory one behind the other.
+    pub fn to_array_after(&self, alloc: Global, words: &Words) -> Result<Array, NoMemory>
+        requires { IsFront self.now words.now }
+        ensures { IfOk result (λ d. d ≡ shown kind.utf8 (map item.text self.now)) }
+    {
+        self.column(alloc, Some(words.view()))
+    }
+
+    /// The texts as a column, in their order, the first from a view of them where there is one.
+    fn column(&self, alloc: Global, front: Option<View<'_>>) -> Result<Array, NoMemory>
+        requires { ForSome front (IsFront self.now) }
+        ensures { IfOk result (λ d. d ≡ shown kind.utf8 (map item.text self.now)) }
+    {
         let len = self.len();
         let mut texts = TextBuilder::with_capacity(
             alloc,
@@ -109,8 +128,7 @@ impl TextPool {
             self.byte_len(),
         )?;
         for code in 0..len {
-            let text = self.text_of(code as u32);
-            match texts.push(text) {
+            match texts.push(self.text_in(&front, code)) {
                 Ok(()) => {}
                 Err(BuildFault::NoMemory) => return Err(NoMemory),
                 // The texts of a pool fit a column.
@@ -118,6 +136,19 @@ impl TextPool {
             }
         }
         texts.finish()
+    }
+
+    /// The text at a place: of the view, as far as it goes.
+    fn text_in<'a>(&'a self, front: &'a Option<View<'_>>, code: usize) -> Option<&'a str>
+        requires front { ForSome front.now (IsFront self.now) }
+        requires below { code < length self.now }
+        requires small { code < most_slots }
+        ensures { option_copied result ≡ slice_get self.now code }
+    {
+        match front {
+            Some(view) if code < view.len() => view.text_as(OffsetWidth::Narrow, code),
+            _ => self.text_of(code as u32),
+        }
     }
 
     /// How many bytes the texts have together.

@@ -17,7 +17,7 @@ use Rattle.group.specs.Summary.{AreStats}
 use Rattle.group.specs.declared.stats.ColumnStats.{ColumnStats}
 use Rattle.table.specs.Cause.{IsLegal}
 use Rattle.table.specs.Contents.{Contents}
-use Rattle.table.specs.Storage.{IsConsistent, batches_of, book_of, dictionaries_in, pair_of, pieces_in, show}
+use Rattle.table.specs.Storage.{IsConsistent, batches_of, book_of, dictionaries_in, pieces_in, show}
 use Rattle.table.specs.History.{History, cut}
 use Rattle.table.specs.Lawful.{LawfulTable, counted, dictionaries_of, dictionary_in, table_of, texts_in}
 use Rattle.compaction.specs.Statistics.{AreStatsOf}
@@ -106,21 +106,20 @@ legal-empty fields = record {
   allowed = λ before rest e h. absurd (no_pair before rest e h);
 }
 
-pub storage-empty : (h : Storage) → h.batches.items ≡ [] → h.batch_stats.items ≡ [] → h.book.items ≡ [] → h.rows ≡ 0 → AreStatsOf (arc_value h.schema) [] (arc_value h.stats).items
+pub storage-empty : (h : Storage) → h.batches.items ≡ [] → h.batch_stats.items ≡ [] → book_of h ≡ [] → h.rows ≡ 0 → AreStatsOf (arc_value h.schema) [] (arc_value h.stats).items
     → dictionaries_in h ≡ dictionaries_of (arc_value h.schema) [] → IsConsistent h
 storage-empty h batches pieces entries rows are texts =
     let fields = arc_value h.schema in
     let no_batches : batches_of h ≡ [] = ap (map arc_value) batches in
     let no_pieces : pieces_in h ≡ [] = ap (map (λ (s : Arc (Vec ColumnStats Global) Global). (arc_value s).items)) pieces in
-    let no_entries : book_of h ≡ [] = ap (map pair_of) entries in
     record {
       lawful =
           subst (λ (b : List Batch). LawfulTable fields b (pieces_in h) (arc_value h.stats).items (dictionaries_in h) (book_of h)) (sym no_batches)
           (subst (λ (p : List (List ColumnStats)). LawfulTable fields [] p (arc_value h.stats).items (dictionaries_in h) (book_of h)) (sym no_pieces)
-          (subst (λ (e : List (ℕ × ℕ)). LawfulTable fields [] [] (arc_value h.stats).items (dictionaries_in h) e) (sym no_entries)
+          (subst (λ (e : List (ℕ × ℕ)). LawfulTable fields [] [] (arc_value h.stats).items (dictionaries_in h) e) (sym entries)
           (lawful-empty fields (arc_value h.stats).items (dictionaries_in h) are texts)));
-      rows = rows ∙ ap counted (sym no_entries);
-      legal = subst (IsLegal fields) (ap (λ (e : List (ℕ × ℕ)). cut e (table_of (batches_of h))) (sym no_entries)) (legal-empty fields);
+      rows = rows ∙ ap counted (sym entries);
+      legal = subst (IsLegal fields) (ap (λ (e : List (ℕ × ℕ)). cut e (table_of (batches_of h))) (sym entries)) (legal-empty fields);
     }
 
 -- ---- pools of an empty table

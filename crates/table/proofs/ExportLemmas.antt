@@ -1,5 +1,5 @@
 -- A table given out part by part.
-use Rattle.std.proofs.Common.{◌≡◌, ◌∙◌, inl, inr, ℕ, zero, suc, ◌+◌, ◌<◌, ◌≤◌, List, [], ◌∷◌, ◌++◌, length, map, take, drop, All, false, not, eqb, ◌||◌, None, Some, option_map, get_or, ap, sym, refl, arith, subst, length-append, eq-eqb, nat_lt}
+use Rattle.std.proofs.Common.{◌≡◌, ◌∙◌, inl, inr, ℕ, zero, suc, ◌+◌, ◌<◌, ◌≤◌, List, [], ◌∷◌, ◌++◌, length, map, take, drop, All, false, not, eqb, ◌||◌, None, Some, get_or, ap, sym, refl, arith, subst, length-append, eq-eqb, nat_lt}
 use Rattle.std.specs.Prelude.{nat_lt, slice_get}
 use Rattle.std.specs.List.{AllByRecursion, list_any, range_with_len, zip}
 use Rattle.std.specs.Arc.{arc_value}
@@ -12,7 +12,7 @@ use Rattle.std.proofs.lemmas.Grind.{flat_map-append}
 use Rattle.std.proofs.lemmas.List.{drop-append-le, drop-drop, drop_more, get_or-drop, get_or-map, get_or-take, length-drop, length-map, length-take-le, take-append-drop, take-append-le, take-take, take_all, take_more}
 use Rattle.std.proofs.lemmas.List.FromFn.{get_or-map-range_with_len, length-map-range_with_len, map-range_with_len_more}
 use Rattle.std.proofs.lemmas.List.Sums.{sum_by-cons, sum_by-take-le}
-use Rattle.std.proofs.lemmas.Option.{get_or_from_slice_get, same_Some, slice_get-get_or, slice_get-map, slice_get_within}
+use Rattle.std.proofs.lemmas.Option.{get_or_from_slice_get, same_Some, slice_get_within}
 use Rattle.std.proofs.lemmas.Simd.{map-map}
 use Rattle.colbits.specs.Slice.{slice}
 use Rattle.arrays.specs.Batch.{Batch, batch_fault, row_of, rows_of, Row, Table}
@@ -23,7 +23,8 @@ use Rattle.arrays.specs.Seen.{Seen, part}
 use Rattle.arrays.specs.Shape.{FieldShape, kind_of_field}
 use Rattle.select.proofs.ChosenLemmas.{items-chosen, kind-chosen}
 use Rattle.table.specs.Export.{HasMore, IsLawful, IsPlace, IsUnder, copied, passed, rows_before}
-use Rattle.table.specs.Storage.{IsConsistent, batches_of, book_of, pair_of, show}
+use Rattle.table.specs.Book.{pair_of}
+use Rattle.table.specs.Storage.{IsConsistent, batches_of, book_of, show}
 use Rattle.table.specs.History.{cut}
 use Rattle.table.specs.Lawful.{EndsWithEntry, counted, table_of}
 use Rattle.table.specs.declared.entry.Entry.{Entry}
@@ -289,29 +290,25 @@ lies-there h is k e p x at there =
     few n small = grind (arith, nat_tests)
 
 -- the batch that is found for an entry is such a one
-pub lies : (h : Storage) → IsConsistent h → (k : ℕ) (batches : List Shared) (entries : List Entry) (d : Entry) (p q : Place) (x : Shared)
-    → batches ≡ h.batches.items → entries ≡ h.book.items → k < length entries → passed (batches_of h) p ≡ counted (take k (book_of h))
+pub lies : (h : Storage) → IsConsistent h → (k : ℕ) (batches : List Shared) (e : Entry) (p q : Place) (x : Shared)
+    → batches ≡ h.batches.items → slice_get (book_of h) k ≡ Some (pair_of e) → passed (batches_of h) p ≡ counted (take k (book_of h))
     → passed (map (λ (b : Shared). arc_value b) batches) q ≡ passed (map (λ (b : Shared). arc_value b) batches) p → IsPlace (map (λ (b : Shared). arc_value b) batches) q
     → q.batch < length batches
     → (passed (map (λ (b : Shared). arc_value b) batches) p < length (table_of (map (λ (b : Shared). arc_value b) batches)) → HasMore (map (λ (b : Shared). arc_value b) batches) q)
-    → x ≡ get_or h.batches.items q.batch x → Lies h k (pair_of (get_or entries k d)) q (arc_value x)
-lies h is k batches entries d p q x stored book below before same place within more there =
+    → x ≡ get_or h.batches.items q.batch x → Lies h k (pair_of e) q (arc_value x)
+lies h is k batches e p q x stored entry before same place within more there =
     let all = map (λ (b : Shared). arc_value b) batches in
     let all_is : all ≡ batches_of h = ap (map (λ (b : Shared). arc_value b)) stored in
-    let e = pair_of (get_or entries k d) in
-    let begun : Begins all (book_of h) k e q =
+    let begun : Begins all (book_of h) k (pair_of e) q =
     record {
-      entry =
-          ap (λ (l : List Entry). slice_get (map pair_of l) k) (sym book)
-          ∙ slice_get-map pair_of entries k
-          ∙ ap (option_map pair_of) (slice_get-get_or entries k d below);
+      entry = entry;
       within = omega (arith, within, length-map batches (λ (b : Shared). arc_value b));
       same = same ∙ ap (λ (l : List Batch). passed l p) all_is ∙ before;
       place = place;
       more = λ lt. more (omega (arith, lt, same));
     } in
-    lies-there h is k e q x (subst (λ (l : List Batch). Begins l (book_of h) k e q) all_is begun) there
+    lies-there h is k (pair_of e) q x (subst (λ (l : List Batch). Begins l (book_of h) k (pair_of e) q) all_is begun) there
 
 -- all entries have their tables
-pub tables-all : (h : Storage) (k : ℕ) → length h.book.items ≤ k → take k (tables h) ≡ tables h
+pub tables-all : (h : Storage) (k : ℕ) → length (book_of h) ≤ k → take k (tables h) ≡ tables h
 tables-all h k over = take_all k (tables h) (omega (arith, over, length-book h, length-map (show h).history (λ (e : ℕ × Table). e.1)))

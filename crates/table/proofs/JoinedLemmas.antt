@@ -58,7 +58,7 @@ dictionaries-from t n (f ∷ fields) = (
   dictionaries-from t (n + 1) fields,
 )
 
-dictionaries-all : (fields : List FieldShape) (t : Table) → AllZip IsDictionary fields (dictionaries_of fields t)
+pub dictionaries-all : (fields : List FieldShape) (t : Table) → AllZip IsDictionary fields (dictionaries_of fields t)
 unfolding dictionaries_of
 dictionaries-all fields t = dictionaries-from t 0 fields
 

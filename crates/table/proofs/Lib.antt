@@ -2,6 +2,8 @@
 pub mod HistoryLemmas
 pub mod FrontLemmas
 pub mod TableLemmas
+pub mod MovedLemmas
+pub mod BookLemmas
 pub mod StorageLemmas
 pub mod PutLemmas
 pub mod CodeLemmas

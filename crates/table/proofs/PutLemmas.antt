@@ -5,13 +5,14 @@ use Rattle.std.specs.Arc.{arc_value}
 use Rattle.std.specs.declared.alloc.Global.{Global}
 use Rattle.std.specs.declared.sync.Arc.{Arc}
 use Rattle.std.specs.declared.vec.Vec.{Vec}
-use Rattle.std.specs.List.{enumerate_from}
+use Rattle.std.specs.List.{AllZip, enumerate_from}
 use Rattle.std.proofs.lemmas.Bool.{ltb-false}
-use Rattle.std.proofs.lemmas.List.{map-append}
+use Rattle.std.proofs.lemmas.List.{length-map, map-append}
 use Rattle.colbits.specs.declared.memory.NoMemory.{NoMemory}
 use Rattle.arrays.specs.Batch.{Batch, rows_of, Table}
 use Rattle.arrays.specs.Seen.{Seen}
 use Rattle.arrays.specs.Shape.{FieldShape}
+use Rattle.group.proofs.ColumnsLemmas.{all_zip-push}
 use Rattle.group.specs.declared.stats.ColumnStats.{ColumnStats}
 use Rattle.std.specs.Bool.{then_some}
 use Rattle.compaction.specs.Under.{pieces_of}
@@ -20,6 +21,7 @@ use Rattle.table.specs.Contents.{Contents, admitted}
 use Rattle.table.specs.Storage.{IsConsistent, IsPut, IsSame, IsWith, batches_of, book_of, dictionaries_in, pieces_in, show}
 use Rattle.table.specs.History.{History, cut, rows}
 use Rattle.table.specs.Lawful.{LawfulTable, counted, dictionaries_of, table_of, texts_in}
+use Rattle.table.specs.Moved.{IsMoved, with_last}
 use Rattle.table.specs.Ready.{AreTexts, IsReady}
 use Rattle.table.specs.declared.change.Addition.{Addition}
 use Rattle.table.specs.declared.storage.Storage.{Storage}
@@ -27,6 +29,7 @@ use Rattle.table.specs.declared.refusal.Refusal.TheVariants.{BookFull, SchemaDif
 use Rattle.table.proofs.BatchLemmas.{length-rows_of}
 use Rattle.table.proofs.StorageLemmas.{rows-shown}
 use Rattle.table.proofs.HistoryLemmas.{IsLegal-push, cut-push, length-cut}
+use Rattle.table.proofs.MovedLemmas.{Lawful-moved, moved-self, table-moved, tables-moved}
 use Rattle.table.proofs.TableLemmas.{Lawful-push, table_of-push}
 use Rattle.types.proofs.FirstLemmas.{first-none, then_some-none}
 
@@ -115,27 +118,36 @@ module _ (h s r : Storage) (p q : Addition) (shared : IsSame h s) (reserved : Is
   pub shared-few : h.rows + (arc_value p.batch).rows ≤ 2 ^ 40 → r.rows + (arc_value q.batch).rows ≤ 2 ^ 40
   shared-few few = omega (arith, few, shared.rows, reserved.rows, rows_new)
 
-  pub put-shared : (g : Storage) (worker : ℕ) → IsPut worker q r g → arc_value q.batch_stats ≡ arc_value p.batch_stats → arc_value q.stats ≡ arc_value p.stats
-      → map (option_map arc_value) q.dictionaries.items ≡ map (option_map arc_value) p.dictionaries.items → IsPut worker p h g
-  put-shared g worker put pieces stats dictionaries = record {
+  pub shared-moved : map arc_value q.moved.items ≡ map arc_value p.moved.items → length p.moved.items ≤ length h.batches.items → length q.moved.items ≤ length r.batches.items
+  shared-moved moved few =
+      let counts : length q.moved.items ≡ length p.moved.items =
+      sym (length-map q.moved.items (λ (b : Arc Batch Global). arc_value b)) ∙ ap (λ (l : List Batch). length l) moved ∙ length-map p.moved.items (λ (b : Arc Batch Global). arc_value b) in
+      let many : length r.batches.items ≡ length h.batches.items =
+      sym (length-map r.batches.items (λ (b : Arc Batch Global). arc_value b)) ∙ ap (λ (l : List Batch). length l) (reserved.batches ∙ shared.batches) ∙ length-map h.batches.items (λ (b : Arc Batch Global). arc_value b) in
+      omega (arith, few, counts, many)
+
+  pub put-shared : (g : Storage) → IsPut q r g → arc_value q.batch_stats ≡ arc_value p.batch_stats → arc_value q.stats ≡ arc_value p.stats
+      → map (option_map arc_value) q.dictionaries.items ≡ map (option_map arc_value) p.dictionaries.items → map arc_value q.moved.items ≡ map arc_value p.moved.items → q.book ≡ p.book → IsPut p h g
+  put-shared g put pieces stats dictionaries moved book = record {
     schema = put.schema ∙ reserved.schema ∙ shared.schema;
     rows = omega (arith, put.rows, shared.rows, reserved.rows, rows_new);
-    batches = put.batches ∙ ap (λ l. l ++ arc_value q.batch ∷ []) (reserved.batches ∙ shared.batches) ∙ ap (λ b. batches_of h ++ b ∷ []) batch;
+    batches =
+        put.batches
+        ∙ ap (λ l. with_last l (map arc_value q.moved.items) ++ arc_value q.batch ∷ []) (reserved.batches ∙ shared.batches)
+        ∙ ap (λ l. with_last (batches_of h) l ++ arc_value q.batch ∷ []) moved
+        ∙ ap (λ b. with_last (batches_of h) (map arc_value p.moved.items) ++ b ∷ []) batch;
     pieces =
         put.pieces
         ∙ ap (λ l. l ++ (arc_value q.batch_stats).items ∷ []) (reserved.pieces ∙ shared.pieces)
         ∙ ap (λ (v : Vec ColumnStats Global). pieces_in h ++ v.items ∷ []) pieces;
     stats = put.stats ∙ stats;
     dictionaries = put.dictionaries ∙ dictionaries;
-    book =
-        put.book
-        ∙ ap (λ l. l ++ (worker, (arc_value q.batch).rows) ∷ []) (reserved.book ∙ shared.book)
-        ∙ ap (λ n. book_of h ++ (worker, n) ∷ []) rows_new;
+    book = put.book ∙ book;
   }
 
 -- ---- one batch more
 
-module _ (h g : Storage) (b : Batch) (worker : ℕ) (p : Addition) (is : IsConsistent h) (ready : IsReady h b p) (put : IsPut worker p h g) where
+module _ (h g : Storage) (b : Batch) (worker : ℕ) (p : Addition) (is : IsConsistent h) (ready : IsReady h worker b p) (put : IsPut p h g) where
   same_cause : cause (arc_value h.schema) (show h).history (rows_of b) ≡ None
   same_cause = cause-none (arc_value h.schema) (show h).history b ready.allowed
 
@@ -145,8 +157,29 @@ module _ (h g : Storage) (b : Batch) (worker : ℕ) (p : Addition) (is : IsConsi
   size : (arc_value p.batch).rows ≡ length (rows_of (arc_value p.batch))
   size = sym (length-rows_of (arc_value p.batch))
 
+  abbrev fields : List FieldShape
+  fields = arc_value h.schema
+
+  book_is : book_of g ≡ book_of h ++ (worker, (arc_value p.batch).rows) ∷ []
+  book_is = put.book ∙ ready.book
+
+  abbrev words : List (Option Seen)
+  words = map (option_map arc_value) p.dictionaries.items
+
+  abbrev pushed : List Batch
+  pushed = batches_of h ++ arc_value p.batch ∷ []
+
+  -- the batches in the end
+  abbrev after : List Batch
+  after = with_last (batches_of h) (map arc_value p.moved.items) ++ arc_value p.batch ∷ []
+
+  moved : AllZip (IsMoved fields words) pushed after
+  moved =
+      all_zip-push (IsMoved fields words) (batches_of h) (with_last (batches_of h) (map arc_value p.moved.items)) (arc_value p.batch) (arc_value p.batch) ready.moved.same
+      (moved-self fields words (arc_value p.batch) (record { same = ready.stored.same; lawful = ready.stored.lawful; fronts = ready.front }))
+
   table : table_of (batches_of g) ≡ table_of (batches_of h) ++ rows_of b
-  table = ap table_of put.batches ∙ table_of-push (batches_of h) (arc_value p.batch) ∙ ap (λ (t : Table). table_of (batches_of h) ++ t) ready.rows
+  table = ap table_of put.batches ∙ table-moved fields words pushed after moved ∙ table_of-push (batches_of h) (arc_value p.batch) ∙ ap (λ (t : Table). table_of (batches_of h) ++ t) ready.rows
 
   few : counted (book_of h) + (arc_value p.batch).rows ≤ 2 ^ 40
   few =
@@ -162,39 +195,39 @@ module _ (h g : Storage) (b : Batch) (worker : ℕ) (p : Addition) (is : IsConsi
       below : length (book_of h) + 1 ≤ 2 ^ 32
       below = omega (arith, is.lawful.short)
 
-  lawful : LawfulTable (arc_value h.schema) (batches_of h ++ arc_value p.batch ∷ []) (pieces_in h ++ (arc_value p.batch_stats).items ∷ []) (arc_value p.stats).items (map (option_map arc_value) p.dictionaries.items) (book_of h ++ (worker, (arc_value p.batch).rows) ∷ [])
+  lawful : LawfulTable (arc_value h.schema) after (pieces_in h ++ (arc_value p.batch_stats).items ∷ []) (arc_value p.stats).items (map (option_map arc_value) p.dictionaries.items) (book_of h ++ (worker, (arc_value p.batch).rows) ∷ [])
   lawful =
       let t = table_of (batches_of h) in
-      Lawful-push (arc_value h.schema) (batches_of h) (pieces_in h) (arc_value h.stats).items (dictionaries_in h) (book_of h) is.lawful
+      Lawful-moved fields words pushed after (pieces_in h ++ (arc_value p.batch_stats).items ∷ []) (arc_value p.stats).items (book_of h ++ (worker, (arc_value p.batch).rows) ∷ []) moved
+      (Lawful-push (arc_value h.schema) (batches_of h) (pieces_in h) (arc_value h.stats).items (dictionaries_in h) (book_of h) is.lawful
       (arc_value p.batch) (arc_value p.batch_stats).items (arc_value p.stats).items (map (option_map arc_value) p.dictionaries.items) worker (arc_value p.batch).rows
       ready.stored
       (subst (λ (u : Table). Rattle.compaction.specs.Statistics.AreStatsOf (arc_value h.schema) u (arc_value p.batch_stats).items) (sym ready.rows) ready.piece)
       (subst (λ (u : Table). Rattle.compaction.specs.Statistics.AreStatsOf (arc_value h.schema) (t ++ u) (arc_value p.stats).items) (sym ready.rows) ready.statistics)
       (ready.texts ∙ ap (λ (u : Table). dictionaries_of (arc_value h.schema) (t ++ u)) (sym ready.rows))
-      ready.front size few short
+      ready.front size few short)
 
   history : cut (book_of h ++ (worker, (arc_value p.batch).rows) ∷ []) (table_of (batches_of h) ++ rows_of b) ≡ (show h).history ++ (worker, rows_of b) ∷ []
   history = cut-push (book_of h) (table_of (batches_of h)) (rows_of b) worker (arc_value p.batch).rows is.lawful.counts (size ∙ ap (λ (t : Table). length t) ready.rows)
 
   pub put-shows : show g ≡ admitted (show h) worker b
   put-shows =
-      let fields = put.schema in
       let cuts : (show g).history ≡ (show h).history ++ (worker, rows_of b) ∷ [] =
-      ap (λ (e : List (ℕ × ℕ)). cut e (table_of (batches_of g))) put.book ∙ ap (λ (t : Table). cut (book_of h ++ (worker, (arc_value p.batch).rows) ∷ []) t) table ∙ history in
+      ap (λ (e : List (ℕ × ℕ)). cut e (table_of (batches_of g))) book_is ∙ ap (λ (t : Table). cut (book_of h ++ (worker, (arc_value p.batch).rows) ∷ []) t) table ∙ history in
       let tables : (show g).batches ≡ (show h).batches ++ rows_of b ∷ [] =
-      ap (λ (l : List Batch). map rows_of l) put.batches ∙ map-append rows_of (batches_of h) (arc_value p.batch ∷ []) ∙ ap (λ (t : Table). map rows_of (batches_of h) ++ t ∷ []) ready.rows in
-      λ i. record { fields = fields i; history = cuts i; batches = tables i }
+      ap (λ (l : List Batch). map rows_of l) put.batches ∙ tables-moved fields words pushed after moved ∙ map-append rows_of (batches_of h) (arc_value p.batch ∷ []) ∙ ap (λ (t : Table). map rows_of (batches_of h) ++ t ∷ []) ready.rows in
+      λ i. record { fields = put.schema i; history = cuts i; batches = tables i }
 
   pub put-storage : IsConsistent g
   put-storage = record {
     lawful =
         subst (λ (f : List FieldShape). LawfulTable f (batches_of g) (pieces_in g) (arc_value g.stats).items (dictionaries_in g) (book_of g)) (sym put.schema)
         (subst (λ (l : List Batch). LawfulTable (arc_value h.schema) l (pieces_in g) (arc_value g.stats).items (dictionaries_in g) (book_of g)) (sym put.batches)
-        (subst (λ (l : List (List ColumnStats)). LawfulTable (arc_value h.schema) (batches_of h ++ arc_value p.batch ∷ []) l (arc_value g.stats).items (dictionaries_in g) (book_of g)) (sym put.pieces)
-        (subst (λ (s : List ColumnStats). LawfulTable (arc_value h.schema) (batches_of h ++ arc_value p.batch ∷ []) (pieces_in h ++ (arc_value p.batch_stats).items ∷ []) s (dictionaries_in g) (book_of g)) (sym (ap (λ (v : Rattle.std.specs.declared.vec.Vec.Vec ColumnStats Rattle.std.specs.declared.alloc.Global.Global). v.items) put.stats))
-        (subst (λ (d : List (Option Seen)). LawfulTable (arc_value h.schema) (batches_of h ++ arc_value p.batch ∷ []) (pieces_in h ++ (arc_value p.batch_stats).items ∷ []) (arc_value p.stats).items d (book_of g)) (sym put.dictionaries)
-        (subst (λ (e : List (ℕ × ℕ)). LawfulTable (arc_value h.schema) (batches_of h ++ arc_value p.batch ∷ []) (pieces_in h ++ (arc_value p.batch_stats).items ∷ []) (arc_value p.stats).items (map (option_map arc_value) p.dictionaries.items) e) (sym put.book) lawful)))));
-    rows = put.rows ∙ ap (λ n. n + (arc_value p.batch).rows) is.rows ∙ sym (Rattle.table.proofs.TableLemmas.counted-push (book_of h) (worker, (arc_value p.batch).rows)) ∙ ap counted (sym put.book);
+        (subst (λ (l : List (List ColumnStats)). LawfulTable (arc_value h.schema) after l (arc_value g.stats).items (dictionaries_in g) (book_of g)) (sym put.pieces)
+        (subst (λ (s : List ColumnStats). LawfulTable (arc_value h.schema) after (pieces_in h ++ (arc_value p.batch_stats).items ∷ []) s (dictionaries_in g) (book_of g)) (sym (ap (λ (v : Rattle.std.specs.declared.vec.Vec.Vec ColumnStats Rattle.std.specs.declared.alloc.Global.Global). v.items) put.stats))
+        (subst (λ (d : List (Option Seen)). LawfulTable (arc_value h.schema) after (pieces_in h ++ (arc_value p.batch_stats).items ∷ []) (arc_value p.stats).items d (book_of g)) (sym put.dictionaries)
+        (subst (λ (e : List (ℕ × ℕ)). LawfulTable (arc_value h.schema) after (pieces_in h ++ (arc_value p.batch_stats).items ∷ []) (arc_value p.stats).items (map (option_map arc_value) p.dictionaries.items) e) (sym book_is) lawful)))));
+    rows = put.rows ∙ ap (λ n. n + (arc_value p.batch).rows) is.rows ∙ sym (Rattle.table.proofs.TableLemmas.counted-push (book_of h) (worker, (arc_value p.batch).rows)) ∙ ap counted (sym book_is);
     legal =
         subst (λ (f : List FieldShape). IsLegal f (show g).history) (sym put.schema)
         (subst (λ (s : Contents). IsLegal (arc_value h.schema) s.history) (sym put-shows)

@@ -1,6 +1,6 @@
 -- A batch ready to be put into a table.
-use Rattle.std.proofs.Common.{◌≡◌, ◌∙◌, ℕ, List, ◌++◌, length, map, Option, None, Some, option_map, ap, sym, subst, arith, inl, inr}
-use Rattle.std.specs.Prelude.{Result, Ok, Err, IfErr, IsErrAnd, ◌⊎◌}
+use Rattle.std.proofs.Common.{◌≡◌, ◌∙◌, ℕ, List, [], ◌∷◌, All, ◌++◌, length, map, Option, None, Some, option_map, ap, sym, subst, arith, inl, inr}
+use Rattle.std.specs.Prelude.{Result, Ok, Err, IfErr, IsErrAnd, ◌⊎◌, slice_index_or}
 use Rattle.std.specs.Arc.{arc_value}
 use Rattle.std.specs.List.{AllZip, enumerate_from, zip}
 use Rattle.arrays.specs.Batch.{Batch, batch_fault, rows_of, Table}
@@ -9,17 +9,20 @@ use Rattle.arrays.specs.Shape.{FieldShape}
 use Rattle.group.specs.declared.stats.ColumnStats.{ColumnStats}
 use Rattle.table.specs.Cause.{batch_cause, difference, early_cause, null_cause}
 use Rattle.group.specs.Columns.{AreJoined, AreTheirs}
-use Rattle.table.specs.Storage.{IsConsistent, batches_of, show}
-use Rattle.compaction.specs.Under.{NamesFront}
+use Rattle.table.specs.Storage.{IsConsistent, batches_of, book_of, dictionaries_in, show}
+use Rattle.compaction.specs.Under.{IsDictionary, IsUnder, NamesFront}
 use Rattle.table.specs.Lawful.{dictionaries_of, table_of, texts_in}
 use Rattle.compaction.specs.Statistics.{AreStatsOf}
+use Rattle.table.specs.Moved.{AreMoved}
 use Rattle.table.specs.Ready.{AreTexts, IsReady}
 use Rattle.table.specs.Recoded.{dictionary_for, full_cause, grown, stored_seen}
 use Rattle.table.specs.declared.change.Addition.{Addition}
 use Rattle.table.specs.declared.storage.Storage.{Storage}
 use Rattle.table.specs.declared.refusal.Refusal.{Refusal}
 use Rattle.table.specs.declared.refusal.Refusal.TheVariants.{NoMemory}
+use Rattle.table.proofs.JoinedLemmas.{dictionaries-all, storage-under}
 use Rattle.table.proofs.StorageLemmas.{rows-shown}
+use Rattle.table.proofs.TableLemmas.{Grows, dictionaries-begin, fronts-longer}
 use Rattle.table.proofs.EarlyLemmas.{early-none, few-rows, late-cause}
 use Rattle.table.proofs.GrownLemmas.{count-all, dictionary-all, full-cause, grown-all}
 use Rattle.table.proofs.KeptLemmas.{IsFew, Kept, few-all, front-all, joined-all, kept-all, kept-lawful, kept-rows, same-many, theirs-all}
@@ -91,14 +94,39 @@ module _ (h : Storage) (b : Batch) (is : IsConsistent h) (early : early_cause (a
   pub stored-lawful : batch_fault fields b.rows (map stored_seen (zip pools columns)) ≡ None
   stored-lawful = kept-lawful fields b (map stored_seen (zip pools columns)) kept lawful
 
-  pub ready : (p : Addition) → full_cause pools columns ≡ None → (arc_value p.batch).fields ≡ fields → (arc_value p.batch).rows ≡ b.rows
+  words-are : (words : List (Option Seen)) → words ≡ map dictionary_for (zip (map grown (zip pools columns)) columns) → words ≡ dictionaries_of fields (before ++ rows_of b)
+  unfolding dictionaries_of
+  words-are words is_words =
+      is_words
+      ∙ ap (λ l. map dictionary_for (zip l columns)) pools-grown
+      ∙ ap (λ (l : List Seen). map dictionary_for (zip (map (texts_in (before ++ rows_of b)) places) l)) same
+      ∙ dictionary-all (before ++ rows_of b) (rows_of b) places b.columns all
+
+  pub words-dictionaries : (words : List (Option Seen)) → words ≡ map dictionary_for (zip (map grown (zip pools columns)) columns) → AllZip IsDictionary fields words
+  words-dictionaries words is_words = subst (AllZip IsDictionary fields) (sym (words-are words is_words)) (dictionaries-all fields (before ++ rows_of b))
+
+  -- the batches name fronts of the longer dictionaries too
+  pub words-under : (words : List (Option Seen)) → words ≡ map dictionary_for (zip (map grown (zip pools columns)) columns) → All (IsUnder fields words) (batches_of h)
+  words-under words is_words = λ i c below.
+      let under = storage-under h is i c below in record {
+        same = under.same;
+        lawful = under.lawful;
+        fronts =
+            fronts-longer (slice_index_or (batches_of h) i c).columns (dictionaries_in h) words
+            (subst (λ (g : List (Option Seen)). AllZip Grows (dictionaries_in h) g) (sym (words-are words is_words))
+            (subst (λ (g : List (Option Seen)). AllZip Grows g (dictionaries_of fields (before ++ rows_of b))) (sym is.lawful.texts) (dictionaries-begin fields before (rows_of b))))
+            under.fronts;
+      }
+
+  pub ready : (worker : ℕ) (p : Addition) → full_cause pools columns ≡ None → (arc_value p.batch).fields ≡ fields → (arc_value p.batch).rows ≡ b.rows
       → (arc_value p.batch).columns ≡ map stored_seen (zip pools columns)
       → map (option_map arc_value) p.dictionaries.items ≡ map dictionary_for (zip (map grown (zip pools columns)) columns)
       → AreTheirs b.columns (arc_value p.batch_stats).items
       → AreJoined (arc_value h.stats).items (arc_value p.batch_stats).items (arc_value p.stats).items
-      → IsReady h b p
-  unfolding dictionaries_of
-  ready p fits of_fields size of_columns words theirs joins =
+      → AreMoved fields (map (option_map arc_value) p.dictionaries.items) (batches_of h) (map arc_value p.moved.items)
+      → p.book ≡ book_of h ++ (worker, b.rows) ∷ []
+      → IsReady h worker b p
+  ready worker p fits of_fields size of_columns words theirs joins moved book =
       let stored = map stored_seen (zip pools columns) in
       let under : AllZip (Kept (rows_of b)) places (arc_value p.batch).columns = subst (AllZip (Kept (rows_of b)) places) (sym of_columns) kept in
       let shown_rows = kept-rows (rows_of b) places b (arc_value p.batch) all under size in
@@ -118,12 +146,10 @@ module _ (h : Storage) (b : Batch) (is : IsConsistent h) (early : early_cause (a
         typed = typed-rows fields b free.0 lawful typed;
         piece = piece;
         statistics = joined-all before (rows_of b) places (arc_value h.stats).items (arc_value p.batch_stats).items (arc_value p.stats).items is.lawful.statistics piece joins;
-        texts =
-            words
-            ∙ ap (λ l. map dictionary_for (zip l columns)) pools-grown
-            ∙ ap (λ (l : List Seen). map dictionary_for (zip (map (texts_in (before ++ rows_of b)) places) l)) same
-            ∙ dictionary-all (before ++ rows_of b) (rows_of b) places b.columns all;
+        texts = words-are (map (option_map arc_value) p.dictionaries.items) words;
         front =
             subst (λ (l : List Seen). AllZip NamesFront l (map (option_map arc_value) p.dictionaries.items)) (sym of_columns)
             (subst (AllZip NamesFront stored) (sym words) (front-all pools columns));
+        moved = moved;
+        book = book ∙ ap (λ n. book_of h ++ (worker, n) ∷ []) (sym size);
       }

@@ -17,6 +17,7 @@ use Rattle.arrays.specs.Seen.{Seen}
 use Rattle.arrays.specs.Shown.{shown}
 use Rattle.pool.specs.Codes.{code_item}
 use Rattle.pool.specs.Texts.{firsts, place_of, texts_of}
+use Rattle.pool.specs.Front.{IsFront}
 use Rattle.pool.proofs.PlaceLemmas.{position_found}
 use Rattle.pool.proofs.PrefixLemmas.{prefix_take}
 use Rattle.std.specs.Bool.{then_some}
@@ -28,15 +29,16 @@ use Rattle.table.proofs.FrontLemmas.{prefix_self}
 
 -- ---- texts that begin others
 
--- As many texts that begin with the old ones are these.
-same-texts : (old new : List (List ℕ)) → IsPrefix old new → length old ≡ length new → old ≡ new
-same-texts old new begun same = sym (prefix_take old new begun) ∙ take_all (length old) new (omega (arith, same))
+-- A dictionary of the old texts is one of the first of the new.
+pub dictionary-front : (words : Seen) (old new : List (List ℕ)) → words ≡ shown kind.utf8 (map text old) → IsPrefix old new → IsFront new words
+dictionary-front words old new is begun =
+    let many : length words.items ≡ length old = ap (λ (s : Seen). length s.items) is ∙ length-map old (λ t. text t) in
+    is ∙ ap (λ (l : List (List ℕ)). shown kind.utf8 (map text l)) (sym (ap (λ n. take n new) many ∙ prefix_take old new begun))
 
--- The dictionary of as many texts is the one that there is.
-pub dictionary-same : (words : Seen) (known : ℕ) (old new : List (List ℕ)) → words ≡ shown kind.utf8 (map text old) → IsPrefix old new
-    → known ≡ length old → known ≡ length new → words ≡ shown kind.utf8 (map text new)
-dictionary-same words known old new is begun had many =
-    is ∙ ap (λ (l : List (List ℕ)). shown kind.utf8 (map text l)) (same-texts old new begun (sym had ∙ many))
+-- One of as many texts is one of all.
+pub dictionary-whole : (words : Seen) (texts : List (List ℕ)) → IsFront texts words → length words.items ≡ length texts → words ≡ shown kind.utf8 (map text texts)
+dictionary-whole words texts front many =
+    front ∙ ap (λ (l : List (List ℕ)). shown kind.utf8 (map text l)) (take_all (length words.items) texts (omega (arith, many)))
 
 -- ---- codes
 

@@ -13,7 +13,7 @@ use Rattle.arrays.specs.Shape.{FieldShape, kind_of_field}
 use Rattle.group.specs.Summary.{AreStats}
 use Rattle.group.specs.declared.stats.ColumnStats.{ColumnStats}
 use Rattle.std.proofs.lemmas.List.{get_or-map, length-map}
-use Rattle.table.specs.Storage.{IsConsistent, batches_of, book_of, pair_of, pieces_in, show}
+use Rattle.table.specs.Storage.{IsConsistent, batches_of, book_of, pieces_in, show}
 use Rattle.table.specs.History.{book, rows}
 use Rattle.table.specs.Lawful.{dictionaries_of, table_of}
 use Rattle.compaction.specs.Statistics.{AreStatsOf}
@@ -27,8 +27,8 @@ rows-shown h is = rows-cut (book_of h) (table_of (batches_of h)) is.lawful.count
 pub count-shown : (h : Storage) → IsConsistent h → h.rows ≡ length (rows (show h).history)
 count-shown h is = is.rows ∙ is.lawful.counts ∙ ap (λ (t : Table). length t) (sym (rows-shown h is))
 
-pub length-book : (h : Storage) → length (show h).history ≡ length h.book.items
-length-book h = length-cut (book_of h) (table_of (batches_of h)) ∙ length-map h.book.items pair_of
+pub length-book : (h : Storage) → length (show h).history ≡ length (book_of h)
+length-book h = length-cut (book_of h) (table_of (batches_of h))
 
 pub book-shown : (h : Storage) → IsConsistent h → book (show h).history ≡ book_of h
 book-shown h is = book-cut (book_of h) (table_of (batches_of h)) is.lawful.counts

@@ -83,7 +83,7 @@ front-longer c (Some d) None names begins = tt
 front-longer c (Some d) (Some e) names begins =
     prefix_trans c.entries.items d.items e.items names begins
 
-fronts-longer : (columns : List Seen) (old new : List (Option Seen)) → AllZip Grows old new → AllZip NamesFront columns old → AllZip NamesFront columns new
+pub fronts-longer : (columns : List Seen) (old new : List (Option Seen)) → AllZip Grows old new → AllZip NamesFront columns old → AllZip NamesFront columns new
 fronts-longer [] [] [] begins names = tt
 fronts-longer [] [] (e ∷ new) begins names = absurd begins
 fronts-longer [] (d ∷ old) new begins names = absurd names
@@ -129,7 +129,7 @@ begin-from n (f ∷ fields) t u = (
   begin-from (n + 1) fields t u,
 )
 
-dictionaries-begin : (fields : List FieldShape) (t u : Table) → AllZip Grows (dictionaries_of fields t) (dictionaries_of fields (t ++ u))
+pub dictionaries-begin : (fields : List FieldShape) (t u : Table) → AllZip Grows (dictionaries_of fields t) (dictionaries_of fields (t ++ u))
 unfolding dictionaries_of
 dictionaries-begin fields t u = begin-from 0 fields t u
 

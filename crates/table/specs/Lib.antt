@@ -5,6 +5,8 @@ pub mod Cause
 pub mod Columns
 pub mod Recoded
 pub mod Lawful
+pub mod Moved
+pub mod Book
 pub mod Storage
 pub mod Ready
 pub mod Export

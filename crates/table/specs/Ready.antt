@@ -1,11 +1,12 @@
 -- A batch that is ready to be put in.
-use Rattle.std.specs.Prelude.{◌≡◌, ◌++◌, ℕ, List, map, None, option_map}
+use Rattle.std.specs.Prelude.{◌≡◌, ◌∷◌, ◌++◌, [], ℕ, List, map, None, option_map}
 use Rattle.std.specs.Arc.{arc_value}
 use Rattle.std.specs.List.{AllZip, enumerate_from}
 use mathlib.Core.List.{IsPrefix}
 use Rattle.arrays.specs.Batch.{Batch, rows_of, Table}
 use Rattle.table.specs.Cause.{IsTableOf, batch_cause}
-use Rattle.table.specs.Storage.{batches_of, show}
+use Rattle.table.specs.Moved.{AreMoved}
+use Rattle.table.specs.Storage.{batches_of, book_of, show}
 use Rattle.compaction.specs.Under.{NamesFront}
 use Rattle.table.specs.Lawful.{IsStored, dictionaries_of, table_of, texts_in}
 use Rattle.compaction.specs.Statistics.{AreStatsOf}
@@ -24,8 +25,8 @@ AreTexts h t pools = pools ≡ all_texts h t
 abbrev pub BeginWithTexts : Storage → Table → List (List (List ℕ)) → Type 0
 BeginWithTexts h t pools = AllZip IsPrefix (all_texts h t) pools
 
--- What is ready is the batch as it is stored after what the table holds.
-pub record IsReady (h : Storage) (b : Batch) (p : Addition) : Type 0 where
+-- What is ready is the batch of a worker as it is stored after what the table holds.
+pub record IsReady (h : Storage) (worker : ℕ) (b : Batch) (p : Addition) : Type 0 where
   pub allowed : batch_cause (arc_value h.schema) (show h).history b ≡ None
   pub stored : IsStored (arc_value h.schema) (arc_value p.batch)
   pub rows : rows_of (arc_value p.batch) ≡ rows_of b
@@ -34,3 +35,5 @@ pub record IsReady (h : Storage) (b : Batch) (p : Addition) : Type 0 where
   pub statistics : AreStatsOf (arc_value h.schema) (table_of (batches_of h) ++ rows_of b) (arc_value p.stats).items
   pub texts : map (option_map arc_value) p.dictionaries.items ≡ dictionaries_of (arc_value h.schema) (table_of (batches_of h) ++ rows_of b)
   pub front : AllZip NamesFront (arc_value p.batch).columns (map (option_map arc_value) p.dictionaries.items)
+  pub moved : AreMoved (arc_value h.schema) (map (option_map arc_value) p.dictionaries.items) (batches_of h) (map arc_value p.moved.items)
+  pub book : p.book ≡ book_of h ++ (worker, (arc_value p.batch).rows) ∷ []

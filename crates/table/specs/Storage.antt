@@ -12,15 +12,12 @@ use Rattle.table.specs.Cause.{IsLegal}
 use Rattle.table.specs.Contents.{Contents}
 use Rattle.table.specs.History.{cut}
 use Rattle.table.specs.Lawful.{LawfulTable, counted, table_of}
+use Rattle.table.specs.Moved.{with_last}
 use Rattle.table.specs.declared.change.Addition.{Addition}
-use Rattle.table.specs.declared.entry.Entry.{Entry}
 use Rattle.table.specs.declared.storage.Storage.{Storage}
 
-abbrev pub pair_of : Entry → ℕ × ℕ
-pair_of e = (e.worker, e.rows)
-
 abbrev pub book_of : Storage → List (ℕ × ℕ)
-book_of h = map pair_of h.book.items
+book_of h = h.book
 
 abbrev pub batches_of : Storage → List Batch
 batches_of h = map arc_value h.batches.items
@@ -49,7 +46,6 @@ pub record IsConsistent (h : Storage) : Type 0 where
 pub record HasRoom (h : Storage) : Type 0 where
   pub batches : vec_len h.batches < vec_capacity h.batches
   pub pieces : vec_len h.batch_stats < vec_capacity h.batch_stats
-  pub book : vec_len h.book < vec_capacity h.book
 
 -- Both have the same parts.
 pub record IsSame (h other : Storage) : Type 0 where
@@ -62,14 +58,14 @@ pub record IsSame (h other : Storage) : Type 0 where
   pub book : book_of other ≡ book_of h
 
 -- The second has what is new beside what the first has.
-pub record IsPut (worker : ℕ) (new : Addition) (h other : Storage) : Type 0 where
+pub record IsPut (new : Addition) (h other : Storage) : Type 0 where
   pub schema : arc_value other.schema ≡ arc_value h.schema
   pub rows : other.rows ≡ h.rows + (arc_value new.batch).rows
-  pub batches : batches_of other ≡ batches_of h ++ arc_value new.batch ∷ []
+  pub batches : batches_of other ≡ with_last (batches_of h) (map arc_value new.moved.items) ++ arc_value new.batch ∷ []
   pub pieces : pieces_in other ≡ pieces_in h ++ (arc_value new.batch_stats).items ∷ []
   pub stats : arc_value other.stats ≡ arc_value new.stats
   pub dictionaries : dictionaries_in other ≡ map (option_map arc_value) new.dictionaries.items
-  pub book : book_of other ≡ book_of h ++ (worker, (arc_value new.batch).rows) ∷ []
+  pub book : book_of other ≡ new.book
 
 -- The second has these batches, with these statistics, and all else of the first.
 pub record IsWith (others : List (Arc Batch Global)) (theirs : List (Arc (Vec ColumnStats Global) Global)) (h other : Storage) : Type 0 where

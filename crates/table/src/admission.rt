@@ -14,6 +14,8 @@ ghost use Rattle.table.specs.Ready.{AreTexts, BeginWithTexts, IsReady};
 
 use crate::change::{Addition, take_back};
 use crate::columns::{Columns, stored_columns};
+use crate::entry::Entry;
+use crate::moving::moved;
 use crate::refusal::Refusal;
 use crate::storage::Storage;
 use arrays::{Array, RecordBatch};
@@ -22,12 +24,13 @@ use pool::TextPool;
 use std::alloc::Global;
 use std::sync::Arc;
 
-/// Stages a batch whose statistics were made before. Nothing that the table shows changes: its pools have the new texts, and have them no more where
+/// Stages a batch of a worker whose statistics were made before. Nothing that the table shows changes: its pools have the new texts, and have them no more where
 /// the batch is refused. Nothing but its texts and the memory can stand against it here.
 pub(crate) fn stage(
     alloc: Global,
     storage: &Storage,
     pools: &mut Vec<TextPool>,
+    worker: u32,
     batch: &RecordBatch,
     batch_stats: Arc<Vec<ColumnStats>>,
 ) -> Result<Addition, Refusal>
@@ -35,14 +38,14 @@ pub(crate) fn stage(
     requires stats { AreTheirs batch.now.columns (arc_value batch_stats).items }
     requires pools { AreTexts storage.now (table_of (batches_of storage.now)) pools.old.items }
     requires allowed { early_cause (arc_value storage.now.schema) (show storage.now).history batch.now ≡ None }
-    ensures ok { IfOk result (λ p. IsReady storage.now batch.now p) }
+    ensures ok { IfOk result (λ p. IsReady storage.now worker batch.now p) }
     ensures pools { OnOk result (AreTexts storage.now (table_of (batches_of storage.now) ++ rows_of batch.now) pools.new.items) }
     ensures begun { OnOk result (BeginWithTexts storage.now (table_of (batches_of storage.now)) pools.new.items) }
     ensures err { IfErr result (λ e. (e ≡ Refusal.NoMemory)
         ⊎ (batch_cause (arc_value storage.now.schema) (show storage.now).history batch.now ≡ Some e)) }
     ensures kept { OnErr result (pools.new.items ≡ pools.old.items) }
 {
-    match recoded(alloc, storage, pools, batch, batch_stats) {
+    match recoded(alloc, storage, pools, worker, batch, batch_stats) {
         Ok(addition) => Ok(addition),
         Err(refusal) => {
             take_back(storage, pools);
@@ -56,6 +59,7 @@ fn recoded(
     alloc: Global,
     storage: &Storage,
     pools: &mut Vec<TextPool>,
+    worker: u32,
     batch: &RecordBatch,
     batch_stats: Arc<Vec<ColumnStats>>,
 ) -> Result<Addition, Refusal>
@@ -63,7 +67,7 @@ fn recoded(
     requires stats { AreTheirs batch.now.columns (arc_value batch_stats).items }
     requires pools { AreTexts storage.now (table_of (batches_of storage.now)) pools.old.items }
     requires allowed { early_cause (arc_value storage.now.schema) (show storage.now).history batch.now ≡ None }
-    ensures ok { IfOk result (λ p. IsReady storage.now batch.now p) }
+    ensures ok { IfOk result (λ p. IsReady storage.now worker batch.now p) }
     ensures pools { OnOk result (AreTexts storage.now (table_of (batches_of storage.now) ++ rows_of batch.now) pools.new.items) }
     ensures err { IfErr result (λ e. (e ≡ Refusal.NoMemory)
         ⊎ (batch_cause (arc_value storage.now.schema) (show storage.now).history batch.now ≡ Some e)) }
@@ -75,13 +79,18 @@ fn recoded(
         dictionaries,
     } = stored_columns(alloc, &storage.dictionaries, pools, batch.columns())?;
     let stats = joined_all(alloc, &storage.stats, &batch_stats)?;
+    let moved = moved(alloc, storage, &dictionaries)?;
+    let rows = batch.rows();
+    let book = storage.book.with_entry(alloc, Entry { worker, rows })?;
     // The columns are as long as those of the batch, and of the stored types.
-    let batch = RecordBatch::under(storage.schema.clone()?, batch.rows(), columns);
+    let batch = RecordBatch::under(storage.schema.clone()?, rows, columns);
     Ok(Addition {
         batch: Arc::new(alloc, batch)?,
         batch_stats,
         stats: Arc::new(alloc, stats)?,
         dictionaries,
+        moved,
+        book,
     })
 }
 

@@ -7,9 +7,10 @@ ghost use Rattle.table.specs.Storage.{IsConsistent, batches_of, show};
 ghost use Rattle.table.specs.Lawful.{table_of};
 ghost use Rattle.table.specs.Ready.{AreTexts, BeginWithTexts};
 
+use crate::book::Book;
 use crate::columns::cut_back;
 use crate::look::Look;
-use crate::storage::{Storage, dictionaries_shared};
+use crate::storage::{Storage, all_shared, dictionaries_shared};
 use arrays::{RecordBatch, Words};
 use colbits::NoMemory;
 use group::ColumnStats;
@@ -24,13 +25,17 @@ pub(crate) struct Addition {
     pub(crate) batch_stats: Arc<Vec<ColumnStats>>,
     pub(crate) stats: Arc<Vec<ColumnStats>>,
     pub(crate) dictionaries: Vec<Option<Arc<Words>>>,
+    /// The last of the batches that are stored, over these dictionaries.
+    pub(crate) moved: Vec<Arc<RecordBatch>>,
+    /// The book with the batch's entry.
+    pub(crate) book: Book,
 }
 
 /// A change that is staged: all of it is made, and nothing of it is stored yet.
 #[derive(Drop)]
 pub(crate) enum Change {
-    /// A batch of a worker comes behind the others.
-    Batch { worker: u32, addition: Addition },
+    /// A batch comes behind the others.
+    Batch(Addition),
     /// All parts are others.
     Whole(Storage),
 }
@@ -43,12 +48,16 @@ impl Addition {
         ensures stats { IfOk result (λ p. arc_value p.stats ≡ arc_value self.now.stats) }
         ensures dictionaries { IfOk result (λ p. map (option_map arc_value) p.dictionaries.items
             ≡ map (option_map arc_value) self.now.dictionaries.items) }
+        ensures moved { IfOk result (λ p. map arc_value p.moved.items ≡ map arc_value self.now.moved.items) }
+        ensures book { IfOk result (λ p. p.book ≡ self.now.book) }
     {
         Ok(Addition {
             batch: self.batch.clone()?,
             batch_stats: self.batch_stats.clone()?,
             stats: self.stats.clone()?,
             dictionaries: dictionaries_shared(alloc, &self.dictionaries)?,
+            moved: all_shared(alloc, &self.moved, 0)?,
+            book: self.book.share()?,
         })
     }
 }
@@ -60,7 +69,7 @@ impl Storage {
         ensures { IfOk result (λ h. IsNext change.now self.now h) }
     {
         match change {
-            Change::Batch { worker, addition } => self.with_batch(alloc, *worker, addition),
+            Change::Batch(addition) => self.with_batch(alloc, addition),
             Change::Whole(storage) => storage.share(alloc, 0),
         }
     }
@@ -71,7 +80,7 @@ impl Storage {
         ensures { IsNext change self.old self.new }
     {
         match change {
-            Change::Batch { worker, addition } => self.put_in(worker, addition),
+            Change::Batch(addition) => self.put_in(addition),
             Change::Whole(storage) => *self = storage,
         }
     }

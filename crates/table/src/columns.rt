@@ -8,6 +8,7 @@ ghost use Rattle.arrays.specs.Kind as kind;
 ghost use Rattle.arrays.specs.Item.{text};
 ghost use Rattle.arrays.specs.Shown.{shown};
 ghost use Rattle.arrays.specs.Slot.{is_recodable};
+ghost use Rattle.pool.specs.Front.{IsFront};
 ghost use Rattle.table.specs.Recoded.{coded, dictionary_for, entry_count, full_cause, grown, is_full, shortened, stored_seen};
 
 use crate::refusal::Refusal;
@@ -106,29 +107,22 @@ fn stored_texts(
     ensures err { IfErr result (λ e. ((e ≡ PoolFault.TextsFull) × (is_full (pool.old, column.now) ≡ true)) ⊎ (e ≡ PoolFault.NoMemory)) }
     ensures begun { IsPrefix pool.old pool.new }
 {
-    let known = pool.len();
     let codes = recode(alloc, &column.view(), pool)?;
-    let words = newest(alloc, words, known, pool)?;
+    let words = newest(alloc, words, pool)?;
     let dictionary = words.clone()?;
     Ok((Array::dict(codes, dictionary), words))
 }
 
-/// The dictionary of a pool: the one that there is, of the first `known` texts, unless the pool has more.
-fn newest(
-    alloc: Global,
-    words: &Arc<Words>,
-    known: usize,
-    pool: &TextPool,
-) -> Result<Arc<Words>, NoMemory>
-    requires { known ≡ length pool.now → arc_value words.now ≡ shown kind.utf8 (map text pool.now) }
+/// The dictionary of a pool: the one of its first texts that there is, unless the pool has more.
+fn newest(alloc: Global, words: &Arc<Words>, pool: &TextPool) -> Result<Arc<Words>, NoMemory>
+    requires { IsFront pool.now (arc_value words.now) }
     ensures { IfOk result (λ w. arc_value w ≡ shown kind.utf8 (map text pool.now)) }
 {
-    if pool.len() == known {
-        Ok(words.clone()?)
-    } else {
-        let texts = pool.to_array(alloc)?;
-        Ok(Arc::new(alloc, Words::of(texts))?)
+    if words.view().len() == pool.len() {
+        return Ok(words.clone()?);
     }
+    let texts = pool.to_array_after(alloc, words)?;
+    Ok(Arc::new(alloc, Words::of(texts))?)
 }
 
 /// Takes back the texts that pools have beside those of the dictionaries.

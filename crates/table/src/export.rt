@@ -43,18 +43,13 @@ fn entry_batches(alloc: Global, storage: &Storage) -> Result<Vec<Arc<RecordBatch
 {
     let mut batches = Vec::with_capacity(alloc, storage.book.len())?;
     let mut place = Place { batch: 0, used: 0 };
-    for entry in &storage.book {
+    for i in 0..storage.book.len() {
+        let rows = storage.book.get(i).rows;
         let Place { batch, used } = place.in_batch(&storage.batches);
-        batches.push(part_of(
-            alloc,
-            &storage.schema,
-            &storage.batches[batch],
-            used,
-            entry.rows,
-        )?)?;
+        batches.push(part_of(alloc, &storage.schema, &storage.batches[batch], used, rows)?)?;
         place = Place {
             batch,
-            used: used + entry.rows,
+            used: used + rows,
         };
     }
     Ok(batches)

@@ -23,5 +23,5 @@ pub(crate) fn stage(alloc: Global, storage: &Storage, max_rows: u32) -> Result<S
         &storage.batch_stats,
         max_rows,
     )?;
-    storage.with_batches(alloc, compacted.batches, compacted.batch_stats, 0)
+    storage.with_batches(alloc, compacted.batches, compacted.batch_stats)
 }

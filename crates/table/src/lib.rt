@@ -12,6 +12,7 @@
 
 pub mod add_fault;
 mod admission;
+mod book;
 mod cause;
 mod change;
 mod columns;
@@ -20,6 +21,7 @@ mod export;
 mod joining;
 pub mod laws;
 mod look;
+mod moving;
 mod nulls;
 pub mod ready;
 pub mod refusal;

@@ -154,10 +154,11 @@ impl TableState {
             self.alloc,
             &self.storage,
             &mut self.pools,
+            worker,
             batch,
             batch_stats,
         )?;
-        let change = Change::Batch { worker, addition };
+        let change = Change::Batch(addition);
         let seen = commit(self.alloc, &mut self.storage, &mut self.pools, change)?;
         Ok((number, seen))
     }

@@ -1,13 +1,14 @@
 //! What a table holds: the same under its lock and in a version.
 
-ghost use Rattle.std.specs.Prelude.{◌≡◌, ◌+◌, ◌^◌, ◌≤◌, IfOk, OnOk, map, option_map};
+ghost use Rattle.std.specs.Prelude.{◌≡◌, ◌+◌, ◌^◌, ◌≤◌, IfOk, OnOk, length, map, option_map, vec_capacity, vec_len};
 ghost use Rattle.std.specs.Arc.{arc_value};
+ghost use Rattle.table.specs.Moved.{with_last};
 ghost use Rattle.table.specs.Storage.{HasRoom, IsPut, IsSame, IsWith};
 
 pub(crate) mod empty;
 
+use crate::book::Book;
 use crate::change::Addition;
-use crate::entry::Entry;
 use arrays::{RecordBatch, Schema, Words};
 use colbits::NoMemory;
 use group::ColumnStats;
@@ -27,7 +28,7 @@ pub(crate) struct Storage {
     pub(crate) stats: Arc<Vec<ColumnStats>>,
     /// The newest dictionary of each column of texts.
     pub(crate) dictionaries: Vec<Option<Arc<Words>>>,
-    pub(crate) book: Vec<Entry>,
+    pub(crate) book: Book,
 }
 
 impl Storage {
@@ -38,28 +39,31 @@ impl Storage {
     {
         self.batches.reserve(1)?;
         self.batch_stats.reserve(1)?;
-        self.book.reserve(1)?;
         Ok(())
     }
 
-    /// Puts a batch of a worker in. No memory is taken.
-    pub(crate) fn put_in(&mut self, worker: u32, addition: Addition)
+    /// Puts a batch in, and what moved in the place of the last ones before it. No memory is taken.
+    pub(crate) fn put_in(&mut self, addition: Addition)
         requires room { HasRoom self.old }
         requires few { self.old.rows + (arc_value addition.batch).rows ≤ 2 ^ 40 }
-        ensures { IsPut worker addition self.old self.new }
+        requires moved { length addition.moved.items ≤ length self.old.batches.items }
+        ensures { IsPut addition self.old self.new }
     {
         let Addition {
             batch,
             batch_stats,
             stats,
             dictionaries,
+            moved,
+            book,
         } = addition;
         let rows = batch.rows();
+        put_last(&mut self.batches, moved);
         self.batches.push_reserved(batch);
         self.batch_stats.push_reserved(batch_stats);
-        self.book.push_reserved(Entry { worker, rows });
         self.stats = stats;
         self.dictionaries = dictionaries;
+        self.book = book;
         self.rows += u64::from(rows);
     }
 
@@ -69,21 +73,18 @@ impl Storage {
     {
         let batches = all_shared(alloc, &self.batches, room)?;
         let batch_stats = all_shared(alloc, &self.batch_stats, room)?;
-        self.with_batches(alloc, batches, batch_stats, room)
+        self.with_batches(alloc, batches, batch_stats)
     }
 
-    /// The same parts, shared, but for the batches and their statistics. In the book lies room for so many entries more.
+    /// The same parts, shared, but for the batches and their statistics.
     pub(crate) fn with_batches(
         &self,
         alloc: Global,
         batches: Vec<Arc<RecordBatch>>,
         batch_stats: Vec<Arc<Vec<ColumnStats>>>,
-        room: usize,
     ) -> Result<Storage, NoMemory>
         ensures { IfOk result (λ h. IsWith batches.items batch_stats.items self.now h) }
     {
-        let mut book = Vec::with_capacity(alloc, self.book.len().saturating_add(room))?;
-        book.extend_from_slice(&self.book)?;
         Ok(Storage {
             schema: self.schema.clone()?,
             rows: self.rows,
@@ -91,29 +92,41 @@ impl Storage {
             batch_stats,
             stats: self.stats.clone()?,
             dictionaries: dictionaries_shared(alloc, &self.dictionaries)?,
-            book,
+            book: self.book.share()?,
         })
     }
 
-    /// The same parts, shared, with a batch of a worker put in.
-    pub(crate) fn with_batch(
-        &self,
-        alloc: Global,
-        worker: u32,
-        addition: &Addition,
-    ) -> Result<Storage, NoMemory>
-        requires { self.now.rows + (arc_value addition.now.batch).rows ≤ 2 ^ 40 }
-        ensures { IfOk result (λ h. IsPut worker addition.now self.now h) }
+    /// The same parts, shared, with a batch put in.
+    pub(crate) fn with_batch(&self, alloc: Global, addition: &Addition) -> Result<Storage, NoMemory>
+        requires few { self.now.rows + (arc_value addition.now.batch).rows ≤ 2 ^ 40 }
+        requires moved { length addition.now.moved.items ≤ length self.now.batches.items }
+        ensures { IfOk result (λ h. IsPut addition.now self.now h) }
     {
         let mut storage = self.share(alloc, 1)?;
         storage.reserve()?;
-        storage.put_in(worker, addition.share(alloc)?);
+        storage.put_in(addition.share(alloc)?);
         Ok(storage)
     }
 }
 
+/// Puts these in the place of the last ones. No memory is taken.
+fn put_last<T: Drop>(values: &mut Vec<T>, last: Vec<T>)
+    requires { length last.items ≤ length values.old.items }
+    ensures values { values.new.items ≡ with_last values.old.items last.items }
+    ensures len { vec_len values.new ≡ vec_len values.old }
+    ensures capacity { vec_capacity values.old ≤ vec_capacity values.new }
+{
+    let mut last = last;
+    values.truncate(values.len() - last.len());
+    match values.append(&mut last) {
+        Ok(()) => {}
+        // There was room for those that were there.
+        Err(_) => unreachable!(),
+    }
+}
+
 /// The same values, shared, with room for so many more.
-fn all_shared<T: Drop>(
+pub(crate) fn all_shared<T: Drop>(
     alloc: Global,
     values: &[Arc<T>],
     room: usize,

@@ -11,7 +11,8 @@ ghost use Rattle.query.specs.QueryShape.{query_shape};
 ghost use Rattle.query.specs.Fault.{fits};
 ghost use Rattle.table.specs.Export.{IsLawful};
 ghost use Rattle.table.specs.Cause.{IsLegal};
-ghost use Rattle.table.specs.Storage.{IsConsistent, pair_of, show};
+ghost use Rattle.table.specs.Book.{pair_of};
+ghost use Rattle.table.specs.Storage.{IsConsistent, show};
 ghost use Rattle.table.specs.History.{book, rows};
 ghost use Rattle.table.specs.Lawful.{EndsWithEntry, IsStored, NamesFronts, dictionaries_of, table_of};
 
@@ -206,6 +207,6 @@ impl Version {
         requires { i < length self.now.history }
         ensures { slice_get (book self.now.history) i ≡ Some (pair_of result) }
     {
-        self.storage().book[i as usize]
+        self.storage().book.get(i as usize)
     }
 }

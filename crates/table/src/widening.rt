@@ -62,7 +62,7 @@ impl Storage {
         let schema = Arc::new(alloc, wider_schema(alloc, &self.schema, field)?)?;
         let batches = wider_batches(alloc, &schema, &self.batches, field)?;
         let batch_stats = wider_pieces(alloc, &self.batches, &self.batch_stats, &field.ty)?;
-        let mut storage = self.with_batches(alloc, batches, batch_stats, 0)?;
+        let mut storage = self.with_batches(alloc, batches, batch_stats)?;
         storage.schema = schema;
         storage.stats = Arc::new(
             alloc,

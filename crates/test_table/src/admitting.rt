@@ -69,7 +69,11 @@ pub(crate) static ADDED: [Scene; 3] = [
                     Fact::Column(
                         0,
                         0,
-                        Shown::Encoded(&[Some(0), None], &[Some("b")], &[Some("b"), None]),
+                        Shown::Encoded(
+                            &[Some(0), None],
+                            &[Some("b"), Some("a")],
+                            &[Some("b"), None],
+                        ),
                     ),
                     Fact::Column(
                         1,

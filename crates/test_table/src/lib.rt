@@ -12,6 +12,8 @@ mod appending;
 #[cfg(test)]
 mod batches;
 #[cfg(test)]
+mod dictionaries;
+#[cfg(test)]
 mod facts;
 #[cfg(test)]
 mod joining;

@@ -49,7 +49,11 @@ const NO_X: Facts = &[
 const X_BEHIND: Facts = &[
     Fact::Fields(2),
     Fact::Book(&[(0, 2), (0, 1)]),
-    Fact::Column(0, 1, Shown::Encoded(&[None, None], &[], &[None, None])),
+    Fact::Column(
+        0,
+        1,
+        Shown::Encoded(&[None, None], &[Some("x")], &[None, None]),
+    ),
     Fact::Column(1, 0, Shown::Numbers(&[Some(3)])),
     Fact::Column(1, 1, Shown::Encoded(&[Some(0)], &[Some("x")], &[Some("x")])),
     Fact::Words(1, Some(Shown::Texts(&[Some("x")]))),

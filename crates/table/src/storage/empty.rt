@@ -13,6 +13,7 @@ ghost use Rattle.table.specs.Stored.{stored_fields};
 ghost use Rattle.table.specs.Widening.{no_texts};
 
 use super::Storage;
+use crate::book::Book;
 use crate::stored::stored_schema;
 use arrays::{DataType, Field, Schema, ViewType, Words};
 use colbits::NoMemory;
@@ -37,7 +38,7 @@ impl Storage {
             batch_stats: Vec::new(alloc),
             stats: Arc::new(alloc, stats)?,
             dictionaries,
-            book: Vec::new(alloc),
+            book: Book::empty(alloc)?,
         })
     }
 }

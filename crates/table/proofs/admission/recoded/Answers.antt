@@ -1,7 +1,8 @@
-use Rattle.std.proofs.Common.{◌∙◌, List, All, length, ap, subst, sym, map, option_map}
+use Rattle.std.proofs.Common.{◌∙◌, ◌∷◌, ◌++◌, [], List, All, Option, length, ap, subst, sym, map, option_map}
 use Rattle.std.specs.Arc.{arc_value}
 use Rattle.std.specs.List.{AllZip}
 use Rattle.std.specs.declared.alloc.Global.{Global}
+use Rattle.std.specs.declared.sync.Arc.{Arc}
 use Rattle.std.specs.declared.vec.Vec.{Vec}
 use Rattle.arrays.specs.Batch.{Batch, batch_fault}
 use Rattle.arrays.specs.Seen.{Seen}
@@ -10,10 +11,12 @@ use Rattle.arrays.specs.Typed.{IsItemOf}
 use Rattle.group.specs.declared.stats.ColumnStats.{ColumnStats}
 use Rattle.table.specs.Cause.{batch_cause}
 use Rattle.group.specs.Columns.{AreJoined}
-use Rattle.table.specs.Storage.{show}
+use Rattle.compaction.specs.Under.{IsDictionary, IsUnder}
+use Rattle.table.specs.Moved.{AreMoved}
+use Rattle.table.specs.Storage.{batches_of, book_of, show}
 use Rattle.table.specs.Recoded.{full_cause}
 use Rattle.table.proofs.KeptLemmas.{IsFew}
-use Rattle.table.proofs.ReadyLemmas.{reported, full-batch, pools-count, pools-dictionaries, pools-grown, ready, stats-count, stats-few, stored-lawful}
+use Rattle.table.proofs.ReadyLemmas.{reported, full-batch, pools-count, pools-dictionaries, pools-grown, ready, stats-count, stats-few, stored-lawful, words-dictionaries, words-under}
 use Rattle.table.proofs.admission.recoded.Goals as goal
 
 pub stored_columns-requires-clause-count : goal.stored_columns-requires-clause-count
@@ -56,11 +59,27 @@ joined_all-requires-clause-few c =
     c.args.pools.now.items c.requires.pools c.columns-2.result.now c.columns-2.ensures.value
     (arc_value c.args.batch_stats).items c.requires.stats))
 
+pub moved-requires-clause-dictionaries : goal.moved-requires-clause-dictionaries
+moved-requires-clause-dictionaries c =
+    subst (λ (l : List (Option (Arc Seen Global))). AllZip IsDictionary (arc_value c.args.storage.now.schema) (map (option_map arc_value) l)) (sym c.deref-6.ensures.value)
+    (words-dictionaries c.args.storage.now c.args.batch.now c.requires.storage c.requires.allowed c.columns.ensures.lawful
+    (subst (All (λ (d : Seen). All (IsItemOf d.kind) d.items)) c.columns.ensures.value c.tell_all.ensures)
+    c.args.pools.now.items c.requires.pools c.columns-2.result.now c.columns-2.ensures.value
+    (map (option_map arc_value) c.in_ok-columns.field-0.dictionaries.items) c.in_ok-columns.ensures.dictionaries)
+
+pub moved-requires-clause-under : goal.moved-requires-clause-under
+moved-requires-clause-under c =
+    subst (λ (l : List (Option (Arc Seen Global))). All (IsUnder (arc_value c.args.storage.now.schema) (map (option_map arc_value) l)) (batches_of c.args.storage.now)) (sym c.deref-6.ensures.value)
+    (words-under c.args.storage.now c.args.batch.now c.requires.storage c.requires.allowed c.columns.ensures.lawful
+    (subst (All (λ (d : Seen). All (IsItemOf d.kind) d.items)) c.columns.ensures.value c.tell_all.ensures)
+    c.args.pools.now.items c.requires.pools c.columns-2.result.now c.columns-2.ensures.value
+    (map (option_map arc_value) c.in_ok-columns.field-0.dictionaries.items) c.in_ok-columns.ensures.dictionaries)
+
 pub under-batch-requires : goal.under-batch-requires
 under-batch-requires c =
     let columns = c.in_ok-columns.field-0.columns.items in
-    ap (λ (f : List FieldShape). batch_fault f c.rows.result columns) c.in_ok-clone.ensures.cases
-    ∙ ap (λ n. batch_fault (arc_value c.args.storage.now.schema) n columns) c.rows.ensures
+    ap (λ (f : List FieldShape). batch_fault f c.rows-rows.result columns) c.in_ok-clone.ensures.cases
+    ∙ ap (λ n. batch_fault (arc_value c.args.storage.now.schema) n columns) c.rows-rows.ensures
     ∙ ap (λ (l : List Seen). batch_fault (arc_value c.args.storage.now.schema) c.args.batch.now.rows l) c.in_ok-columns.ensures.columns
     ∙ stored-lawful c.args.storage.now c.args.batch.now c.requires.storage c.requires.allowed c.columns.ensures.lawful
     (subst (All (λ (d : Seen). All (IsItemOf d.kind) d.items)) c.columns.ensures.value c.tell_all.ensures)
@@ -72,10 +91,11 @@ returns-clause-ok c =
     ready c.args.storage.now c.args.batch.now c.requires.storage c.requires.allowed c.columns.ensures.lawful
     (subst (All (λ (d : Seen). All (IsItemOf d.kind) d.items)) c.columns.ensures.value c.tell_all.ensures)
     c.args.pools.now.items c.requires.pools c.columns-2.result.now c.columns-2.ensures.value
-    (record { batch = c.in_ok-new.field-0; batch_stats = c.args.batch_stats; stats = c.in_ok-new-2.field-0; dictionaries = c.in_ok-columns.field-0.dictionaries })
+    c.args.worker
+    (record { batch = c.in_ok-new.field-0; batch_stats = c.args.batch_stats; stats = c.in_ok-new-2.field-0; dictionaries = c.in_ok-columns.field-0.dictionaries; moved = c.in_ok-moved.moved; book = c.in_ok-book.book })
     c.in_ok-columns.ensures.fits
     (ap (λ (b : Batch). b.fields) batch ∙ c.in_ok-clone.ensures.cases)
-    (ap (λ (b : Batch). b.rows) batch ∙ c.rows.ensures)
+    (ap (λ (b : Batch). b.rows) batch ∙ c.rows-rows.ensures)
     (ap (λ (b : Batch). b.columns) batch ∙ c.in_ok-columns.ensures.columns)
     c.in_ok-columns.ensures.dictionaries
     c.requires.stats
@@ -83,6 +103,8 @@ returns-clause-ok c =
     (subst (λ (l : List ColumnStats). AreJoined (arc_value c.args.storage.now.stats).items l c.in_ok-stats.stats.items) (c.deref-5.ensures.value ∙ ap (λ (v : Vec ColumnStats Global). v.items) c.deref-4.ensures)
     (subst (λ (l : List ColumnStats). AreJoined l c.deref-5.result.now c.in_ok-stats.stats.items)
     (c.deref-3.ensures.value ∙ ap (λ (v : Vec ColumnStats Global). v.items) c.deref-2.ensures) c.in_ok-stats.ensures)))
+    (subst (λ (l : List (Option (Arc Seen Global))). AreMoved (arc_value c.args.storage.now.schema) (map (option_map arc_value) l) (batches_of c.args.storage.now) (map arc_value c.in_ok-moved.moved.items)) c.deref-6.ensures.value c.in_ok-moved.ensures)
+    (c.in_ok-book.ensures ∙ ap (λ n. book_of c.args.storage.now ++ (c.args.worker, n) ∷ []) c.rows-rows.ensures)
 
 pub returns-clause-pools : goal.returns-clause-pools
 returns-clause-pools c = c.in_ok-columns.ensures.pools ∙ pools-grown c.args.storage.now c.args.batch.now c.requires.storage c.requires.allowed c.columns.ensures.lawful

@@ -45,7 +45,7 @@ returns-then-len-eq-MOST_ENTRIES c =
     c.null_refusal.ensures in
     early-by fields h b None None false true column (sym c.in_default-null_refusal.is ∙ nulls)
     (table-free h b (omega (arith, count-shown storage c.requires, c.rows.ensures, c.from.ensures, c.if-storage-from-gt-MOST_ROWS.false)))
-    (book-full h (omega (arith, length-book storage, storage.book.ok.0, c.len.ensures, c.if-len-eq-MOST_ENTRIES.true)))
+    (book-full h (omega (arith, length-book storage, c.len.ensures, c.if-len-eq-MOST_ENTRIES.true)))
 
 pub returns : goal.returns
 returns c =
@@ -59,4 +59,4 @@ returns c =
     c.null_refusal.ensures in
     early-by fields h b None None false false column (sym c.in_default-null_refusal.is ∙ nulls)
     (table-free h b (omega (arith, count-shown storage c.requires, c.rows.ensures, c.from.ensures, c.if-storage-from-gt-MOST_ROWS.false)))
-    (book-free h (λ full. omega (arith, full, length-book storage, storage.book.ok.0, c.len.ensures, c.if-len-eq-MOST_ENTRIES.false)))
+    (book-free h (λ full. omega (arith, full, length-book storage, c.len.ensures, c.if-len-eq-MOST_ENTRIES.false)))

@@ -9,23 +9,12 @@ use Rattle.arrays.specs.Shown.{shown}
 use Rattle.pool.specs.Codes.{code_item}
 use Rattle.pool.specs.Texts.{firsts, texts_of}
 use Rattle.std.proofs.lemmas.List.{length-map}
-use Rattle.pool.proofs.RecodeLemmas.{begins_as_before}
-use Rattle.table.proofs.RecodedLemmas.{codes-within, column-coded, dictionary-same}
+use Rattle.table.proofs.RecodedLemmas.{codes-within, column-coded, dictionary-front}
 use Rattle.table.proofs.columns.stored_texts.Goals as goal
 
 pub newest-requires : goal.newest-requires
 newest-requires c =
-    dictionary-same (arc_value c.args.words.now) c.len-known.result c.args.pool.now c.recode.new.pool c.requires.words
-    (begins_as_before c.args.pool.now (texts_of c.view.result.items) c.recode.new.pool c.len-known.ensures.once c.in_ok-codes.ensures.texts)
-    c.len-known.ensures.count
-
-pub returns-in_err-words-clause-begun : goal.returns-in_err-words-clause-begun
-returns-in_err-words-clause-begun c =
-    begins_as_before c.args.pool.now (texts_of c.view.result.items) c.recode.new.pool c.len-known.ensures.once c.in_ok-codes.ensures.texts
-
-pub returns-in_err-dictionary-clause-begun : goal.returns-in_err-dictionary-clause-begun
-returns-in_err-dictionary-clause-begun c =
-    begins_as_before c.args.pool.now (texts_of c.view.result.items) c.recode.new.pool c.len-known.ensures.once c.in_ok-codes.ensures.texts
+    dictionary-front (arc_value c.args.words.now) c.args.pool.now c.recode.new.pool c.requires.words c.recode.ensures.begins
 
 pub dict-requires-clause-codes : goal.dict-requires-clause-codes
 dict-requires-clause-codes c =
@@ -42,7 +31,3 @@ returns-clause-column c =
     (subst (λ l. c.recode.new.pool ≡ firsts (c.args.pool.now ++ texts_of l)) view c.in_ok-codes.ensures.texts)
     (subst (λ l. c.in_ok-codes.codes ≡ shown (kind.int int32) (map (code_item c.recode.new.pool) l)) view c.in_ok-codes.ensures.whole)
     (c.in_ok-dictionary.ensures.cases ∙ c.in_ok-words.ensures)
-
-pub returns-clause-begun : goal.returns-clause-begun
-returns-clause-begun c =
-    begins_as_before c.args.pool.now (texts_of c.view.result.items) c.recode.new.pool c.len-known.ensures.once c.in_ok-codes.ensures.texts

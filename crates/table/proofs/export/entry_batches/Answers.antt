@@ -1,57 +1,50 @@
-use Rattle.std.proofs.Common.{◌∙◌, ◌∷◌, ◌++◌, [], All, List, ap, arith, length, map, subst, sym}
+use Rattle.std.proofs.Common.{◌∙◌, ◌∷◌, ◌++◌, [], All, List, ap, arith, map, subst, sym}
 use Rattle.std.proofs.lemmas.List.{map-append}
 use Rattle.std.proofs.lemmas.List.Elements.{All-push}
 use Rattle.std.specs.Arc.{arc_value}
 use Rattle.arrays.specs.Batch.{Table, rows_of}
 use Rattle.table.specs.Export.{IsUnder}
 use Rattle.table.specs.Storage.{show}
-use Rattle.table.specs.declared.entry.Entry.{Entry}
 use Rattle.table.proofs.ExportLemmas.{Shared, lies, tables-all}
 use Rattle.table.proofs.export.entry_batches.Goals as goal
 
 pub part_of-requires : goal.part_of-requires
 part_of-requires c =
     let h = c.args.storage.now in
-    let k = c.loop-entry.entry-index in
-    let entries = c.deref-entry-items.result.now in
+    let k = c.loop-i.i in
     let p = c.in_batch-batch.result in
     let found = c.in_batch-batch.ensures in
     let here =
-    lies h c.requires k c.deref.result.now entries (record { worker = 0; rows = 0 }) c.loop-entry.place p c.index.result.now c.deref.ensures.value c.deref-entry-items.ensures.value
-    c.loop-entry-test.true c.loop-entry.invariant.2 found.same found.place found.within found.left c.index.ensures in
+    lies h c.requires k c.deref.result.now c.get-rows.result c.loop-i.place p c.index.result.now c.deref.ensures.value c.get-rows.ensures c.loop-i.invariant.2 found.same found.place found.within found.left c.index.ensures in
     record { fields = here.under.0; within = here.fits }
 
 pub overflow_add-place : goal.overflow_add-place
 overflow_add-place c =
     let h = c.args.storage.now in
-    let k = c.loop-entry.entry-index in
-    let entries = c.deref-entry-items.result.now in
+    let k = c.loop-i.i in
     let p = c.in_batch-batch.result in
     let found = c.in_batch-batch.ensures in
     let here =
-    lies h c.requires k c.deref.result.now entries (record { worker = 0; rows = 0 }) c.loop-entry.place p c.index.result.now c.deref.ensures.value c.deref-entry-items.ensures.value
-    c.loop-entry-test.true c.loop-entry.invariant.2 found.same found.place found.within found.left c.index.ensures in
+    lies h c.requires k c.deref.result.now c.get-rows.result c.loop-i.place p c.index.result.now c.deref.ensures.value c.get-rows.ensures c.loop-i.invariant.2 found.same found.place found.within found.left c.index.ensures in
     omega (arith, here.fits, here.small)
 
-pub loop-entry-preserved : goal.loop-entry-preserved
-loop-entry-preserved c =
+pub loop-i-preserved : goal.loop-i-preserved
+loop-i-preserved c =
     let h = c.args.storage.now in
-    let k = c.loop-entry.entry-index in
-    let entries = c.deref-entry-items.result.now in
+    let k = c.loop-i.i in
     let p = c.in_batch-batch.result in
     let found = c.in_batch-batch.ensures in
     let here =
-    lies h c.requires k c.deref.result.now entries (record { worker = 0; rows = 0 }) c.loop-entry.place p c.index.result.now c.deref.ensures.value c.deref-entry-items.ensures.value
-    c.loop-entry-test.true c.loop-entry.invariant.2 found.same found.place found.within found.left c.index.ensures in
-    let old = c.loop-entry.batches.items in
+    lies h c.requires k c.deref.result.now c.get-rows.result c.loop-i.place p c.index.result.now c.deref.ensures.value c.get-rows.ensures c.loop-i.invariant.2 found.same found.place found.within found.left c.index.ensures in
+    let old = c.loop-i.batches.items in
     let part = c.in_ok-part_of.field-0 in
     let rows = λ (b : Shared). rows_of (arc_value b) in
     let IsOne = λ (b : Shared). IsUnder (show h).fields (arc_value b) in (
       ap (map rows) c.in_ok-push.ensures.items
           ∙ map-append rows old (part ∷ [])
-          ∙ ap (λ (l : List Table). l ++ rows_of (arc_value part) ∷ []) c.loop-entry.invariant.0
+          ∙ ap (λ (l : List Table). l ++ rows_of (arc_value part) ∷ []) c.loop-i.invariant.0
           ∙ sym (here.table (rows_of (arc_value part)) c.in_ok-part_of.ensures.rows),
-      subst (All IsOne) (sym c.in_ok-push.ensures.items) (All-push IsOne old part c.loop-entry.invariant.1 (c.in_ok-part_of.ensures.fields ∙ here.under.0, c.in_ok-part_of.ensures.lawful)),
+      subst (All IsOne) (sym c.in_ok-push.ensures.items) (All-push IsOne old part c.loop-i.invariant.1 (c.in_ok-part_of.ensures.fields ∙ here.under.0, c.in_ok-part_of.ensures.lawful)),
       here.behind,
       here.place,
       omega (arith, here.within),
@@ -59,5 +52,5 @@ loop-entry-preserved c =
 
 pub returns-clause-tables : goal.returns-clause-tables
 returns-clause-tables c =
-    c.loop-entry.invariant.0
-    ∙ tables-all c.args.storage.now c.loop-entry.entry-index (omega (arith, c.loop-entry-test.false, ap (λ (l : List Entry). length l) c.deref-entry-items.ensures.value))
+    c.loop-i.invariant.0
+    ∙ tables-all c.args.storage.now c.loop-i.i (omega (arith, c.loop-i-test.false, c.len.ensures))

@@ -9,10 +9,10 @@ use Rattle.table.specs.Lawful.{counted}
 use Rattle.table.proofs.export.entry_batches.Given as goal
 
 -- the batches so far are those of the first entries, and the place is behind them
-abbrev pub invariant-loop-entry : goal.invariant-loop-entry
-invariant-loop-entry l =
-    (map (λ (b : Arc Batch Global). rows_of (arc_value b)) l.batches.items ≡ take l.entry-index (map (λ (e : ℕ × Table). e.1) (show l.storage).history))
+abbrev pub invariant-loop-i : goal.invariant-loop-i
+invariant-loop-i l =
+    (map (λ (b : Arc Batch Global). rows_of (arc_value b)) l.batches.items ≡ take l.i (map (λ (e : ℕ × Table). e.1) (show l.storage).history))
     × All (λ (b : Arc Batch Global). IsUnder (show l.storage).fields (arc_value b)) l.batches.items
-    × (passed (batches_of l.storage) l.place ≡ counted (take l.entry-index (book_of l.storage)))
+    × (passed (batches_of l.storage) l.place ≡ counted (take l.i (book_of l.storage)))
     × IsPlace (batches_of l.storage) l.place
     × (l.place.batch ≤ length l.storage.batches.items - 1)

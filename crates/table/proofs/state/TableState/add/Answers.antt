@@ -6,7 +6,7 @@ use Rattle.table.specs.Cause.{early_cause}
 use Rattle.table.specs.Contents.{Contents, admitted}
 use Rattle.table.proofs.StorageLemmas.{length-book}
 use Rattle.table.proofs.PutLemmas.{Storage-same, put-storage, put-shows, put-texts, show-same}
-use Rattle.table.proofs.StateLemmas.{ready-few}
+use Rattle.table.proofs.StateLemmas.{ready-few, ready-moved}
 use Rattle.table.proofs.state.TableState.add.Goals as goal
 
 abbrev Early : Contents → Batch → Type 0
@@ -19,7 +19,10 @@ stage-requires-clause-allowed g c =
 pub commit-requires-clause-can : goal.commit-requires-clause-can
 commit-requires-clause-can g c = (
   c.in_ok-reserve.ensures.room,
-  ready-few c.reserve.new.self c.args.batch.now c.in_ok-addition.addition (Storage-same c.self.inside.storage c.reserve.new.self c.reserve.ensures.same c.self.invariant.0) c.in_ok-addition.ensures.ok,
+  (
+    ready-few c.reserve.new.self c.args.worker c.args.batch.now c.in_ok-addition.addition (Storage-same c.self.inside.storage c.reserve.new.self c.reserve.ensures.same c.self.invariant.0) c.in_ok-addition.ensures.ok,
+    ready-moved c.reserve.new.self c.args.worker c.args.batch.now c.in_ok-addition.addition c.in_ok-addition.ensures.ok,
+  ),
 )
 
 pub commit-requires-clause-lawful : goal.commit-requires-clause-lawful
@@ -39,7 +42,7 @@ invariant_of-self-2 g c =
 
 pub returns-clause-number : goal.returns-clause-number
 returns-clause-number g c =
-    omega (arith, c.len-number.ensures, length-book c.self.inside.storage, ap (λ (s : Contents). length s.history) c.self.view_is, c.self.inside.storage.book.ok.0)
+    omega (arith, c.len-number.ensures, length-book c.self.inside.storage, ap (λ (s : Contents). length s.history) c.self.view_is)
 
 pub returns-clause-added : goal.returns-clause-added
 returns-clause-added g c =

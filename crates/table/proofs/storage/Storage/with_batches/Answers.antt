@@ -1,10 +1,8 @@
-use Rattle.std.proofs.Common.{◌∙◌, ◌++◌, List, ap, map, option_map, refl}
+use Rattle.std.proofs.Common.{◌∙◌, ap, map, option_map, refl}
 use Rattle.std.specs.Arc.{arc_value}
 use Rattle.std.specs.declared.alloc.Global.{Global}
 use Rattle.std.specs.declared.vec.Vec.{Vec}
 use Rattle.group.specs.declared.stats.ColumnStats.{ColumnStats}
-use Rattle.table.specs.Storage.{pair_of}
-use Rattle.table.specs.declared.entry.Entry.{Entry}
 use Rattle.table.proofs.storage.Storage.with_batches.Goals as goal
 
 pub returns : goal.returns
@@ -14,8 +12,6 @@ returns c = record {
   batches = refl;
   pieces = refl;
   stats = ap (λ (v : Vec ColumnStats Global). v.items) c.in_ok-clone-2.ensures.cases;
-  dictionaries = c.in_ok-dictionaries_shared.ensures ∙ ap (map (option_map arc_value)) c.deref-2.ensures.value;
-  book =
-      ap (map pair_of)
-      (c.in_ok-extend_from_slice.ensures.items ∙ ap (λ (l : List Entry). l ++ c.deref.result.now) c.in_ok-book.ensures.items ∙ c.deref.ensures.value);
+  dictionaries = c.in_ok-dictionaries_shared.ensures ∙ ap (map (option_map arc_value)) c.deref.ensures.value;
+  book = c.in_ok-share.ensures;
 }

@@ -4,4 +4,4 @@ use Rattle.table.proofs.StorageLemmas.{length-book}
 use Rattle.table.proofs.version.Version.book_len.Goals as goal
 
 pub returns : goal.returns
-returns c = c.len.ensures ∙ c.storage.result.now.book.ok.0 ∙ sym (length-book c.storage.result.now) ∙ ap (λ (s : Contents). length s.history) c.storage.ensures.shown
+returns c = c.len.ensures ∙ sym (length-book c.storage.result.now) ∙ ap (λ (s : Contents). length s.history) c.storage.ensures.shown
