@@ -1,6 +1,6 @@
 #!/usr/bin/env python3
 """Runs `arrowtab` on files from strangers, each run under a limit of memory and of processor time: small ones that would cost much
-where an array, a schema or a dictionary were copied each time that it is named; some that state 2147483647 where a count or an offset
+where an array, a schema or a dictionary were copied each time that it is named or grows; some that state 2147483647 where a count or an offset
 stands, and hold nothing; files that are cut, that are none, or whose fault has a place; and ends that aren't files.
 
     tools/hostile_files.py PROGRAM
@@ -33,18 +33,33 @@ def entry(number, texts):
 
 def one_dictionary():
     fields = [text_field(f"f{number}", 0) for number in range(3000)]
-    return {"schema": {"fields": fields}, "dictionaries": [entry(0, 125000)], "batches": []}, 3000
+    return {"schema": {"fields": fields}, "dictionaries": [entry(0, 125000)], "batches": []}, 3000, 0
 
 
 def long_name():
     field = {"name": "n" * 2000000, "nullable": True, "type": INT32, "children": []}
     column = {"name": "n", "count": 0, "VALIDITY": [], "DATA": []}
-    return {"schema": {"fields": [field]}, "batches": [{"count": 0, "columns": [column]}] * 2000}, 1
+    return {"schema": {"fields": [field]}, "batches": [{"count": 0, "columns": [column]}] * 2000}, 1, 0
 
 
 def many_dictionaries():
     fields = [text_field(f"f{number}", number) for number in range(100000)]
-    return {"schema": {"fields": fields}, "dictionaries": [entry(number, 1) for number in range(100000)], "batches": []}, 100000
+    return {"schema": {"fields": fields}, "dictionaries": [entry(number, 1) for number in range(100000)], "batches": []}, 100000, 0
+
+
+def texts(first, end):
+    """A batch of so many rows, each with a text of its own."""
+    data, offsets = [f"t{number}" for number in range(first, end)], [0]
+    for text in data:
+        offsets.append(offsets[-1] + len(text))
+    return {"count": end - first, "columns": [{"name": "s", "count": end - first, "VALIDITY": [1] * (end - first), "OFFSET": offsets, "DATA": data}]}
+
+
+def growing(count, batches):
+    """So many texts, and then so many batches, each of which brings one more."""
+    field = {"name": "s", "nullable": True, "type": {"name": "utf8"}, "children": []}
+    more = [texts(number, number + 1) for number in range(count, count + batches)]
+    return {"schema": {"fields": [field]}, "batches": [texts(0, count), *more]}, 1, count + batches
 
 
 # What is in the file, what makes it, megabytes of memory, seconds.
@@ -52,6 +67,8 @@ COSTS = [
     ("3,000 fields that name one dictionary of 125,000 texts", one_dictionary, 70, 4),
     ("2,000 batches without rows under a name of 2 MB", long_name, 50, 4),
     ("100,000 fields with a dictionary each", many_dictionaries, 1000, 12),
+    ("100,000 texts, and 400 batches with a new one each", lambda: growing(100000, 400), 150, 3),
+    ("200,000 texts, and 400 batches with a new one each", lambda: growing(200000, 400), 300, 6),
 ]
 
 # ---- counts that are stated
@@ -228,7 +245,7 @@ class Runs:
         self.tell(name, None if given in lawful else f"{given[0]} {given[1][:100]!r} {given[2][:200]!r}")
 
     def costs(self, name, make, megabytes, seconds):
-        document, columns = make()
+        document, columns, rows = make()
         path = self.file(json.dumps(document, separators=(",", ":")))
         with open(path + ".lines", "w+b") as out:
             run = self.run([path], megabytes, seconds, stdout=out)
@@ -236,7 +253,7 @@ class Runs:
             lines = sum(1 for line in out)
             out.seek(0)
             first = out.readline()
-        right = run.returncode == 0 and first == b"rows 0\n" and lines >= columns + 1
+        right = run.returncode == 0 and first == f"rows {rows}\n".encode() and lines >= columns + 1
         self.tell(name, None if right else f"status {run.returncode}, {lines} lines, {run.stderr[:200]!r}")
         print(f"{name}: within {megabytes} MB and {seconds} s", flush=True)
 

@@ -29,12 +29,17 @@ struct answer {
   uint8_t *out;
 };
 
-/* Opens a table of the files, calls the function on it, and closes it. */
+/* Opens a table of the files, opens another in its place, calls the function on that one, and closes it. */
 static void call_on_table(struct answer *answer) {
   struct selqumar_handle handle = SELQUMAR_CLOSED;
-  answer->status = selqumar_open(files, count, &handle, answer->out, ROOM, &answer->needed);
-  if (answer->status != SELQUMAR_GIVEN)
-    return;
+  for (int time = 0; time < 2; time++) {
+    answer->needed = UNTOUCHED;
+    answer->status = selqumar_open(files, count, &handle, answer->out, ROOM, &answer->needed);
+    if (answer->status != SELQUMAR_GIVEN) {
+      selqumar_close(&handle);
+      return;
+    }
+  }
   answer->needed = UNTOUCHED;
   if (!strcmp(name, "open_stats"))
     answer->status = selqumar_open_stats(&handle, answer->out, ROOM, &answer->needed);

@@ -263,7 +263,8 @@ def signal_cases(room):
                 time.sleep(0.02)
             begin.send_signal(number)
             told = begin.communicate(timeout=SECONDS)
-            os.remove(os.path.join(at, "begun"))
+            with contextlib.suppress(FileNotFoundError):
+                os.remove(os.path.join(at, "begun"))
             found = begin.returncode, told, left_over(rest), os.listdir(rest)
             yield f"{number.name}, {what}", difference(found, (-number, (b"", b""), [], []))
 

@@ -15,6 +15,7 @@ use fault::Fault;
 use std::env;
 use std::process::ExitCode;
 use std::thread::Threads;
+use table_runs::Filling;
 
 fn main(rt: HostRuntime) -> ExitCode {
     match run(&rt, &rt) {
@@ -22,6 +23,15 @@ fn main(rt: HostRuntime) -> ExitCode {
         Err(fault) => report(&rt, fault),
     }
 }
+
+// A table of three batches, the later two of which bring new texts.
+const LITTLE: Filling = Filling {
+    first: 1000,
+    batches: 2,
+    rows: 1000,
+    fresh: 10,
+    columns: 2,
+};
 
 // Runs the subject that the first word names on those behind it, or each on little where there is none.
 fn run<T: Threads + Sync>(threads: &T, rt: &HostRuntime) -> Result<(), Fault> {
@@ -31,7 +41,7 @@ fn run<T: Threads + Sync>(threads: &T, rt: &HostRuntime) -> Result<(), Fault> {
     let _program = words.next();
     let Some(subject) = words.next() else {
         kernel_runs::run_each(rt)?;
-        table_runs::tell(rt, 3, 10, 2)?;
+        table_runs::tell(rt, LITTLE)?;
         return query_runs::tell(threads, rt, query_runs::SUM_BY_TEXT, (1, 1000), (1, 1));
     };
     let Ok(words) = words.collect::<Vec<String>>(rt.alloc()) else {
