@@ -2,6 +2,7 @@
 //!
 //! [`read_file`] and [`read_file_from_vec`] read a file's batches, [`read_field`] a field, [`read_query`] a query, and
 //! [`print_file`] prints a file. A text that can't be read gives a [`JsonFault`]: its kind, and the path to its place.
+#![tactic(auto)]
 
 /// What holds of reading and printing.
 pub mod laws;

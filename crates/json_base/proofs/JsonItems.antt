@@ -27,7 +27,7 @@ slice_get-last (y ∷ xs) x = slice_get-last xs x
 pub get_item_at : (vs : List Value) (i : ℕ) (d : Value) → i < length vs → get_item i (items_view vs) ≡ Some (view (get_or vs i d))
 get_item_at vs i d h = sym (get_item_within vs i d h)
 
-moved : {A : Type 0} (R : Data → A → Type 0) (d e : Data) (x y : A) → R d x → Some d ≡ Some e → Some x ≡ Some y → R e y
+pub moved : {A : Type 0} (R : Data → A → Type 0) (d e : Data) (x y : A) → R d x → Some d ≡ Some e → Some x ≡ Some y → R e y
 moved R d e x y r p q =
     let same : d ≡ e = cc in
     let also : x ≡ y = cc in

@@ -2,6 +2,7 @@
 use Rattle.std.proofs.Common.{◌≡◌, ◌∙◌, ℕ, zero, suc, ◌<◌, List, [], ◌∷◌, length, Option, Some, None, option_and_then, refl, sym, ap, subst, arith}
 use Rattle.std.proofs.lemmas.Bool.{false≢true}
 use Rattle.std.specs.List.{slice_get}
+use Rattle.std.proofs.lemmas.Option.{slice_get_within}
 use Rattle.serde_json.specs.Data as data'
 use Rattle.serde_json.specs.Data.{Data, Items, no_items, item}
 use Rattle.serde_json.specs.Find.{get_item, as_null, as_object}
@@ -80,11 +81,6 @@ get_item-within no_items i d h = absurd cc
 get_item-within (item e ds) zero d h = omega arith
 get_item-within (item e ds) (suc i) d h = omega (arith, get_item-within ds i d h)
 
-pub slice_get-within : {A : Type 0} (xs : List A) (i : ℕ) (x : A) → slice_get xs i ≡ Some x → i < length xs
-slice_get-within [] i x h = absurd cc
-slice_get-within (y ∷ xs) zero x h = omega arith
-slice_get-within (y ∷ xs) (suc i) x h = omega (arith, slice_get-within xs i x h)
-
 pub slice_get_some : {A : Type 0} (xs : List A) (i : ℕ) → i < length xs → (x : A) × (slice_get xs i ≡ Some x)
 slice_get_some [] i h = absurd (omega arith)
 slice_get_some (x ∷ xs) zero h = (x, refl)
@@ -108,5 +104,5 @@ pub same_each : {A : Type 0} (R : Data → A → Type 0) (ds : Items) (xs ys : L
 same_each R ds xs ys law h g =
     same_lists xs ys (h.len ∙ sym g.len)
     (λ i x y at at'.
-    let d = get_item_some ds i (omega (arith, slice_get-within xs i x at, h.len)) in
+    let d = get_item_some ds i (omega (arith, slice_get_within xs i x at, h.len)) in
     law d.0 x y (h.each i d.0 x d.1 at) (g.each i d.0 y d.1 at'))

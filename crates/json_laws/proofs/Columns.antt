@@ -3,6 +3,7 @@ use Rattle.std.proofs.Common.{◌≡◌, ◌∙◌, ◌+◌, ◌<◌, ◌^◌, L
 use Rattle.std.specs.Prelude.{sum_by}
 use Rattle.std.specs.List.{AllByRecursion}
 use Rattle.std.proofs.lemmas.List.Sums.{sum_by-cons}
+use Rattle.std.proofs.lemmas.Bool.{or_parts}
 use Rattle.types.specs.declared.offset_width.OffsetWidth.{OffsetWidth}
 use Rattle.arrays.specs.Item as column
 use Rattle.arrays.specs.Item.{Item, Items, items_of}
@@ -10,7 +11,7 @@ use Rattle.arrays.specs.Kind as kind
 use Rattle.arrays.specs.Kind.{Kind}
 use Rattle.arrays.specs.Lengths.{inner_items, is_past, is_too_big, items_in, text_bytes, text_length}
 use Rattle.arrays.specs.Typed.{IsItemOf, AreItemsOf}
-use Rattle.arrays.proofs.SizeLemmas.{neither, small}
+use Rattle.arrays.proofs.SizeLemmas.{small}
 use Rattle.json_print.specs.ColumnData.{item_length}
 
 -- ---- lengths
@@ -66,5 +67,5 @@ inner_typed w k (x ∷ xs) h = joined (IsItemOf k) (items_in x) (inner_items xs)
 -- The items of lists are few where the lists are, and so are those inside.
 pub inner_few : (w : OffsetWidth) (k : Kind) (items : List Item) → is_too_big (kind.lists w k) items ≡ false → (length (inner_items items) < 2 ^ 31) × (is_too_big k (inner_items items) ≡ false)
 inner_few w k items few =
-    let parts = neither (is_past (length (inner_items items))) (is_too_big k (inner_items items)) few in
+    let parts = or_parts (is_past (length (inner_items items))) (is_too_big k (inner_items items)) few in
     (omega (arith, small (length (inner_items items)) parts.0), parts.1)

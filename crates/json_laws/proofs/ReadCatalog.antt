@@ -4,7 +4,7 @@ use Rattle.std.specs.Prelude.{IsUtf8, slice_get}
 use Rattle.std.specs.List.{AllByRecursion}
 use Rattle.std.proofs.lemmas.List.{length-map}
 use Rattle.std.proofs.lemmas.List.Sums.{sum_by-cons}
-use Rattle.std.proofs.lemmas.Bool.{le-ltb}
+use Rattle.std.proofs.lemmas.Bool.{le-ltb, or_right}
 use Rattle.types.specs.Limits.{most_slots}
 use Rattle.types.specs.declared.offset_width.OffsetWidth.TheVariants.{Narrow}
 use Rattle.arrays.specs.Item.{text}
@@ -218,10 +218,6 @@ catalog_read d dictionaries fields listed same few h = record {
 }
 
 -- ---- the dictionaries of a document
-
-or_right : (a b : Bool) → b ≡ true → (a || b) ≡ true
-or_right true b h = refl
-or_right false b h = h
 
 some_encoded : (fields : List FieldShape) (j : ℕ) (name : List ℕ) (nullable : Bool) → slice_get fields j ≡ Some (field name nullable dict) → has_dictionary fields ≡ true
 some_encoded [] j name nullable at = absurd cc

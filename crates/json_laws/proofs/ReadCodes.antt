@@ -1,5 +1,5 @@
 -- The codes of a dictionary-encoded column read back as its texts.
-use Rattle.std.proofs.Common.{◌≡◌, ◌∙◌, ℕ, zero, suc, ◌<◌, ◌^◌, pos, List, [], ◌∷◌, ◌++◌, length, Bool, true, false, ◌||◌, Some, option_map, option_and_then, position, get_or, refl, sym, ap, subst, arith}
+use Rattle.std.proofs.Common.{◌≡◌, ◌∙◌, ℕ, zero, suc, ◌<◌, ◌^◌, pos, List, [], ◌∷◌, ◌++◌, length, true, Some, option_map, option_and_then, position, get_or, refl, sym, ap, subst, arith}
 use Rattle.std.specs.Prelude.{slice_get, unwrap_or, ⊤}
 use Rattle.std.specs.List.{AllByRecursion, position_or_len}
 use Rattle.std.specs.Str.{bytes_eq}
@@ -9,6 +9,7 @@ use Rattle.std.proofs.lemmas.List.Quantifiers.{position-Some}
 use Rattle.std.proofs.lemmas.Option.{slice_get-get_or, slice_get-map}
 use Rattle.std.proofs.lemmas.Slice.Eq.{bytes_eq-Decides}
 use Rattle.std.proofs.lemmas.Cmp.{nat_list_eq_equiv}
+use Rattle.std.proofs.lemmas.Bool.{or_right, or_left}
 use Rattle.arrays.specs.Item as column
 use Rattle.arrays.specs.Item.{Item}
 use Rattle.arrays.specs.Kind as kind
@@ -32,14 +33,6 @@ use Rattle.json_laws.proofs.ReadSlots.{IsSpelled, plain_read}
 abbrev pub IsAmong : List (List ℕ) → Item → Type 0
 IsAmong texts (column.text bytes) = is_among texts bytes ≡ true
 IsAmong texts x = ⊤
-
-or_right : (a b : Bool) → b ≡ true → (a || b) ≡ true
-or_right true b h = refl
-or_right false b h = h
-
-or_left : (a b : Bool) → a ≡ true → (a || b) ≡ true
-or_left true b h = refl
-or_left false b h = absurd cc
 
 among_behind : (ts us : List (List ℕ)) (x : Item) → IsAmong us x → IsAmong (ts ++ us) x
 among_behind ts us column.null h = tt

@@ -1,10 +1,11 @@
 -- Items that are read one by one.
-use Rattle.std.proofs.Common.{◌≡◌, ℕ, zero, suc, List, [], ◌∷◌, length, Some, refl, ap, subst}
+use Rattle.std.proofs.Common.{◌≡◌, ℕ, zero, suc, List, [], ◌∷◌, length, Some, refl, ap}
 use Rattle.std.specs.Prelude.{slice_get, ⊤}
 use Rattle.serde_json.specs.Data.{Data, Items, no_items, item}
 use Rattle.serde_json.specs.Events.{items_len}
 use Rattle.serde_json.specs.Find.{get_item}
 use Rattle.json_base.specs.JsonMember.{ReadsEach}
+use Rattle.json_base.proofs.JsonItems.{moved}
 
 -- As many items as values, each read as its value.
 abbrev pub AreRead : {A : Type 0} (R : Data → A → Type 0) (ds : Items) (xs : List A) → Type 0
@@ -12,12 +13,6 @@ AreRead R no_items [] = ⊤
 AreRead R no_items (x ∷ xs) = ⊥
 AreRead R (item d ds) [] = ⊥
 AreRead R (item d ds) (x ∷ xs) = R d x × AreRead R ds xs
-
-moved : {A : Type 0} (R : Data → A → Type 0) (d e : Data) (x y : A) → R d x → Some d ≡ Some e → Some x ≡ Some y → R e y
-moved R d e x y r p q =
-    let same : d ≡ e = cc in
-    let also : x ≡ y = cc in
-    subst (λ a. R a y) same (subst (λ b. R d b) also r)
 
 many : {A : Type 0} (R : Data → A → Type 0) (ds : Items) (xs : List A) → AreRead R ds xs → length xs ≡ items_len ds
 many R no_items [] h = refl

@@ -9,13 +9,14 @@ use Rattle.colbits.specs.Slice.{slice}
 use Rattle.layout.specs.Seen.{Seen, no_entries}
 use Rattle.types.specs.declared.offset_width.OffsetWidth.{OffsetWidth}
 use Rattle.arrays.specs.Item as column
-use Rattle.arrays.specs.Item.{Item, Items, is_null, items_of, list_of}
+use Rattle.arrays.specs.Item.{Item, is_null}
 use Rattle.arrays.specs.Kind as kind
 use Rattle.arrays.specs.Kind.{Kind, depth, same_kind}
 use Rattle.arrays.specs.Lengths.{inner_items, items_in}
 use Rattle.arrays.specs.Offsets.{length_at, slot_at}
 use Rattle.arrays.specs.Typed.{IsItemOf}
 use Rattle.arrays.proofs.ListArrays.{read_lists}
+use Rattle.arrays.proofs.ListLemmas.{list_of-items_of}
 use Rattle.serde_json.specs.Data.{Data}
 use Rattle.json_read.specs.JsonList.{ReadsList, ReadsLists, are_enough, list_slot, lists_fault, offset_bytes}
 use Rattle.json_read.proofs.JsonLists.{lists_fault-is}
@@ -51,10 +52,6 @@ slot_items w k items small h j x at within =
     ∙ cut_out w k items h j x at
 
 -- ---- slots
-
-list_of-items_of : (l : Items) → list_of (items_of l) ≡ l
-list_of-items_of column.none = refl
-list_of-items_of (column.more x l) = ap (column.more x) (list_of-items_of l)
 
 list_read : (w : OffsetWidth) (k : Kind) (x : Item) → IsItemOf (kind.lists w k) x → Some x ≡ list_slot (Some (not (is_null x))) (items_in x)
 list_read w k column.null h = refl

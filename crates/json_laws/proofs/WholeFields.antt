@@ -1,10 +1,11 @@
 -- The fields of a schema: their names are those of strings, and none is at fault.
-use Rattle.std.proofs.Common.{◌≡◌, ℕ, List, [], ◌∷◌, Bool, true, false, ◌||◌, Option, None, Some, option_map, position, refl, subst, sym, true≢false}
+use Rattle.std.proofs.Common.{◌≡◌, ℕ, List, [], ◌∷◌, Bool, false, Option, None, Some, option_map, position, refl, subst, sym}
 use Rattle.std.specs.List.{AllByRecursion, list_any}
 use Rattle.std.specs.Option.{option_or}
 use Rattle.std.specs.declared.alloc.Global.{Global}
 use Rattle.std.specs.declared.string.String.{String}
 use Rattle.std.proofs.lemmas.Str.{IsUtf8-string_bytes}
+use Rattle.std.proofs.lemmas.Bool.{or_parts}
 use Rattle.pool.proofs.PlaceLemmas.{among_missing}
 use Rattle.types.specs.declared.data_type.DataType.{DataType}
 use Rattle.types.specs.declared.data_type.DataType.TheVariants as variants
@@ -34,15 +35,11 @@ named_inside Dict = subst IsNamedInside (sym (shape_at Dict _ outs-Dict)) tt
 named : (f : Field) → IsNamed (field_of f)
 named f = subst IsNamed (sym (fold_out-Field Shape FieldShape shape_step field_step f)) (IsUtf8-string_bytes (out-Field f).name, named_inside (out-Field f).ty)
 
-neither : (a b : Bool) → (a || b) ≡ false → (a ≡ false) × (b ≡ false)
-neither false b h = (refl, h)
-neither true b h = absurd (true≢false h)
-
 each_lawful : (fields : List Field) → list_any is_deep (fields_of fields) ≡ false → list_any holds_dict (fields_of fields) ≡ false → AllByRecursion IsField (fields_of fields)
 each_lawful [] deep dict = tt
 each_lawful (f ∷ fields) deep dict =
-    let shallow = neither (is_deep (field_of f)) (list_any is_deep (fields_of fields)) deep in
-    let plain = neither (holds_dict (field_of f)) (list_any holds_dict (fields_of fields)) dict in
+    let shallow = or_parts (is_deep (field_of f)) (list_any is_deep (fields_of fields)) deep in
+    let plain = or_parts (holds_dict (field_of f)) (list_any holds_dict (fields_of fields)) dict in
     (record { named = named f; shallow = shallow.0; plain = plain.0 }, each_lawful fields shallow.1 plain.1)
 
 no_fault : (deep dict : Option ℕ) → option_or (option_map (λ c. TooDeep c) deep) (option_map (λ c. DictInList c) dict) ≡ None → (deep ≡ None) × (dict ≡ None)

@@ -1,24 +1,22 @@
 -- The batches of a file hold tables under its fields.
-use Rattle.std.proofs.Common.{◌≡◌, ◌∙◌, ℕ, zero, suc, ◌+◌, ◌<◌, ◌≤◌, ◌^◌, List, [], ◌∷◌, ◌++◌, length, map, take, get_or, All, Bool, true, false, not, cond, eqb, ◌||◌, Option, None, Some, option_map, ap, arith, refl, subst, sym, true≢false}
+use Rattle.std.proofs.Common.{◌≡◌, ◌∙◌, ℕ, zero, suc, ◌+◌, ◌<◌, ◌≤◌, ◌^◌, List, [], ◌∷◌, ◌++◌, length, map, take, get_or, All, Bool, false, not, eqb, None, Some, ap, arith, refl, subst, sym}
 use Rattle.std.specs.Prelude.{nat_lt}
 use Rattle.std.specs.List.{AllByRecursion, list_any}
-use Rattle.std.specs.Option.{option_or}
 use Rattle.std.proofs.lemmas.Bool.{eqb-true}
 use Rattle.std.proofs.lemmas.Bool.Decides.{nat_tests}
 use Rattle.std.proofs.lemmas.List.{get_or-map, length-map, take_all, take_more}
 use Rattle.std.proofs.lemmas.List.Elements.{All-append, recursion_from_All}
 use Rattle.std.proofs.lemmas.Option.{slice_get-get_or}
-use Rattle.pool.proofs.PlaceLemmas.{among_missing}
 use Rattle.arrays.specs.Lengths.{is_too_big}
-use Rattle.arrays.specs.Batch.{Batch, bad_length, batch_fault, differing_length, differing_type}
-use Rattle.arrays.specs.declared.batch.BatchFault.TheVariants.{ColumnCount, LengthsDiffer, TypeDiffers}
+use Rattle.arrays.specs.Batch.{Batch, batch_fault}
 use Rattle.arrays.specs.File.{AreBatchesOf, kinds_of}
 use Rattle.arrays.specs.Item.{Item}
 use Rattle.arrays.specs.Seen.{Seen}
 use Rattle.arrays.specs.Shape.{FieldShape, kind_of_field}
 use Rattle.arrays.specs.Typed.{IsItemOf}
+use Rattle.arrays.proofs.BatchLemmas.{whole}
 use Rattle.json_base.specs.JsonTable.{Table, items_of, table_of, tables_of}
-use Rattle.json_print.proofs.Batches.{lawful_kinds}
+use Rattle.json_print.proofs.Batches.{lawful_kinds, neither}
 use Rattle.json_laws.specs.IsFile.{AreColumns, IsBatch, IsColumn, IsShown, IsTable}
 use Rattle.types.specs.Limits.{most_slots}
 
@@ -44,10 +42,6 @@ present_by c typed few = record { len = refl; typed = recursion_from_All (IsItem
 abbrev is_short : ℕ → Seen → Bool
 is_short rows c = not (eqb (length c.items) rows)
 
-alike : (a b : Bool) → (not a || b) ≡ false → (a ≡ true) × (b ≡ false)
-alike true b h = (refl, h)
-alike false b h = absurd (true≢false h)
-
 columns_present : (fields : List FieldShape) (rows : ℕ) (columns : List Seen) → map (λ c. c.kind) columns ≡ kinds_of fields → list_any (is_short rows) columns ≡ false
     → All IsShown columns → AreColumns fields rows (items_of columns)
 columns_present [] rows [] same long present = tt
@@ -56,7 +50,7 @@ columns_present (f ∷ fields) rows [] same long present = absurd cc
 columns_present (f ∷ fields) rows (c ∷ columns) same long present =
     let one : c.kind ≡ kind_of_field f = cc in
     let others : map (λ (d : Seen). d.kind) columns ≡ kinds_of fields = cc in
-    let lengths = alike (eqb (length c.items) rows) (list_any (is_short rows) columns) long in
+    let lengths = neither (eqb (length c.items) rows) (list_any (is_short rows) columns) long in
     let here = present 0 c (omega arith) in (
       record {
         len = eqb-true (length c.items) rows lengths.0;
@@ -68,27 +62,16 @@ columns_present (f ∷ fields) rows (c ∷ columns) same long present =
 
 -- ---- batches
 
-no_fault : (b : Bool) (t l : Option ℕ) → cond (not b) (Some ColumnCount) (option_or (option_map (λ c. TypeDiffers c) t) (option_map (λ c. LengthsDiffer c) l)) ≡ None → l ≡ None
-no_fault true None None h = refl
-no_fault true None (Some c) h = absurd cc
-no_fault true (Some c) l h = absurd cc
-no_fault false t l h = absurd cc
-
-right_length : (b : Bool) (l : Option ℕ) → cond b (Some 0) l ≡ None → (b ≡ false) × (l ≡ None)
-right_length true l h = absurd cc
-right_length false l h = (refl, h)
-
 few_rows : (rows : ℕ) → nat_lt most_slots rows ≡ false → rows < 2 ^ 31
 few_rows rows h = grind (arith, nat_tests)
 
 -- A lawful batch holds a table under its own fields.
 pub table_present : (b : Batch) → batch_fault b.fields b.rows b.columns ≡ None → All IsShown b.columns → IsBatch b
 table_present b lawful present =
-    let lengths = right_length (nat_lt most_slots b.rows) (differing_length b.rows b.columns)
-    (no_fault (eqb (length b.columns) (length b.fields)) (differing_type b.fields b.columns) (bad_length b.rows b.columns) lawful) in
+    let all = whole b.fields b.rows b.columns lawful in
     record {
-      few = few_rows b.rows lengths.0;
-      columns = columns_present b.fields b.rows b.columns (lawful_kinds b.fields b.rows b.columns lawful) (among_missing (is_short b.rows) b.columns lengths.1) present;
+      few = few_rows b.rows all.small;
+      columns = columns_present b.fields b.rows b.columns (lawful_kinds b.fields b.rows b.columns lawful) all.long present;
     }
 
 -- ---- files

@@ -1,21 +1,18 @@
 -- The columns of lawful batches under the fields of a file.
-use Rattle.std.proofs.Common.{◌≡◌, ◌∙◌, ℕ, ◌<◌, List, [], ◌∷◌, length, map, get_or, Bool, true, false, not, cond, eqb, ◌||◌, Option, None, Some, option_map, refl, sym, subst, ap, ap₂, true≢false, arith}
-use Rattle.std.proofs.lemmas.Bool.{eqb-true}
+use Rattle.std.proofs.Common.{◌≡◌, ◌∙◌, ℕ, ◌<◌, List, [], ◌∷◌, length, map, get_or, Bool, true, false, not, ◌||◌, None, Some, refl, sym, subst, ap, ap₂, true≢false, arith}
 use Rattle.std.proofs.lemmas.List.{get_or-map, length-map}
 use Rattle.std.proofs.lemmas.Option.{get_or_from_slice_get, slice_get-get_or, slice_get_within}
 use Rattle.std.specs.Prelude.{slice_get}
 use Rattle.std.specs.List.{All, list_any, zip}
-use Rattle.std.specs.Option.{option_or}
 use Rattle.layout.proofs.ChildLemmas.{same_kinds}
 use Rattle.types.proofs.ShapeLemmas.{kind_of_field-field_of}
 use Rattle.types.specs.declared.data_type.Field.{Field, out-Field}
-use Rattle.pool.proofs.PlaceLemmas.{among_missing}
-use Rattle.arrays.specs.Batch.{Batch, bad_length, batch_fault, differing_type}
-use Rattle.arrays.specs.declared.batch.BatchFault.TheVariants.{ColumnCount, LengthsDiffer, TypeDiffers}
+use Rattle.arrays.specs.Batch.{Batch, batch_fault}
 use Rattle.arrays.specs.File.{AreBatchesOf, kinds_of}
 use Rattle.arrays.specs.Kind.{Kind, dict, kind_of, same_kind}
 use Rattle.arrays.specs.Seen.{Seen}
 use Rattle.arrays.specs.Shape.{FieldShape, field_of, fields_of, kind_of_field}
+use Rattle.arrays.proofs.BatchLemmas.{whole, wrong_kind}
 use Rattle.json_base.specs.JsonTable.{items_of, table_of}
 use Rattle.json_print.specs.Dictionaries.{IsEncodedAt, column_at}
 use Rattle.json_print.specs.Text.{has_dictionary, is_encoded}
@@ -25,38 +22,26 @@ use Rattle.json_print.specs.Text.{has_dictionary, is_encoded}
 abbrev kinds : List Seen → List Kind
 kinds columns = map (λ c. c.kind) columns
 
-no_fault : (b : Bool) (t l : Option ℕ) → cond (not b) (Some ColumnCount) (option_or (option_map (λ c. TypeDiffers c) t) (option_map (λ c. LengthsDiffer c) l)) ≡ None
-    → (b ≡ true) × (t ≡ None)
-no_fault true None None h = (refl, refl)
-no_fault true None (Some c) h = absurd cc
-no_fault true (Some c) l h = absurd cc
-no_fault false t l h = absurd cc
-
-neither : (a b : Bool) → (not a || b) ≡ false → (a ≡ true) × (b ≡ false)
+pub neither : (a b : Bool) → (not a || b) ≡ false → (a ≡ true) × (b ≡ false)
 neither true b h = (refl, h)
 neither false b h = absurd (true≢false h)
 
-abbrev is_wrong : Seen × FieldShape → Bool
-is_wrong p = not (same_kind p.0.kind (kind_of_field p.1))
-
-same_each : (columns : List Seen) (fields : List FieldShape) → length columns ≡ length fields → list_any is_wrong (zip columns fields) ≡ false → kinds columns ≡ kinds_of fields
+same_each : (columns : List Seen) (fields : List FieldShape) → length columns ≡ length fields → list_any wrong_kind (zip columns fields) ≡ false → kinds columns ≡ kinds_of fields
 same_each [] [] long none = refl
 same_each [] (f ∷ fields) long none = absurd cc
 same_each (c ∷ columns) [] long none = absurd cc
 same_each (c ∷ columns) (f ∷ fields) long none =
-    let parts = neither (same_kind c.kind (kind_of_field f)) (list_any is_wrong (zip columns fields)) none in
+    let parts = neither (same_kind c.kind (kind_of_field f)) (list_any wrong_kind (zip columns fields)) none in
     let rest : length columns ≡ length fields = cc in
     ap₂ (λ k ks. k ∷ ks) (same_kinds c.kind (kind_of_field f) parts.0) (same_each columns fields rest parts.1)
 
 -- A lawful batch has a column of the kind of each field.
 pub lawful_length : (fields : List FieldShape) (n : ℕ) (columns : List Seen) → batch_fault fields n columns ≡ None → length columns ≡ length fields
-lawful_length fields n columns lawful =
-    eqb-true (length columns) (length fields) (no_fault (eqb (length columns) (length fields)) (differing_type fields columns) (bad_length n columns) lawful).0
+lawful_length fields n columns lawful = (whole fields n columns lawful).count
 
 pub lawful_kinds : (fields : List FieldShape) (n : ℕ) (columns : List Seen) → batch_fault fields n columns ≡ None → kinds columns ≡ kinds_of fields
 lawful_kinds fields n columns lawful =
-    same_each columns fields (lawful_length fields n columns lawful)
-    (among_missing is_wrong (zip columns fields) (no_fault (eqb (length columns) (length fields)) (differing_type fields columns) (bad_length n columns) lawful).1)
+    same_each columns fields (lawful_length fields n columns lawful) (whole fields n columns lawful).kinds
 
 -- The kind of one column.
 pub kind_at : (columns : List Seen) (fields : List Field) (i : ℕ) (c : Seen) (f : Field) → kinds columns ≡ kinds_of (fields_of fields) → i < length columns → i < length fields

@@ -1,6 +1,7 @@
 -- Where a fault of a dictionary stands, none is read, and two readings of the dictionaries of one file are one.
 use Rattle.std.proofs.Common.{◌≡◌, ◌∙◌, ℕ, ℤ, List, Option, Some, None, option_and_then, refl, sym, ap, subst, arith}
 use Rattle.std.proofs.lemmas.Bool.{false≢true}
+use Rattle.std.proofs.lemmas.Option.{slice_get_within}
 use Rattle.types.specs.declared.int_type.IntType.{IntType}
 use Rattle.types.specs.declared.offset_width.OffsetWidth.TheVariants.{Narrow}
 use Rattle.arrays.specs.Item.{Item}
@@ -23,7 +24,7 @@ use Rattle.json_read.specs.JsonEncoding.{Encoding, HasEncoding, IsEncoding, id_o
 use Rattle.json_read.specs.JsonEncodingFault.{EncodedFault}
 use Rattle.json_read.specs.JsonCatalog.{Coding, HasId, HasEntries, HasDictionary, IsCoded, HasCoding, HasCatalog}
 use Rattle.json_read.specs.JsonCatalogFault.{NoId, no_entry_object, bad_entry_id, EntriesFault, no_entries, bad_numbers, NamedFault, nowhere, again, bad_entry, Names, CatalogFault, bad_encodings, bad_entries, bad_named}
-use Rattle.json_base.proofs.MemberLaws.{has_object, no_null, inner, no_object, not_unlike, no_member, under_law, get_item-within, slice_get-within, slice_get_some, each_law, same_each}
+use Rattle.json_base.proofs.MemberLaws.{has_object, no_null, inner, no_object, not_unlike, no_member, under_law, get_item-within, slice_get_some, each_law, same_each}
 use Rattle.json_read.proofs.ColumnLaws.{list_law, no_flag_law, valid_law, slot_read, no_slots_law, plain_law, same_plain}
 use Rattle.json_read.proofs.SchemaLaws.{encoded_law, encoding_object, without_law, same_int}
 
@@ -102,11 +103,11 @@ entries_law d entries ids k p h (bad_numbers es k' p' found w) =
 named_law : (entries : Items) (ids : List ℤ) (id : ℤ) (items : List Item) (i : ℕ) (k : JsonFaultKind) (p : List Step) → HasDictionary entries ids id items → NamedFault entries ids i id k p → ⊥
 named_law entries ids id items i k p h (nowhere none) = none h.i h.place.here
 named_law entries ids id items i k p h (again j m below only at) =
-    let first = h.place.only j (slice_get-within ids j id only.here) only.here in
-    let second = h.place.only m (slice_get-within ids m id at) at in
+    let first = h.place.only j (slice_get_within ids j id only.here) only.here in
+    let second = h.place.only m (slice_get_within ids m id at) at in
     omega (arith, first, second, below)
 named_law entries ids id items i k p h (bad_entry j e k' p' at found w) =
-    let place : j ≡ h.i = h.place.only j (slice_get-within ids j id at) at in
+    let place : j ≡ h.i = h.place.only j (slice_get_within ids j id at) at in
     let same : e ≡ h.entry = cc (ap (λ x. get_item x entries) place, found, h.found) in
     entry_law h.entry items k' p' h.reads (subst (λ x. EntryFault x k' p') same w)
 
@@ -174,7 +175,7 @@ same_entry d xs ys h g =
 
 same_dictionary : (entries : Items) (ids : List ℤ) (id : ℤ) (xs ys : List Item) → HasDictionary entries ids id xs → HasDictionary entries ids id ys → xs ≡ ys
 same_dictionary entries ids id xs ys h g =
-    let place : h.i ≡ g.i = g.place.only h.i (slice_get-within ids h.i id h.place.here) h.place.here in
+    let place : h.i ≡ g.i = g.place.only h.i (slice_get_within ids h.i id h.place.here) h.place.here in
     let entry : h.entry ≡ g.entry = cc (ap (λ x. get_item x entries) place, h.found, g.found) in
     same_entry g.entry xs ys (subst (λ x. ReadsEntry x xs) entry h.reads) g.reads
 

@@ -4,6 +4,7 @@ use Rattle.std.specs.List.{slice_get}
 use Rattle.std.proofs.lemmas.Bool.{false≢true}
 use Rattle.std.proofs.lemmas.Bool.Decides.{nat_tests}
 use Rattle.std.proofs.lemmas.List.Sums.{sum_by-cons}
+use Rattle.std.proofs.lemmas.Option.{slice_get_within}
 use Rattle.types.specs.declared.offset_width.OffsetWidth.{OffsetWidth}
 use Rattle.types.specs.declared.offset_width.OffsetWidth.TheVariants.{Narrow, Wide}
 use Rattle.arrays.specs.Item.{Item}
@@ -19,7 +20,7 @@ use Rattle.json_base.specs.JsonNumber.{count_of}
 use Rattle.json_read.specs.JsonColumn.{Spelling, is_past_offsets, is_full, flags_of, HasFlags, valid_at, slot_of, ReadsSlots, HasSlots, ReadsPlain}
 use Rattle.arrays.specs.Lengths.{text_length, text_bytes}
 use Rattle.json_read.specs.JsonColumnFault.{CountFault, no_count, other_count, FlagsFault, no_flags, NoSlots, no_column_object, bad_count, bad_flags, bad_values, SlotsFault, no_flag, no_value, too_long, ColumnFault, no_slots, bad_slots}
-use Rattle.json_base.proofs.MemberLaws.{inner, no_object, not_unlike, no_member, under_law, get_item-within, slice_get-within, slice_get_some, same_lists}
+use Rattle.json_base.proofs.MemberLaws.{inner, no_object, not_unlike, no_member, under_law, get_item-within, slice_get_some, same_lists}
 
 -- ---- columns
 
@@ -95,7 +96,7 @@ long_law s n d items first m h reads full =
     not_past s.offsets (text_bytes first) (text_bytes items)
     (text_bytes-first first items
     (λ i x at.
-    let below : i < m = omega (arith, slice_get-within first i x at, reads.len) in
+    let below : i < m = omega (arith, slice_get_within first i x at, reads.len) in
     let slot = sym (reads.each i below) ∙ at in
     let given = slot_given s (valid_at h.flags i) (get_item i h.values) x slot in
     h.slots.each i (omega (arith, get_item-within h.values i given.0 given.1, h.given.whole)) ∙ slot))
@@ -132,7 +133,7 @@ same_plain s n d xs ys h g =
     let values : h.values ≡ g.values = cc (h.given.listed, g.given.listed) in
     same_lists xs ys (h.slots.len ∙ sym g.slots.len)
     (λ i x y at at'.
-    let within : i < n = omega (arith, slice_get-within xs i x at, h.slots.len) in
+    let within : i < n = omega (arith, slice_get_within xs i x at, h.slots.len) in
     let slot = ap (λ fs. slot_of s (valid_at fs i) (get_item i h.values)) flags ∙ ap (λ vs. slot_of s (valid_at g.flags i) (get_item i vs)) values in
     let e : Some x ≡ Some y = sym at ∙ (h.slots.each i within ∙ (slot ∙ (sym (g.slots.each i within) ∙ at'))) in
     cc)

@@ -1,11 +1,11 @@
 -- What a column of indices is, and why its faults stand.
-use Rattle.std.proofs.Common.{◌≡◌, ◌∙◌, ℕ, zero, suc, ◌+◌, ◌≤◌, ℤ, pos, negsuc, true, false, List, [], ◌∷◌, ◌++◌, length, get_or, map, Option, Some, None, option_and_then, refl, sym, ap, subst, arith}
-use Rattle.std.specs.List.{All, slice_get}
+use Rattle.std.proofs.Common.{◌≡◌, ◌∙◌, ℕ, ◌+◌, ◌≤◌, ℤ, pos, negsuc, true, false, List, [], ◌∷◌, ◌++◌, length, get_or, map, Option, Some, None, option_and_then, refl, sym, ap, subst, arith}
+use Rattle.std.specs.List.{All}
 use Rattle.std.proofs.lemmas.Bool.Decides.{nat_tests}
 use Rattle.std.proofs.lemmas.Int.{ints}
 use Rattle.std.proofs.lemmas.List.{length-map, map-append}
 use Rattle.std.proofs.lemmas.List.Elements.{All-push}
-use Rattle.std.proofs.lemmas.Option.{slice_get-get_or}
+use Rattle.std.proofs.lemmas.Option.{slice_get-get_or, slice_get_past}
 use Rattle.types.specs.declared.int_type.IntType.{IntType}
 use Rattle.layout.specs.declared.fault.LayoutFault.TheVariants as layout
 use Rattle.arrays.specs.Column.{Column}
@@ -31,11 +31,6 @@ use Rattle.json_read.proofs.JsonSlots.{no_slots_yet, slots_pushed, valid_slot, n
 
 -- ---- entries
 
-slice_get-past : {A : Type 0} (xs : List A) (i : ℕ) → length xs ≤ i → slice_get xs i ≡ None
-slice_get-past [] i h = refl
-slice_get-past (x ∷ xs) zero h = absurd (omega arith)
-slice_get-past (x ∷ xs) (suc i) h = slice_get-past xs i (omega arith)
-
 -- a code names an entry
 entry_named : (entries : List Item) (z : ℤ) → is_code (length entries) (int z) ≡ true → entry_at entries z ≡ Some (get_or entries (natural z) null)
 entry_named entries (pos n) h = slice_get-get_or entries n null (grind (arith, nat_tests))
@@ -43,7 +38,7 @@ entry_named entries (negsuc n) h = absurd cc
 
 -- another number doesn't
 no_entry : (entries : List Item) (z : ℤ) → is_code (length entries) (int z) ≡ false → entry_at entries z ≡ None
-no_entry entries (pos n) h = slice_get-past entries n (grind (arith, nat_tests))
+no_entry entries (pos n) h = slice_get_past entries n (grind (arith, nat_tests))
 no_entry entries (negsuc n) h = refl
 
 -- codes of an array are numbers of 32 bits

@@ -1,5 +1,6 @@
 -- Where a fault stands, nothing is read.
 use Rattle.std.proofs.Common.{◌≡◌, ◌∙◌, ℕ, ◌<◌, ℤ, true, List, length, Option, Some, None, option_and_then, refl, sym, ap, subst, arith}
+use Rattle.std.proofs.lemmas.Option.{slice_get_within}
 use Rattle.types.specs.declared.offset_width.OffsetWidth.{OffsetWidth}
 use Rattle.arrays.specs.Kind as kind
 use Rattle.arrays.specs.Kind.{Kind}
@@ -31,7 +32,7 @@ use Rattle.json_read.proofs.ColumnLaws.{count_law, list_law, flags_law, plain_la
 use Rattle.json_read.proofs.CatalogLaws.{codes_law, catalog_law, same_catalog}
 use Rattle.json_read.specs.JsonCatalog.{Coding}
 use Rattle.json_read.specs.JsonCodes.{indices}
-use Rattle.json_base.proofs.MemberLaws.{inner, no_object, not_unlike, no_member, under_law, get_item-within, slice_get-within, slice_get_some, each_law, same_lists, same_each}
+use Rattle.json_base.proofs.MemberLaws.{inner, no_object, not_unlike, no_member, under_law, get_item-within, slice_get_some, each_law, same_lists, same_each}
 use Rattle.json_read.proofs.SchemaLaws.{schema_law, same_schema}
 
 -- ---- columns of lists
@@ -175,7 +176,7 @@ same_list_column R w c n d xs ys count law h g =
     let below : h.below ≡ g.below = law g.m g.child h.below g.below (subst (λ e. R g.m e h.below) child (subst (λ l. R l h.child h.below) m h.inner)) g.inner in
     same_lists xs ys (h.slots.len ∙ sym g.slots.len)
     (λ i x y at at'.
-    let within : i < n = omega (arith, slice_get-within xs i x at, h.slots.len) in
+    let within : i < n = omega (arith, slice_get_within xs i x at, h.slots.len) in
     let slot : list_slot (valid_at h.flags i) (slot_at w (offset_bytes w h.numbers) h.below i) ≡ list_slot (valid_at g.flags i) (slot_at w (offset_bytes w g.numbers) g.below i) =
     ap (λ fs. list_slot (valid_at fs i) (slot_at w (offset_bytes w h.numbers) h.below i)) flags
     ∙ (ap (λ ns. list_slot (valid_at g.flags i) (slot_at w (offset_bytes w ns) h.below i)) numbers ∙ ap (λ zs. list_slot (valid_at g.flags i) (slot_at w (offset_bytes w g.numbers) zs i)) below) in
@@ -198,7 +199,7 @@ same_columns : (fields : List FieldShape) (catalog : List (Option Coding)) (n : 
 same_columns fields catalog n ds xs ys whole many h g =
     same_lists xs ys (h.len ∙ sym g.len)
     (λ i x y at at'.
-    let within : i < length fields = omega (arith, slice_get-within xs i x at, h.len) in
+    let within : i < length fields = omega (arith, slice_get_within xs i x at, h.len) in
     let f = slice_get_some fields i within in
     let c = slice_get_some catalog i (omega arith) in
     let d = get_item_some ds i (omega arith) in

@@ -7,8 +7,6 @@ use Rattle.std.proofs.lemmas.List.{append-nil}
 use Rattle.std.proofs.lemmas.Option.{slice_get-get_or}
 use Rattle.layout.specs.declared.fault.LayoutFault.{LayoutFault}
 use Rattle.layout.specs.declared.fault.LayoutFault.TheVariants as layout
-use Rattle.types.specs.declared.data_type.Field.{Field, out-Field}
-use Rattle.types.proofs.ShapeLemmas.{kind_of_field-field_of}
 use Rattle.types.specs.declared.offset_width.OffsetWidth.{OffsetWidth}
 use Rattle.types.specs.OffsetWidth.{offset_type}
 use Rattle.arrays.specs.Fault.{own_fault, is_validity_short}
@@ -16,14 +14,13 @@ use Rattle.arrays.specs.FromParts.{list_parts, show_lists}
 use Rattle.arrays.specs.Item as column
 use Rattle.arrays.specs.Item.{Item, list_of}
 use Rattle.arrays.specs.Kind as kind
-use Rattle.arrays.specs.Kind.{Kind, kind_of, same_kind}
+use Rattle.arrays.specs.Kind.{Kind, same_kind}
 use Rattle.arrays.specs.Layout.{is_valid_in}
 use Rattle.arrays.specs.Number.{bytes_of_number}
 use Rattle.arrays.specs.Offsets.{slot_at}
 use Rattle.arrays.specs.Packed.{IsBufferOf}
 use Rattle.arrays.specs.Reading.{read_parts}
 use Rattle.arrays.specs.Seen.{Seen}
-use Rattle.arrays.specs.Shape.{field_of, kind_of_field}
 use Rattle.arrays.specs.Shown.{kept}
 use Rattle.types.specs.First.{first}
 use Rattle.arrays.proofs.ListArrays.{show_read_lists}
@@ -176,10 +173,6 @@ pub lists_fault-is : (w : OffsetWidth) (n : ℕ) (validity : Option (List ℕ)) 
     → (list_parts w child.kind n validity offsets child).fault ≡ lists_fault w child.kind n offsets (length child.items)
 unfolding read_parts own_fault
 lists_fault-is w n validity offsets child enough = rw enough (same-alone _)
-
--- the copy of a field has its kind
-pub kind_copied : (f g : Field) → field_of f ≡ field_of g → kind_of (out-Field f).ty ≡ kind_of (out-Field g).ty
-kind_copied f g same = sym (kind_of_field-field_of f) ∙ (ap kind_of_field same ∙ kind_of_field-field_of g)
 
 pub tells_not_lawful : (w : OffsetWidth) (k : Kind) (n : ℕ) (offsets : List ℕ) (m : ℕ) (fault : LayoutFault) (f : JsonFault) → lists_fault w k n offsets m ≡ Some fault
     → IsFault (Layout fault) [] f → Tells (NotLawful w k n offsets m) f

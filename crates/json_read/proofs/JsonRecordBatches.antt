@@ -1,19 +1,16 @@
 -- Columns that are read make a lawful record batch.
-use Rattle.std.proofs.Common.{◌≡◌, ◌∙◌, ℕ, zero, suc, ◌^◌, ◌<◌, ◌==◌, Bool, true, false, not, ◌&&◌, nat_lt, List, [], ◌∷◌, length, map, Option, Some, None, option_map, option_and_then, refl, sym, ap, subst, arith}
+use Rattle.std.proofs.Common.{◌≡◌, ◌∙◌, ℕ, zero, suc, ◌^◌, ◌<◌, ◌==◌, true, false, not, nat_lt, List, [], ◌∷◌, length, map, Option, Some, None, option_map, option_and_then, refl, sym, ap, subst, arith}
 use Rattle.std.specs.List.{slice_get, zip}
 use Rattle.std.proofs.lemmas.List.{length-map}
 use Rattle.std.proofs.lemmas.Option.{slice_get-map, slice_get_within}
 use Rattle.std.proofs.lemmas.Bool.Decides.{nat_tests}
-use Rattle.arrays.specs.Kind as kind
-use Rattle.arrays.specs.Kind.{Kind, same_kind, same_int, same_offsets}
-use Rattle.types.specs.declared.int_type.Width.{Width}
-use Rattle.types.specs.declared.int_type.Width.TheVariants.{W8, W16, W32, W64}
-use Rattle.types.specs.declared.offset_width.OffsetWidth.{OffsetWidth}
-use Rattle.types.specs.declared.offset_width.OffsetWidth.TheVariants.{Narrow, Wide}
+use Rattle.std.proofs.lemmas.Bool.{eq-eqb}
+use Rattle.arrays.specs.Kind.{same_kind}
 use Rattle.arrays.specs.Shape.{FieldShape, fields_of, kind_of_field}
 use Rattle.types.specs.declared.data_type.Field.{Field}
 use Rattle.arrays.specs.Seen.{Seen}
 use Rattle.arrays.specs.Batch.{Batch, batch_fault, differing_type, differing_length}
+use Rattle.arrays.proofs.ListArrays.{same_kind-refl}
 use Rattle.serde_json.specs.Data.{Data, Items}
 use Rattle.serde_json.specs.Find.{as_array}
 use Rattle.serde_json.specs.Events.{items_len}
@@ -27,28 +24,8 @@ use Rattle.json_read.specs.JsonBatch.{HoldsTop, HoldsColumns, ReadsTop, ReadsCol
 use Rattle.json_base.specs.JsonTable.{table_of}
 use Rattle.json_read.specs.JsonCatalog.{Coding}
 use Rattle.json_base.proofs.JsonItems.{get_item_some}
+use Rattle.json_base.proofs.MemberLaws.{slice_get_some}
 use Rattle.json_read.proofs.JsonSchemas.{position-none}
-
-same_int_by : (w : Width) (b : Bool) → same_int (record { bits = w; signed = b }) (record { bits = w; signed = b }) ≡ true
-same_int_by W8 true = refl
-same_int_by W8 false = refl
-same_int_by W16 true = refl
-same_int_by W16 false = refl
-same_int_by W32 true = refl
-same_int_by W32 false = refl
-same_int_by W64 true = refl
-same_int_by W64 false = refl
-
-same_offsets-itself : (w : OffsetWidth) → same_offsets w w ≡ true
-same_offsets-itself Narrow = refl
-same_offsets-itself Wide = refl
-
-same_kind-itself : (k : Kind) → same_kind k k ≡ true
-same_kind-itself (kind.int t) = same_int_by t.bits t.signed
-same_kind-itself kind.boolean = refl
-same_kind-itself (kind.texts w) = same_offsets-itself w
-same_kind-itself (kind.lists w k) = ap (λ b. b && same_kind k k) (same_offsets-itself w) ∙ same_kind-itself k
-same_kind-itself kind.dict = refl
 
 both_at : {A B : Type 0} (xs : List A) (ys : List B) (i : ℕ) (p : A × B) → slice_get (zip xs ys) i ≡ Some p → (slice_get xs i ≡ Some p.0) × (slice_get ys i ≡ Some p.1)
 both_at [] ys i p h = absurd cc
@@ -57,11 +34,6 @@ both_at (x ∷ xs) (y ∷ ys) zero p h =
     let e : (x, y) ≡ p = cc in
     (ap (λ q. Some q.0) e, ap (λ q. Some q.1) e)
 both_at (x ∷ xs) (y ∷ ys) (suc i) p h = both_at xs ys i p h
-
-slice_get_some : {A : Type 0} (xs : List A) (i : ℕ) → i < length xs → (x : A) × (slice_get xs i ≡ Some x)
-slice_get_some [] i h = absurd (omega arith)
-slice_get_some (x ∷ xs) zero h = (x, refl)
-slice_get_some (x ∷ xs) (suc i) h = slice_get_some xs i (omega arith)
 
 column_at : (fields : List FieldShape) (catalog : List (Option Coding)) (rows : ℕ) (ds : Items) (cs : List Seen) → HoldsColumns fields catalog rows ds (length fields) cs → items_len ds ≡ length fields
     → length catalog ≡ length fields → (i : ℕ) (f : FieldShape) (s : Seen) → slice_get fields i ≡ Some f → slice_get cs i ≡ Some s → i < length fields
@@ -77,10 +49,7 @@ types_agree fields catalog rows ds cs h whole many =
     (λ i p at.
     let both = both_at cs fields i p at in
     let column = column_at fields catalog rows ds cs h whole many i p.1 p.0 both.1 both.0 (slice_get_within fields i p.1 both.1) in
-    ap (λ k. not (same_kind k (kind_of_field p.1))) column.2.kind ∙ ap not (same_kind-itself (kind_of_field p.1)))
-
-same_number : (m n : ℕ) → m ≡ n → (m == n) ≡ true
-same_number m n e = grind (arith, nat_tests)
+    ap (λ k. not (same_kind k (kind_of_field p.1))) column.2.kind ∙ ap not (same_kind-refl (kind_of_field p.1)))
 
 lengths_agree : (fields : List FieldShape) (catalog : List (Option Coding)) (rows : ℕ) (ds : Items) (cs : List Seen) → HoldsColumns fields catalog rows ds (length fields) cs → items_len ds ≡ length fields → length catalog ≡ length fields → differing_length rows cs ≡ None
 lengths_agree fields catalog rows ds cs h whole many =
@@ -89,11 +58,11 @@ lengths_agree fields catalog rows ds cs h whole many =
     let within : i < length fields = omega (arith, slice_get_within cs i s at, h.len) in
     let field = slice_get_some fields i within in
     let column = column_at fields catalog rows ds cs h whole many i field.0 s field.1 at within in
-    ap not (same_number (length s.items) rows column.2.len))
+    ap not (eq-eqb (length s.items) rows column.2.len))
 
 lawful : (fields : List FieldShape) (rows : ℕ) (cs : List Seen) → length cs ≡ length fields → differing_type fields cs ≡ None → differing_length rows cs ≡ None → rows < 2 ^ 31 → batch_fault fields rows cs ≡ None
 lawful fields rows cs len types lengths small =
-    let count : (length cs == length fields) ≡ true = same_number (length cs) (length fields) len in
+    let count : (length cs == length fields) ≡ true = eq-eqb (length cs) (length fields) len in
     let short : nat_lt 2147483647 rows ≡ false = grind (arith, nat_tests) in
     rw (count, types, short, lengths) refl
 

@@ -8,29 +8,16 @@ use Rattle.types.specs.declared.int_type.Width.{Width}
 use Rattle.types.specs.declared.int_type.Width.TheVariants.{W8, W16, W32, W64}
 use Rattle.types.specs.declared.int_type.IntType.{IntType}
 use Rattle.arrays.specs.Kind.{bytes_of}
-use Rattle.arrays.specs.Number.{number_at, IsOfType, is_of_type, bytes_of_number}
+use Rattle.arrays.specs.Number.{number_at, is_of_type, bytes_of_number}
+use Rattle.arrays.proofs.NumberLemmas.{FitsSigned-from_type}
 use Rattle.types.proofs.RangeLemmas.{IsOfType-from_test}
 use Rattle.types.proofs.EncodingLemmas.{length-bytes_of_number, number_at-append-front, number_at-append-end}
 use Rattle.kernels.specs.Computed.{AreResults}
 
 -- ---- the test of a number
 
-wide : (w : Width) (signed : Bool) (z : ℤ) → IsOfType (record { bits = w; signed = signed }) z → FitsSigned w128 z
-wide W8 true z h = omega (arith, ints)
-wide W8 false z h = omega (arith, ints)
-wide W16 true z h = omega (arith, ints)
-wide W16 false z h = omega (arith, ints)
-wide W32 true z h = omega (arith, ints)
-wide W32 false z h = omega (arith, ints)
-wide W64 true z h = omega (arith, ints)
-wide W64 false z h = omega (arith, ints)
-
--- a number of any type is one of 128 bits
-pub FitsSigned-from_type : (t : IntType) (z : ℤ) → IsOfType t z → FitsSigned w128 z
-FitsSigned-from_type t z h = wide t.bits t.signed z h
-
 pub FitsSigned-from_test : (t : IntType) (z : ℤ) → is_of_type t z ≡ true → FitsSigned w128 z
-FitsSigned-from_test t z h = wide t.bits t.signed z (IsOfType-from_test t z h)
+FitsSigned-from_test t z h = FitsSigned-from_type t z (IsOfType-from_test t z h)
 
 -- a number of any of the eight types is one of 128 bits
 pub FitsSigned-from_range : (z : ℤ) → neg_ℤ (pos (2 ^ 64)) ≤ℤ z → z ≤ℤ pos (2 ^ 64) → FitsSigned w128 z

@@ -1,5 +1,5 @@
 -- Faults of names, and the names that have them.
-use Rattle.std.proofs.Common.{◌≡◌, ◌≢◌, ◌∙◌, ◌||◌, ◌⊎◌, ◌++◌, ◌+◌, ◌<◌, ℕ, suc, Bool, true, false, not, cond, length, nat_lt, List, [], ◌∷◌, map, Option, Some, None, Result, Ok, Err, inl, inr, ap, sym, subst, refl, count_by, arith, lt-ltb}
+use Rattle.std.proofs.Common.{◌≡◌, ◌≢◌, ◌∙◌, ◌⊎◌, ◌++◌, ◌+◌, ◌<◌, ℕ, suc, Bool, true, false, not, cond, length, nat_lt, List, [], ◌∷◌, map, Option, Some, None, Result, Ok, Err, inl, inr, ap, sym, subst, refl, count_by, arith, lt-ltb}
 use Rattle.std.specs.Prelude.{◌==◌, slice_get, unwrap_or}
 use Rattle.std.specs.List.{list_any, position_or_len}
 use Rattle.std.specs.Option.{ok_or}
@@ -7,6 +7,7 @@ use Rattle.std.proofs.lemmas.Bool.Decides.{nat_tests}
 use Rattle.std.proofs.lemmas.List.Folds.{list_any-append}
 use Rattle.std.proofs.lemmas.List.Sums.{sum_by-cons}
 use Rattle.std.proofs.lemmas.Option.{slice_get_cases}
+use Rattle.std.proofs.lemmas.Bool.{or_left, or_right}
 use Rattle.types.specs.First.{first}
 use Rattle.types.specs.Shape.{FieldShape}
 use Rattle.query.specs.declared.expr.Agg.{Agg}
@@ -22,14 +23,6 @@ use Rattle.query.specs.Named.{agg_columns, columns, columns_in, columns_of, colu
 use Rattle.query.specs.Resolved.{renamed_query, resolved, unless_fault}
 use Rattle.query.specs.Sorts.{is_int, is_plain, is_truth}
 use Rattle.query.specs.Tree.{Tree, column, int, text, op, Trees, none, one}
-
-either_left : (a b : Bool) → a ≡ true → (a || b) ≡ true
-either_left true b h = refl
-either_left false b h = absurd cc
-
-either_right : (a b : Bool) → b ≡ true → (a || b) ≡ true
-either_right true b h = refl
-either_right false b h = h
 
 and_then-err : {A B : Type 0} (r : Result A QueryFault) (k : A → Result B QueryFault) (e : QueryFault) → and_then r k ≡ Err e → (r ≡ Err e) ⊎ ((x : A) × (r ≡ Ok x) × (k x ≡ Err e))
 and_then-err (Ok x) k e h = inr (x, refl, h)
@@ -51,13 +44,13 @@ first-some (Some x) rest e h = inl h
 
 module _ {C : Type 0} (sort_in : C → Result Sort QueryFault) (test : C → Bool) (e : QueryFault) (other : e ≢ WrongKind) (passes : (c : C) → sort_in c ≡ Err e → test c ≡ true) where
   at_left : (xs ys : List C) → list_any test xs ≡ true → list_any test (xs ++ ys) ≡ true
-  at_left xs ys h = list_any-append test xs ys ∙ either_left (list_any test xs) (list_any test ys) h
+  at_left xs ys h = list_any-append test xs ys ∙ or_left (list_any test xs) (list_any test ys) h
 
   at_right : (xs ys : List C) → list_any test ys ≡ true → list_any test (xs ++ ys) ≡ true
-  at_right xs ys h = list_any-append test xs ys ∙ either_right (list_any test xs) (list_any test ys) h
+  at_right xs ys h = list_any-append test xs ys ∙ or_right (list_any test xs) (list_any test ys) h
 
   single : (c : C) → sort_in c ≡ Err e → list_any test (c ∷ []) ≡ true
-  single c h = either_left (test c) false (passes c h)
+  single c h = or_left (test c) false (passes c h)
 
   last : (s : Sort) (r : Result (List Sort) QueryFault) → and_then r (λ us. Ok (s ∷ us)) ≡ Err e → r ≡ Err e
   last s (Ok us) h = absurd cc
@@ -93,8 +86,8 @@ module _ {C : Type 0} (sort_in : C → Result Sort QueryFault) (test : C → Boo
   keys-fault [] h = absurd cc
   keys-fault (c ∷ by) h =
       elim (first-some (key_fault sort_in c) (map (key_fault sort_in) by) e h) [
-        | inl d ↦ either_left (test c) (list_any test by) (passes c (unless-err is_plain (sort_in c) d))
-        | inr d ↦ either_right (test c) (list_any test by) (keys-fault by d)
+        | inl d ↦ or_left (test c) (list_any test by) (passes c (unless-err is_plain (sort_in c) d))
+        | inr d ↦ or_right (test c) (list_any test by) (keys-fault by d)
       ]
 
   agg-fault : (agg : Agg C) → agg_fault sort_in agg ≡ Some e → list_any test (agg_columns agg) ≡ true

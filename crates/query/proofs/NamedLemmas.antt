@@ -6,6 +6,7 @@ use Rattle.std.specs.Option.{ok_or}
 use Rattle.std.proofs.lemmas.List.Folds.{list_all-append}
 use Rattle.std.proofs.lemmas.Option.{slice_get_within}
 use Rattle.std.proofs.lemmas.Bool.Decides.{nat_tests}
+use Rattle.std.proofs.lemmas.Bool.{and_from}
 use Rattle.types.specs.First.{first}
 use Rattle.types.specs.Shape.{FieldShape}
 use Rattle.types.proofs.FirstLemmas.{first-none}
@@ -24,19 +25,14 @@ use Rattle.query.specs.Sorts.{is_int, is_plain, is_truth}
 use Rattle.query.specs.Tree.{Tree, column, int, text, op, Trees, none, one}
 use Rattle.query.proofs.FitLemmas.{and_then-ok}
 
-both : (a b : Bool) → a ≡ true → b ≡ true → (a && b) ≡ true
-both true true h k = refl
-both true false h k = k
-both false b h k = h
-
 -- ---- where no fault stands, each column has a sort
 
 module _ {C : Type 0} (sort_in : C → Result Sort QueryFault) (test : C → Bool) (passes : (c : C) (s : Sort) → sort_in c ≡ Ok s → test c ≡ true) where
   pub joined : (xs ys : List C) → list_all test xs ≡ true → list_all test ys ≡ true → list_all test (xs ++ ys) ≡ true
-  joined xs ys h k = list_all-append test xs ys ∙ both (list_all test xs) (list_all test ys) h k
+  joined xs ys h k = list_all-append test xs ys ∙ and_from (list_all test xs) (list_all test ys) h k
 
   single : (c : C) (s : Sort) → sort_in c ≡ Ok s → list_all test (c ∷ []) ≡ true
-  single c s h = both (test c) true (passes c s h) refl
+  single c s h = and_from (test c) true (passes c s h) refl
 
   mutual
     checked-columns : (t : Tree C) (s : Sort) → checked sort_in t ≡ Ok s → list_all test (columns_in t) ≡ true
@@ -70,7 +66,7 @@ module _ {C : Type 0} (sort_in : C → Result Sort QueryFault) (test : C → Boo
   keys-columns (c ∷ by) h =
       let d = first-none (key_fault sort_in c) (map (key_fault sort_in) by) h in
       let e = unless-ok is_plain (sort_in c) d.0 in
-      both (test c) (list_all test by) (passes c e.0 e.1) (keys-columns by d.1)
+      and_from (test c) (list_all test by) (passes c e.0 e.1) (keys-columns by d.1)
 
   column-ok : (right : Sort → Bool) (c : C) → fault_unless right (sort_in c) ≡ None → list_all test (c ∷ []) ≡ true
   column-ok right c h = let e = unless-ok right (sort_in c) h in single c e.0 e.1

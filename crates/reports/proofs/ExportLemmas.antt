@@ -16,7 +16,8 @@ use Rattle.json_print.specs.Text.{document, text}
 use Rattle.serde_json.specs.Written.{compact_text}
 use Rattle.table.specs.Export.{IsLawful}
 use Rattle.table.specs.History.{History}
-use Rattle.table.proofs.BatchLemmas.{HasColumns-rows_of, length-rows_of, whole}
+use Rattle.table.proofs.BatchLemmas.{HasColumns-rows_of}
+use Rattle.arrays.proofs.BatchLemmas.{length-rows_of, whole}
 use Rattle.reports.specs.Exported.{added_table}
 
 -- the items of a lawful batch's columns are those of its rows

@@ -1,22 +1,23 @@
 use Rattle.std.proofs.Common.{◌≡◌, ◌∙◌, ap, sym}
 use Rattle.arrays.specs.FromParts.{list_parts}
 use Rattle.arrays.specs.Kind.{kind_of}
-use Rattle.json_read.proofs.JsonLists.{kind_copied, lists_fault-is, tells_tried}
+use Rattle.arrays.proofs.NullLemmas.{same_item}
+use Rattle.json_read.proofs.JsonLists.{lists_fault-is, tells_tried}
 use Rattle.json_read.proofs.list.list_array.Goals as goal
 
 pub returns-in-Ok-try_list-clause-lawful : goal.returns-in-Ok-try_list-clause-lawful
 returns-in-Ok-try_list-clause-lawful c =
-    let is : kind_of c.in-Ok.item.ty ≡ c.args.child.kind = kind_copied c.in-Ok.item c.args.item.now c.in-Ok.ensures ∙ sym c.requires.kind in
+    let is : kind_of c.in-Ok.item.ty ≡ c.args.child.kind = same_item c.in-Ok.item c.args.item.now c.in-Ok.ensures ∙ sym c.requires.kind in
     sym (lists_fault-is c.args.slots.width c.args.slots.len c.args.slots.validity c.args.slots.offsets c.args.child c.requires.enough)
     ∙ (ap (λ k. (list_parts c.args.slots.width k c.args.slots.len c.args.slots.validity c.args.slots.offsets c.args.child).fault) (sym is) ∙ c.in-Ok-try_list.ensures.lawful)
 
 pub returns-in-Ok-try_list-clause-shows : goal.returns-in-Ok-try_list-clause-shows
 returns-in-Ok-try_list-clause-shows c =
-    let is : kind_of c.in-Ok.item.ty ≡ c.args.child.kind = kind_copied c.in-Ok.item c.args.item.now c.in-Ok.ensures ∙ sym c.requires.kind in
+    let is : kind_of c.in-Ok.item.ty ≡ c.args.child.kind = same_item c.in-Ok.item c.args.item.now c.in-Ok.ensures ∙ sym c.requires.kind in
     c.in-Ok-try_list.ensures.shows ∙ ap (λ k. (list_parts c.args.slots.width k c.args.slots.len c.args.slots.validity c.args.slots.offsets c.args.child).seen) is
 
 pub returns-in-Err : goal.returns-in-Err
 returns-in-Err c =
-    let is : kind_of c.in-Ok.item.ty ≡ c.args.child.kind = kind_copied c.in-Ok.item c.args.item.now c.in-Ok.ensures ∙ sym c.requires.kind in
+    let is : kind_of c.in-Ok.item.ty ≡ c.args.child.kind = same_item c.in-Ok.item c.args.item.now c.in-Ok.ensures ∙ sym c.requires.kind in
     let same = ap (λ k. (list_parts c.args.slots.width k c.args.slots.len c.args.slots.validity c.args.slots.offsets c.args.child).fault) is ∙ lists_fault-is c.args.slots.width c.args.slots.len c.args.slots.validity c.args.slots.offsets c.args.child c.requires.enough in
     record { lawful = tt; shows = tt; err = tells_tried _ _ _ _ _ _ _ _ same c.in-Err.ensures.err c.layout_fault.ensures.reported c.layout_fault.ensures.wants }
