@@ -24,7 +24,7 @@ use Rattle.arrays.proofs.FinishedLemmas.{slots_shown}
 use Rattle.types.specs.Limits.{most_slots}
 
 -- one row more
-more_rows : (n w : ℕ) → n * w + w ≡ (n + 1) * w
+pub more_rows : (n w : ℕ) → n * w + w ≡ (n + 1) * w
 more_rows n w = omega arith
 
 pub IsBuilt-push : (t : IntType) (values : List ℕ) (valid : List Bool) (z : ℤ) (b : Bool) → IsBuilt t values valid → length valid < most_slots
@@ -110,7 +110,7 @@ tried (Err e) t s values longer bytes valid flags n y z b old is whole of_type r
 
 -- ---- many slots at once
 
-more_slots : (n m w a b : ℕ) → a ≡ n * w → b ≡ m * w → a + b ≡ (n + m) * w
+pub more_slots : (n m w a b : ℕ) → a ≡ n * w → b ≡ m * w → a + b ≡ (n + m) * w
 more_slots n m w a b at first = omega arith
 
 pub IsBuilt-joined : (t : IntType) (values numbers : List ℕ) (valid more : List Bool) (m : ℕ) → IsBuilt t values valid → length numbers ≡ m * bytes_of t.bits → length more ≡ m

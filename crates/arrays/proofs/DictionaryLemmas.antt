@@ -1,5 +1,5 @@
 -- An array of codes with a dictionary, and a dictionary from an array of texts.
-use Rattle.std.proofs.Common.{◌≡◌, ◌∙◌, ℕ, ◌+◌, List, [], ◌∷◌, map, Bool, true, false, not, ◌||◌, ◌&&◌, int_lt, nat_lt, pos, negsuc, get_or, length, length-append, ◌++◌, ◌<◌, ◌≤◌, option_map, cond, Option, Some, None, ap, sym, refl, subst, arith, zero-add, slice_index_or}
+use Rattle.std.proofs.Common.{◌≡◌, ◌∙◌, ℕ, ◌+◌, List, [], ◌∷◌, map, Bool, true, false, not, ◌||◌, ◌&&◌, int_lt, nat_lt, pos, negsuc, get_or, length, length-append, ◌++◌, ◌<◌, ◌≤◌, option_map, cond, Option, Some, None, ap, sym, refl, subst, arith, zero-add, slice_index_or, ℤ}
 use Rattle.std.specs.List.{All, range_with_len}
 use mathlib.Core.List.{IsPrefix}
 use Rattle.std.proofs.lemmas.Bool.{and_parts, le-ltb, lt-ltb, ltb-true}
@@ -7,6 +7,7 @@ use Rattle.std.proofs.lemmas.List.{get_or_append_left}
 use Rattle.std.proofs.lemmas.List.Elements.{All-tail}
 use Rattle.std.proofs.lemmas.Simd.{map-map}
 use Rattle.std.proofs.lemmas.List.FromFn.{get_or-map-range_with_len}
+use Rattle.std.proofs.lemmas.Bool.Decides.{nat_tests}
 use Rattle.layout.specs.Item.{Item, boolean, int, list, null, text}
 use Rattle.types.specs.Kind as kind
 use Rattle.types.specs.Kind.{Kind, int32, kind_of, kind_step, same_kind}
@@ -163,10 +164,10 @@ MakesDict-array k n buffers children present_words shown words lawful shows numb
 
 -- ---- a longer dictionary
 
-code-below : (n m : ℕ) → is_code n (int (pos m)) ≡ true → m < n
+pub code-below : (n m : ℕ) → is_code n (int (pos m)) ≡ true → m < n
 code-below n m h = ltb-true m n (and_parts (not (nat_lt m 0)) (nat_lt m n) h).1
 
-below-code : (n m : ℕ) → m < n → is_code n (int (pos m)) ≡ true
+pub below-code : (n m : ℕ) → m < n → is_code n (int (pos m)) ≡ true
 below-code n m below = ap (λ b. not b && nat_lt m n) (le-ltb m 0 (omega arith)) ∙ lt-ltb m n below
 
 looked-longer : (entries rest : List Item) (code : Item) → is_code (length entries) code ≡ true → looked_up (entries ++ rest) code ≡ looked_up entries code
@@ -223,3 +224,7 @@ MakesOver-array k n buffers children words shown other lawful shows dict begun =
 
 pub kind_of-Dict : kind_of Dict ≡ kind.dict
 kind_of-Dict = fold_out-DataType Kind Kind kind_step (λ f. f.ty) Dict ∙ ap (λ o. kind_step (map-DataType DataType Field Kind Kind kind_of (fold-Field Kind Kind kind_step (λ f. f.ty)) o)) outs-Dict
+
+pub code_row : (n : ℕ) (z : ℤ) → is_code n (int z) ≡ true → natural z < n
+code_row n (pos m) h = grind (arith, nat_tests, h)
+code_row n (negsuc m) h = cc

@@ -1,5 +1,5 @@
 -- A column that was built slot by slot, as an array.
-use Rattle.std.proofs.Common.{◌≡◌, ◌∙◌, ℕ, ◌+◌, ◌<◌, List, [], map, Bool, true, false, not, length, cond, get_or, Option, option_map, ap, sym, refl, zero-add}
+use Rattle.std.proofs.Common.{◌≡◌, ◌∙◌, ℕ, ◌+◌, ◌<◌, List, [], map, Bool, false, not, length, cond, get_or, Option, option_map, ap, sym, zero-add}
 use Rattle.std.specs.List.{range_with_len}
 use Rattle.std.proofs.lemmas.Simd.{map-map}
 use Rattle.colbits.specs.Bit.{bits}
@@ -12,22 +12,14 @@ use Rattle.arrays.specs.Packed.{IsBufferOf}
 use Rattle.layout.specs.Seen.{Seen, no_entries}
 use Rattle.arrays.specs.Shown.{kept, shown}
 use Rattle.layout.proofs.ListLemmas.{map-range-below}
-use Rattle.arrays.proofs.ValidityLemmas.{IsKept, kept_buffer}
+use Rattle.arrays.proofs.ValidityLemmas.{IsKept, kept_buffer, is_there, slot_same}
 
 -- the value of a slot where it is valid, else null
 abbrev pub slot : (ℕ → Item) → List Bool → ℕ → Item
 slot value valid j = cond (get_or valid j false) (value j) null
 
-made : Kind → Option (List Bool) → List Item → Seen
+pub made : Kind → Option (List Bool) → List Item → Seen
 made k validity items = record { kind = k; validity = validity; items = items; codes = []; entries = no_entries }
-
-is_there : (v : Bool) (x : Item) → is_null x ≡ false → not (is_null (cond v x null)) ≡ v
-is_there true x h = ap not h
-is_there false x h = refl
-
-slot_same : (p q : Bool) (x y : Item) → p ≡ q → (q ≡ true → x ≡ y) → cond p x null ≡ cond q y null
-slot_same p true x y same is = ap (λ v. cond v x null) same ∙ is refl
-slot_same p false x y same is = ap (λ v. cond v x null) same
 
 -- the buffer of what is kept of the slots
 pub kept_slots : (n : ℕ) (valid : List Bool) (validity : Option (List Bool)) (buffer : Option (List ℕ)) → n ≡ length valid → validity ≡ kept valid → IsBufferOf buffer validity

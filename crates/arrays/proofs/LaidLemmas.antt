@@ -119,8 +119,8 @@ lengths-push w valid offsets most more b is short =
     let n = length valid in
     let after = offsets ++ bytes_of_number (offset_type w) (pos (most + more)) in
     let followed : AreFollowed w n offsets after (most + more) = offset_more w n offsets (most + more) is.size short in
-    let at = slot_length w (λ j. get_or (valid ++ b ∷ []) j false) after in
-    let at' = slot_length w (λ j. get_or valid j false) offsets in
+    let at = slot_length (λ j. get_or (valid ++ b ∷ []) j false) (start_at w after) in
+    let at' = slot_length (λ j. get_or valid j false) (start_at w offsets) in
     let front : (j : ℕ) → j < n → at j ≡ at' j =
     λ j below.
     ap (λ v. cond v (Some (length_at w after j)) None) (get_or_append_left valid (b ∷ []) false j below)
@@ -136,15 +136,15 @@ lengths-push w valid offsets most more b is short =
 
 pub length-lengths_where : (w : OffsetWidth) (valid : List Bool) (offsets : List ℕ) → length (lengths_where w valid offsets) ≡ length valid
 unfolding lengths_where
-length-lengths_where w valid offsets = length-map-range_with_len (slot_length w (λ j. get_or valid j false) offsets) 0 (length valid)
+length-lengths_where w valid offsets = length-map-range_with_len (slot_length (λ j. get_or valid j false) (start_at w offsets)) 0 (length valid)
 
-pub fresh_rises : (w : OffsetWidth) (valid : List Bool) (offsets : List ℕ) (most : ℕ) → AreFresh w valid offsets most → Rises w (λ j. get_or valid j false) (length valid) offsets
+pub fresh_rises : (w : OffsetWidth) (valid : List Bool) (offsets : List ℕ) (most : ℕ) → AreFresh w valid offsets most → Rises (λ j. get_or valid j false) (length valid) (start_at w offsets)
 fresh_rises w valid offsets most is = record { rising = is.bounds.rising; empty = is.empty }
 
 pub total-fresh : (w : OffsetWidth) (valid : List Bool) (offsets : List ℕ) (most : ℕ) → AreFresh w valid offsets most → total (lengths_where w valid offsets) ≡ most
 unfolding lengths_where
 total-fresh w valid offsets most is =
-    let all = total-from w (λ j. get_or valid j false) offsets (length valid) (fresh_rises w valid offsets most is) (length valid) 0 (zero-add (length valid)) in
+    let all = total-from (λ j. get_or valid j false) (start_at w offsets) (length valid) (fresh_rises w valid offsets most is) (length valid) 0 (zero-add (length valid)) in
     omega (arith, all, is.first, is.ends)
 
 -- ---- a slot more
@@ -242,7 +242,7 @@ fresh-none w valid offsets no_slots first =
 
 pub lengths-none : (w : OffsetWidth) (valid : List Bool) (offsets : List ℕ) → valid ≡ [] → lengths_where w valid offsets ≡ []
 unfolding lengths_where
-lengths-none w valid offsets no_slots = ap (λ (v : List Bool). map (slot_length w (λ j. get_or v j false) offsets) (range_with_len 0 (length v))) no_slots
+lengths-none w valid offsets no_slots = ap (λ (v : List Bool). map (slot_length (λ j. get_or v j false) (start_at w offsets)) (range_with_len 0 (length v))) no_slots
 
 -- ---- offsets in memory
 
@@ -265,7 +265,7 @@ laid_as w valid offsets most bitmap validity is short kept_is holds =
       first = is.first;
       needed = packed.shown ∙ ap kept (map-range-below at (is_valid_in validity) 0 n same);
       slots =
-          map-range-below (slot_length w at offsets) (slot_length w (is_valid_in validity) offsets) 0 n
+          map-range-below (slot_length at (start_at w offsets)) (slot_length (is_valid_in validity) (start_at w offsets)) 0 n
           (λ i below. ap (λ v. cond v (Some (length_at w offsets (0 + i))) None) (same i below));
       empty = λ j below zero. is.empty j below (sym (packed.each j below) ∙ zero);
     }
@@ -285,8 +285,8 @@ pub items-laid : {A : Type 0} (w : OffsetWidth) (wrap : List A → Item) (length
     → cut_by wrap null lengths values ≡ map (λ j. cond (is_valid_in validity j) (wrap (slot_at w offsets values j)) null) (range_with_len 0 n)
 items-laid w wrap lengths n validity offsets values is =
     ap (λ ls. cut_by wrap null ls values) is.slots
-    ∙ ap (λ s. cut_by wrap null (map (slot_length w (is_valid_in validity) offsets) (range_with_len 0 n)) (drop s values)) (sym is.first)
-    ∙ cut-from w wrap null (is_valid_in validity) offsets n values (record { rising = is.bounds.rising; empty = is.empty }) n 0 (zero-add n)
+    ∙ ap (λ s. cut_by wrap null (map (slot_length (is_valid_in validity) (start_at w offsets)) (range_with_len 0 n)) (drop s values)) (sym is.first)
+    ∙ cut-from wrap null (is_valid_in validity) (start_at w offsets) n values (record { rising = is.bounds.rising; empty = is.empty }) n 0 (zero-add n)
 
 there : (b : Bool) (x : Item) → is_null x ≡ false → not (is_null (cond b x null)) ≡ b
 there true x h = ap not h

@@ -13,6 +13,7 @@ pub mod DictionaryLemmas
 pub mod ValidityLemmas
 pub mod CutLemmas
 pub mod LaidLemmas
+pub mod ExtendedLemmas
 pub mod SlotsLemmas
 pub mod FinishedLemmas
 pub mod GrowingLemmas

@@ -3,7 +3,7 @@ use Rattle.std.proofs.Common.{◌≡◌, ◌∙◌, ℕ, zero, suc, ◌+◌, ◌
 use Rattle.std.specs.List.{range_with_len}
 use Rattle.std.proofs.lemmas.List.{append-nil, append_assoc}
 use Rattle.std.proofs.lemmas.List.FromFn.{map-range_with_len_more}
-use Rattle.layout.specs.Item.{Item, items_of, list_of}
+use Rattle.layout.specs.Item.{Item, Items, items_of, list_of}
 use Rattle.layout.proofs.ListLemmas.{map-range-below}
 
 -- places behind one another make two lists joined
@@ -27,3 +27,7 @@ map-range-joined f g h n (suc m) front past =
 pub items_of-list_of : (xs : List Item) → items_of (list_of xs) ≡ xs
 items_of-list_of [] = refl
 items_of-list_of (x ∷ xs) = ap (λ l. x ∷ l) (items_of-list_of xs)
+
+pub list_of-items_of : (xs : Items) → list_of (items_of xs) ≡ xs
+list_of-items_of Items.none = refl
+list_of-items_of (Items.more x xs) = ap (Items.more x) (list_of-items_of xs)

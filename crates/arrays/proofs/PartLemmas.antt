@@ -1,5 +1,5 @@
 -- The values of a view, as they lie in its buffers.
-use Rattle.std.proofs.Common.{◌≡◌, ◌∙◌, ℕ, ◌+◌, ◌*◌, ◌<◌, ◌≤◌, ◌&&◌, List, [], ◌∷◌, map, slice_index_or, slice_get, get_or, Bool, true, false, not, length, cond, Some, None, Option, option_map, IsUtf8, Bor, ap, sym, refl, subst, arith, zero-add, ltb-false}
+use Rattle.std.proofs.Common.{◌≡◌, ◌∙◌, ℕ, ◌+◌, ◌*◌, ◌<◌, ◌≤◌, ◌&&◌, List, [], ◌∷◌, map, slice_index_or, slice_get, get_or, true, false, not, length, cond, Some, None, Option, option_map, IsUtf8, Bor, ap, sym, refl, subst, arith, zero-add, ltb-false}
 use Rattle.std.specs.List.{range_with_len}
 use Rattle.std.specs.Arc.{arc_value}
 use Rattle.std.specs.Str.{is_utf8}
@@ -32,7 +32,7 @@ use Rattle.arrays.specs.declared.view.View.TheInside.{Inside}
 use Rattle.arrays.specs.declared.view.ViewType.{ViewType}
 use Rattle.arrays.specs.declared.view.ViewType.TheVariants as type
 use Rattle.types.specs.declared.data_type.Field.{Field, out-Field}
-use Rattle.std.proofs.lemmas.Bool.{false≢true}
+use Rattle.std.proofs.lemmas.Bool.{false≢true, not-false}
 use Rattle.layout.proofs.FirstFaultLemmas.{IsWhole, reading-raw}
 use Rattle.layout.proofs.ChildLemmas.{OneChild, only_child}
 use Rattle.layout.proofs.ListLemmas.{map-range-below}
@@ -41,6 +41,7 @@ use Rattle.layout.proofs.OffsetParts.{AreOffsets-part, Rising, enough-part, of_s
 use Rattle.arrays.proofs.SlotLemmas.{seen-validity, slice-column, validity-part, valid-part, valid-view, whole}
 use Rattle.layout.proofs.SeenLemmas.{length-items, length-slice, seen-kind, short-of_lawful}
 use Rattle.arrays.proofs.ViewLemmas.{length-show_view, kind-show_view}
+use Rattle.arrays.proofs.ValidityLemmas.{is_there}
 use Rattle.layout.proofs.LawfulLemmas.{either_false}
 use Rattle.types.specs.Limits.{most_slots}
 
@@ -143,11 +144,7 @@ is_utf8_at : (w : OffsetWidth) (n : ℕ) (buffers : Buffers) → bad_text_row (k
 is_utf8_at w n buffers none j below valid =
     let bytes = slot_at w (bytes_at buffers 1) (bytes_at buffers 2) j in
     let fine : (true && not (is_utf8 bytes)) ≡ false = ap (λ b. b && not (is_utf8 bytes)) (sym valid) ∙ fails-least_none (is_no_text w buffers) n none j below in
-    IsUtf8-from_is_utf8 bytes (not_false (is_utf8 bytes) fine)
-  where
-    not_false : (b : Bool) → not b ≡ false → b ≡ true
-    not_false true h = refl
-    not_false false h = cc
+    IsUtf8-from_is_utf8 bytes (not-false (is_utf8 bytes) fine)
 
 -- The offsets of n slots are there from slot `start` on.
 pub record HasOffsets (w : OffsetWidth) (first : List ℕ) (start n : ℕ) : Type 0 where
@@ -330,10 +327,6 @@ no_null (kind.texts w) buffers child entries j h = refl
 no_null (kind.lists w k) buffers child entries j h = refl
 no_null kind.dict buffers child entries j h = cc
 
-present_where_valid : (b : Bool) (x : Item) → is_null x ≡ false → not (is_null (cond b x null)) ≡ b
-present_where_valid true x h = ap not h
-present_where_valid false x h = refl
-
 -- its items are null exactly where its slots aren't valid
 pub holds_plain : (v : Inside) (s : Seen) (i : ℕ) → show_view v ≡ s → same_kind s.kind kind.dict ≡ false → v.start + v.len ≤ v.total → i < length s.items → holds_at s i ≡ valid_at s i
 holds_plain v s i shows plain within below =
@@ -343,4 +336,4 @@ holds_plain v s i shows plain within below =
     let is : s.items ≡ valid_values value s = subst (λ (q : Seen). q.items ≡ valid_values value q) shows (items-view v value within (λ j h. refl)) in
     let plain_view = subst (λ k. same_kind k kind.dict ≡ false) (sym (kind_shown v s shows)) plain in
     ap (λ x. not (is_null x)) (get_or_from_slice_get s.items i (cond (valid_at s i) (value i) null) null (item_slot value s i is below))
-    ∙ present_where_valid (valid_at s i) (value i) (no_null (view_kind v.ty) v.buffers.now child entries (v.start + i) plain_view)
+    ∙ is_there (valid_at s i) (value i) (no_null (view_kind v.ty) v.buffers.now child entries (v.start + i) plain_view)

@@ -1,5 +1,5 @@
 -- What an array's parts show.
-use Rattle.std.proofs.Common.{◌≡◌, ◌≢◌, ℕ, List, map, true, false, length, Option, Some, None, option_map, refl}
+use Rattle.std.proofs.Common.{◌≡◌, ◌≢◌, ℕ, List, map, false, length, Option, Some, None, option_map, refl}
 use Rattle.std.specs.Arc.{arc_value}
 use Rattle.types.specs.Kind as kind
 use Rattle.types.specs.Kind.{Kind, kind_of, same_kind}
@@ -22,14 +22,6 @@ pub kind-array : (a : Inside) → (show_array a).kind ≡ kind_with (kind_of (ar
 kind-array a =
     let p = arc_value a.parts in
     seen-kind (kind_with (kind_of p.ty) a.encoding) p.length None p.buffers.items (map reading p.children.items) (option_map checked_texts (words_with a.encoding))
-
--- a kind that is the same as that of dictionaries is that
-pub dict-same : (k : Kind) → same_kind k kind.dict ≡ true → k ≡ kind.dict
-dict-same (kind.int t) h = cc
-dict-same kind.boolean h = cc
-dict-same (kind.texts w) h = cc
-dict-same (kind.lists w k) h = cc
-dict-same kind.dict h = refl
 
 some-none : (d : Reading) → Some d ≢ None
 some-none d e = cc

@@ -8,6 +8,7 @@ use Rattle.std.proofs.lemmas.List.Concat.{length-flat_map}
 use Rattle.std.proofs.lemmas.List.FromFn.{sum_by-map-range_with_len_more}
 use Rattle.std.proofs.lemmas.List.Sums.{sum_by-append, sum_by-cons, sum_by-take-le}
 use Rattle.std.proofs.Math.Seq.{take-add}
+use Rattle.std.proofs.lemmas.Bool.{or_parts}
 use Rattle.types.specs.declared.offset_width.OffsetWidth.{OffsetWidth}
 use Rattle.types.specs.declared.offset_width.OffsetWidth.TheVariants.{Narrow, Wide}
 use Rattle.types.specs.OffsetWidth.{most_of}
@@ -41,10 +42,6 @@ sum_by-one : (xs : List Item) → sum_by (λ x. 1) xs ≡ length xs
 sum_by-one [] = refl
 sum_by-one (x ∷ xs) = omega (arith, sum_by-cons (λ (y : Item). 1) x xs, sum_by-one xs)
 
-pub neither : (a b : Bool) → (a || b) ≡ false → (a ≡ false) × (b ≡ false)
-neither false b h = (refl, h)
-neither true b h = absurd cc
-
 -- lighter items are not too big where the others aren't
 lighter-fits : (k : Kind) (xs ys : List Item) → IsLighter xs ys → is_too_big k ys ≡ false → is_too_big k xs ≡ false
 lighter-fits (kind.int t) xs ys less fits = refl
@@ -53,7 +50,7 @@ lighter-fits kind.dict xs ys less fits = refl
 lighter-fits (kind.texts Narrow) xs ys less fits = not_past (text_bytes xs) (omega (arith, less text_length, small (text_bytes ys) fits))
 lighter-fits (kind.texts Wide) xs ys less fits = refl
 lighter-fits (kind.lists w k) xs ys less fits =
-    let parts = neither (is_past (length (inner_items ys))) (is_too_big k (inner_items ys)) fits in
+    let parts = or_parts (is_past (length (inner_items ys))) (is_too_big k (inner_items ys)) fits in
     let few : length (inner_items xs) ≤ most_slots =
     omega (arith, length-flat_map items_in xs, length-flat_map items_in ys, less (λ x. length (items_in x)), small (length (inner_items ys)) parts.0) in
     ap (λ b. b || is_too_big k (inner_items xs)) (not_past (length (inner_items xs)) few)

@@ -8,6 +8,7 @@ use Rattle.colbits.proofs.BitLemmas.{get_or-bits}
 use Rattle.layout.specs.Layout.{is_valid_in}
 use Rattle.layout.specs.Fault.{is_validity_short, bytes_for}
 use Rattle.layout.specs.Seen.{valid_in}
+use Rattle.layout.specs.Item.{Item, null, is_null}
 use Rattle.arrays.specs.Packed.{IsBufferOf}
 use Rattle.arrays.specs.Shown.{kept}
 
@@ -100,3 +101,13 @@ kept_buffer n f (Some bytes) (Some ys) e is =
           ∙ valid-kept-places f n i below;
       long = le-ltb (length bytes) (bytes_for n) (omega (arith, is.bitmap.length_is, size));
     }
+
+-- ---- a value where its slot is valid, else null
+
+pub is_there : (v : Bool) (x : Item) → is_null x ≡ false → not (is_null (cond v x null)) ≡ v
+is_there true x h = ap not h
+is_there false x h = refl
+
+pub slot_same : (p q : Bool) (x y : Item) → p ≡ q → (q ≡ true → x ≡ y) → cond p x null ≡ cond q y null
+slot_same p true x y same is = ap (λ v. cond v x null) same ∙ is refl
+slot_same p false x y same is = ap (λ v. cond v x null) same

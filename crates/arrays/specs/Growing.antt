@@ -9,7 +9,7 @@ use Rattle.layout.specs.Fault.{is_validity_short}
 use Rattle.layout.specs.Item.{Item, null, boolean, text}
 use Rattle.layout.specs.Layout.{is_valid_in}
 use Rattle.arrays.specs.Lengths.{total}
-use Rattle.layout.specs.Offsets.{AreOffsetBytes, length_at, start_at}
+use Rattle.layout.specs.Offsets.{AreOffsetBytes, length_at, length_of, start_at}
 use Rattle.arrays.specs.Shown.{kept}
 use Rattle.types.specs.Limits.{most_slots}
 
@@ -20,6 +20,10 @@ bools_where values valid = map (λ j. if slice_index_or valid j false then boole
 -- The length of each valid slot, else none.
 unfoldable pub lengths_where : OffsetWidth → List Bool → List ℕ → List (Option ℕ)
 lengths_where w valid offsets = map (λ j. if slice_index_or valid j false then Some (length_at w offsets j) else None) (range_with_len 0 (length valid))
+
+-- How long each of n slots is by its offsets.
+abbrev pub lengths_by : List ℕ → ℕ → List (Option ℕ)
+lengths_by offsets n = map (λ j. Some (length_of offsets j)) (range_with_len 0 n)
 
 -- The offsets begin at 0 and end at `most`, and the slots that aren't valid are empty.
 pub record AreFresh (w : OffsetWidth) (valid : List Bool) (offsets : List ℕ) (most : ℕ) : Type 0 where

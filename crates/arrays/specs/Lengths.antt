@@ -59,3 +59,7 @@ is_too_big k items = false
 -- Why a slot is refused: with it the offsets would be past what they count, or, where they aren't, a growth was refused.
 abbrev pub IsBuildFault : Bool → BuildFault → Type 0
 IsBuildFault past reported = ((reported ≡ OffsetsFull) × (past ≡ true)) ⊎ ((reported ≡ NoMemory) × (past ≡ false))
+
+-- Why many slots are refused: offsets that are full, only where they would be, or want of memory.
+abbrev pub IsFull : Bool → BuildFault → Type 0
+IsFull full reported = ((reported ≡ OffsetsFull) × (full ≡ true)) ⊎ (reported ≡ NoMemory)

@@ -15,6 +15,7 @@ mod from_parts;
 mod list_parts;
 mod nulls;
 pub(crate) mod parts;
+mod values;
 
 use crate::array::encoding::Encoding;
 use crate::array::parts::Parts;

@@ -4,7 +4,8 @@
 //! Start with these:
 //!
 //! - [`validate`] makes an [`Array`] of parts that come from elsewhere ([`RawArray`]), or returns the first fault.
-//! - [`IntBuilder`], [`BoolBuilder`], [`TextBuilder`] and [`ListBuilder`] make arrays slot by slot, [`Array::nulls`] one of nulls.
+//! - [`IntBuilder`], [`BoolBuilder`], [`TextBuilder`] and [`ListBuilder`] make arrays slot by slot, [`Array::nulls`] one of nulls,
+//!   [`Array::of_ints`], [`Array::of_bools`] and [`Array::of_texts`] one of a slice.
 //! - [`Array::view`] shows the slots: [`View::int_at`], [`View::bool_at`], [`View::text_at`] and [`View::list_at`] one of them,
 //!   [`View::slice`] a part.
 //! - [`RecordBatch::new`] puts columns of one length under a [`Schema`].

@@ -19,7 +19,7 @@ use Rattle.types.proofs.ByteLemmas.{offset_at-empty}
 use Rattle.types.proofs.RangeLemmas.{short_at}
 use Rattle.layout.specs.Layout.{Buffers, bytes_at, offset_at}
 use Rattle.layout.specs.Fault.{Inner, are_offsets_short, child_length}
-use Rattle.layout.specs.Offsets.{AreOffsets, length_at, length_of, of_slot, offsets_in, slot_at, start_at, start_of}
+use Rattle.layout.specs.Offsets.{AreBytesOf, AreOffsets, length_at, length_of, of_slot, offsets_in, slot_at, start_at, start_of}
 use Rattle.layout.proofs.FirstFaultLemmas.{IsWhole}
 use Rattle.layout.proofs.ListLemmas.{map-range-below}
 use Rattle.layout.proofs.OffsetLemmas.{rises_by, start-rises, text_ends, list_ends}
@@ -80,6 +80,26 @@ offsets_in-slice w bytes start n =
     same_places f g start m each =
         map-range-below f (λ j. g (start + j)) 0 m (λ j below. ap f (zero-add j) ∙ each j below ∙ ap (λ k. g (start + k)) (sym (zero-add j)))
         ∙ map-range-same (λ j. g (start + j)) g 0 start m (λ j. ap (λ k. g (start + k)) (zero-add j))
+
+-- a number in the bytes of the first offsets
+front_number : (w : OffsetWidth) (bytes : List ℕ) (n j : ℕ) → j ≤ n → number_at (offset_type w) (slice bytes 0 ((n + 1) * size_of w)) j ≡ number_at (offset_type w) bytes j
+front_number w bytes n j below =
+    let none : 0 ≡ 0 * size_of w = omega arith in
+    ap (λ start. number_at (offset_type w) (slice bytes start ((n + 1) * size_of w)) j) none ∙ offset_at-slice w bytes 0 n j below ∙ ap (number_at (offset_type w) bytes) (zero-add j)
+
+-- the bytes that offsets from the first on lie in
+pub AreBytesOf-front : (w : OffsetWidth) (bytes : List ℕ) (n : ℕ) → (n + 1) * size_of w ≤ length bytes → ((j : ℕ) → j ≤ n → is_negative (number_at (offset_type w) bytes j) ≡ false)
+    → AreBytesOf w (slice bytes 0 ((n + 1) * size_of w)) (offsets_in w bytes 0 n)
+AreBytesOf-front w bytes n long counted =
+    let count = length-offsets_in w bytes 0 n in
+    record {
+      size = length-slice bytes 0 ((n + 1) * size_of w) (omega (arith, long)) ∙ ap (λ k. k * size_of w) (sym count);
+      counted = λ j below. ap is_negative (front_number w bytes n j (omega (arith, below, count))) ∙ counted j (omega (arith, below, count));
+      starts =
+          λ j below.
+          ap natural (front_number w bytes n j (omega (arith, below, count)) ∙ ap (number_at (offset_type w) bytes) (sym (zero-add j)))
+          ∙ sym (start_of-in w bytes 0 n j (omega (arith, below, count)));
+    }
 
 -- Room for one offset of either width, all of it 0.
 abbrev pub zeros : List ℕ

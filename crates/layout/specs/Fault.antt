@@ -1,5 +1,5 @@
 -- The faults of an array's parts, in their order.
-use Rattle.std.specs.Prelude.{ℕ, ◌+◌, ◌-◌, ◌*◌, ◌/◌, ◌&&◌, ◌||◌, ◌==◌, pos, int_lt, List, [], ◌∷◌, ◌++◌, take, drop, length, Bool, true, false, not, nat_lt, if◌then◌else◌, Option, Some, None, option_map, is_none, position, count_by}
+use Rattle.std.specs.Prelude.{ℕ, ◌+◌, ◌-◌, ◌*◌, ◌/◌, ◌&&◌, ◌||◌, ◌==◌, pos, int_lt, List, [], ◌∷◌, ◌++◌, take, drop, length, Bool, true, false, not, nat_lt, Option, Some, None, option_map, is_none, position, count_by}
 use Rattle.std.specs.List.{range_with_len, list_any}
 use Rattle.std.specs.Str.{is_utf8}
 use Rattle.std.specs.Bool.{then_some}

@@ -48,3 +48,9 @@ pub record AreOffsetBytes (w : OffsetWidth) (n : ℕ) (bytes : List ℕ) (most :
   pub counted : (j : ℕ) → j ≤ n → is_negative (number_at (offset_type w) bytes j) ≡ false
   pub rising : (j : ℕ) → j < n → start_at w bytes j ≤ start_at w bytes (j + 1)
   pub last : start_at w bytes n ≤ most
+
+-- The bytes of these offsets, each as wide as w says.
+pub record AreBytesOf (w : OffsetWidth) (bytes offsets : List ℕ) : Type 0 where
+  pub size : length bytes ≡ length offsets * size_of w
+  pub counted : (j : ℕ) → j < length offsets → is_negative (number_at (offset_type w) bytes j) ≡ false
+  pub starts : (j : ℕ) → j < length offsets → start_at w bytes j ≡ start_of offsets j

@@ -5,7 +5,7 @@ ghost use Rattle.types.specs.Limits.{most_slots};
 ghost use Rattle.types.specs.Number.{is_negative, number_at};
 ghost use Rattle.types.specs.OffsetWidth.{most_of, offset_type};
 ghost use Rattle.layout.specs.Fault.{are_offsets_short};
-ghost use Rattle.layout.specs.Offsets.{offsets_in, start_of};
+ghost use Rattle.layout.specs.Offsets.{AreBytesOf, offsets_in, start_of};
 
 use crate::buffers::part;
 use std::marker::Model;
@@ -66,5 +66,13 @@ impl<'a> Offsets<'a> {
         ensures { result ≡ start_of self.now i }
     {
         self.width.natural_at(self.bytes, i)
+    }
+
+    /// How wide the offsets are, and their bytes: little-endian, one behind the other.
+    pub fn bytes(&self) -> (OffsetWidth, &'a [u8])
+        ensures { AreBytesOf result.0 result.1.now self.now }
+    {
+        let all = (self.slots as usize + 1) * self.width.bytes();
+        (self.width, part(self.bytes, 0, all))
     }
 }

@@ -126,7 +126,7 @@ text_added ts i o before after below is are pushed =
     pushed ∙ ap (λ o. before ++ item_of_text o ∷ []) (is ∙ slice_get-get_or ts i [] below) ∙ ap (λ l. l ++ text (get_or ts i []) ∷ []) are
     ∙ sym (map-append text (take i ts) (get_or ts i [] ∷ [])) ∙ ap (map text) (sym (take_more ts i [] below))
 
-text_bytes-map : (ts : List (List ℕ)) → text_bytes (map text ts) ≡ byte_count ts
+pub text_bytes-map : (ts : List (List ℕ)) → text_bytes (map text ts) ≡ byte_count ts
 text_bytes-map ts = fold-map (λ a x. a + text_length x) text 0 ts
 
 -- And its bytes fit where those of all texts do.

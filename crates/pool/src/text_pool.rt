@@ -1,5 +1,4 @@
 ghost use Rattle.std.specs.Prelude.{◌≡◌, ◌<◌, ◌≤◌, ◌==◌, ◌++◌, ◌∷◌, false, IfSome, [], length, map, take, true, slice_get, sum_by, Some, IfOk, IfErr, OnOk, OnErr, option_copied};
-ghost use Rattle.std.specs.Option.{ForSome};
 ghost use Rattle.std.specs.String.{string_bytes};
 ghost use Rattle.arrays.specs.Item as item;
 ghost use Rattle.arrays.specs.Kind as kind;
@@ -7,9 +6,10 @@ ghost use Rattle.arrays.specs.Shown.{shown};
 ghost use Rattle.pool.specs.Front.{IsFront};
 ghost use Rattle.pool.specs.Texts.{IsPoolFault, is_among, is_once, is_too_full, place_of, with_text};
 ghost use Rattle.types.specs.Limits.{most_slots};
+ghost use Rattle.types.specs.declared.offset_width.OffsetWidth.TheVariants as OffsetWidth;
 
 use crate::fault::PoolFault;
-use arrays::{Array, BuildFault, OffsetWidth, TextBuilder, View, Words};
+use arrays::{Array, BuildFault, OffsetWidth, TextBuilder, Words};
 use colbits::NoMemory;
 use indexmap::IndexSet;
 use std::alloc::Global;
@@ -103,32 +103,45 @@ impl TextPool {
     pub fn to_array(&self, alloc: Global) -> Result<Array, NoMemory>
         ensures { IfOk result (λ d. d ≡ shown kind.utf8 (map item.text self.now)) }
     {
-        self.column(alloc, None)
+        self.completed(self.column(alloc)?, 0)
     }
 
-    /// The texts as a column, in their order, of which the first stand in a dictionary: they are copied from there, as they lie
-    /// in memory one behind the other.
+    /// The texts as a column, in their order, of which the first stand in a dictionary: these are copied from there at once.
     pub fn to_array_after(&self, alloc: Global, words: &Words) -> Result<Array, NoMemory>
         requires { IsFront self.now words.now }
         ensures { IfOk result (λ d. d ≡ shown kind.utf8 (map item.text self.now)) }
     {
-        self.column(alloc, Some(words.view()))
+        let front = words.view();
+        match self
+            .column(alloc)?
+            .extended(&front.texts(OffsetWidth::Narrow))
+        {
+            Ok(texts) => self.completed(texts, front.len()),
+            Err(BuildFault::NoMemory) => Err(NoMemory),
+            // The texts of a pool fit a column, so the first of them do.
+            Err(BuildFault::OffsetsFull) => unreachable!(),
+        }
     }
 
-    /// The texts as a column, in their order, the first from a view of them where there is one.
-    fn column(&self, alloc: Global, front: Option<View<'_>>) -> Result<Array, NoMemory>
-        requires { ForSome front (IsFront self.now) }
+    /// A column without a text yet, with room for all.
+    fn column(&self, alloc: Global) -> Result<TextBuilder, NoMemory>
+        ensures width { IfOk result (λ b. b.width ≡ OffsetWidth.Narrow) }
+        ensures empty { IfOk result (λ b. b.items ≡ []) }
+        ensures fits { is_too_full self.now ≡ false }
+    {
+        TextBuilder::with_capacity(alloc, OffsetWidth::Narrow, self.len(), self.byte_len())
+    }
+
+    /// The column of the first texts with the others at its end.
+    fn completed(&self, column: TextBuilder, first: usize) -> Result<Array, NoMemory>
+        requires width { column.width ≡ OffsetWidth.Narrow }
+        requires items { column.items ≡ map item.text (take first self.now) }
+        requires within { first ≤ length self.now }
         ensures { IfOk result (λ d. d ≡ shown kind.utf8 (map item.text self.now)) }
     {
-        let len = self.len();
-        let mut texts = TextBuilder::with_capacity(
-            alloc,
-            OffsetWidth::Narrow,
-            len,
-            self.byte_len(),
-        )?;
-        for code in 0..len {
-            match texts.push(self.text_in(&front, code)) {
+        let mut texts = column;
+        for code in first..self.len() {
+            match texts.push(self.text_of(code as u32)) {
                 Ok(()) => {}
                 Err(BuildFault::NoMemory) => return Err(NoMemory),
                 // The texts of a pool fit a column.
@@ -136,19 +149,6 @@ impl TextPool {
             }
         }
         texts.finish()
-    }
-
-    /// The text at a place: of the view, as far as it goes.
-    fn text_in<'a>(&'a self, front: &'a Option<View<'_>>, code: usize) -> Option<&'a str>
-        requires front { ForSome front.now (IsFront self.now) }
-        requires below { code < length self.now }
-        requires small { code < most_slots }
-        ensures { option_copied result ≡ slice_get self.now code }
-    {
-        match front {
-            Some(view) if code < view.len() => view.text_as(OffsetWidth::Narrow, code),
-            _ => self.text_of(code as u32),
-        }
     }
 
     /// How many bytes the texts have together.

@@ -1,27 +1,21 @@
 -- Results that are too big.
 use Rattle.std.proofs.Common.{◌≡◌, ◌∙◌, ℕ, ◌+◌, ◌≤◌, List, [], ◌∷◌, ◌++◌, take, Bool, true, Option, Some, Result, Ok, Err, IfErr, IsErrAnd, ap, sym, arith, inl, inr}
 use Rattle.std.specs.Prelude.{slice_get}
-use Rattle.std.proofs.lemmas.Bool.{ltb-true, lt-ltb}
 use Rattle.std.proofs.lemmas.List.{take-map}
 use Rattle.std.proofs.lemmas.List.Sums.{sum_by-take-le}
 use Rattle.types.specs.declared.offset_width.OffsetWidth.{OffsetWidth}
 use Rattle.types.specs.declared.offset_width.OffsetWidth.TheVariants.{Narrow, Wide}
 use Rattle.types.specs.OffsetWidth.{is_full}
 use Rattle.arrays.specs.Item.{Item}
+use Rattle.arrays.specs.Lengths as build
 use Rattle.arrays.specs.Lengths.{IsBuildFault, is_past, text_bytes, text_length}
 use Rattle.arrays.specs.declared.builder.fault.BuildFault.{BuildFault}
 use Rattle.select.specs.declared.fault.SelectFault.{SelectFault}
 use Rattle.select.specs.Fault.{IsFull, of_build}
 use Rattle.select.specs.Picked.{picked, picked_at}
+use Rattle.arrays.proofs.CutLemmas.{full-grows, past-more}
 use Rattle.select.proofs.PickLemmas.{picked-more}
 use Rattle.types.specs.Limits.{most_slots}
-
-pub past-more : (m n : ℕ) → m ≤ n → is_past m ≡ true → is_past n ≡ true
-past-more m n le past = lt-ltb most_slots n (omega (arith, le, ltb-true most_slots m past))
-
-pub full-grows : (w : OffsetWidth) (m n : ℕ) → m ≤ n → is_full w m ≡ true → is_full w n ≡ true
-full-grows Narrow m n le full = past-more m n le full
-full-grows Wide m n le full = cc
 
 -- texts of the first rows are too many only where those of all are
 pub full-picked : (w : OffsetWidth) (items : List Item) (picks : List (Option ℕ)) (j : ℕ) (pick : Option ℕ) (old : List Item) (x : Item) → slice_get picks j ≡ Some pick
@@ -37,3 +31,8 @@ pub reported_of_all : {T : Type 0} (r : Result T SelectFault) (b : BuildFault) (
     → IsBuildFault one b → (one ≡ true → all ≡ true) → IfErr r (IsFull all)
 reported_of_all (Ok v) b one all same reported grows = tt
 reported_of_all (Err e) b one all same reported grows = elim reported [ inl h ↦ inl (same ∙ ap of_build h.0, grows h.1) | inr h ↦ inr (same ∙ ap of_build h.0) ]
+
+pub full_of_build : {T : Type 0} (r : Result T SelectFault) (b : BuildFault) (one all : Bool) → IsErrAnd r (λ e. e ≡ of_build b)
+    → build.IsFull one b → (one ≡ true → all ≡ true) → IfErr r (IsFull all)
+full_of_build (Ok v) b one all same reported grows = tt
+full_of_build (Err e) b one all same reported grows = elim reported [ inl h ↦ inl (same ∙ ap of_build h.0, grows h.1) | inr h ↦ inr (same ∙ ap of_build h) ]

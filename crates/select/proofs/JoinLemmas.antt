@@ -1,5 +1,5 @@
 -- Columns one after the other.
-use Rattle.std.proofs.Common.{◌≡◌, ◌∙◌, ℕ, ◌+◌, ◌<◌, ◌≤◌, ◌||◌, ◌⊎◌, inl, inr, List, [], ◌∷◌, ◌++◌, length, take, drop, map, Bool, true, false, cond, Option, None, Some, Result, IfErr, ap, sym, refl, arith, subst, get_or, append_assoc, append-nil, length-append}
+use Rattle.std.proofs.Common.{◌≡◌, ◌∙◌, ℕ, ◌+◌, ◌<◌, ◌≤◌, ◌||◌, inl, inr, List, [], ◌∷◌, ◌++◌, length, take, drop, map, Bool, true, false, cond, Option, None, Some, Result, IfErr, ap, sym, refl, arith, subst, get_or, append_assoc, append-nil, length-append}
 use Rattle.std.specs.Prelude.{slice_get, All, flat_map, sum_by, unwrap_or}
 use Rattle.std.specs.List.{list_all}
 use Rattle.std.proofs.lemmas.Grind.{flat_map-append}
@@ -8,6 +8,7 @@ use Rattle.std.proofs.lemmas.List.Elements.{All-append}
 use Rattle.std.proofs.lemmas.List.Sums.{AllPass-from_list_all, sum_by-append, sum_by-take-le}
 use Rattle.std.proofs.lemmas.Option.{slice_get-get_or}
 use Rattle.std.proofs.lemmas.Result.{IfErr-weaker}
+use Rattle.std.proofs.lemmas.Bool.{or_cases}
 use Rattle.arrays.specs.Item.{Item, null}
 use Rattle.arrays.specs.Kind as kind
 use Rattle.types.specs.declared.offset_width.OffsetWidth.{OffsetWidth}
@@ -23,7 +24,7 @@ use Rattle.select.specs.Fault.{IsFull}
 use Rattle.select.specs.Joined.{concat_fault, is_content_too_big, joined, kind_of_first}
 use Rattle.select.specs.declared.fault.SelectFault.{SelectFault}
 use Rattle.select.specs.declared.fault.SelectFault.TheVariants.{TypesDiffer}
-use Rattle.select.proofs.BigLemmas.{full-grows, past-more}
+use Rattle.arrays.proofs.CutLemmas.{full-grows, past-more}
 use Rattle.select.proofs.ListLemmas.{cut-again, total-lengths}
 use Rattle.select.proofs.PickLemmas.{take-one}
 
@@ -52,12 +53,6 @@ pushed-more items i x before old new at is more =
 front-weighs : {A : Type 0} (w : A → ℕ) (before items : List A) (i : ℕ) → sum_by w (before ++ take i items) ≤ sum_by w (before ++ items)
 front-weighs w before items i =
     omega (arith, sum_by-append w before (take i items), sum_by-append w before items, sum_by-take-le w items i)
-
-pub full-pushed : (w : OffsetWidth) (items : List Item) (i : ℕ) (x : Item) (before old : List Item) → slice_get items i ≡ Some x
-    → old ≡ before ++ take i items → is_full w (text_bytes (old ++ x ∷ [])) ≡ true → is_full w (text_bytes (before ++ items)) ≡ true
-full-pushed w items i x before old at is full =
-    let front = pushed-more items i x before old (old ++ x ∷ []) at is refl in
-    full-grows w (text_bytes (old ++ x ∷ [])) (text_bytes (before ++ items)) (omega (arith, ap text_bytes front, front-weighs text_length before items (i + 1))) full
 
 -- lengths that are too many are so among all
 pub past-lengths : (items : List Item) (i : ℕ) (before old : List (Option ℕ)) (y : Option ℕ) → i < length items
@@ -119,10 +114,6 @@ full-texts w columns k s old below at is full =
 
 -- ---- too much of one column is too much of all
 
-either : (a b : Bool) → (a || b) ≡ true → (a ≡ true) ⊎ (b ≡ true)
-either true b h = inl refl
-either false b h = inr h
-
 pub or-left : (a b : Bool) → a ≡ true → (a || b) ≡ true
 or-left a b h = ap (λ x. x || b) h
 
@@ -145,7 +136,7 @@ too_big-around (kind.texts w) before items after h =
 too_big-around (kind.lists w k) before items after h =
     let all = before ++ (items ++ after) in
     let inner = inner-around before items after in
-    elim (either (is_past (length (inner_items items))) (is_too_big k (inner_items items)) h) [
+    elim (or_cases (is_past (length (inner_items items))) (is_too_big k (inner_items items)) h) [
       | inl past ↦
           or-left (is_past (length (inner_items all))) (is_too_big k (inner_items all)) (past-more (length (inner_items items)) (length (inner_items all))
           (omega (arith, ap (λ (l : List Item). length l) inner, length-around (inner_items before) (inner_items items) (inner_items after))) past)

@@ -1,11 +1,10 @@
 -- Codes of dictionaries one after the other.
-use Rattle.std.proofs.Common.{◌≡◌, ◌∙◌, ℕ, suc, ◌+◌, ◌<◌, ◌≤◌, ◌&&◌, ℤ, pos, negsuc, List, [], ◌∷◌, ◌++◌, length, drop, map, true, not, Option, None, Some, ap, sym, refl, arith, subst, get_or, append_assoc, append-nil, length-append}
-use Rattle.std.specs.Prelude.{All, nat_lt, slice_get}
+use Rattle.std.proofs.Common.{◌≡◌, ◌∙◌, ℕ, ◌+◌, ◌<◌, ◌≤◌, ℤ, pos, negsuc, List, [], ◌∷◌, ◌++◌, length, drop, map, true, Option, None, Some, ap, sym, refl, arith, subst, get_or, append_assoc, append-nil, length-append}
+use Rattle.std.specs.Prelude.{All, slice_get}
 use Rattle.std.specs.Option.{ForSome}
-use Rattle.std.proofs.lemmas.Bool.{and_parts, ltb-true, lt-ltb, le-ltb}
 use Rattle.std.proofs.lemmas.Int.{ints}
 use Rattle.std.proofs.lemmas.List.{drop_all, drop_more, get_or-append-add, length-map, map-append}
-use Rattle.std.proofs.lemmas.List.Elements.{All-append}
+use Rattle.std.proofs.lemmas.List.Elements.{All-append, All-tail}
 use Rattle.arrays.specs.Slot.{item_of}
 use Rattle.arrays.specs.Dictionary.{codes_of, dictionary_of, encoded, is_code, looked_up}
 use Rattle.arrays.specs.Item.{Item, null, int, boolean, text, list}
@@ -16,15 +15,9 @@ use Rattle.arrays.specs.Shown.{shown}
 use Rattle.arrays.specs.Kind as kind
 use Rattle.select.specs.Joined.{IsEncoded, joined, joined_codes, joined_entries, shifted}
 use Rattle.arrays.specs.Lengths.{joined_items}
+use Rattle.arrays.proofs.DictionaryLemmas.{code-below, below-code}
 use Rattle.select.proofs.ListLemmas.{get_or-map-any}
 use Rattle.types.specs.Limits.{most_slots}
-
-code-below : (n m : ℕ) → is_code n (int (pos m)) ≡ true → m < n
-code-below n m h = ltb-true m n (and_parts (not (nat_lt m 0)) (nat_lt m n) h).1
-
-below-code : (n m : ℕ) → m < n → is_code n (int (pos m)) ≡ true
-below-code n m below =
-    ap (λ b. not b && nat_lt m n) (le-ltb m 0 (omega arith)) ∙ lt-ltb m n below
 
 pub encoded-is : (s : Seen) → s ≡ encoded (codes_of s) (dictionary_of s) → All (λ c. is_code (length s.entries.items) c ≡ true) s.codes → IsEncoded s
 encoded-is s is within = record { items = ap (λ (q : Seen). q.items) is; within = within }
@@ -75,15 +68,12 @@ code-shifted n m before (int (pos k)) names few = below-code n (k + before) (ome
 
 -- ---- the codes of one column
 
-tail : {A : Type 0} (P : A → Type 0) (x : A) (xs : List A) → All P (x ∷ xs) → All P xs
-tail P x xs all = λ k d below. all (suc k) d (omega (arith, below))
-
 all-looked : (before entries rest codes : List Item) → All (λ c. is_code (length entries) c ≡ true) codes
     → map (looked_up (before ++ (entries ++ rest))) (map (shifted (length before)) codes) ≡ map (looked_up entries) codes
 all-looked before entries rest [] all = refl
 all-looked before entries rest (c ∷ codes) all =
     ap (λ x. x ∷ map (looked_up (before ++ (entries ++ rest))) (map (shifted (length before)) codes)) (looked-shifted before entries rest c (all 0 null (omega arith)))
-    ∙ ap (λ l. looked_up entries c ∷ l) (all-looked before entries rest codes (tail (λ c. is_code (length entries) c ≡ true) c codes all))
+    ∙ ap (λ l. looked_up entries c ∷ l) (all-looked before entries rest codes (All-tail (λ c. is_code (length entries) c ≡ true) c codes all))
 
 all-shifted : (n m before : ℕ) (codes : List Item) → All (λ c. is_code m c ≡ true) codes → before + m ≤ n → All (λ c. is_code n c ≡ true) (map (shifted before) codes)
 all-shifted n m before codes all few k d below =
@@ -106,7 +96,7 @@ codes-looked before (s ∷ rest) all =
     ∙ ap (λ l. l ++ map f (joined_codes (length before + length entries) rest)) (all-looked before entries more s.codes this.within ∙ sym this.items)
     ∙ ap (λ n. s.items ++ map f (joined_codes n rest)) longer
     ∙ ap (λ l. s.items ++ map (looked_up l) (joined_codes (length (before ++ entries)) rest)) wider
-    ∙ ap (λ l. s.items ++ l) (codes-looked (before ++ entries) rest (tail IsEncoded s rest all))
+    ∙ ap (λ l. s.items ++ l) (codes-looked (before ++ entries) rest (All-tail IsEncoded s rest all))
 
 pub codes-within : (n before : ℕ) (columns : List Seen) → All IsEncoded columns → before + length (joined_entries columns) ≤ n → All (λ c. is_code n c ≡ true) (joined_codes before columns)
 codes-within n before [] all few = λ k d below. absurd (omega (arith, below))
@@ -115,7 +105,7 @@ codes-within n before (s ∷ rest) all few =
     let sum = length-append s.entries.items (joined_entries rest) in
     All-append (λ c. is_code n c ≡ true) (map (shifted before) s.codes) (joined_codes (before + length s.entries.items) rest)
     (all-shifted n (length s.entries.items) before s.codes this.within (omega (arith, few, sum)))
-    (codes-within n (before + length s.entries.items) rest (tail IsEncoded s rest all) (omega (arith, few, sum)))
+    (codes-within n (before + length s.entries.items) rest (All-tail IsEncoded s rest all) (omega (arith, few, sum)))
 
 -- the codes of the next column go from what is to come to what is there
 pub codes-more : (columns : List Seen) (k before after : ℕ) (s : Seen) (old new all : List Item) → k < length columns → s ≡ get_or columns k s

@@ -28,6 +28,7 @@ use Rattle.arrays.proofs.PartLemmas.{item_slot}
 use Rattle.arrays.proofs.ValidityLemmas.{kept-ones}
 use Rattle.select.specs.Joined.{AreNumbersOf, IsPlace, TellsNulls, joined_valid}
 use Rattle.arrays.specs.Lengths.{joined_items}
+use Rattle.arrays.proofs.BuilderLemmas.{more_slots}
 use Rattle.select.proofs.JoinLemmas.{room-for}
 use Rattle.select.proofs.PickLemmas.{by_place}
 
@@ -60,9 +61,6 @@ item_is t bytes s j has below = get_or_from_slice_get s.items j _ null (item_slo
 
 pub TellsNulls-numbers : (t : IntType) (bytes : List ℕ) (s : Seen) → HasNumbers t bytes s → TellsNulls s
 TellsNulls-numbers t bytes s has = λ j below. ap is_null (item_is t bytes s j has below) ∙ null_slot (valid_at s j) (number_at t bytes j)
-
-more_slots : (n m w a b : ℕ) → a ≡ n * w → b ≡ m * w → a + b ≡ (n + m) * w
-more_slots n m w a b at first = omega arith
 
 -- an item that isn't null is the number at its place
 Matches : IntType → List ℕ → List Item → ℕ → Type 0

@@ -9,13 +9,14 @@ use Rattle.std.proofs.lemmas.List.FromFn.{get_or-map-range_with_len, length-map-
 use Rattle.std.proofs.lemmas.List.Sums.{sum_by-append, sum_by-take-le}
 use Rattle.std.proofs.lemmas.Grind.{flat_map-append}
 use Rattle.std.proofs.lemmas.Option.{get_or_from_slice_get}
+use Rattle.std.proofs.Math.Seq.{take-append_seam}
 use Rattle.colbits.specs.Slice.{slice}
 use Rattle.arrays.specs.Item.{Item, Items, null, int, boolean, text, list, list_of, items_of}
 use Rattle.arrays.specs.Lengths.{cut, inner_items, is_past, items_in, list_length, total}
 use Rattle.arrays.specs.Offsets.{of_slot}
 use Rattle.arrays.specs.Seen.{Seen, valid_in}
 use Rattle.arrays.specs.Values.{HasLists, IsRange, item_of_range}
-use Rattle.arrays.proofs.ListLemmas.{items_of-list_of}
+use Rattle.arrays.proofs.ListLemmas.{items_of-list_of, list_of-items_of}
 use Rattle.arrays.proofs.PartLemmas.{item_slot}
 use Rattle.select.specs.declared.fault.SelectFault.{SelectFault}
 use Rattle.select.specs.Children.{IsList}
@@ -23,13 +24,9 @@ use Rattle.select.specs.Fault.{IsFull}
 use Rattle.select.specs.Picked.{picked, picked_at, IsPick}
 use Rattle.select.specs.Ranges.{rows_of}
 use Rattle.select.proofs.PickLemmas.{picked-more}
-use Rattle.select.proofs.BigLemmas.{past-more}
+use Rattle.arrays.proofs.CutLemmas.{past-more}
 
 -- ---- the items of a list
-
-pub list_of-items_of : (xs : Items) → list_of (items_of xs) ≡ xs
-list_of-items_of Items.none = refl
-list_of-items_of (Items.more x xs) = ap (Items.more x) (list_of-items_of xs)
 
 pub picked-run : (items : List Item) (start count : ℕ) → start + count ≤ length items → picked items (map (λ i. Some i) (range_with_len start count)) ≡ slice items start count
 picked-run items start zero within = refl
@@ -141,10 +138,6 @@ full_of_all (Err x) e one all same reported grows = elim reported [ inl h ↦ in
 
 -- ---- lists cut from their items
 
-pub take-front : {A : Type 0} (xs ys : List A) → take (length xs) (xs ++ ys) ≡ xs
-take-front [] ys = refl
-take-front (x ∷ xs) ys = ap (λ l. x ∷ l) (take-front xs ys)
-
 pub drop-front : {A : Type 0} (xs ys : List A) → drop (length xs) (xs ++ ys) ≡ ys
 drop-front [] ys = refl
 drop-front (x ∷ xs) ys = drop-front xs ys
@@ -159,7 +152,7 @@ cut-again (int z ∷ xs) all = absurd (all 0 null (omega arith))
 cut-again (boolean b ∷ xs) all = absurd (all 0 null (omega arith))
 cut-again (text t ∷ xs) all = absurd (all 0 null (omega arith))
 cut-again (list ys ∷ xs) all =
-    ap (λ l. list (list_of l) ∷ cut (map list_length xs) (drop (length (items_of ys)) (items_of ys ++ inner_items xs))) (take-front (items_of ys) (inner_items xs))
+    ap (λ l. list (list_of l) ∷ cut (map list_length xs) (drop (length (items_of ys)) (items_of ys ++ inner_items xs))) (take-append_seam (items_of ys) (inner_items xs))
     ∙ ap (λ l. list l ∷ cut (map list_length xs) (drop (length (items_of ys)) (items_of ys ++ inner_items xs))) (list_of-items_of ys)
     ∙ ap (λ l. list ys ∷ cut (map list_length xs) l) (drop-front (items_of ys) (inner_items xs))
     ∙ ap (λ l. list ys ∷ l) (cut-again xs (tail (list ys) xs all))

@@ -17,14 +17,11 @@ use Rattle.arrays.specs.Values.{HasNumbers}
 use Rattle.select.specs.Named.{NameRows, index_at, row_named, rows_named}
 use Rattle.select.specs.Picked.{IsPick, is_row, picked_at}
 use Rattle.arrays.specs.Values.{number_in}
+use Rattle.arrays.proofs.DictionaryLemmas.{code_row}
 use Rattle.select.proofs.PickLemmas.{number-row}
 use Rattle.select.proofs.RestLemmas.{below_all}
 use Rattle.select.proofs.SelectionLemmas.{Taken, Taken-more, Taken-none}
 use Rattle.types.specs.Limits.{most_slots}
-
-code_row : (n : ℕ) (z : ℤ) → is_code n (int z) ≡ true → natural z < n
-code_row n (pos m) h = grind (arith, nat_tests, h)
-code_row n (negsuc m) h = cc
 
 number_more : (n m : ℕ) (z : ℤ) → n ≤ m → is_code n (int z) ≡ true → is_code m (int z) ≡ true
 number_more n m (pos k) within h = grind (arith, nat_tests, h, within)

@@ -1,14 +1,10 @@
 -- The numbers of picked rows, as they lie in a column.
-use Rattle.std.proofs.Common.{◌≡◌, ◌∙◌, ℕ, ◌+◌, ◌*◌, ◌<◌, ◌≤◌, ℤ, FitsSigned, List, ◌++◌, length, map, Bool, true, false, cond, Option, None, Some, IfSome, is_some, ap, sym, refl, arith, subst, get_or, length-append, zero-add}
+use Rattle.std.proofs.Common.{◌≡◌, ◌∙◌, ℕ, ◌+◌, ◌*◌, ◌<◌, ◌≤◌, ℤ, List, ◌++◌, length, map, Bool, true, false, cond, Option, None, Some, IfSome, is_some, ap, sym, refl, arith, subst, get_or, length-append, zero-add}
 use Rattle.std.specs.Prelude.{All}
 use Rattle.std.specs.List.{range_with_len}
-use Rattle.std.specs.Int.{w128}
 use borrow.Author.Count.{below_more}
-use Rattle.std.proofs.lemmas.Int.{ints}
 use Rattle.std.proofs.lemmas.List.FromFn.{get_or-map-range_with_len, length-map-range_with_len}
 use Rattle.std.proofs.lemmas.Nat.{row_fits}
-use Rattle.types.specs.declared.int_type.Width.{Width}
-use Rattle.types.specs.declared.int_type.Width.TheVariants.{W8, W16, W32, W64}
 use Rattle.types.specs.declared.int_type.IntType.{IntType}
 use Rattle.types.proofs.EncodingLemmas.{length-bytes_of_number, number_at-append-front, number_at-append-end}
 use Rattle.arrays.specs.FromParts.{show_numbers}
@@ -23,29 +19,13 @@ use Rattle.arrays.specs.Values.{HasNumbers}
 use Rattle.arrays.proofs.FinishedLemmas.{slot, slots_shown}
 use Rattle.arrays.proofs.PartLemmas.{item_slot}
 use Rattle.arrays.proofs.ValidityLemmas.{kept-places-ones}
+use Rattle.arrays.proofs.BuilderLemmas.{more_rows}
 use Rattle.std.proofs.lemmas.Option.{get_or_from_slice_get}
 use Rattle.select.specs.Picked.{picked, picked_at, is_row, IsPick}
 use Rattle.select.specs.Stored.{AreStored, is_stored}
 use Rattle.select.proofs.PickLemmas.{picked-by_place}
 
 -- ---- one number more
-
-wide : (w : Width) (signed : Bool) (z : ℤ) → IsOfType (record { bits = w; signed = signed }) z → FitsSigned w128 z
-wide W8 true z h = omega (arith, ints)
-wide W8 false z h = omega (arith, ints)
-wide W16 true z h = omega (arith, ints)
-wide W16 false z h = omega (arith, ints)
-wide W32 true z h = omega (arith, ints)
-wide W32 false z h = omega (arith, ints)
-wide W64 true z h = omega (arith, ints)
-wide W64 false z h = omega (arith, ints)
-
--- a number of any type is one of 128 bits
-pub FitsSigned-from_type : (t : IntType) (z : ℤ) → IsOfType t z → FitsSigned w128 z
-FitsSigned-from_type t z h = wide t.bits t.signed z h
-
-more_rows : (n w : ℕ) → n * w + w ≡ (n + 1) * w
-more_rows n w = omega arith
 
 same_number : (p : Option ℕ) (y z : ℤ) (f : ℕ → ℤ) → y ≡ z → IfSome p (λ i. z ≡ f i) → IfSome p (λ i. y ≡ f i)
 same_number None y z f same is = tt

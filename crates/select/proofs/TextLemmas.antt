@@ -7,6 +7,7 @@ use Rattle.std.proofs.lemmas.List.{map-append, length-map}
 use Rattle.std.proofs.lemmas.List.Sums.{sum_by-cons, sum_by_push}
 use Rattle.std.proofs.lemmas.Option.{get_or_from_slice_get}
 use Rattle.std.proofs.lemmas.Simd.{map-map}
+use Rattle.std.proofs.Math.Seq.{take-append_seam}
 use Rattle.types.specs.declared.offset_width.OffsetWidth.{OffsetWidth}
 use Rattle.types.specs.declared.offset_width.OffsetWidth.TheVariants.{Narrow, Wide}
 use Rattle.types.specs.OffsetWidth.{is_full, most_of, offset_type}
@@ -29,7 +30,7 @@ use Rattle.select.specs.Picked.{picked, picked_at, IsPick}
 use Rattle.select.specs.Stored.{is_stored}
 use Rattle.select.specs.Texts.{AreOffsetsOf, all_bytes, bytes_in, is_valid, text_size}
 use Rattle.select.proofs.BigLemmas.{full-picked}
-use Rattle.select.proofs.ListLemmas.{drop-front, get_or-map-any, take-front}
+use Rattle.select.proofs.ListLemmas.{drop-front, get_or-map-any}
 use Rattle.select.proofs.PickLemmas.{by_place}
 use Rattle.types.specs.Limits.{most_slots}
 
@@ -129,7 +130,7 @@ texts_again (int z ∷ xs) all = absurd (all 0 null (omega arith))
 texts_again (boolean b ∷ xs) all = absurd (all 0 null (omega arith))
 texts_again (list ys ∷ xs) all = absurd (all 0 null (omega arith))
 texts_again (text t ∷ xs) all =
-    ap (λ l. text l ∷ cut_texts (map text_size xs) (drop (length t) (t ++ all_bytes xs))) (take-front t (all_bytes xs))
+    ap (λ l. text l ∷ cut_texts (map text_size xs) (drop (length t) (t ++ all_bytes xs))) (take-append_seam t (all_bytes xs))
     ∙ ap (λ l. text t ∷ cut_texts (map text_size xs) l) (drop-front t (all_bytes xs))
     ∙ ap (λ l. text t ∷ l) (texts_again xs (tail IsTextItem (text t) xs all))
 

@@ -145,6 +145,22 @@ fn extends_numbers_after_a_null(rt: HostRuntime) -> Result<(), Fail> {
     Ok(())
 }
 
+#[test]
+fn makes_columns_of_slices(rt: HostRuntime) -> Result<(), Fail> {
+    let alloc = rt.alloc();
+    let numbers = Array::of_ints(alloc, &[Some(-70_000_i64), None, Some(2)])?;
+    assert!(rt; is_result_of_numbers(&numbers, &[Some(-70_000), None, Some(2)]));
+    let bytes = Array::of_ints(alloc, &[Some(255_u8)])?;
+    assert!(rt; is_result_of_numbers(&bytes, &[Some(255)]));
+    let bools = Array::of_bools(alloc, &[Some(true), Some(false), None])?;
+    assert!(rt; is_result_of_bools(&bools, &[Some(true), Some(false), None]));
+    let texts = Array::of_texts(alloc, &[Some("a"), None, Some("")])?;
+    assert!(rt; is_result(&texts, Shown::Texts(&[Some("a"), None, Some("")])));
+    let none = Array::of_texts(alloc, &[])?;
+    assert!(rt; is_result(&none, Shown::Texts(&[])));
+    Ok(())
+}
+
 /// Puts true, false and true at the end.
 fn push_bools(builder: &mut BoolBuilder) -> Result<(), NoMemory>
     requires { length builder.old < 2147483640 }
@@ -197,6 +213,50 @@ fn builds_texts(rt: HostRuntime) -> Result<(), Fail> {
             "{width:?}"
         );
         assert!(rt; has_offsets(&view, &[0, 1, 1, 4, 4]) && has_bytes(&view, "ab\u{e9}"));
+    }
+    Ok(())
+}
+
+/// Four texts: an empty one, ab, the third as it is given, and dé.
+fn four_texts(alloc: Global, third: Option<&str>) -> Result<Array, Fail>
+    ensures kind { IfOk result (λ a. a.kind ≡ kind.utf8) }
+    ensures len { IfOk result (λ a. length a.items ≡ 4) }
+{
+    let mut texts = TextBuilder::with_capacity(alloc, OffsetWidth::Narrow, 4, 0)?;
+    texts.push(Some(""))?;
+    texts.push(Some("ab"))?;
+    texts.push(third)?;
+    texts.push(Some("d\u{e9}"))?;
+    Ok(texts.finish()?)
+}
+
+/// A text, and all of the four but the first.
+fn extended_texts(alloc: Global, width: OffsetWidth, third: Option<&str>) -> Result<Array, Fail> {
+    let four = four_texts(alloc, third)?;
+    let mut texts = TextBuilder::with_capacity(alloc, width, 1, 0)?;
+    texts.push(Some("x"))?;
+    let more = four.view().slice(1, 3);
+    Ok(texts.extended(&more.texts(OffsetWidth::Narrow))?.finish()?)
+}
+
+const WITH_NULL: Shown = Shown::Texts(&[Some("x"), Some("ab"), None, Some("d\u{e9}")]);
+
+const WITHOUT_NULL: Shown = Shown::Texts(&[Some("x"), Some("ab"), Some("c"), Some("d\u{e9}")]);
+
+#[test]
+fn extends_texts_by_a_slice(rt: HostRuntime) -> Result<(), Fail> {
+    for (width, third, expected) in [
+        (OffsetWidth::Narrow, None, WITH_NULL),
+        (OffsetWidth::Narrow, Some("c"), WITHOUT_NULL),
+        (OffsetWidth::Wide, None, WITH_NULL),
+        (OffsetWidth::Wide, Some("c"), WITHOUT_NULL),
+    ] {
+        let array = extended_texts(rt.alloc(), width, third)?;
+        let view = array.view();
+        assert!(rt;
+            shows(&view, expected) && has_width(&view, width),
+            "{width:?} {third:?}"
+        );
     }
     Ok(())
 }

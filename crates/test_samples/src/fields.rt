@@ -22,7 +22,7 @@ pub fn field(alloc: Global, name: &str, nullable: bool, ty: DataType) -> Result<
 pub fn item(alloc: Global, ty: DataType) -> Result<Field, Fail>
     ensures { IfOk result (λ f. f.ty ≡ ty) }
 {
-    field(alloc, "item", true, ty)
+    Ok(Field::nullable(alloc, "item", ty)?)
 }
 
 /// Lists with offsets of a width, over a type. Their items are nullable, and named `item`.

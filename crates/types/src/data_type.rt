@@ -1,6 +1,6 @@
 //! Types of columns, and the fields that name them.
 
-ghost use Rattle.std.specs.Prelude.{◌≡◌, IfOk, option_map};
+ghost use Rattle.std.specs.Prelude.{◌≡◌, IfOk, option_map, true};
 ghost use Rattle.types.specs.Kind as kind;
 ghost use Rattle.types.specs.Shape as shape;
 ghost use Rattle.types.specs.Shape.{field_of, shape_of};
@@ -67,6 +67,18 @@ impl Drop for DataType {
 }
 
 impl Field {
+    /// A field of the name and the type that may hold null.
+    pub fn nullable(alloc: Global, name: &str, ty: DataType) -> Result<Field, NoMemory>
+        ensures ty { IfOk result (λ f. f.ty ≡ ty) }
+        ensures shape { IfOk result (λ f. field_of f ≡ shape.field name.now true (shape_of ty)) }
+    {
+        Ok(Field {
+            name: String::from_str(alloc, name)?,
+            nullable: true,
+            ty,
+        })
+    }
+
     /// A copy of the field, its item's fields too.
     #[cycle(copy)]
     pub fn copy(&self, alloc: Global) -> Result<Field, NoMemory>

@@ -1,8 +1,9 @@
 //! The offsets of texts or lists in the making.
 
-ghost use Rattle.std.specs.Prelude.{◌≡◌, ◌<◌, ◌≤◌, [], ◌∷◌, ◌++◌, length, IfOk, OnErr, OnOk};
-ghost use Rattle.arrays.specs.Growing.{AreLaid};
+ghost use Rattle.std.specs.Prelude.{◌≡◌, ◌+◌, ◌<◌, ◌≤◌, [], ◌∷◌, ◌++◌, length, IfOk, OnErr, OnOk};
+ghost use Rattle.arrays.specs.Growing.{AreLaid, lengths_by};
 ghost use Rattle.arrays.specs.Lengths.{total};
+ghost use Rattle.layout.specs.Offsets.{AreBytesOf, AreOffsets, start_of};
 ghost use Rattle.types.specs.Limits.{most_slots};
 ghost use Rattle.types.specs.OffsetWidth.{most_of};
 
@@ -10,6 +11,7 @@ use super::validity::ValidityBuilder;
 use crate::offset_slots::OffsetSlots;
 use crate::validity::buffer_of;
 use colbits::{Buffer, NoMemory};
+use layout::Offsets;
 use std::alloc::Global;
 use std::marker::Model;
 use types::OffsetWidth;
@@ -96,6 +98,66 @@ impl OffsetsBuilder {
                 Err(error)
             }
         }
+    }
+
+    /// Adds so many valid slots at the end, as long as the first slots of the offsets. Where these are as wide and go on from
+    /// the last one here, their bytes are copied at once.
+    pub(crate) fn push_all(&mut self, offsets: &Offsets<'_>, count: usize) -> Result<(), NoMemory>
+        requires offsets { AreOffsets count offsets.now (start_of offsets.now count) }
+        requires room { length self.old.lengths + count ≤ most_slots }
+        requires fits { total (self.old.lengths ++ lengths_by offsets.now count) ≤ most_of self.old.width }
+        ensures width { self.new.width ≡ self.old.width }
+        ensures ok { OnOk result (self.new.lengths ≡ self.old.lengths ++ lengths_by offsets.now count) }
+    {
+        let (width, bytes) = offsets.bytes();
+        if width == self.width && offsets.get(0) == self.total {
+            return self.push_bytes(offsets, bytes, count);
+        }
+        self.push_each(offsets, count)
+    }
+
+    /// The same where the bytes are those of the offsets, and go on from the last one here.
+    fn push_bytes(
+        &mut self,
+        offsets: &Offsets<'_>,
+        bytes: &[u8],
+        count: usize,
+    ) -> Result<(), NoMemory>
+        requires bytes { AreBytesOf self.old.width bytes.now offsets.now }
+        requires goes_on { start_of offsets.now 0 ≡ total self.old.lengths }
+        requires offsets { AreOffsets count offsets.now (start_of offsets.now count) }
+        requires room { length self.old.lengths + count ≤ most_slots }
+        requires fits { total (self.old.lengths ++ lengths_by offsets.now count) ≤ most_of self.old.width }
+        ensures width { self.new.width ≡ self.old.width }
+        ensures ok { OnOk result (self.new.lengths ≡ self.old.lengths ++ lengths_by offsets.now count) }
+    {
+        let before = self.offsets.len();
+        let first = self.width.bytes();
+        self.offsets.extend_from_slice(&bytes[first..])?;
+        match self.valid.push_valid(count) {
+            Ok(()) => {
+                self.total = offsets.get(count);
+                Ok(())
+            }
+            Err(error) => {
+                self.offsets.truncate(before);
+                Err(error)
+            }
+        }
+    }
+
+    /// The same one by one.
+    fn push_each(&mut self, offsets: &Offsets<'_>, count: usize) -> Result<(), NoMemory>
+        requires offsets { AreOffsets count offsets.now (start_of offsets.now count) }
+        requires room { length self.old.lengths + count ≤ most_slots }
+        requires fits { total (self.old.lengths ++ lengths_by offsets.now count) ≤ most_of self.old.width }
+        ensures width { self.new.width ≡ self.old.width }
+        ensures ok { OnOk result (self.new.lengths ≡ self.old.lengths ++ lengths_by offsets.now count) }
+    {
+        for i in 0..count {
+            self.push(Some(offsets.get(i + 1) - offsets.get(i)))?;
+        }
+        Ok(())
     }
 
     /// The slots in memory, with a validity only where there is a null.

@@ -1,18 +1,20 @@
 //! A column of texts in the making.
 
-ghost use Rattle.std.specs.Prelude.{◌≡◌, ◌<◌, ◌≤◌, false, [], ◌∷◌, ◌++◌, length, IfErr, IfOk, OnErr, OnOk};
+ghost use Rattle.std.specs.Prelude.{◌≡◌, ◌<◌, ◌≤◌, false, [], ◌∷◌, ◌++◌, ◌+◌, None, length, IfErr, IfOk, OnErr, OnOk};
 ghost use Rattle.std.specs.Option.{option_copied};
 ghost use Rattle.layout.specs.Item as item;
 ghost use Rattle.types.specs.Kind as kind;
-ghost use Rattle.arrays.specs.Lengths.{IsBuildFault, text_bytes};
+ghost use Rattle.arrays.specs.Lengths.{IsBuildFault, IsFull, text_bytes};
 ghost use Rattle.arrays.specs.Shown.{shown};
 ghost use Rattle.arrays.specs.Slot.{item_of_text};
+ghost use Rattle.arrays.specs.Values.{items_of_texts};
 ghost use Rattle.types.specs.Limits.{most_slots};
 ghost use Rattle.types.specs.OffsetWidth.{is_full};
 
 use super::fault::BuildFault;
 use super::offsets::OffsetsBuilder;
 use crate::array::Array;
+use crate::view::Texts;
 use colbits::{Buffer, NoMemory};
 use std::alloc::Global;
 use std::marker::Model;
@@ -106,6 +108,64 @@ impl TextBuilder {
                 Err(BuildFault::NoMemory)
             }
         }
+    }
+
+    /// The column with all slots of typed texts at its end. Where none of them is null, their bytes are copied at once.
+    ///
+    /// # Errors
+    /// `OffsetsFull` where the texts with them have more bytes than the column's offsets count; `NoMemory` where a growth was
+    /// refused. The column is gone then.
+    pub fn extended(self, texts: &Texts<'_>) -> Result<TextBuilder, BuildFault>
+        requires room { length self.items + texts.now.slots ≤ most_slots }
+        ensures width { IfOk result (λ b. b.width ≡ self.width) }
+        ensures items { IfOk result (λ b. b.items ≡ self.items ++ items_of_texts texts.now) }
+        ensures err { IfErr result (IsFull (is_full self.width (text_bytes (self.items ++ items_of_texts texts.now)))) }
+    {
+        match texts.validity {
+            None => self.extended_at_once(texts),
+            Some(_) => self.extended_by_slots(texts),
+        }
+    }
+
+    /// The same where no slot is null.
+    fn extended_at_once(self, texts: &Texts<'_>) -> Result<TextBuilder, BuildFault>
+        requires valid { texts.now.validity ≡ None }
+        requires room { length self.items + texts.now.slots ≤ most_slots }
+        ensures width { IfOk result (λ b. b.width ≡ self.width) }
+        ensures items { IfOk result (λ b. b.items ≡ self.items ++ items_of_texts texts.now) }
+        ensures err { IfErr result (IsFull (is_full self.width (text_bytes (self.items ++ items_of_texts texts.now)))) }
+    {
+        let TextBuilder {
+            alloc,
+            mut slots,
+            mut bytes,
+        } = self;
+        let more = texts.all();
+        if slots.width().is_full(bytes.len() + more.len()) {
+            return Err(BuildFault::OffsetsFull);
+        }
+
+        bytes.extend_from_slice(more)?;
+        slots.push_all(&texts.offsets, texts.slots as usize)?;
+        Ok(TextBuilder {
+            alloc,
+            slots,
+            bytes,
+        })
+    }
+
+    /// The same one by one.
+    fn extended_by_slots(self, texts: &Texts<'_>) -> Result<TextBuilder, BuildFault>
+        requires room { length self.items + texts.now.slots ≤ most_slots }
+        ensures width { IfOk result (λ b. b.width ≡ self.width) }
+        ensures items { IfOk result (λ b. b.items ≡ self.items ++ items_of_texts texts.now) }
+        ensures err { IfErr result (IsFull (is_full self.width (text_bytes (self.items ++ items_of_texts texts.now)))) }
+    {
+        let mut all = self;
+        for i in 0..texts.slots as usize {
+            all.push(texts.get(i))?;
+        }
+        Ok(all)
     }
 
     /// The column as an array, with a validity only where there is a null.

@@ -32,7 +32,7 @@ impl<'a> View<'a> {
 }
 
 /// The `len` bytes from byte `start` on.
-fn part(bytes: &[u8], start: usize, len: usize) -> &[u8]
+pub(super) fn part(bytes: &[u8], start: usize, len: usize) -> &[u8]
     requires { start + len ≤ length bytes.now }
     ensures { result.now ≡ slice bytes.now start len }
 {

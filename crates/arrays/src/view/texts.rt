@@ -1,6 +1,7 @@
 //! The texts of a column without a dictionary, one by one.
 
-ghost use Rattle.std.specs.Prelude.{◌≡◌, ◌+◌, ◌<◌, ◌≤◌, ℕ, length, true};
+ghost use Rattle.std.specs.Prelude.{◌≡◌, ◌+◌, ◌-◌, ◌<◌, ◌≤◌, ℕ, length, true};
+ghost use Rattle.colbits.specs.Slice.{slice};
 ghost use Rattle.std.specs.Option.{option_copied};
 ghost use Rattle.std.specs.Str.{is_utf8};
 ghost use Rattle.types.specs.Kind as kind;
@@ -12,6 +13,7 @@ ghost use Rattle.arrays.specs.Slot.{item_at, item_of_text};
 
 use crate::validity::is_valid;
 use crate::view::View;
+use crate::view::parts::part;
 use colbits::Bits;
 use layout::{Offsets, buffers};
 use std::str::from_utf8_unchecked;
@@ -46,6 +48,15 @@ impl<'a> Texts<'a> {
         let start = self.offsets.get(i);
         let end = self.offsets.get(i + 1);
         &self.bytes[start..end]
+    }
+
+    /// The bytes that lie in all slots, one slot behind the other.
+    pub(crate) fn all(&self) -> &'a [u8]
+        ensures { result.now ≡ slice self.now.bytes.now (start_of self.now.offsets 0) (start_of self.now.offsets self.now.slots - start_of self.now.offsets 0) }
+    {
+        let start = self.offsets.get(0);
+        let end = self.offsets.get(self.slots as usize);
+        part(self.bytes, start, end - start)
     }
 
     /// The text of slot `i`, none where it is null.

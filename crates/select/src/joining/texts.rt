@@ -1,6 +1,6 @@
 //! Texts one after the other.
 
-ghost use Rattle.std.specs.Prelude.{◌≡◌, ◌+◌, ◌++◌, ◌≤◌, IfErr, IfOk, OnOk, length};
+ghost use Rattle.std.specs.Prelude.{◌≡◌, ◌≤◌, IfErr, IfOk, length};
 ghost use Rattle.std.specs.List.{All};
 ghost use Rattle.arrays.specs.Kind as kind;
 ghost use Rattle.arrays.specs.Lengths.{joined_items, text_bytes};
@@ -27,27 +27,9 @@ pub(super) fn join(
     ensures ok { IfOk result (λ r. r ≡ shown (kind.texts width) (joined_items views.now)) }
     ensures err { IfErr result (IsFull (is_full width (text_bytes (joined_items views.now)))) }
 {
-    let mut builder = TextBuilder::with_capacity(alloc, width, slots, 0)?;
+    let mut all = TextBuilder::with_capacity(alloc, width, slots, 0)?;
     for view in views {
-        push_all(&mut builder, width, view)?;
+        all = all.extended(&view.texts(width))?;
     }
-    Ok(builder.finish()?)
-}
-
-/// Adds all slots of a view at the end.
-fn push_all(
-    builder: &mut TextBuilder,
-    width: OffsetWidth,
-    view: &View<'_>,
-) -> Result<(), SelectFault>
-    requires kind { view.now.kind ≡ kind.texts width }
-    requires room { length builder.old.items + length view.now.items ≤ most_slots }
-    ensures width { builder.new.width ≡ builder.old.width }
-    ensures ok { OnOk result (builder.new.items ≡ builder.old.items ++ view.now.items) }
-    ensures err { IfErr result (IsFull (is_full builder.old.width (text_bytes (builder.old.items ++ view.now.items)))) }
-{
-    for i in 0..view.len() {
-        builder.push(view.text_as(width, i))?;
-    }
-    Ok(())
+    Ok(all.finish()?)
 }

@@ -1,4 +1,5 @@
 use Rattle.std.proofs.Common.{◌≡◌, ◌∙◌, All, ap, length, map, subst, sym}
+use Rattle.std.proofs.lemmas.Bool.{or_right}
 use Rattle.arrays.specs.Kind.{item_kind}
 use Rattle.arrays.specs.Lengths.{inner_items, is_past, is_too_big, list_length}
 use Rattle.arrays.specs.Values.{items_of_lists}
@@ -7,7 +8,7 @@ use Rattle.types.proofs.ShapeLemmas.{kind_of_field-field_of}
 use Rattle.select.specs.Picked.{IsPick, picked}
 use Rattle.select.proofs.ChosenLemmas.{item-is, list-kind}
 use Rattle.select.proofs.GatherLemmas.{kind_finished, lists_finished, total_finished}
-use Rattle.select.proofs.JoinLemmas.{or-right, too_big-list}
+use Rattle.select.proofs.JoinLemmas.{too_big-list}
 use Rattle.select.proofs.ListLemmas.{full_of_all}
 use Rattle.select.proofs.gather.gather.Goals as goal
 
@@ -48,5 +49,5 @@ returns-in_err-child-in-List-clause-err g c =
     full_of_all c.from_residual-in_err-child-in-List.result c.in_err-child-in-List.field-0.0 _ _ c.from_residual-in_err-child-in-List.ensures.1 c.in_err-child-in-List.ensures.err
     (λ big.
     too_big-list c.args.view.now.kind lists.child.kind items c.lists-lists.ensures.value.kind
-    ∙ or-right (is_past (length (inner_items items))) (is_too_big lists.child.kind (inner_items items))
+    ∙ or_right (is_past (length (inner_items items))) (is_too_big lists.child.kind (inner_items items))
     (ap (is_too_big lists.child.kind) (sym (c.in_ok-spread-in-List.ensures.rows ∙ ap (λ l. inner_items (picked l picks)) c.lists-lists.ensures.items)) ∙ big))

@@ -3,10 +3,11 @@ use Rattle.std.specs.Int.{w128}
 use Rattle.std.proofs.lemmas.Int.{to_z-of_z}
 use Rattle.std.proofs.lemmas.Option.{get_or_from_slice_get}
 use Rattle.arrays.specs.Number.{number_at}
+use Rattle.arrays.proofs.NumberLemmas.{FitsSigned-from_type}
 use Rattle.select.specs.Picked.{IsPick}
 use Rattle.select.proofs.RestLemmas.{is_next, some_left}
 use Rattle.select.proofs.PickLemmas.{all-at}
-use Rattle.select.proofs.StoredLemmas.{AreStored-more, FitsSigned-from_type}
+use Rattle.select.proofs.StoredLemmas.{AreStored-more}
 use Rattle.select.proofs.gather.numbers.picked_numbers.Goals as goal
 
 pub next-requires : goal.next-requires

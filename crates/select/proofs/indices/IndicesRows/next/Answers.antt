@@ -7,9 +7,9 @@ use Rattle.std.proofs.lemmas.Int.{to_z-of_z}
 use Rattle.arrays.specs.Dictionary.{is_code}
 use Rattle.arrays.specs.Number.{natural}
 use Rattle.arrays.specs.Slot.{item_of}
+use Rattle.arrays.proofs.NumberLemmas.{FitsSigned-from_type}
 use Rattle.select.proofs.NamedLemmas.{cast_fits, cast_is, index_below, row_at}
 use Rattle.select.proofs.RestLemmas.{reported_next}
-use Rattle.select.proofs.StoredLemmas.{FitsSigned-from_type}
 use Rattle.select.proofs.indices.IndicesRows.next.Goals as goal
 use Rattle.types.specs.Limits.{most_slots}
 

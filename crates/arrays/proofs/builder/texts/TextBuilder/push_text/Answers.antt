@@ -53,7 +53,7 @@ returns-in-Ok-clause-ok c =
     let s = c.self.inside in
     let t = c.args.text.now in
     (text_more s.slots.lengths c.push.new.self.lengths s.bytes.items c.extend_from_slice.new.self.items t c.args.self.now.items (ap (λ (q : TextColumn). q.items) c.self.view_is) c.self.invariant.0 c.utf8.text
-    (c.in_ok-extend_from_slice.ensures.items ∙ ap (λ xs. s.bytes.items ++ xs) c.as_bytes.ensures.value) c.in-Ok.ensures.ok).one_more
+    (c.in_ok-extend_from_slice.ensures.items ∙ ap (λ xs. s.bytes.items ++ xs) c.as_bytes.ensures.value) c.in-Ok.ensures.ok).grown
 
 pub returns-in-Ok-clause-fits : goal.returns-in-Ok-clause-fits
 returns-in-Ok-clause-fits c =
@@ -65,7 +65,7 @@ returns-in-Ok-clause-fits c =
     ∙ ap (λ w. is_full w (c.len-before.result + length t)) (sym (c.width.ensures ∙ ap (λ (q : TextColumn). q.width) c.self.view_is)) in
     ap (λ w. is_full w (text_bytes (cut_texts c.push.new.self.lengths c.extend_from_slice.new.self.items))) (c.in-Ok.ensures.width ∙ ap (λ (q : TextColumn). q.width) c.self.view_is)
     ∙ ap (λ xs. is_full c.args.self.now.width (text_bytes xs)) (text_more s.slots.lengths c.push.new.self.lengths s.bytes.items c.extend_from_slice.new.self.items t c.args.self.now.items (ap (λ (q : TextColumn). q.items) c.self.view_is) c.self.invariant.0 c.utf8.text
-    (c.in_ok-extend_from_slice.ensures.items ∙ ap (λ xs. s.bytes.items ++ xs) c.as_bytes.ensures.value) c.in-Ok.ensures.ok).one_more
+    (c.in_ok-extend_from_slice.ensures.items ∙ ap (λ xs. s.bytes.items ++ xs) c.as_bytes.ensures.value) c.in-Ok.ensures.ok).grown
     ∙ more
     ∙ sym c.if-is_full.ensures
 
