@@ -3,7 +3,7 @@ use Rattle.std.proofs.Common.{◌≡◌, ◌∙◌, ◌⊎◌, inl, inr, ℕ, ze
 use Rattle.std.specs.Prelude.{nat_lt}
 use Rattle.std.specs.Arc.{arc_value}
 use Rattle.std.specs.List.{AllZip}
-use Rattle.std.proofs.lemmas.Bool.{and_parts, not-true}
+use Rattle.std.proofs.lemmas.Bool.{and_parts, not-true, ltb-false}
 use Rattle.std.proofs.lemmas.List.{append-nil, drop-drop, drop-map, drop_all, length-map, length-take-le, map-append, take-map, take_rest}
 use Rattle.std.proofs.lemmas.List.Elements.{All-drop, All-push, All-same, All-take}
 use Rattle.std.proofs.lemmas.Slice.Zip.{AllZip-long}
@@ -11,6 +11,7 @@ use Rattle.arrays.specs.Batch.{Batch, Table, rows_of}
 use Rattle.arrays.specs.Lengths.{is_past}
 use Rattle.arrays.specs.Seen.{Seen}
 use Rattle.arrays.specs.Shape.{FieldShape}
+use Rattle.arrays.proofs.BatchLemmas.{length-rows_of, whole}
 use Rattle.group.proofs.ColumnsLemmas.{all_zip-push}
 use Rattle.group.specs.Columns.{AreTheirs}
 use Rattle.group.specs.declared.stats.ColumnStats.{ColumnStats}
@@ -18,7 +19,6 @@ use Rattle.compaction.specs.Fronts.{IsBatchOf}
 use Rattle.compaction.specs.Groups.{AreGroups, IsGroup, is_big, is_one, together}
 use Rattle.compaction.specs.Statistics.{AreOfFew, AreStatsOf}
 use Rattle.compaction.specs.Under.{HaveStats, IsUnder, pieces_of}
-use Rattle.compaction.proofs.BatchLemmas.{few-rows, length-rows_of, whole}
 use Rattle.compaction.proofs.FrontLemmas.{Shared, length-tables, tables_of}
 use Rattle.compaction.proofs.JoinedLemmas.{batches-of}
 use Rattle.compaction.proofs.StatisticsLemmas.{SharedStats, of-all-rows, of-columns}
@@ -139,7 +139,7 @@ one-table : (all : List Batch) (fields : List FieldShape) → length all ≡ 1 �
 one-table [] fields one are = absurd (omega (arith, one))
 one-table (b ∷ []) fields one are =
     let is : IsBatchOf fields b = are 0 b (omega arith) in
-    omega (arith, length-append (rows_of b) [], length-rows_of b, few-rows b.rows (whole b.fields b.rows b.columns is.lawful).small)
+    omega (arith, length-append (rows_of b) [], length-rows_of b, ltb-false most_slots b.rows (whole b.fields b.rows b.columns is.lawful).small)
 one-table (b ∷ c ∷ all) fields one are = absurd (omega (arith, one))
 
 pub group-few : (fields : List FieldShape) (words : List (Option Seen)) (m start n : ℕ) (shared : List Shared) (stats : List SharedStats) → start ≤ length shared → All (IsUnder fields words) (batches_in shared)
@@ -152,7 +152,7 @@ group-few fields words m start n shared stats below under have group = record {
       elim (group-fits fields m start n shared below group) [
         | inl one ↦ one-table (batches_in (part_of start n shared)) fields (length-map (part_of start n shared) (λ (b : Shared). arc_value b) ∙ one)
             (batches-of fields words (batches_in (part_of start n shared)) (group-under fields words shared start n under))
-        | inr fits ↦ few-rows (length (together (tables_of (part_of start n shared)))) fits.0
+        | inr fits ↦ ltb-false most_slots (length (together (tables_of (part_of start n shared)))) fits.0
       ];
 }
 

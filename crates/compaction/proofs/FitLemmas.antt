@@ -1,26 +1,23 @@
 -- A front of what one batch holds fits in one batch too.
-use Rattle.std.proofs.Common.{◌≡◌, ◌∙◌, ℕ, suc, ◌+◌, ◌≤◌, ◌&&◌, ◌||◌, List, [], ◌∷◌, ◌++◌, length, Bool, true, false, not, cond, ltb, None, Some, position, ap, sym, refl, arith, length-append, true≢false}
-use Rattle.std.specs.Prelude.{is_some, nat_lt, slice_index_or}
-use Rattle.std.specs.List.{enumerate_from, list_any, position_or_len}
+use Rattle.std.proofs.Common.{◌≡◌, ◌∙◌, ℕ, ◌+◌, ◌≤◌, ◌&&◌, ◌||◌, List, [], ◌∷◌, ◌++◌, length, Bool, true, false, not, ap, sym, refl, arith, length-append, true≢false}
+use Rattle.std.specs.Prelude.{nat_lt}
+use Rattle.std.specs.List.{enumerate_from, list_any}
 use Rattle.std.proofs.lemmas.Bool.{and_from, and_parts, not-true, not_from_false, or_from, or_parts, false_from_ne_true}
 use Rattle.std.proofs.lemmas.Bool.Decides.{nat_tests}
 use Rattle.std.proofs.lemmas.Grind.{flat_map-append}
-use Rattle.std.proofs.lemmas.List.{map-append}
 use Rattle.std.proofs.lemmas.List.Sums.{sum_by-append}
 use Rattle.arrays.specs.Batch.{Table, column}
-use Rattle.arrays.specs.Item.{Item, null}
+use Rattle.arrays.specs.Item.{Item}
 use Rattle.types.specs.declared.offset_width.OffsetWidth.TheVariants.{Narrow, Wide}
 use Rattle.arrays.specs.Kind as kind
 use Rattle.arrays.specs.Kind.{Kind}
 use Rattle.arrays.specs.Lengths.{inner_items, is_past, is_too_big, items_in, text_bytes, text_length}
 use Rattle.arrays.specs.Shape.{FieldShape, kind_of_field}
+use Rattle.arrays.proofs.BatchLemmas.{some-found, column-append}
 use Rattle.compaction.specs.Groups.{is_big, is_one}
 
 pub less-past : (m n : ℕ) → m ≤ n → is_past n ≡ false → is_past m ≡ false
 less-past m n le few = grind (arith, nat_tests)
-
-pub column-append : (t u : Table) (k : ℕ) → column (t ++ u) k ≡ column t k ++ column u k
-column-append t u k = map-append (λ row. slice_index_or row k null) t u
 
 -- ---- one column
 
@@ -39,22 +36,6 @@ front-fits (kind.lists w k) xs ys fits =
     (front-fits k (inner_items xs) (inner_items ys) parts.1)
 
 -- ---- all columns
-
-some-if : (b : Bool) (n : ℕ) → is_some (cond b (Some n) None) ≡ b
-some-if true n = refl
-some-if false n = refl
-
-one-more : (b r : Bool) (n size : ℕ) → ltb n size ≡ r → ltb (cond (not b) (1 + n) 0) (suc size) ≡ (b || r)
-one-more true r n size h = grind (arith, nat_tests)
-one-more false r n size h = grind (arith, nat_tests)
-
-found : {X : Type 0} (p : X → Bool) (xs : List X) → ltb (position_or_len p xs) (length xs) ≡ list_any p xs
-found p [] = refl
-found p (x ∷ xs) = one-more (p x) (list_any p xs) (position_or_len p xs) (length xs) (found p xs)
-
--- a place is found where one is among them
-pub some-found : {X : Type 0} (p : X → Bool) (xs : List X) → is_some (position p xs) ≡ list_any p xs
-some-found p xs = some-if (ltb (position_or_len p xs) (length xs)) (position_or_len p xs) ∙ found p xs
 
 pub none-of : {X : Type 0} (p q : X → Bool) → ((x : X) → q x ≡ false → p x ≡ false) → (xs : List X) → list_any q xs ≡ false → list_any p xs ≡ false
 none-of p q less [] none = refl

@@ -10,17 +10,19 @@ use Rattle.std.proofs.lemmas.Bool.Decides.{nat_tests}
 use Rattle.std.proofs.lemmas.List.{append-nil, get_or-map, length-map, take_all, take_more}
 use Rattle.std.proofs.lemmas.List.Folds.{list_any-append}
 use Rattle.std.proofs.Math.Seq.{take-add}
+use Rattle.std.proofs.lemmas.List.FromFn.{length-enumerate_from}
 use Rattle.arrays.specs.Batch.{Batch, Table, column, rows_of}
 use Rattle.arrays.specs.Kind.{Kind}
 use Rattle.arrays.specs.Lengths.{is_past}
 use Rattle.arrays.specs.Seen.{Seen}
 use Rattle.arrays.specs.Shape as shape
 use Rattle.arrays.specs.Shape.{FieldShape, field, kind_of_field}
+use Rattle.arrays.proofs.BatchLemmas.{length-rows_of, column-append}
 use Rattle.compaction.specs.Fronts.{IsBatchOf, IsLongest, IsOfKind, fits_at, fits_in, has_few}
 use Rattle.compaction.specs.Groups.{IsGroup, is_big, is_one, together}
 use Rattle.compaction.specs.Sizes.{levels, size_at}
-use Rattle.compaction.proofs.BatchLemmas.{count-of, kind-at, length-rows_of}
-use Rattle.compaction.proofs.FitLemmas.{big-any, column-append, column-front, is_big_at, less-past, none-of}
+use Rattle.compaction.proofs.BatchLemmas.{count-of, kind-at}
+use Rattle.compaction.proofs.FitLemmas.{big-any, column-front, is_big_at, less-past, none-of}
 use Rattle.compaction.proofs.GroupLemmas.{together-append, together-split}
 use Rattle.compaction.proofs.SizeLemmas.{fits-at-all, size-append, size-none, too-big-at}
 use Rattle.types.specs.Limits.{most_slots}
@@ -221,10 +223,6 @@ get_or-enumerated m (x ∷ xs) (suc n) d below =
     let same : m + suc n ≡ m + 1 + n = omega arith in
     ap (λ j. get_or (enumerate_from (m + 1) xs) n (j, d)) same ∙ get_or-enumerated (m + 1) xs n d (omega (arith, below)) ∙ ap (λ j. (j, get_or xs n d)) (sym same)
 
-pub length-enumerated : {A : Type 0} (m : ℕ) (xs : List A) → length (enumerate_from m xs) ≡ length xs
-length-enumerated m [] = refl
-length-enumerated m (x ∷ xs) = ap suc (length-enumerated (m + 1) xs)
-
 pub enumerated-at : (fields : List FieldShape) (n : ℕ) (f : FieldShape) → n < length fields → get_or (enumerate_from 0 fields) n (n, f) ≡ (n, get_or fields n f)
 enumerated-at fields n f below =
     let same : 0 + n ≡ n = omega arith in
@@ -244,7 +242,7 @@ columns-more fields n f t below =
     ∙ ap (λ x. not (a || x)) (sym (or-false b))
     ∙ ap not (sym (list_any-append (is_big_at t) (take n es) ((n, get_or fields n f) ∷ [])))
     ∙ ap (λ e. not (list_any (is_big_at t) (take n es ++ e ∷ []))) (sym (enumerated-at fields n f below))
-    ∙ ap (λ l. not (list_any (is_big_at t) l)) (sym (take_more es n (n, f) (omega (arith, below, length-enumerated 0 fields))))
+    ∙ ap (λ l. not (list_any (is_big_at t) l)) (sym (take_more es n (n, f) (omega (arith, below, length-enumerate_from 0 fields))))
   where
     or-false : (x : Bool) → (x || false) ≡ x
     or-false true = refl
@@ -286,7 +284,7 @@ so-far-all fields m i n tables over is =
     let es = enumerate_from 0 fields in
     let whole : (t : Table) → fits_so_far fields m i t ≡ is_one fields m t =
     λ t.
-    ap (λ l. has_few m t && not (list_any (is_big_at t) l)) (take_all i es (omega (arith, over, length-enumerated 0 fields)))
+    ap (λ l. has_few m t && not (list_any (is_big_at t) l)) (take_all i es (omega (arith, over, length-enumerate_from 0 fields)))
     ∙ ap (λ b. has_few m t && not b) (sym (big-any fields t))
     ∙ and-assoc (not (nat_lt m (length t))) (not (is_past (length t))) (not (is_big fields t)) in
     let one = longest-same (fits_so_far fields m i) (is_one fields m) whole tables (length tables) n is in

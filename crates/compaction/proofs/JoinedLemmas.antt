@@ -1,16 +1,17 @@
 -- The batch that several batches make.
-use Rattle.std.proofs.Common.{◌≡◌, ◌∙◌, ℕ, zero, suc, ◌+◌, ◌≤◌, ◌<◌, ◌||◌, List, [], ◌∷◌, ◌++◌, length, map, take, All, Bool, true, false, not, eqb, Option, None, Some, option_map, get_or, ap, sym, refl, subst, arith, eq-eqb}
+use Rattle.std.proofs.Common.{◌≡◌, ◌∙◌, ℕ, zero, suc, ◌+◌, ◌≤◌, ◌<◌, ◌||◌, ◌&&◌, List, [], ◌∷◌, ◌++◌, length, map, take, All, Bool, true, false, not, cond, eqb, length-append, Option, None, Some, option_map, get_or, ap, sym, refl, subst, arith, eq-eqb}
 use Rattle.std.specs.Prelude.{is_some, slice_index_or}
 use Rattle.std.specs.Arc.{arc_value}
 use Rattle.std.specs.declared.alloc.Global.{Global}
 use Rattle.std.specs.declared.sync.Arc.{Arc}
-use Rattle.std.specs.List.{AllZip, enumerate_from, list_any, range_with_len, zip}
+use Rattle.std.specs.List.{AllZip, enumerate_from, list_all, list_any, range_with_len, zip}
 use mathlib.Core.List.{IsPrefix}
-use Rattle.std.proofs.lemmas.List.{append-nil, ext_get_or, get_or-map, get_or_default, length-map, take_all, take_more}
+use Rattle.std.proofs.lemmas.List.{append-nil, ext_get_or, get_or-map, get_or_default, length-map, nil_from_length, take_all, take_more}
+use Rattle.std.proofs.lemmas.Bool.{and_parts, eqb-true}
 use Rattle.std.proofs.lemmas.List.Elements.{All-append, All-cons, All-head, All-map, All-nil, All-tail}
-use Rattle.std.proofs.lemmas.List.Folds.{list_any_at}
-use Rattle.std.proofs.lemmas.List.FromFn.{get_or-map-range_with_len, length-map-range_with_len}
-use Rattle.std.proofs.lemmas.Slice.Zip.{AllZip-long}
+use Rattle.std.proofs.lemmas.List.Folds.{list_all_at, list_all_more, list_any_at}
+use Rattle.std.proofs.lemmas.List.FromFn.{get_or-map-range_with_len, length-map-range_with_len, length-enumerate_from}
+use Rattle.std.proofs.lemmas.Slice.Zip.{AllZip-long, get_or-zip, length-zip}
 use Rattle.arrays.proofs.ListArrays.{same_kind-refl}
 use Rattle.arrays.specs.Batch.{Batch, Row, Table, batch_fault, column, row_of, rows_of}
 use Rattle.arrays.specs.Dictionary.{over}
@@ -20,15 +21,16 @@ use Rattle.arrays.specs.Kind.{Kind, same_kind}
 use Rattle.arrays.specs.Lengths.{is_past, is_too_big, joined_items}
 use Rattle.arrays.specs.Seen.{Seen}
 use Rattle.arrays.specs.Shape.{FieldShape, kind_of_field}
+use Rattle.arrays.proofs.BatchLemmas.{length-rows_of, row-item, wrong_kind, whole, faultless, column-is, column-append, length-column}
 use Rattle.group.proofs.ColumnsLemmas.{all_zip-more, all_zip-push}
 use Rattle.select.specs.Joined.{kind_of_first}
 use Rattle.compaction.specs.Columns.{AreJoinable, IsColumnOf, IsJoined, IsOver}
 use Rattle.compaction.specs.Fronts.{IsBatchOf}
 use Rattle.compaction.specs.Groups.{is_big, together}
-use Rattle.compaction.specs.Under.{IsDictionary, IsUnder, NamesFront}
-use Rattle.compaction.proofs.BatchLemmas.{column-is, count-of, faultless, kind-at, length-rows_of, row-item, whole, wrong_kind}
-use Rattle.compaction.proofs.FitLemmas.{big-any, column-append, is_big_at}
-use Rattle.compaction.proofs.FrontLemmas.{any_field, enumerated-at, length-enumerated}
+use Rattle.compaction.specs.Under.{IsDictionary, IsUnder, NamesFront, NamesWhole, are_as_long, entry_count, is_as_long}
+use Rattle.compaction.proofs.BatchLemmas.{count-of, kind-at}
+use Rattle.compaction.proofs.FitLemmas.{big-any, is_big_at}
+use Rattle.compaction.proofs.FrontLemmas.{any_field, enumerated-at}
 
 -- ---- lists side by side
 
@@ -57,16 +59,13 @@ columns-joined k (b ∷ batches) (v ∷ views) all =
     ∙ ap (λ l. column (rows_of b) k ++ l) (columns-joined k batches views all.1)
     ∙ sym (column-append (rows_of b) (together (map rows_of batches)) k)
 
-pub length-column : (t : Table) (k : ℕ) → length (column t k) ≡ length t
-length-column t k = length-map t (λ row. slice_index_or row k null)
-
 -- no column is too big
 pub fits-at-column : (fields : List FieldShape) (t : Table) (k : ℕ) (f : FieldShape) → is_big fields t ≡ false → k < length fields → is_too_big (kind_of_field (get_or fields k f)) (column t k) ≡ false
 fits-at-column fields t k f fits below =
     let es = enumerate_from 0 fields in
     either (is_too_big (kind_of_field (get_or fields k f)) (column t k))
     (λ big.
-    let there = list_any_at (is_big_at t) es k (k, f) (omega (arith, below, length-enumerated 0 fields)) (ap (is_big_at t) (enumerated-at fields k f below) ∙ big) in
+    let there = list_any_at (is_big_at t) es k (k, f) (omega (arith, below, length-enumerate_from 0 fields)) (ap (is_big_at t) (enumerated-at fields k f below) ∙ big) in
     sym there ∙ sym (big-any fields t) ∙ fits)
   where
     either : (b : Bool) → (b ≡ true → true ≡ false) → b ≡ false
@@ -138,12 +137,12 @@ pub columns-more : (fields : List FieldShape) (t : Table) (k : ℕ) (c : Seen) (
     → IsColumn t (k, get_or fields k any_field) c → new ≡ old ++ c ∷ [] → AllZip (IsColumn t) (take (k + 1) (enumerate_from 0 fields)) new
 columns-more fields t k c old new below all is pushed =
     let es = enumerate_from 0 fields in
-    all_zip-more (IsColumn t) es old new k (k, get_or fields k any_field) c (omega (arith, below, length-enumerated 0 fields))
+    all_zip-more (IsColumn t) es old new k (k, get_or fields k any_field) c (omega (arith, below, length-enumerate_from 0 fields))
     (sym (enumerated-at fields k (get_or fields k any_field) below ∙ ap (λ (f : FieldShape). (k, f)) (get_or_default fields k (get_or fields k any_field) any_field below)))
     pushed all is
 
 count-columns : (t : Table) (n : ℕ) (fields : List FieldShape) (columns : List Seen) → AllZip (IsColumn t) (enumerate_from n fields) columns → length columns ≡ length fields
-count-columns t n fields columns all = AllZip-long (IsColumn t) (enumerate_from n fields) columns all ∙ length-enumerated n fields
+count-columns t n fields columns all = AllZip-long (IsColumn t) (enumerate_from n fields) columns all ∙ length-enumerate_from n fields
 
 right-kinds : (t : Table) (n : ℕ) (fields : List FieldShape) (columns : List Seen) → AllZip (IsColumn t) (enumerate_from n fields) columns → list_any wrong_kind (zip columns fields) ≡ false
 right-kinds t n [] [] all = refl
@@ -241,17 +240,17 @@ pub count-words : (fields : List FieldShape) (dictionaries : List (Option Shared
 count-words fields dictionaries are =
     sym (length-map dictionaries (option_map (λ (w : SharedWords). arc_value w))) ∙ AllZip-long IsDictionary fields (words_of dictionaries) are
 
-pub fronts-more : (words : List (Option Seen)) (k : ℕ) (o : Option Seen) (c : Seen) (old new : List Seen) → k < length words → o ≡ get_or words k o → AllZip NamesFront old (take k words)
-    → NamesFront c o → new ≡ old ++ c ∷ [] → AllZip NamesFront new (take (k + 1) words)
-fronts-more words k o c old new below at all front pushed =
-    subst (λ l. AllZip NamesFront l (take (k + 1) words)) (sym pushed)
-    (subst (AllZip NamesFront (old ++ c ∷ [])) (sym (take_more words k o below ∙ ap (λ x. take k words ++ x ∷ []) (sym at))) (all_zip-push NamesFront old (take k words) c o all front))
+pub zipped-more : (R : Seen → Option Seen → Type 0) (words : List (Option Seen)) (k : ℕ) (o : Option Seen) (c : Seen) (old new : List Seen) → k < length words → o ≡ get_or words k o → AllZip R old (take k words)
+    → R c o → new ≡ old ++ c ∷ [] → AllZip R new (take (k + 1) words)
+zipped-more R words k o c old new below at all front pushed =
+    subst (λ l. AllZip R l (take (k + 1) words)) (sym pushed)
+    (subst (AllZip R (old ++ c ∷ [])) (sym (take_more words k o below ∙ ap (λ x. take k words ++ x ∷ []) (sym at))) (all_zip-push R old (take k words) c o all front))
 
 -- the columns in the end
 pub columns-all : (fields : List FieldShape) (t : Table) (k : ℕ) (columns : List Seen) → length fields ≤ k → AllZip (IsColumn t) (take k (enumerate_from 0 fields)) columns → AllZip (IsColumn t) (enumerate_from 0 fields) columns
 columns-all fields t k columns past all =
     let es = enumerate_from 0 fields in
-    subst (λ l. AllZip (IsColumn t) l columns) (take_all k es (omega (arith, past, length-enumerated 0 fields))) all
+    subst (λ l. AllZip (IsColumn t) l columns) (take_all k es (omega (arith, past, length-enumerate_from 0 fields))) all
 
 pub batch-rows : (fields : List FieldShape) (dictionaries : List (Option Seen)) (batches : List Batch) (b : Batch) → All (IsUnder fields dictionaries) batches
     → AllZip (IsColumn (together (map rows_of batches))) (enumerate_from 0 fields) b.columns → b.rows ≡ length (together (map rows_of batches)) → rows_of b ≡ together (map rows_of batches)
@@ -267,6 +266,66 @@ is-over words s c dict made = record {
   items = ap (λ (q : Seen). q.items) made;
   front = subst (λ (q : Seen). IsPrefix q.entries.items words.items) (sym made) ([], append-nil words.items);
 }
+
+pub whole-over : (words s c : Seen) → c ≡ over s words → NamesWhole c (Some words)
+whole-over words s c made = ap (λ (q : Seen). q.entries.items) made
+
+-- texts that begin others and are as many are all of them
+same-as-long : {A : Type 0} (xs ys : List A) → IsPrefix xs ys → length xs ≡ length ys → xs ≡ ys
+same-as-long xs ys front same =
+    let none = nil_from_length front.0 (omega (arith, same, ap length front.1, length-append xs front.0)) in
+    sym (append-nil xs) ∙ ap (λ l. xs ++ l) (sym none) ∙ front.1
+
+front-as-long : (b : Bool) (xs ys : List Item) → IsPrefix xs ys → cond b (length xs) 0 ≡ length ys → xs ≡ ys
+front-as-long true xs ys front same = same-as-long xs ys front same
+front-as-long false xs ys front same =
+    same-as-long xs ys front (omega (arith, same, ap length front.1, length-append xs front.0))
+
+whole-at : (c : Seen) (o : Option Seen) → NamesFront c o → is_as_long o c ≡ true → NamesWhole c o
+whole-at c None front long = tt
+whole-at c (Some d) front long = front-as-long (same_kind c.kind kind.dict) c.entries.items d.items front (eqb-true (entry_count c) (length d.items) long)
+
+pub names-whole : (columns : List Seen) (words : List (Option Seen)) → AllZip NamesFront columns words → are_as_long words columns ≡ true → AllZip NamesWhole columns words
+names-whole [] [] fronts long = tt
+names-whole [] (o ∷ words) fronts long = absurd fronts
+names-whole (c ∷ columns) [] fronts long = absurd fronts
+names-whole (c ∷ columns) (o ∷ words) fronts long =
+    let both = and_parts (is_as_long o c) (are_as_long words columns) long in
+    (whole-at c o fronts.0 both.0, names-whole columns words fronts.1 both.1)
+
+-- the same, column by column
+abbrev pub as_long : Option Seen × Seen → Bool
+as_long p = is_as_long p.0 p.1
+
+as-long-at : (words : List (Option Seen)) (columns : List Seen) (k : ℕ) (o : Option Seen) (c : Seen) → k < length words → k < length columns → o ≡ get_or words k o → c ≡ get_or columns k c
+    → as_long (get_or (zip words columns) k (o, c)) ≡ is_as_long o c
+as-long-at words columns k o c in_words in_columns word-is column-is =
+    ap as_long (get_or-zip words columns k (o, c) in_words in_columns)
+    ∙ ap (λ (q : Option Seen). is_as_long q (get_or columns k c)) (sym word-is)
+    ∙ ap (is_as_long o) (sym column-is)
+
+pub as-long-more : (words : List (Option Seen)) (columns : List Seen) (k : ℕ) (o : Option Seen) (c : Seen) → k < length words → k < length columns → o ≡ get_or words k o → c ≡ get_or columns k c
+    → list_all as_long (take k (zip words columns)) ≡ true → is_as_long o c ≡ true → list_all as_long (take (k + 1) (zip words columns)) ≡ true
+as-long-more words columns k o c in_words in_columns word-is column-is before here =
+    list_all_more as_long (zip words columns) k (o, c) (omega (arith, in_words, in_columns, length-zip words columns))
+    ∙ ap (λ b. b && as_long (get_or (zip words columns) k (o, c))) before
+    ∙ as-long-at words columns k o c in_words in_columns word-is column-is
+    ∙ here
+
+pub as-long-none : (words : List (Option Seen)) (columns : List Seen) (k : ℕ) (o : Option Seen) (c : Seen) → k < length words → k < length columns → o ≡ get_or words k o → c ≡ get_or columns k c
+    → is_as_long o c ≡ false → are_as_long words columns ≡ false
+as-long-none words columns k o c in_words in_columns word-is column-is here =
+    list_all_at as_long (zip words columns) k (o, c) (omega (arith, in_words, in_columns, length-zip words columns)) (as-long-at words columns k o c in_words in_columns word-is column-is ∙ here)
+
+pub as-long-all : (words : List (Option Seen)) (columns : List Seen) (k : ℕ) → length (zip words columns) ≤ k → list_all as_long (take k (zip words columns)) ≡ true → are_as_long words columns ≡ true
+as-long-all words columns k past all = ap (list_all as_long) (sym (take_all k (zip words columns) past)) ∙ all
+
+pub fronts-whole : (columns : List Seen) (words : List (Option Seen)) → AllZip NamesWhole columns words → AllZip NamesFront columns words
+fronts-whole [] [] whole = tt
+fronts-whole [] (o ∷ words) whole = absurd whole
+fronts-whole (c ∷ columns) [] whole = absurd whole
+fronts-whole (c ∷ columns) (None ∷ words) whole = (tt, fronts-whole columns words whole.1)
+fronts-whole (c ∷ columns) (Some d ∷ words) whole = (([], append-nil c.entries.items ∙ whole.0), fronts-whole columns words whole.1)
 
 pub column-over : (fields : List FieldShape) (dictionaries : List (Option Seen)) (b : Batch) (k : ℕ) (o : Option Seen) (s c : Seen) → k < length fields → IsUnder fields dictionaries b → s ≡ get_or b.columns k s
     → IsOver o s c → IsColumn (rows_of b) (k, get_or fields k any_field) c

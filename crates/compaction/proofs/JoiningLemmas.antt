@@ -11,7 +11,7 @@ use Rattle.arrays.proofs.ListArrays.{same_kind-refl}
 use Rattle.arrays.specs.Dictionary.{codes_of, encoded, is_code, looked_up}
 use Rattle.arrays.specs.Item.{Item}
 use Rattle.arrays.specs.Kind as kind
-use Rattle.arrays.specs.Kind.{Kind, int32, same_kind}
+use Rattle.arrays.specs.Kind.{int32, same_kind}
 use Rattle.arrays.specs.Lengths.{is_past, joined_items}
 use Rattle.arrays.specs.Seen.{Seen}
 use Rattle.select.specs.Fault.{IsSelectFault}
@@ -21,6 +21,7 @@ use Rattle.select.specs.declared.fault.SelectFault.TheVariants.{NoMemory}
 use Rattle.select.proofs.JoinLemmas.{fault-of}
 use Rattle.select.proofs.JoinedCodes.{length-codes-of}
 use Rattle.compaction.specs.Columns.{AreJoinable, IsJoined}
+use Rattle.layout.proofs.ChildLemmas.{same_kinds}
 
 -- ---- what can't be refused
 
@@ -102,13 +103,10 @@ encoded-joined words columns codes c are each is made =
     let shows : codes.items ≡ all_codes columns =
     ap (λ (s : Seen). s.items) (is ∙ ap (λ k. joined k (map codes_of columns)) (kind-codes_of columns are.some)) ∙ joined-codes_of columns in
     record {
-      kind = ap (λ (s : Seen). s.kind) made ∙ sym (dict-is (kind_of_first columns) (sym are.encoded));
+      kind = ap (λ (s : Seen). s.kind) made ∙ sym (same_kinds (kind_of_first columns) kind.dict (sym are.encoded));
       items = ap (λ (s : Seen). s.items) made ∙ ap (map (looked_up words.items)) shows ∙ codes-looked words.items columns each are.fronts;
       front = subst (λ (s : Seen). IsPrefix s.entries.items words.items) (sym made) ([], append-nil words.items);
     }
-  where
-    dict-is : (k : Kind) → same_kind k kind.dict ≡ true → k ≡ kind.dict
-    dict-is k same = Rattle.layout.proofs.ChildLemmas.same_kinds k kind.dict same
 
 pub codes-named : (words : Seen) (columns : List Seen) (codes : Seen) → AreJoinable (Some words) columns → All IsEncoded columns
     → codes ≡ joined (kind_of_first (map codes_of columns)) (map codes_of columns) → All (λ c. is_code (length words.items) c ≡ true) codes.items
@@ -121,7 +119,7 @@ pub codes-kind : (columns : List Seen) (codes : Seen) → 1 ≤ length columns �
 codes-kind columns codes some is = ap (λ (s : Seen). s.kind) (is ∙ ap (λ k. joined k (map codes_of columns)) (kind-codes_of columns some))
 
 pub dict-kinds : (words : Seen) (columns : List Seen) → AreJoinable (Some words) columns → All (λ (s : Seen). s.kind ≡ kind.dict) columns
-dict-kinds words columns are = λ k d below. are.kinds k d below ∙ Rattle.layout.proofs.ChildLemmas.same_kinds (kind_of_first columns) kind.dict (sym are.encoded)
+dict-kinds words columns are = λ k d below. are.kinds k d below ∙ same_kinds (kind_of_first columns) kind.dict (sym are.encoded)
 
 -- ---- loops over views
 

@@ -1,8 +1,7 @@
 -- How much texts and lists hold, added up.
-use Rattle.std.proofs.Common.{◌≡◌, ◌∙◌, ℕ, zero, suc, ◌+◌, ◌-◌, ◌≤◌, ◌<◌, List, [], ◌∷◌, ◌++◌, length, drop, true, false, Option, None, Some, ap, sym, refl, arith, length-append}
+use Rattle.std.proofs.Common.{◌≡◌, ◌∙◌, ℕ, zero, suc, ◌+◌, ◌-◌, ◌≤◌, ◌<◌, List, [], ◌∷◌, ◌++◌, length, drop, true, false, Option, None, Some, ap, refl, arith, length-append}
 use Rattle.std.specs.Prelude.{IfNone, slice_get}
 use Rattle.std.proofs.lemmas.Bool.{or_from, or_left, or_right}
-use Rattle.std.proofs.lemmas.Bool.Decides.{nat_tests}
 use Rattle.std.proofs.lemmas.Grind.{flat_map-append}
 use Rattle.std.proofs.lemmas.List.{append-nil}
 use Rattle.std.proofs.lemmas.List.Sums.{sum_by-append}
@@ -13,14 +12,8 @@ use Rattle.arrays.specs.Kind.{Kind, item_kind}
 use Rattle.arrays.specs.Lengths.{inner_items, is_past, is_too_big, items_in, text_length}
 use Rattle.arrays.proofs.ListLemmas.{items_of-list_of}
 use Rattle.compaction.specs.Sizes.{levels, size_at}
-
-pub more-past : (m n : ℕ) → m ≤ n → is_past m ≡ true → is_past n ≡ true
-more-past m n le past = grind (arith, nat_tests)
-
-pub drop-at : {A : Type 0} (xs : List A) (i : ℕ) (x : A) → slice_get xs i ≡ Some x → drop i xs ≡ x ∷ drop (i + 1) xs
-drop-at [] i x at = cc
-drop-at (y ∷ xs) zero x at = let same : y ≡ x = cc in ap (λ z. z ∷ xs) same
-drop-at (y ∷ xs) (suc i) x at = let next : suc i + 1 ≡ suc (i + 1) = omega arith in drop-at xs i x at ∙ ap (λ j. x ∷ drop j (y ∷ xs)) (sym next)
+use Rattle.arrays.proofs.CutLemmas.{past-more}
+use Rattle.select.proofs.RestLemmas.{reported_next}
 
 -- ---- what two columns hold, one behind the other
 
@@ -37,7 +30,7 @@ size-append (kind.lists w k) (suc level) xs ys = ap (size_at k level) (flat_map-
 -- with one item more, counted from the rest
 pub size-rest : (k : Kind) (level : ℕ) (items : List Item) (i : ℕ) (x : Item) → slice_get items i ≡ Some x
     → size_at k level (drop i items) ≡ size_at k level (x ∷ []) + size_at k level (drop (i + 1) items)
-size-rest k level items i x at = ap (size_at k level) (drop-at items i x at) ∙ size-append k level (x ∷ []) (drop (i + 1) items)
+size-rest k level items i x at = ap (size_at k level) (reported_next items i x at) ∙ size-append k level (x ∷ []) (drop (i + 1) items)
 
 -- ---- all levels
 
@@ -73,7 +66,7 @@ size-less k level items i x size more all at left sum = omega (arith, size-rest 
 -- a sum that is past with one item is so with all
 pub past-with : (k : Kind) (level : ℕ) (items : List Item) (i : ℕ) (x : Item) (size all : ℕ) → slice_get items i ≡ Some x → size + size_at k level (drop i items) ≡ all
     → is_past (size + size_at k level (x ∷ [])) ≡ true → is_past all ≡ true
-past-with k level items i x size all at left past = more-past (size + size_at k level (x ∷ [])) all (omega (arith, size-rest k level items i x at, left)) past
+past-with k level items i x size all at left past = past-more (size + size_at k level (x ∷ [])) all (omega (arith, size-rest k level items i x at, left)) past
 
 -- what one list holds
 pub list-size : (xs : List Item) → length (inner_items (list (list_of xs) ∷ [])) ≡ length xs

@@ -8,10 +8,12 @@ use Rattle.std.specs.List.{AllZip, enumerate_from}
 use Rattle.std.proofs.lemmas.List.{get_or-map, get_or-drop, length-map, take_all, take_rest}
 use Rattle.std.proofs.lemmas.List.Elements.{All-head, All-tail}
 use Rattle.std.proofs.lemmas.Slice.Zip.{AllZip-long}
+use Rattle.std.proofs.lemmas.List.FromFn.{length-enumerate_from}
 use Rattle.arrays.specs.Batch.{Batch, Table, column, rows_of}
 use Rattle.arrays.specs.Item.{Item}
 use Rattle.arrays.specs.Seen.{Seen}
 use Rattle.arrays.specs.Shape.{FieldShape, kind_of_field}
+use Rattle.arrays.proofs.BatchLemmas.{column-is, column-append, length-column}
 use Rattle.group.specs.Columns.{AreJoined, AreTheirs}
 use Rattle.group.specs.Summary.{AreStats}
 use Rattle.group.specs.declared.stats.ColumnStats.{ColumnStats}
@@ -19,10 +21,9 @@ use Rattle.compaction.specs.Fronts.{IsBatchOf}
 use Rattle.compaction.specs.Groups.{together}
 use Rattle.compaction.specs.Statistics.{AreOfFew, AreStatsOf}
 use Rattle.compaction.specs.Under.{HaveStats, pieces_of}
-use Rattle.compaction.proofs.BatchLemmas.{column-is, count-of, kind-at}
-use Rattle.compaction.proofs.FitLemmas.{column-append}
-use Rattle.compaction.proofs.FrontLemmas.{any_field, length-enumerated, rows-front, together-more}
-use Rattle.compaction.proofs.JoinedLemmas.{IsColumn, all_zip-at, length-column}
+use Rattle.compaction.proofs.BatchLemmas.{count-of, kind-at}
+use Rattle.compaction.proofs.FrontLemmas.{any_field, rows-front, together-more}
+use Rattle.compaction.proofs.JoinedLemmas.{IsColumn, all_zip-at}
 use Rattle.types.specs.Limits.{most_slots}
 
 -- ---- two tables
@@ -44,7 +45,7 @@ few-two fields t u a b first second few = rows-two t u 0 fields a b first second
 
 pub count-stats : (fields : List FieldShape) (t : Table) (stats : List ColumnStats) → AreStatsOf fields t stats → length stats ≡ length fields
 count-stats fields t stats are =
-    AllZip-long (λ (e : ℕ × FieldShape) (s : ColumnStats). AreStats s (kind_of_field e.1) (column t e.0)) (enumerate_from 0 fields) stats are ∙ length-enumerated 0 fields
+    AllZip-long (λ (e : ℕ × FieldShape) (s : ColumnStats). AreStats s (kind_of_field e.1) (column t e.0)) (enumerate_from 0 fields) stats are ∙ length-enumerate_from 0 fields
 
 two-from : (t u : Table) (n : ℕ) (fields : List FieldShape) (a b s : List ColumnStats) → AllZip (λ e s. AreStats s (kind_of_field e.1) (column t e.0)) (enumerate_from n fields) a
     → AllZip (λ e s. AreStats s (kind_of_field e.1) (column u e.0)) (enumerate_from n fields) b → AreJoined a b s

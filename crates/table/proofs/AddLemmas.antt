@@ -3,7 +3,7 @@ use Rattle.std.proofs.Common.{◌≡◌, ◌∙◌, ℕ, ◌≤◌, List, [], �
 use Rattle.std.specs.Bool.{then_some}
 use Rattle.std.specs.List.{list_any}
 use Rattle.std.specs.Option.{option_or}
-use Rattle.std.proofs.lemmas.Bool.{ltb-false}
+use Rattle.std.proofs.lemmas.Bool.{ltb-false, not-false}
 use Rattle.std.proofs.lemmas.List.Folds.{list_any-append}
 use Rattle.pool.proofs.PlaceLemmas.{among_missing}
 use Rattle.arrays.specs.First.{first}
@@ -19,7 +19,7 @@ use Rattle.table.specs.Stored.{stored_field}
 use Rattle.table.specs.Widened.{add_fault}
 use Rattle.table.specs.declared.add_fault.AddFault.{AddFault}
 use Rattle.table.specs.declared.add_fault.AddFault.TheVariants.{DictInList, NotNullable, TooDeep}
-use Rattle.table.proofs.BatchLemmas.{missing, not-false}
+use Rattle.arrays.proofs.BatchLemmas.{missing}
 use Rattle.table.proofs.StoredLemmas.{same_deep, same_dict}
 
 -- ---- what is reported

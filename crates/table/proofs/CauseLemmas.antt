@@ -19,7 +19,8 @@ use Rattle.table.specs.History.{History, rows}
 use Rattle.table.specs.Stored.{is_stored_as, stored_kind}
 use Rattle.table.specs.declared.refusal.Refusal.{Refusal}
 use Rattle.table.specs.declared.refusal.Refusal.TheVariants.{BookFull, SchemaDiffers, TableFull}
-use Rattle.table.proofs.BatchLemmas.{HasColumns-rows_of, length-rows_of}
+use Rattle.table.proofs.BatchLemmas.{HasColumns-rows_of}
+use Rattle.arrays.proofs.BatchLemmas.{length-rows_of}
 
 -- ---- fields
 

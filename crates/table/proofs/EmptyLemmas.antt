@@ -106,7 +106,7 @@ legal-empty fields = record {
   allowed = λ before rest e h. absurd (no_pair before rest e h);
 }
 
-pub storage-empty : (h : Storage) → h.batches.items ≡ [] → h.batch_stats.items ≡ [] → book_of h ≡ [] → h.rows ≡ 0 → AreStatsOf (arc_value h.schema) [] (arc_value h.stats).items
+pub storage-empty : (h : Storage) → h.batches.items ≡ [] → h.batch_stats ≡ [] → book_of h ≡ [] → h.rows ≡ 0 → AreStatsOf (arc_value h.schema) [] (arc_value h.stats).items
     → dictionaries_in h ≡ dictionaries_of (arc_value h.schema) [] → IsConsistent h
 storage-empty h batches pieces entries rows are texts =
     let fields = arc_value h.schema in

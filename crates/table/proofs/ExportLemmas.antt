@@ -6,7 +6,7 @@ use Rattle.std.specs.Arc.{arc_value}
 use Rattle.std.specs.declared.alloc.Global.{Global}
 use Rattle.std.specs.declared.sync.Arc.{Arc}
 use Rattle.std.proofs.Math.Seq.{drop-append-add}
-use Rattle.std.proofs.lemmas.Bool.{cases_lt, eqb-true}
+use Rattle.std.proofs.lemmas.Bool.{cases_lt, eqb-true, not-false, or_parts}
 use Rattle.std.proofs.lemmas.Bool.Decides.{nat_tests}
 use Rattle.std.proofs.lemmas.Grind.{flat_map-append}
 use Rattle.std.proofs.lemmas.List.{drop-append-le, drop-drop, drop_more, get_or-drop, get_or-map, get_or-take, length-drop, length-map, length-take-le, take-append-drop, take-append-le, take-take, take_all, take_more}
@@ -30,7 +30,7 @@ use Rattle.table.specs.Lawful.{EndsWithEntry, counted, table_of}
 use Rattle.table.specs.declared.entry.Entry.{Entry}
 use Rattle.table.specs.declared.export.Place.{Place}
 use Rattle.table.specs.declared.storage.Storage.{Storage}
-use Rattle.table.proofs.BatchLemmas.{faultless, length-rows_of, map-same, neither, not-false, sizes, whole, wrong_kind}
+use Rattle.arrays.proofs.BatchLemmas.{faultless, length-rows_of, map-same, sizes, whole, wrong_kind}
 use Rattle.table.proofs.StorageLemmas.{length-book}
 use Rattle.table.proofs.TableLemmas.{counted-push, table_of-push}
 use Rattle.types.specs.Limits.{most_slots}
@@ -167,7 +167,7 @@ lengths-copied : (start n rows : ℕ) (columns : List Seen) → start + n ≤ ro
     → list_any (λ (c : Seen). not (eqb (length c.items) n)) (map (copied start n) columns) ≡ false
 lengths-copied start n rows [] within long = refl
 lengths-copied start n rows (c ∷ columns) within long =
-    let parts = neither (not (eqb (length c.items) rows)) (list_any (λ (d : Seen). not (eqb (length d.items) rows)) columns) long in
+    let parts = or_parts (not (eqb (length c.items) rows)) (list_any (λ (d : Seen). not (eqb (length d.items) rows)) columns) long in
     let size : length c.items ≡ rows = eqb-true (length c.items) rows (not-false (eqb (length c.items) rows) parts.0) in
     let here : length (copied start n c).items ≡ n =
     ap (λ (l : List Item). length l) (items-copied start n c) ∙ length-take-le n (drop start c.items) (omega (arith, size, within, length-drop start c.items)) in

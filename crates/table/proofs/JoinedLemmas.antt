@@ -39,7 +39,9 @@ use Rattle.table.specs.Stored.{is_text_field}
 use Rattle.table.specs.declared.storage.Storage.{Storage}
 use Rattle.table.specs.declared.refusal.Refusal.TheVariants.{NullInNonNullable}
 use Rattle.pool.proofs.PlaceLemmas.{among_missing}
-use Rattle.table.proofs.BatchLemmas.{HasColumns-rows_of, missing, neither, not-false, whole, wrong_kind}
+use Rattle.table.proofs.BatchLemmas.{HasColumns-rows_of}
+use Rattle.arrays.proofs.BatchLemmas.{missing, whole, wrong_kind}
+use Rattle.std.proofs.lemmas.Bool.{not-false, or_parts}
 use Rattle.table.proofs.KeptLemmas.{Kept}
 use Rattle.table.proofs.FrontLemmas.{prefix_self}
 use Rattle.table.proofs.PutLemmas.{Storage-same}
@@ -79,7 +81,7 @@ kept-from u n [] [] count kinds at = tt
 kept-from u n [] (c ∷ columns) count kinds at = absurd (omega (arith, count))
 kept-from u n (f ∷ fields) [] count kinds at = absurd (omega (arith, count))
 kept-from u n (f ∷ fields) (c ∷ columns) count kinds at =
-    let two = neither (wrong_kind (c, f)) (list_any wrong_kind (zip columns fields)) kinds in
+    let two = or_parts (wrong_kind (c, f)) (list_any wrong_kind (zip columns fields)) kinds in
     let here : n ≡ n + 0 = omega arith in (
       record {
         kind = same_kinds c.kind (kind_of_field f) (not-false (same_kind c.kind (kind_of_field f)) two.0);

@@ -25,7 +25,7 @@ use Rattle.table.specs.Stored.{stored_kind}
 use Rattle.table.proofs.CodeLemmas.{among-grown, codes-back}
 use Rattle.std.proofs.lemmas.Simd.{map-map}
 use Rattle.table.proofs.TableLemmas.{column-append}
-use Rattle.table.proofs.BatchLemmas.{faultless, length-rows_of, map-same, whole, wrong_kind}
+use Rattle.arrays.proofs.BatchLemmas.{faultless, length-rows_of, map-same, whole, wrong_kind}
 use Rattle.table.proofs.SuitLemmas.{AllSuit, Suits}
 
 -- ---- the columns

@@ -3,7 +3,7 @@ pub mod HistoryLemmas
 pub mod FrontLemmas
 pub mod TableLemmas
 pub mod MovedLemmas
-pub mod BookLemmas
+pub mod ChunksLemmas
 pub mod StorageLemmas
 pub mod PutLemmas
 pub mod CodeLemmas

@@ -26,7 +26,7 @@ use Rattle.table.specs.Ready.{AreTexts, IsReady}
 use Rattle.table.specs.declared.change.Addition.{Addition}
 use Rattle.table.specs.declared.storage.Storage.{Storage}
 use Rattle.table.specs.declared.refusal.Refusal.TheVariants.{BookFull, SchemaDiffers, TableFull}
-use Rattle.table.proofs.BatchLemmas.{length-rows_of}
+use Rattle.arrays.proofs.BatchLemmas.{length-rows_of}
 use Rattle.table.proofs.StorageLemmas.{rows-shown}
 use Rattle.table.proofs.HistoryLemmas.{IsLegal-push, cut-push, length-cut}
 use Rattle.table.proofs.MovedLemmas.{Lawful-moved, moved-self, table-moved, tables-moved}
@@ -126,7 +126,7 @@ module _ (h s r : Storage) (p q : Addition) (shared : IsSame h s) (reserved : Is
       sym (length-map r.batches.items (λ (b : Arc Batch Global). arc_value b)) ∙ ap (λ (l : List Batch). length l) (reserved.batches ∙ shared.batches) ∙ length-map h.batches.items (λ (b : Arc Batch Global). arc_value b) in
       omega (arith, few, counts, many)
 
-  pub put-shared : (g : Storage) → IsPut q r g → arc_value q.batch_stats ≡ arc_value p.batch_stats → arc_value q.stats ≡ arc_value p.stats
+  pub put-shared : (g : Storage) → IsPut q r g → q.batch_stats ≡ p.batch_stats → arc_value q.stats ≡ arc_value p.stats
       → map (option_map arc_value) q.dictionaries.items ≡ map (option_map arc_value) p.dictionaries.items → map arc_value q.moved.items ≡ map arc_value p.moved.items → q.book ≡ p.book → IsPut p h g
   put-shared g put pieces stats dictionaries moved book = record {
     schema = put.schema ∙ reserved.schema ∙ shared.schema;
@@ -136,10 +136,7 @@ module _ (h s r : Storage) (p q : Addition) (shared : IsSame h s) (reserved : Is
         ∙ ap (λ l. with_last l (map arc_value q.moved.items) ++ arc_value q.batch ∷ []) (reserved.batches ∙ shared.batches)
         ∙ ap (λ l. with_last (batches_of h) l ++ arc_value q.batch ∷ []) moved
         ∙ ap (λ b. with_last (batches_of h) (map arc_value p.moved.items) ++ b ∷ []) batch;
-    pieces =
-        put.pieces
-        ∙ ap (λ l. l ++ (arc_value q.batch_stats).items ∷ []) (reserved.pieces ∙ shared.pieces)
-        ∙ ap (λ (v : Vec ColumnStats Global). pieces_in h ++ v.items ∷ []) pieces;
+    pieces = put.pieces ∙ ap pieces_of pieces;
     stats = put.stats ∙ stats;
     dictionaries = put.dictionaries ∙ dictionaries;
     book = put.book ∙ book;
@@ -195,14 +192,14 @@ module _ (h g : Storage) (b : Batch) (worker : ℕ) (p : Addition) (is : IsConsi
       below : length (book_of h) + 1 ≤ 2 ^ 32
       below = omega (arith, is.lawful.short)
 
-  lawful : LawfulTable (arc_value h.schema) after (pieces_in h ++ (arc_value p.batch_stats).items ∷ []) (arc_value p.stats).items (map (option_map arc_value) p.dictionaries.items) (book_of h ++ (worker, (arc_value p.batch).rows) ∷ [])
+  lawful : LawfulTable (arc_value h.schema) after (pieces_in h ++ ready.piece ∷ []) (arc_value p.stats).items (map (option_map arc_value) p.dictionaries.items) (book_of h ++ (worker, (arc_value p.batch).rows) ∷ [])
   lawful =
       let t = table_of (batches_of h) in
-      Lawful-moved fields words pushed after (pieces_in h ++ (arc_value p.batch_stats).items ∷ []) (arc_value p.stats).items (book_of h ++ (worker, (arc_value p.batch).rows) ∷ []) moved
+      Lawful-moved fields words pushed after (pieces_in h ++ ready.piece ∷ []) (arc_value p.stats).items (book_of h ++ (worker, (arc_value p.batch).rows) ∷ []) moved
       (Lawful-push (arc_value h.schema) (batches_of h) (pieces_in h) (arc_value h.stats).items (dictionaries_in h) (book_of h) is.lawful
-      (arc_value p.batch) (arc_value p.batch_stats).items (arc_value p.stats).items (map (option_map arc_value) p.dictionaries.items) worker (arc_value p.batch).rows
+      (arc_value p.batch) ready.piece (arc_value p.stats).items (map (option_map arc_value) p.dictionaries.items) worker (arc_value p.batch).rows
       ready.stored
-      (subst (λ (u : Table). Rattle.compaction.specs.Statistics.AreStatsOf (arc_value h.schema) u (arc_value p.batch_stats).items) (sym ready.rows) ready.piece)
+      (subst (λ (u : Table). Rattle.compaction.specs.Statistics.AreStatsOf (arc_value h.schema) u ready.piece) (sym ready.rows) ready.parts)
       (subst (λ (u : Table). Rattle.compaction.specs.Statistics.AreStatsOf (arc_value h.schema) (t ++ u) (arc_value p.stats).items) (sym ready.rows) ready.statistics)
       (ready.texts ∙ ap (λ (u : Table). dictionaries_of (arc_value h.schema) (t ++ u)) (sym ready.rows))
       ready.front size few short)
@@ -223,10 +220,10 @@ module _ (h g : Storage) (b : Batch) (worker : ℕ) (p : Addition) (is : IsConsi
     lawful =
         subst (λ (f : List FieldShape). LawfulTable f (batches_of g) (pieces_in g) (arc_value g.stats).items (dictionaries_in g) (book_of g)) (sym put.schema)
         (subst (λ (l : List Batch). LawfulTable (arc_value h.schema) l (pieces_in g) (arc_value g.stats).items (dictionaries_in g) (book_of g)) (sym put.batches)
-        (subst (λ (l : List (List ColumnStats)). LawfulTable (arc_value h.schema) after l (arc_value g.stats).items (dictionaries_in g) (book_of g)) (sym put.pieces)
-        (subst (λ (s : List ColumnStats). LawfulTable (arc_value h.schema) after (pieces_in h ++ (arc_value p.batch_stats).items ∷ []) s (dictionaries_in g) (book_of g)) (sym (ap (λ (v : Rattle.std.specs.declared.vec.Vec.Vec ColumnStats Rattle.std.specs.declared.alloc.Global.Global). v.items) put.stats))
-        (subst (λ (d : List (Option Seen)). LawfulTable (arc_value h.schema) after (pieces_in h ++ (arc_value p.batch_stats).items ∷ []) (arc_value p.stats).items d (book_of g)) (sym put.dictionaries)
-        (subst (λ (e : List (ℕ × ℕ)). LawfulTable (arc_value h.schema) after (pieces_in h ++ (arc_value p.batch_stats).items ∷ []) (arc_value p.stats).items (map (option_map arc_value) p.dictionaries.items) e) (sym book_is) lawful)))));
+        (subst (λ (l : List (List ColumnStats)). LawfulTable (arc_value h.schema) after l (arc_value g.stats).items (dictionaries_in g) (book_of g)) (sym (put.pieces ∙ ready.pieces))
+        (subst (λ (s : List ColumnStats). LawfulTable (arc_value h.schema) after (pieces_in h ++ ready.piece ∷ []) s (dictionaries_in g) (book_of g)) (sym (ap (λ (v : Rattle.std.specs.declared.vec.Vec.Vec ColumnStats Rattle.std.specs.declared.alloc.Global.Global). v.items) put.stats))
+        (subst (λ (d : List (Option Seen)). LawfulTable (arc_value h.schema) after (pieces_in h ++ ready.piece ∷ []) (arc_value p.stats).items d (book_of g)) (sym put.dictionaries)
+        (subst (λ (e : List (ℕ × ℕ)). LawfulTable (arc_value h.schema) after (pieces_in h ++ ready.piece ∷ []) (arc_value p.stats).items (map (option_map arc_value) p.dictionaries.items) e) (sym book_is) lawful)))));
     rows = put.rows ∙ ap (λ n. n + (arc_value p.batch).rows) is.rows ∙ sym (Rattle.table.proofs.TableLemmas.counted-push (book_of h) (worker, (arc_value p.batch).rows)) ∙ ap counted (sym book_is);
     legal =
         subst (λ (f : List FieldShape). IsLegal f (show g).history) (sym put.schema)

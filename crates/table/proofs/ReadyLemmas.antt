@@ -9,8 +9,8 @@ use Rattle.arrays.specs.Shape.{FieldShape}
 use Rattle.group.specs.declared.stats.ColumnStats.{ColumnStats}
 use Rattle.table.specs.Cause.{batch_cause, difference, early_cause, null_cause}
 use Rattle.group.specs.Columns.{AreJoined, AreTheirs}
-use Rattle.table.specs.Storage.{IsConsistent, batches_of, book_of, dictionaries_in, show}
-use Rattle.compaction.specs.Under.{IsDictionary, IsUnder, NamesFront}
+use Rattle.table.specs.Storage.{IsConsistent, batches_of, book_of, dictionaries_in, pieces_in, show}
+use Rattle.compaction.specs.Under.{IsDictionary, IsUnder, NamesFront, pieces_of}
 use Rattle.table.specs.Lawful.{dictionaries_of, table_of, texts_in}
 use Rattle.compaction.specs.Statistics.{AreStatsOf}
 use Rattle.table.specs.Moved.{AreMoved}
@@ -118,19 +118,20 @@ module _ (h : Storage) (b : Batch) (is : IsConsistent h) (early : early_cause (a
             under.fronts;
       }
 
-  pub ready : (worker : ℕ) (p : Addition) → full_cause pools columns ≡ None → (arc_value p.batch).fields ≡ fields → (arc_value p.batch).rows ≡ b.rows
+  pub ready : (worker : ℕ) (p : Addition) (piece : List ColumnStats) → full_cause pools columns ≡ None → (arc_value p.batch).fields ≡ fields → (arc_value p.batch).rows ≡ b.rows
       → (arc_value p.batch).columns ≡ map stored_seen (zip pools columns)
       → map (option_map arc_value) p.dictionaries.items ≡ map dictionary_for (zip (map grown (zip pools columns)) columns)
-      → AreTheirs b.columns (arc_value p.batch_stats).items
-      → AreJoined (arc_value h.stats).items (arc_value p.batch_stats).items (arc_value p.stats).items
+      → pieces_of p.batch_stats ≡ pieces_in h ++ piece ∷ []
+      → AreTheirs b.columns piece
+      → AreJoined (arc_value h.stats).items piece (arc_value p.stats).items
       → AreMoved fields (map (option_map arc_value) p.dictionaries.items) (batches_of h) (map arc_value p.moved.items)
       → p.book ≡ book_of h ++ (worker, b.rows) ∷ []
       → IsReady h worker b p
-  ready worker p fits of_fields size of_columns words theirs joins moved book =
+  ready worker p piece fits of_fields size of_columns words pieces theirs joins moved book =
       let stored = map stored_seen (zip pools columns) in
       let under : AllZip (Kept (rows_of b)) places (arc_value p.batch).columns = subst (AllZip (Kept (rows_of b)) places) (sym of_columns) kept in
       let shown_rows = kept-rows (rows_of b) places b (arc_value p.batch) all under size in
-      let piece = piece-ready (arc_value p.batch_stats).items theirs in
+      let parts = piece-ready piece theirs in
       record {
         allowed = sym full-batch ∙ fits;
         stored = record {
@@ -145,7 +146,9 @@ module _ (h : Storage) (b : Batch) (is : IsConsistent h) (early : early_cause (a
         rows = shown_rows;
         typed = typed-rows fields b free.0 lawful typed;
         piece = piece;
-        statistics = joined-all before (rows_of b) places (arc_value h.stats).items (arc_value p.batch_stats).items (arc_value p.stats).items is.lawful.statistics piece joins;
+        pieces = pieces;
+        parts = parts;
+        statistics = joined-all before (rows_of b) places (arc_value h.stats).items piece (arc_value p.stats).items is.lawful.statistics parts joins;
         texts = words-are (map (option_map arc_value) p.dictionaries.items) words;
         front =
             subst (λ (l : List Seen). AllZip NamesFront l (map (option_map arc_value) p.dictionaries.items)) (sym of_columns)

@@ -10,7 +10,7 @@ use Rattle.table.specs.Ready.{IsReady}
 use Rattle.table.specs.declared.change.Addition.{Addition}
 use Rattle.table.specs.declared.storage.Storage.{Storage}
 use Rattle.table.proofs.StorageLemmas.{count-shown}
-use Rattle.table.proofs.BatchLemmas.{length-rows_of}
+use Rattle.arrays.proofs.BatchLemmas.{length-rows_of}
 use Rattle.table.proofs.PutLemmas.{Allowed-none, cause-none}
 
 -- what moved is no more than there is

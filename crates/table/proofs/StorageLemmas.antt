@@ -1,5 +1,5 @@
 -- What a table shows of itself.
-use Rattle.std.proofs.Common.{◌≡◌, ◌∙◌, ℕ, zero, suc, ◌+◌, List, [], ◌∷◌, length, map, All, Option, Some, option_map, ap, sym, subst, arith}
+use Rattle.std.proofs.Common.{◌≡◌, ◌∙◌, ℕ, zero, suc, ◌+◌, ◌<◌, ◌^◌, List, [], ◌∷◌, length, map, All, Option, Some, option_map, ap, sym, subst, arith}
 use Rattle.std.specs.Prelude.{slice_get}
 use Rattle.std.specs.List.{AllZip, enumerate_from}
 use Rattle.std.specs.Arc.{arc_value}
@@ -69,11 +69,16 @@ pub length-stats : (fields : List FieldShape) (t : Table) (stats : List ColumnSt
 length-stats fields t stats are =
     sym (length-all_zip (λ (e : ℕ × FieldShape) (q : ColumnStats). AreStats q (kind_of_field e.1) (column t e.0)) (enumerate_from 0 fields) stats are) ∙ length-enumerated 0 fields
 
-pub length-pieces : (h : Storage) → IsConsistent h → length h.batch_stats.items ≡ length (show h).batches
+pub length-pieces : (h : Storage) → IsConsistent h → length h.batch_stats ≡ length (show h).batches
 length-pieces h is =
-    sym (length-map h.batch_stats.items (λ (s : Arc (Vec ColumnStats Global) Global). (arc_value s).items))
+    sym (length-map h.batch_stats (λ (s : Arc (Vec ColumnStats Global) Global). (arc_value s).items))
     ∙ sym (length-all_zip (λ (b : Batch) (s : List ColumnStats). AreStatsOf (arc_value h.schema) (rows_of b) s) (batches_of h) (pieces_in h) is.lawful.parts)
     ∙ sym (length-map (batches_of h) rows_of)
+
+pub few-pieces : (h : Storage) → IsConsistent h → length h.batch_stats < 2 ^ 32
+few-pieces h is =
+    let ends = is.lawful.ends (length (batches_of h)) (omega arith) in
+    omega (arith, ends.each, ends.within, is.lawful.short, length-pieces h is, length-map (batches_of h) rows_of)
 
 pub length-dictionaries : (h : Storage) → IsConsistent h → length h.dictionaries.items ≡ length (arc_value h.schema)
 unfolding dictionaries_of
@@ -103,10 +108,10 @@ all_zip-map R f (x ∷ xs) [] all = absurd all
 all_zip-map R f (x ∷ xs) (y ∷ ys) all = (all.0, all_zip-map R f xs ys all.1)
 
 -- the statistics of one batch
-pub piece-at : (h : Storage) → IsConsistent h → (i : ℕ) (t : Table) (s : Arc (Vec ColumnStats Global) Global) → slice_get (show h).batches i ≡ Some t → slice_get h.batch_stats.items i ≡ Some s
+pub piece-at : (h : Storage) → IsConsistent h → (i : ℕ) (t : Table) (s : Arc (Vec ColumnStats Global) Global) → slice_get (show h).batches i ≡ Some t → slice_get h.batch_stats i ≡ Some s
     → AreStatsOf (arc_value h.schema) t (arc_value s).items
 piece-at h is i t s at there =
     all_zip-at (AreStatsOf (arc_value h.schema)) (map rows_of (batches_of h)) (pieces_in h) i t (arc_value s).items
     (all_zip-map (AreStatsOf (arc_value h.schema)) rows_of (batches_of h) (pieces_in h) is.lawful.parts)
     at
-    (slice_get-map (λ (q : Arc (Vec ColumnStats Global) Global). (arc_value q).items) h.batch_stats.items i ∙ ap (option_map (λ (q : Arc (Vec ColumnStats Global) Global). (arc_value q).items)) there)
+    (slice_get-map (λ (q : Arc (Vec ColumnStats Global) Global). (arc_value q).items) h.batch_stats i ∙ ap (option_map (λ (q : Arc (Vec ColumnStats Global) Global). (arc_value q).items)) there)

@@ -2,7 +2,7 @@
 use Rattle.std.proofs.Common.{◌≡◌, ◌∙◌, ℕ, zero, suc, ◌+◌, ◌<◌, List, [], ◌∷◌, length, All, Bool, true, false, not, cond, eqb, Option, None, Some, position, get_or, ap, sym, refl, subst, arith}
 use Rattle.std.specs.List.{AllZip, enumerate_from, list_any, range_with_len, zip}
 use Rattle.std.specs.Str.{bytes_eq}
-use Rattle.std.proofs.lemmas.Bool.{eqb-true}
+use Rattle.std.proofs.lemmas.Bool.{eqb-true, not-false, or_parts}
 use Rattle.std.proofs.lemmas.List.Elements.{All-map}
 use Rattle.arrays.specs.Batch.{Batch, batch_fault, row_of, rows_of, Table, column}
 use Rattle.arrays.specs.Item.{Item, boolean, int, list, null, text}
@@ -17,7 +17,8 @@ use Rattle.pool.proofs.PlaceLemmas.{among_missing}
 use Rattle.arrays.specs.First.{first}
 use Rattle.table.specs.Cause.{IsRowOf, IsTableOf, difference, differs}
 use Rattle.table.specs.Stored.{stored_kind}
-use Rattle.table.proofs.BatchLemmas.{HasColumns-rows_of, neither, not-false, whole, wrong_kind}
+use Rattle.table.proofs.BatchLemmas.{HasColumns-rows_of}
+use Rattle.arrays.proofs.BatchLemmas.{whole, wrong_kind}
 
 abbrev SameKind : FieldShape → Seen → Type 0
 SameKind f c = kind_of_field f ≡ stored_kind c.kind
@@ -30,9 +31,9 @@ same-kinds [] (g ∷ given) columns m n p q = absurd (omega (arith, m))
 same-kinds (f ∷ fields) [] columns m n p q = absurd (omega (arith, m))
 same-kinds (f ∷ fields) (g ∷ given) [] m n p q = absurd (omega (arith, n))
 same-kinds (f ∷ fields) (g ∷ given) (c ∷ columns) m n p q =
-    let one = neither (differs (f, g)) (list_any differs (zip fields given)) p in
-    let two = neither (wrong_kind (c, g)) (list_any wrong_kind (zip columns given)) q in
-    let kinds = neither (not (bytes_eq (name_of f) (name_of g))) (not (same_kind (kind_of_field f) (stored_kind (kind_of_field g)))) one.0 in (
+    let one = or_parts (differs (f, g)) (list_any differs (zip fields given)) p in
+    let two = or_parts (wrong_kind (c, g)) (list_any wrong_kind (zip columns given)) q in
+    let kinds = or_parts (not (bytes_eq (name_of f) (name_of g))) (not (same_kind (kind_of_field f) (stored_kind (kind_of_field g)))) one.0 in (
       same_kinds (kind_of_field f) (stored_kind (kind_of_field g)) (not-false (same_kind (kind_of_field f) (stored_kind (kind_of_field g))) kinds.1)
           ∙ ap stored_kind (sym (same_kinds c.kind (kind_of_field g) (not-false (same_kind c.kind (kind_of_field g)) two.0))),
       same-kinds fields given columns (omega (arith, m)) (omega (arith, n)) one.1 two.1,

@@ -20,7 +20,7 @@ use Rattle.table.specs.Stored.{is_text_field}
 use Rattle.table.specs.Widened.{widened, widened_row, widened_table}
 use Rattle.table.specs.declared.refusal.Refusal.{Refusal}
 use Rattle.table.specs.declared.refusal.Refusal.TheVariants.{BookFull, NullInNonNullable, TableFull, TextsFull}
-use Rattle.table.proofs.BatchLemmas.{map-same}
+use Rattle.arrays.proofs.BatchLemmas.{map-same}
 use Rattle.table.proofs.EmptyLemmas.{enumerate_from-push}
 use Rattle.table.proofs.StorageLemmas.{length-all_zip}
 

@@ -33,7 +33,7 @@ use Rattle.table.specs.Stored.{is_text_field}
 use Rattle.table.specs.Widened.{widened, widened_row, widened_table, with_field}
 use Rattle.table.specs.Widening.{AreAllWider, AreWider, IsWider, no_texts, with_nulls}
 use Rattle.table.specs.declared.storage.Storage.{Storage}
-use Rattle.table.proofs.BatchLemmas.{length-rows_of, map-same, whole}
+use Rattle.arrays.proofs.BatchLemmas.{length-rows_of, map-same, whole}
 use Rattle.table.proofs.EmptyLemmas.{enumerate_from-push, none_if}
 use Rattle.table.proofs.FrontLemmas.{prefix_self}
 use Rattle.table.proofs.StorageLemmas.{rows-shown}

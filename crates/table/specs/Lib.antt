@@ -6,6 +6,7 @@ pub mod Columns
 pub mod Recoded
 pub mod Lawful
 pub mod Moved
+pub mod Chunks
 pub mod Book
 pub mod Storage
 pub mod Ready

@@ -6,8 +6,9 @@ use mathlib.Core.List.{IsPrefix}
 use Rattle.arrays.specs.Batch.{Batch, rows_of, Table}
 use Rattle.table.specs.Cause.{IsTableOf, batch_cause}
 use Rattle.table.specs.Moved.{AreMoved}
-use Rattle.table.specs.Storage.{batches_of, book_of, show}
-use Rattle.compaction.specs.Under.{NamesFront}
+use Rattle.table.specs.Storage.{batches_of, book_of, pieces_in, show}
+use Rattle.compaction.specs.Under.{NamesFront, pieces_of}
+use Rattle.group.specs.declared.stats.ColumnStats.{ColumnStats}
 use Rattle.table.specs.Lawful.{IsStored, dictionaries_of, table_of, texts_in}
 use Rattle.compaction.specs.Statistics.{AreStatsOf}
 use Rattle.table.specs.declared.change.Addition.{Addition}
@@ -31,7 +32,9 @@ pub record IsReady (h : Storage) (worker : ℕ) (b : Batch) (p : Addition) : Typ
   pub stored : IsStored (arc_value h.schema) (arc_value p.batch)
   pub rows : rows_of (arc_value p.batch) ≡ rows_of b
   pub typed : IsTableOf (arc_value h.schema) (rows_of b)
-  pub piece : AreStatsOf (arc_value h.schema) (rows_of b) (arc_value p.batch_stats).items
+  pub piece : List ColumnStats
+  pub pieces : pieces_of p.batch_stats ≡ pieces_in h ++ piece ∷ []
+  pub parts : AreStatsOf (arc_value h.schema) (rows_of b) piece
   pub statistics : AreStatsOf (arc_value h.schema) (table_of (batches_of h) ++ rows_of b) (arc_value p.stats).items
   pub texts : map (option_map arc_value) p.dictionaries.items ≡ dictionaries_of (arc_value h.schema) (table_of (batches_of h) ++ rows_of b)
   pub front : AllZip NamesFront (arc_value p.batch).columns (map (option_map arc_value) p.dictionaries.items)

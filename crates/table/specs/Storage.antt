@@ -26,7 +26,7 @@ abbrev pub dictionaries_in : Storage → List (Option Seen)
 dictionaries_in h = map (option_map arc_value) h.dictionaries.items
 
 abbrev pub pieces_in : Storage → List (List ColumnStats)
-pieces_in h = pieces_of h.batch_stats.items
+pieces_in h = pieces_of h.batch_stats
 
 -- What it shows: the history is the one with its book and its rows.
 abbrev pub show : Storage → Contents
@@ -42,10 +42,9 @@ pub record IsConsistent (h : Storage) : Type 0 where
   pub rows : h.rows ≡ counted (book_of h)
   pub legal : IsLegal (arc_value h.schema) (show h).history
 
--- There is room for one more of each.
-pub record HasRoom (h : Storage) : Type 0 where
-  pub batches : vec_len h.batches < vec_capacity h.batches
-  pub pieces : vec_len h.batch_stats < vec_capacity h.batch_stats
+-- There is room for one batch more.
+abbrev pub HasRoom : Storage → Type 0
+HasRoom h = vec_len h.batches < vec_capacity h.batches
 
 -- Both have the same parts.
 pub record IsSame (h other : Storage) : Type 0 where
@@ -62,7 +61,7 @@ pub record IsPut (new : Addition) (h other : Storage) : Type 0 where
   pub schema : arc_value other.schema ≡ arc_value h.schema
   pub rows : other.rows ≡ h.rows + (arc_value new.batch).rows
   pub batches : batches_of other ≡ with_last (batches_of h) (map arc_value new.moved.items) ++ arc_value new.batch ∷ []
-  pub pieces : pieces_in other ≡ pieces_in h ++ (arc_value new.batch_stats).items ∷ []
+  pub pieces : pieces_in other ≡ pieces_of new.batch_stats
   pub stats : arc_value other.stats ≡ arc_value new.stats
   pub dictionaries : dictionaries_in other ≡ map (option_map arc_value) new.dictionaries.items
   pub book : book_of other ≡ new.book
@@ -72,7 +71,7 @@ pub record IsWith (others : List (Arc Batch Global)) (theirs : List (Arc (Vec Co
   pub schema : arc_value other.schema ≡ arc_value h.schema
   pub rows : other.rows ≡ h.rows
   pub batches : other.batches.items ≡ others
-  pub pieces : other.batch_stats.items ≡ theirs
+  pub pieces : other.batch_stats ≡ theirs
   pub stats : (arc_value other.stats).items ≡ (arc_value h.stats).items
   pub dictionaries : dictionaries_in other ≡ dictionaries_in h
   pub book : book_of other ≡ book_of h

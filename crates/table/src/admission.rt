@@ -79,6 +79,7 @@ fn recoded(
         dictionaries,
     } = stored_columns(alloc, &storage.dictionaries, pools, batch.columns())?;
     let stats = joined_all(alloc, &storage.stats, &batch_stats)?;
+    let batch_stats = storage.batch_stats.with(alloc, batch_stats)?;
     let moved = moved(alloc, storage, &dictionaries)?;
     let rows = batch.rows();
     let book = storage.book.with_entry(alloc, Entry { worker, rows })?;
@@ -86,8 +87,8 @@ fn recoded(
     let batch = RecordBatch::under(storage.schema.clone()?, rows, columns);
     Ok(Addition {
         batch: Arc::new(alloc, batch)?,
-        batch_stats,
         stats: Arc::new(alloc, stats)?,
+        batch_stats,
         dictionaries,
         moved,
         book,

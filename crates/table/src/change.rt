@@ -8,6 +8,7 @@ ghost use Rattle.table.specs.Lawful.{table_of};
 ghost use Rattle.table.specs.Ready.{AreTexts, BeginWithTexts};
 
 use crate::book::Book;
+use crate::chunks::Chunks;
 use crate::columns::cut_back;
 use crate::look::Look;
 use crate::storage::{Storage, all_shared, dictionaries_shared};
@@ -22,7 +23,8 @@ use std::sync::Arc;
 #[derive(Drop)]
 pub(crate) struct Addition {
     pub(crate) batch: Arc<RecordBatch>,
-    pub(crate) batch_stats: Arc<Vec<ColumnStats>>,
+    /// The statistics of each batch, with this one.
+    pub(crate) batch_stats: Chunks<Arc<Vec<ColumnStats>>>,
     pub(crate) stats: Arc<Vec<ColumnStats>>,
     pub(crate) dictionaries: Vec<Option<Arc<Words>>>,
     /// The last of the batches that are stored, over these dictionaries.
@@ -44,7 +46,7 @@ impl Addition {
     /// The same parts, shared.
     pub(crate) fn share(&self, alloc: Global) -> Result<Addition, NoMemory>
         ensures batch { IfOk result (λ p. arc_value p.batch ≡ arc_value self.now.batch) }
-        ensures pieces { IfOk result (λ p. arc_value p.batch_stats ≡ arc_value self.now.batch_stats) }
+        ensures pieces { IfOk result (λ p. p.batch_stats ≡ self.now.batch_stats) }
         ensures stats { IfOk result (λ p. arc_value p.stats ≡ arc_value self.now.stats) }
         ensures dictionaries { IfOk result (λ p. map (option_map arc_value) p.dictionaries.items
             ≡ map (option_map arc_value) self.now.dictionaries.items) }
@@ -53,7 +55,7 @@ impl Addition {
     {
         Ok(Addition {
             batch: self.batch.clone()?,
-            batch_stats: self.batch_stats.clone()?,
+            batch_stats: self.batch_stats.share()?,
             stats: self.stats.clone()?,
             dictionaries: dictionaries_shared(alloc, &self.dictionaries)?,
             moved: all_shared(alloc, &self.moved, 0)?,

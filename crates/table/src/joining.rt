@@ -4,6 +4,7 @@ ghost use Rattle.std.specs.Prelude.{IfOk};
 ghost use Rattle.table.specs.Compacted.{IsCompacted};
 ghost use Rattle.table.specs.Storage.{IsConsistent, show};
 
+use crate::chunks::Chunks;
 use crate::storage::Storage;
 use colbits::NoMemory;
 use compaction::compact;
@@ -15,13 +16,15 @@ pub(crate) fn stage(alloc: Global, storage: &Storage, max_rows: u32) -> Result<S
     ensures lawful { IfOk result (λ h. IsConsistent h) }
     ensures compacted { IfOk result (λ h. IsCompacted max_rows (show storage.now) (show h)) }
 {
+    let pieces = storage.batch_stats.to_vec(alloc)?;
     let compacted = compact(
         alloc,
         &storage.schema,
         &storage.dictionaries,
         &storage.batches,
-        &storage.batch_stats,
+        &pieces,
         max_rows,
     )?;
-    storage.with_batches(alloc, compacted.batches, compacted.batch_stats)
+    let batch_stats = Chunks::of(alloc, compacted.batch_stats)?;
+    storage.with_batches(alloc, compacted.batches, batch_stats)
 }

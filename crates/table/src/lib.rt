@@ -15,6 +15,7 @@ mod admission;
 mod book;
 mod cause;
 mod change;
+mod chunks;
 mod columns;
 pub mod entry;
 mod export;

@@ -9,6 +9,7 @@ pub(crate) mod empty;
 
 use crate::book::Book;
 use crate::change::Addition;
+use crate::chunks::Chunks;
 use arrays::{RecordBatch, Schema, Words};
 use colbits::NoMemory;
 use group::ColumnStats;
@@ -23,7 +24,7 @@ pub(crate) struct Storage {
     pub(crate) rows: u64,
     pub(crate) batches: Vec<Arc<RecordBatch>>,
     /// The statistics of each batch, one for each column.
-    pub(crate) batch_stats: Vec<Arc<Vec<ColumnStats>>>,
+    pub(crate) batch_stats: Chunks<Arc<Vec<ColumnStats>>>,
     /// The statistics of each column.
     pub(crate) stats: Arc<Vec<ColumnStats>>,
     /// The newest dictionary of each column of texts.
@@ -38,7 +39,6 @@ impl Storage {
         ensures same { IsSame self.old self.new }
     {
         self.batches.reserve(1)?;
-        self.batch_stats.reserve(1)?;
         Ok(())
     }
 
@@ -60,7 +60,7 @@ impl Storage {
         let rows = batch.rows();
         put_last(&mut self.batches, moved);
         self.batches.push_reserved(batch);
-        self.batch_stats.push_reserved(batch_stats);
+        self.batch_stats = batch_stats;
         self.stats = stats;
         self.dictionaries = dictionaries;
         self.book = book;
@@ -72,7 +72,7 @@ impl Storage {
         ensures { IfOk result (λ h. IsSame self.now h) }
     {
         let batches = all_shared(alloc, &self.batches, room)?;
-        let batch_stats = all_shared(alloc, &self.batch_stats, room)?;
+        let batch_stats = self.batch_stats.share()?;
         self.with_batches(alloc, batches, batch_stats)
     }
 
@@ -81,9 +81,9 @@ impl Storage {
         &self,
         alloc: Global,
         batches: Vec<Arc<RecordBatch>>,
-        batch_stats: Vec<Arc<Vec<ColumnStats>>>,
+        batch_stats: Chunks<Arc<Vec<ColumnStats>>>,
     ) -> Result<Storage, NoMemory>
-        ensures { IfOk result (λ h. IsWith batches.items batch_stats.items self.now h) }
+        ensures { IfOk result (λ h. IsWith batches.items batch_stats self.now h) }
     {
         Ok(Storage {
             schema: self.schema.clone()?,

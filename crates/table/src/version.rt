@@ -116,7 +116,7 @@ impl Version {
         ensures { (f : FieldShape) → slice_get self.now.fields k ≡ Some f
             → AreStats result.now (kind_of_field f) (column (slice_index_or self.now.batches b []) k) }
     {
-        &self.storage().batch_stats[b][k]
+        &self.storage().batch_stats.get(b)[k]
     }
 
     /// The statistics of column `k`.

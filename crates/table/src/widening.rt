@@ -14,6 +14,7 @@ ghost use Rattle.table.specs.Widened.{add_fault, with_field};
 ghost use Rattle.table.specs.Widening.{AreAllWider, AreWider, IsWider, with_nulls};
 
 use crate::add_fault::AddFault;
+use crate::chunks::Chunks;
 use crate::storage::Storage;
 use crate::storage::empty::no_entry;
 use crate::stored::stored_one;
@@ -61,7 +62,8 @@ impl Storage {
     {
         let schema = Arc::new(alloc, wider_schema(alloc, &self.schema, field)?)?;
         let batches = wider_batches(alloc, &schema, &self.batches, field)?;
-        let batch_stats = wider_pieces(alloc, &self.batches, &self.batch_stats, &field.ty)?;
+        let pieces = wider_pieces(alloc, &self.batches, &self.batch_stats, &field.ty)?;
+        let batch_stats = Chunks::of(alloc, pieces)?;
         let mut storage = self.with_batches(alloc, batches, batch_stats)?;
         storage.schema = schema;
         storage.stats = Arc::new(
@@ -150,7 +152,7 @@ fn columns_shared(alloc: Global, columns: &[Array]) -> Result<Vec<Array>, NoMemo
 fn wider_pieces(
     alloc: Global,
     batches: &[Arc<RecordBatch>],
-    batch_stats: &[Arc<Vec<ColumnStats>>],
+    batch_stats: &Chunks<Arc<Vec<ColumnStats>>>,
     ty: &DataType,
 ) -> Result<Vec<Arc<Vec<ColumnStats>>>, NoMemory>
     requires { length batch_stats.now ≡ length batches.now }
@@ -159,7 +161,7 @@ fn wider_pieces(
     let mut wider = Vec::with_capacity(alloc, batches.len())?;
     for k in 0..batches.len() {
         let rows = u64::from(batches[k].rows());
-        let stats = wider_stats(alloc, &batch_stats[k], ty, rows)?;
+        let stats = wider_stats(alloc, batch_stats.get(k), ty, rows)?;
         wider.push(Arc::new(alloc, stats)?)?;
     }
     Ok(wider)

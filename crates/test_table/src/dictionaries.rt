@@ -1,16 +1,19 @@
 //! How many dictionaries a table keeps where each batch brings a new text, and what a version from before shows.
 
-use arrays::{DataType, OffsetWidth, RecordBatch, Schema, TextBuilder, View, ViewType};
+use arrays::{Array, DataType, OffsetWidth, RecordBatch, Schema, TextBuilder, View, ViewType};
 use std::alloc::Global;
 use std::sync::Arc;
 use std::test::Fail;
 use table::TableState;
 
+/// How many texts the first batch has beside its own.
+const TEXTS: u32 = 100_000;
+
 /// How many batches come.
-const BATCHES: u32 = 1024;
+const BATCHES: u32 = 10_000;
 
 /// How often a batch moves at most, and how many dictionaries stay at most: the logarithm of their number, and one.
-const FEW: usize = 11;
+const FEW: usize = 14;
 
 /// The dictionaries of the batches, by how many texts they have, and how often each batch moved to another one.
 #[derive(Drop)]
@@ -28,7 +31,12 @@ fn few_dictionaries_stay(rt: HostRuntime) -> Result<(), Fail> {
         moves: Vec::new(alloc),
     };
     for number in 0..BATCHES {
-        table.admit(0, &batch(alloc, number)?)?;
+        let next = if number == 0 {
+            first_batch(alloc)?
+        } else {
+            batch(alloc, number)?
+        };
+        table.admit(0, &next)?;
         let version = table.version()?;
         let sizes = sizes_of(alloc, version.batches())?;
         assert!(rt; block_count(&sizes) <= FEW, "after batch {number}");
@@ -155,10 +163,23 @@ fn schema(alloc: Global) -> Result<Schema, Fail> {
 /// The batch that brings the text of its number.
 fn batch(alloc: Global, number: u32) -> Result<RecordBatch, Fail> {
     let text = text_of(alloc, number)?;
+    batch_of(alloc, Array::of_texts(alloc, &[Some(text.as_str())])?)
+}
+
+/// The batch that brings the text of 0, and many others behind it, which no number has.
+fn first_batch(alloc: Global) -> Result<RecordBatch, Fail> {
     let mut texts = TextBuilder::with_capacity(alloc, OffsetWidth::Narrow, 1, 0)?;
-    texts.push(Some(text.as_str()))?;
-    let columns = vec![in alloc; texts.finish()?]?;
-    Ok(RecordBatch::new(schema(alloc)?, 1, columns)?)
+    texts.push(Some(text_of(alloc, 0)?.as_str()))?;
+    for other in 0..TEXTS {
+        texts.push(Some(format!(in alloc; "other {other}")?.as_str()))?;
+    }
+    batch_of(alloc, texts.finish()?)
+}
+
+/// The batch of a column of texts.
+fn batch_of(alloc: Global, texts: Array) -> Result<RecordBatch, Fail> {
+    let rows = u32::try_from(texts.len()).unwrap_or(0);
+    Ok(RecordBatch::new(schema(alloc)?, rows, vec![in alloc; texts]?)?)
 }
 
 fn text_of(alloc: Global, number: u32) -> Result<String, Fail> {

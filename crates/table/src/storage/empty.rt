@@ -14,6 +14,7 @@ ghost use Rattle.table.specs.Widening.{no_texts};
 
 use super::Storage;
 use crate::book::Book;
+use crate::chunks::Chunks;
 use crate::stored::stored_schema;
 use arrays::{DataType, Field, Schema, ViewType, Words};
 use colbits::NoMemory;
@@ -35,7 +36,7 @@ impl Storage {
             schema: Arc::new(alloc, schema)?,
             rows: 0,
             batches: Vec::new(alloc),
-            batch_stats: Vec::new(alloc),
+            batch_stats: Chunks::empty(alloc)?,
             stats: Arc::new(alloc, stats)?,
             dictionaries,
             book: Book::empty(alloc)?,

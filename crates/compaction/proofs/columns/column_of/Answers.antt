@@ -1,6 +1,6 @@
 use Rattle.std.proofs.Common.{◌∙◌, List, ap, get_or, sym}
 use Rattle.arrays.specs.Seen.{Seen}
-use Rattle.compaction.proofs.BatchLemmas.{column-is}
+use Rattle.arrays.proofs.BatchLemmas.{column-is}
 use Rattle.compaction.proofs.columns.column_of.Goals as goal
 
 pub returns-clause-items : goal.returns-clause-items

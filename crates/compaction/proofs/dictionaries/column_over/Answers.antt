@@ -13,8 +13,8 @@ use Rattle.compaction.proofs.dictionaries.column_over.Goals as goal
 pub with_dictionary-requires-clause-kind : goal.with_dictionary-requires-clause-kind
 with_dictionary-requires-clause-kind c = same_kinds c.args.column.now.kind kind.dict (sym c.requires.encoded ∙ ap (λ (o : Option (Arc Seen Global)). is_some (option_map (λ (w : Arc Seen Global). arc_value w) o)) c.in-Some.is)
 
-pub returns-in_ok-with_dictionary-in-Some : goal.returns-in_ok-with_dictionary-in-Some
-returns-in_ok-with_dictionary-in-Some c =
+pub returns-in_ok-with_dictionary-in-Some-clause-over : goal.returns-in_ok-with_dictionary-in-Some-clause-over
+returns-in_ok-with_dictionary-in-Some-clause-over c =
     let s = c.args.column.now in
     let made = c.in_ok-with_dictionary-in-Some.field-0 in
     let dict = same_kinds s.kind kind.dict (sym c.requires.encoded ∙ ap (λ (o : Option (Arc Seen Global)). is_some (option_map (λ (w : Arc Seen Global). arc_value w) o)) c.in-Some.is) in

@@ -7,8 +7,9 @@ use Rattle.arrays.specs.Batch.{Batch, batch_fault}
 use Rattle.arrays.specs.Shape.{FieldShape}
 use Rattle.compaction.specs.Columns.{AreJoinable, IsColumnOf, IsJoined}
 use Rattle.compaction.specs.Groups.{together}
+use Rattle.compaction.specs.Under.{NamesFront}
 use Rattle.compaction.proofs.FrontLemmas.{Shared, tables_of, wide-at}
-use Rattle.compaction.proofs.JoinedLemmas.{SharedWords, batch-rows, batches-of, column-made, columns-all, columns-lawful, columns-more, count-words, fronts-more, joinable, words-at, words_of}
+use Rattle.compaction.proofs.JoinedLemmas.{SharedWords, batch-rows, batches-of, column-made, columns-all, columns-lawful, columns-more, count-words, joinable, words-at, words_of, zipped-more}
 use Rattle.compaction.proofs.joining.joined.Goals as goal
 
 pub views_of-requires : goal.views_of-requires
@@ -48,7 +49,7 @@ loop-k-preserved c =
           columns-more fields (together (tables_of c.args.batches.now)) k column c.loop-k.columns.items c.push.new.self.items below c.loop-k.invariant.columns
           (column-made fields words batches views k o column below c.requires.under c.in_ok-views.ensures many is) c.in_ok-push.ensures.items;
       fronts =
-          fronts-more words k o column c.loop-k.columns.items c.push.new.self.items (omega (arith, c.loop-k-test.true, length-map dictionaries (option_map (λ (w : SharedWords). arc_value w))))
+          zipped-more NamesFront words k o column c.loop-k.columns.items c.push.new.self.items (omega (arith, c.loop-k-test.true, length-map dictionaries (option_map (λ (w : SharedWords). arc_value w))))
           (words-at dictionaries k c.index-dictionaries-k.result c.loop-k-test.true c.index-dictionaries-k.is) c.loop-k.invariant.fronts is.front c.in_ok-push.ensures.items;
     }
 

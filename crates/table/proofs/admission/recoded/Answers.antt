@@ -1,4 +1,4 @@
-use Rattle.std.proofs.Common.{◌∙◌, ◌∷◌, ◌++◌, [], List, All, Option, length, ap, subst, sym, map, option_map}
+use Rattle.std.proofs.Common.{◌≡◌, ◌∙◌, ◌∷◌, ◌++◌, [], List, All, Option, length, ap, subst, sym, map, option_map}
 use Rattle.std.specs.Arc.{arc_value}
 use Rattle.std.specs.List.{AllZip}
 use Rattle.std.specs.declared.alloc.Global.{Global}
@@ -15,7 +15,9 @@ use Rattle.compaction.specs.Under.{IsDictionary, IsUnder}
 use Rattle.table.specs.Moved.{AreMoved}
 use Rattle.table.specs.Storage.{batches_of, book_of, show}
 use Rattle.table.specs.Recoded.{full_cause}
+use Rattle.table.proofs.ChunksLemmas.{copies-pushed}
 use Rattle.table.proofs.KeptLemmas.{IsFew}
+use Rattle.table.proofs.StorageLemmas.{few-pieces}
 use Rattle.table.proofs.ReadyLemmas.{reported, full-batch, pools-count, pools-dictionaries, pools-grown, ready, stats-count, stats-few, stored-lawful, words-dictionaries, words-under}
 use Rattle.table.proofs.admission.recoded.Goals as goal
 
@@ -59,6 +61,9 @@ joined_all-requires-clause-few c =
     c.args.pools.now.items c.requires.pools c.columns-2.result.now c.columns-2.ensures.value
     (arc_value c.args.batch_stats).items c.requires.stats))
 
+pub with-requires : goal.with-requires
+with-requires c = few-pieces c.args.storage.now c.requires.storage
+
 pub moved-requires-clause-dictionaries : goal.moved-requires-clause-dictionaries
 moved-requires-clause-dictionaries c =
     subst (λ (l : List (Option (Arc Seen Global))). AllZip IsDictionary (arc_value c.args.storage.now.schema) (map (option_map arc_value) l)) (sym c.deref-6.ensures.value)
@@ -92,12 +97,15 @@ returns-clause-ok c =
     (subst (All (λ (d : Seen). All (IsItemOf d.kind) d.items)) c.columns.ensures.value c.tell_all.ensures)
     c.args.pools.now.items c.requires.pools c.columns-2.result.now c.columns-2.ensures.value
     c.args.worker
-    (record { batch = c.in_ok-new.field-0; batch_stats = c.args.batch_stats; stats = c.in_ok-new-2.field-0; dictionaries = c.in_ok-columns.field-0.dictionaries; moved = c.in_ok-moved.moved; book = c.in_ok-book.book })
+    (record { batch = c.in_ok-new.field-0; batch_stats = c.in_ok-batch_stats.batch_stats; stats = c.in_ok-new-2.field-0; dictionaries = c.in_ok-columns.field-0.dictionaries; moved = c.in_ok-moved.moved; book = c.in_ok-book.book })
+    (arc_value c.args.batch_stats).items
     c.in_ok-columns.ensures.fits
     (ap (λ (b : Batch). b.fields) batch ∙ c.in_ok-clone.ensures.cases)
     (ap (λ (b : Batch). b.rows) batch ∙ c.rows-rows.ensures)
     (ap (λ (b : Batch). b.columns) batch ∙ c.in_ok-columns.ensures.columns)
     c.in_ok-columns.ensures.dictionaries
+    (copies-pushed (λ (x y : Arc (Vec ColumnStats Global) Global). arc_value y ≡ arc_value x) (λ (s : Arc (Vec ColumnStats Global) Global). (arc_value s).items) (λ x y k. ap (λ (v : Vec ColumnStats Global). v.items) k)
+    c.args.storage.now.batch_stats c.in_ok-batch_stats.batch_stats c.args.batch_stats c.in_ok-batch_stats.ensures)
     c.requires.stats
     (subst (λ (v : Vec ColumnStats Global). AreJoined (arc_value c.args.storage.now.stats).items (arc_value c.args.batch_stats).items v.items) (sym c.in_ok-new-2.ensures.ok)
     (subst (λ (l : List ColumnStats). AreJoined (arc_value c.args.storage.now.stats).items l c.in_ok-stats.stats.items) (c.deref-5.ensures.value ∙ ap (λ (v : Vec ColumnStats Global). v.items) c.deref-4.ensures)

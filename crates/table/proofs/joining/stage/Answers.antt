@@ -1,4 +1,4 @@
-use Rattle.std.proofs.Common.{All, List, Option, map, option_map, subst, sym}
+use Rattle.std.proofs.Common.{◌≡◌, All, List, Option, ap, map, option_map, subst, sym}
 use Rattle.std.specs.Arc.{arc_value}
 use Rattle.std.specs.List.{AllZip}
 use Rattle.std.specs.declared.alloc.Global.{Global}
@@ -11,6 +11,7 @@ use Rattle.compaction.specs.Groups.{AreGroups}
 use Rattle.compaction.specs.Under.{HaveStats, IsDictionary, IsUnder, pieces_of}
 use Rattle.table.specs.Storage.{batches_of, dictionaries_in}
 use Rattle.table.specs.declared.storage.Storage.{Storage}
+use Rattle.table.proofs.ChunksLemmas.{images-same}
 use Rattle.table.proofs.JoinedLemmas.{storage-dictionaries, storage-stats, storage-under, joined-storage, joined-shows}
 use Rattle.table.proofs.PutLemmas.{if-ok}
 use Rattle.table.proofs.joining.stage.Goals as goal
@@ -33,17 +34,20 @@ pub compact-requires-clause-stats : goal.compact-requires-clause-stats
 compact-requires-clause-stats c =
     subst (λ (l : List (Arc Batch Global)). HaveStats (map arc_value l) (pieces_of c.deref-3.result.now)) (sym c.deref-2.ensures.value)
     (subst (λ (l : List (Arc (Vec ColumnStats Global) Global)). HaveStats (batches_of c.args.storage.now) (pieces_of l)) (sym c.deref-3.ensures.value)
-    (storage-stats c.args.storage.now c.requires))
+    (subst (HaveStats (batches_of c.args.storage.now))
+    (sym (images-same (λ (x y : Arc (Vec ColumnStats Global) Global). arc_value y ≡ arc_value x) (λ (s : Arc (Vec ColumnStats Global) Global). (arc_value s).items) (λ x y k. ap (λ (v : Vec ColumnStats Global). v.items) k)
+    c.args.storage.now.batch_stats c.in_ok-pieces.pieces.items c.in_ok-pieces.ensures))
+    (storage-stats c.args.storage.now c.requires)))
 
 pub returns-clause-lawful : goal.returns-clause-lawful
 returns-clause-lawful c =
     let storage = c.args.storage.now in
     if-ok
     (λ (h : Storage) with.
-    joined-storage storage h c.args.max_rows c.in_ok-compacted.compacted.batches.items c.in_ok-compacted.compacted.batch_stats.items c.requires with
+    joined-storage storage h c.args.max_rows c.in_ok-compacted.compacted.batches.items c.in_ok-batch_stats.batch_stats c.requires with
     (subst (λ (l : List (Arc Batch Global)). AreGroups (arc_value c.args.storage.now.schema) c.args.max_rows (map rows_of (map arc_value l)) (map rows_of (map arc_value c.in_ok-compacted.compacted.batches.items))) c.deref-2.ensures.value c.in_ok-compacted.ensures.groups)
     (subst (λ (l : Dictionaries). All (IsUnder (arc_value c.args.storage.now.schema) (map (option_map arc_value) l)) (map arc_value c.in_ok-compacted.compacted.batches.items)) c.deref.ensures.value c.in_ok-compacted.ensures.under)
-    c.in_ok-compacted.ensures.stats)
+    (subst (λ (l : List (Arc (Vec ColumnStats Global) Global)). HaveStats (map arc_value c.in_ok-compacted.compacted.batches.items) (pieces_of l)) (sym c.in_ok-batch_stats.ensures) c.in_ok-compacted.ensures.stats))
     c.with_batches.result c.with_batches.ensures
 
 pub returns-clause-compacted : goal.returns-clause-compacted
@@ -51,8 +55,8 @@ returns-clause-compacted c =
     let storage = c.args.storage.now in
     if-ok
     (λ (h : Storage) with.
-    joined-shows storage h c.args.max_rows c.in_ok-compacted.compacted.batches.items c.in_ok-compacted.compacted.batch_stats.items c.requires with
+    joined-shows storage h c.args.max_rows c.in_ok-compacted.compacted.batches.items c.in_ok-batch_stats.batch_stats c.requires with
     (subst (λ (l : List (Arc Batch Global)). AreGroups (arc_value c.args.storage.now.schema) c.args.max_rows (map rows_of (map arc_value l)) (map rows_of (map arc_value c.in_ok-compacted.compacted.batches.items))) c.deref-2.ensures.value c.in_ok-compacted.ensures.groups)
     (subst (λ (l : Dictionaries). All (IsUnder (arc_value c.args.storage.now.schema) (map (option_map arc_value) l)) (map arc_value c.in_ok-compacted.compacted.batches.items)) c.deref.ensures.value c.in_ok-compacted.ensures.under)
-    c.in_ok-compacted.ensures.stats)
+    (subst (λ (l : List (Arc (Vec ColumnStats Global) Global)). HaveStats (map arc_value c.in_ok-compacted.compacted.batches.items) (pieces_of l)) (sym c.in_ok-batch_stats.ensures) c.in_ok-compacted.ensures.stats))
     c.with_batches.result c.with_batches.ensures

@@ -3,6 +3,7 @@ use Rattle.std.specs.Arc.{arc_value}
 use Rattle.std.specs.declared.alloc.Global.{Global}
 use Rattle.std.specs.declared.sync.Arc.{Arc}
 use Rattle.std.specs.declared.vec.Vec.{Vec}
+use Rattle.std.proofs.lemmas.Option.{get_or_from_slice_get}
 use Rattle.std.proofs.lemmas.List.{length-map, map-append}
 use Rattle.arrays.specs.Batch.{Batch}
 use Rattle.arrays.specs.Kind.{kind_of}
@@ -25,7 +26,7 @@ loop-k-preserved c =
     let pieces = c.args.batch_stats.now in
     let i = c.loop-k.k in
     let b = c.index-batches-k.result in
-    let p = c.index-batch_stats-k.result in
+    let p = c.get.result.now in
     let new = c.in_ok-new.field-0 in
     let one : AreWider k (arc_value b).rows (items_in p) (items_in new) =
     subst (λ (v : Vec ColumnStats Global). AreWider k (arc_value b).rows (items_in p) v.items) (sym c.in_ok-new.ensures.ok)
@@ -38,7 +39,7 @@ loop-k-preserved c =
     (omega (arith, c.loop-k-test.true, length-map batches (λ (x : Arc Batch Global). arc_value x)))
     (length-map pieces (λ (x : Piece). items_in x) ∙ c.requires ∙ sym (length-map batches (λ (x : Arc Batch Global). arc_value x)))
     (at-image (λ (x : Arc Batch Global). arc_value x) batches i b c.loop-k-test.true c.index-batches-k.is)
-    (at-image (λ (x : Piece). items_in x) pieces i p (omega (arith, c.loop-k-test.true, c.requires)) c.index-batch_stats-k.is)
+    (at-image (λ (x : Piece). items_in x) pieces i p (omega (arith, c.loop-k-test.true, c.requires)) (sym (get_or_from_slice_get pieces i p p c.get.ensures)))
     pushed c.loop-k.invariant one
 
 pub returns : goal.returns

@@ -1,5 +1,6 @@
 use Rattle.std.proofs.Common.{◌∙◌, ap, map, sym}
 use Rattle.std.specs.Arc.{arc_value}
+use Rattle.compaction.specs.Under.{pieces_of}
 use Rattle.table.proofs.PutLemmas.{if-ok, with-same}
 use Rattle.table.specs.declared.storage.Storage.{Storage}
 use Rattle.std.specs.declared.alloc.Global.{Global}
@@ -11,13 +12,11 @@ use Rattle.table.proofs.storage.Storage.share.Goals as goal
 pub returns : goal.returns
 returns c =
     let storage = c.args.self.now in
-    let pieces = c.in_ok-batch_stats.batch_stats.items in
+    let pieces = c.in_ok-batch_stats.batch_stats in
     if-ok
     (λ (h : Storage) is.
     with-same storage h c.in_ok-batches.batches.items pieces
     (c.in_ok-batches.ensures ∙ ap (map arc_value) c.deref.ensures.value)
-    (sym (map-map (λ (v : Vec ColumnStats Global). v.items) arc_value pieces)
-    ∙ ap (map (λ (v : Vec ColumnStats Global). v.items)) (c.in_ok-batch_stats.ensures ∙ ap (map arc_value) c.deref-2.ensures.value)
-    ∙ map-map (λ (v : Vec ColumnStats Global). v.items) arc_value storage.batch_stats.items)
+    (ap pieces_of c.in_ok-batch_stats.ensures)
     is)
     c.with_batches.result c.with_batches.ensures
