@@ -11,6 +11,8 @@ ghost use Rattle.shared.specs.Balance.{IsOfWorkers};
 ghost use Rattle.shared.specs.Hand.{AreNew, IsWhole, columns_of_hand};
 ghost use Rattle.shared.specs.Known.{IsLegalKnown, known_of};
 ghost use Rattle.shared.specs.Missing.{AllThere};
+ghost use Rattle.shared.specs.Named.{IsNamed};
+ghost use Rattle.shared.specs.Opened.{IsCount};
 ghost use Rattle.table.specs.Stored.{stored_field};
 ghost use Rattle.table.specs.Widened.{add_fault};
 
@@ -18,10 +20,9 @@ use answers::OpenGate;
 use arrays::{Field, File, RecordBatch};
 use loads::{LoadFault, load_all};
 use reports::{ColumnFault, FileFault, RunFault};
-use shared::{Blanks, GatherCause, Naming, Pair, Publish, SharedTable, Shown, Worker, open};
+use shared::{GatherCause, Naming, Opening, Publish, SharedTable, Shown, Worker, open};
 use std::alloc::Global;
 use std::marker::Brand;
-use std::sync::ledger::Ledger;
 use std::sync::{Arc, Wait};
 use std::thread::Threads;
 use table::{AddFault, Version};
@@ -42,55 +43,35 @@ pub(crate) fn load_together<W: Wait + Sync, T: Threads + Sync>(
     ensures ok { IfOk result (λ v. Holds workers files.items (option_map field_of column) (arc_value v)) }
     ensures err { IfErr result (StopsLoading workers files.items (option_map field_of column)) }
 {
-    let pair = Pair::new(alloc, files[0].schema())?;
-    let blanks = Blanks::new(workers);
-    load_under::<Brand, Brand, Brand, Brand, W, T>(
-        wait, threads, alloc, workers, &files, column, blanks, pair,
-    )
+    let schema = files[0].schema().copy(alloc)?;
+    let opening = Opening::new(alloc, schema, workers)?;
+    load_under::<Brand, W, T>(wait, threads, alloc, opening, &files, column)
 }
 
-/// The same, under the names of two ledgers and of a history.
-fn load_under<
-    C: Ledger + Send + Sync,
-    Q: Ledger + Send + Sync,
-    K: Ledger + Send + Sync,
-    N: Naming + Send + Sync,
-    W: Wait + Sync,
-    T: Threads + Sync,
->(
+/// The same, under the table's name.
+fn load_under<N: Naming + Send + Sync, W: Wait + Sync, T: Threads + Sync>(
     wait: &W,
     threads: &T,
     alloc: Global,
-    workers: u32,
+    opening: Opening,
     files: &[File],
     column: Option<Field>,
-    blanks: Blanks,
-    pair: Pair,
 ) -> Result<Arc<Version>, RunFault>
     requires some { 0 < length files.now }
-    requires worker { 1 ≤ workers }
-    requires few { workers ≤ 64 }
-    requires calls { (blanks.calls.name ≡ C.name) × (blanks.calls.parts ≡ C.parts) × (blanks.calls.parts ≡ workers) }
-    requires rows { (blanks.rows.name ≡ Q.name) × (blanks.rows.parts ≡ Q.parts) × (blanks.rows.parts ≡ workers) }
-    requires columns { (blanks.columns.name ≡ K.name) × (blanks.columns.parts ≡ K.parts) × (blanks.columns.parts ≡ workers) }
-    requires pair { (pair.book ≡ N.book) × (pair.fields ≡ N.fields) × (pair.fields ≡ fields_for files.now) }
-    ensures ok { IfOk result (λ v. Holds workers files.now (option_map field_of column) (arc_value v)) }
-    ensures err { IfErr result (StopsLoading workers files.now (option_map field_of column)) }
+    requires count { IsCount opening.workers }
+    requires named { IsNamed N.book N.fields N.calls N.rows N.columns N.workers opening }
+    requires fields { opening.fields ≡ fields_for files.now }
+    ensures ok { IfOk result (λ v. Holds opening.workers files.now (option_map field_of column) (arc_value v)) }
+    ensures err { IfErr result (StopsLoading opening.workers files.now (option_map field_of column)) }
 {
-    let schema = files[0].schema().copy(alloc)?;
-    match open::<C, Q, K, N, &W>(wait, alloc, schema, workers, 0, blanks, pair) {
-        Ok((table, hands, _readers)) => {
-            load_by(wait, threads, alloc, workers, table, hands, files, column)
-        }
+    match open::<N, &W>(wait, alloc, opening, 0) {
+        Ok((table, hands, _readers)) => load_by(wait, threads, alloc, table, hands, files, column),
         Err(_) => Err(RunFault::NoMemory),
     }
 }
 
 /// The same, by the workers of a new table. A table that isn't gathered is closed.
 fn load_by<
-    C: Ledger + Send + Sync,
-    Q: Ledger + Send + Sync,
-    K: Ledger + Send + Sync,
     N: Naming + Send + Sync,
     P: Publish<Item = Shown<N>> + Send,
     W: Wait + Sync,
@@ -99,20 +80,18 @@ fn load_by<
     wait: &W,
     threads: &T,
     alloc: Global,
-    workers: u32,
-    table: SharedTable<C, Q, K, N, P>,
-    hands: Vec<Worker<C, Q, K, N>>,
+    table: SharedTable<N, P>,
+    hands: Vec<Worker<N>>,
     files: &[File],
     column: Option<Field>,
 ) -> Result<Arc<Version>, RunFault>
     requires some { 0 < length files.now }
-    requires worker { 1 ≤ workers }
-    requires table { table ≡ workers }
-    requires count { length hands.items ≡ workers }
+    requires worker { 1 ≤ table }
+    requires count { length hands.items ≡ table }
     requires new { AreNew N.fields 0 hands.items }
     requires fields { N.fields ≡ fields_for files.now }
-    ensures ok { IfOk result (λ v. Holds workers files.now (option_map field_of column) (arc_value v)) }
-    ensures err { IfErr result (StopsLoading workers files.now (option_map field_of column)) }
+    ensures ok { IfOk result (λ v. Holds table files.now (option_map field_of column) (arc_value v)) }
+    ensures err { IfErr result (StopsLoading table files.now (option_map field_of column)) }
 {
     let mut hands = hands;
     match load_all(
@@ -154,10 +133,10 @@ fn load_by<
 
 /// All that the workers of a table appended, with a column of the field behind it, which the first of them adds. Only where
 /// each batch has as many columns as the first file is it known that no column came before: any other batch is refused.
-fn gather_with<C: Ledger, Q: Ledger, K: Ledger, N: Naming, P: Publish<Item = Shown<N>>, W: Wait>(
+fn gather_with<N: Naming, P: Publish<Item = Shown<N>>, W: Wait>(
     wait: &W,
-    table: SharedTable<C, Q, K, N, P>,
-    hands: Vec<Worker<C, Q, K, N>>,
+    table: SharedTable<N, P>,
+    hands: Vec<Worker<N>>,
     files: &[File],
     field: Field,
 ) -> Result<Arc<Version>, RunFault>
@@ -185,10 +164,10 @@ fn gather_with<C: Ledger, Q: Ledger, K: Ledger, N: Naming, P: Publish<Item = Sho
 }
 
 /// Has the first worker add a column of the field.
-fn widen_by_first<C: Ledger, Q: Ledger, K: Ledger, N: Naming, P: Publish<Item = Shown<N>>, W: Wait>(
+fn widen_by_first<N: Naming, P: Publish<Item = Shown<N>>, W: Wait>(
     wait: &W,
-    table: &SharedTable<C, Q, K, N, P>,
-    hands: &mut [Worker<C, Q, K, N>],
+    table: &SharedTable<N, P>,
+    hands: &mut [Worker<N>],
     field: Field,
 ) -> Result<(), AddFault>
     requires { 0 < length hands.old }
@@ -241,10 +220,10 @@ fn is_as_wide(batches: &[Arc<RecordBatch>], count: usize) -> bool
 }
 
 /// All that the workers of a table appended. As all of them are there, only want of memory can stand against it.
-fn gather_all<C: Ledger, Q: Ledger, K: Ledger, N: Naming, P: Publish<Item = Shown<N>>, W: Wait>(
+fn gather_all<N: Naming, P: Publish<Item = Shown<N>>, W: Wait>(
     wait: &W,
-    table: SharedTable<C, Q, K, N, P>,
-    hands: Vec<Worker<C, Q, K, N>>,
+    table: SharedTable<N, P>,
+    hands: Vec<Worker<N>>,
 ) -> Result<Arc<Version>, RunFault>
     requires { AllThere table hands.items }
     ensures whole { IfOk result (λ v. All (IsWhole (known_of (arc_value v))) hands.items) }

@@ -5,7 +5,6 @@ use denote.Struct.Declared.{shape}
 use denote.Struct.Struct.{Struct}
 use denote.Ref.{NamedLft}
 use denote.RattleType.{RattleType}
-use Rattle.std.specs.declared.sync.ledger.Ledger as ledger
 use Rattle.arrays.proofs.SendingLemmas.{file-sync}
 use Rattle.arrays.specs.contracts.file.File as file
 use Rattle.loads.specs.contracts.appending.Gated as gated
@@ -22,9 +21,9 @@ loading-sync ℓ A a =
     let T = loading.the_type ℓ A in
     recorded_sync (Struct (shape T)) T.D T.to T.to_one (struct_sync (shape T) (search (a, sendable) depth 20, (shr_slice_sync ℓ.mir ℓ.lft file.the_row file-sync, (search sendable, tt))))
 
-module _ (C Q K N P : RattleType) (c : ledger.Ghosts C.Denot) (q : ledger.Ghosts Q.Denot) (k : ledger.Ghosts K.Denot) (n : naming.Ghosts N.Denot) (m : names.Ghosts N.Denot) (p : publish.Ghosts P.Denot Showing) (send-P : IsSend P) where
-  pub gated-sync : (ℓ : NamedLft) (W G : RattleType) → IsSync W → IsSync G → IsSync (gated.the_row ℓ C Q K N P W G c q k n m p)
+module _ (N P : RattleType) (n : naming.Ghosts N.Denot) (m : names.Ghosts N.Denot) (p : publish.Ghosts P.Denot Showing) (send-P : IsSend P) where
+  pub gated-sync : (ℓ : NamedLft) (W G : RattleType) → IsSync W → IsSync G → IsSync (gated.the_row ℓ N P W G n m p)
   gated-sync ℓ W G w g =
-      let T = gated.the_type ℓ C Q K N P W G c q k n m p in
+      let T = gated.the_type ℓ N P W G n m p in
       recorded_sync (Struct (shape T)) T.D T.to T.to_one
-      (struct_sync (shape T) (search (w, sendable) depth 20, (shr_sync ℓ.mir ℓ.lft (table.the_row C Q K N P c q k n m p) (table-sync C Q K N P c q k n m p send-P), (search (g, sendable) depth 20, tt))))
+      (struct_sync (shape T) (search (w, sendable) depth 20, (shr_sync ℓ.mir ℓ.lft (table.the_row N P n m p) (table-sync N P n m p send-P), (search (g, sendable) depth 20, tt))))

@@ -7,17 +7,16 @@ use arrays::RecordBatch;
 use crews::Gate;
 use shared::{Naming, Publish, Receipt, Refusal, SharedTable, Shown, Worker};
 use std::sync::Wait;
-use std::sync::ledger::Ledger;
 
 /// What takes the batches of workers.
-pub(crate) trait Append<C: Ledger, Q: Ledger, K: Ledger, N: Naming> {
+pub(crate) trait Append<N: Naming> {
     /// Takes a batch of the worker at a place, whose append number `call` it is. After a refusal the worker has seen more at
     /// the most.
     fn append(
         &self,
         place: usize,
         call: u32,
-        worker: &mut Worker<C, Q, K, N>,
+        worker: &mut Worker<N>,
         batch: &RecordBatch,
     ) -> Result<Receipt<N>, Refusal>
         ensures raised { OnOk result (Loaded (batch.now ∷ []) worker.old worker.new) }
@@ -29,37 +28,20 @@ pub(crate) trait Append<C: Ledger, Q: Ledger, K: Ledger, N: Naming> {
 
 /// A table behind a gate.
 #[derive(Drop)]
-pub(crate) struct Gated<
-    'a,
-    C: Ledger,
-    Q: Ledger,
-    K: Ledger,
-    N: Naming,
-    P: Publish<Item = Shown<N>>,
-    W: Wait,
-    G: Gate,
-> {
+pub(crate) struct Gated<'a, N: Naming, P: Publish<Item = Shown<N>>, W: Wait, G: Gate> {
     pub(crate) wait: &'a W,
-    pub(crate) table: &'a SharedTable<C, Q, K, N, P>,
+    pub(crate) table: &'a SharedTable<N, P>,
     pub(crate) gate: &'a G,
 }
 
-impl<
-    'a,
-    C: Ledger,
-    Q: Ledger,
-    K: Ledger,
-    N: Naming,
-    P: Publish<Item = Shown<N>>,
-    W: Wait,
-    G: Gate,
-> Append<C, Q, K, N> for Gated<'a, C, Q, K, N, P, W, G> {
+impl<'a, N: Naming, P: Publish<Item = Shown<N>>, W: Wait, G: Gate> Append<N>
+    for Gated<'a, N, P, W, G> {
     /// A place over 2^32 - 1 is that number to the gate.
     fn append(
         &self,
         place: usize,
         call: u32,
-        worker: &mut Worker<C, Q, K, N>,
+        worker: &mut Worker<N>,
         batch: &RecordBatch,
     ) -> Result<Receipt<N>, Refusal> {
         let place = u32::try_from(place).unwrap_or(u32::MAX);

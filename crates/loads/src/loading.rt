@@ -13,7 +13,6 @@ use crews::Gate;
 use shared::{Naming, Publish, Receipt, SharedTable, Shown, Worker};
 use std::alloc::Global;
 use std::sync::Wait;
-use std::sync::ledger::Ledger;
 use std::thread::Threads;
 
 /// Loads files into the table of the workers, each worker in a thread of its own: file f by the worker at the place that f
@@ -29,9 +28,6 @@ use std::thread::Threads;
 /// were stopped by that alone. What was appended stays, and nothing is left with the workers. `NoMemory` too where there was no
 /// room for the answer, and then nothing was begun.
 pub fn load_all<
-    C: Ledger + Send + Sync,
-    Q: Ledger + Send + Sync,
-    K: Ledger + Send + Sync,
     N: Naming + Send + Sync,
     P: Publish<Item = Shown<N>> + Send,
     W: Wait + Sync,
@@ -41,8 +37,8 @@ pub fn load_all<
     wait: &W,
     threads: &T,
     alloc: Global,
-    table: &SharedTable<C, Q, K, N, P>,
-    workers: &mut [Worker<C, Q, K, N>],
+    table: &SharedTable<N, P>,
+    workers: &mut [Worker<N>],
     files: &[File],
     gate: &G,
 ) -> Result<Vec<Receipt<N>>, LoadFault>

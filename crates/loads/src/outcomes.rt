@@ -9,14 +9,10 @@ ghost use Rattle.shared.specs.Left.{Left};
 
 use crate::fault::LoadFault;
 use shared::{Naming, Outcome, Receipt, Refusal, Worker};
-use std::sync::ledger::Ledger;
 
 /// Takes what was left with each worker, in order, into a list that has room for it. Of a worker with whom nothing was left, it
 /// is an outcome without receipt and without stop.
-pub(crate) fn take_outcomes<C: Ledger, Q: Ledger, K: Ledger, N: Naming>(
-    workers: &mut [Worker<C, Q, K, N>],
-    outcomes: &mut Vec<Outcome<N>>,
-)
+pub(crate) fn take_outcomes<N: Naming>(workers: &mut [Worker<N>], outcomes: &mut Vec<Outcome<N>>)
     requires { vec_len outcomes.old + length workers.old ≤ vec_capacity outcomes.old }
     ensures outcomes { outcomes.new.items ≡ outcomes.old.items ++ map outcome_of workers.old }
     ensures taken { AllZip (IsLeft None) workers.old workers.new }

@@ -10,15 +10,14 @@ use crate::appending::Append;
 use arrays::{File, RecordBatch};
 use shared::{Naming, Outcome, Receipt, Refusal, Worker};
 use std::sync::Arc;
-use std::sync::ledger::Ledger;
 
 /// Appends the files of a place of so many, and leaves with the worker how far it came.
-pub(crate) fn work<C: Ledger, Q: Ledger, K: Ledger, N: Naming, A: Append<C, Q, K, N>>(
+pub(crate) fn work<N: Naming, A: Append<N>>(
     table: &A,
     files: &[File],
     count: usize,
     place: usize,
-    worker: &mut Worker<C, Q, K, N>,
+    worker: &mut Worker<N>,
 )
     requires { place < count }
     ensures { IsLoadedBy (batches_of files.now) count place worker.old worker.new }
@@ -31,13 +30,13 @@ pub(crate) fn work<C: Ledger, Q: Ledger, K: Ledger, N: Naming, A: Append<C, Q, K
 
 /// Appends the files of a place, in order, up to the first refusal, and answers where that was. The worker had `first` calls
 /// when it began.
-fn add_files<C: Ledger, Q: Ledger, K: Ledger, N: Naming, A: Append<C, Q, K, N>>(
+fn add_files<N: Naming, A: Append<N>>(
     table: &A,
     files: &[File],
     count: usize,
     place: usize,
     first: u32,
-    worker: &mut Worker<C, Q, K, N>,
+    worker: &mut Worker<N>,
     last: &mut Option<Receipt<N>>,
 ) -> Option<(usize, usize, Refusal)>
     requires place { place < count }
@@ -63,12 +62,12 @@ fn add_files<C: Ledger, Q: Ledger, K: Ledger, N: Naming, A: Append<C, Q, K, N>>(
 }
 
 /// Appends batches, in order, up to the first refusal, and answers at which of them that was.
-fn add_batches<C: Ledger, Q: Ledger, K: Ledger, N: Naming, A: Append<C, Q, K, N>>(
+fn add_batches<N: Naming, A: Append<N>>(
     table: &A,
     batches: &[Arc<RecordBatch>],
     place: usize,
     first: u32,
-    worker: &mut Worker<C, Q, K, N>,
+    worker: &mut Worker<N>,
     last: &mut Option<Receipt<N>>,
 ) -> Result<(), (usize, Refusal)>
     requires first { first ≤ calls_of_hand worker.old }

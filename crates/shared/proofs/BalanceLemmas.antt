@@ -1,11 +1,16 @@
 -- A history with one pair more.
-use Rattle.std.proofs.Common.{◌≡◌, ℕ, ◌+◌, ◌<◌, ◌∷◌, ◌++◌, [], length, ◌∙◌, ap, sym, subst, arith, length-append}
+use Rattle.std.proofs.Common.{◌≡◌, ℕ, ◌+◌, ◌<◌, List, ◌∷◌, ◌++◌, [], length, ◌∙◌, ap, sym, subst, arith, length-append}
 use Rattle.std.proofs.lemmas.List.Elements.{All-map, All-push}
 use Rattle.arrays.specs.Batch.{Batch, rows_of, Table}
-use Rattle.shared.specs.Balance.{IsBalanced, IsOfWorkers}
+use Rattle.arrays.specs.Shape.{FieldShape}
+use Rattle.shared.specs.Balance.{IsBalanced, IsOfWorkers, ShowsKnown}
+use Rattle.shared.specs.Changes.{Change, field_added, known_after}
+use Rattle.shared.specs.Known.{Known}
+use Rattle.shared.proofs.KnownLemmas.{known_widened}
+use Rattle.table.specs.Contents.{Contents}
 use Rattle.table.specs.History.{History, rows}
-use Rattle.table.specs.Widened.{widened, widened_table}
-use Rattle.table.proofs.BatchLemmas.{length-rows_of}
+use Rattle.table.specs.Widened.{widened, widened_table, with_field}
+use Rattle.arrays.proofs.BatchLemmas.{length-rows_of}
 use Rattle.table.proofs.HistoryLemmas.{rows-push}
 use Rattle.table.proofs.WidenedLemmas.{length-table, length-widened, rows-widened}
 
@@ -51,3 +56,15 @@ balanced_wider n calls row_count h next is same =
 pub workers_wider : (n count : ℕ) (h next : History) → IsOfWorkers count h → next ≡ widened n h → IsOfWorkers count next
 workers_wider n count h next all same =
     subst (IsOfWorkers count) (sym same) (All-map (λ (e : ℕ × Table). e.0 < count) (λ (e : ℕ × Table). (e.0, widened_table n e.1)) h all)
+
+-- the same of a version of the table
+pub shows_same : (count : ℕ) (k : Known) (s version : Contents) → ShowsKnown count k s → version ≡ s → ShowsKnown count k version
+shows_same count k s version is same = subst (ShowsKnown count k) (sym same) is
+
+-- the same of a table with a column more
+pub shows_widened : (count : ℕ) (first : List FieldShape) (xs ys : List Change) (s next : Contents) (f : FieldShape) → ShowsKnown count (known_after first xs) s → ys ≡ xs ++ field_added f ∷ []
+    → next ≡ with_field s f → ShowsKnown count (known_after first ys) next
+shows_widened count first xs ys s next f is added same = record {
+  known = known_widened first xs ys s next f is.known added same;
+  workers = workers_wider (length s.fields + 1) count s.history next.history is.workers (ap (λ (t : Contents). t.history) same);
+}

@@ -7,6 +7,7 @@ use Rattle.std.proofs.lemmas.Bool.Decides.{nat_tests}
 use Rattle.arrays.specs.Batch.{Batch, rows_of}
 use Rattle.arrays.specs.First.{first}
 use Rattle.arrays.specs.Shape.{FieldShape}
+use Rattle.shared.specs.Balance.{IsOfWorkers, ShowsKnown}
 use Rattle.shared.specs.Hand.{Hand, HasAdded, HasSeen, HasWidened, IsKept, IsRaised, calls_of_hand, having_added, having_counted, having_seen, rows_of_hand}
 use Rattle.shared.specs.Known.{Begins, IsLegalKnown, Known, known_of, with_column}
 use Rattle.shared.proofs.BalanceLemmas.{rows_pushed, rows_widened}
@@ -17,7 +18,7 @@ use Rattle.table.specs.History.{History, rows}
 use Rattle.table.specs.declared.refusal.Refusal.{Refusal}
 use Rattle.table.specs.declared.refusal.Refusal.TheVariants.{BookFull, SchemaDiffers, TableFull}
 use Rattle.table.specs.Widened.{widened, with_field}
-use Rattle.table.proofs.BatchLemmas.{length-rows_of}
+use Rattle.arrays.proofs.BatchLemmas.{length-rows_of}
 use Rattle.table.proofs.WidenedLemmas.{length-widened, widened-again}
 
 pub ok_each : {A E : Type 0} {P Q : A → Type 0} (r : Result A E) → ((x : A) → P x → Q x) → IfOk r P → IfOk r Q
@@ -93,6 +94,11 @@ pub known_joined : (max_rows : ℕ) (before after : Contents) → IsCompacted ma
 known_joined max_rows before after is =
     ap (λ (fs : List FieldShape). record { fields = fs; history = after.history }) is.fields
     ∙ ap (λ (h : History). record { fields = before.fields; history = h }) is.history
+
+-- it shows what is known as before
+pub shows_joined : (count max_rows : ℕ) (k : Known) (before after : Contents) → IsCompacted max_rows before after → ShowsKnown count k before → ShowsKnown count k after
+shows_joined count max_rows k before after joined is =
+    record { known = is.known ∙ sym (known_joined max_rows before after joined); workers = subst (IsOfWorkers count) (sym joined.history) is.workers }
 
 -- a worker that saw what begins with what it had seen
 pub seen : (k : Known) (old new : Hand) → Begins old.seen k → IsLegalKnown k → new ≡ having_seen k old → HasSeen old new

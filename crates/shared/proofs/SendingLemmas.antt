@@ -5,7 +5,6 @@ use denote.Struct.Struct.{Struct}
 use denote.RattleType.{RattleType}
 use Rattle.std.proofs.Crossing.{crosses}
 use Rattle.std.proofs.sync.Mutex.TheSendSync as mutex
-use Rattle.std.specs.declared.sync.ledger.Ledger as ledger
 use Rattle.shared.proofs.ledgers.Books.TheSendSync as books
 use Rattle.shared.proofs.ledgers.Shares.TheSendSync as shares
 use Rattle.histories.proofs.front.Front.TheSendSync as front
@@ -19,10 +18,10 @@ use Rattle.shared.specs.declared.shown.Publish as publish
 use Rattle.shared.specs.Showing.{Showing}
 use Rattle.table.proofs.SendingLemmas.{state-send, version-send, version-sync}
 
-module _ (C Q K N P : RattleType) (c : ledger.Ghosts C.Denot) (q : ledger.Ghosts Q.Denot) (k : ledger.Ghosts K.Denot) (n : naming.Ghosts N.Denot) (m : names.Ghosts N.Denot) (p : publish.Ghosts P.Denot Showing) (send-P : IsSend P) where
-  inside-send : IsSend (inside.the_row C Q K N P m c q k n p)
+module _ (N P : RattleType) (n : naming.Ghosts N.Denot) (m : names.Ghosts N.Denot) (p : publish.Ghosts P.Denot Showing) (send-P : IsSend P) where
+  inside-send : IsSend (inside.the_row N P m n p)
   inside-send =
-      let T = inside.the_type C Q K N P m c q k n p in
+      let T = inside.the_type N P m n p in
       recorded_send (Struct (shape T)) T.D T.to T.to_one
       (struct_send (shape T) (
         search (state-send, crosses, sendable) depth 20,
@@ -50,8 +49,8 @@ module _ (C Q K N P : RattleType) (c : ledger.Ghosts C.Denot) (q : ledger.Ghosts
         ),
       ))
 
-  pub locked-send : IsSend (locked.the_field C Q K N P m c q k n p).row
+  pub locked-send : IsSend (locked.the_field N P m n p).row
   locked-send = search (inside-send, crosses, sendable) depth 20
 
-  pub table-sync : IsSync (table.the_row C Q K N P c q k n m p)
+  pub table-sync : IsSync (table.the_row N P n m p)
   table-sync = search (locked-send, mutex.the_sync, crosses, sendable) depth 40

@@ -6,7 +6,6 @@ use crate::shown::{Publish, Shown};
 use crate::worker::Worker;
 use colbits::NoMemory;
 use std::alloc::{AllocError, AllocFailed};
-use std::sync::ledger::Ledger;
 use thiserror::Error;
 
 /// Why a table isn't opened.
@@ -72,8 +71,8 @@ pub enum GatherCause {
 
 /// Why a table isn't gathered, with the table and the workers as they were handed in.
 #[derive(Drop)]
-pub struct GatherFault<C: Ledger, Q: Ledger, K: Ledger, N: Naming, P: Publish<Item = Shown<N>>> {
+pub struct GatherFault<N: Naming, P: Publish<Item = Shown<N>>> {
     pub cause: GatherCause,
-    pub table: SharedTable<C, Q, K, N, P>,
-    pub workers: Vec<Worker<C, Q, K, N>>,
+    pub table: SharedTable<N, P>,
+    pub workers: Vec<Worker<N>>,
 }

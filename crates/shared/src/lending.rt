@@ -6,20 +6,19 @@ ghost use Rattle.shared.specs.Hand.{calls_of_hand, columns_of_hand, rows_of_hand
 use crate::ledgers::{Books, Shares};
 use crate::naming::Naming;
 use crate::worker::Worker;
-use std::sync::ledger::Ledger;
 
 /// Tells what the books' totals are, where the shares and those of the workers have all parts. Nothing changes: each worker
 /// lends what it has, and gets it back.
-pub(crate) fn tell_totals<C: Ledger, Q: Ledger, K: Ledger, N: Naming>(
-    books: &mut Books<C, Q, K>,
-    shares: &mut Shares<C, Q, K>,
-    workers: &mut [Worker<C, Q, K, N>],
+pub(crate) fn tell_totals<N: Naming>(
+    books: &mut Books<N>,
+    shares: &mut Shares<N>,
+    workers: &mut [Worker<N>],
 )
-    requires call_parts { (shares.old.calls.parts ≤ C.parts) × (C.parts ≤ shares.old.calls.parts + length workers.old) }
-    requires row_parts { (shares.old.rows.parts ≤ Q.parts) × (Q.parts ≤ shares.old.rows.parts + length workers.old) }
-    requires column_parts { (shares.old.columns.parts ≤ K.parts) × (K.parts ≤ shares.old.columns.parts + length workers.old) }
+    requires call_parts { (shares.old.calls.parts ≤ N.workers) × (N.workers ≤ shares.old.calls.parts + length workers.old) }
+    requires row_parts { (shares.old.rows.parts ≤ N.workers) × (N.workers ≤ shares.old.rows.parts + length workers.old) }
+    requires column_parts { (shares.old.columns.parts ≤ N.workers) × (N.workers ≤ shares.old.columns.parts + length workers.old) }
     ensures workers { workers.new ≡ workers.old }
-    ensures few { shares.old.calls.parts + length workers.old ≤ C.parts }
+    ensures few { shares.old.calls.parts + length workers.old ≤ N.workers }
     ensures call_share { (shares.new.calls.parts ≡ shares.old.calls.parts) × (shares.new.calls.amount ≡ shares.old.calls.amount) }
     ensures row_share { (shares.new.rows.parts ≡ shares.old.rows.parts) × (shares.new.rows.amount ≡ shares.old.rows.amount) }
     ensures column_share { (shares.new.columns.parts ≡ shares.old.columns.parts) × (shares.new.columns.amount ≡ shares.old.columns.amount) }

@@ -2,7 +2,8 @@
 //!
 //! Start with these:
 //!
-//! - [`open`] makes a [`SharedTable`] with its [`Worker`]s and [`Reader`]s; [`Blanks`] are what it makes ledgers of.
+//! - [`with_table`] opens a [`SharedTable`] with its [`Worker`]s and [`Reader`]s, and runs a [`Session`] on it. [`open`] is for who
+//!   picks the table's name itself: an [`Opening`] is what it is opened with.
 //! - [`SharedTable::append`] adds a batch for a worker and returns a [`Receipt`]; [`SharedTable::snapshot`] gives the newest [`Version`].
 //! - [`Reader::latest`] gives the newest version without the lock; [`Reader::learn`] has it see what a receipt tells of.
 //! - [`SharedTable::compact`] joins neighbouring batches, [`SharedTable::add_column`] adds a nullable column.
@@ -13,27 +14,26 @@
 
 pub mod fault;
 pub mod laws;
-pub mod ledgers;
+mod ledgers;
 mod lending;
 mod locked;
 mod missing;
 pub mod naming;
 pub mod opening;
 pub mod outcome;
-pub mod pair;
 pub mod reader;
 mod seal;
+pub mod session;
 pub mod shared_table;
 pub mod shown;
 pub mod worker;
 
 pub use fault::{GatherCause, GatherFault, OpenFault};
-pub use ledgers::Blanks;
 pub use naming::{Event, Naming};
-pub use opening::open;
+pub use opening::{Opening, open};
 pub use outcome::{Outcome, Receipt};
-pub use pair::Pair;
 pub use reader::Reader;
+pub use session::{Session, with_table};
 pub use shared_table::{Gathered, SharedTable};
 pub use shown::{Publish, Publisher, Shown};
 pub use table::{AddFault, Entry, Refusal, TableState, Version};

@@ -5,7 +5,7 @@ ghost use Rattle.std.specs.Arc.{arc_value};
 ghost use mathlib.Core.List.{IsPrefix};
 ghost use Rattle.arrays.specs.Shape.{field_of};
 ghost use Rattle.shared.specs.Missing.{AllThere};
-ghost use Rattle.shared.specs.Balance.{IsOfWorkers};
+ghost use Rattle.shared.specs.Balance.{IsOfWorkers, ShowsKnown};
 ghost use Rattle.shared.specs.Changes.{known_after};
 ghost use Rattle.shared.specs.Hand.{HasAdded, HasSeen, HasWidened, IsPartOf, IsWhole, calls_of_hand, columns_of_hand, rows_of_hand};
 ghost use Rattle.shared.specs.Known.{IsLegalKnown, known_of};
@@ -28,7 +28,6 @@ use arrays::{Field, RecordBatch};
 use colbits::NoMemory;
 use histories::{Front, Head, Noted};
 use std::marker::Model;
-use std::sync::ledger::Ledger;
 use std::sync::{Arc, Wait};
 use table::{AddFault, Ready, Refusal, TableState, Version};
 
@@ -37,7 +36,7 @@ use table::{AddFault, Ready, Refusal, TableState, Version};
 /// its history is of one of the table's workers, the ledgers count its entries, its rows and the fields that came since it was opened, and readers are
 /// shown the table.
 #[derive(Drop)]
-pub(crate) struct Locked<C: Ledger, Q: Ledger, K: Ledger, N: Naming, P: Publish<Item = Shown<N>>> {
+pub(crate) struct Locked<N: Naming, P: Publish<Item = Shown<N>>> {
     pub(crate) state: TableState,
     /// The last version that was requested, where nothing was added or joined since.
     pub(crate) newest: Option<Arc<Version>>,
@@ -47,58 +46,43 @@ pub(crate) struct Locked<C: Ledger, Q: Ledger, K: Ledger, N: Naming, P: Publish<
     pub(crate) publisher: Option<P>,
     /// Which of those that were shown is shown.
     pub(crate) number: u64,
-    pub(crate) books: Books<C, Q, K>,
+    pub(crate) books: Books<N>,
     /// No part of any ledger; the workers lend it theirs.
-    pub(crate) nothing: Shares<C, Q, K>,
+    pub(crate) nothing: Shares<N>,
 }
 
-impl<C: Ledger, Q: Ledger, K: Ledger, N: Naming, P: Publish<Item = Shown<N>>> Model
-    for Locked<C, Q, K, N, P> {
+impl<N: Naming, P: Publish<Item = Shown<N>>> Model for Locked<N, P> {
     ghost use Rattle.table.specs.Contents.{Contents, contents_code};
 
     ghost Value = { Contents };
 
     ghost coded = { contents_code };
 
-    ghost use Rattle.std.specs.Prelude.{◌≡◌, ◌+◌, IfSome, length};
+    ghost use Rattle.std.specs.Prelude.{◌≡◌, IfSome};
     ghost use Rattle.std.specs.Arc.{arc_value};
-    ghost use Rattle.shared.specs.Balance.{IsBalanced, IsOfWorkers};
+    ghost use Rattle.shared.specs.Balance.{IsCounted};
     ghost use Rattle.shared.specs.Changes.{known_after};
-    ghost use Rattle.shared.specs.Known.{IsLegalKnown, known_of};
-    ghost use Rattle.shared.specs.Showing.{next_number};
 
     ghost view = { λ l. l.state };
 
-    ghost invariant = { λ l. IsBalanced l.books.calls.total l.books.rows.total l.state.history
-        × IsOfWorkers C.parts l.state.history
-        × (Q.parts ≡ C.parts)
+    ghost invariant = { λ l. IsCounted N.workers N.fields l.books.calls.total l.books.rows.total l.books.columns.total (known_after N.fields l.front) l.state
+        × IfSome l.newest (λ v. arc_value v ≡ l.state)
+        × IfSome l.publisher (λ p. P.shows p (record { contents = l.state; number = l.number }))
         × (l.nothing.calls.parts ≡ 0)
         × (l.nothing.calls.amount ≡ 0)
         × (l.nothing.rows.parts ≡ 0)
         × (l.nothing.rows.amount ≡ 0)
-        × IfSome l.newest (λ v. arc_value v ≡ l.state)
-        × (known_after N.fields l.front ≡ known_of l.state)
-        × (length l.state.fields ≡ length N.fields + l.books.columns.total)
-        × IsLegalKnown (known_of l.state)
-        × IfSome l.publisher (λ p. P.shows p (record { contents = l.state; number = l.number }))
-        × (K.parts ≡ C.parts)
         × (l.nothing.columns.parts ≡ 0)
         × (l.nothing.columns.amount ≡ 0) };
 }
 
-impl<C: Ledger, Q: Ledger, K: Ledger, N: Naming, P: Publish<Item = Shown<N>>> Locked<
-    C,
-    Q,
-    K,
-    N,
-    P,
-> {
+impl<N: Naming, P: Publish<Item = Shown<N>>> Locked<N, P> {
     /// Adds a batch of a worker, which it counts, as `TableState::admit_ready` does, and shows it to readers. The worker sees the
     /// table's fields and history, up to its own batch where it was added. After a refusal nothing else is changed.
     pub(crate) fn append<W: Wait>(
         &mut self,
         wait: &W,
-        worker: &mut Worker<C, Q, K, N>,
+        worker: &mut Worker<N>,
         batch: &RecordBatch,
         ready: Ready,
     ) -> Result<Receipt<N>, Refusal>
@@ -139,12 +123,12 @@ impl<C: Ledger, Q: Ledger, K: Ledger, N: Naming, P: Publish<Item = Shown<N>>> Lo
     pub(crate) fn snapshot<W: Wait>(
         &mut self,
         wait: &W,
-        worker: &mut Worker<C, Q, K, N>,
+        worker: &mut Worker<N>,
     ) -> Result<Arc<Version>, NoMemory>
         ensures same { self.new ≡ self.old }
         ensures seen { HasSeen worker.old worker.new }
         ensures all { worker.new.seen ≡ known_of self.old }
-        ensures known { IsOfWorkers C.parts self.old.history }
+        ensures known { IsOfWorkers N.workers self.old.history }
         ensures version { IfOk result (λ v. arc_value v ≡ self.old) }
     {
         worker.see(wait, &self.front);
@@ -156,14 +140,14 @@ impl<C: Ledger, Q: Ledger, K: Ledger, N: Naming, P: Publish<Item = Shown<N>>> Lo
     pub(crate) fn compact<W: Wait>(
         &mut self,
         wait: &W,
-        worker: &mut Worker<C, Q, K, N>,
+        worker: &mut Worker<N>,
         max_rows: u32,
     ) -> Result<Arc<Version>, NoMemory>
         ensures compacted { OnOk result (IsCompacted max_rows self.old self.new) }
         ensures kept { OnErr result (self.new ≡ self.old) }
         ensures seen { HasSeen worker.old worker.new }
         ensures all { worker.new.seen ≡ known_of self.old }
-        ensures known { IsOfWorkers C.parts self.old.history }
+        ensures known { IsOfWorkers N.workers self.old.history }
         ensures version { IfOk result (λ v. arc_value v ≡ self.new) }
     {
         worker.see(wait, &self.front);
@@ -184,7 +168,7 @@ impl<C: Ledger, Q: Ledger, K: Ledger, N: Naming, P: Publish<Item = Shown<N>>> Lo
     pub(crate) fn add_column<W: Wait>(
         &mut self,
         wait: &W,
-        worker: &mut Worker<C, Q, K, N>,
+        worker: &mut Worker<N>,
         field: &Field,
     ) -> Result<(), AddFault>
         ensures allowed { OnOk result (add_fault (field_of field.now) ≡ None) }
@@ -227,10 +211,10 @@ impl<C: Ledger, Q: Ledger, K: Ledger, N: Naming, P: Publish<Item = Shown<N>>> Lo
     pub(crate) fn gather<W: Wait>(
         &mut self,
         wait: &W,
-        workers: &mut [Worker<C, Q, K, N>],
+        workers: &mut [Worker<N>],
     ) -> Result<Arc<Version>, NoMemory>
-        requires all { AllThere C.parts workers.old }
-        requires enough { C.parts ≤ length workers.old }
+        requires all { AllThere N.workers workers.old }
+        requires enough { N.workers ≤ length workers.old }
         ensures workers { workers.new ≡ workers.old }
         ensures same { self.new ≡ self.old }
         ensures version { IfOk result (λ v. arc_value v ≡ self.old) }
@@ -238,7 +222,7 @@ impl<C: Ledger, Q: Ledger, K: Ledger, N: Naming, P: Publish<Item = Shown<N>>> Lo
         ensures rows { length (rows self.old.history) ≡ sum_by rows_of_hand workers.old }
         ensures columns { length self.old.fields ≡ length N.fields + sum_by columns_of_hand workers.old }
         ensures opened { IsPrefix N.fields self.old.fields }
-        ensures known { IsOfWorkers C.parts self.old.history }
+        ensures known { IsOfWorkers N.workers self.old.history }
         ensures legal { IsLegalKnown (known_of self.old) }
         ensures whole { All (IsWhole (known_of self.old)) workers.old }
     {
@@ -249,12 +233,8 @@ impl<C: Ledger, Q: Ledger, K: Ledger, N: Naming, P: Publish<Item = Shown<N>>> Lo
 }
 
 /// Returns once what each worker has seen begins what is known by the front, as it does at once where it isn't more.
-fn begin_all<C: Ledger, Q: Ledger, K: Ledger, N: Naming, W: Wait>(
-    wait: &W,
-    workers: &[Worker<C, Q, K, N>],
-    front: &Front<Event, N>,
-)
-    ensures { All (IsPartOf C.parts (known_after N.fields front.now)) workers.now }
+fn begin_all<N: Naming, W: Wait>(wait: &W, workers: &[Worker<N>], front: &Front<Event, N>)
+    ensures { All (IsPartOf N.workers (known_after N.fields front.now)) workers.now }
 {
     for worker in workers {
         begin_worker(wait, worker, front);
@@ -263,12 +243,8 @@ fn begin_all<C: Ledger, Q: Ledger, K: Ledger, N: Naming, W: Wait>(
 
 /// The same of what one worker has seen.
 #[tactic(auto, using(crate::proofs::PartLemmas::part_more))]
-fn begin_worker<C: Ledger, Q: Ledger, K: Ledger, N: Naming, W: Wait>(
-    wait: &W,
-    worker: &Worker<C, Q, K, N>,
-    front: &Front<Event, N>,
-)
-    ensures { IsPartOf C.parts (known_after N.fields front.now) worker.now }
+fn begin_worker<N: Naming, W: Wait>(wait: &W, worker: &Worker<N>, front: &Front<Event, N>)
+    ensures { IsPartOf N.workers (known_after N.fields front.now) worker.now }
 {
     worker.tell();
     begin(wait, &worker.seen, front);
@@ -330,7 +306,7 @@ fn show_version<W: Wait, N: Naming, P: Publish<Item = Shown<N>>>(
     front: &Front<Event, N>,
     number: &mut u64,
 )
-    requires { known_after N.fields front.now ≡ known_of (arc_value version) }
+    requires { ShowsKnown N.workers (known_after N.fields front.now) (arc_value version) }
     ensures shown { IfSome publisher.new (λ p. P.shows p (record { contents = arc_value version; number = number.new })) }
     ensures counted { IfSome publisher.old (λ p. number.new ≡ next_number number.old) }
 {
@@ -348,7 +324,7 @@ fn show<W: Wait, N: Naming, P: Publish<Item = Shown<N>>>(
     number: &mut u64,
 )
     requires there { is_some next ≡ is_some publisher.old }
-    requires version { IfSome next (λ v. known_after N.fields front.now ≡ known_of (arc_value v)) }
+    requires version { IfSome next (λ v. ShowsKnown N.workers (known_after N.fields front.now) (arc_value v)) }
     ensures shown { IfSome next (λ v. IfSome publisher.new (λ p. P.shows p (record { contents = arc_value v; number = number.new }))) }
     ensures counted { IfSome publisher.old (λ p. number.new ≡ next_number number.old) }
     ensures same { is_some publisher.new ≡ is_some publisher.old }

@@ -5,14 +5,10 @@ ghost use Rattle.shared.specs.Missing.{AllThere, IsMissing, is_there};
 
 use crate::naming::Naming;
 use crate::worker::Worker;
-use std::sync::ledger::Ledger;
 
 /// The least number below the count that none of the workers has. Where there is none, there are as many workers.
 #[tactic(auto, using(crate::proofs::HandLemmas::enough))]
-pub(crate) fn first_missing<C: Ledger, Q: Ledger, K: Ledger, N: Naming>(
-    workers: &[Worker<C, Q, K, N>],
-    count: u32,
-) -> Option<u32>
+pub(crate) fn first_missing<N: Naming>(workers: &[Worker<N>], count: u32) -> Option<u32>
     ensures reported { MatchOption result (AllThere count workers.now) (IsMissing count workers.now) }
     ensures enough { IfNone result (count ≤ length workers.now) }
 {
@@ -25,10 +21,7 @@ pub(crate) fn first_missing<C: Ledger, Q: Ledger, K: Ledger, N: Naming>(
 }
 
 /// Whether one of the workers has the number.
-fn is_there<C: Ledger, Q: Ledger, K: Ledger, N: Naming>(
-    workers: &[Worker<C, Q, K, N>],
-    number: u32,
-) -> bool
+fn is_there<N: Naming>(workers: &[Worker<N>], number: u32) -> bool
     ensures { result ≡ is_there workers.now number }
 {
     for worker in workers {

@@ -1,23 +1,44 @@
-//! The name of a table's history, and what its entries are.
+//! The name of a table, and what the entries of its history are.
 
 use arrays::{Field, RecordBatch};
 use histories::Noted;
 use std::marker::{Brand, Model};
 
-/// The name of a table's history, which fixes the stored fields that it is opened with too. A caller is a function over the
-/// name that is handed the pair of which it is the name.
+/// The name of a table: of its history and of its ledgers. It fixes the stored fields that the table is opened with, and how many
+/// workers it has, too. `with_table` picks one; a caller of `open` is a function over the name that is handed the opening of which
+/// it is the name.
 pub trait Naming: histories::Naming {
-    ghost use Rattle.std.specs.Prelude.{List};
+    ghost use Rattle.std.specs.Prelude.{List, ℕ};
     ghost use Rattle.arrays.specs.Shape.{FieldShape};
 
     /// The stored fields at opening.
     ghost fields: { List FieldShape };
+
+    /// The ledger of the workers' calls.
+    ghost calls: { ℕ };
+
+    /// The ledger of their rows.
+    ghost rows: { ℕ };
+
+    /// The ledger of their columns.
+    ghost columns: { ℕ };
+
+    /// How many workers there are.
+    ghost workers: { ℕ };
 }
 
 impl Naming for Brand {
     ghost use Rattle.std.specs.Prelude.{[]};
 
     ghost fields = { [] };
+
+    ghost calls = { 0 };
+
+    ghost rows = { 0 };
+
+    ghost columns = { 0 };
+
+    ghost workers = { 0 };
 }
 
 /// An entry of a history. No value of it is made.

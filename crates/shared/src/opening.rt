@@ -3,64 +3,163 @@
 ghost use Rattle.std.specs.Prelude.{◌≡◌, ◌⊎◌, ◌≤◌, [], IfErr, IfOk, IfSome, OnOk, length, replicate};
 ghost use Rattle.left_right.specs.Handles.{pending, published};
 ghost use Rattle.std.specs.Arc.{arc_value};
+ghost use Rattle.shared.specs.Balance.{ShowsKnown};
 ghost use Rattle.shared.specs.Changes.{known_after};
 ghost use Rattle.shared.specs.Hand.{AreNew};
-ghost use Rattle.shared.specs.Known.{known_of};
+ghost use Rattle.shared.specs.Named.{IsNamed};
 ghost use Rattle.shared.specs.Opened.{IsCount, IsFew, IsOpenFault};
 ghost use Rattle.table.specs.Stored.{stored_fields};
 
 use crate::fault::OpenFault;
-use crate::ledgers::Blanks;
+use crate::ledgers::{Blanks, Books, Shares};
 use crate::naming::{Event, Naming};
-use crate::pair::Pair;
 use crate::reader::Reader;
 use crate::shared_table::SharedTable;
 use crate::shown::{Publisher, Shown};
 use crate::worker::{Worker, new_workers};
 use arrays::Schema;
 use colbits::NoMemory;
-use histories::Front;
+use histories::{Front, Head};
 use left_right::WriteHandle;
 use std::alloc::Global;
-use std::sync::ledger::Ledger;
+use std::marker::Model;
 use std::sync::{Arc, Wait};
 use table::{TableState, Version};
 
 /// The most workers that a table may have, and the most readers.
 const MOST: u32 = 64;
 
+/// A table without a name yet, which nothing was appended to, and the empty version of it, which readers are shown first.
+///
+/// Clauses see what its name is of.
+#[derive(Drop)]
+pub struct Opening {
+    state: TableState,
+    version: Arc<Version>,
+    log: histories::Opened<Event>,
+    blanks: Blanks,
+    workers: u32,
+}
+
+impl Model for Opening {
+    ghost use Rattle.shared.specs.Named.{Named, named_code};
+
+    ghost Value = { Named };
+
+    ghost coded = { named_code };
+
+    ghost use Rattle.std.specs.Prelude.{◌≡◌, []};
+    ghost use Rattle.std.specs.Arc.{arc_value};
+
+    ghost view = { λ o. record {
+      book = o.log;
+      fields = o.state.fields;
+      calls = o.blanks.calls.name;
+      rows = o.blanks.rows.name;
+      columns = o.blanks.columns.name;
+      workers = o.workers;
+    } };
+
+    ghost invariant = { λ o. (o.state ≡ record { fields = o.state.fields; history = []; batches = [] })
+        × (arc_value o.version ≡ o.state)
+        × (o.blanks.calls.parts ≡ o.workers)
+        × (o.blanks.rows.parts ≡ o.workers)
+        × (o.blanks.columns.parts ≡ o.workers) };
+}
+
+impl Opening {
+    /// The opening of a table of the schema, for so many workers.
+    pub fn new(alloc: Global, schema: Schema, workers: u32) -> Result<Opening, NoMemory>
+        ensures fields { IfOk result (λ o. o.fields ≡ stored_fields schema) }
+        ensures workers { IfOk result (λ o. o.workers ≡ workers) }
+    {
+        let state = TableState::new(alloc, schema)?;
+        let version = state.version()?;
+        Ok(Opening {
+            state,
+            version,
+            log: histories::Opened::new(),
+            blanks: Blanks::new(workers),
+            workers,
+        })
+    }
+
+    /// How many workers the table is to have.
+    fn workers(&self) -> u32
+        ensures { result ≡ self.now.workers }
+    {
+        self.workers
+    }
+
+    /// The table, its empty version, its history, and its ledgers, by its name.
+    fn named<N: Naming>(self) -> Parts<N>
+        requires { IsNamed N.book N.fields N.calls N.rows N.columns N.workers self }
+        ensures state { result.0 ≡ record { fields = N.fields; history = []; batches = [] } }
+        ensures version { arc_value result.1 ≡ result.0 }
+        ensures front { result.2.1 ≡ [] }
+        ensures totals { (result.3.0.calls.total ≡ 0) × (result.3.0.rows.total ≡ 0) × (result.3.0.columns.total ≡ 0) }
+        ensures parts { (result.3.1.calls.parts ≡ N.workers) × (result.3.1.rows.parts ≡ N.workers) × (result.3.1.columns.parts ≡ N.workers) }
+        ensures amounts { (result.3.1.calls.amount ≡ 0) × (result.3.1.rows.amount ≡ 0) × (result.3.1.columns.amount ≡ 0) }
+    {
+        let Opening {
+            state,
+            version,
+            log,
+            blanks,
+            workers: _,
+        } = self;
+        (state, version, log.named::<N>(), blanks.open::<N>())
+    }
+}
+
+/// What an opening has by its name.
+type Parts<N> = (
+    TableState,
+    Arc<Version>,
+    (Head<Event, N>, Front<Event, N>),
+    (Books<N>, Shares<N>),
+);
+
 /// What `open` gives: the table, its workers and its readers.
-pub type Opened<C, Q, K, N, R> = (
-    SharedTable<C, Q, K, N, Publisher<N, R>>,
-    Vec<Worker<C, Q, K, N>>,
+pub type Opened<N, R> = (
+    SharedTable<N, Publisher<N, R>>,
+    Vec<Worker<N>>,
     Vec<Reader<N>>,
 );
 
-/// A table of so many workers, from 1 to 64, and readers, up to 64, for batches of the schema; the workers, numbered from 0,
-/// and the readers. The blanks are of the ledgers of the workers' calls, of their rows and of their columns, each with a part
-/// for each worker, and the pair was made of the same schema; a caller is a function over their names that is handed them.
+/// A table of the opening's workers, from 1 to 64, and so many readers, up to 64, for batches of its schema; the workers,
+/// numbered from 0, and the readers. A caller is a function over the name that is handed the opening; `with_table` is one.
 ///
 /// # Errors
 /// `NoWorkers`, `TooMany` by the numbers; `NoMemory` where a growth was refused; `NoPlace` where a reader was given no place,
 /// which may be without cause.
-pub fn open<C: Ledger, Q: Ledger, K: Ledger, N: Naming, R: Wait + Drop>(
+pub fn open<N: Naming, R: Wait + Drop>(
     wait: R,
     alloc: Global,
-    schema: Schema,
-    workers: u32,
+    opening: Opening,
     readers: u32,
-    blanks: Blanks,
-    pair: Pair,
-) -> Result<Opened<C, Q, K, N, R>, OpenFault>
-    requires calls { (blanks.calls.name ≡ C.name) × (blanks.calls.parts ≡ C.parts) × (blanks.calls.parts ≡ workers) }
-    requires rows { (blanks.rows.name ≡ Q.name) × (blanks.rows.parts ≡ Q.parts) × (blanks.rows.parts ≡ workers) }
-    requires columns { (blanks.columns.name ≡ K.name) × (blanks.columns.parts ≡ K.parts) × (blanks.columns.parts ≡ workers) }
-    requires pair { (pair.book ≡ N.book) × (pair.fields ≡ N.fields) × (pair.fields ≡ stored_fields schema) }
-    ensures table { IfOk result (λ r. r.0 ≡ workers) }
-    ensures count { IfOk result (λ r. length r.1.items ≡ workers) }
+) -> Result<Opened<N, R>, OpenFault>
+    requires named { IsNamed N.book N.fields N.calls N.rows N.columns N.workers opening }
+    ensures table { IfOk result (λ r. r.0 ≡ opening.workers) }
+    ensures count { IfOk result (λ r. length r.1.items ≡ opening.workers) }
     ensures new { IfOk result (λ r. AreNew N.fields 0 r.1.items) }
     ensures readers { IfOk result (λ r. r.2.items ≡ replicate readers (record { fields = N.fields; history = [] })) }
-    ensures few { OnOk result (IsCount workers × IsFew readers) }
+    ensures few { OnOk result (IsCount opening.workers × IsFew readers) }
+    ensures err { IfErr result (IsOpenFault opening.workers readers) }
+{
+    let workers = opening.workers();
+    check_counts(workers, readers)?;
+    let (state, version, history, (books, mut shares)) = opening.named::<N>();
+    let hands = new_workers(alloc, workers, &mut shares, &history.1)?;
+    let (publisher, all) = new_readers(wait, alloc, readers, version, &history.1)?;
+    let ledgers = (books, shares);
+    let table = SharedTable::new(alloc, state, history, publisher, ledgers, workers);
+    Ok((table, hands, all))
+}
+
+/// That a table may have so many workers and readers.
+pub(crate) fn check_counts(workers: u32, readers: u32) -> Result<(), OpenFault>
+    ensures ok { OnOk result (IsCount workers × IsFew readers) }
     ensures err { IfErr result (IsOpenFault workers readers) }
 {
     if workers == 0 {
@@ -69,15 +168,7 @@ pub fn open<C: Ledger, Q: Ledger, K: Ledger, N: Naming, R: Wait + Drop>(
     if workers > MOST || readers > MOST {
         return Err(OpenFault::TooMany);
     }
-    let state = TableState::new(alloc, schema)?;
-    let (opened, version) = pair.into_parts();
-    let (head, front) = opened.named::<N>();
-    let (books, mut shares) = blanks.open::<C, Q, K>();
-    let hands = new_workers(alloc, workers, &mut shares, &front)?;
-    let (publisher, all) = new_readers(wait, alloc, readers, version, &front)?;
-    let ledgers = (books, shares);
-    let table = SharedTable::new(alloc, state, (head, front), publisher, ledgers, workers);
-    Ok((table, hands, all))
+    Ok(())
 }
 
 /// So many readers, who know of the opening fields alone, and who shows versions to them: nobody where there is no reader.
@@ -116,7 +207,7 @@ fn new_publisher<N: Naming, R: Wait + Drop>(
     version: &Arc<Version>,
     front: &Front<Event, N>,
 ) -> Result<Publisher<N, R>, NoMemory>
-    requires { known_after N.fields front.now ≡ known_of (arc_value version.now) }
+    requires { ShowsKnown N.workers (known_after N.fields front.now) (arc_value version.now) }
     ensures { IfOk result (λ p. (published p ≡ record { contents = arc_value version.now; number = 0 }) × (pending p ≡ [])) }
 {
     let first = Shown::new(version, front, 0)?;
@@ -133,7 +224,7 @@ fn publish_twice<N: Naming, R: Wait + Drop>(
     version: &Arc<Version>,
     front: &Front<Event, N>,
 ) -> Result<(), NoMemory>
-    requires front { known_after N.fields front.now ≡ known_of (arc_value version.now) }
+    requires front { ShowsKnown N.workers (known_after N.fields front.now) (arc_value version.now) }
     requires nothing { pending publisher.old ≡ [] }
     ensures { OnOk result ((published publisher.new ≡ record { contents = arc_value version.now; number = 0 }) × (pending publisher.new ≡ [])) }
 {

@@ -2,6 +2,7 @@
 
 ghost use Rattle.std.specs.Prelude.{◌≡◌, ◌⊎◌, IfOk, OnErr};
 ghost use Rattle.std.specs.Arc.{arc_value};
+ghost use Rattle.shared.specs.Balance.{IsOfWorkers};
 ghost use Rattle.shared.specs.Changes.{known_after};
 ghost use Rattle.shared.specs.Known.{Begins, IsLegalKnown, known_of};
 
@@ -65,6 +66,7 @@ impl<N: Naming> Reader<N> {
         ensures begun { IfOk result (λ v. Begins self.old (known_of (arc_value v))) }
         ensures known { IfOk result (λ v. self.new ≡ known_of (arc_value v)) }
         ensures legal { IfOk result (λ v. IsLegalKnown (known_of (arc_value v))) }
+        ensures workers { IfOk result (λ v. IsOfWorkers N.workers (arc_value v).history) }
         ensures kept { OnErr result (self.new ≡ self.old) }
     {
         self.look()?;

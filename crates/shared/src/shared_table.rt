@@ -29,7 +29,6 @@ use colbits::NoMemory;
 use histories::{Front, Head};
 use std::alloc::Global;
 use std::marker::Model;
-use std::sync::ledger::Ledger;
 use std::sync::{Arc, Mutex, Wait};
 use table::{AddFault, Ready, Refusal, TableState, Version};
 
@@ -38,53 +37,46 @@ use table::{AddFault, Ready, Refusal, TableState, Version};
 ///
 /// Clauses see how many workers it has.
 #[derive(Drop)]
-pub struct SharedTable<C: Ledger, Q: Ledger, K: Ledger, N: Naming, P: Publish<Item = Shown<N>>> {
+pub struct SharedTable<N: Naming, P: Publish<Item = Shown<N>>> {
     alloc: Global,
-    lock: Mutex<Locked<C, Q, K, N, P>>,
+    lock: Mutex<Locked<N, P>>,
     workers: u32,
 }
 
-impl<C: Ledger, Q: Ledger, K: Ledger, N: Naming, P: Publish<Item = Shown<N>>> Model
-    for SharedTable<C, Q, K, N, P> {
+impl<N: Naming, P: Publish<Item = Shown<N>>> Model for SharedTable<N, P> {
     ghost use Rattle.std.specs.Prelude.{◌≡◌, ℕ};
 
     ghost Value = { ℕ };
 
     ghost view = { λ t. t.workers };
 
-    ghost invariant = { λ t. t.workers ≡ C.parts };
+    ghost invariant = { λ t. t.workers ≡ N.workers };
 }
 
 /// All that was appended to a table, and the workers that did.
 #[derive(Drop)]
-pub struct Gathered<C: Ledger, Q: Ledger, K: Ledger, N: Naming> {
+pub struct Gathered<N: Naming> {
     pub version: Arc<Version>,
-    pub workers: Vec<Worker<C, Q, K, N>>,
+    pub workers: Vec<Worker<N>>,
 }
 
-impl<C: Ledger, Q: Ledger, K: Ledger, N: Naming, P: Publish<Item = Shown<N>>> SharedTable<
-    C,
-    Q,
-    K,
-    N,
-    P,
-> {
+impl<N: Naming, P: Publish<Item = Shown<N>>> SharedTable<N, P> {
     /// A table that nothing was appended to, with its history, its ledgers' books, and what is left of their shares.
     pub(crate) fn new(
         alloc: Global,
         state: TableState,
         history: (Head<Event, N>, Front<Event, N>),
         publisher: Option<P>,
-        ledgers: (Books<C, Q, K>, Shares<C, Q, K>),
+        ledgers: (Books<N>, Shares<N>),
         workers: u32,
-    ) -> SharedTable<C, Q, K, N, P>
+    ) -> SharedTable<N, P>
         requires empty { (state.history ≡ []) × (history.1 ≡ []) }
         requires fields { state.fields ≡ N.fields }
         requires shown { IfSome publisher (λ p. P.shows p (record { contents = state; number = 0 })) }
         requires totals { (ledgers.0.calls.total ≡ 0) × (ledgers.0.rows.total ≡ 0) × (ledgers.0.columns.total ≡ 0) }
         requires no_parts { (ledgers.1.calls.parts ≡ 0) × (ledgers.1.rows.parts ≡ 0) × (ledgers.1.columns.parts ≡ 0) }
         requires no_amounts { (ledgers.1.calls.amount ≡ 0) × (ledgers.1.rows.amount ≡ 0) × (ledgers.1.columns.amount ≡ 0) }
-        requires parts { (Q.parts ≡ C.parts) × (K.parts ≡ C.parts) × (workers ≡ C.parts) }
+        requires workers { workers ≡ N.workers }
         ensures { result ≡ workers }
     {
         let (head, front) = history;
@@ -113,7 +105,7 @@ impl<C: Ledger, Q: Ledger, K: Ledger, N: Naming, P: Publish<Item = Shown<N>>> Sh
     pub fn append<W: Wait>(
         &self,
         wait: &W,
-        worker: &mut Worker<C, Q, K, N>,
+        worker: &mut Worker<N>,
         batch: &RecordBatch,
     ) -> Result<Receipt<N>, Refusal>
         ensures raised { OnOk result (IsRaised batch.now.rows worker.old worker.new) }
@@ -133,7 +125,7 @@ impl<C: Ledger, Q: Ledger, K: Ledger, N: Naming, P: Publish<Item = Shown<N>>> Sh
     pub fn snapshot<W: Wait>(
         &self,
         wait: &W,
-        worker: &mut Worker<C, Q, K, N>,
+        worker: &mut Worker<N>,
     ) -> Result<Arc<Version>, NoMemory>
         ensures kept { IsKept worker.old worker.new }
         ensures seen { HasSeen worker.old worker.new }
@@ -149,7 +141,7 @@ impl<C: Ledger, Q: Ledger, K: Ledger, N: Naming, P: Publish<Item = Shown<N>>> Sh
     pub fn compact<W: Wait>(
         &self,
         wait: &W,
-        worker: &mut Worker<C, Q, K, N>,
+        worker: &mut Worker<N>,
         max_rows: u32,
     ) -> Result<Arc<Version>, NoMemory>
         ensures kept { IsKept worker.old worker.new }
@@ -169,7 +161,7 @@ impl<C: Ledger, Q: Ledger, K: Ledger, N: Naming, P: Publish<Item = Shown<N>>> Sh
     pub fn add_column<W: Wait>(
         &self,
         wait: &W,
-        worker: &mut Worker<C, Q, K, N>,
+        worker: &mut Worker<N>,
         field: Field,
     ) -> Result<(), AddFault>
         ensures allowed { OnOk result (add_fault (field_of field) ≡ None) }
@@ -190,8 +182,8 @@ impl<C: Ledger, Q: Ledger, K: Ledger, N: Naming, P: Publish<Item = Shown<N>>> Sh
     pub fn gather<W: Wait>(
         self,
         wait: &W,
-        workers: Vec<Worker<C, Q, K, N>>,
-    ) -> Result<Gathered<C, Q, K, N>, GatherFault<C, Q, K, N, P>>
+        workers: Vec<Worker<N>>,
+    ) -> Result<Gathered<N>, GatherFault<N, P>>
         ensures workers { IfOk result (λ g. g.workers.items ≡ workers.items) }
         ensures all { OnOk result (AllThere self workers.items) }
         ensures calls { IfOk result (λ g. length (arc_value g.version).history ≡ sum_by calls_of_hand workers.items) }
@@ -228,11 +220,7 @@ impl<C: Ledger, Q: Ledger, K: Ledger, N: Naming, P: Publish<Item = Shown<N>>> Sh
     }
 
     /// The table as it is when the lock is got, where all its workers are there.
-    fn all_of<W: Wait>(
-        &self,
-        wait: &W,
-        workers: &mut [Worker<C, Q, K, N>],
-    ) -> Result<Arc<Version>, NoMemory>
+    fn all_of<W: Wait>(&self, wait: &W, workers: &mut [Worker<N>]) -> Result<Arc<Version>, NoMemory>
         requires all { AllThere self.now workers.old }
         requires enough { self.now ≤ length workers.old }
         ensures workers { workers.new ≡ workers.old }

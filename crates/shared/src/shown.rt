@@ -3,8 +3,8 @@
 ghost use Rattle.std.specs.Prelude.{◌≡◌, ◌++◌, ◌∷◌, [], IfOk, fold};
 ghost use Rattle.left_right.specs.Handles.{pending, published};
 ghost use Rattle.std.specs.Arc.{arc_value};
+ghost use Rattle.shared.specs.Balance.{ShowsKnown};
 ghost use Rattle.shared.specs.Changes.{known_after};
-ghost use Rattle.shared.specs.Known.{known_of};
 ghost use Rattle.shared.specs.Showing.{Showing};
 
 use crate::naming::{Event, Naming};
@@ -35,14 +35,13 @@ impl<N: Naming> Model for Shown<N> {
 
     ghost coded = { showing_code };
 
-    ghost use Rattle.std.specs.Prelude.{◌≡◌};
     ghost use Rattle.std.specs.Arc.{arc_value};
+    ghost use Rattle.shared.specs.Balance.{ShowsKnown};
     ghost use Rattle.shared.specs.Changes.{known_after};
-    ghost use Rattle.shared.specs.Known.{known_of};
 
     ghost view = { λ s. record { contents = arc_value s.version; number = s.number } };
 
-    ghost invariant = { λ s. known_after N.fields s.front ≡ known_of (arc_value s.version) };
+    ghost invariant = { λ s. ShowsKnown N.workers (known_after N.fields s.front) (arc_value s.version) };
 }
 
 impl<N: Naming> Shown<N> {
@@ -52,7 +51,7 @@ impl<N: Naming> Shown<N> {
         front: &Front<Event, N>,
         number: u64,
     ) -> Result<Shown<N>, AllocError>
-        requires { known_after N.fields front.now ≡ known_of (arc_value version.now) }
+        requires { ShowsKnown N.workers (known_after N.fields front.now) (arc_value version.now) }
         ensures { IfOk result (λ s. s ≡ record { contents = arc_value version.now; number = number }) }
     {
         let version = version.clone()?;

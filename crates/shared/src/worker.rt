@@ -8,7 +8,7 @@ ghost use Rattle.shared.specs.Hand.{AreNew, Hand, IsLeft, IsNew, IsPartOf, calls
 ghost use Rattle.shared.specs.Known.{Begins, IsLegalKnown};
 ghost use Rattle.table.specs.Widened.{widened};
 
-use crate::ledgers::{Books, Shares};
+use crate::ledgers::{Books, Columns, Shares};
 use crate::naming::{Accepted, Event, Naming};
 use crate::outcome::Outcome;
 use colbits::NoMemory;
@@ -16,25 +16,25 @@ use histories::{Front, Own};
 use std::alloc::Global;
 use std::marker::Model;
 use std::sync::Wait;
-use std::sync::ledger::{Book, Ledger};
+use std::sync::ledger::Book;
 
 /// One of those who append to a table, each in a thread of its own.
 ///
 /// Clauses see its number, the fields and the history that it has seen, the entries of it that it added itself, under these
 /// fields, and what was left with it.
 #[derive(Drop)]
-pub struct Worker<C: Ledger, Q: Ledger, K: Ledger, N: Naming> {
+pub struct Worker<N: Naming> {
     pub(crate) number: u32,
     pub(crate) call_count: u32,
     pub(crate) row_count: u64,
     pub(crate) column_count: u64,
-    pub(crate) shares: Shares<C, Q, K>,
+    pub(crate) shares: Shares<N>,
     pub(crate) seen: Front<Event, N>,
     pub(crate) mine: Own<Event>,
     pub(crate) left: Option<Outcome<N>>,
 }
 
-impl<C: Ledger, Q: Ledger, K: Ledger, N: Naming> Model for Worker<C, Q, K, N> {
+impl<N: Naming> Model for Worker<N> {
     ghost use Rattle.shared.specs.Hand.{Hand, hand_code};
 
     ghost Value = { Hand };
@@ -60,7 +60,7 @@ impl<C: Ledger, Q: Ledger, K: Ledger, N: Naming> Model for Worker<C, Q, K, N> {
         × (w.row_count ≡ w.shares.rows.amount)
         × (w.shares.calls.parts ≡ 1)
         × (w.shares.rows.parts ≡ 1)
-        × (w.number < C.parts)
+        × (w.number < N.workers)
         × (length (pairs_in w.mine) ≡ w.shares.calls.amount)
         × (length (rows (pairs_in w.mine)) ≡ w.shares.rows.amount)
         × InOrder (widened (length (fields_after N.fields w.seen)) (pairs_in w.mine)) (of (known_after N.fields w.seen).history w.number)
@@ -69,10 +69,10 @@ impl<C: Ledger, Q: Ledger, K: Ledger, N: Naming> Model for Worker<C, Q, K, N> {
         × (w.shares.columns.parts ≡ 1) };
 }
 
-impl<C: Ledger, Q: Ledger, K: Ledger, N: Naming> Worker<C, Q, K, N> {
+impl<N: Naming> Worker<N> {
     /// A worker that added nothing yet, with a part of each ledger, and that knows of the opening fields alone.
-    fn new(number: u32, shares: Shares<C, Q, K>, seen: Front<Event, N>) -> Worker<C, Q, K, N>
-        requires number { number < C.parts }
+    fn new(number: u32, shares: Shares<N>, seen: Front<Event, N>) -> Worker<N>
+        requires number { number < N.workers }
         requires calls { (shares.calls.parts ≡ 1) × (shares.calls.amount ≡ 0) }
         requires rows { (shares.rows.parts ≡ 1) × (shares.rows.amount ≡ 0) }
         requires columns { (shares.columns.parts ≡ 1) × (shares.columns.amount ≡ 0) }
@@ -132,7 +132,7 @@ impl<C: Ledger, Q: Ledger, K: Ledger, N: Naming> Worker<C, Q, K, N> {
     pub fn tell(&self)
         ensures opened { IsPrefix N.fields self.now.seen.fields }
         ensures legal { IsLegalKnown self.now.seen }
-        ensures part { IsPartOf C.parts self.now.seen self.now }
+        ensures part { IsPartOf N.workers self.now.seen self.now }
         ensures wide { widened (length self.now.seen.fields) self.now.mine ≡ self.now.mine }
     {
         let _number = self.number;
@@ -152,7 +152,7 @@ impl<C: Ledger, Q: Ledger, K: Ledger, N: Naming> Worker<C, Q, K, N> {
     /// Counts an accepted batch, in the books too. By the front it stands behind all that the worker has seen.
     pub(crate) fn raise(
         &mut self,
-        books: &mut Books<C, Q, K>,
+        books: &mut Books<N>,
         front: &Front<Event, N>,
         accepted: &Accepted<'_>,
     )
@@ -178,7 +178,7 @@ impl<C: Ledger, Q: Ledger, K: Ledger, N: Naming> Worker<C, Q, K, N> {
     }
 
     /// Counts a column that it added, in the book too.
-    pub(crate) fn count_column(&mut self, book: &mut Book<K>)
+    pub(crate) fn count_column(&mut self, book: &mut Book<Columns<N>>)
         requires { book.old.total < 2 ^ 62 }
         ensures counted { self.new ≡ having_counted self.old }
         ensures total { book.new.total ≡ book.old.total + 1 }
@@ -202,14 +202,14 @@ pub(crate) fn begin<W: Wait, N: Naming>(wait: &W, seen: &Front<Event, N>, front:
 
 /// So many workers, each with a part of each share, that know of the opening fields alone.
 #[tactic(auto, using(crate::proofs::HandLemmas::new_push))]
-pub(crate) fn new_workers<C: Ledger, Q: Ledger, K: Ledger, N: Naming>(
+pub(crate) fn new_workers<N: Naming>(
     alloc: Global,
     count: u32,
-    shares: &mut Shares<C, Q, K>,
+    shares: &mut Shares<N>,
     front: &Front<Event, N>,
-) -> Result<Vec<Worker<C, Q, K, N>>, NoMemory>
+) -> Result<Vec<Worker<N>>, NoMemory>
     requires parts { (shares.old.calls.parts ≡ count) × (shares.old.rows.parts ≡ count) × (shares.old.columns.parts ≡ count) }
-    requires count { count ≡ C.parts }
+    requires count { count ≡ N.workers }
     requires nothing { (shares.old.calls.amount ≡ 0) × (shares.old.rows.amount ≡ 0) × (shares.old.columns.amount ≡ 0) }
     requires front { front.now ≡ [] }
     ensures count { IfOk result (λ v. length v.items ≡ count) }

@@ -5,25 +5,24 @@ ghost use Rattle.std.specs.Prelude.{◌≡◌, length};
 use crews::{Task, run_all};
 use shared::{Naming, Reader, Worker};
 use std::alloc::Global;
-use std::sync::ledger::Ledger;
 use std::test::Fail;
 use std::thread::Threads;
 
 /// A worker that appends, one that joins what was appended, or a reader.
 #[derive(Drop)]
-pub(crate) enum Hand<C: Ledger, Q: Ledger, K: Ledger, N: Naming> {
-    Appends(Worker<C, Q, K, N>),
-    Joins(Worker<C, Q, K, N>),
+pub(crate) enum Hand<N: Naming> {
+    Appends(Worker<N>),
+    Joins(Worker<N>),
     Reads(Reader<N>),
 }
 
 /// All workers, of whom so many append and the others join, and behind them all readers.
-pub(crate) fn all_hands<C: Ledger, Q: Ledger, K: Ledger, N: Naming>(
+pub(crate) fn all_hands<N: Naming>(
     alloc: Global,
-    workers: Vec<Worker<C, Q, K, N>>,
+    workers: Vec<Worker<N>>,
     count: u32,
     readers: Vec<Reader<N>>,
-) -> Result<Vec<Hand<C, Q, K, N>>, Fail> {
+) -> Result<Vec<Hand<N>>, Fail> {
     let mut hands = Vec::new(alloc);
     for worker in workers {
         let hand = if worker.number() < count {
@@ -40,10 +39,10 @@ pub(crate) fn all_hands<C: Ledger, Q: Ledger, K: Ledger, N: Naming>(
 }
 
 /// The workers among them.
-pub(crate) fn workers_of<C: Ledger, Q: Ledger, K: Ledger, N: Naming>(
+pub(crate) fn workers_of<N: Naming>(
     alloc: Global,
-    hands: Vec<Hand<C, Q, K, N>>,
-) -> Result<Vec<Worker<C, Q, K, N>>, Fail> {
+    hands: Vec<Hand<N>>,
+) -> Result<Vec<Worker<N>>, Fail> {
     let mut workers = Vec::new(alloc);
     for hand in hands {
         match hand {
@@ -56,14 +55,11 @@ pub(crate) fn workers_of<C: Ledger, Q: Ledger, K: Ledger, N: Naming>(
 }
 
 /// Has all of them do their parts of a task at once.
-pub(crate) fn work_at_once<
-    C: Ledger + Send + Sync,
-    Q: Ledger + Send + Sync,
-    K: Ledger + Send + Sync,
-    N: Naming + Send + Sync,
-    T: Threads + Sync,
-    J: Task<Hand<C, Q, K, N>> + Sync,
->(threads: &T, hands: &mut [Hand<C, Q, K, N>], task: &J)
+pub(crate) fn work_at_once<N: Naming + Send + Sync, T: Threads + Sync, J: Task<Hand<N>> + Sync>(
+    threads: &T,
+    hands: &mut [Hand<N>],
+    task: &J,
+)
     requires { length hands.old ≡ J.count task.now }
 {
     run_all(threads, hands, task);

@@ -1,22 +1,20 @@
 //! Scenes on a table.
 
-ghost use Rattle.std.specs.Prelude.{◌≡◌};
-ghost use Rattle.table.specs.Stored.{stored_fields};
+ghost use Rattle.shared.specs.Named.{IsNamed};
 
 use crate::ends::{has_all, has_come, is_answer};
 use crate::gates::Counting;
 use crate::hands::{Hand, all_hands, workers_of};
 use crate::scenes::{Files, Place, Soak, Step};
 use crate::soaking::work_together;
-use arrays::{DataType, File, Schema};
+use arrays::{DataType, File};
 use arrow_json::read_file;
 use loads::load_all;
-use shared::{Blanks, Naming, Pair, Publish, Reader, SharedTable, Shown, Worker, open};
+use shared::{Naming, Opening, Publish, Reader, SharedTable, Shown, Worker, open};
 use std::alloc::Global;
 use std::marker::Brand;
 use std::process::Abort;
 use std::sync::Wait;
-use std::sync::ledger::Ledger;
 use std::test::Fail;
 use std::thread::Threads;
 use test_samples::{INT8, field};
@@ -43,42 +41,25 @@ fn play<W: Wait + Sync, T: Threads + Sync>(
     let Some(scene) = place.scene() else {
         return Ok(Some(0));
     };
-    let (workers, readers) = (scene.workers, scene.readers);
     let schema = read_file(alloc, scene.file.as_bytes())?
         .schema()
         .copy(alloc)?;
-    let pair = Pair::new(alloc, &schema)?;
-    let blanks = Blanks::new(workers);
-    play_under::<Brand, Brand, Brand, Brand, W, T>(
-        wait, threads, alloc, schema, workers, readers, blanks, pair, place,
-    )
+    let opening = Opening::new(alloc, schema, scene.workers)?;
+    play_under::<Brand, W, T>(wait, threads, alloc, opening, scene.readers, place)
 }
 
-/// The same, under the names of three ledgers and of a history.
-fn play_under<
-    C: Ledger + Send + Sync,
-    Q: Ledger + Send + Sync,
-    K: Ledger + Send + Sync,
-    N: Naming + Send + Sync,
-    W: Wait + Sync,
-    T: Threads + Sync,
->(
+/// The same, under the table's name.
+fn play_under<N: Naming + Send + Sync, W: Wait + Sync, T: Threads + Sync>(
     wait: &W,
     threads: &T,
     alloc: Global,
-    schema: Schema,
-    workers: u32,
+    opening: Opening,
     readers: u32,
-    blanks: Blanks,
-    pair: Pair,
     place: Place,
 ) -> Result<Option<usize>, Fail>
-    requires calls { (blanks.calls.name ≡ C.name) × (blanks.calls.parts ≡ C.parts) × (blanks.calls.parts ≡ workers) }
-    requires rows { (blanks.rows.name ≡ Q.name) × (blanks.rows.parts ≡ Q.parts) × (blanks.rows.parts ≡ workers) }
-    requires columns { (blanks.columns.name ≡ K.name) × (blanks.columns.parts ≡ K.parts) × (blanks.columns.parts ≡ workers) }
-    requires pair { (pair.book ≡ N.book) × (pair.fields ≡ N.fields) × (pair.fields ≡ stored_fields schema) }
+    requires { IsNamed N.book N.fields N.calls N.rows N.columns N.workers opening }
 {
-    match open::<C, Q, K, N, &W>(wait, alloc, schema, workers, readers, blanks, pair) {
+    match open::<N, &W>(wait, alloc, opening, readers) {
         Ok((table, hands, eyes)) => play_on(wait, threads, alloc, table, hands, eyes, place),
         Err(_) => Ok(Some(0)),
     }
@@ -86,9 +67,6 @@ fn play_under<
 
 /// Plays a scene on its table, which is gathered in the end.
 fn play_on<
-    C: Ledger + Send + Sync,
-    Q: Ledger + Send + Sync,
-    K: Ledger + Send + Sync,
     N: Naming + Send + Sync,
     P: Publish<Item = Shown<N>> + Send,
     W: Wait + Sync,
@@ -97,8 +75,8 @@ fn play_on<
     wait: &W,
     threads: &T,
     alloc: Global,
-    table: SharedTable<C, Q, K, N, P>,
-    workers: Vec<Worker<C, Q, K, N>>,
+    table: SharedTable<N, P>,
+    workers: Vec<Worker<N>>,
     readers: Vec<Reader<N>>,
     place: Place,
 ) -> Result<Option<usize>, Fail> {
@@ -123,9 +101,6 @@ fn play_on<
 
 /// The first step that doesn't come out as it must.
 fn first_wrong<
-    C: Ledger + Send + Sync,
-    Q: Ledger + Send + Sync,
-    K: Ledger + Send + Sync,
     N: Naming + Send + Sync,
     P: Publish<Item = Shown<N>> + Send,
     W: Wait + Sync,
@@ -134,8 +109,8 @@ fn first_wrong<
     wait: &W,
     threads: &T,
     alloc: Global,
-    table: &SharedTable<C, Q, K, N, P>,
-    workers: &mut [Worker<C, Q, K, N>],
+    table: &SharedTable<N, P>,
+    workers: &mut [Worker<N>],
     steps: &[Step],
 ) -> Result<Option<usize>, Fail> {
     for (place, step) in steps.iter().enumerate() {
@@ -148,9 +123,6 @@ fn first_wrong<
 
 /// Whether a step comes out as it must.
 fn comes_out<
-    C: Ledger + Send + Sync,
-    Q: Ledger + Send + Sync,
-    K: Ledger + Send + Sync,
     N: Naming + Send + Sync,
     P: Publish<Item = Shown<N>> + Send,
     W: Wait + Sync,
@@ -159,8 +131,8 @@ fn comes_out<
     wait: &W,
     threads: &T,
     alloc: Global,
-    table: &SharedTable<C, Q, K, N, P>,
-    workers: &mut [Worker<C, Q, K, N>],
+    table: &SharedTable<N, P>,
+    workers: &mut [Worker<N>],
     step: &Step,
 ) -> Result<bool, Fail> {
     match step {
@@ -226,9 +198,6 @@ fn numbers_from(alloc: Global, first: u32, each: u32) -> Result<String, Fail> {
 
 /// The workers, behind what they do together with the readers; none, where it doesn't go right.
 fn soak<
-    C: Ledger + Send + Sync,
-    Q: Ledger + Send + Sync,
-    K: Ledger + Send + Sync,
     N: Naming + Send + Sync,
     P: Publish<Item = Shown<N>> + Send,
     W: Wait + Sync,
@@ -237,11 +206,11 @@ fn soak<
     wait: &W,
     threads: &T,
     alloc: Global,
-    table: &SharedTable<C, Q, K, N, P>,
-    workers: Vec<Worker<C, Q, K, N>>,
+    table: &SharedTable<N, P>,
+    workers: Vec<Worker<N>>,
     readers: Vec<Reader<N>>,
     soak: Option<Soak>,
-) -> Result<Option<Vec<Worker<C, Q, K, N>>>, Fail> {
+) -> Result<Option<Vec<Worker<N>>>, Fail> {
     let Some(soak) = soak else {
         return Ok(Some(workers));
     };

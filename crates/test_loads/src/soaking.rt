@@ -7,7 +7,6 @@ use crews::Task;
 use shared::{Naming, Publish, Reader, Receipt, Refusal, SharedTable, Shown, Version, Worker};
 use std::alloc::Global;
 use std::sync::atomic::{AtomicBool, Ordering};
-use std::sync::ledger::Ledger;
 use std::sync::{Arc, Mutex, Wait};
 use std::thread::{Threads, yield_now};
 use test_samples::INT64;
@@ -20,18 +19,10 @@ const MOST_ROWS: u32 = 64;
 
 /// Each worker appends so many batches, or joins them as often, and each reader looks as often.
 #[derive(Drop)]
-pub(crate) struct Soaking<
-    'a,
-    C: Ledger,
-    Q: Ledger,
-    K: Ledger,
-    N: Naming,
-    P: Publish<Item = Shown<N>>,
-    W: Wait,
-> {
+pub(crate) struct Soaking<'a, N: Naming, P: Publish<Item = Shown<N>>, W: Wait> {
     wait: &'a W,
     alloc: Global,
-    table: &'a SharedTable<C, Q, K, N, P>,
+    table: &'a SharedTable<N, P>,
     count: usize,
     turns: u32,
     columns: u32,
@@ -41,14 +32,12 @@ pub(crate) struct Soaking<
     is_wrong: AtomicBool,
 }
 
-impl<'a, C: Ledger, Q: Ledger, K: Ledger, N: Naming, P: Publish<Item = Shown<N>>, W: Wait> Task<
-    Hand<C, Q, K, N>,
-> for Soaking<'a, C, Q, K, N, P, W> {
+impl<'a, N: Naming, P: Publish<Item = Shown<N>>, W: Wait> Task<Hand<N>> for Soaking<'a, N, P, W> {
     ghost count = { λ s. s.count };
 
     ghost does = { λ _ _ _ _. Unit };
 
-    fn work(&self, _place: usize, hand: &mut Hand<C, Q, K, N>) {
+    fn work(&self, _place: usize, hand: &mut Hand<N>) {
         let is_right = match hand {
             Hand::Appends(worker) => self.append(worker).is_some(),
             Hand::Joins(worker) => self.join(worker).is_some(),
@@ -60,17 +49,9 @@ impl<'a, C: Ledger, Q: Ledger, K: Ledger, N: Naming, P: Publish<Item = Shown<N>>
     }
 }
 
-impl<'a, C: Ledger, Q: Ledger, K: Ledger, N: Naming, P: Publish<Item = Shown<N>>, W: Wait> Soaking<
-    'a,
-    C,
-    Q,
-    K,
-    N,
-    P,
-    W,
-> {
+impl<'a, N: Naming, P: Publish<Item = Shown<N>>, W: Wait> Soaking<'a, N, P, W> {
     /// Appends numbers from a thousand times the worker's own on, where nothing stands against it. The first adds columns.
-    fn append(&self, worker: &mut Worker<C, Q, K, N>) -> Option<()> {
+    fn append(&self, worker: &mut Worker<N>) -> Option<()> {
         let mut schema = self.fields_of(worker)?;
         for turn in 0..self.turns {
             if worker.number() == 0 && turn % APART == 0 && turn / APART < self.columns {
@@ -85,12 +66,7 @@ impl<'a, C: Ledger, Q: Ledger, K: Ledger, N: Naming, P: Publish<Item = Shown<N>>
     }
 
     /// Appends a batch of the fields that the worker knows. Where columns were added behind them, it gets to know these first.
-    fn append_one(
-        &self,
-        worker: &mut Worker<C, Q, K, N>,
-        schema: &mut Schema,
-        number: u32,
-    ) -> Option<()> {
+    fn append_one(&self, worker: &mut Worker<N>, schema: &mut Schema, number: u32) -> Option<()> {
         for _time in 0..=self.columns {
             let batch = batch_of(self.alloc, schema, number)?;
             match self.table.append(self.wait, worker, &batch) {
@@ -108,13 +84,13 @@ impl<'a, C: Ledger, Q: Ledger, K: Ledger, N: Naming, P: Publish<Item = Shown<N>>
     }
 
     /// The fields of the table as the worker sees it.
-    fn fields_of(&self, worker: &mut Worker<C, Q, K, N>) -> Option<Schema> {
+    fn fields_of(&self, worker: &mut Worker<N>) -> Option<Schema> {
         let version = self.table.snapshot(self.wait, worker).ok()?;
         version.schema().copy(self.alloc).ok()
     }
 
     /// Joins batches, where no row is lost by that.
-    fn join(&self, worker: &mut Worker<C, Q, K, N>) -> Option<()> {
+    fn join(&self, worker: &mut Worker<N>) -> Option<()> {
         let mut rows = 0;
         for _turn in 0..self.turns {
             let version = self.table.compact(self.wait, worker, MOST_ROWS).ok()?;
@@ -190,9 +166,6 @@ fn batch_of(alloc: Global, schema: &Schema, number: u32) -> Option<RecordBatch> 
 
 /// Whether all went right while they worked together.
 pub(crate) fn work_together<
-    C: Ledger + Send + Sync,
-    Q: Ledger + Send + Sync,
-    K: Ledger + Send + Sync,
     N: Naming + Send + Sync,
     P: Publish<Item = Shown<N>> + Send,
     W: Wait + Sync,
@@ -201,8 +174,8 @@ pub(crate) fn work_together<
     wait: &W,
     threads: &T,
     alloc: Global,
-    table: &SharedTable<C, Q, K, N, P>,
-    hands: &mut [Hand<C, Q, K, N>],
+    table: &SharedTable<N, P>,
+    hands: &mut [Hand<N>],
     soak: Soak,
 ) -> bool {
     let soaking = Soaking {

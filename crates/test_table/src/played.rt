@@ -1,19 +1,14 @@
 //! Scenes on a table with workers and readers.
 
-ghost use Rattle.std.specs.Prelude.{◌≡◌};
-ghost use Rattle.table.specs.Stored.{stored_fields};
-
 use crate::facts::{Facts, shows_all};
 use crate::scenes::{End, Place, Step, field_of};
-use arrays::{RecordBatch, Schema};
+use arrays::RecordBatch;
 use colbits::NoMemory;
 use shared::{
-    Blanks, GatherCause, GatherFault, Naming, OpenFault, Pair, Publish, Reader, Receipt,
-    SharedTable, Shown, Version, Worker, open,
+    GatherCause, GatherFault, Naming, OpenFault, Publish, Reader, Receipt, Session, SharedTable,
+    Shown, Version, Worker, with_table,
 };
 use std::alloc::Global;
-use std::marker::Brand;
-use std::sync::ledger::Ledger;
 use std::sync::{Arc, Wait};
 use std::test::Fail;
 use table::Refusal;
@@ -25,33 +20,31 @@ pub(crate) fn play<R: Wait>(rt: &R, alloc: Global, place: Place) -> Result<Optio
         return Ok(Some(0));
     };
     let schema = fields_of(alloc, scene.fields)?;
-    let pair = Pair::new(alloc, &schema)?;
-    let blanks = Blanks::new(scene.workers);
-    let (workers, readers) = (scene.workers, scene.readers);
-    play_under::<Brand, Brand, Brand, Brand, R>(
-        rt, alloc, schema, workers, readers, blanks, pair, place,
-    )
+    let playing = Playing { rt, alloc, place };
+    match with_table(rt, alloc, schema, scene.workers, scene.readers, playing) {
+        Ok(first) => first,
+        Err(fault) => Ok(unless_unopened(fault, place)),
+    }
 }
 
-/// The same, under the names of three ledgers and of a history.
-fn play_under<C: Ledger, Q: Ledger, K: Ledger, N: Naming, R: Wait>(
-    rt: &R,
+/// A scene that is played on its table.
+#[derive(Drop)]
+struct Playing<'a, R: Wait> {
+    rt: &'a R,
     alloc: Global,
-    schema: Schema,
-    workers: u32,
-    readers: u32,
-    blanks: Blanks,
-    pair: Pair,
     place: Place,
-) -> Result<Option<usize>, Fail>
-    requires calls { (blanks.calls.name ≡ C.name) × (blanks.calls.parts ≡ C.parts) × (blanks.calls.parts ≡ workers) }
-    requires rows { (blanks.rows.name ≡ Q.name) × (blanks.rows.parts ≡ Q.parts) × (blanks.rows.parts ≡ workers) }
-    requires columns { (blanks.columns.name ≡ K.name) × (blanks.columns.parts ≡ K.parts) × (blanks.columns.parts ≡ workers) }
-    requires pair { (pair.book ≡ N.book) × (pair.fields ≡ N.fields) × (pair.fields ≡ stored_fields schema) }
-{
-    match open::<C, Q, K, N, &R>(rt, alloc, schema, workers, readers, blanks, pair) {
-        Ok((table, workers, readers)) => play_on(rt, alloc, table, workers, readers, place),
-        Err(fault) => Ok(unless_unopened(fault, place)),
+}
+
+impl<'a, R: Wait> Session for Playing<'a, R> {
+    type Output = Result<Option<usize>, Fail>;
+
+    fn run<N: Naming, P: Publish<Item = Shown<N>>>(
+        self,
+        table: SharedTable<N, P>,
+        workers: Vec<Worker<N>>,
+        readers: Vec<Reader<N>>,
+    ) -> Result<Option<usize>, Fail> {
+        play_on(self.rt, self.alloc, table, workers, readers, self.place)
     }
 }
 
@@ -65,11 +58,11 @@ fn unless_unopened(fault: OpenFault, place: Place) -> Option<usize> {
 }
 
 /// Plays a scene on its table.
-fn play_on<C: Ledger, Q: Ledger, K: Ledger, N: Naming, P: Publish<Item = Shown<N>>, R: Wait>(
+fn play_on<N: Naming, P: Publish<Item = Shown<N>>, R: Wait>(
     rt: &R,
     alloc: Global,
-    table: SharedTable<C, Q, K, N, P>,
-    workers: Vec<Worker<C, Q, K, N>>,
+    table: SharedTable<N, P>,
+    workers: Vec<Worker<N>>,
     readers: Vec<Reader<N>>,
     place: Place,
 ) -> Result<Option<usize>, Fail> {
@@ -93,11 +86,11 @@ fn play_on<C: Ledger, Q: Ledger, K: Ledger, N: Naming, P: Publish<Item = Shown<N
 }
 
 /// Whether a scene ends as it must.
-fn ends<C: Ledger, Q: Ledger, K: Ledger, N: Naming, P: Publish<Item = Shown<N>>, R: Wait>(
+fn ends<N: Naming, P: Publish<Item = Shown<N>>, R: Wait>(
     rt: &R,
     alloc: Global,
-    table: SharedTable<C, Q, K, N, P>,
-    workers: Vec<Worker<C, Q, K, N>>,
+    table: SharedTable<N, P>,
+    workers: Vec<Worker<N>>,
     end: &End,
 ) -> bool {
     match end {
@@ -114,10 +107,10 @@ fn ends<C: Ledger, Q: Ledger, K: Ledger, N: Naming, P: Publish<Item = Shown<N>>,
 }
 
 /// What is gathered with all workers. Without those behind the first nothing is.
-fn gathered<C: Ledger, Q: Ledger, K: Ledger, N: Naming, P: Publish<Item = Shown<N>>, R: Wait>(
+fn gathered<N: Naming, P: Publish<Item = Shown<N>>, R: Wait>(
     rt: &R,
-    table: SharedTable<C, Q, K, N, P>,
-    workers: Vec<Worker<C, Q, K, N>>,
+    table: SharedTable<N, P>,
+    workers: Vec<Worker<N>>,
 ) -> Option<Arc<Version>> {
     let mut workers = workers;
     if workers.len() < 2 {
@@ -148,10 +141,10 @@ fn have_ended<N: Naming>(readers: &mut [Reader<N>]) -> bool {
 
 /// A table that steps are played on.
 #[derive(Drop)]
-struct On<'a, C: Ledger, Q: Ledger, K: Ledger, N: Naming, P: Publish<Item = Shown<N>>, R: Wait> {
+struct On<'a, N: Naming, P: Publish<Item = Shown<N>>, R: Wait> {
     rt: &'a R,
     alloc: Global,
-    table: &'a SharedTable<C, Q, K, N, P>,
+    table: &'a SharedTable<N, P>,
 }
 
 /// What was given out: receipts, and versions with what they show.
@@ -161,19 +154,11 @@ struct Given<N: Naming> {
     versions: Vec<(Arc<Version>, Facts)>,
 }
 
-impl<'a, C: Ledger, Q: Ledger, K: Ledger, N: Naming, P: Publish<Item = Shown<N>>, R: Wait> On<
-    'a,
-    C,
-    Q,
-    K,
-    N,
-    P,
-    R,
-> {
+impl<'a, N: Naming, P: Publish<Item = Shown<N>>, R: Wait> On<'a, N, P, R> {
     /// The first step that doesn't come out as it must: that behind the last, where a version that was given out has changed.
     fn play(
         &self,
-        workers: &mut [Worker<C, Q, K, N>],
+        workers: &mut [Worker<N>],
         readers: &mut [Reader<N>],
         steps: &[Step],
     ) -> Result<Option<usize>, Fail> {
@@ -197,7 +182,7 @@ impl<'a, C: Ledger, Q: Ledger, K: Ledger, N: Naming, P: Publish<Item = Shown<N>>
     /// Whether a step comes out as it must.
     fn comes_out(
         &self,
-        workers: &mut [Worker<C, Q, K, N>],
+        workers: &mut [Worker<N>],
         readers: &mut [Reader<N>],
         given: &mut Given<N>,
         step: &Step,
@@ -226,7 +211,7 @@ impl<'a, C: Ledger, Q: Ledger, K: Ledger, N: Naming, P: Publish<Item = Shown<N>>
     /// Whether what a worker does comes out so.
     fn works(
         &self,
-        worker: &mut Worker<C, Q, K, N>,
+        worker: &mut Worker<N>,
         given: &mut Given<N>,
         step: &Step,
     ) -> Result<bool, Fail> {
@@ -248,7 +233,7 @@ impl<'a, C: Ledger, Q: Ledger, K: Ledger, N: Naming, P: Publish<Item = Shown<N>>
     /// The version that is seen by a step.
     fn seen(
         &self,
-        workers: &mut [Worker<C, Q, K, N>],
+        workers: &mut [Worker<N>],
         readers: &mut [Reader<N>],
         step: &Step,
     ) -> Option<Arc<Version>> {
@@ -269,7 +254,7 @@ impl<'a, C: Ledger, Q: Ledger, K: Ledger, N: Naming, P: Publish<Item = Shown<N>>
     /// What a worker is answered that appends a batch. A receipt is kept.
     fn append(
         &self,
-        worker: &mut Worker<C, Q, K, N>,
+        worker: &mut Worker<N>,
         batch: &RecordBatch,
         given: &mut Given<N>,
     ) -> Result<Result<u32, Refusal>, Fail> {
@@ -286,7 +271,7 @@ impl<'a, C: Ledger, Q: Ledger, K: Ledger, N: Naming, P: Publish<Item = Shown<N>>
     /// Whether the workers append these batches, by turns.
     fn by_turns(
         &self,
-        workers: &mut [Worker<C, Q, K, N>],
+        workers: &mut [Worker<N>],
         batches: &[Batch],
         given: &mut Given<N>,
     ) -> Result<bool, Fail> {
@@ -307,7 +292,7 @@ impl<'a, C: Ledger, Q: Ledger, K: Ledger, N: Naming, P: Publish<Item = Shown<N>>
     /// Whether each worker appends a batch, and each reader then sees so many rows.
     fn each(
         &self,
-        workers: &mut [Worker<C, Q, K, N>],
+        workers: &mut [Worker<N>],
         readers: &mut [Reader<N>],
         batch: Batch,
         rows: u64,

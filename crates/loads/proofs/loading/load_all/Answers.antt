@@ -10,9 +10,9 @@ use Rattle.loads.proofs.loading.load_all.Goals as goal
 
 pub append_files-requires-sync-A : goal.append_files-requires-sync-A
 append_files-requires-sync-A g c κs within =
-    let P = P-row g.row.C g.row.Q g.row.K g.row.N g.row.P g.row.W g.row.T g.row.G in
+    let P = P-row g.row.N g.row.P g.row.W g.row.T g.row.G in
     record {
-      shared = (gated-sync g.row.C g.row.Q g.row.K g.row.N P g.C.Ledger g.Q.Ledger g.K.Ledger g.N.Naming-1 g.N.Naming-2 g.P.Publish c.type_bounds.send-P
+      shared = (gated-sync g.row.N P g.N.Naming-1 g.N.Naming-2 g.P.Publish c.type_bounds.send-P
           (record { mir = erased; lft = _ }) g.row.W g.row.G (record { shared = c.type_bounds.sync-W.shared }) (record { shared = c.type_bounds.sync-G.shared })).shared;
     }
 

@@ -4,4 +4,4 @@ use Rattle.shared.specs.Hand.{IsPartOf}
 use Rattle.shared.proofs.locked.begin_all.Given as goal
 
 abbrev pub invariant-loop-worker : goal.invariant-loop-worker
-invariant-loop-worker g l = All (IsPartOf g.C.Ledger.parts (known_after g.N.Naming-1.fields l.front)) (take l.worker-index l.workers)
+invariant-loop-worker g l = All (IsPartOf g.N.Naming-1.workers (known_after g.N.Naming-1.fields l.front)) (take l.worker-index l.workers)

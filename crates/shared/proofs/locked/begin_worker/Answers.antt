@@ -12,4 +12,4 @@ returns g c =
     let known = known_after first c.args.front.now in
     let begun : Begins c.args.worker.now.seen known =
     subst (λ (h : Hand). Begins h.seen known) c.worker.view_is (known_begins first c.worker.inside.seen c.args.front.now c.begin.ensures) in
-    part_more g.C.Ledger.parts c.args.worker.now.seen known c.args.worker.now c.tell.ensures.part begun
+    part_more g.N.Naming-1.workers c.args.worker.now.seen known c.args.worker.now c.tell.ensures.part begun

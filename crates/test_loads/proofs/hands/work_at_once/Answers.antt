@@ -4,7 +4,6 @@ use denote.Enum.Enum.{Enum}
 use denote.Param.Send.{IsSend, enum_send, param_send, recorded_send, sendable}
 use denote.RattleType.{RattleType}
 use Rattle.std.proofs.Crossing.{crosses}
-use Rattle.std.specs.declared.sync.ledger.Ledger as ledger
 use Rattle.test_loads.specs.contracts.hands.Hand as hand
 use Rattle.histories.specs.declared.naming.Naming as names
 use Rattle.shared.proofs.PublisherLemmas.{reader-send}
@@ -12,10 +11,10 @@ use Rattle.shared.proofs.worker.Worker.TheSendSync as worker
 use Rattle.shared.specs.declared.naming.Naming as naming
 use Rattle.test_loads.proofs.hands.work_at_once.Goals as goal
 
-module _ (C Q K N : RattleType) (c : ledger.Ghosts C.Denot) (q : ledger.Ghosts Q.Denot) (k : ledger.Ghosts K.Denot) (n : naming.Ghosts N.Denot) (m : names.Ghosts N.Denot) where
-  hand-send : IsSend (hand.the_row C Q K N c q k n m)
+module _ (N : RattleType) (n : naming.Ghosts N.Denot) (m : names.Ghosts N.Denot) where
+  hand-send : IsSend (hand.the_row N n m)
   hand-send =
-      let T = hand.the_type C Q K N c q k n m in
+      let T = hand.the_type N n m in
       recorded_send (Enum (variants T)) T.D T.to T.to_one
       (enum_send (variants T) (
         (search (worker.the_send, crosses, sendable) depth 20, tt),
@@ -24,5 +23,5 @@ module _ (C Q K N : RattleType) (c : ledger.Ghosts C.Denot) (q : ledger.Ghosts Q
 
 pub run_all-requires-send-H : goal.run_all-requires-send-H
 run_all-requires-send-H g c κs within =
-    let all = hand-send g.row.C g.row.Q g.row.K g.row.N g.C.Ledger g.Q.Ledger g.K.Ledger g.N.Naming-1 g.N.Naming-2 in
+    let all = hand-send g.row.N g.N.Naming-1 g.N.Naming-2 in
     record { owned = all.owned; leaving = (param_send 0 _ all).leaving }

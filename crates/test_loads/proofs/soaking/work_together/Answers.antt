@@ -9,7 +9,6 @@ use denote.RattleType.{RattleType}
 use Rattle.std.proofs.Crossing.{crosses}
 use Rattle.std.proofs.sync.Mutex.TheSendSync as mutex
 use Rattle.std.proofs.sync.atomic.AtomicU64.TheSendSync as word
-use Rattle.std.specs.declared.sync.ledger.Ledger as ledger
 use Rattle.test_loads.specs.contracts.hands.Hand as hand
 use Rattle.test_loads.specs.contracts.soaking.Soaking as soaking
 use Rattle.histories.proofs.front.Front.TheSendSync as front
@@ -26,20 +25,20 @@ use mir.Syntax.{erased}
 use Rattle.test_loads.specs.contracts.soaking.work_together.{P-row}
 use Rattle.test_loads.proofs.soaking.work_together.Goals as goal
 
-module _ (C Q K N P : RattleType) (c : ledger.Ghosts C.Denot) (q : ledger.Ghosts Q.Denot) (k : ledger.Ghosts K.Denot) (n : naming.Ghosts N.Denot) (m : names.Ghosts N.Denot) (p : publish.Ghosts P.Denot Showing) (send-P : IsSend P) where
+module _ (N P : RattleType) (n : naming.Ghosts N.Denot) (m : names.Ghosts N.Denot) (p : publish.Ghosts P.Denot Showing) (send-P : IsSend P) where
   receipt-send : IsSend (receipt.the_row N n m)
   receipt-send = search (front.the_send, crosses, sendable) depth 20
 
-  soaking-sync : (ℓ : NamedLft) (W : RattleType) → IsSync W → IsSync (soaking.the_row ℓ C Q K N P W c q k n m p)
+  soaking-sync : (ℓ : NamedLft) (W : RattleType) → IsSync W → IsSync (soaking.the_row ℓ N P W n m p)
   soaking-sync ℓ W w =
-      let T = soaking.the_type ℓ C Q K N P W c q k n m p in
+      let T = soaking.the_type ℓ N P W n m p in
       recorded_sync (Struct (shape T)) T.D T.to T.to_one
       (struct_sync (shape T) (
         search (w, sendable) depth 20,
         (
           search (crosses, sendable) depth 20,
           (
-            shr_sync ℓ.mir ℓ.lft (table.the_row C Q K N P c q k n m p) (table-sync C Q K N P c q k n m p send-P),
+            shr_sync ℓ.mir ℓ.lft (table.the_row N P n m p) (table-sync N P n m p send-P),
             (search sendable depth 20, (search sendable depth 20, (search sendable depth 20, (search (receipt-send, mutex.the_sync, crosses, sendable) depth 20, (search (word.the_sync, crosses, sendable) depth 20, tt))))),
           ),
         ),
@@ -47,8 +46,8 @@ module _ (C Q K N P : RattleType) (c : ledger.Ghosts C.Denot) (q : ledger.Ghosts
 
 pub work_at_once-requires-sync-J : goal.work_at_once-requires-sync-J
 work_at_once-requires-sync-J g c κs within =
-    let P = P-row g.row.C g.row.Q g.row.K g.row.N g.row.P g.row.W g.row.T in
+    let P = P-row g.row.N g.row.P g.row.W g.row.T in
     record {
-      shared = (soaking-sync g.row.C g.row.Q g.row.K g.row.N P g.C.Ledger g.Q.Ledger g.K.Ledger g.N.Naming-1 g.N.Naming-2 g.P.Publish c.type_bounds.send-P
+      shared = (soaking-sync g.row.N P g.N.Naming-1 g.N.Naming-2 g.P.Publish c.type_bounds.send-P
           (record { mir = erased; lft = _ }) g.row.W (record { shared = c.type_bounds.sync-W.shared })).shared;
     }

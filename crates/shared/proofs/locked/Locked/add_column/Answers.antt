@@ -1,35 +1,39 @@
 use Rattle.std.proofs.Common.{◌∙◌, ◌+◌, ap, arith, length, length-append, subst, sym, ◌∷◌, []}
+use Rattle.std.specs.Arc.{arc_value}
 use Rattle.arrays.specs.Shape.{field_of}
-use Rattle.shared.proofs.BalanceLemmas.{balanced_wider, workers_wider}
+use Rattle.shared.proofs.BalanceLemmas.{balanced_wider, shows_same, shows_widened}
 use Rattle.shared.proofs.KnownLemmas.{few_added, known_widened}
 use Rattle.shared.proofs.SeenLemmas.{some_each, widened_by}
 use Rattle.shared.specs.Changes.{known_after}
-use Rattle.shared.specs.Known.{IsLegalKnown, known_of}
+use Rattle.shared.specs.Known.{IsLegalKnown}
 use Rattle.table.specs.Contents.{Contents}
 use Rattle.table.specs.Stored.{stored_field}
 use Rattle.shared.proofs.locked.Locked.add_column.Goals as goal
 
 pub see-requires : goal.see-requires
-see-requires g c = subst IsLegalKnown (sym c.self.invariant.8) c.self.invariant.10
+see-requires g c = subst IsLegalKnown (sym c.self.invariant.0.shown.known) c.self.invariant.0.legal
 
 pub see-requires-2 : goal.see-requires-2
 see-requires-2 g c =
     let reported = c.in_ok-version.ensures in
     let w = c.self.inside in
     let f = stored_field (field_of c.args.field.now) in
-    subst IsLegalKnown (sym (known_widened g.N.Naming-1.fields w.front c.add.new.front w.state c.add_column_shown.new.self f c.self.invariant.8 c.add.ensures.added reported.added)) reported.legal
+    subst IsLegalKnown (sym (known_widened g.N.Naming-1.fields w.front c.add.new.front w.state c.add_column_shown.new.self f c.self.invariant.0.shown.known c.add.ensures.added reported.added)) reported.legal
 
 pub count_column-requires : goal.count_column-requires
 count_column-requires g c =
     let w = c.self.inside in
-    few_added g.N.Naming-1.fields w.front w.state w.books.columns.total c.self.invariant.8 c.self.invariant.9 c.add.ensures.few
+    few_added g.N.Naming-1.fields w.front w.state w.books.columns.total c.self.invariant.0.shown.known c.self.invariant.0.widened_by c.add.ensures.few
 
 pub show_version-requires : goal.show_version-requires
 show_version-requires g c =
     let reported = c.in_ok-version.ensures in
     let w = c.self.inside in
-    known_widened g.N.Naming-1.fields w.front c.add.new.front w.state c.add_column_shown.new.self (stored_field (field_of c.args.field.now)) c.self.invariant.8 c.add.ensures.added reported.added
-    ∙ ap known_of (sym reported.shown.1)
+    let first = g.N.Naming-1.fields in
+    let count = g.N.Naming-1.workers in
+    let f = stored_field (field_of c.args.field.now) in
+    let shown = shows_widened count first w.front c.add.new.front w.state c.add_column_shown.new.self f c.self.invariant.0.shown c.add.ensures.added reported.added in
+    shows_same count (known_after first c.add.new.front) c.add_column_shown.new.self (arc_value c.in_ok-version.second) shown reported.shown.1
 
 pub invariant_of-self-2 : goal.invariant_of-self-2
 invariant_of-self-2 g c =
@@ -39,24 +43,22 @@ invariant_of-self-2 g c =
     let s = w.state in
     let next = c.add_column_shown.new.self in
     let f = stored_field (field_of c.args.field.now) in
-    let n = length s.fields + 1 in
-    let same = ap (λ (t : Contents). t.history) reported.added in (
-      balanced_wider n w.books.calls.total w.books.rows.total s.history next.history is.0 same,
-      workers_wider n g.C.Ledger.parts s.history next.history is.1 same,
-      is.2,
+    let n = length s.fields + 1 in (
+      record {
+        balanced = balanced_wider n w.books.calls.total w.books.rows.total s.history next.history is.0.balanced (ap (λ (t : Contents). t.history) reported.added);
+        shown = shows_widened g.N.Naming-1.workers g.N.Naming-1.fields w.front c.add.new.front s next f is.0.shown c.add.ensures.added reported.added;
+        legal = reported.legal;
+        widened_by = omega (arith, ap (λ (t : Contents). length t.fields) reported.added, length-append s.fields (f ∷ []), is.0.widened_by, c.count_column.ensures.total);
+      },
+      reported.shown.0,
+      some_each c.show_version.new.publisher
+          (λ p is_shown. subst (λ (t : Contents). g.P.Publish.shows p (record { contents = t; number = c.show_version.new.number })) reported.shown.1 is_shown) c.show_version.ensures.shown,
       is.3,
       is.4,
       is.5,
       is.6,
-      reported.shown.0,
-      known_widened g.N.Naming-1.fields w.front c.add.new.front s next f is.8 c.add.ensures.added reported.added,
-      omega (arith, ap (λ (t : Contents). length t.fields) reported.added, length-append s.fields (f ∷ []), is.9, c.count_column.ensures.total),
-      reported.legal,
-      some_each c.show_version.new.publisher
-          (λ p is_shown. subst (λ (t : Contents). g.P.Publish.shows p (record { contents = t; number = c.show_version.new.number })) reported.shown.1 is_shown) c.show_version.ensures.shown,
-      is.12,
-      is.13,
-      is.14,
+      is.7,
+      is.8,
     )
 
 pub returns-clause-widened : goal.returns-clause-widened
@@ -67,6 +69,6 @@ returns-clause-widened g c =
     let s = w.state in
     let next = c.add_column_shown.new.self in
     let f = stored_field (field_of c.args.field.now) in
-    let known = known_widened first w.front c.add.new.front s next f c.self.invariant.8 c.add.ensures.added reported.added in
+    let known = known_widened first w.front c.add.new.front s next f c.self.invariant.0.shown.known c.add.ensures.added reported.added in
     widened_by (known_after first w.front) (known_after first c.add.new.front) s next f c.args.worker.now c.see.new.self c.see-2.new.self c.count_column.new.self
-    c.self.invariant.8 known reported.added c.self.invariant.10 reported.legal c.see.ensures.begun c.see.ensures.seen c.see-2.ensures.seen c.count_column.ensures.counted
+    c.self.invariant.0.shown.known known reported.added c.self.invariant.0.legal reported.legal c.see.ensures.begun c.see.ensures.seen c.see-2.ensures.seen c.count_column.ensures.counted

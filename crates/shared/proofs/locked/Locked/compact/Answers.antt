@@ -1,16 +1,19 @@
 use Rattle.std.proofs.Common.{◌∙◌, List, ap, length, subst, sym}
 use Rattle.std.specs.Arc.{arc_value}
 use Rattle.arrays.specs.Shape.{FieldShape}
-use Rattle.shared.proofs.SeenLemmas.{copy_kept, known_joined, some_each}
-use Rattle.shared.specs.Balance.{IsBalanced, IsOfWorkers}
-use Rattle.shared.specs.Known.{IsLegalKnown, known_of}
+use Rattle.shared.proofs.BalanceLemmas.{shows_same}
+use Rattle.shared.proofs.SeenLemmas.{copy_kept, known_joined, shows_joined, some_each}
+use Rattle.shared.specs.Changes.{known_after}
+use Rattle.shared.specs.Balance.{IsBalanced}
+use Rattle.shared.specs.Known.{IsLegalKnown}
 use Rattle.table.specs.Contents.{Contents}
 use Rattle.shared.proofs.locked.Locked.compact.Goals as goal
 
 pub show_version-requires : goal.show_version-requires
 show_version-requires g c =
     let reported = c.in_ok-version.ensures in
-    c.self.invariant.8 ∙ sym (known_joined c.args.max_rows c.self.inside.state c.compact_shown.new.self reported.compacted) ∙ ap known_of (sym reported.shown.1)
+    let shown = shows_joined g.N.Naming-1.workers c.args.max_rows (known_after g.N.Naming-1.fields c.self.inside.front) c.self.inside.state c.compact_shown.new.self reported.compacted c.self.invariant.0.shown in
+    shows_same g.N.Naming-1.workers (known_after g.N.Naming-1.fields c.self.inside.front) c.compact_shown.new.self (arc_value c.in_ok-version.second) shown reported.shown.1
 
 pub invariant_of-self-2 : goal.invariant_of-self-2
 invariant_of-self-2 g c =
@@ -20,20 +23,19 @@ invariant_of-self-2 g c =
     let joined = c.in_ok-version.ensures.compacted in
     let shown = c.in_ok-version.ensures.shown in
     let same = known_joined c.args.max_rows c.self.inside.state next joined in (
-      subst (IsBalanced inside.books.calls.total inside.books.rows.total) (sym joined.history) is.0,
-      subst (IsOfWorkers g.C.Ledger.parts) (sym joined.history) is.1,
-      is.2,
+      record {
+        balanced = subst (IsBalanced inside.books.calls.total inside.books.rows.total) (sym joined.history) is.0.balanced;
+        shown = shows_joined g.N.Naming-1.workers c.args.max_rows (known_after g.N.Naming-1.fields inside.front) inside.state next joined is.0.shown;
+        legal = subst IsLegalKnown (sym same) is.0.legal;
+        widened_by = ap (λ (fs : List FieldShape). length fs) joined.fields ∙ is.0.widened_by;
+      },
+      copy_kept arc_value _ c.clone.result c.ok.result c.in_ok-version.version next c.clone.ensures.cases c.ok.ensures.value shown.0,
+      some_each c.show_version.new.publisher
+          (λ p is_shown. subst (λ (t : Contents). g.P.Publish.shows p (record { contents = t; number = c.show_version.new.number })) shown.1 is_shown) c.show_version.ensures.shown,
       is.3,
       is.4,
       is.5,
       is.6,
-      copy_kept arc_value _ c.clone.result c.ok.result c.in_ok-version.version next c.clone.ensures.cases c.ok.ensures.value shown.0,
-      is.8 ∙ sym same,
-      ap (λ (fs : List FieldShape). length fs) joined.fields ∙ is.9,
-      subst IsLegalKnown (sym same) is.10,
-      some_each c.show_version.new.publisher
-          (λ p is_shown. subst (λ (t : Contents). g.P.Publish.shows p (record { contents = t; number = c.show_version.new.number })) shown.1 is_shown) c.show_version.ensures.shown,
-      is.12,
-      is.13,
-      is.14,
+      is.7,
+      is.8,
     )

@@ -26,7 +26,7 @@ returns-clause-known g c =
     ok_with c.compact.result
     (λ v joined is.
     subst (λ n. IsOfWorkers n (arc_value v).history) count
-    (subst (λ (h : History). IsOfWorkers g.C.Ledger.parts h) (sym (ap (λ (s : Contents). s.history) is ∙ joined.history)) c.compact.ensures.known))
+    (subst (λ (h : History). IsOfWorkers g.N.Naming-1.workers h) (sym (ap (λ (s : Contents). s.history) is ∙ joined.history)) c.compact.ensures.known))
     c.compact.ensures.compacted
     c.compact.ensures.version
 

@@ -16,5 +16,5 @@ pub returns-clause-known : goal.returns-clause-known
 returns-clause-known g c =
     let count = sym c.self.invariant ∙ c.self.view_is in
     ok_each c.snapshot.result
-    (λ v is. subst (λ n. IsOfWorkers n (arc_value v).history) count (subst (λ (s : Contents). IsOfWorkers g.C.Ledger.parts s.history) (sym is) c.snapshot.ensures.known))
+    (λ v is. subst (λ n. IsOfWorkers n (arc_value v).history) count (subst (λ (s : Contents). IsOfWorkers g.N.Naming-1.workers s.history) (sym is) c.snapshot.ensures.known))
     c.snapshot.ensures.version
