@@ -6,34 +6,18 @@ use crate::stop::Stop;
 use crate::tell::tell_version;
 use shared::{GatherCause, Naming, Publish, SharedTable, Shown, Version, Worker};
 use std::alloc::Global;
-use std::sync::ledger::Ledger;
 use std::sync::{Arc, Wait};
 use std::test::Fail;
 
 /// A table, until it is gathered, and its workers.
 #[derive(Drop)]
-pub(crate) struct Gathering<
-    C: Ledger,
-    Q: Ledger,
-    K: Ledger,
-    N: Naming,
-    P: Publish<Item = Shown<N>>,
-> {
-    table: Option<SharedTable<C, Q, K, N, P>>,
-    workers: Option<Vec<Worker<C, Q, K, N>>>,
+pub(crate) struct Gathering<N: Naming, P: Publish<Item = Shown<N>>> {
+    table: Option<SharedTable<N, P>>,
+    workers: Option<Vec<Worker<N>>>,
 }
 
-impl<C: Ledger, Q: Ledger, K: Ledger, N: Naming, P: Publish<Item = Shown<N>>> Gathering<
-    C,
-    Q,
-    K,
-    N,
-    P,
-> {
-    pub(crate) fn new(
-        table: SharedTable<C, Q, K, N, P>,
-        workers: Vec<Worker<C, Q, K, N>>,
-    ) -> Gathering<C, Q, K, N, P> {
+impl<N: Naming, P: Publish<Item = Shown<N>>> Gathering<N, P> {
+    pub(crate) fn new(table: SharedTable<N, P>, workers: Vec<Worker<N>>) -> Gathering<N, P> {
         Gathering {
             table: Some(table),
             workers: Some(workers),
@@ -41,8 +25,7 @@ impl<C: Ledger, Q: Ledger, K: Ledger, N: Naming, P: Publish<Item = Shown<N>>> Ga
     }
 }
 
-impl<C: Ledger, Q: Ledger, K: Ledger, N: Naming, P: Publish<Item = Shown<N>>, R: Wait> Scene<R>
-    for Gathering<C, Q, K, N, P> {
+impl<N: Naming, P: Publish<Item = Shown<N>>, R: Wait> Scene<R> for Gathering<N, P> {
     type Answer = Arc<Version>;
 
     fn call(&mut self, rt: &R, _alloc: Global) -> Result<Arc<Version>, Stop> {

@@ -1,42 +1,51 @@
 //! Files that workers load at once.
 
-ghost use Rattle.std.specs.Prelude.{◌≡◌, ◌<◌, length};
-ghost use Rattle.table.specs.Stored.{stored_fields};
+ghost use Rattle.std.specs.Prelude.{◌<◌, length};
+ghost use Rattle.shared.specs.Named.{IsNamed};
 
 use crate::fault::Fault;
 use crate::permit::Permit;
 use crate::refusals::{Refused, begin, end};
 use crate::run::Ran;
-use crate::samples::{ONE_MORE, TWO_BATCHES, file};
+use crate::samples::{ONE_COLUMN, ONE_MORE, TWO_BATCHES, file};
 use crate::stage::tell_workers;
-use crate::stop::Stop;
 use crate::sweep::Trial;
 use crate::tell::tell_rows;
-use arrays::Schema;
-use loads::{OpenGate, load_all};
+use loads::{LoadFault, OpenGate, load_all};
 use shared::{
-    Blanks, Naming, Pair, Publish, Reader, Receipt, SharedTable, Shown, Version, Worker, open,
+    Naming, Opening, Publish, Reader, Receipt, SharedTable, Shown, Version, Worker, open,
 };
 use std::alloc::Global;
 use std::marker::Brand;
 use std::sync::Wait;
-use std::sync::ledger::Ledger;
 use std::test::Fail;
 use std::thread::Threads;
 
+/// What the second worker loads.
+#[derive(Clone, Copy)]
+enum Second {
+    Like,
+    /// A file of other fields, which is refused.
+    Other,
+}
+
 /// Two workers load a file each into a new table that so many readers look at.
 #[derive(Clone, Copy)]
-pub(crate) struct Loading(u32);
+pub(crate) struct Loading(u32, Second);
 
-pub(crate) const CASES: [(&str, Loading); 2] = [
-    ("load_all", Loading(1)),
-    ("load_all, no readers", Loading(0)),
+pub(crate) const CASES: [(&str, Loading); 3] = [
+    ("load_all", Loading(1, Second::Like)),
+    ("load_all, no readers", Loading(0, Second::Like)),
+    (
+        "load_all, a file of other fields",
+        Loading(1, Second::Other),
+    ),
 ];
 
 /// What came of a load.
 #[derive(Drop)]
 enum Loaded {
-    /// All is there, and this is seen of it.
+    /// All is there, or a file is refused, and this is seen of it.
     All(String),
     /// Memory was wanted, and what was appended before stays.
     Part,
@@ -46,11 +55,10 @@ enum Loaded {
 impl<R: Threads + Wait + Sync> Trial<R> for Loading {
     /// What was appended stays after a refusal, so a new table is loaded then.
     fn run(&self, rt: &R, alloc: Global, refused: Option<Refused>) -> Result<Ran, Fail> {
-        let Loading(readers) = *self;
         let rt = Permit::of(rt);
-        let (first, met) = load(&rt, alloc, readers, refused)?;
+        let (first, met) = load(&rt, alloc, *self, refused)?;
         let last = match first {
-            Loaded::Part if met => load(&rt, alloc, readers, None)?.0,
+            Loaded::Part if met => load(&rt, alloc, *self, None)?.0,
             other => other,
         };
         Ok(match last {
@@ -65,63 +73,45 @@ impl<R: Threads + Wait + Sync> Trial<R> for Loading {
 fn load<R: Threads + Wait + Sync>(
     rt: &R,
     alloc: Global,
-    readers: u32,
+    loading: Loading,
     refused: Option<Refused>,
 ) -> Result<(Loaded, bool), Fail> {
     let file = file(alloc, TWO_BATCHES)?;
-    let pair = Pair::new(alloc, file.schema())?;
-    let schema = file.schema().copy(alloc)?;
-    let blanks = Blanks::new(2);
-    load_under::<Brand, Brand, Brand, Brand, R>(rt, alloc, schema, readers, blanks, pair, refused)
+    let opening = Opening::new(alloc, file.schema().copy(alloc)?, 2)?;
+    load_under::<Brand, R>(rt, alloc, opening, loading, refused)
 }
 
-/// The same, under the names of two ledgers and of a history.
-fn load_under<
-    C: Ledger + Send + Sync,
-    Q: Ledger + Send + Sync,
-    K: Ledger + Send + Sync,
-    N: Naming + Send + Sync,
-    R: Threads + Wait + Sync,
->(
+/// The same, under the table's name.
+fn load_under<N: Naming + Send + Sync, R: Threads + Wait + Sync>(
     rt: &R,
     alloc: Global,
-    schema: Schema,
-    readers: u32,
-    blanks: Blanks,
-    pair: Pair,
+    opening: Opening,
+    loading: Loading,
     refused: Option<Refused>,
 ) -> Result<(Loaded, bool), Fail>
-    requires calls { (blanks.calls.name ≡ C.name) × (blanks.calls.parts ≡ C.parts) × (blanks.calls.parts ≡ 2) }
-    requires rows { (blanks.rows.name ≡ Q.name) × (blanks.rows.parts ≡ Q.parts) × (blanks.rows.parts ≡ 2) }
-    requires columns { (blanks.columns.name ≡ K.name) × (blanks.columns.parts ≡ K.parts) × (blanks.columns.parts ≡ 2) }
-    requires pair { (pair.book ≡ N.book) × (pair.fields ≡ N.fields) × (pair.fields ≡ stored_fields schema) }
+    requires { IsNamed N.book N.fields N.calls N.rows N.columns N.workers opening }
 {
-    let opened = open::<C, Q, K, N, &R>(rt, alloc, schema, 2, readers, blanks, pair)?;
-    load_by(rt, alloc, opened, refused)
+    let Loading(readers, second) = loading;
+    let opened = open::<N, &R>(rt, alloc, opening, readers)?;
+    load_by(rt, alloc, opened, second, refused)
 }
 
 /// The same, by the workers of a new table.
-fn load_by<
-    C: Ledger + Send + Sync,
-    Q: Ledger + Send + Sync,
-    K: Ledger + Send + Sync,
-    N: Naming + Send + Sync,
-    P: Publish<Item = Shown<N>> + Send,
-    R: Threads + Wait + Sync,
->(
+fn load_by<N: Naming + Send + Sync, P: Publish<Item = Shown<N>> + Send, R: Threads + Wait + Sync>(
     rt: &R,
     alloc: Global,
-    opened: (
-        SharedTable<C, Q, K, N, P>,
-        Vec<Worker<C, Q, K, N>>,
-        Vec<Reader<N>>,
-    ),
+    opened: (SharedTable<N, P>, Vec<Worker<N>>, Vec<Reader<N>>),
+    second: Second,
     refused: Option<Refused>,
 ) -> Result<(Loaded, bool), Fail>
     requires { 0 < length opened.1.items }
 {
     let (table, mut workers, mut readers) = opened;
-    let files = [file(alloc, TWO_BATCHES)?, file(alloc, ONE_MORE)?];
+    let second = match second {
+        Second::Like => ONE_MORE,
+        Second::Other => ONE_COLUMN,
+    };
+    let files = [file(alloc, TWO_BATCHES)?, file(alloc, second)?];
     begin(alloc, refused);
     let called = load_all(rt, rt, alloc, &table, &mut workers, &files, &OpenGate);
     let met = end(alloc);
@@ -132,17 +122,15 @@ fn load_by<
     let loaded = match called {
         _ if !are_counted(&version, &workers) => Loaded::Wrong(Fault::Miscounted),
         Ok(receipts) => Loaded::All(report(alloc, &receipts, &version, &workers, &mut readers)?),
-        Err(fault) if Stop::from(fault) == Stop::NoMemory => Loaded::Part,
-        Err(_) => Loaded::Wrong(Fault::NoAnswer),
+        Err(LoadFault::NoMemory) => Loaded::Part,
+        // What the other worker could append is open.
+        Err(fault) => Loaded::All(format!(in alloc; "{fault}")?),
     };
     Ok((loaded, met))
 }
 
 /// Whether each worker made as many calls as it has batches in the table.
-fn are_counted<C: Ledger, Q: Ledger, K: Ledger, N: Naming>(
-    version: &Version,
-    workers: &[Worker<C, Q, K, N>],
-) -> bool {
+fn are_counted<N: Naming>(version: &Version, workers: &[Worker<N>]) -> bool {
     for worker in workers {
         let mut batches: u32 = 0;
         for i in 0..version.book_len() {
@@ -159,11 +147,11 @@ fn are_counted<C: Ledger, Q: Ledger, K: Ledger, N: Naming>(
 
 /// What is seen whoever was first: how many receipts there are and up to which entry, what each worker appended, and how many
 /// rows each reader sees.
-fn report<C: Ledger, Q: Ledger, K: Ledger, N: Naming>(
+fn report<N: Naming>(
     alloc: Global,
     receipts: &[Receipt<N>],
     version: &Version,
-    workers: &[Worker<C, Q, K, N>],
+    workers: &[Worker<N>],
     readers: &mut [Reader<N>],
 ) -> Result<String, Fail> {
     let mut report = String::new(alloc);

@@ -1,7 +1,7 @@
 //! A table that is opened.
 
-ghost use Rattle.std.specs.Prelude.{◌≡◌};
-ghost use Rattle.table.specs.Stored.{stored_fields};
+ghost use Rattle.std.specs.Prelude.{◌≡◌, IfOk};
+ghost use Rattle.shared.specs.Named.{IsNamed};
 
 use crate::fault::Fault;
 use crate::refusals::{Refused, begin, end};
@@ -10,29 +10,41 @@ use crate::samples::{TWO_BATCHES, file};
 use crate::stop::Stop;
 use crate::sweep::Trial;
 use arrays::Schema;
-use shared::{Blanks, Naming, Pair, open};
+use shared::{
+    Naming, Opening, Publish, Reader, Session, SharedTable, Shown, Worker, open, with_table,
+};
 use std::alloc::Global;
 use std::marker::Brand;
 use std::sync::Wait;
-use std::sync::ledger::Ledger;
 use std::test::Fail;
+
+/// How a table is opened.
+#[derive(Clone, Copy)]
+enum Call {
+    Open,
+    WithTable,
+}
 
 /// A table of two workers and so many readers is opened.
 #[derive(Clone, Copy)]
-pub(crate) struct Opening(u32);
+pub(crate) struct Case(Call, u32);
 
-pub(crate) const CASES: [(&str, Opening); 2] = [
-    ("open", Opening(2)),
-    ("open, no readers", Opening(0)),
+pub(crate) const CASES: [(&str, Case); 4] = [
+    ("open", Case(Call::Open, 2)),
+    ("open, no readers", Case(Call::Open, 0)),
+    ("with_table", Case(Call::WithTable, 2)),
+    ("with_table, no readers", Case(Call::WithTable, 0)),
 ];
 
-impl<R: Wait> Trial<R> for Opening {
+/// How many workers and readers a table has, or why it wasn't opened; and whether a request was refused.
+type Counted = (Result<(usize, usize), Stop>, bool);
+
+impl<R: Wait> Trial<R> for Case {
     /// What is opened is given by how many workers and readers there are. All that is handed over is gone with a refusal.
     fn run(&self, rt: &R, alloc: Global, refused: Option<Refused>) -> Result<Ran, Fail> {
-        let Opening(readers) = *self;
-        let (first, met) = opened(rt, alloc, readers, refused)?;
+        let (first, met) = opened(rt, alloc, *self, refused)?;
         let last = match first {
-            Err(Stop::NoMemory) if met => opened(rt, alloc, readers, None)?.0,
+            Err(Stop::NoMemory) if met => opened(rt, alloc, *self, None)?.0,
             other => other,
         };
         match last {
@@ -45,42 +57,76 @@ impl<R: Wait> Trial<R> for Opening {
     }
 }
 
-/// How many workers and readers a table has, or why it wasn't opened; and whether a request was refused.
 fn opened<R: Wait>(
     rt: &R,
     alloc: Global,
-    readers: u32,
+    case: Case,
     refused: Option<Refused>,
-) -> Result<(Result<(usize, usize), Stop>, bool), Fail> {
-    let file = file(alloc, TWO_BATCHES)?;
-    let pair = Pair::new(alloc, file.schema())?;
-    let schema = file.schema().copy(alloc)?;
-    let blanks = Blanks::new(2);
-    Ok(opened_so::<Brand, Brand, Brand, Brand, R>(
-        rt, alloc, schema, readers, blanks, pair, refused,
-    ))
+) -> Result<Counted, Fail> {
+    let Case(call, readers) = case;
+    let schema = file(alloc, TWO_BATCHES)?.schema().copy(alloc)?;
+    match call {
+        Call::Open => {
+            let opening = Opening::new(alloc, schema, 2)?;
+            Ok(opened_so::<Brand, R>(rt, alloc, opening, readers, refused))
+        }
+        Call::WithTable => Ok(opened_within(rt, alloc, schema, readers, refused)),
+    }
 }
 
-/// The same, under the names of two ledgers and of a history.
-fn opened_so<C: Ledger, Q: Ledger, K: Ledger, N: Naming, R: Wait>(
+/// By `open`, under the table's name.
+fn opened_so<N: Naming, R: Wait>(
     rt: &R,
     alloc: Global,
-    schema: Schema,
+    opening: Opening,
     readers: u32,
-    blanks: Blanks,
-    pair: Pair,
     refused: Option<Refused>,
-) -> (Result<(usize, usize), Stop>, bool)
-    requires calls { (blanks.calls.name ≡ C.name) × (blanks.calls.parts ≡ C.parts) × (blanks.calls.parts ≡ 2) }
-    requires rows { (blanks.rows.name ≡ Q.name) × (blanks.rows.parts ≡ Q.parts) × (blanks.rows.parts ≡ 2) }
-    requires columns { (blanks.columns.name ≡ K.name) × (blanks.columns.parts ≡ K.parts) × (blanks.columns.parts ≡ 2) }
-    requires pair { (pair.book ≡ N.book) × (pair.fields ≡ N.fields) × (pair.fields ≡ stored_fields schema) }
+) -> Counted
+    requires { IsNamed N.book N.fields N.calls N.rows N.columns N.workers opening }
 {
     begin(alloc, refused);
-    let opened = open::<C, Q, K, N, &R>(rt, alloc, schema, 2, readers, blanks, pair);
+    let opened = open::<N, &R>(rt, alloc, opening, readers);
     let met = end(alloc);
     match opened {
         Ok((_table, workers, readers)) => (Ok((workers.len(), readers.len())), met),
         Err(fault) => (Err(Stop::from(fault)), met),
+    }
+}
+
+/// By `with_table`.
+fn opened_within<R: Wait>(
+    rt: &R,
+    alloc: Global,
+    schema: Schema,
+    readers: u32,
+    refused: Option<Refused>,
+) -> Counted
+    ensures { IfOk result.0 (λ counts. counts ≡ (2, readers)) }
+{
+    begin(alloc, refused);
+    let counted = with_table(rt, alloc, schema, 2, readers, Counting);
+    let met = end(alloc);
+    match counted {
+        Ok(counts) => (Ok(counts), met),
+        Err(fault) => (Err(Stop::from(fault)), met),
+    }
+}
+
+/// Counts workers and readers.
+#[derive(Drop)]
+struct Counting;
+
+impl Session for Counting {
+    type Output = (usize, usize);
+
+    ghost gives = { λ _ workers readers _ counts. counts ≡ (workers, readers) };
+
+    fn run<N: Naming, P: Publish<Item = Shown<N>>>(
+        self,
+        _table: SharedTable<N, P>,
+        workers: Vec<Worker<N>>,
+        readers: Vec<Reader<N>>,
+    ) -> (usize, usize) {
+        (workers.len(), readers.len())
     }
 }

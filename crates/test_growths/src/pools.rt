@@ -10,7 +10,7 @@ use crate::scene::Scene;
 use crate::stop::Stop;
 use crate::sweep::Trial;
 use crate::tell::{tell_array, tell_arrays};
-use arrays::{Array, OffsetWidth, View, ViewType};
+use arrays::{Array, OffsetWidth, View, ViewType, Words};
 use pool::{TextPool, recode, unify};
 use std::alloc::Global;
 use std::test::Fail;
@@ -21,14 +21,19 @@ enum Coding {
     Recode,
     Unify,
     ToArray,
+    ToArrayAfter,
 }
 
-pub(crate) const CASES: [(&str, Case); 5] = [
+pub(crate) const CASES: [(&str, Case); 6] = [
     ("recode, texts", Case(Coding::Recode, TEXTS)),
     ("recode, codes", Case(Coding::Recode, CODES)),
     ("unify, texts", Case(Coding::Unify, TEXTS)),
     ("unify, codes", Case(Coding::Unify, CODES)),
     ("TextPool::to_array", Case(Coding::ToArray, TEXTS)),
+    (
+        "TextPool::to_array_after",
+        Case(Coding::ToArrayAfter, TEXTS),
+    ),
 ];
 
 /// A call, and the column that it is given.
@@ -90,6 +95,10 @@ impl<R> Scene<R> for Recoding {
         match self.coding {
             Coding::Recode => Ok(Coded::Column(recode(alloc, &view, &mut self.pool)?)),
             Coding::ToArray => Ok(Coded::Column(self.pool.to_array(alloc)?)),
+            Coding::ToArrayAfter => {
+                let front = Words::of(TextPool::new(alloc).to_array(alloc)?);
+                Ok(Coded::Column(self.pool.to_array_after(alloc, &front)?))
+            }
             Coding::Unify => {
                 let (entries, codes) = unify(alloc, &[view, other])?;
                 Ok(Coded::Unified(entries, codes))

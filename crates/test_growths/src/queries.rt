@@ -15,7 +15,8 @@ use crate::sweep::Trial;
 use crate::tell::{tell_file, tell_version};
 use answers::{Answer, OpenGate};
 use arrays::File;
-use query::{Query, QueryFault, QueryText, resolve};
+use query::{Query, QueryText, resolve};
+use selqumar_core::ask;
 use std::alloc::Global;
 use std::sync::Arc;
 use std::test::Fail;
@@ -28,16 +29,26 @@ enum Call {
     Resolve,
     /// The query is answered in so many pieces.
     Answer(u32),
+    /// A query that has no answer is asked.
+    AnswerNone,
+    /// The query of a text is asked.
+    Ask(&'static str),
+    /// That of a text that has no answer is.
+    AskNone(&'static str),
     Export,
 }
 
-pub(crate) const CASES: [(&str, Case); 13] = [
+pub(crate) const CASES: [(&str, Case); 16] = [
     ("resolve, by texts", Case(Call::Resolve, BY_TEXT)),
     (
         "resolve, by large texts",
         Case(Call::Resolve, BY_LARGE_TEXT),
     ),
     ("resolve, by two", Case(Call::Resolve, BY_TWO)),
+    (
+        "answer, a sum past its type",
+        Case(Call::AnswerNone, PAST_TYPE),
+    ),
     ("answer, by texts, 1 piece", Case(Call::Answer(1), BY_TEXT)),
     ("answer, by texts, 2 pieces", Case(Call::Answer(2), BY_TEXT)),
     ("answer, by texts, 4 pieces", Case(Call::Answer(4), BY_TEXT)),
@@ -56,8 +67,20 @@ pub(crate) const CASES: [(&str, Case); 13] = [
     ("answer, by two, 1 piece", Case(Call::Answer(1), BY_TWO)),
     ("answer, by two, 2 pieces", Case(Call::Answer(2), BY_TWO)),
     ("answer, by two, 4 pieces", Case(Call::Answer(4), BY_TWO)),
+    ("ask, by two", Case(Call::Ask(BY_TWO), BY_TWO)),
+    (
+        "ask, no such column",
+        Case(Call::AskNone(NO_COLUMN), BY_TWO),
+    ),
     ("export", Case(Call::Export, BY_TWO)),
 ];
+
+/// A query whose second column isn't there.
+const NO_COLUMN: &str = r#"{"by":["s","x"],"aggs":[{"agg":"rows"}]}"#;
+
+/// A query whose filter adds past the type of a column.
+const PAST_TYPE: &str =
+    r#"{"filter":{"op":"lt","args":[{"op":"add","args":[{"column":"n"},{"int":2147483647}]},{"int":0}]},"by":["s"],"aggs":[{"agg":"rows"}]}"#;
 
 /// A call, and the text of a query.
 #[derive(Clone, Copy)]
@@ -71,7 +94,6 @@ impl<R: Threads + Sync> Trial<R> for Case {
         let batch = first_batch(alloc, ONE_MORE)?;
         table.admit(2, &batch)?;
         let version = table.version()?;
-        let text = query_text(alloc, text)?;
         let scene = Asking::new(alloc, call, version, text)?;
         run(rt, alloc, scene, refused)
     }
@@ -93,13 +115,13 @@ impl Asking {
         alloc: Global,
         call: Call,
         version: Arc<Version>,
-        text: QueryText,
-    ) -> Result<Asking, QueryFault> {
-        let query = resolve(alloc, &text, version.schema())?;
+        text: &'static str,
+    ) -> Result<Asking, Fail> {
+        let query = resolve(alloc, &query_text(alloc, text)?, version.schema())?;
         Ok(Asking {
             call,
             version,
-            text,
+            text: query_text(alloc, text)?,
             query,
         })
     }
@@ -116,6 +138,13 @@ enum Given {
 impl<R: Threads + Sync> Scene<R> for Asking {
     type Answer = Given;
 
+    fn is_refused(&self) -> bool {
+        match self.call {
+            Call::AnswerNone | Call::AskNone(_) => true,
+            _ => false,
+        }
+    }
+
     fn call(&mut self, rt: &R, alloc: Global) -> Result<Given, Stop> {
         match self.call {
             Call::Resolve => {
@@ -127,7 +156,15 @@ impl<R: Threads + Sync> Scene<R> for Asking {
                 let answer = version.answer(&rt, alloc, query, pieces, &OpenGate)?;
                 Ok(Given::Answer(answer))
             }
+            Call::AnswerNone => {
+                let (version, query, rt) = (&self.version, &self.query, Permit::of(rt));
+                Ok(Given::Answer(version.answer(&rt, alloc, query, 1, &OpenGate)?))
+            }
             Call::Answer(_) => Err(Stop::Other),
+            Call::Ask(text) | Call::AskNone(text) => {
+                let rt = Permit::of(rt);
+                Ok(Given::Answer(ask(&rt, alloc, &self.version, text)?))
+            }
             Call::Export => Ok(Given::File(self.version.export(alloc)?)),
         }
     }

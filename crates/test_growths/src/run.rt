@@ -29,9 +29,8 @@ pub(crate) fn run<S: Scene<R>, R>(
     let called = scene.call(rt, alloc);
     let met = end(alloc);
     match called {
-        Ok(answer) => report(rt, alloc, &mut scene, answer, met),
         Err(Stop::NoMemory) if met => again(rt, alloc, scene, before),
-        Err(_) => Ok(Ran::Wrong(Fault::NoAnswer)),
+        called => outcome(rt, alloc, &mut scene, called, Fault::NoAnswer, met),
     }
 }
 
@@ -42,10 +41,8 @@ fn again<S: Scene<R>, R>(rt: &R, alloc: Global, scene: S, before: String) -> Res
         return Ok(Ran::Wrong(Fault::Trace));
     }
     scene.renew(alloc)?;
-    match scene.call(rt, alloc) {
-        Ok(answer) => report(rt, alloc, &mut scene, answer, true),
-        Err(_) => Ok(Ran::Wrong(Fault::NoSecondAnswer)),
-    }
+    let called = scene.call(rt, alloc);
+    outcome(rt, alloc, &mut scene, called, Fault::NoSecondAnswer, true)
 }
 
 /// What is to be left as it was.
@@ -55,16 +52,21 @@ fn seen<S: Scene<R>, R>(rt: &R, alloc: Global, scene: &mut S) -> Result<String, 
     Ok(report)
 }
 
-/// What is seen behind an answer.
-fn report<S: Scene<R>, R>(
+/// What is seen behind the answer of a call, or behind its refusal where one is due, else the fault.
+fn outcome<S: Scene<R>, R>(
     rt: &R,
     alloc: Global,
     scene: &mut S,
-    answer: S::Answer,
+    called: Result<S::Answer, Stop>,
+    fault: Fault,
     met: bool,
 ) -> Result<Ran, Fail> {
     let mut report = String::new(alloc);
-    S::tell_answer(&mut report, &answer)?;
+    match called {
+        Ok(answer) if !scene.is_refused() => S::tell_answer(&mut report, &answer)?,
+        Err(Stop::Refused(cause)) if scene.is_refused() => write!(report, "{cause:?} ")?,
+        _ => return Ok(Ran::Wrong(fault)),
+    }
     scene.tell(rt, &mut report)?;
     Ok(Ran::Answered(met, report))
 }

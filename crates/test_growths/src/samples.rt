@@ -64,6 +64,10 @@ pub(crate) const ONE_MORE: &str = r#"{"schema":{"fields":[
 {"name":"k","count":2,"VALIDITY":[1,0],"OFFSET":["0","1","1"],"children":[{"name":"item","count":1,"VALIDITY":[0],"DATA":[0]}]},
 {"name":"d","count":2,"VALIDITY":[1,1],"OFFSET":[0,5,6],"DATA":["Braga","y"]}]}]}"#;
 
+/// A batch of texts alone.
+pub(crate) const ONE_COLUMN: &str =
+    r#"{"schema":{"fields":[{"name":"s","nullable":true,"type":{"name":"utf8"},"children":[]}]},"batches":[{"count":1,"columns":[{"name":"s","count":1,"VALIDITY":[1],"OFFSET":[0,1],"DATA":["a"]}]}]}"#;
+
 /// A query with a filter, grouped by texts.
 pub(crate) const BY_TEXT: &str =
     r#"{"filter":{"op":"lt","args":[{"op":"add","args":[{"column":"n"},{"int":1}]},{"int":200}]},"by":["s"],"aggs":[{"agg":"rows"},{"agg":"sum","column":"n"},{"agg":"least","column":"d"}]}"#;

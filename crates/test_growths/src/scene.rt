@@ -13,6 +13,11 @@ pub(crate) trait Scene<R>: Drop {
         Ok(())
     }
 
+    /// Whether the answer of the call is a refusal, which is told then.
+    fn is_refused(&self) -> bool {
+        false
+    }
+
     /// Makes the call.
     fn call(&mut self, rt: &R, alloc: Global) -> Result<Self::Answer, Stop>;
 

@@ -1,20 +1,14 @@
 //! Tables of many workers and readers, on one thread.
 
-ghost use Rattle.std.specs.Prelude.{◌≡◌};
-ghost use Rattle.table.specs.Stored.{stored_fields};
-
 use crate::gathering::Gathering;
 use crate::refusals::Refused;
 use crate::run::{Ran, run};
 use crate::samples::{ONE_MORE, TWO_BATCHES, file, first_batch};
 use crate::stage::{Call, Stage};
 use crate::sweep::Trial;
-use arrays::Schema;
-use shared::{Blanks, Naming, Pair, Publish, Reader, SharedTable, Shown, Worker, open};
+use shared::{Naming, Publish, Reader, Session, SharedTable, Shown, Worker, with_table};
 use std::alloc::Global;
-use std::marker::Brand;
 use std::sync::Wait;
-use std::sync::ledger::Ledger;
 use std::test::Fail;
 
 /// What is tried on a table of two workers.
@@ -60,71 +54,61 @@ pub(crate) struct Case(Play, u32);
 impl<R: Wait> Trial<R> for Case {
     fn run(&self, rt: &R, alloc: Global, refused: Option<Refused>) -> Result<Ran, Fail> {
         let file = file(alloc, TWO_BATCHES)?;
-        let pair = Pair::new(alloc, file.schema())?;
-        let blanks = Blanks::new(2);
-        played::<Brand, Brand, Brand, Brand, R>(
+        let schema = file.schema().copy(alloc)?;
+        let Case(play, readers) = *self;
+        let playing = Playing {
             rt,
             alloc,
-            file.schema(),
-            blanks,
-            pair,
-            *self,
+            play,
             refused,
-        )
+        };
+        with_table(rt, alloc, schema, 2, readers, playing)?
     }
 }
 
-/// The same, under the names of two ledgers and of a history.
-fn played<C: Ledger, Q: Ledger, K: Ledger, N: Naming, R: Wait>(
-    rt: &R,
+/// A play on a table.
+#[derive(Drop)]
+struct Playing<'a, R: Wait> {
+    rt: &'a R,
     alloc: Global,
-    schema: &Schema,
-    blanks: Blanks,
-    pair: Pair,
-    case: Case,
-    refused: Option<Refused>,
-) -> Result<Ran, Fail>
-    requires calls { (blanks.calls.name ≡ C.name) × (blanks.calls.parts ≡ C.parts) × (blanks.calls.parts ≡ 2) }
-    requires rows { (blanks.rows.name ≡ Q.name) × (blanks.rows.parts ≡ Q.parts) × (blanks.rows.parts ≡ 2) }
-    requires columns { (blanks.columns.name ≡ K.name) × (blanks.columns.parts ≡ K.parts) × (blanks.columns.parts ≡ 2) }
-    requires pair { (pair.book ≡ N.book) × (pair.fields ≡ N.fields) × (pair.fields ≡ stored_fields schema.now) }
-{
-    let Case(play, readers) = case;
-    let schema = schema.copy(alloc)?;
-    let opened = open::<C, Q, K, N, &R>(rt, alloc, schema, 2, readers, blanks, pair)?;
-    ran(rt, alloc, opened, play, refused)
-}
-
-/// What comes of a play on a table that nothing was appended to.
-fn ran<C: Ledger, Q: Ledger, K: Ledger, N: Naming, P: Publish<Item = Shown<N>>, R: Wait>(
-    rt: &R,
-    alloc: Global,
-    opened: (
-        SharedTable<C, Q, K, N, P>,
-        Vec<Worker<C, Q, K, N>>,
-        Vec<Reader<N>>,
-    ),
     play: Play,
     refused: Option<Refused>,
-) -> Result<Ran, Fail> {
-    let (table, mut workers, mut readers) = opened;
-    append_two(rt, alloc, &table, &mut workers, &mut readers)?;
-    match play {
-        Play::Call(call) => {
-            let batch = first_batch(alloc, ONE_MORE)?;
-            let scene = Stage::new(call, batch, table, workers, readers);
-            run(rt, alloc, scene, refused)
+}
+
+impl<'a, R: Wait> Session for Playing<'a, R> {
+    type Output = Result<Ran, Fail>;
+
+    fn run<N: Naming, P: Publish<Item = Shown<N>>>(
+        self,
+        table: SharedTable<N, P>,
+        workers: Vec<Worker<N>>,
+        readers: Vec<Reader<N>>,
+    ) -> Result<Ran, Fail> {
+        let Playing {
+            rt,
+            alloc,
+            play,
+            refused,
+        } = self;
+        let (mut workers, mut readers) = (workers, readers);
+        append_two(rt, alloc, &table, &mut workers, &mut readers)?;
+        match play {
+            Play::Call(call) => {
+                let batch = first_batch(alloc, ONE_MORE)?;
+                let scene = Stage::new(call, batch, table, workers, readers);
+                run(rt, alloc, scene, refused)
+            }
+            Play::Gather => run(rt, alloc, Gathering::new(table, workers), refused),
         }
-        Play::Gather => run(rt, alloc, Gathering::new(table, workers), refused),
     }
 }
 
 /// Has each worker append two batches, and each reader learn of them.
-fn append_two<C: Ledger, Q: Ledger, K: Ledger, N: Naming, P: Publish<Item = Shown<N>>, R: Wait>(
+fn append_two<N: Naming, P: Publish<Item = Shown<N>>, R: Wait>(
     rt: &R,
     alloc: Global,
-    table: &SharedTable<C, Q, K, N, P>,
-    workers: &mut [Worker<C, Q, K, N>],
+    table: &SharedTable<N, P>,
+    workers: &mut [Worker<N>],
     readers: &mut [Reader<N>],
 ) -> Result<(), Fail> {
     let file = file(alloc, TWO_BATCHES)?;

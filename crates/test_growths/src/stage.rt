@@ -7,7 +7,6 @@ use crate::tell::tell_version;
 use arrays::{Field, RecordBatch};
 use shared::{Naming, Publish, Reader, SharedTable, Shown, Version, Worker};
 use std::alloc::Global;
-use std::sync::ledger::Ledger;
 use std::sync::{Arc, Wait};
 use std::test::Fail;
 
@@ -29,25 +28,25 @@ pub(crate) enum Call {
 /// A call with a table, its workers and its readers, a batch that is to be appended, and the field of a column that is to be
 /// added.
 #[derive(Drop)]
-pub(crate) struct Stage<C: Ledger, Q: Ledger, K: Ledger, N: Naming, P: Publish<Item = Shown<N>>> {
+pub(crate) struct Stage<N: Naming, P: Publish<Item = Shown<N>>> {
     call: Call,
     batch: Arc<RecordBatch>,
     field: Option<Field>,
-    table: SharedTable<C, Q, K, N, P>,
-    workers: Vec<Worker<C, Q, K, N>>,
+    table: SharedTable<N, P>,
+    workers: Vec<Worker<N>>,
     readers: Vec<Reader<N>>,
     /// How many of several calls are behind.
     turns: u32,
 }
 
-impl<C: Ledger, Q: Ledger, K: Ledger, N: Naming, P: Publish<Item = Shown<N>>> Stage<C, Q, K, N, P> {
+impl<N: Naming, P: Publish<Item = Shown<N>>> Stage<N, P> {
     pub(crate) fn new(
         call: Call,
         batch: Arc<RecordBatch>,
-        table: SharedTable<C, Q, K, N, P>,
-        workers: Vec<Worker<C, Q, K, N>>,
+        table: SharedTable<N, P>,
+        workers: Vec<Worker<N>>,
         readers: Vec<Reader<N>>,
-    ) -> Stage<C, Q, K, N, P> {
+    ) -> Stage<N, P> {
         Stage {
             call,
             batch,
@@ -121,8 +120,7 @@ pub(crate) enum Seen {
     Version(Arc<Version>),
 }
 
-impl<C: Ledger, Q: Ledger, K: Ledger, N: Naming, P: Publish<Item = Shown<N>>, R: Wait> Scene<R>
-    for Stage<C, Q, K, N, P> {
+impl<N: Naming, P: Publish<Item = Shown<N>>, R: Wait> Scene<R> for Stage<N, P> {
     type Answer = Seen;
 
     fn renew(&mut self, alloc: Global) -> Result<(), Fail> {
@@ -169,9 +167,9 @@ impl<C: Ledger, Q: Ledger, K: Ledger, N: Naming, P: Publish<Item = Shown<N>>, R:
 }
 
 /// Tells how much each worker appended.
-pub(crate) fn tell_workers<C: Ledger, Q: Ledger, K: Ledger, N: Naming>(
+pub(crate) fn tell_workers<N: Naming>(
     report: &mut String,
-    workers: &[Worker<C, Q, K, N>],
+    workers: &[Worker<N>],
 ) -> Result<(), Fail> {
     for worker in workers {
         let (number, calls, rows) = (worker.number(), worker.calls(), worker.rows());

@@ -11,26 +11,37 @@ use loads::LoadFault;
 use pool::PoolFault;
 use query::QueryFault;
 use select::SelectFault;
+use selqumar_core::Fault;
 use shared::OpenFault;
-use std::alloc::AllocError;
+use std::alloc::{AllocError, AllocFailed};
 use table::{AddFault, Refusal};
 
 /// Why a call had no answer.
-#[derive(Clone, Copy, Debug, PartialEq, Eq)]
+#[derive(Drop, Debug)]
 pub(crate) enum Stop {
     NoMemory,
+    /// It was refused for another cause.
+    Refused(Cause),
+    /// What it is to be made with isn't there.
     Other,
 }
 
-impl Stop {
-    /// For want of memory, or not.
-    fn of(wants_memory: bool) -> Stop {
-        if wants_memory {
-            Stop::NoMemory
-        } else {
-            Stop::Other
-        }
-    }
+/// Why a call was refused.
+#[derive(Drop, Debug)]
+pub(crate) enum Cause {
+    Layout(LayoutFault),
+    Build(BuildFault),
+    Kernel(KernelFault),
+    Select(SelectFault),
+    Pool(PoolFault),
+    Query(QueryFault),
+    Refusal(Refusal),
+    Add(AddFault),
+    Source(SourceFault),
+    Open(OpenFault),
+    Load(LoadFault),
+    Json(JsonFault),
+    Job(JobFault),
 }
 
 impl From<NoMemory> for Stop {
@@ -45,76 +56,129 @@ impl From<AllocError> for Stop {
     }
 }
 
+impl<T: Drop> From<AllocFailed<T>> for Stop {
+    fn from(_: AllocFailed<T>) -> Stop {
+        Stop::NoMemory
+    }
+}
+
 impl From<LayoutFault> for Stop {
     fn from(fault: LayoutFault) -> Stop {
-        Stop::of(fault == LayoutFault::NoMemory)
+        match fault {
+            LayoutFault::NoMemory => Stop::NoMemory,
+            other => Stop::Refused(Cause::Layout(other)),
+        }
     }
 }
 
 impl From<BuildFault> for Stop {
     fn from(fault: BuildFault) -> Stop {
-        Stop::of(fault == BuildFault::NoMemory)
+        match fault {
+            BuildFault::NoMemory => Stop::NoMemory,
+            other => Stop::Refused(Cause::Build(other)),
+        }
     }
 }
 
 impl From<KernelFault> for Stop {
     fn from(fault: KernelFault) -> Stop {
-        Stop::of(fault == KernelFault::NoMemory)
+        match fault {
+            KernelFault::NoMemory => Stop::NoMemory,
+            other => Stop::Refused(Cause::Kernel(other)),
+        }
     }
 }
 
 impl From<SelectFault> for Stop {
     fn from(fault: SelectFault) -> Stop {
-        Stop::of(fault == SelectFault::NoMemory)
+        match fault {
+            SelectFault::NoMemory => Stop::NoMemory,
+            other => Stop::Refused(Cause::Select(other)),
+        }
     }
 }
 
 impl From<PoolFault> for Stop {
     fn from(fault: PoolFault) -> Stop {
-        Stop::of(fault == PoolFault::NoMemory)
+        match fault {
+            PoolFault::NoMemory => Stop::NoMemory,
+            other => Stop::Refused(Cause::Pool(other)),
+        }
     }
 }
 
 impl From<QueryFault> for Stop {
     fn from(fault: QueryFault) -> Stop {
-        Stop::of(fault == QueryFault::NoMemory)
+        match fault {
+            QueryFault::NoMemory => Stop::NoMemory,
+            other => Stop::Refused(Cause::Query(other)),
+        }
+    }
+}
+
+impl From<Fault> for Stop {
+    fn from(fault: Fault) -> Stop {
+        match fault {
+            Fault::NoMemory => Stop::NoMemory,
+            Fault::Unread(fault) => Stop::from(fault),
+            Fault::Query(fault) => Stop::from(fault),
+            _ => Stop::Other,
+        }
     }
 }
 
 impl From<Refusal> for Stop {
     fn from(refusal: Refusal) -> Stop {
-        Stop::of(refusal == Refusal::NoMemory)
+        match refusal {
+            Refusal::NoMemory => Stop::NoMemory,
+            other => Stop::Refused(Cause::Refusal(other)),
+        }
     }
 }
 
 impl From<AddFault> for Stop {
     fn from(fault: AddFault) -> Stop {
-        Stop::of(fault == AddFault::NoMemory)
+        match fault {
+            AddFault::NoMemory => Stop::NoMemory,
+            other => Stop::Refused(Cause::Add(other)),
+        }
     }
 }
 
 impl From<SourceFault> for Stop {
     fn from(fault: SourceFault) -> Stop {
-        Stop::of(fault == SourceFault::NoMemory)
+        match fault {
+            SourceFault::NoMemory => Stop::NoMemory,
+            other => Stop::Refused(Cause::Source(other)),
+        }
     }
 }
 
 /// A reader that was given no place wants one, which is memory.
 impl From<OpenFault> for Stop {
     fn from(fault: OpenFault) -> Stop {
-        Stop::of(fault == OpenFault::NoMemory || fault == OpenFault::NoPlace)
+        match fault {
+            OpenFault::NoMemory | OpenFault::NoPlace => Stop::NoMemory,
+            other => Stop::Refused(Cause::Open(other)),
+        }
     }
 }
 
 impl From<LoadFault> for Stop {
     fn from(fault: LoadFault) -> Stop {
-        Stop::of(fault == LoadFault::NoMemory)
+        match fault {
+            LoadFault::NoMemory => Stop::NoMemory,
+            other => Stop::Refused(Cause::Load(other)),
+        }
     }
 }
 
 impl From<JsonFault> for Stop {
     fn from(fault: JsonFault) -> Stop {
-        Stop::of(fault.kind == JsonFaultKind::NoMemory)
+        match fault.kind {
+            JsonFaultKind::NoMemory => Stop::NoMemory,
+            _ => Stop::Refused(Cause::Json(fault)),
+        }
     }
 }
 
@@ -122,7 +186,7 @@ impl From<JobFault> for Stop {
     fn from(fault: JobFault) -> Stop {
         match fault {
             JobFault::NoMemory => Stop::NoMemory,
-            _ => Stop::Other,
+            other => Stop::Refused(Cause::Job(other)),
         }
     }
 }

@@ -2,13 +2,13 @@
 
 use crate::refusals::Refused;
 use crate::run::{Ran, run};
-use crate::samples::{ONE_MORE, TWO_BATCHES, first_batch, table};
+use crate::samples::{ONE_COLUMN, ONE_MORE, TWO_BATCHES, first_batch, table};
 use crate::scene::Scene;
 use crate::stop::Stop;
 use crate::sweep::Trial;
 use crate::tell::{tell_batch, tell_version};
 use arrays::{RecordBatch, Schema};
-use shared::Pair;
+use shared::Opening;
 use std::alloc::Global;
 use std::sync::Arc;
 use std::test::Fail;
@@ -20,23 +20,24 @@ enum Call {
     CopyBatch,
     MakeReady,
     NewTable,
-    NewPair,
+    NewOpening,
     Admit,
     AdmitReady,
     AdmitShown,
+    AdmitOther,
     Compact,
     CompactShown,
     Version,
 }
 
-pub(crate) const CASES: [(&str, Case); 16] = [
+pub(crate) const CASES: [(&str, Case); 17] = [
     ("RecordBatch::copy", Case(Call::CopyBatch, ONE_MORE)),
     ("Ready::new", Case(Call::MakeReady, ONE_MORE)),
     ("Ready::new, codes", Case(Call::MakeReady, TWO_BATCHES)),
     ("TableState::new", Case(Call::NewTable, ONE_MORE)),
     ("TableState::new, codes", Case(Call::NewTable, TWO_BATCHES)),
-    ("Pair::new", Case(Call::NewPair, ONE_MORE)),
-    ("Pair::new, codes", Case(Call::NewPair, TWO_BATCHES)),
+    ("Opening::new", Case(Call::NewOpening, ONE_MORE)),
+    ("Opening::new, codes", Case(Call::NewOpening, TWO_BATCHES)),
     ("TableState::admit", Case(Call::Admit, ONE_MORE)),
     ("TableState::admit, codes", Case(Call::Admit, TWO_BATCHES)),
     ("TableState::admit_ready", Case(Call::AdmitReady, ONE_MORE)),
@@ -48,6 +49,10 @@ pub(crate) const CASES: [(&str, Case); 16] = [
     (
         "TableState::admit_shown, codes",
         Case(Call::AdmitShown, TWO_BATCHES),
+    ),
+    (
+        "TableState::admit_ready, other fields",
+        Case(Call::AdmitOther, ONE_COLUMN),
     ),
     ("TableState::compact", Case(Call::Compact, ONE_MORE)),
     (
@@ -96,7 +101,7 @@ enum Given {
     Table(TableState),
     Batch(RecordBatch),
     Ready(Ready),
-    Pair(Pair),
+    Opening(Opening),
 }
 
 impl<R> Scene<R> for Growing {
@@ -104,7 +109,9 @@ impl<R> Scene<R> for Growing {
 
     fn renew(&mut self, alloc: Global) -> Result<(), Fail> {
         match self.call {
-            Call::NewTable => self.schema = Some(self.batch.schema().copy(alloc)?),
+            Call::NewTable | Call::NewOpening => self.schema = Some(
+                self.batch.schema().copy(alloc)?,
+            ),
             Call::AdmitReady => self.ready = Some(Ready::new(alloc, &self.batch)?),
             Call::AdmitShown => self.ready = Some(Ready::new(alloc, &self.batch)?),
             _ => {}
@@ -112,13 +119,24 @@ impl<R> Scene<R> for Growing {
         Ok(())
     }
 
+    fn is_refused(&self) -> bool {
+        match self.call {
+            Call::AdmitOther => true,
+            _ => false,
+        }
+    }
+
     fn call(&mut self, _rt: &R, alloc: Global) -> Result<Given, Stop> {
         match self.call {
             Call::CopyBatch => Ok(Given::Batch(self.batch.copy(alloc)?)),
             Call::MakeReady => Ok(Given::Ready(Ready::new(alloc, &self.batch)?)),
-            Call::NewPair => Ok(Given::Pair(Pair::new(alloc, self.batch.schema())?)),
+            Call::NewOpening => self.new_opening(alloc),
             Call::NewTable => self.new_table(alloc),
             Call::Admit | Call::AdmitReady | Call::AdmitShown => self.admit(),
+            Call::AdmitOther => {
+                let ready = Ready::new(alloc, &self.batch)?;
+                Ok(Given::Number(self.table.admit_ready(7, ready)?))
+            }
             Call::Compact | Call::CompactShown | Call::Version => self.look(),
         }
     }
@@ -131,7 +149,7 @@ impl<R> Scene<R> for Growing {
 
     fn tell_answer(report: &mut String, answer: &Given) -> Result<(), Fail> {
         match answer {
-            Given::Nothing | Given::Pair(_) => Ok(()),
+            Given::Nothing | Given::Opening(_) => Ok(()),
             Given::Number(number) => tell_number(report, *number),
             Given::Shown(number, version) => {
                 tell_number(report, *number)?;
@@ -154,6 +172,14 @@ impl Growing {
     fn new_table(&mut self, alloc: Global) -> Result<Given, Stop> {
         match self.schema.take() {
             Some(schema) => Ok(Given::Table(TableState::new(alloc, schema)?)),
+            None => Err(Stop::Other),
+        }
+    }
+
+    /// Makes what a table of the schema is opened with.
+    fn new_opening(&mut self, alloc: Global) -> Result<Given, Stop> {
+        match self.schema.take() {
+            Some(schema) => Ok(Given::Opening(Opening::new(alloc, schema, 2)?)),
             None => Err(Stop::Other),
         }
     }

@@ -20,19 +20,28 @@ use std::test::Fail;
 /// A call that reads or prints.
 #[derive(Clone, Copy)]
 pub(crate) enum Reading {
-    ReadFile,
+    ReadFile(&'static str),
     ReadFileFromVec,
-    ReadQuery,
+    ReadQuery(&'static str),
     ReadField,
     ReadWhole,
     Job,
     PrintFile,
 }
 
-pub(crate) const CALLS: [(&str, Reading); 7] = [
-    ("read_file", Reading::ReadFile),
+pub(crate) const CALLS: [(&str, Reading); 10] = [
+    ("read_file", Reading::ReadFile(TWO_BATCHES)),
+    ("read_file, a wrong kind", Reading::ReadFile(WRONG_KIND)),
+    (
+        "read_file, an offset past the items",
+        Reading::ReadFile(PAST_END),
+    ),
     ("read_file_from_vec", Reading::ReadFileFromVec),
-    ("read_query", Reading::ReadQuery),
+    ("read_query", Reading::ReadQuery(BY_TEXT)),
+    (
+        "read_query, an aggregate that isn't one",
+        Reading::ReadQuery(NO_AGGREGATE),
+    ),
     ("read_field", Reading::ReadField),
     ("read_whole", Reading::ReadWhole),
     ("job", Reading::Job),
@@ -42,6 +51,16 @@ pub(crate) const CALLS: [(&str, Reading); 7] = [
 /// A field of lists in lists.
 const FIELD: &str =
     r#"{"name":"l","nullable":true,"type":{"name":"list"},"children":[{"name":"item","nullable":true,"type":{"name":"largelist"},"children":[{"name":"item","nullable":false,"type":{"name":"utf8"}}]}]}"#;
+
+/// A field whose `nullable` is a number.
+const WRONG_KIND: &str =
+    r#"{"schema":{"fields":[{"name":"s","nullable":1,"type":{"name":"utf8"},"children":[]}]},"batches":[]}"#;
+
+/// A column of lists whose second offset is past their items.
+const PAST_END: &str =
+    r#"{"schema":{"fields":[{"name":"l","nullable":true,"type":{"name":"list"},"children":[{"name":"item","nullable":true,"type":{"name":"bool"},"children":[]}]}]},"batches":[{"count":1,"columns":[{"name":"l","count":1,"VALIDITY":[1],"OFFSET":[0,2],"children":[{"name":"item","count":1,"VALIDITY":[1],"DATA":[true]}]}]}]}"#;
+
+const NO_AGGREGATE: &str = r#"{"by":["s"],"aggs":[{"agg":"mean","column":"n"}]}"#;
 
 const WORDS: [&str; 9] = [
     "arrowtab",
@@ -101,14 +120,22 @@ impl<R> Scene<R> for Text {
         Ok(())
     }
 
+    fn is_refused(&self) -> bool {
+        match self.call {
+            Reading::ReadFile(text) => text != TWO_BATCHES,
+            Reading::ReadQuery(text) => text != BY_TEXT,
+            _ => false,
+        }
+    }
+
     fn call(&mut self, _rt: &R, alloc: Global) -> Result<Read, Stop> {
         match self.call {
-            Reading::ReadFile => Ok(Read::File(read_file(alloc, TWO_BATCHES.as_bytes())?)),
+            Reading::ReadFile(text) => Ok(Read::File(read_file(alloc, text.as_bytes())?)),
             Reading::ReadFileFromVec => {
                 let bytes = mem::replace(&mut self.bytes, Vec::new(alloc));
                 Ok(Read::File(read_file_from_vec(alloc, bytes)?))
             }
-            Reading::ReadQuery => Ok(Read::Query(read_query(alloc, BY_TEXT.as_bytes())?)),
+            Reading::ReadQuery(text) => Ok(Read::Query(read_query(alloc, text.as_bytes())?)),
             Reading::ReadField => Ok(Read::Field(read_field(alloc, FIELD.as_bytes())?)),
             Reading::ReadWhole if self.source.failures() == 0 => {
                 Ok(Read::Bytes(read_whole(alloc, &mut self.source)?))

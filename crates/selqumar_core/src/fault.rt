@@ -1,34 +1,54 @@
+//! One fault for all that a program does with the library.
+
 use arrays::{BatchFault, BuildFault, SchemaFault};
 use arrow_json::JsonFault;
 use colbits::NoMemory;
+use loads::LoadFault;
 use query::QueryFault;
-use shared::{AddFault, OpenFault, Refusal};
+use shared::{GatherCause, OpenFault};
 use std::alloc::{AllocError, AllocFailed};
 use std::io;
+use table::{AddFault, Refusal};
 use thiserror::Error;
 
-/// Why the tour ended early.
+/// What went wrong. Each fault of the library becomes one of these by `?`, and prints as it does by itself.
 #[derive(Debug, Drop, Error)]
-pub(crate) enum Fault {
+pub enum Fault {
+    /// A growth was refused.
     #[error("no memory")]
     NoMemory,
+    /// The fields are no schema.
     #[error("{0}")]
     Schema(#[from] SchemaFault),
+    /// A column can't be built.
     #[error("{0}")]
     Build(#[from] BuildFault),
+    /// The columns are no batch of the schema.
     #[error("{0}")]
     Batch(#[from] BatchFault),
+    /// A table can't be opened.
     #[error("{0}")]
     Open(#[from] OpenFault),
+    /// The table doesn't take the batch.
     #[error("{0}")]
     Refused(#[from] Refusal),
+    /// The table doesn't take the column.
     #[error("{0}")]
     Column(#[from] AddFault),
-    #[error("the query isn't read")]
+    /// Files weren't loaded whole.
+    #[error("{0}")]
+    Load(#[from] LoadFault),
+    /// The table isn't gathered.
+    #[error("{0}")]
+    Gather(#[from] GatherCause),
+    /// A text isn't read: `fault_text` has the place.
+    #[error("{}", .0.kind)]
     Unread(#[from] JsonFault),
+    /// A query isn't placed or answered.
     #[error("{0}")]
     Query(#[from] QueryFault),
-    #[error("the output failed")]
+    /// The output failed.
+    #[error("{0}")]
     Output(#[from] io::Error),
 }
 

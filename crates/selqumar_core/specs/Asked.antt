@@ -1,0 +1,39 @@
+-- What a query's text asks of rows, and why it has no answer.
+use Rattle.std.specs.Prelude.{◌≡◌, ℕ, List, Ok, Err, ⊤}
+use Rattle.answers.specs.Answers.{IsAnswer}
+use Rattle.answers.specs.Groups.{groups}
+use Rattle.answers.specs.declared.groups.Answer.{Answer}
+use Rattle.arrays.specs.Batch.{Table}
+use Rattle.arrays.specs.Shape.{FieldShape}
+use Rattle.json_query.specs.QueryDocument.{ReadsQueryText}
+use Rattle.json_query.specs.QueryDocumentFault.{QueryBytesFault}
+use Rattle.query.specs.QueryShape.{QueryShape}
+use Rattle.query.specs.Resolved.{resolved}
+use Rattle.query.specs.declared.fault.QueryFault.{QueryFault}
+use Rattle.query.specs.declared.fault.QueryFault.TheVariants.{Overflow}
+use Rattle.selqumar_core.specs.declared.fault.Fault.{Fault}
+use Rattle.selqumar_core.specs.declared.fault.Fault.TheVariants as fault
+
+-- The text is a query whose names, looked up among the fields, are these positions.
+pub record IsPlaced (bytes : List ℕ) (fields : List FieldShape) (placed : QueryShape ℕ) : Type 0 where
+  pub query : QueryShape (List ℕ)
+  pub reads : ReadsQueryText bytes query
+  pub resolves : resolved fields query ≡ Ok placed
+
+-- It has this answer over the rows.
+pub record IsAsked (bytes : List ℕ) (fields : List FieldShape) (t : Table) (a : Answer) : Type 0 where
+  pub placed : QueryShape ℕ
+  pub is_placed : IsPlaced bytes fields placed
+  pub is_answer : IsAnswer fields placed t a
+
+-- A fault of the query: under the fields, or at the least of the rows where its filter is bad.
+pub data IsRefused (bytes : List ℕ) (fields : List FieldShape) (t : Table) : QueryFault → Type 0 where
+  under_fields : (query : QueryShape (List ℕ)) (f : QueryFault) → ReadsQueryText bytes query → resolved fields query ≡ Err f → IsRefused bytes fields t f
+  at_row : (placed : QueryShape ℕ) (row : ℕ) → IsPlaced bytes fields placed → groups fields placed t ≡ Err row → IsRefused bytes fields t (Overflow row)
+
+-- Why there is no answer.
+abbrev pub IsUnasked : List ℕ → List FieldShape → Table → Fault → Type 0
+IsUnasked bytes fields t fault.NoMemory = ⊤
+IsUnasked bytes fields t (fault.Unread f) = QueryBytesFault bytes f.kind f.path
+IsUnasked bytes fields t (fault.Query f) = IsRefused bytes fields t f
+IsUnasked bytes fields t f = ⊥
