@@ -1,5 +1,5 @@
-//! `bench SUBJECT WORD..` runs what scripts measure: `bench kernels`, `bench table` or `bench query`, each with the words that its
-//! module tells. Without a subject each runs on little.
+//! `bench SUBJECT WORD..` runs what scripts measure: `bench kernels`, `bench table`, `bench versions`, `bench arcs` or
+//! `bench query`, each with the words that its module tells. Without a subject each runs on little.
 //!
 //! It ends with status 0 where that was printed, 1 where a fault was reported on standard error in place of it, and 2 where the
 //! words ask for nothing.
@@ -10,6 +10,7 @@ mod kernel_runs;
 mod making;
 mod query_runs;
 mod table_runs;
+mod version_runs;
 
 use fault::Fault;
 use std::env;
@@ -42,6 +43,7 @@ fn run<T: Threads + Sync>(threads: &T, rt: &HostRuntime) -> Result<(), Fault> {
     let Some(subject) = words.next() else {
         kernel_runs::run_each(rt)?;
         table_runs::tell(rt, LITTLE)?;
+        version_runs::tell(rt, 10, 5, 2)?;
         return query_runs::tell(threads, rt, query_runs::SUM_BY_TEXT, (1, 1000), (1, 1));
     };
     let Ok(words) = words.collect::<Vec<String>>(rt.alloc()) else {
@@ -50,6 +52,8 @@ fn run<T: Threads + Sync>(threads: &T, rt: &HostRuntime) -> Result<(), Fault> {
     match subject.as_str() {
         "kernels" => kernel_runs::run(rt, &words),
         "table" => table_runs::run(rt, &words),
+        "versions" => version_runs::run(rt, &words),
+        "arcs" => version_runs::copy_arcs(rt, &words),
         "query" => query_runs::run(threads, rt, &words),
         _ => Err(Fault::Arguments),
     }

@@ -148,9 +148,5 @@ pub(crate) fn batch(
 
 /// A field that may hold nulls.
 pub(crate) fn field(alloc: Global, name: &str, ty: DataType) -> Option<Field> {
-    Some(Field {
-        name: String::from_str(alloc, name).ok()?,
-        nullable: true,
-        ty,
-    })
+    Field::nullable(alloc, name, ty).ok()
 }

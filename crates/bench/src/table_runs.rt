@@ -88,8 +88,14 @@ fn appended(alloc: Global, filling: Filling) -> Option<TableState> {
     Some(table)
 }
 
-// The batch at a place, of so many rows; so many of its texts are those from one on.
-fn batch_at(alloc: Global, place: u32, rows: u32, fresh: u32, first: u32) -> Option<RecordBatch> {
+/// The batch at a place, of so many rows; so many of its texts are those from one on.
+pub(crate) fn batch_at(
+    alloc: Global,
+    place: u32,
+    rows: u32,
+    fresh: u32,
+    first: u32,
+) -> Option<RecordBatch> {
     let columns = vec![in alloc;
         longs(alloc, rows, Nulls::Never, Rule::Spread(place, 0))?,
         longs(
