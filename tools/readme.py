@@ -1,21 +1,22 @@
 #!/usr/bin/env python3
-"""Runs each command of README.md's tour and its Python, and compares what they print; and looks for README's Rust in the crate that the gate runs.
+"""Runs each command of README.md, docs/QUERIES.md and docs/FAULTS.md, and README's Python, and compares what they print; and looks for README's Rust in
+the crate that the gate runs.
 
     tools/readme.py PROGRAM
 
 A command begins with `$ `, and what it prints stands below it, standard error behind standard output; what Python prints stands behind its last line.
 docs/help.txt is what `arrowtab --help` prints.
-All run in a folder with the shipped files, where the program is built, and the library that `tools/library build` left. The last line is
-'N passed, M failed', of commands and blocks."""
+The commands of a document run one behind the other in a new folder with the shipped files, where the program is built, and the library that
+`tools/library build` left. The last line is 'N passed, M failed', of commands and blocks."""
 import os
 import re
 import shutil
 import subprocess
 import sys
 import tempfile
-import textwrap
 
 TOP = os.path.dirname(os.path.dirname(os.path.abspath(__file__)))
+DOCUMENTS = ("README.md", "docs/QUERIES.md", "docs/FAULTS.md")
 SHIPPED = ("examples", "crates/program/data", "tools", "python")
 LIBRARY = os.path.join(TOP, "build", "libselqumar.so.1")
 # A command that takes longer waits for something that never comes.
@@ -63,28 +64,38 @@ def python_fault(block, room):
 
 
 def is_run(block):
-    """Whether the lines stand in a function of the tour, one behind the other."""
-    bodies = text_of("crates/tour/src/main.rt").split("\n{\n")[1:]
-    return any(block.strip("\n") in textwrap.dedent(body.split("\n}\n")[0]) for body in bodies)
+    """Whether the lines stand in the tour, one behind the other, however far to the right."""
+
+    def flush(text):
+        return "\n".join(line.strip() for line in text.strip("\n").split("\n"))
+
+    folder = os.path.join("crates", "tour", "src")
+    return any(f"\n{flush(block)}\n" in flush(text_of(os.path.join(folder, name))) for name in os.listdir(os.path.join(TOP, folder)))
+
+
+def checks_of(name, room):
+    """What each command and block of a document printed, where that is something else, else none."""
+    for language, block in blocks(text_of(name)):
+        for command, printed in commands(block):
+            yield fault_of(["bash", "-c", command], printed, room)
+        if language == "rust":
+            yield None if is_run(block) else f"no lines of the tour: {block}"
+        if language == "python":
+            yield python_fault(block, room)
 
 
 def main():
     program = os.path.abspath(sys.argv[1])
-    faults, count = [], 0
-    with tempfile.TemporaryDirectory() as room:
-        room_for(program, room)
-        for language, block in blocks(text_of("README.md")):
-            found = [fault_of(["bash", "-c", command], printed, room) for command, printed in commands(block)]
-            if language == "rust":
-                found.append(None if is_run(block) else f"no lines of the tour: {block}")
-            if language == "python":
-                found.append(python_fault(block, room))
-            count += len(found)
-            faults += filter(None, found)
-        faults += filter(None, [fault_of(["./arrowtab", "--help"], text_of("docs/help.txt").rstrip("\n"), room)])
-        count += 1
+    checks = []
+    for name in DOCUMENTS:
+        with tempfile.TemporaryDirectory() as room:
+            room_for(program, room)
+            checks += checks_of(name, room)
+            if name == "README.md":
+                checks.append(fault_of(["./arrowtab", "--help"], text_of("docs/help.txt").rstrip("\n"), room))
+    faults = list(filter(None, checks))
     print("\n".join(faults), end="\n" if faults else "")
-    print(f"{count - len(faults)} passed, {len(faults)} failed")
+    print(f"{len(checks) - len(faults)} passed, {len(faults)} failed")
     return 1 if faults else 0
 
 
