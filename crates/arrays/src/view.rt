@@ -86,8 +86,6 @@ pub struct View<'a> {
 }
 
 impl<'a> Model for View<'a> {
-    ghost use Rattle.types.specs.Limits.{most_slots};
-    ghost use Rattle.std.specs.Prelude.{◌≡◌, ◌+◌, ◌≤◌, None};
     ghost use Rattle.layout.specs.Seen.{Seen};
     ghost use Rattle.layout.specs.Code.{seen_code};
 
@@ -95,12 +93,11 @@ impl<'a> Model for View<'a> {
 
     ghost coded = { seen_code };
 
-    ghost use Rattle.arrays.specs.View.{read_view, show_view};
+    ghost use Rattle.arrays.specs.View.{IsView, show_view};
 
     ghost view = { show_view };
 
-    ghost invariant = { λ v. ((read_view v).fault ≡ None)
-        × (v.start + v.len ≤ v.total) × (v.total ≤ most_slots) };
+    ghost invariant = { IsView };
 }
 
 impl<'a> View<'a> {

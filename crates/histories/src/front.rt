@@ -31,7 +31,7 @@ impl<E, N: Naming> Model for Front<E, N> {
 
     ghost view = { λ f. f.seen.log };
 
-    ghost invariant = { λ f. (f.count ≡ length f.seen.log) × (f.seen.book ≡ N.book) };
+    ghost invariant = { λ f. record { count : f.count ≡ length f.seen.log; book : f.seen.book ≡ N.book } };
 }
 
 impl<E, N: Naming> Front<E, N> {

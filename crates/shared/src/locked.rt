@@ -65,15 +65,17 @@ impl<N: Naming, P: Publish<Item = Shown<N>>> Model for Locked<N, P> {
 
     ghost view = { λ l. l.state };
 
-    ghost invariant = { λ l. IsCounted N.workers N.fields l.books.calls.total l.books.rows.total l.books.columns.total (known_after N.fields l.front) l.state
-        × IfSome l.newest (λ v. arc_value v ≡ l.state)
-        × IfSome l.publisher (λ p. P.shows p (record { contents = l.state; number = l.number }))
-        × (l.nothing.calls.parts ≡ 0)
-        × (l.nothing.calls.amount ≡ 0)
-        × (l.nothing.rows.parts ≡ 0)
-        × (l.nothing.rows.amount ≡ 0)
-        × (l.nothing.columns.parts ≡ 0)
-        × (l.nothing.columns.amount ≡ 0) };
+    ghost invariant = { λ l. record {
+      counted : IsCounted N.workers N.fields l.books.calls.total l.books.rows.total l.books.columns.total (known_after N.fields l.front) l.state;
+      newest : IfSome l.newest (λ v. arc_value v ≡ l.state);
+      shown : IfSome l.publisher (λ p. P.shows p (record { contents = l.state; number = l.number }));
+      no_call_part : l.nothing.calls.parts ≡ 0;
+      no_calls : l.nothing.calls.amount ≡ 0;
+      no_row_part : l.nothing.rows.parts ≡ 0;
+      no_rows : l.nothing.rows.amount ≡ 0;
+      no_column_part : l.nothing.columns.parts ≡ 0;
+      no_columns : l.nothing.columns.amount ≡ 0;
+    } };
 }
 
 impl<N: Naming, P: Publish<Item = Shown<N>>> Locked<N, P> {

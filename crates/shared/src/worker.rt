@@ -56,17 +56,19 @@ impl<N: Naming> Model for Worker<N> {
       left = w.left;
     } };
 
-    ghost invariant = { λ w. (w.call_count ≡ w.shares.calls.amount)
-        × (w.row_count ≡ w.shares.rows.amount)
-        × (w.shares.calls.parts ≡ 1)
-        × (w.shares.rows.parts ≡ 1)
-        × (w.number < N.workers)
-        × (length (pairs_in w.mine) ≡ w.shares.calls.amount)
-        × (length (rows (pairs_in w.mine)) ≡ w.shares.rows.amount)
-        × InOrder (widened (length (fields_after N.fields w.seen)) (pairs_in w.mine)) (of (known_after N.fields w.seen).history w.number)
-        × IsLegalKnown (known_after N.fields w.seen)
-        × (w.column_count ≡ w.shares.columns.amount)
-        × (w.shares.columns.parts ≡ 1) };
+    ghost invariant = { λ w. record {
+      call_count : w.call_count ≡ w.shares.calls.amount;
+      row_count : w.row_count ≡ w.shares.rows.amount;
+      column_count : w.column_count ≡ w.shares.columns.amount;
+      call_part : w.shares.calls.parts ≡ 1;
+      row_part : w.shares.rows.parts ≡ 1;
+      column_part : w.shares.columns.parts ≡ 1;
+      number : w.number < N.workers;
+      own_calls : length (pairs_in w.mine) ≡ w.shares.calls.amount;
+      own_rows : length (rows (pairs_in w.mine)) ≡ w.shares.rows.amount;
+      order : InOrder (widened (length (fields_after N.fields w.seen)) (pairs_in w.mine)) (of (known_after N.fields w.seen).history w.number);
+      legal : IsLegalKnown (known_after N.fields w.seen);
+    } };
 }
 
 impl<N: Naming> Worker<N> {

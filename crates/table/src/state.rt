@@ -52,7 +52,10 @@ impl Model for TableState {
 
     ghost view = { λ s. show s.storage };
 
-    ghost invariant = { λ s. IsConsistent s.storage × AreTexts s.storage (table_of (batches_of s.storage)) s.pools.items };
+    ghost invariant = { λ s. record {
+      storage : IsConsistent s.storage;
+      texts : AreTexts s.storage (table_of (batches_of s.storage)) s.pools.items;
+    } };
 }
 
 impl TableState {

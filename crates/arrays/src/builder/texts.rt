@@ -40,8 +40,10 @@ impl Model for TextBuilder {
 
     ghost view = { λ b. record { width = b.slots.width; items = cut_texts b.slots.lengths b.bytes.items } };
 
-    ghost invariant = { λ b. AreTextsOf b.slots.lengths b.bytes.items
-        × (is_full b.slots.width (length b.bytes.items) ≡ false) };
+    ghost invariant = { λ b. record {
+      texts : AreTextsOf b.slots.lengths b.bytes.items;
+      room : is_full b.slots.width (length b.bytes.items) ≡ false;
+    } };
 }
 
 impl TextBuilder {

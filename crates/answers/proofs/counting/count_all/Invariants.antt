@@ -10,4 +10,7 @@ abbrev pub invariant-loop-batch : goal.invariant-loop-batch
 invariant-loop-batch l =
     let batches = map arc_value l.batches in
     let front = all_rows (take l.batch-index batches) in
-    (l.rows ≡ length front) × All (AreComparable (kind_at (first_fields batches)) l.query.aggs.items) front
+    record {
+      rows : l.rows ≡ length front;
+      comparable : All (AreComparable (kind_at (first_fields batches)) l.query.aggs.items) front;
+    }

@@ -22,7 +22,7 @@ join-requires-clause-same c =
     let below : i < length xs = omega (arith, c.loop-i-test.true, c.loop-i.auto.i-end) in
     ap (λ t. (show_column t).agg) c.index-others-i.is
     ∙ agg_there xs c.args.others.now i x other c.requires.same below
-    ∙ ap (λ t. (show_column t).agg) (sym (c.loop-i.invariant.2 i x (le_refl i)))
+    ∙ ap (λ t. (show_column t).agg) (sym (c.loop-i.invariant.rest i x (le_refl i)))
 
 pub join-requires-clause-lengths : goal.join-requires-clause-lengths
 join-requires-clause-lengths c =
@@ -47,7 +47,7 @@ join-requires-clause-few c =
     let f = λ (t : TallyColumn). (show_column t).agg in
     let below : i < length xs = omega (arith, c.loop-i-test.true, c.loop-i.auto.i-end) in
     let beside : i < length others = omega (arith, below, length-map others f, length-map xs f, ap (λ (l : List (Agg _)). length l) c.requires.same) in
-    let here = sym (c.loop-i.invariant.2 i x (le_refl i)) in (
+    let here = sym (c.loop-i.invariant.rest i x (le_refl i)) in (
       r.0,
       r.1,
       r.2,
@@ -71,25 +71,25 @@ loop-i-preserved c =
     let new = c.join.new.self in
     let f = λ (t : TallyColumn). (show_column t).agg in
     let below : i < length xs = omega (arith, c.loop-i-test.true, c.loop-i.auto.i-end) in
-    let within : i < length ys = omega (arith, below, v.0) in
+    let within : i < length ys = omega (arith, below, v.size) in
     let beside : i < length others = omega (arith, below, length-map others f, length-map xs f, ap (λ (l : List (Agg _)). length l) c.requires.same) in
-    let here = sym (v.2 i x (le_refl i)) in (
-      length-set ys i new ∙ v.0,
-      λ kinds tables more are others_are alike others_alike.
+    let here = sym (v.rest i x (le_refl i)) in record {
+      size = length-set ys i new ∙ v.size;
+      joined = λ kinds tables more are others_are alike others_alike.
           let spreads = spread_all c.args.ids.now more (padded c.args.groups [] tables) in
-          place_changed show_column (λ (t : TallyColumn). column_of spreads (show_column t).agg) xs ys i new within (v.1 kinds tables more are others_are alike others_alike)
+          place_changed show_column (λ (t : TallyColumn). column_of spreads (show_column t).agg) xs ys i new within (v.joined kinds tables more are others_are alike others_alike)
           (λ d. c.in_ok-join.ensures kinds tables more
           (subst (IsColumnOf tables) here (All-get_or (IsColumnOf tables) xs i x below are))
           (subst (IsColumnOf more) (sym c.index-others-i.is) (All-get_or (IsColumnOf more) others i other beside others_are))
           (subst (λ t. AreAlike kinds tables (show_column t).agg) here (All-get_or (λ (t : TallyColumn). AreAlike kinds tables (show_column t).agg) xs i x below alike))
           (subst (λ t. AreAlike kinds more (show_column t).agg) here (All-get_or (λ (t : TallyColumn). AreAlike kinds more (show_column t).agg) xs i x below others_alike))
-          ∙ ap (λ t. column_of spreads (show_column t).agg) (sym here ∙ get_or_default xs i x d below)),
-      place_kept show_column show_column xs ys i new within v.2,
-    )
+          ∙ ap (λ t. column_of spreads (show_column t).agg) (sym here ∙ get_or_default xs i x d below));
+      rest = place_kept show_column show_column xs ys i new within v.rest;
+    }
 
 pub returns : goal.returns
 returns c = λ kinds tables more are others alike others_alike.
     let spreads = spread_all c.args.ids.now more (padded c.args.groups [] tables) in
-    changed_by_place show_column (λ (s : ColumnShape). column_of spreads s.agg) c.args.columns.now c.loop-i.columns c.loop-i.invariant.0
-    (λ k d below. c.loop-i.invariant.1 kinds tables more are others alike others_alike k d (omega (arith, below, c.loop-i-test.false)))
+    changed_by_place show_column (λ (s : ColumnShape). column_of spreads s.agg) c.args.columns.now c.loop-i.columns c.loop-i.invariant.size
+    (λ k d below. c.loop-i.invariant.joined kinds tables more are others alike others_alike k d (omega (arith, below, c.loop-i-test.false)))
     ∙ mapped (λ (s : ColumnShape). column_of spreads s.agg) show_column c.args.columns.now

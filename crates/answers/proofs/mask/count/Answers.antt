@@ -21,9 +21,12 @@ loop-w-preserved c =
     let here = ones-of_word xs n c.word.result c.word.type_inv (λ j h. c.word.ensures j h ∙ cell_of_group validity bits (n + j)) in
     let next : 64 * (c.loop-w.w + 1) ≡ n + 64 = omega arith in
     let sum : c.loop-w.count + count_ones c.word.result ≡ ones_in (take (64 * (c.loop-w.w + 1)) xs) =
-    omega (arith, here, ones-more xs n, c.loop-w.invariant.0, ap (λ m. ones_in (take m xs)) next) in
+    omega (arith, here, ones-more xs n, c.loop-w.invariant.counted, ap (λ m. ones_in (take m xs)) next) in
     let few = count_by-le-length (λ b. b) (take 64 (drop n xs)) in
-    (sum, omega (arith, here, few, length-take 64 (drop n xs)))
+    record {
+      counted = sum;
+      few = omega (arith, here, few, length-take 64 (drop n xs));
+    }
 
 pub returns : goal.returns
 returns c =
@@ -35,7 +38,7 @@ returns c =
     let here = ones-of_word xs (64 * words) c.word-2.result c.word-2.type_inv (λ j h. c.word-2.ensures j h ∙ cell_of_group validity bits (64 * words + j))
     ∙ ap (λ n. ones_in (take 64 (drop n xs))) at in
     all-ones xs c.len-words.result c.loop-w.w c.loop-w.count c.word-2.result (c.len-words.ensures ∙ sym (length-map-range_with_len (is_set validity bits) 0 (length bits)))
-    c.loop-w-test.false c.loop-w.invariant.0 here
+    c.loop-w-test.false c.loop-w.invariant.counted here
     ∙ reported-count validity bits
 
 pub overflow_add-result : goal.overflow_add-result

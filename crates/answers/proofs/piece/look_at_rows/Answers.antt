@@ -20,10 +20,10 @@ pub loop-batch-init : goal.loop-batch-init
 loop-batch-init g c =
     let fields = first_fields (map arc_value c.args.scan.now.batches.now) in
     let q = c.args.scan.now.query.now in
-    let none = none_between c.args.from c.args.to in (
-      refl,
-      subst (λ (l : Table). HasRun fields q l c.in_ok-grouping.grouping) (sym none) (record { good = All-nil (IsGood fields (query_shape q).filter); kept = c.in_ok-grouping.ensures }),
-    )
+    let none = none_between c.args.from c.args.to in record {
+      before = refl;
+      run = subst (λ (l : Table). HasRun fields q l c.in_ok-grouping.grouping) (sym none) (record { good = All-nil (IsGood fields (query_shape q).filter); kept = c.in_ok-grouping.ensures });
+    }
 
 pub add_part-requires-clause-fits : goal.add_part-requires-clause-fits
 add_part-requires-clause-fits g c κs within =
@@ -47,12 +47,12 @@ add_part-requires-clause-room g c κs within =
     let front = all_rows (take place batches) in
     let start = c.within-start.result in
     let n = c.within-end.result - start in
-    let first : start ≡ min (c.args.from - length front) batch.rows = c.within-start.ensures ∙ ap (λ m. min (c.args.from - m) c.from-rows.result) c.loop-batch.invariant.0 ∙ ap (min (c.args.from - length front)) rows in
-    let last : c.within-end.result ≡ min (c.args.to - length front) batch.rows = c.within-end.ensures ∙ ap (λ m. min (c.args.to - m) c.from-rows.result) c.loop-batch.invariant.0 ∙ ap (min (c.args.to - length front)) rows in
+    let first : start ≡ min (c.args.from - length front) batch.rows = c.within-start.ensures ∙ ap (λ m. min (c.args.from - m) c.from-rows.result) c.loop-batch.invariant.before ∙ ap (min (c.args.from - length front)) rows in
+    let last : c.within-end.result ≡ min (c.args.to - length front) batch.rows = c.within-end.ensures ∙ ap (λ m. min (c.args.to - m) c.from-rows.result) c.loop-batch.invariant.before ∙ ap (min (c.args.to - length front)) rows in
     let part = between c.args.from c.args.to front in (
       part,
       piece_few batches place batch below here c.args.from c.args.to start n first (ap (λ m. m - start) last) (2 ^ 40) c.requires.scan.few,
-      has_kept_alike (first_fields batches) batch.fields c.args.scan.now.query.now part c.loop-batch.grouping (sym alike) c.loop-batch.invariant.1.kept,
+      has_kept_alike (first_fields batches) batch.fields c.args.scan.now.query.now part c.loop-batch.grouping (sym alike) c.loop-batch.invariant.run.kept,
     )
 
 pub overflow_add-before : goal.overflow_add-before
@@ -63,7 +63,7 @@ overflow_add-before g c =
     let below : place < length batches = omega (arith, length-map c.args.scan.now.batches.now arc_value) in
     let here : batch ≡ get_or batches place batch = mapped_at arc_value c.args.scan.now.batches.now place c.batch-item.result batch (omega arith) c.batch-item.is c.deref-in-loop-batch.ensures in
     let rows : c.from-rows.result ≡ batch.rows = c.from-rows.ensures ∙ c.rows.ensures ∙ ap (λ (b : Batch). b.rows) (c.deref.ensures ∙ sym c.deref-in-loop-batch.ensures) in
-    record { fits = omega (arith, c.loop-batch.invariant.0, rows, few_next batches place batch below here (2 ^ 40) c.requires.scan.few) }
+    record { fits = omega (arith, c.loop-batch.invariant.before, rows, few_next batches place batch below here (2 ^ 40) c.requires.scan.few) }
 
 pub returns-in-Err-Bad-clause-err : goal.returns-in-Err-Bad-clause-err
 returns-in-Err-Bad-clause-err g c =
@@ -78,8 +78,8 @@ returns-in-Err-Bad-clause-err g c =
     let front = all_rows (take place batches) in
     let start = c.within-start.result in
     let n = c.within-end.result - start in
-    let first : start ≡ min (c.args.from - length front) batch.rows = c.within-start.ensures ∙ ap (λ m. min (c.args.from - m) c.from-rows.result) c.loop-batch.invariant.0 ∙ ap (min (c.args.from - length front)) rows in
-    let last : c.within-end.result ≡ min (c.args.to - length front) batch.rows = c.within-end.ensures ∙ ap (λ m. min (c.args.to - m) c.from-rows.result) c.loop-batch.invariant.0 ∙ ap (min (c.args.to - length front)) rows in
+    let first : start ≡ min (c.args.from - length front) batch.rows = c.within-start.ensures ∙ ap (λ m. min (c.args.from - m) c.from-rows.result) c.loop-batch.invariant.before ∙ ap (min (c.args.from - length front)) rows in
+    let last : c.within-end.result ≡ min (c.args.to - length front) batch.rows = c.within-end.ensures ∙ ap (λ m. min (c.args.to - m) c.from-rows.result) c.loop-batch.invariant.before ∙ ap (min (c.args.to - length front)) rows in
     let count = ap (λ m. m - start) last in
     let f = (query_shape c.args.scan.now.query.now).filter in
     let bad : IsBadRow batch start n f c.in-Err-Bad.row = subst (StopsAt batch start n f) c.in-Err-Bad.field-0-is c.in-Err-Bad.ensures.err in
@@ -87,9 +87,9 @@ returns-in-Err-Bad-clause-err g c =
     let to = c.args.to in (
     inl (
       length (between from to front) + c.in-Err-Bad.row,
-      piece_refused batches place batch below here from to start n first count f (first_fields batches) alike c.in-Err-Bad.row bad c.loop-batch.invariant.1.good,
+      piece_refused batches place batch below here from to start n first count f (first_fields batches) alike c.in-Err-Bad.row bad c.loop-batch.invariant.run.good,
       ap (λ m. Overflow (c.loop-batch.before + start + m)) c.in-Err-Bad.row-is
-          ∙ ap Overflow (sym (piece_place batches place batch below here from to start n first count f (first_fields batches) alike c.in-Err-Bad.row c.loop-batch.before c.requires.order c.loop-batch.invariant.0 bad.within)),
+          ∙ ap Overflow (sym (piece_place batches place batch below here from to start n first count f (first_fields batches) alike c.in-Err-Bad.row c.loop-batch.before c.requires.order c.loop-batch.invariant.before bad.within)),
     )
     )
 
@@ -106,17 +106,17 @@ loop-batch-preserved g c =
     let front = all_rows (take place batches) in
     let start = c.within-start.result in
     let n = c.within-end.result - start in
-    let first : start ≡ min (c.args.from - length front) batch.rows = c.within-start.ensures ∙ ap (λ m. min (c.args.from - m) c.from-rows.result) c.loop-batch.invariant.0 ∙ ap (min (c.args.from - length front)) rows in
-    let last : c.within-end.result ≡ min (c.args.to - length front) batch.rows = c.within-end.ensures ∙ ap (λ m. min (c.args.to - m) c.from-rows.result) c.loop-batch.invariant.0 ∙ ap (min (c.args.to - length front)) rows in
-    let part = between c.args.from c.args.to front in (
-      omega (arith, c.loop-batch.invariant.0, rows, ap length (rows_next batches place batch below here), length-append front (rows_of batch), length-rows batch),
-      piece_run batches place batch below here c.args.from c.args.to start n first (ap (λ m. m - start) last) (first_fields batches) c.args.scan.now.query.now c.loop-batch.grouping c.add_part.new.grouping alike
-          c.loop-batch.invariant.1 c.in-Ok.ensures.sound
-          (c.in-Ok.ensures.ok part (has_kept_alike (first_fields batches) batch.fields c.args.scan.now.query.now part c.loop-batch.grouping (sym alike) c.loop-batch.invariant.1.kept)),
-    )
+    let first : start ≡ min (c.args.from - length front) batch.rows = c.within-start.ensures ∙ ap (λ m. min (c.args.from - m) c.from-rows.result) c.loop-batch.invariant.before ∙ ap (min (c.args.from - length front)) rows in
+    let last : c.within-end.result ≡ min (c.args.to - length front) batch.rows = c.within-end.ensures ∙ ap (λ m. min (c.args.to - m) c.from-rows.result) c.loop-batch.invariant.before ∙ ap (min (c.args.to - length front)) rows in
+    let part = between c.args.from c.args.to front in record {
+      before = omega (arith, c.loop-batch.invariant.before, rows, ap length (rows_next batches place batch below here), length-append front (rows_of batch), length-rows batch);
+      run = piece_run batches place batch below here c.args.from c.args.to start n first (ap (λ m. m - start) last) (first_fields batches) c.args.scan.now.query.now c.loop-batch.grouping c.add_part.new.grouping alike
+          c.loop-batch.invariant.run c.in-Ok.ensures.sound
+          (c.in-Ok.ensures.ok part (has_kept_alike (first_fields batches) batch.fields c.args.scan.now.query.now part c.loop-batch.grouping (sym alike) c.loop-batch.invariant.run.kept));
+    }
 
 pub returns-clause-ok : goal.returns-clause-ok
 returns-clause-ok g c =
     let batches : List Batch = map arc_value c.args.scan.now.batches.now in
     piece_whole batches c.loop-batch.batch-index c.args.from c.args.to (first_fields batches) c.args.scan.now.query.now c.loop-batch.grouping
-    (omega (arith, length-map c.args.scan.now.batches.now arc_value)) c.loop-batch.invariant.1
+    (omega (arith, length-map c.args.scan.now.batches.now arc_value)) c.loop-batch.invariant.run

@@ -9,4 +9,7 @@ abbrev pub invariant-loop-batch : goal.invariant-loop-batch
 invariant-loop-batch g l =
     let batches = map arc_value l.scan.batches.now in
     let front = all_rows (take l.batch-index batches) in
-    (l.before ≡ length front) × HasRun (first_fields batches) l.scan.query.now (between l.from l.to front) l.grouping
+    record {
+      before : l.before ≡ length front;
+      run : HasRun (first_fields batches) l.scan.query.now (between l.from l.to front) l.grouping;
+    }

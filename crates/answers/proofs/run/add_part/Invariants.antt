@@ -8,11 +8,12 @@ use Rattle.answers.proofs.run.add_part.Given as goal
 
 -- The slices so far.
 abbrev pub invariant-loop-at : goal.invariant-loop-at
-invariant-loop-at g l =
-    (l.at ≤ l.rows)
-    × ((before : Table) → HasKept l.batch.fields l.query before l.fn.grouping → HasKept l.batch.fields l.query (before ++ rows_in l.batch l.start l.at) l.grouping)
-    × AreSoundTo l.batch (query_shape l.query).filter l.start l.at
-    × IsReadyFor l.batch l.query l.grouping
+invariant-loop-at g l = record {
+  within : l.at ≤ l.rows;
+  kept : (before : Table) → HasKept l.batch.fields l.query before l.fn.grouping → HasKept l.batch.fields l.query (before ++ rows_in l.batch l.start l.at) l.grouping;
+  sound : AreSoundTo l.batch (query_shape l.query).filter l.start l.at;
+  ready : IsReadyFor l.batch l.query l.grouping;
+}
 
 abbrev pub decreases-loop-at : goal.decreases-loop-at
 decreases-loop-at g l = l.rows - l.at

@@ -21,11 +21,14 @@ returns-then-rows-most c =
     let rows = c.rows.ensures ∙ ap (λ (b : Batch). b.rows) c.deref.ensures in
     subst (λ k. IsLongest (has_few m) (length batches) k (tables_of batches)) (sym c.max.ensures)
     (longest-stop (has_few m) (few-fronts m) (tables_of batches) (length batches) n c.loop-n-test.true
-    (few-is m before (omega (arith, c.loop-n.invariant.0, c.loop-n.invariant.1, c.min-most.ensures)) (omega (arith, c.loop-n.invariant.0, c.loop-n.invariant.1, c.min-most.ensures)))
-    (many-is m after (past-either m after c.min-most.result c.min-most.ensures (omega (arith, more, rows, c.loop-n.invariant.0, c.if-rows-most.true)))))
+    (few-is m before (omega (arith, c.loop-n.invariant.counted, c.loop-n.invariant.few, c.min-most.ensures)) (omega (arith, c.loop-n.invariant.counted, c.loop-n.invariant.few, c.min-most.ensures)))
+    (many-is m after (past-either m after c.min-most.result c.min-most.ensures (omega (arith, more, rows, c.loop-n.invariant.counted, c.if-rows-most.true)))))
 
 pub loop-n-preserved : goal.loop-n-preserved
 loop-n-preserved c =
     let more = rows-more c.args.batches.now c.loop-n.n c.index-batches-n.result c.loop-n-test.true c.index-batches-n.is in
     let rows = c.rows.ensures ∙ ap (λ (b : Batch). b.rows) c.deref.ensures in
-    (omega (arith, more, rows, c.loop-n.invariant.0), c.if-rows-most.false)
+    record {
+      counted = omega (arith, more, rows, c.loop-n.invariant.counted);
+      few = c.if-rows-most.false;
+    }

@@ -7,4 +7,7 @@ abbrev pub decreases-with_size : goal.decreases-with_size
 decreases-with_size l = l.level
 
 abbrev pub invariant-loop-i : goal.invariant-loop-i
-invariant-loop-i l = (l.size + size_at l.view.kind l.level (drop l.i l.view.items) ≡ l.before + size_at l.view.kind l.level l.view.items) × (l.size ≤ most_slots)
+invariant-loop-i l = record {
+  sum : l.size + size_at l.view.kind l.level (drop l.i l.view.items) ≡ l.before + size_at l.view.kind l.level l.view.items;
+  few : l.size ≤ most_slots;
+}

@@ -4,4 +4,7 @@ use Rattle.compaction.proofs.sizes.with_bytes.Given as goal
 use Rattle.types.specs.Limits.{most_slots}
 
 abbrev pub invariant-loop-i : goal.invariant-loop-i
-invariant-loop-i l = (l.bytes + text_bytes (drop l.i l.view.items) ≡ l.before + text_bytes l.view.items) × (l.bytes ≤ most_slots)
+invariant-loop-i l = record {
+  sum : l.bytes + text_bytes (drop l.i l.view.items) ≡ l.before + text_bytes l.view.items;
+  few : l.bytes ≤ most_slots;
+}

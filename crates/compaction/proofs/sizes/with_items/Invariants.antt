@@ -4,4 +4,7 @@ use Rattle.compaction.proofs.sizes.with_items.Given as goal
 use Rattle.types.specs.Limits.{most_slots}
 
 abbrev pub invariant-loop-i : goal.invariant-loop-i
-invariant-loop-i l = (l.items + length (inner_items (drop l.i l.view.items)) ≡ l.before + length (inner_items l.view.items)) × (l.items ≤ most_slots)
+invariant-loop-i l = record {
+  sum : l.items + length (inner_items (drop l.i l.view.items)) ≡ l.before + length (inner_items l.view.items);
+  few : l.items ≤ most_slots;
+}

@@ -6,4 +6,7 @@ use Rattle.embed.proofs.loading.add_batches.Given as goal
 
 -- the batches so far are added
 abbrev pub invariant-loop-number : goal.invariant-loop-number
-invariant-loop-number l = (l.table.fields ≡ l.fn.table.fields) × AddsFront (map batch_of (map arc_value l.batches)) l.number l.fn.table.fields l.fn.table.history l.table.history
+invariant-loop-number l = record {
+  fields : l.table.fields ≡ l.fn.table.fields;
+  added : AddsFront (map batch_of (map arc_value l.batches)) l.number l.fn.table.fields l.fn.table.history l.table.history;
+}

@@ -6,4 +6,7 @@ use Rattle.embed.proofs.loading.load_files.Given as goal
 
 -- the files so far are loaded
 abbrev pub invariant-loop-place : goal.invariant-loop-place
-invariant-loop-place l = (l.table.fields ≡ table_fields (data_of l.files)) × HasAdded (all_batches (take l.place (data_of l.files))) l.table.fields l.table.history
+invariant-loop-place l = record {
+  fields : l.table.fields ≡ table_fields (data_of l.files);
+  loaded : HasAdded (all_batches (take l.place (data_of l.files))) l.table.fields l.table.history;
+}

@@ -10,7 +10,7 @@ returns c =
     let at_end : c.loop-i.i ≡ length s.items = omega (arith, c.slots-slots.ensures.count, c.loop-i-test.false, c.loop-i.auto) in
     record {
       rows = search rules;
-      nulls = c.loop-i.invariant.0 ∙ ap (λ n. nulls_of (take n s.items)) at_end ∙ ap nulls_of (take-length s.items);
+      nulls = c.loop-i.invariant.counted ∙ ap (λ n. nulls_of (take n s.items)) at_end ∙ ap nulls_of (take-length s.items);
       sum = sym (no_sum_of_lists s.kind s.items c.requires);
       least = sym (no_least_of_lists s.kind s.items c.requires);
       greatest = sym (no_greatest_of_lists s.kind s.items c.requires);

@@ -20,7 +20,7 @@ with_null-tally-requires g c =
     let t = c.loop-i.tally in
     let item = λ (n : Number g.row.T.Denot). int (g.T.Integer.value n.number) in
     let within : c.loop-i.i < length s.items = omega (arith, c.ints-column.ensures.slots, c.loop-i-test.true) in
-    let few = few_nulls (kind.int g.T.Integer.ty) t.nulls (option_map item t.least) (option_map item t.greatest) c.loop-i.i s.items within c.loop-i.invariant.0 in
+    let few = few_nulls (kind.int g.T.Integer.ty) t.nulls (option_map item t.least) (option_map item t.greatest) c.loop-i.i s.items within c.loop-i.invariant.tally in
     omega (arith, few, c.ints-column.result.short, c.loop-i-test.true)
 
 pub loop-i-preserved : goal.loop-i-preserved
@@ -45,26 +45,26 @@ loop-i-preserved g c =
           let fits : FitsSigned w128 z = search rules in
           let same : to_z w128 (of_z w128 z) ≡ z = to_z-of_z w128 z fits in
           let grown = take-value value s i has.numbers within (valid_is ∙ w.if-is_valid.true) ∙ ap (λ y. items ++ int y ∷ []) (sym (w.wide-sum.ensures.value ∙ w.read-number.ensures)) in
-          let next = IsSum-number i (to_z w128 c.loop-i.sum-bits) items z w.wide-sum.ensures.low w.wide-sum.ensures.high c.loop-i.invariant.1 in
+          let next = IsSum-number i (to_z w128 c.loop-i.sum-bits) items z w.wide-sum.ensures.low w.wide-sum.ensures.high c.loop-i.invariant.sum in
           let sum_fits : FitsSigned w128 (to_z w128 c.loop-i.sum-bits +ℤ z) = omega (arith, ints, next.low, next.high, c.ints-column.result.short, c.loop-i-test.true) in
           let sum_is : to_z w128 c.if-is_valid.sum-bits ≡ to_z w128 c.loop-i.sum-bits +ℤ z =
-          w.sum-is ∙ ap (λ y. to_z w128 (of_z w128 (to_z w128 c.loop-i.sum-bits +ℤ y))) same ∙ to_z-of_z w128 (to_z w128 c.loop-i.sum-bits +ℤ z) sum_fits in (
-            walk-value k t.nulls u.nulls (option_map item t.least) (option_map item t.greatest) (option_map item u.least) (option_map item u.greatest) items (take (i + 1) s.items) (int z)
-                c.loop-i.invariant.0 refl grown
+          w.sum-is ∙ ap (λ y. to_z w128 (of_z w128 (to_z w128 c.loop-i.sum-bits +ℤ y))) same ∙ to_z-of_z w128 (to_z w128 c.loop-i.sum-bits +ℤ z) sum_fits in record {
+            tally = walk-value k t.nulls u.nulls (option_map item t.least) (option_map item t.greatest) (option_map item u.least) (option_map item u.greatest) items (take (i + 1) s.items) (int z)
+                c.loop-i.invariant.tally refl grown
                 (ap (λ (q : Tally (Number g.row.T.Denot)). q.nulls) w.tally-is ∙ e.nulls)
                 (ap (λ (q : Tally (Number g.row.T.Denot)). option_map item q.least) w.tally-is ∙ e.least ∙ ap (λ y. Some (chosen lesser (option_map item t.least) y)) (ap int (sym w.wide-sum.ensures.value)))
-                (ap (λ (q : Tally (Number g.row.T.Denot)). option_map item q.greatest) w.tally-is ∙ e.greatest ∙ ap (λ y. Some (chosen greater (option_map item t.greatest) y)) (ap int (sym w.wide-sum.ensures.value))),
-            subst (λ l. IsSum (i + 1) (to_z w128 c.if-is_valid.sum-bits) l) (sym grown) (subst (λ y. IsSum (i + 1) y (items ++ int z ∷ [])) (sym sum_is) next),
-          ))
+                (ap (λ (q : Tally (Number g.row.T.Denot)). option_map item q.greatest) w.tally-is ∙ e.greatest ∙ ap (λ y. Some (chosen greater (option_map item t.greatest) y)) (ap int (sym w.wide-sum.ensures.value)));
+            sum = subst (λ l. IsSum (i + 1) (to_z w128 c.if-is_valid.sum-bits) l) (sym grown) (subst (λ y. IsSum (i + 1) y (items ++ int z ∷ [])) (sym sum_is) next);
+          })
       | else-is_valid w ↦ (
           let e = w.with_null-tally.ensures in
           let grown = take-null value s i has.numbers within (valid_is ∙ w.if-is_valid.false) in
-          let next = IsSum-null i (to_z w128 c.loop-i.sum-bits) items c.loop-i.invariant.1 in (
-            walk-null k t.nulls u.nulls (option_map item t.least) (option_map item t.greatest) (option_map item u.least) (option_map item u.greatest) items (take (i + 1) s.items)
-                c.loop-i.invariant.0 grown
+          let next = IsSum-null i (to_z w128 c.loop-i.sum-bits) items c.loop-i.invariant.sum in record {
+            tally = walk-null k t.nulls u.nulls (option_map item t.least) (option_map item t.greatest) (option_map item u.least) (option_map item u.greatest) items (take (i + 1) s.items)
+                c.loop-i.invariant.tally grown
                 (ap (λ (q : Tally (Number g.row.T.Denot)). q.nulls) w.tally-is ∙ e.nulls)
                 (ap (λ (q : Tally (Number g.row.T.Denot)). option_map item q.least) w.tally-is ∙ ap (option_map item) e.least)
-                (ap (λ (q : Tally (Number g.row.T.Denot)). option_map item q.greatest) w.tally-is ∙ ap (option_map item) e.greatest),
-            subst (λ l. IsSum (i + 1) (to_z w128 c.if-is_valid.sum-bits) l) (sym grown) (subst (λ y. IsSum (i + 1) y (items ++ null ∷ [])) (sym w.sum-is) next),
-          ))
+                (ap (λ (q : Tally (Number g.row.T.Denot)). option_map item q.greatest) w.tally-is ∙ ap (option_map item) e.greatest);
+            sum = subst (λ l. IsSum (i + 1) (to_z w128 c.if-is_valid.sum-bits) l) (sym grown) (subst (λ y. IsSum (i + 1) y (items ++ null ∷ [])) (sym w.sum-is) next);
+          })
     ]

@@ -10,5 +10,7 @@ use Rattle.group.proofs.slots.number_stats.Given as goal
 abbrev pub invariant-loop-i : goal.invariant-loop-i
 invariant-loop-i g l =
     let item = λ (n : Number g.row.T.Denot). int (g.T.Integer.value n.number) in
-    IsTally (kind.int g.T.Integer.ty) l.tally.nulls (option_map item l.tally.least) (option_map item l.tally.greatest) (take l.i l.view.items)
-    × IsSum l.i l.sum (take l.i l.view.items)
+    record {
+      tally : IsTally (kind.int g.T.Integer.ty) l.tally.nulls (option_map item l.tally.least) (option_map item l.tally.greatest) (take l.i l.view.items);
+      sum : IsSum l.i l.sum (take l.i l.view.items);
+    }

@@ -16,17 +16,17 @@ loop-i-preserved c =
     elim c.match-text_at.branch [
       | in-Some w ↦ (
           let x = text w.in-Some.text.now in
-          let grown = take-item s.items i x (c.text_at.ensures ∙ ap reported w.in-Some.is) in (
-            walk-value s.kind c.loop-i.nulls c.match-text_at.nulls (shown c.loop-i.least) (shown c.loop-i.greatest) (shown c.match-text_at.least) (shown c.match-text_at.greatest) items (take (i + 1) s.items) x
-                c.loop-i.invariant.0 (text_is s.kind w.in-Some.text.now c.requires) grown w.nulls-is
+          let grown = take-item s.items i x (c.text_at.ensures ∙ ap reported w.in-Some.is) in record {
+            tally = walk-value s.kind c.loop-i.nulls c.match-text_at.nulls (shown c.loop-i.least) (shown c.loop-i.greatest) (shown c.match-text_at.least) (shown c.match-text_at.greatest) items (take (i + 1) s.items) x
+                c.loop-i.invariant.tally (text_is s.kind w.in-Some.text.now c.requires) grown w.nulls-is
                 (ap shown w.least-is ∙ ap Some w.lesser.ensures)
-                (ap shown w.greatest-is ∙ ap Some w.greater.ensures),
-            omega (arith, w.nulls-is, c.loop-i.invariant.1),
-          ))
+                (ap shown w.greatest-is ∙ ap Some w.greater.ensures);
+            few = omega (arith, w.nulls-is, c.loop-i.invariant.few);
+          })
       | in-None w ↦ (
-          let grown = take-item s.items i null (c.text_at.ensures ∙ ap reported w.in-None.is) in (
-            walk-null s.kind c.loop-i.nulls c.match-text_at.nulls (shown c.loop-i.least) (shown c.loop-i.greatest) (shown c.match-text_at.least) (shown c.match-text_at.greatest) items (take (i + 1) s.items)
-                c.loop-i.invariant.0 grown w.nulls-is (ap shown w.least-is) (ap shown w.greatest-is),
-            omega (arith, w.nulls-is, c.loop-i.invariant.1),
-          ))
+          let grown = take-item s.items i null (c.text_at.ensures ∙ ap reported w.in-None.is) in record {
+            tally = walk-null s.kind c.loop-i.nulls c.match-text_at.nulls (shown c.loop-i.least) (shown c.loop-i.greatest) (shown c.match-text_at.least) (shown c.match-text_at.greatest) items (take (i + 1) s.items)
+                c.loop-i.invariant.tally grown w.nulls-is (ap shown w.least-is) (ap shown w.greatest-is);
+            few = omega (arith, w.nulls-is, c.loop-i.invariant.few);
+          })
     ]

@@ -6,7 +6,8 @@ use Rattle.json_base.proofs.number.numeral.Given as goal
 
 -- what is left decides, and goes on from the number so far
 abbrev pub invariant-loop-digit : goal.invariant-loop-digit
-invariant-loop-digit l =
-    (list_all is_ascii_digit (drop l.digit-index l.digits) ≡ list_all is_ascii_digit l.digits)
-    × (digits_value_after 10 l.number (drop l.digit-index l.digits) ≡ digits_value 10 l.digits)
-    × (l.number < 2 ^ 64)
+invariant-loop-digit l = record {
+  digits : list_all is_ascii_digit (drop l.digit-index l.digits) ≡ list_all is_ascii_digit l.digits;
+  value : digits_value_after 10 l.number (drop l.digit-index l.digits) ≡ digits_value 10 l.digits;
+  few : l.number < 2 ^ 64;
+}

@@ -5,8 +5,8 @@ use Rattle.json_read.proofs.JsonCatalogs.{codings_pushed}
 use Rattle.json_read.proofs.catalog.read_codings.Goals as goal
 
 pub loop-index-preserved : goal.loop-index-preserved
-loop-index-preserved c = (
-  c.in_ok-coding.ensures.kept,
-  rw (c.in_ok-push.ensures.ok, map-append (option_map coding_of) c.loop-index.codings.items (c.in_ok-coding.coding ∷ []))
-      (codings_pushed _ _ _ _ _ _ c.loop-index.invariant.1 c.in_ok-coding.ensures.ok),
-)
+loop-index-preserved c = record {
+  kept = c.in_ok-coding.ensures.kept;
+  codings = rw (c.in_ok-push.ensures.ok, map-append (option_map coding_of) c.loop-index.codings.items (c.in_ok-coding.coding ∷ []))
+      (codings_pushed _ _ _ _ _ _ c.loop-index.invariant.codings c.in_ok-coding.ensures.ok);
+}

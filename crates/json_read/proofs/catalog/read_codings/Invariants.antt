@@ -7,6 +7,7 @@ use Rattle.json_read.proofs.catalog.read_codings.Given as goal
 
 -- those so far are read
 abbrev pub invariant-loop-index : goal.invariant-loop-index
-invariant-loop-index l =
-    ReadsEach IsKept (items_view l.entries.values.now) l.kept
-    × AreCodings (items_view l.entries.values.now) (ids_of (items_view l.entries.values.now)) (map (option_map parts_of) l.encodings) l.index (map (option_map coding_of) l.codings.items)
+invariant-loop-index l = record {
+  kept : ReadsEach IsKept (items_view l.entries.values.now) l.kept;
+  codings : AreCodings (items_view l.entries.values.now) (ids_of (items_view l.entries.values.now)) (map (option_map parts_of) l.encodings) l.index (map (option_map coding_of) l.codings.items);
+}

@@ -13,10 +13,10 @@ pub loop-index-preserved : goal.loop-index-preserved
 loop-index-preserved c =
     let reads = value_kept _ _ c.read_shared-read.result c.map_err.result c.in_ok-batch.batch c.map_err.ensures.cases c.in_ok-batch.was c.read_shared-read.ensures.ok in
     let fields = value_kept _ _ c.read_shared-read.result c.map_err.result c.in_ok-batch.batch c.map_err.ensures.cases c.in_ok-batch.was c.read_shared-read.ensures.fields in
-    let grown = ap (map arc_value) c.in_ok-push.ensures.ok ∙ map-append arc_value c.loop-index.batches.items (c.in_ok-batch.batch ∷ []) in (
-      rw grown (batch_pushed _ _ _ _ _ _ _ c.loop-index.invariant.0 (omega arith) c.index-values-index.is reads),
-      AreUnder-push _ _ _ _ c.loop-index.invariant.1 fields grown,
-    )
+    let grown = ap (map arc_value) c.in_ok-push.ensures.ok ∙ map-append arc_value c.loop-index.batches.items (c.in_ok-batch.batch ∷ []) in record {
+      read = rw grown (batch_pushed _ _ _ _ _ _ _ c.loop-index.invariant.read (omega arith) c.index-values-index.is reads);
+      under = AreUnder-push _ _ _ _ c.loop-index.invariant.under fields grown;
+    }
 
 pub returns-in_err-batch-clause-err : goal.returns-in_err-batch-clause-err
 returns-in_err-batch-clause-err c =
@@ -25,4 +25,4 @@ returns-in_err-batch-clause-err c =
     (λ _ reported under. tells_batch _ _ _ _ _ _ _ reported (omega arith) c.index-values-index.is under)
 
 pub returns-clause-ok : goal.returns-clause-ok
-returns-clause-ok c = each_done _ _ _ _ c.loop-index.invariant.0 (omega arith)
+returns-clause-ok c = each_done _ _ _ _ c.loop-index.invariant.read (omega arith)

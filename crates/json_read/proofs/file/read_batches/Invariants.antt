@@ -10,6 +10,7 @@ use Rattle.json_read.proofs.file.read_batches.Given as goal
 
 -- the batches so far are read
 abbrev pub invariant-loop-index : goal.invariant-loop-index
-invariant-loop-index l =
-    ReadsFirst (ReadsBatch (arc_value l.schema) (map (option_map coding_of) l.catalog)) (items_view l.values) l.index-counter (map table_of (map arc_value l.batches.items))
-    × AreUnder (arc_value l.schema) (map arc_value l.batches.items)
+invariant-loop-index l = record {
+  read : ReadsFirst (ReadsBatch (arc_value l.schema) (map (option_map coding_of) l.catalog)) (items_view l.values) l.index-counter (map table_of (map arc_value l.batches.items));
+  under : AreUnder (arc_value l.schema) (map arc_value l.batches.items);
+}

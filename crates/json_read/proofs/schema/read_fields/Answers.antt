@@ -22,14 +22,14 @@ returns-in_err-top-clause-err c =
 pub loop-index-preserved : goal.loop-index-preserved
 loop-index-preserved c =
     let field = value_kept _ _ c.read_top-read.result c.map_err.result c.in_ok-top.top c.map_err.ensures.cases c.in_ok-top.was c.read_top-read.ensures.ok in
-    let encoding = value_kept _ _ c.read_top-read.result c.map_err.result c.in_ok-top.top c.map_err.ensures.cases c.in_ok-top.was c.read_top-read.ensures.encoding in (
-      rw (c.in_ok-push.ensures.ok, fields_of-push) (each_pushed ReadsField _ _ _ _ _ c.loop-index.invariant.0 (omega arith) c.index-values-index.is field),
-      rw (c.in_ok-push-2.ensures.ok, map-append (option_map parts_of) c.loop-index.encodings.items (c.in_ok-top.top.encoding ∷ []))
-          (each_pushed HasEncoding _ _ _ _ _ c.loop-index.invariant.1 (omega arith) c.index-values-index.is encoding),
-    )
+    let encoding = value_kept _ _ c.read_top-read.result c.map_err.result c.in_ok-top.top c.map_err.ensures.cases c.in_ok-top.was c.read_top-read.ensures.encoding in record {
+      fields = rw (c.in_ok-push.ensures.ok, fields_of-push) (each_pushed ReadsField _ _ _ _ _ c.loop-index.invariant.fields (omega arith) c.index-values-index.is field);
+      encodings = rw (c.in_ok-push-2.ensures.ok, map-append (option_map parts_of) c.loop-index.encodings.items (c.in_ok-top.top.encoding ∷ []))
+          (each_pushed HasEncoding _ _ _ _ _ c.loop-index.invariant.encodings (omega arith) c.index-values-index.is encoding);
+    }
 
 pub returns-clause-ok : goal.returns-clause-ok
-returns-clause-ok c = each_done _ _ _ _ c.loop-index.invariant.0 (omega arith)
+returns-clause-ok c = each_done _ _ _ _ c.loop-index.invariant.fields (omega arith)
 
 pub returns-clause-encodings : goal.returns-clause-encodings
-returns-clause-encodings c = each_done _ _ _ _ c.loop-index.invariant.1 (omega arith)
+returns-clause-encodings c = each_done _ _ _ _ c.loop-index.invariant.encodings (omega arith)

@@ -10,5 +10,5 @@ returns-clause-row_total g t c =
     let is = c.first.invariant in
     let w = c.first.inside in
     let one : w.row_count ≡ rows_of_hand c.in-Some.first.now =
-    subst (λ (h : Hand). w.row_count ≡ rows_of_hand h) c.first.view_is (is.1 ∙ sym is.6 ∙ sym (rows_widened (length (fields_after g.N.Naming-1.fields w.seen)) (pairs_in w.mine))) in
+    subst (λ (h : Hand). w.row_count ≡ rows_of_hand h) c.first.view_is (is.row_count ∙ sym is.own_rows ∙ sym (rows_widened (length (fields_after g.N.Naming-1.fields w.seen)) (pairs_in w.mine))) in
     grind (arith, common_steps, one)

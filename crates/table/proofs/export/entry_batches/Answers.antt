@@ -15,7 +15,7 @@ part_of-requires c =
     let p = c.in_batch-batch.result in
     let found = c.in_batch-batch.ensures in
     let here =
-    lies h c.requires k c.deref.result.now c.get-rows.result c.loop-i.place p c.index.result.now c.deref.ensures.value c.get-rows.ensures c.loop-i.invariant.2 found.same found.place found.within found.left c.index.ensures in
+    lies h c.requires k c.deref.result.now c.get-rows.result c.loop-i.place p c.index.result.now c.deref.ensures.value c.get-rows.ensures c.loop-i.invariant.behind found.same found.place found.within found.left c.index.ensures in
     record { fields = here.under.0; within = here.fits }
 
 pub overflow_add-place : goal.overflow_add-place
@@ -25,7 +25,7 @@ overflow_add-place c =
     let p = c.in_batch-batch.result in
     let found = c.in_batch-batch.ensures in
     let here =
-    lies h c.requires k c.deref.result.now c.get-rows.result c.loop-i.place p c.index.result.now c.deref.ensures.value c.get-rows.ensures c.loop-i.invariant.2 found.same found.place found.within found.left c.index.ensures in
+    lies h c.requires k c.deref.result.now c.get-rows.result c.loop-i.place p c.index.result.now c.deref.ensures.value c.get-rows.ensures c.loop-i.invariant.behind found.same found.place found.within found.left c.index.ensures in
     omega (arith, here.fits, here.small)
 
 pub loop-i-preserved : goal.loop-i-preserved
@@ -35,22 +35,22 @@ loop-i-preserved c =
     let p = c.in_batch-batch.result in
     let found = c.in_batch-batch.ensures in
     let here =
-    lies h c.requires k c.deref.result.now c.get-rows.result c.loop-i.place p c.index.result.now c.deref.ensures.value c.get-rows.ensures c.loop-i.invariant.2 found.same found.place found.within found.left c.index.ensures in
+    lies h c.requires k c.deref.result.now c.get-rows.result c.loop-i.place p c.index.result.now c.deref.ensures.value c.get-rows.ensures c.loop-i.invariant.behind found.same found.place found.within found.left c.index.ensures in
     let old = c.loop-i.batches.items in
     let part = c.in_ok-part_of.field-0 in
     let rows = λ (b : Shared). rows_of (arc_value b) in
-    let IsOne = λ (b : Shared). IsUnder (show h).fields (arc_value b) in (
-      ap (map rows) c.in_ok-push.ensures.items
+    let IsOne = λ (b : Shared). IsUnder (show h).fields (arc_value b) in record {
+      rows = ap (map rows) c.in_ok-push.ensures.items
           ∙ map-append rows old (part ∷ [])
-          ∙ ap (λ (l : List Table). l ++ rows_of (arc_value part) ∷ []) c.loop-i.invariant.0
-          ∙ sym (here.table (rows_of (arc_value part)) c.in_ok-part_of.ensures.rows),
-      subst (All IsOne) (sym c.in_ok-push.ensures.items) (All-push IsOne old part c.loop-i.invariant.1 (c.in_ok-part_of.ensures.fields ∙ here.under.0, c.in_ok-part_of.ensures.lawful)),
-      here.behind,
-      here.place,
-      omega (arith, here.within),
-    )
+          ∙ ap (λ (l : List Table). l ++ rows_of (arc_value part) ∷ []) c.loop-i.invariant.rows
+          ∙ sym (here.table (rows_of (arc_value part)) c.in_ok-part_of.ensures.rows);
+      under = subst (All IsOne) (sym c.in_ok-push.ensures.items) (All-push IsOne old part c.loop-i.invariant.under (c.in_ok-part_of.ensures.fields ∙ here.under.0, c.in_ok-part_of.ensures.lawful));
+      behind = here.behind;
+      place = here.place;
+      within = omega (arith, here.within);
+    }
 
 pub returns-clause-tables : goal.returns-clause-tables
 returns-clause-tables c =
-    c.loop-i.invariant.0
+    c.loop-i.invariant.rows
     ∙ tables-all c.args.storage.now c.loop-i.i (omega (arith, c.loop-i-test.false, c.len.ensures))

@@ -10,9 +10,10 @@ use Rattle.table.proofs.export.entry_batches.Given as goal
 
 -- the batches so far are those of the first entries, and the place is behind them
 abbrev pub invariant-loop-i : goal.invariant-loop-i
-invariant-loop-i l =
-    (map (λ (b : Arc Batch Global). rows_of (arc_value b)) l.batches.items ≡ take l.i (map (λ (e : ℕ × Table). e.1) (show l.storage).history))
-    × All (λ (b : Arc Batch Global). IsUnder (show l.storage).fields (arc_value b)) l.batches.items
-    × (passed (batches_of l.storage) l.place ≡ counted (take l.i (book_of l.storage)))
-    × IsPlace (batches_of l.storage) l.place
-    × (l.place.batch ≤ length l.storage.batches.items - 1)
+invariant-loop-i l = record {
+  rows : map (λ (b : Arc Batch Global). rows_of (arc_value b)) l.batches.items ≡ take l.i (map (λ (e : ℕ × Table). e.1) (show l.storage).history);
+  under : All (λ (b : Arc Batch Global). IsUnder (show l.storage).fields (arc_value b)) l.batches.items;
+  behind : passed (batches_of l.storage) l.place ≡ counted (take l.i (book_of l.storage));
+  place : IsPlace (batches_of l.storage) l.place;
+  within : l.place.batch ≤ length l.storage.batches.items - 1;
+}

@@ -3,14 +3,18 @@ use Rattle.arrays.proofs.view.View.codes.Goals as goal
 
 pub invariant_of-result : goal.invariant_of-result
 invariant_of-result c =
-    let there = codes_of_view c.self.inside c.args.self.now c.self.view_is c.requires c.self.invariant.0 c.self.invariant.1 in
-    (there.lawful, c.self.invariant.1, c.self.invariant.2)
+    let there = codes_of_view c.self.inside c.args.self.now c.self.view_is c.requires c.self.invariant.lawful c.self.invariant.within in
+    record {
+      lawful = there.lawful;
+      within = c.self.invariant.within;
+      few = c.self.invariant.few;
+    }
 
 pub returns-clause-value : goal.returns-clause-value
-returns-clause-value c = (codes_of_view c.self.inside c.args.self.now c.self.view_is c.requires c.self.invariant.0 c.self.invariant.1).shows
+returns-clause-value c = (codes_of_view c.self.inside c.args.self.now c.self.view_is c.requires c.self.invariant.lawful c.self.invariant.within).shows
 
 pub returns-clause-items : goal.returns-clause-items
-returns-clause-items c = (codes_of_view c.self.inside c.args.self.now c.self.view_is c.requires c.self.invariant.0 c.self.invariant.1).named
+returns-clause-items c = (codes_of_view c.self.inside c.args.self.now c.self.view_is c.requires c.self.invariant.lawful c.self.invariant.within).named
 
 pub returns-clause-within : goal.returns-clause-within
-returns-clause-within c = (codes_of_view c.self.inside c.args.self.now c.self.view_is c.requires c.self.invariant.0 c.self.invariant.1).fit
+returns-clause-within c = (codes_of_view c.self.inside c.args.self.now c.self.view_is c.requires c.self.invariant.lawful c.self.invariant.within).fit

@@ -6,9 +6,9 @@ use Rattle.arrays.proofs.DictionaryViews.{codes_of_view}
 use Rattle.arrays.proofs.view.View.dictionary.Goals as goal
 
 pub unwrap-requires : goal.unwrap-requires
-unwrap-requires c = (codes_of_view c.self.inside c.args.self.now c.self.view_is c.requires c.self.invariant.0 c.self.invariant.1).there
+unwrap-requires c = (codes_of_view c.self.inside c.args.self.now c.self.view_is c.requires c.self.invariant.lawful c.self.invariant.within).there
 
 pub returns : goal.returns
 returns c =
-    let there = codes_of_view c.self.inside c.args.self.now c.self.view_is c.requires c.self.invariant.0 c.self.invariant.1 in
+    let there = codes_of_view c.self.inside c.args.self.now c.self.view_is c.requires c.self.invariant.lawful c.self.invariant.within in
     ap (λ o. entries_of (option_map checked_texts (option_map (λ w. arc_value w.now) o))) (sym c.unwrap.ensures) ∙ there.entries

@@ -4,4 +4,4 @@ use Rattle.arrays.proofs.ViewLemmas.{length-show_view}
 use Rattle.arrays.proofs.view.View.len.Goals as goal
 
 pub returns : goal.returns
-returns c = sym (length-show_view c.self.inside c.self.invariant.1) ∙ ap (λ (s : Seen). length s.items) c.self.view_is
+returns c = sym (length-show_view c.self.inside c.self.invariant.within) ∙ ap (λ (s : Seen). length s.items) c.self.view_is

@@ -12,7 +12,7 @@ pub part-requires : goal.part-requires
 part-requires c =
     let v = c.self.inside in
     let int = sym (kind-show_view v) ∙ ap (λ (s : Seen). s.kind) c.self.view_is ∙ c.requires in
-    let there = (numbers-view c.args.ty v int c.self.invariant.0 c.self.invariant.1).enough in
+    let there = (numbers-view c.args.ty v int c.self.invariant.lawful c.self.invariant.within).enough in
     subst (λ w. v.start * w + v.len * w ≤ length c.bytes_at-bytes.result.now) (sym c.bytes-width.ensures)
     (subst (λ b. v.start * bytes_of c.args.ty.bits + v.len * bytes_of c.args.ty.bits ≤ length b) (sym c.bytes_at-bytes.ensures) there)
 
@@ -20,7 +20,7 @@ pub returns : goal.returns
 returns c =
     let v = c.self.inside in
     let int = sym (kind-show_view v) ∙ ap (λ (s : Seen). s.kind) c.self.view_is ∙ c.requires in
-    let numbers = (numbers-view c.args.ty v int c.self.invariant.0 c.self.invariant.1).numbers in
+    let numbers = (numbers-view c.args.ty v int c.self.invariant.lawful c.self.invariant.within).numbers in
     let same =
     c.part.ensures
     ∙ ap (λ b. slice b (v.start * c.bytes-width.result) (v.len * c.bytes-width.result)) c.bytes_at-bytes.ensures

@@ -11,12 +11,12 @@ use Rattle.arrays.proofs.view.View.texts.Goals as goal
 
 pub new-requires-clause-enough : goal.new-requires-clause-enough
 new-requires-clause-enough c =
-    (texts_of_view c.args.width c.self.inside c.args.self.now c.bytes_at-first.result.now c.bytes_at-bytes.result.now c.slots-slots.result c.self.view_is c.requires c.self.invariant.0 c.self.invariant.1
+    (texts_of_view c.args.width c.self.inside c.args.self.now c.bytes_at-first.result.now c.bytes_at-bytes.result.now c.slots-slots.result c.self.view_is c.requires c.self.invariant.lawful c.self.invariant.within
     c.bytes_at-first.ensures c.bytes_at-bytes.ensures c.slots-slots.ensures.count).there.enough
 
 pub new-requires-clause-counted : goal.new-requires-clause-counted
 new-requires-clause-counted c =
-    (texts_of_view c.args.width c.self.inside c.args.self.now c.bytes_at-first.result.now c.bytes_at-bytes.result.now c.slots-slots.result c.self.view_is c.requires c.self.invariant.0 c.self.invariant.1
+    (texts_of_view c.args.width c.self.inside c.args.self.now c.bytes_at-first.result.now c.bytes_at-bytes.result.now c.slots-slots.result c.self.view_is c.requires c.self.invariant.lawful c.self.invariant.within
     c.bytes_at-first.ensures c.bytes_at-bytes.ensures c.slots-slots.ensures.count).there.counted
 
 pub invariant_of-result : goal.invariant_of-result
@@ -26,7 +26,7 @@ invariant_of-result c =
     let bytes = c.bytes_at-bytes.result.now in
     let has : HasTexts c.new.result bytes s =
     subst (λ o. HasTexts o c.bytes_at-bytes.result.now c.args.self.now) (sym c.new.ensures.offsets)
-    (texts_of_view c.args.width c.self.inside c.args.self.now c.bytes_at-first.result.now c.bytes_at-bytes.result.now c.slots-slots.result c.self.view_is c.requires c.self.invariant.0 c.self.invariant.1
+    (texts_of_view c.args.width c.self.inside c.args.self.now c.bytes_at-first.result.now c.bytes_at-bytes.result.now c.slots-slots.result c.self.view_is c.requires c.self.invariant.lawful c.self.invariant.within
     c.bytes_at-first.ensures c.bytes_at-bytes.ensures c.slots-slots.ensures.count).texts in
     let bounds : AreOffsets n c.new.result (length bytes) = subst (λ m. AreOffsets m c.new.result (length bytes)) (sym c.slots-slots.ensures.count) has.bounds in
     record {
@@ -42,7 +42,7 @@ invariant_of-result c =
 pub returns-clause-texts : goal.returns-clause-texts
 returns-clause-texts c =
     subst (λ o. HasTexts o c.bytes_at-bytes.result.now c.args.self.now) (sym c.new.ensures.offsets)
-    (texts_of_view c.args.width c.self.inside c.args.self.now c.bytes_at-first.result.now c.bytes_at-bytes.result.now c.slots-slots.result c.self.view_is c.requires c.self.invariant.0 c.self.invariant.1
+    (texts_of_view c.args.width c.self.inside c.args.self.now c.bytes_at-first.result.now c.bytes_at-bytes.result.now c.slots-slots.result c.self.view_is c.requires c.self.invariant.lawful c.self.invariant.within
     c.bytes_at-first.ensures c.bytes_at-bytes.ensures c.slots-slots.ensures.count).texts
 
 pub returns-clause-items : goal.returns-clause-items
@@ -50,7 +50,7 @@ returns-clause-items c =
     let bytes = c.bytes_at-bytes.result.now in
     let has : HasTexts c.new.result bytes c.args.self.now =
     subst (λ o. HasTexts o c.bytes_at-bytes.result.now c.args.self.now) (sym c.new.ensures.offsets)
-    (texts_of_view c.args.width c.self.inside c.args.self.now c.bytes_at-first.result.now c.bytes_at-bytes.result.now c.slots-slots.result c.self.view_is c.requires c.self.invariant.0 c.self.invariant.1
+    (texts_of_view c.args.width c.self.inside c.args.self.now c.bytes_at-first.result.now c.bytes_at-bytes.result.now c.slots-slots.result c.self.view_is c.requires c.self.invariant.lawful c.self.invariant.within
     c.bytes_at-first.ensures c.bytes_at-bytes.ensures c.slots-slots.ensures.count).texts in
     items-seen (λ j. text (of_slot c.new.result bytes j)) c.validity-validity.result c.slots-slots.result c.args.self.now has.texts c.validity-validity.ensures c.slots-slots.ensures.count
 

@@ -9,11 +9,11 @@ use Rattle.arrays.proofs.view.View.whole.Goals as goal
 pub invariant_of-result : goal.invariant_of-result
 invariant_of-result c =
     let a = c.args in
-    let words = option_map (λ w. arc_value w.now) a.words in (
-      c.requires,
-      omega arith,
-      short-of_lawful (view_kind a.ty) a.total None a.buffers.now (map reading a.children.now) (option_map checked_texts words) c.requires,
-    )
+    let words = option_map (λ w. arc_value w.now) a.words in record {
+      lawful = c.requires;
+      within = omega arith;
+      few = short-of_lawful (view_kind a.ty) a.total None a.buffers.now (map reading a.children.now) (option_map checked_texts words) c.requires;
+    }
 
 pub returns : goal.returns
 returns c =

@@ -8,10 +8,10 @@ compare_exchange-found-requires g c =
     let seen = c.again-seen.ensures in
     let offer = c.plain-offer.ensures in
     let pen = c.no_pen-pen.ensures in
-    let book = ap (λ s. s.book) seen ∙ (c.self.invariant.1 ∙ sym (ap (λ w. w.book) head)) in (
+    let book = ap (λ s. s.book) seen ∙ (c.self.invariant.book ∙ sym (ap (λ w. w.book) head)) in (
       ap (λ w. w.tracked) head,
       book,
       pen.0 ∙ book,
       offer.0,
-      rw (ap (λ w. w.key) head, pen.1, offer.1, offer.3) (adds_moves c.again-seen.result.log (g.X.Noted.noted c.args.entry.now) c.self.inside.count (sym (c.self.invariant.0 ∙ ap (λ s. length s.log) (sym seen)))),
+      rw (ap (λ w. w.key) head, pen.1, offer.1, offer.3) (adds_moves c.again-seen.result.log (g.X.Noted.noted c.args.entry.now) c.self.inside.count (sym (c.self.invariant.count ∙ ap (λ s. length s.log) (sym seen)))),
     )

@@ -24,7 +24,7 @@ push_as-requires-clause-of_type c =
     let at = code-at s codes i (item_of c.get.result) c.codes-codes.ensures.value stored in
     let names = all-at (λ x. is_code entries x ≡ true) s.codes i (item_of c.get.result) c.codes-codes.ensures.within at in
     λ x is.
-    subst (λ t. IsOfType t x) (sym c.loop-i.invariant.0) (shifted-fits entries c.args.before c.get.result c.shift.result names c.requires.few c.shift.ensures x is)
+    subst (λ t. IsOfType t x) (sym c.loop-i.invariant.ty) (shifted-fits entries c.args.before c.get.result c.shift.result names c.requires.few c.shift.ensures x is)
 
 pub loop-i-preserved : goal.loop-i-preserved
 loop-i-preserved c =
@@ -34,10 +34,10 @@ loop-i-preserved c =
     let numbers = c.ints-numbers.result in
     let below : i < length codes.items = omega (arith, c.loop-i-test.true, c.len-i-end.ensures) in
     let stored = number-row int32 numbers.values.now numbers.validity codes i c.get.result c.ints-numbers.ensures.values c.ints-numbers.ensures.validity below c.get.ensures.value in
-    let at = code-at s codes i (item_of c.get.result) c.codes-codes.ensures.value stored in (
-      c.in_ok-push_as.ensures.kept ∙ c.loop-i.invariant.0,
-      added-more (shifted c.args.before) s.codes i (item_of c.get.result) c.args.builder.now.items c.loop-i.builder.items c.push_as.new.self.items (item_of c.shift.result) at c.loop-i.invariant.1 c.shift.ensures c.in_ok-push_as.ensures.ok,
-    )
+    let at = code-at s codes i (item_of c.get.result) c.codes-codes.ensures.value stored in record {
+      ty = c.in_ok-push_as.ensures.kept ∙ c.loop-i.invariant.ty;
+      items = added-more (shifted c.args.before) s.codes i (item_of c.get.result) c.args.builder.now.items c.loop-i.builder.items c.push_as.new.self.items (item_of c.shift.result) at c.loop-i.invariant.items c.shift.ensures c.in_ok-push_as.ensures.ok;
+    }
 
 pub returns-clause-encoded : goal.returns-clause-encoded
 returns-clause-encoded c = encoded-is c.args.view.now c.codes-codes.ensures.items c.codes-codes.ensures.within

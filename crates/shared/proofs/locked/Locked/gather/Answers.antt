@@ -16,11 +16,11 @@ returns-clause-whole g c =
     let totals = c.tell_totals.ensures in
     let workers = c.args.workers.now in
     let parts : All (IsPartOf count known) workers =
-    subst (λ ws. All (IsPartOf count known) ws) totals.workers (subst (λ (k : Known). All (IsPartOf count k) c.tell_totals.new.workers) is.0.shown.known c.begin_all.ensures) in
-    let whole = all_whole count known workers is.0.shown.workers c.requires.all (omega (arith, totals.few, is.3)) parts (omega (arith, totals.call_total, is.4, is.0.balanced.pairs)) in
+    subst (λ ws. All (IsPartOf count known) ws) totals.workers (subst (λ (k : Known). All (IsPartOf count k) c.tell_totals.new.workers) is.counted.shown.known c.begin_all.ensures) in
+    let whole = all_whole count known workers is.counted.shown.workers c.requires.all (omega (arith, totals.few, is.no_call_part)) parts (omega (arith, totals.call_total, is.no_calls, is.counted.balanced.pairs)) in
     subst (λ (s : Contents). All (IsWhole (known_of s)) workers) c.self.view_is whole
 
 pub returns-clause-opened : goal.returns-clause-opened
 returns-clause-opened g c =
     let first = g.N.Naming-1.fields in
-    subst (λ (s : Contents). IsPrefix first s.fields) c.self.view_is (subst (λ (k : Known). IsPrefix first k.fields) c.self.invariant.0.shown.known (opened_first first c.self.inside.front))
+    subst (λ (s : Contents). IsPrefix first s.fields) c.self.view_is (subst (λ (k : Known). IsPrefix first k.fields) c.self.invariant.counted.shown.known (opened_first first c.self.inside.front))

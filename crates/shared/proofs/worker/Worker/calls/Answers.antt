@@ -8,4 +8,4 @@ pub returns : goal.returns
 returns g c =
     let is = c.self.invariant in
     let w = c.self.inside in
-    subst (λ (h : Hand). w.call_count ≡ calls_of_hand h) c.self.view_is (is.0 ∙ sym is.5 ∙ sym (length-widened (length (fields_after g.N.Naming-1.fields w.seen)) (pairs_in w.mine)))
+    subst (λ (h : Hand). w.call_count ≡ calls_of_hand h) c.self.view_is (is.call_count ∙ sym is.own_calls ∙ sym (length-widened (length (fields_after g.N.Naming-1.fields w.seen)) (pairs_in w.mine)))

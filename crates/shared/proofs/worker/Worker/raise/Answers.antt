@@ -22,19 +22,19 @@ invariant_of-self g c =
     ap (known_after first) c.again.ensures ∙ c.requires.front ∙ sym (ap (λ (h : Hand). (having_added (rows_of b) h).seen) c.self.view_is) in
     let legal : IsLegalKnown (known_after first c.again.result) = subst (λ (l : List Change). IsLegalKnown (known_after first l)) (sym c.again.ensures) c.requires.legal in
     let pairs : pairs_in c.add-3.new.self ≡ pairs_in w.mine ++ (w.number, rows_of b) ∷ [] = ap pairs_in mine ∙ pairs_more w.mine (w.number, rows_of b) in
-    let shown = added_after first w.number w.seen c.again.result w.mine c.add-3.new.self w.column_count w.left (rows_of b) known mine legal in (
-      omega (arith, is.0, c.add.ensures.amount, c.audit.ensures.amount),
-      omega (arith, is.1, c.add-2.ensures.amount, c.audit-2.ensures.amount, c.from-rows.ensures),
-      omega (arith, is.2, c.add.ensures.parts, c.audit.ensures.parts),
-      omega (arith, is.3, c.add-2.ensures.parts, c.audit-2.ensures.parts),
-      is.4,
-      omega (arith, is.5, c.add.ensures.amount, c.audit.ensures.amount, ap (λ (h : History). length h) pairs, length-append (pairs_in w.mine) ((w.number, rows_of b) ∷ [])),
-      omega (arith, is.6, c.add-2.ensures.amount, c.audit-2.ensures.amount, c.from-rows.ensures, c.rows.ensures, rows_pushed (pairs_in w.mine) (pairs_in c.add-3.new.self) w.number b pairs),
-      order_added w.number (rows_of b) old (hand_after first w.number c.again.result c.add-3.new.self w.column_count w.left) shown refl is.7,
-      legal,
-      is.9,
-      is.10,
-    )
+    let shown = added_after first w.number w.seen c.again.result w.mine c.add-3.new.self w.column_count w.left (rows_of b) known mine legal in record {
+      call_count = omega (arith, is.call_count, c.add.ensures.amount, c.audit.ensures.amount);
+      row_count = omega (arith, is.row_count, c.add-2.ensures.amount, c.audit-2.ensures.amount, c.from-rows.ensures);
+      column_count = is.column_count;
+      call_part = omega (arith, is.call_part, c.add.ensures.parts, c.audit.ensures.parts);
+      row_part = omega (arith, is.row_part, c.add-2.ensures.parts, c.audit-2.ensures.parts);
+      column_part = is.column_part;
+      number = is.number;
+      own_calls = omega (arith, is.own_calls, c.add.ensures.amount, c.audit.ensures.amount, ap (λ (h : History). length h) pairs, length-append (pairs_in w.mine) ((w.number, rows_of b) ∷ []));
+      own_rows = omega (arith, is.own_rows, c.add-2.ensures.amount, c.audit-2.ensures.amount, c.from-rows.ensures, c.rows.ensures, rows_pushed (pairs_in w.mine) (pairs_in c.add-3.new.self) w.number b pairs);
+      order = order_added w.number (rows_of b) old (hand_after first w.number c.again.result c.add-3.new.self w.column_count w.left) shown refl is.order;
+      legal = legal;
+    }
 
 pub returns-clause-raised : goal.returns-clause-raised
 returns-clause-raised g c =

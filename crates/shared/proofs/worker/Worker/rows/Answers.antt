@@ -8,4 +8,4 @@ pub returns : goal.returns
 returns g c =
     let is = c.self.invariant in
     let w = c.self.inside in
-    subst (λ (h : Hand). w.row_count ≡ rows_of_hand h) c.self.view_is (is.1 ∙ sym is.6 ∙ sym (rows_widened (length (fields_after g.N.Naming-1.fields w.seen)) (pairs_in w.mine)))
+    subst (λ (h : Hand). w.row_count ≡ rows_of_hand h) c.self.view_is (is.row_count ∙ sym is.own_rows ∙ sym (rows_widened (length (fields_after g.N.Naming-1.fields w.seen)) (pairs_in w.mine)))

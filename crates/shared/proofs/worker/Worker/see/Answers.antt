@@ -16,20 +16,20 @@ invariant_of-self g c =
     let w = c.self.inside in
     let first = g.N.Naming-1.fields in
     let front = c.args.front.now in
-    let begun : Begins (known_after first w.seen) (known_after first front) = known_begins first w.seen front c.begin.ensures in (
-      is.0,
-      is.1,
-      is.2,
-      is.3,
-      is.4,
-      is.5,
-      is.6,
-      subst (λ (l : List Change). InOrder (widened (length (fields_after first l)) (pairs_in w.mine)) (of (known_after first l).history w.number)) (sym c.again.ensures)
-          (part_wider (known_after first w.seen) (known_after first front) (pairs_in w.mine) w.number begun is.7),
-      subst (λ (l : List Change). IsLegalKnown (known_after first l)) (sym c.again.ensures) c.requires,
-      is.9,
-      is.10,
-    )
+    let begun : Begins (known_after first w.seen) (known_after first front) = known_begins first w.seen front c.begin.ensures in record {
+      call_count = is.call_count;
+      row_count = is.row_count;
+      column_count = is.column_count;
+      call_part = is.call_part;
+      row_part = is.row_part;
+      column_part = is.column_part;
+      number = is.number;
+      own_calls = is.own_calls;
+      own_rows = is.own_rows;
+      order = subst (λ (l : List Change). InOrder (widened (length (fields_after first l)) (pairs_in w.mine)) (of (known_after first l).history w.number)) (sym c.again.ensures)
+          (part_wider (known_after first w.seen) (known_after first front) (pairs_in w.mine) w.number begun is.order);
+      legal = subst (λ (l : List Change). IsLegalKnown (known_after first l)) (sym c.again.ensures) c.requires;
+    }
 
 pub returns-clause-begun : goal.returns-clause-begun
 returns-clause-begun g c =

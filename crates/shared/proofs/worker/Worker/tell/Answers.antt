@@ -15,7 +15,7 @@ pub returns-clause-part : goal.returns-clause-part
 returns-clause-part g c =
     let is = c.self.invariant in
     let w = c.self.inside in
-    subst (λ (h : Hand). IsPartOf g.N.Naming-1.workers h.seen h) c.self.view_is (own_part g.N.Naming-1.workers g.N.Naming-1.fields w.number w.seen w.mine w.column_count w.left is.4 is.8 is.7)
+    subst (λ (h : Hand). IsPartOf g.N.Naming-1.workers h.seen h) c.self.view_is (own_part g.N.Naming-1.workers g.N.Naming-1.fields w.number w.seen w.mine w.column_count w.left is.number is.legal is.order)
 
 pub returns-clause-wide : goal.returns-clause-wide
 returns-clause-wide g c =

@@ -20,25 +20,25 @@ pub commit-requires-clause-can : goal.commit-requires-clause-can
 commit-requires-clause-can g c = (
   c.in_ok-reserve.ensures.room,
   (
-    ready-few c.reserve.new.self c.args.worker c.args.batch.now c.in_ok-addition.addition (Storage-same c.self.inside.storage c.reserve.new.self c.reserve.ensures.same c.self.invariant.0) c.in_ok-addition.ensures.ok,
+    ready-few c.reserve.new.self c.args.worker c.args.batch.now c.in_ok-addition.addition (Storage-same c.self.inside.storage c.reserve.new.self c.reserve.ensures.same c.self.invariant.storage) c.in_ok-addition.ensures.ok,
     ready-moved c.reserve.new.self c.args.worker c.args.batch.now c.in_ok-addition.addition c.in_ok-addition.ensures.ok,
   ),
 )
 
 pub commit-requires-clause-lawful : goal.commit-requires-clause-lawful
 commit-requires-clause-lawful g c = λ h next.
-    put-storage c.reserve.new.self h c.args.batch.now c.args.worker c.in_ok-addition.addition (Storage-same c.self.inside.storage c.reserve.new.self c.reserve.ensures.same c.self.invariant.0) c.in_ok-addition.ensures.ok next
+    put-storage c.reserve.new.self h c.args.batch.now c.args.worker c.in_ok-addition.addition (Storage-same c.self.inside.storage c.reserve.new.self c.reserve.ensures.same c.self.invariant.storage) c.in_ok-addition.ensures.ok next
 
 pub commit-requires-clause-begun : goal.commit-requires-clause-begun
 commit-requires-clause-begun g c = c.in_ok-addition.ensures.begun
 
 pub invariant_of-self-2 : goal.invariant_of-self-2
 invariant_of-self-2 g c =
-    let is = Storage-same c.self.inside.storage c.reserve.new.self c.reserve.ensures.same c.self.invariant.0 in (
-      put-storage c.reserve.new.self c.commit.new.storage c.args.batch.now c.args.worker c.in_ok-addition.addition is c.in_ok-addition.ensures.ok c.in_ok-seen.ensures.next,
-      put-texts c.reserve.new.self c.commit.new.storage c.args.batch.now c.args.worker c.in_ok-addition.addition is c.in_ok-addition.ensures.ok c.in_ok-seen.ensures.next c.commit.new.pools.items
-          (◌∙◌ {A = List (List (List ℕ))} (ap (λ (v : Vec (List (List ℕ)) Global). v.items) c.in_ok-seen.ensures.pools) c.in_ok-addition.ensures.pools),
-    )
+    let is = Storage-same c.self.inside.storage c.reserve.new.self c.reserve.ensures.same c.self.invariant.storage in record {
+      storage = put-storage c.reserve.new.self c.commit.new.storage c.args.batch.now c.args.worker c.in_ok-addition.addition is c.in_ok-addition.ensures.ok c.in_ok-seen.ensures.next;
+      texts = put-texts c.reserve.new.self c.commit.new.storage c.args.batch.now c.args.worker c.in_ok-addition.addition is c.in_ok-addition.ensures.ok c.in_ok-seen.ensures.next c.commit.new.pools.items
+          (◌∙◌ {A = List (List (List ℕ))} (ap (λ (v : Vec (List (List ℕ)) Global). v.items) c.in_ok-seen.ensures.pools) c.in_ok-addition.ensures.pools);
+    }
 
 pub returns-clause-number : goal.returns-clause-number
 returns-clause-number g c =
@@ -46,11 +46,11 @@ returns-clause-number g c =
 
 pub returns-clause-added : goal.returns-clause-added
 returns-clause-added g c =
-    let is = Storage-same c.self.inside.storage c.reserve.new.self c.reserve.ensures.same c.self.invariant.0 in
+    let is = Storage-same c.self.inside.storage c.reserve.new.self c.reserve.ensures.same c.self.invariant.storage in
     put-shows c.reserve.new.self c.commit.new.storage c.args.batch.now c.args.worker c.in_ok-addition.addition is c.in_ok-addition.ensures.ok c.in_ok-seen.ensures.next
     ∙ ap (λ (s : Contents). admitted s c.args.worker c.args.batch.now) (show-same c.self.inside.storage c.reserve.new.self c.reserve.ensures.same ∙ c.self.view_is)
 
 pub returns-clause-legal : goal.returns-clause-legal
 returns-clause-legal g c =
-    let is = Storage-same c.self.inside.storage c.reserve.new.self c.reserve.ensures.same c.self.invariant.0 in
+    let is = Storage-same c.self.inside.storage c.reserve.new.self c.reserve.ensures.same c.self.invariant.storage in
     (put-storage c.reserve.new.self c.commit.new.storage c.args.batch.now c.args.worker c.in_ok-addition.addition is c.in_ok-addition.ensures.ok c.in_ok-seen.ensures.next).legal

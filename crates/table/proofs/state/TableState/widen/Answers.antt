@@ -13,7 +13,7 @@ use Rattle.table.proofs.state.TableState.widen.Goals as goal
 pub commit-requires-clause-begun : goal.commit-requires-clause-begun
 commit-requires-clause-begun g c =
     let h = c.self.inside.storage in
-    subst (BeginWithTexts h (table_of (batches_of h))) (sym c.reserve.ensures.items) (texts-begin h (table_of (batches_of h)) c.self.inside.pools.items c.self.invariant.1)
+    subst (BeginWithTexts h (table_of (batches_of h))) (sym c.reserve.ensures.items) (texts-begin h (table_of (batches_of h)) c.self.inside.pools.items c.self.invariant.texts)
 
 pub invariant_of-self-2 : goal.invariant_of-self-2
 invariant_of-self-2 g c =
@@ -23,5 +23,9 @@ invariant_of-self-2 g c =
     ∙ ap (λ (v : Vec (List (List ℕ)) Global). v.items ++ c.new.result ∷ []) c.in_ok-seen.ensures.pools
     ∙ ap (λ (l : List (List (List ℕ))). l ++ c.new.result ∷ []) c.reserve.ensures.items
     ∙ ap (λ (ts : List (List ℕ)). olds ++ ts ∷ []) c.new.ensures in
-    added-storage c.self.inside.storage c.in_ok-stage.field-0 c.commit.new.storage (stored_field (field_of c.args.field.now)) olds c.push_reserved.new.self.items c.self.invariant.0 c.self.invariant.1
-    c.in_ok-stage.ensures.lawful c.in_ok-stage.ensures.shows c.in_ok-seen.ensures.next pushed
+    let both =
+    added-storage c.self.inside.storage c.in_ok-stage.field-0 c.commit.new.storage (stored_field (field_of c.args.field.now)) olds c.push_reserved.new.self.items c.self.invariant.storage c.self.invariant.texts
+    c.in_ok-stage.ensures.lawful c.in_ok-stage.ensures.shows c.in_ok-seen.ensures.next pushed in record {
+      storage = both.0;
+      texts = both.1;
+    }

@@ -13,7 +13,7 @@ from_texts-requires-clause-texts c =
     let s = c.self.inside in
     let slots = c.in_ok-slots.slots in
     subst (AreTexts slots.width slots.len slots.validity slots.offsets) (sym c.in_ok-bytes.ensures)
-    (texts-laid slots.width s.slots.lengths slots.len slots.validity slots.offsets s.bytes.items c.in_ok-slots.ensures.laid c.self.invariant.0)
+    (texts-laid slots.width s.slots.lengths slots.len slots.validity slots.offsets s.bytes.items c.in_ok-slots.ensures.laid c.self.invariant.texts)
 
 pub returns : goal.returns
 returns c =
