@@ -36,6 +36,8 @@
 
 /* Counts the versions of what stands here. The shared library of this one is libselqumar.so.1. */
 #define SELQUMAR_VERSION 1
+/* The version of all that came with it. */
+#define SELQUMAR_RELEASE "0.1.0"
 
 #ifdef __cplusplus
 extern "C" {

@@ -25,7 +25,7 @@ from contextlib import ExitStack, contextmanager
 from dataclasses import dataclass
 from typing import Any, Optional, Union
 
-__version__ = "1.0"
+__version__ = "0.1.0"
 __all__ = ["Column", "Fault", "Stats", "Table", "export", "query", "query_text", "stats", "stats_text", "validate"]
 
 File = Union[bytes, bytearray, memoryview, mmap.mmap, str, "os.PathLike[str]"]
@@ -33,6 +33,8 @@ Files = Union[File, Iterable[File]]
 Query = Union[str, bytes, Mapping[str, Any]]
 Value = Union[int, bool, str, None]
 
+# The shared library whose functions these are, by the number that its header counts.
+LIBRARY = "libselqumar.so.1"
 GIVEN, FAULT, SHORT, NO_MEMORY, NOT_OPEN = range(5)
 # A buffer of a call has so many bytes, or as many as the last call needed.
 ROOM = 4096
@@ -125,12 +127,11 @@ _FUNCTIONS = {
 def _loaded() -> ctypes.CDLL:
     """The library, with what each function takes."""
     here = os.path.dirname(os.path.abspath(__file__))
-    name = "libselqumar.so." + __version__.partition(".")[0]
-    places = [os.path.join(here, name), os.path.join(os.path.dirname(here), "build", name)]
+    places = [os.path.join(here, LIBRARY), os.path.join(os.path.dirname(here), "build", LIBRARY)]
     named = os.environ.get("SELQUMAR_LIBRARY")
     place = named or next(filter(os.path.exists, places), None)
     if place is None:
-        raise ImportError(f"selqumar: there is no {name} beside {__file__} or in ../build: `tools/library build` builds it, or the variable SELQUMAR_LIBRARY names one")
+        raise ImportError(f"selqumar: there is no {LIBRARY} beside {__file__} or in ../build: `tools/library build` builds it, or the variable SELQUMAR_LIBRARY names one")
     try:
         library = ctypes.CDLL(place)
         for function, takes in _FUNCTIONS.items():

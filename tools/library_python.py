@@ -110,7 +110,7 @@ def form_cases(selqumar, data):
     """What tools look at."""
     with open(os.path.join(TOP, "include", "selqumar.h"), encoding="utf-8") as file:
         version = re.search(r"^#define SELQUMAR_VERSION (\d+)$", file.read(), re.M)[1]
-    yield "the version", difference(selqumar.__version__.split(".")[0], version)
+    yield "the library's number", difference(selqumar.LIBRARY, f"libselqumar.so.{version}")
     functions = [value for name in selqumar.__all__ for value in [getattr(selqumar, name)] if not isinstance(value, type)]
     functions += [getattr(selqumar.Table, name) for name in ("__init__", "stats", "query", "export", "stats_text", "query_text", "close")]
     bare = [it.__name__ for it in functions if "return" not in typing.get_type_hints(it)]

@@ -30,6 +30,10 @@ FOREIGN = {
     "bar": "an option of GNU parallel",
     "eta": "an option of GNU parallel",
     "tsv": "the ending of a table that the gate makes",
+    "zcat": "a command of gzip",
+    "gz": "the ending of gzip's files",
+    "to_pydict": "of pyarrow's tables",
+    "to_dict": "of pandas' frames",
 }
 
 SKIPPED = ("out", "build", ".git", "__pycache__")

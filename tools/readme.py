@@ -5,7 +5,7 @@ the crate that the gate runs.
     tools/readme.py PROGRAM
 
 A command begins with `$ `, and what it prints stands below it, standard error behind standard output; what Python prints stands behind its last line.
-docs/help.txt is what `arrowtab --help` prints.
+docs/help has what the program prints of itself.
 The commands of a document run one behind the other in a new folder with the shipped files, where the program is built, and the library that
 `tools/library build` left. The last line is 'N passed, M failed', of commands and blocks."""
 import os
@@ -18,6 +18,8 @@ import tempfile
 TOP = os.path.dirname(os.path.dirname(os.path.abspath(__file__)))
 DOCUMENTS = ("README.md", "docs/QUERIES.md", "docs/FAULTS.md")
 SHIPPED = ("examples", "crates/program/data", "tools", "python")
+# What asks the program about itself, and the file that has what it says.
+HELP = ((["--help"], "arrowtab"), (["help", "stats"], "stats"), (["help", "export"], "export"), (["help", "query"], "query"), (["--version"], "version"))
 LIBRARY = os.path.join(TOP, "build", "libselqumar.so.1")
 # A command that takes longer waits for something that never comes.
 SECONDS = 60
@@ -92,7 +94,7 @@ def main():
             room_for(program, room)
             checks += checks_of(name, room)
             if name == "README.md":
-                checks.append(fault_of(["./arrowtab", "--help"], text_of("docs/help.txt").rstrip("\n"), room))
+                checks += [fault_of(["./arrowtab", *words], text_of(f"docs/help/{file}.txt").rstrip("\n"), room) for words, file in HELP]
     faults = list(filter(None, checks))
     print("\n".join(faults), end="\n" if faults else "")
     print(f"{len(checks) - len(faults)} passed, {len(faults)} failed")

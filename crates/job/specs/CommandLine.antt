@@ -36,9 +36,9 @@ query = record (new_rule (codes "QUERY")) { long = Some (codes "query"); require
 abbrev pub with_query : App
 with_query = with_rule (over_files (codes "query")) query
 
--- The program alone. Without a word it shows its help, and one of its commands has to be there.
+-- The program alone, with its version. Without a word it shows its help, and one of its commands has to be there.
 abbrev pub alone : App
-alone = on_top (λ top. record top { arg_required_else_help = true; subcommand_required = true }) (new_app (codes "arrowtab"))
+alone = on_top (λ top. record top { arg_required_else_help = true; subcommand_required = true; has_version = true }) (new_app (codes "arrowtab"))
 
 -- stats FILE.., export FILE.., and query --query QUERY FILE.., each with --workers N and --add-column FIELD.
 abbrev pub arrowtab : App

@@ -7,6 +7,30 @@ ghost use Rattle.clap.specs.declared.builder.command.Command.TheViews.{out-Comma
 use clap::{Arg, Command, value_parser};
 use std::alloc::{AllocError, Global};
 
+/// What `--version` prints behind the program's name: the version, its date, and the kit that proves it.
+const VERSION: &str = "0.1.0 (2026-11-30, rattle-kit-13f)";
+
+/// What a query may have, as `help query` prints it.
+const QUERY_HELP: &str = "\
+A query is an object of JSON with the members filter (an expression), by (an array of up to 4 names of
+columns) and aggs (an array of aggregates), each of which may be absent. Other members are passed over.
+
+Expressions E:
+  {\"column\":\"n\"}  {\"int\":5}  {\"text\":\"s\"}
+  {\"op\":OP,\"args\":[E,E]}  add sub mul, of two integers of one type
+                          eq ne lt le gt ge, of two integers of one type, truth values or texts
+                          and or, of two truth values
+  {\"op\":OP,\"args\":[E]}    not, of a truth value; is_null, of anything
+
+Aggregates:
+  {\"agg\":\"rows\"}  {\"agg\":AGG,\"column\":\"n\"}  AGG is count, sum, least or greatest
+
+Output: of each group, in order of first appearance, the items of its key and then its aggregates, as JSON.
+
+Examples:
+  arrowtab query --query '{\"by\":[\"city\"],\"aggs\":[{\"agg\":\"rows\"}]}' cities.json
+  arrowtab query --query '{\"filter\":{\"op\":\"lt\",\"args\":[{\"column\":\"people\"},{\"int\":5}]},\"by\":[\"city\"]}' cities.json";
+
 /// The program: a command has to be there.
 pub(crate) fn arrowtab<'a>(alloc: Global) -> Result<Command<'a>, AllocError>
     ensures { IfOk result (λ command. app_of command ≡ arrowtab) }
@@ -33,7 +57,8 @@ pub(crate) fn arrowtab<'a>(alloc: Global) -> Result<Command<'a>, AllocError>
     );
     let required = explained.subcommand_required(true);
     let helpful = required.arg_required_else_help(true);
-    let with_stats = helpful.subcommand(stats)?;
+    let versioned = helpful.version(VERSION);
+    let with_stats = versioned.subcommand(stats)?;
     let with_export = with_stats.subcommand(export)?;
     with_export.subcommand(query)
 }
@@ -48,7 +73,7 @@ fn with_query<'a>(alloc: Global) -> Result<Command<'a>, AllocError>
         alloc,
         "query",
         "Print a line for each group of rows, as a query asks",
-        "Output: of each group, in order of first appearance, the items of its key and then its aggregates, as JSON.\n\nExample: arrowtab query --query '{\"by\":[\"city\"],\"aggs\":[{\"agg\":\"rows\"}]}' cities.json",
+        QUERY_HELP,
     )?;
     over.arg(query)
 }

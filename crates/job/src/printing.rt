@@ -11,7 +11,7 @@ use std::alloc::Global;
 /// The line that is written where the words are no job.
 const ARGUMENTS_LINE: &[u8] = b"arrowtab: bad arguments\n";
 
-/// Prints what a fault says, and answers the status to end with: 0 where that is help and all of it was written, 1 where
+/// Prints what a fault says, and answers the status to end with: 0 where that is help or the version and all of it was written, 1 where
 /// memory ran out or the output failed, 2 for a mistake in the words.
 pub fn print_fault<O: Sink, E: Sink>(
     alloc: Global,
@@ -37,7 +37,7 @@ pub fn print_fault<O: Sink, E: Sink>(
     }
 }
 
-/// The text of an error of `clap`: help on the output, anything else on the error sink.
+/// The text of an error of `clap`: help and the version on the output, anything else on the error sink.
 fn print_line<O: Sink, E: Sink>(alloc: Global, error: &Error, out: &mut O, err: &mut E) -> u8
     requires out_room { O.failures out.old < 2 ^ 64 - 1 }
     requires err_room { E.failures err.old < 2 ^ 64 - 1 }
@@ -49,7 +49,7 @@ fn print_line<O: Sink, E: Sink>(alloc: Global, error: &Error, out: &mut O, err: 
         return 1;
     };
     match error.kind() {
-        ErrorKind::DisplayHelp => print_help(text.as_bytes(), out, err),
+        ErrorKind::DisplayHelp | ErrorKind::DisplayVersion => print_help(text.as_bytes(), out, err),
         _ => {
             write_line(text.as_bytes(), err);
             2
@@ -57,7 +57,7 @@ fn print_line<O: Sink, E: Sink>(alloc: Global, error: &Error, out: &mut O, err: 
     }
 }
 
-/// Help, on the output.
+/// Help or the version, on the output.
 fn print_help<O: Sink, E: Sink>(text: &[u8], out: &mut O, err: &mut E) -> u8
     requires out_room { O.failures out.old < 2 ^ 64 - 1 }
     requires err_room { E.failures err.old < 2 ^ 64 - 1 }

@@ -112,7 +112,8 @@ Commands:
   help    Print this message or the help of the given subcommand(s)
 
 Options:
-  -h, --help  Print help
+  -h, --help     Print help
+  -V, --version  Print version
 
 Exit status: 0 if all was done; 1 for a fault in a file, the query, the column, the output or memory;
 2 for a mistake in the arguments.
@@ -167,10 +168,27 @@ Options:
       --query <QUERY>       The query, an object of JSON with the members filter, by and aggs
   -h, --help                Print help
 
+A query is an object of JSON with the members filter (an expression), by (an array of up to 4 names of
+columns) and aggs (an array of aggregates), each of which may be absent. Other members are passed over.
+
+Expressions E:
+  {\"column\":\"n\"}  {\"int\":5}  {\"text\":\"s\"}
+  {\"op\":OP,\"args\":[E,E]}  add sub mul, of two integers of one type
+                          eq ne lt le gt ge, of two integers of one type, truth values or texts
+                          and or, of two truth values
+  {\"op\":OP,\"args\":[E]}    not, of a truth value; is_null, of anything
+
+Aggregates:
+  {\"agg\":\"rows\"}  {\"agg\":AGG,\"column\":\"n\"}  AGG is count, sum, least or greatest
+
 Output: of each group, in order of first appearance, the items of its key and then its aggregates, as JSON.
 
-Example: arrowtab query --query '{\"by\":[\"city\"],\"aggs\":[{\"agg\":\"rows\"}]}' cities.json
+Examples:
+  arrowtab query --query '{\"by\":[\"city\"],\"aggs\":[{\"agg\":\"rows\"}]}' cities.json
+  arrowtab query --query '{\"filter\":{\"op\":\"lt\",\"args\":[{\"column\":\"people\"},{\"int\":5}]},\"by\":[\"city\"]}' cities.json
 ";
+
+const VERSION: &str = "arrowtab 0.1.0 (2026-11-30, rattle-kit-13f)\n";
 
 /// Prints a fault to this output.
 fn report(alloc: Global, fault: &JobFault, out: MemorySink) -> Outcome
@@ -201,8 +219,8 @@ fn tells_that_help_failed(alloc: Global) -> bool {
     report(alloc, &help, out).is(1, "Tells w", "arrowtab: output failed\n")
 }
 
-/// Words that are no job, what `clap` says of them, and whether that is the help that was requested.
-const NO_JOBS: [(&str, &str, bool); 16] = [
+/// Words that are no job, what `clap` says of them, and whether that is the help or the version that was requested.
+const NO_JOBS: [(&str, &str, bool); 18] = [
     ("arrowtab --help", HELP, true),
     ("bin/arrowtab -h", HELP, true),
     ("arrowtab help", HELP, true),
@@ -210,6 +228,8 @@ const NO_JOBS: [(&str, &str, bool); 16] = [
     ("arrowtab help stats", STATS_HELP, true),
     ("arrowtab help export", EXPORT_HELP, true),
     ("arrowtab query --help", QUERY_HELP, true),
+    ("arrowtab --version", VERSION, true),
+    ("arrowtab -V", VERSION, true),
     ("arrowtab", HELP, false),
     (
         "arrowtab stats",
@@ -302,7 +322,7 @@ fn what_is_no_job_is_reported(rt: HostRuntime) {
     assert!(rt; tells(rt.alloc(), job(rt.alloc(), &[]), HELP, false));
 }
 
-/// Whether there is no job, and that is reported by this text: help on the output, and anything else on the error sink.
+/// Whether there is no job, and that is reported by this text: help and the version on the output, and anything else on the error sink.
 fn tells(alloc: Global, job: Result<Job, JobFault>, text: &str, is_help: bool) -> bool {
     let Err(fault) = job else {
         return false;

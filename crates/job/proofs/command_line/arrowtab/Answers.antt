@@ -12,6 +12,9 @@ required = on_top (λ top. record top { subcommand_required = true })
 abbrev helpful : App → App
 helpful = on_top (λ top. record top { arg_required_else_help = true })
 
+abbrev versioned : App → App
+versioned = on_top (λ top. record top { has_version = true })
+
 pub returns : goal.returns
 returns c =
     let described : app_of c.about-described.result ≡ new_app (codes "arrowtab") = ap app_of_fields c.about-described.ensures ∙ c.new-bare.ensures.app in
@@ -20,8 +23,10 @@ returns c =
     ap app_of_fields c.subcommand_required-required.ensures ∙ ap required explained in
     let with_help : app_of c.arg_required_else_help-helpful.result ≡ helpful (required (new_app (codes "arrowtab"))) =
     ap app_of_fields c.arg_required_else_help-helpful.ensures ∙ ap helpful with_command in
+    let with_version : app_of c.version-versioned.result ≡ alone =
+    ap app_of_fields c.version-versioned.ensures ∙ ap versioned with_help in
     let with_stats : app_of c.in_ok-with_stats.with_stats ≡ with_subcommand alone (over_files (codes "stats")).top =
-    c.in_ok-with_stats.ensures.shape c.in_ok-stats.ensures.local ∙ ap₂ with_subcommand with_help (ap (λ (a : App). a.top) c.in_ok-stats.ensures.line) in
+    c.in_ok-with_stats.ensures.shape c.in_ok-stats.ensures.local ∙ ap₂ with_subcommand with_version (ap (λ (a : App). a.top) c.in_ok-stats.ensures.line) in
     let with_export : app_of c.in_ok-with_export.with_export ≡ with_subcommand (with_subcommand alone (over_files (codes "stats")).top) (over_files (codes "export")).top =
     c.in_ok-with_export.ensures.shape c.in_ok-export.ensures.local ∙ ap₂ with_subcommand with_stats (ap (λ (a : App). a.top) c.in_ok-export.ensures.line) in
     IfOk-weaker c.subcommand-3.result _ _ (λ command added.

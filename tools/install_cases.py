@@ -1,0 +1,135 @@
+#!/usr/bin/env python3
+"""Installs what was built into new folders, and uses it from there: the program, its page and completions, the library by pkg-config, and a wheel.
+
+    tools/install_cases.py PROGRAM
+
+The library is what `tools/library build` left. What isn't on this machine is told, as `not tried: pkg-config`. The last line is 'N passed, M failed'."""
+import glob
+import os
+import re
+import shlex
+import shutil
+import subprocess
+import sys
+import tempfile
+import zipfile
+
+from refusals import TOP, compiler
+
+SECONDS = 120
+MIXED = os.path.join(TOP, "examples", "mixed.json")
+QUERY = '{"by":["city"],"aggs":[{"agg":"rows"}]}'
+INSTALLED = """bin/arrowtab bin/arrowtab-shards include/selqumar.h lib/libselqumar.a lib/libselqumar.so lib/libselqumar.so.1 lib/pkgconfig/selqumar.pc
+share/bash-completion/completions/arrowtab share/doc/selqumar/CHANGELOG.md share/doc/selqumar/FAULTS.md share/doc/selqumar/NOTICE
+share/doc/selqumar/QUERIES.md share/doc/selqumar/README.md share/doc/selqumar/SECURITY.md share/doc/selqumar/SHARDS.md share/man/man1/arrowtab.1
+share/selqumar/selqumar.py share/selqumar/shard_groups.py share/selqumar/shard_runs.py share/selqumar/shards""".split()
+# Where the version stands, and how.
+VERSIONS = {
+    "include/selqumar.h": r'^#define SELQUMAR_RELEASE "(.*)"$',
+    "python/selqumar.py": r'^__version__ = "(.*)"$',
+    "python/pyproject.toml": r'^version = "(.*)"$',
+    "CITATION.cff": r"^version: (.*)$",
+    "CHANGELOG.md": r"^## (\S+), \d{4}-\d\d-\d\d$",
+    "docs/help/version.txt": r"^arrowtab (\S+) \(",
+}
+
+
+def text_of(*names):
+    with open(os.path.join(TOP, *names), encoding="utf-8") as file:
+        return file.read()
+
+
+def run(*words, cwd=TOP, **env):
+    return subprocess.run(words, cwd=cwd, env={**os.environ, **env}, stdin=subprocess.DEVNULL, capture_output=True, text=True, timeout=SECONDS)
+
+
+def difference(found, wanted):
+    return None if found == wanted else f"{found!r:.600} and not {wanted!r:.600}"
+
+
+def version_cases(version):
+    """One version stands in all files that have one."""
+    for name, pattern in VERSIONS.items():
+        found = re.search(pattern, text_of(name), re.M)
+        yield f"the version in {name}", difference(found and found[1], version)
+
+
+def files_below(folder):
+    return sorted(os.path.relpath(os.path.join(at, name), folder) for at, _, names in os.walk(folder) for name in names)
+
+
+def program_cases(program, room):
+    """What stands in bin and share."""
+    printed = run(program, "stats", MIXED).stdout
+    yield "the program", difference(run(f"{room}/bin/arrowtab", "stats", MIXED, cwd=room).stdout, printed)
+    yield "shards", difference(run(f"{room}/bin/arrowtab-shards", QUERY, MIXED, cwd=room).stdout, run(program, "query", "--query", QUERY, MIXED).stdout)
+    with open(f"{room}/share/man/man1/arrowtab.1", encoding="utf-8") as file:
+        page = file.read().replace("\\-", "-").replace("\\&", "").replace("\\e", "\\")
+    for command in ("arrowtab", "stats", "export", "query"):
+        yield f"the page has the help of {command}", None if text_of("docs", "help", f"{command}.txt") in page else page
+    complete = f". {room}/share/bash-completion/completions/arrowtab; COMP_WORDS=(arrowtab $1); COMP_CWORD=$(($# ? ${{#COMP_WORDS[@]}} - 1 : 1)); _arrowtab; echo ${{COMPREPLY[@]}}"
+    for words, wanted in (("ex", "export"), ("stats --w", "--workers"), ("query --q", "--query"), ("help q", "query")):
+        yield f"completions of {words}", difference(run("bash", "-c", complete, "bash", words).stdout.strip(), wanted)
+
+
+def package_cases(room, version):
+    """A program in C by the lines that pkg-config gives."""
+    if not shutil.which("pkg-config"):
+        print("not tried: pkg-config")
+        return
+    found = {"PKG_CONFIG_PATH": f"{room}/lib/pkgconfig"}
+    yield "the version of the package", difference(run("pkg-config", "--modversion", "selqumar", **found).stdout.strip(), version)
+    flags = shlex.split(run("pkg-config", "--cflags", "--libs", "selqumar", **found).stdout)
+    built = run(*compiler(), os.path.join(TOP, "examples", "embed.c"), *flags, f"-Wl,-rpath,{room}/lib", "-o", f"{room}/embed")
+    yield "a program in C", difference((built.returncode, built.stderr), (0, ""))
+    printed = run(f"{room}/embed", QUERY, MIXED).stdout
+    yield "what it prints", None if printed.startswith("rows 5\n") else printed
+
+
+def wheel_cases(room):
+    """A wheel, and what pip makes of it."""
+    wheel = run(sys.executable, "-c", "import sys, wheel_of_selqumar; print(wheel_of_selqumar.build_wheel(sys.argv[1]))", room, cwd=os.path.join(TOP, "python")).stdout.strip()
+    with zipfile.ZipFile(os.path.join(room, wheel)) as file:
+        file.extractall(f"{room}/wheel")
+    places = [f"{room}/wheel"]
+    if run(sys.executable, "-m", "pip", "--version").returncode == 0:
+        installed = run(sys.executable, "-m", "pip", "install", "--no-index", "--no-deps", "--disable-pip-version-check", "--root-user-action=ignore", "--target", f"{room}/site", os.path.join(TOP, "python"))
+        yield "pip installs it", difference(installed.returncode, 0) and installed.stderr
+        places.append(f"{room}/site")
+    else:
+        print("not tried: pip")
+    script = "import selqumar, sys; print(selqumar.__version__, selqumar.stats(sys.argv[1]).rows, selqumar.__file__)"
+    for place in places:
+        ran = run(sys.executable, "-c", script, MIXED, cwd=room, PYTHONPATH=place)
+        yield f"Python from {os.path.basename(place)}", difference(ran.stdout.strip(), f"{text_of('VERSION').strip()} 5 {place}/selqumar.py") and ran.stdout + ran.stderr
+
+
+def cases(program, room):
+    version = text_of("VERSION").strip()
+    yield from version_cases(version)
+    ran = run("tools/install", f"{room}/here", ARROWTAB=program)
+    yield "the install", difference((ran.returncode, ran.stdout, ran.stderr), (0, "", ""))
+    yield "its files", difference(files_below(f"{room}/here"), sorted(INSTALLED))
+    yield from program_cases(program, f"{room}/here")
+    yield from package_cases(f"{room}/here", version)
+    ran = run("tools/install", "/usr/local", ARROWTAB=program, DESTDIR=f"{room}/package")
+    yield "an install for a package", difference((ran.returncode, files_below(f"{room}/package/usr/local")), (0, sorted(INSTALLED)))
+    with open(glob.glob(f"{room}/package/**/selqumar.pc", recursive=True)[0], encoding="utf-8") as file:
+        yield "its prefix", difference(file.readline(), "prefix=/usr/local\n")
+    os.mkdir(f"{room}/python")
+    yield from wheel_cases(f"{room}/python")
+
+
+def main():
+    passed = failed = 0
+    with tempfile.TemporaryDirectory() as room:
+        for name, fault in cases(os.path.abspath(sys.argv[1]), room):
+            passed += not fault
+            failed += bool(fault)
+            print(f"{name}: {fault}\n" if fault else "", end="", flush=True)
+    print(f"{passed} passed, {failed} failed")
+    return 1 if failed else 0
+
+
+if __name__ == "__main__":
+    sys.exit(main())
