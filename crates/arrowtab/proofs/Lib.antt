@@ -1,7 +1,6 @@
 -- What the proofs of this crate share.
 mod SendingLemmas
 mod ReadLemmas
-pub mod PlanLemmas
 mod WorkedLemmas
 mod AnswerLemmas
 mod RunLemmas

@@ -7,7 +7,7 @@ use Rattle.arrays.specs.Shape.{FieldShape}
 use Rattle.table.specs.History.{History, of}
 use Rattle.arrowtab.specs.Loaded.{IsLoaded, added_by}
 use Rattle.reports.specs.FileBatches.{FileBatch, tables_of}
-use Rattle.arrowtab.proofs.PlanLemmas.{by_recursion, planned_alone, same_test}
+use Rattle.loads.proofs.PlanLemmas.{by_recursion, planned_alone, same_test}
 
 -- tables that worker 0 added
 abbrev alone : List Table → History

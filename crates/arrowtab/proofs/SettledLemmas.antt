@@ -28,7 +28,7 @@ use Rattle.arrowtab.specs.Column.{fields_with, history_with}
 use Rattle.arrowtab.specs.Loaded.{IsLoaded, added_by}
 use Rattle.reports.specs.FileBatches.{FileBatch}
 use Rattle.reports.specs.Shown.{column_line, column_lines, field_line, rows_line, shown, worker_line, worker_lines}
-use Rattle.arrowtab.proofs.PlanLemmas.{by_recursion}
+use Rattle.loads.proofs.PlanLemmas.{by_recursion}
 
 -- ---- of two values the first in an order, whichever is named first
 

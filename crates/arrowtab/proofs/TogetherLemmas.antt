@@ -32,7 +32,7 @@ use Rattle.table.specs.declared.refusal.Refusal.TheVariants as refusal
 use Rattle.arrowtab.specs.Loaded.{IsLoaded, IsStopped}
 use Rattle.arrowtab.specs.Worked.{Holds, listed}
 use Rattle.reports.specs.declared.run_fault.RunFault.{RunFault}
-use Rattle.arrowtab.proofs.PlanLemmas.{all_begun, by_recursion, each_planned, map_begun, order_begun, planned_front, same_test, whole_begun}
+use Rattle.loads.proofs.PlanLemmas.{all_begun, by_recursion, each_planned, map_begun, order_begun, planned_front, same_test, whole_begun}
 use Rattle.arrowtab.proofs.WorkedLemmas.{Fits, loaded_of, stopped_of}
 
 pub nobody : Hand

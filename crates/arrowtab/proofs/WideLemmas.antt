@@ -29,7 +29,7 @@ use Rattle.table.specs.Widened.{add_fault, widened, widened_row, widened_table}
 use Rattle.arrowtab.specs.Loaded.{IsLoaded}
 use Rattle.arrowtab.specs.Worked.{AreAsWide, Holds, IsWidenedFirst, listed}
 use Rattle.reports.specs.declared.run_fault.RunFault.{RunFault}
-use Rattle.arrowtab.proofs.PlanLemmas.{all_from, by_recursion, each_planned, same_test, whole_begun}
+use Rattle.loads.proofs.PlanLemmas.{all_from, by_recursion, each_planned, same_test, whole_begun}
 use Rattle.arrowtab.proofs.TogetherLemmas.{all_there, has_planned, new_at, nobody, none_added}
 use Rattle.arrowtab.proofs.WorkedLemmas.{Fits, loaded_of}
 

@@ -27,7 +27,7 @@ use Rattle.reports.specs.declared.run_fault.RunFault.{RunFault}
 use Rattle.reports.specs.declared.run_fault.RunFault.TheVariants.{NoMemory, OfColumn, OfFile, QueryUnread, QueryRefused}
 use Rattle.arrowtab.specs.declared.wanted.Wanted.{Wanted}
 use Rattle.arrowtab.specs.declared.wanted.Wanted.TheVariants as wanted
-use Rattle.arrowtab.proofs.PlanLemmas.{all_from, map_begun, planned-map}
+use Rattle.loads.proofs.PlanLemmas.{all_from, map_begun, planned-map}
 
 -- ---- batches as they are seen
 

@@ -27,7 +27,7 @@ use Rattle.arrowtab.specs.Explained.{Explains}
 use Rattle.arrowtab.specs.Loaded.{IsLoaded, IsStopped, added_by}
 use Rattle.arrowtab.specs.Output.{Prints, PrintsNothing}
 use Rattle.arrowtab.specs.Run.{Answers, AreRead, FailedQuery, Refuses, RefusesQuery}
-use Rattle.arrowtab.proofs.PlanLemmas.{all_from, all_split, by_recursion, planned_alone}
+use Rattle.loads.proofs.PlanLemmas.{all_from, all_split, by_recursion, planned_alone}
 
 module _ (fields : List FieldShape) where
   abbrev Alike : FileBatch → Type 0

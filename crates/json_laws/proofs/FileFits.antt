@@ -16,9 +16,9 @@ use Rattle.json_base.specs.JsonTable.{Table}
 use Rattle.json_print.specs.ColumnData.{item_length}
 use Rattle.json_print.specs.Dictionaries.{dictionaries_from}
 use Rattle.json_laws.specs.IsFile.{AreColumns, AreShort, IsField, IsFile, IsTable}
-use Rattle.json_laws.specs.Fits.{AreShallow, FitColumns, FitDictionaries, FitTables, FitsField, FitsOffset, FitsFile, FitsShape}
+use Rattle.json_print.specs.Fits.{AreShallow, FitColumns, FitDictionaries, FitTables, FitsField, FitsOffset, FitsFile, FitsShape}
 use Rattle.arrays.proofs.SizeLemmas.{small}
-use Rattle.json_laws.proofs.Columns.{inner_few, inner_typed, list_sizes, text_sizes}
+use Rattle.json_print.proofs.Columns.{inner_few, inner_typed, list_sizes, text_sizes}
 
 -- Texts fit where the narrow offsets count them: nothing is required of wide ones.
 texts_fit : (w : OffsetWidth) (items : List Item) → AllByRecursion (IsItemOf (kind.texts w)) items → is_too_big (kind.texts w) items ≡ false → FitsOffset w (sum_by item_length items)

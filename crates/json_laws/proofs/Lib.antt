@@ -1,11 +1,5 @@
 -- What the laws rest on.
-pub mod Columns
 pub mod FileFits
-pub mod PlainColumns
-pub mod PlainSchemas
-pub mod PlainBatches
-pub mod PlainDocuments
-pub mod Depths
 pub mod ReadNumbers
 pub mod ReadSlots
 pub mod ReadOffsets

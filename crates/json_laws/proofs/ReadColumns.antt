@@ -18,7 +18,7 @@ use Rattle.json_read.proofs.JsonLists.{column_plain}
 use Rattle.json_print.specs.ColumnData.{column_data, each, number_data, shaped_column, text_column, text_data, truth_data, valid_data}
 use Rattle.json_print.specs.Text.{is_encoded}
 use Rattle.json_laws.specs.IsFile.{IsColumn, IsField}
-use Rattle.json_laws.proofs.Columns.{inner_few, inner_typed}
+use Rattle.json_print.proofs.Columns.{inner_few, inner_typed}
 use Rattle.json_laws.proofs.ReadLists.{list_column_read}
 use Rattle.json_laws.proofs.ReadNumbers.{count_read, flag_read, number_read}
 use Rattle.json_laws.proofs.ReadSlots.{IsSpelled, length-each, plain_read, slots_spelled}

@@ -32,7 +32,7 @@ use Rattle.json_print.specs.Text.{document, has_dictionary}
 use Rattle.json_print.proofs.Texts.{length-dictionaries_from}
 use Rattle.json_laws.specs.IsFile.{AreColumns, AreShort, IsColumn, IsField, IsFile, IsTable}
 use Rattle.json_laws.proofs.FileFits.{file_fits}
-use Rattle.json_laws.proofs.PlainDocuments.{document_plain, text_read_back}
+use Rattle.json_print.proofs.PlainDocuments.{document_plain, text_read_back}
 use Rattle.json_laws.proofs.ReadCatalog.{IsGood, all_there, catalog_of, catalog_read, coding_of, schema_at}
 use Rattle.json_laws.proofs.ReadCodes.{IsAmong, codes_read, texts_among}
 use Rattle.json_laws.proofs.ReadColumns.{plain_column_read}

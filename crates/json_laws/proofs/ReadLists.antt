@@ -21,7 +21,7 @@ use Rattle.serde_json.specs.Data.{Data}
 use Rattle.json_read.specs.JsonList.{ReadsList, ReadsLists, are_enough, list_slot, lists_fault, offset_bytes}
 use Rattle.json_read.proofs.JsonLists.{lists_fault-is}
 use Rattle.json_print.specs.ColumnData.{each, item_length, list_column, offsets_data, valid_data}
-use Rattle.json_laws.proofs.Columns.{list_size, list_sizes}
+use Rattle.json_print.proofs.Columns.{list_size, list_sizes}
 use Rattle.json_laws.proofs.ReadNumbers.{count_read}
 use Rattle.json_laws.proofs.ReadOffsets.{begins, length-offsets, lengths, offsets_lawful, offsets_read, starts}
 use Rattle.json_laws.proofs.ReadSlots.{length-each, valid_read}

@@ -29,7 +29,7 @@ use Rattle.json_print.specs.SchemaData.{field_data, fields_data, int_type, list_
 use Rattle.json_print.specs.Slots.{code_in}
 use Rattle.json_print.specs.Text.{document, has_dictionary, last_members}
 use Rattle.json_laws.specs.IsFile.{AreColumns, IsColumn, IsField, IsFile, IsNamed, IsTable}
-use Rattle.json_laws.proofs.Columns.{inner_typed, joined}
+use Rattle.json_print.proofs.Columns.{inner_typed, joined}
 use Rattle.json_laws.proofs.Utf8.{AreNamed, AreTexts, IsText, signed_utf8}
 
 -- ---- slots

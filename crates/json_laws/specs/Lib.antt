@@ -1,3 +1,2 @@
 -- The words of this crate's laws.
 pub mod IsFile
-pub mod Fits

@@ -13,7 +13,7 @@ ghost use Rattle.json_print.specs.Text.{document, is_encoded, text};
 ghost use Rattle.serde_json.specs.Data.{depth};
 ghost use Rattle.serde_json.specs.Read.{read};
 ghost use Rattle.json_print.specs.Slots.{code_in};
-ghost use Rattle.json_laws.specs.Fits.{AreSmall, FitTables, FitsField, FitsFile};
+ghost use Rattle.json_print.specs.Fits.{AreSmall, FitTables, FitsField, FitsFile};
 ghost use Rattle.json_laws.specs.IsFile.{AreShort, IsColumn, IsField, IsFile};
 ghost use Rattle.json_read.specs.JsonBatch.{ReadsColumn};
 ghost use Rattle.json_read.specs.JsonFields.{ReadsSchema};
@@ -21,20 +21,20 @@ ghost use Rattle.json_read.specs.JsonFile.{Reads, file_of};
 ghost use Rattle.json_print.specs.Dictionaries.{dictionaries_from};
 
 /// A column that fits is a plain value: its numbers are of at most 64 bits, and its members stand in the order of their names.
-#[tactic(auto, using(crate::proofs::PlainColumns::column_plain))]
+#[tactic(auto, using(json_print::proofs::PlainColumns::column_plain))]
 pub fn columns_are_plain()
     ensures { (texts : List (List ℕ)) → length texts < 2 ^ 64 → (f : FieldShape) (items : List Item) → FitsField f items
         → IsPlain (column_data (code_in texts) f items) }
 {}
 
 /// A schema is a plain value.
-#[tactic(auto, using(crate::proofs::PlainSchemas::schema_plain))]
+#[tactic(auto, using(json_print::proofs::PlainSchemas::schema_plain))]
 pub fn schemas_are_plain()
     ensures { (fields : List FieldShape) → length fields < 2 ^ 64 → IsPlain (schema_data fields) }
 {}
 
 /// Batches that fit are plain values.
-#[tactic(auto, using(crate::proofs::PlainBatches::batches_plain))]
+#[tactic(auto, using(json_print::proofs::PlainBatches::batches_plain))]
 pub fn batches_are_plain()
     ensures { (dictionaries : List (List (List ℕ))) (fields : List FieldShape) (tables : List Table)
         → AreSmall dictionaries → FitTables fields tables → ArePlain (batches_data dictionaries fields tables) }
@@ -47,14 +47,14 @@ pub fn files_fit()
 {}
 
 /// The text of a file that fits is JSON of the file's document.
-#[tactic(auto, using(crate::proofs::PlainDocuments::text_read_back))]
+#[tactic(auto, using(json_print::proofs::PlainDocuments::text_read_back))]
 pub fn texts_are_read_as_documents()
     ensures { (f : File) → FitsFile f.fields (tables_of f.batches)
         → read (text f) ≡ Some (document f.fields (tables_of f.batches)) }
 {}
 
 /// A column is nested two deep, and two more for each list around its innermost items.
-#[tactic(auto, using(crate::proofs::Depths::column_depth))]
+#[tactic(auto, using(json_print::proofs::Depths::column_depth))]
 pub fn columns_are_shallow()
     ensures { (code : List ℕ → ℕ) (f : FieldShape) (items : List Item)
         → depth (column_data code f items) ≤ 2 + 2 * kind.depth (kind_of_field f) }

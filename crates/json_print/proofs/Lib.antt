@@ -7,3 +7,9 @@ pub mod Batches
 pub mod Texts
 pub mod Printed
 pub mod ReadBack
+pub mod Columns
+pub mod PlainColumns
+pub mod PlainSchemas
+pub mod PlainBatches
+pub mod Depths
+pub mod PlainDocuments

@@ -8,3 +8,4 @@ pub mod Dictionaries
 pub mod DictionaryData
 pub mod Text
 pub mod Plain
+pub mod Fits

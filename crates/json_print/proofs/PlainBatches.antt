@@ -5,8 +5,8 @@ use Rattle.arrays.specs.Shape.{FieldShape}
 use Rattle.json_print.specs.BatchData.{batch_data, batches_data, columns_data}
 use Rattle.json_base.specs.JsonTable.{Table}
 use Rattle.json_print.specs.Plain.{ArePlain, IsPlain}
-use Rattle.json_laws.specs.Fits.{AreSmall, FitColumns, FitTables, FitsTable}
-use Rattle.json_laws.proofs.PlainColumns.{column_plain}
+use Rattle.json_print.specs.Fits.{AreSmall, FitColumns, FitTables, FitsTable}
+use Rattle.json_print.proofs.PlainColumns.{column_plain}
 
 columns_plain : (dictionaries : List (List (List ℕ))) (fields : List FieldShape) (columns : List (List Item)) → AreSmall dictionaries → FitColumns fields columns → ArePlain (columns_data dictionaries fields columns)
 columns_plain [] fields columns small h = tt

@@ -21,7 +21,7 @@ use Rattle.json_print.specs.DictionaryData.{entries_data, entry_data, text_items
 use Rattle.json_print.specs.SchemaData.{field_data, fields_data, schema_data}
 use Rattle.json_print.specs.Slots.{code_in}
 use Rattle.json_print.specs.Text.{document, has_dictionary, last_members}
-use Rattle.json_laws.specs.Fits.{AreShallow}
+use Rattle.json_print.specs.Fits.{AreShallow}
 
 each_flat : (value : Item → Data) → ((x : Item) → depth (value x) ≡ 0) → (items : List Item) → items_depth (each value items) ≡ 0
 each_flat value flat [] = refl

@@ -23,7 +23,7 @@ use Rattle.json_print.specs.ColumnData.{code_data, column_data, each, flag_data,
 use Rattle.json_print.specs.Plain.{ArePlain, ArePlainMembers, IsPlain}
 use Rattle.json_print.specs.Slots.{code_in}
 use Rattle.json_print.proofs.Ranges.{high_of, low_of}
-use Rattle.json_laws.specs.Fits.{FitsField, FitsOffset, FitsShape}
+use Rattle.json_print.specs.Fits.{FitsField, FitsOffset, FitsShape}
 
 -- ---- slots
 

@@ -18,11 +18,11 @@ use Rattle.json_print.specs.Plain.{AreBehind, ArePlain, ArePlainMembers, IsPlain
 use Rattle.json_print.specs.Text as printed
 use Rattle.json_print.specs.Text.{document, has_dictionary, last_members}
 use Rattle.json_print.proofs.ReadBack.{read_back}
-use Rattle.json_laws.specs.Fits.{AreSmall, FitDictionaries, FitsFile}
-use Rattle.json_laws.proofs.Depths.{document_depth}
-use Rattle.json_laws.proofs.PlainBatches.{batches_plain}
-use Rattle.json_laws.proofs.PlainColumns.{text_column_plain}
-use Rattle.json_laws.proofs.PlainSchemas.{schema_plain}
+use Rattle.json_print.specs.Fits.{AreSmall, FitDictionaries, FitsFile}
+use Rattle.json_print.proofs.Depths.{document_depth}
+use Rattle.json_print.proofs.PlainBatches.{batches_plain}
+use Rattle.json_print.proofs.PlainColumns.{text_column_plain}
+use Rattle.json_print.proofs.PlainSchemas.{schema_plain}
 
 -- ---- dictionaries
 
