@@ -1,5 +1,5 @@
 #!/usr/bin/env python3
-"""Looks up each name that stands in backquotes in README.md and docs/*.md, outside of blocks of code.
+"""Looks up each name that stands in backquotes in README.md and docs/*.md, outside of blocks of code, and whither their links lead.
 
     tools/names.py
 
@@ -12,8 +12,8 @@ A name is there where one of these holds; of a text of several names, each:
 - Any other word stands in the code of the tree, in its strings too but not in comments; or it is the name of a file without its ending, or of a
   folder. A word that begins with `_` ends one. Words of capitals alone and single letters stand for others, in paths too.
 
-Words that aren't ours are listed below, each with its reason. What isn't there is printed with its place; the last line is
-'N passed, M failed', of texts in backquotes."""
+A link leads to a file of the tree, and to a heading in it where it names one. Words that aren't ours are listed below, each with its reason. What
+isn't there is printed with its place; the last line is 'N passed, M failed', of texts in backquotes and of links."""
 import fnmatch
 import glob
 import os
@@ -31,6 +31,7 @@ FOREIGN = {
     "eta": "an option of GNU parallel",
     "tsv": "the ending of a table that the gate makes",
     "zcat": "a command of gzip",
+    "ulimit": "a command of shells",
     "gz": "the ending of gzip's files",
     "to_pydict": "of pyarrow's tables",
     "to_dict": "of pandas' frames",
@@ -42,6 +43,7 @@ ENDINGS = (".antt", ".rt", ".py", ".md", ".c", ".h", ".rs", ".txt", ".edit", ".j
 COMMENTS = {".rt": "//", ".antt": "--", ".c": "//", ".h": "//", ".rs": "//", ".py": "#", "": "#"}
 SPAN = re.compile(r"`([^`]+)`")
 WORD = re.compile(r"\w+(?:-[a-z]\w*)*")
+LINK = re.compile(r"\]\(([^()#\s]*)(?:#([^()\s]*))?\)")
 VISIBLE = r"(?:pub(?:\(\w+\))? )?"
 ITEM = re.compile(rf"^{VISIBLE}(?:fn|struct|enum|trait|const|static|type|mod) (\w+)", re.M)
 BLOCK = re.compile(rf"^{VISIBLE}(impl|struct|enum|trait)\b([^;{{}}]*)\{{\n(.*?)^\}}", re.M | re.S)
@@ -155,6 +157,20 @@ def lines_of(path):
             yield number, line
 
 
+def headings(path):
+    """What links call the headings of a document."""
+    heads = (line.lstrip("#").strip().lower() for _, line in lines_of(path) if line.startswith("#"))
+    return {re.sub(r"[^\w -]", "", head).replace(" ", "-") for head in heads}
+
+
+def is_led(path, target, heading):
+    """Whether a link of a document leads anywhere. What stands elsewhere isn't looked for."""
+    if target.startswith(("http:", "https:")):
+        return True
+    there = os.path.normpath(os.path.join(os.path.dirname(path), target)) if target else path
+    return os.path.exists(os.path.join(TOP, there)) and (not heading or heading in headings(there))
+
+
 def files_named(lines):
     """Each file that is named without its folder: the number of its line, its name, the names in brackets right behind it, and the folder
     before which it stands, if there is one."""
@@ -187,10 +203,11 @@ def files_named(lines):
 def main():
     tree = Tree()
     passed = failed = 0
-    for path in ["README.md", *sorted(glob.glob("docs/*.md", root_dir=TOP))]:
+    for path in ["README.md", "CHANGELOG.md", "SECURITY.md", *sorted(glob.glob("docs/*.md", root_dir=TOP))]:
         lines = list(lines_of(path))
         looked = [(number, text, tree.lacks(text)) for number, line in lines for text in SPAN.findall(line)]
         looked += [(number, name, tree.lacks_in(name, names, folder)) for number, name, names, folder in files_named(lines)]
+        looked += [(number, target, [] if is_led(path, target, heading) else [f"{target}#{heading}"]) for number, line in lines for target, heading in LINK.findall(line)]
         for number, text, missing in looked:
             for name in missing:
                 print(f"{path}:{number}: {name} (of `{text}`)")
