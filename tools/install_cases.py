@@ -65,7 +65,7 @@ def program_cases(program, room):
     yield "shards", difference(run(f"{room}/bin/arrowtab-shards", QUERY, MIXED, cwd=room).stdout, run(program, "query", "--query", QUERY, MIXED).stdout)
     with open(f"{room}/share/man/man1/arrowtab.1", encoding="utf-8") as file:
         page = file.read().replace("\\-", "-").replace("\\&", "").replace("\\e", "\\")
-    for command in ("arrowtab", "stats", "export", "query"):
+    for command in ("arrowtab", "stats", "schema", "validate", "export", "query"):
         yield f"the page has the help of {command}", None if text_of("docs", "help", f"{command}.txt") in page else page
     complete = f". {room}/share/bash-completion/completions/arrowtab; COMP_WORDS=(arrowtab $1); COMP_CWORD=$(($# ? ${{#COMP_WORDS[@]}} - 1 : 1)); _arrowtab; echo ${{COMPREPLY[@]}}"
     for words, wanted in (("ex", "export"), ("stats --w", "--workers"), ("query --q", "--query"), ("help q", "query")):

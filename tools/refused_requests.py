@@ -44,6 +44,9 @@ def answered():
     """The words of runs that end with an output."""
     query = '{"filter":{"op":"lt","args":[{"column":"people"},{"int":200000}]},"by":["city"],"aggs":[{"agg":"rows"},{"agg":"sum","column":"people"}]}'
     yield ["--help"]
+    yield ["--version"]
+    yield ["schema", example("lists.json")]
+    yield ["validate", example("mixed.json"), example("mixed.json")]
     for name in ("primitive.json", "mixed.json", "lists.json", "dictionaries.json", "large.json"):
         yield ["stats", example(name)]
         yield ["export", example(name)]
@@ -66,6 +69,7 @@ def refused(bad_file):
     for workers in (["--workers", "1"], ["--workers", "2"]):
         yield ["stats", *workers, none], f"arrowtab: {none}: cannot be read\n"
         yield ["stats", *workers, mixed, bad_file], f"arrowtab: {bad_file}: J5 BadNumber at /batches/0/columns/0/DATA/1\n"
+        yield ["validate", *workers, mixed, bad_file], f"arrowtab: {bad_file}: J5 BadNumber at /batches/0/columns/0/DATA/1\n"
         yield ["export", *workers, mixed, lists], f"arrowtab: {lists}: batch 0: A1 SchemaDiffers column=0\n"
         yield ["query", *workers, "--query", '{"by":[1]}', mixed], "arrowtab: query: J3 WrongMember at /by/0\n"
         yield ["query", *workers, "--query", '{"by":["town"]}', mixed], "arrowtab: query: Q1 NoColumn\n"

@@ -57,6 +57,8 @@ module _ (workers : ℕ) (inputs : Inputs) (files : List File) (are_read : AreRe
   prints_command : (command : Command) (wanted : Wanted) (fields : List FieldShape) (h : History) (text : List ℕ) → IsWanted command wanted → PrintsWanted wanted workers fields h text
       → Prints command workers fields h text
   prints_command command.Stats wanted fields h text is prints = subst (λ w. PrintsWanted w workers fields h text) is prints
+  prints_command command.Schema wanted fields h text is prints = subst (λ w. PrintsWanted w workers fields h text) is prints
+  prints_command command.Validate wanted fields h text is prints = subst (λ w. PrintsWanted w workers fields h text) is prints
   prints_command command.Export wanted fields h text is prints = subst (λ w. PrintsWanted w workers fields h text) is prints
   prints_command (command.Query bytes) wanted fields h text is prints = (named is.0, is.2, subst (λ w. PrintsWanted w workers fields h text) is.1 prints)
 
@@ -85,6 +87,8 @@ module _ (workers : ℕ) (inputs : Inputs) (files : List File) (are_read : AreRe
   refuses_command : (command : Command) (wanted : Wanted) (fields : List FieldShape) (h : History) (fault : QueryFault) → IsWanted command wanted → RefusesWanted wanted fields h fault
       → PrintsNothing command fields h fault
   refuses_command command.Stats wanted fields h fault is refuses = subst (λ w. RefusesWanted w fields h fault) is refuses
+  refuses_command command.Schema wanted fields h fault is refuses = subst (λ w. RefusesWanted w fields h fault) is refuses
+  refuses_command command.Validate wanted fields h fault is refuses = subst (λ w. RefusesWanted w fields h fault) is refuses
   refuses_command command.Export wanted fields h fault is refuses = subst (λ w. RefusesWanted w fields h fault) is refuses
   refuses_command (command.Query bytes) wanted fields h fault is refuses = (named is.0, is.2, subst (λ w. RefusesWanted w fields h fault) is.1 refuses)
 

@@ -136,6 +136,8 @@ module _ (wanted : Wanted) (workers : ℕ) (files : List File) (column : Option 
 unprinted_present : (wanted : Wanted) (workers : ℕ) (files : List File) (column : Option FieldShape) (v : Contents) (fault : RunFault) → Holds workers files column v
     → IsUnprinted wanted v.fields v.history fault → StopsWanted wanted workers files column fault
 unprinted_present wanted.Stats workers files column v fault holds why = subst (StopsWanted wanted.Stats workers files column) (sym why) tt
+unprinted_present wanted.Schema workers files column v fault holds why = subst (StopsWanted wanted.Schema workers files column) (sym why) tt
+unprinted_present wanted.Nothing workers files column v fault holds why = subst (StopsWanted wanted.Nothing workers files column) (sym why) tt
 unprinted_present wanted.Export workers files column v fault holds why = subst (StopsWanted wanted.Export workers files column) (sym why) tt
 unprinted_present (wanted.Groups query) workers files column v NoMemory holds why = tt
 unprinted_present (wanted.Groups query) workers files column v (OfFile file fault) holds why = absurd why

@@ -1,24 +1,29 @@
 -- The output of each command.
-use Rattle.std.specs.Prelude.{◌≡◌, ℕ, List, string_bytes}
+use Rattle.std.specs.Prelude.{◌≡◌, ℕ, List, [], string_bytes}
 use Rattle.arrays.specs.Shape.{FieldShape}
 use Rattle.job.specs.declared.jobs.Command.{Command}
-use Rattle.job.specs.declared.jobs.Command.TheVariants.{Stats, Export, Query}
+use Rattle.job.specs.declared.jobs.Command.TheVariants.{Stats, Schema, Validate, Export, Query}
 use Rattle.query.specs.QueryShape.{QueryShape}
 use Rattle.query.specs.declared.fault.QueryFault.{QueryFault}
 use Rattle.json_query.specs.QueryDocument.{ReadsQueryText}
 use Rattle.table.specs.History.{History}
 use Rattle.reports.specs.Exported.{exported}
+use Rattle.reports.specs.Fields.{schema_lines}
 use Rattle.reports.specs.Queried.{PrintsGroups, RefusesGroups}
 use Rattle.reports.specs.Shown.{shown}
 
 -- The text is the output for so many workers, the stored fields and a history.
 abbrev pub Prints : Command → ℕ → List FieldShape → History → List ℕ → Type 0
 Prints Stats workers fields h text = text ≡ shown workers fields h
+Prints Schema workers fields h text = text ≡ schema_lines fields
+Prints Validate workers fields h text = text ≡ []
 Prints Export workers fields h text = text ≡ exported fields h
 Prints (Query bytes) workers fields h text = (query : QueryShape (List ℕ)) × ReadsQueryText (string_bytes bytes) query × PrintsGroups query fields h text
 
 -- There is none, since the command's query is refused.
 abbrev pub PrintsNothing : Command → List FieldShape → History → QueryFault → Type 0
 PrintsNothing Stats fields h fault = ⊥
+PrintsNothing Schema fields h fault = ⊥
+PrintsNothing Validate fields h fault = ⊥
 PrintsNothing Export fields h fault = ⊥
 PrintsNothing (Query bytes) fields h fault = (query : QueryShape (List ℕ)) × ReadsQueryText (string_bytes bytes) query × RefusesGroups query fields h fault

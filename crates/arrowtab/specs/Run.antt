@@ -8,7 +8,7 @@ use Rattle.arrays.specs.Shape.{FieldShape}
 use Rattle.table.specs.History.{History}
 use Rattle.job.specs.Jobs.{names_of}
 use Rattle.job.specs.declared.jobs.Command.{Command}
-use Rattle.job.specs.declared.jobs.Command.TheVariants.{Stats, Export, Query}
+use Rattle.job.specs.declared.jobs.Command.TheVariants.{Stats, Schema, Validate, Export, Query}
 use Rattle.job.specs.declared.jobs.Job.{Job}
 use Rattle.query.specs.FaultText.{query_fault_text}
 use Rattle.query.specs.declared.fault.QueryFault.{QueryFault}
@@ -56,6 +56,8 @@ pub record Refuses (workers : ℕ) (inputs : Inputs) (file number : ℕ) (refusa
 -- The command's query isn't read: this fault of its bytes stands.
 abbrev pub FailedQuery : Command → JsonFaultKind → List Step → Type 0
 FailedQuery Stats kind path = ⊥
+FailedQuery Schema kind path = ⊥
+FailedQuery Validate kind path = ⊥
 FailedQuery Export kind path = ⊥
 FailedQuery (Query bytes) kind path = QueryBytesFault (string_bytes bytes) kind path
 

@@ -1,5 +1,5 @@
 -- What a job wants to be printed, its query being read.
-use Rattle.std.specs.Prelude.{◌≡◌, ℕ, List, Option, Some, option_map, string_bytes, ⊤}
+use Rattle.std.specs.Prelude.{◌≡◌, ℕ, List, [], Option, Some, option_map, string_bytes, ⊤}
 use Rattle.arrays.specs.Shape.{FieldShape, field_of}
 use Rattle.json_read.specs.JsonField.{FieldTextFault}
 use Rattle.job.specs.declared.jobs.Command.{Command}
@@ -12,6 +12,7 @@ use Rattle.json_query.specs.QueryDocument.{ReadsQueryText}
 use Rattle.table.specs.History.{History}
 use Rattle.arrowtab.specs.Column.{IsColumn, column_text}
 use Rattle.reports.specs.Exported.{exported}
+use Rattle.reports.specs.Fields.{schema_lines}
 use Rattle.reports.specs.Queried.{PrintsGroups, RefusesGroups}
 use Rattle.arrowtab.specs.Run.{FailedQuery}
 use Rattle.reports.specs.QueryFaults.{IsUnanswered}
@@ -21,11 +22,13 @@ use Rattle.reports.specs.declared.run_fault.RunFault.{RunFault}
 use Rattle.reports.specs.declared.run_fault.RunFault.TheVariants.{NoMemory, OfColumn, OfFile, QueryUnread, QueryRefused}
 use Rattle.arrowtab.specs.declared.wanted.Request.{Request}
 use Rattle.arrowtab.specs.declared.wanted.Wanted.{Wanted}
-use Rattle.arrowtab.specs.declared.wanted.Wanted.TheVariants.{Stats, Export, Groups}
+use Rattle.arrowtab.specs.declared.wanted.Wanted.TheVariants.{Stats, Schema, Nothing, Export, Groups}
 
 -- It is what the command asks for.
 abbrev pub IsWanted : Command → Wanted → Type 0
 IsWanted command.Stats wanted = wanted ≡ Stats
+IsWanted command.Schema wanted = wanted ≡ Schema
+IsWanted command.Validate wanted = wanted ≡ Nothing
 IsWanted command.Export wanted = wanted ≡ Export
 IsWanted (command.Query text) wanted = (query : QueryText) × (wanted ≡ Groups query) × ReadsQueryText (string_bytes text) (named query)
 
@@ -55,16 +58,22 @@ IsColumnUnread text (OfColumn (column.Refused fault)) = ⊥
 -- The text is what is wanted, for so many workers.
 abbrev pub PrintsWanted : Wanted → ℕ → List FieldShape → History → List ℕ → Type 0
 PrintsWanted Stats workers fields h text = text ≡ shown workers fields h
+PrintsWanted Schema workers fields h text = text ≡ schema_lines fields
+PrintsWanted Nothing workers fields h text = text ≡ []
 PrintsWanted Export workers fields h text = text ≡ exported fields h
 PrintsWanted (Groups query) workers fields h text = PrintsGroups (named query) fields h text
 
 abbrev pub RefusesWanted : Wanted → List FieldShape → History → QueryFault → Type 0
 RefusesWanted Stats fields h fault = ⊥
+RefusesWanted Schema fields h fault = ⊥
+RefusesWanted Nothing fields h fault = ⊥
 RefusesWanted Export fields h fault = ⊥
 RefusesWanted (Groups query) fields h fault = RefusesGroups (named query) fields h fault
 
 -- The fault of printing what is wanted.
 abbrev pub IsUnprinted : Wanted → List FieldShape → History → RunFault → Type 0
 IsUnprinted Stats fields h fault = fault ≡ NoMemory
+IsUnprinted Schema fields h fault = fault ≡ NoMemory
+IsUnprinted Nothing fields h fault = fault ≡ NoMemory
 IsUnprinted Export fields h fault = fault ≡ NoMemory
 IsUnprinted (Groups query) fields h fault = IsUnanswered (named query) fields h fault

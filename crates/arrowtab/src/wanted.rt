@@ -17,6 +17,8 @@ use std::alloc::Global;
 #[derive(Drop)]
 pub(crate) enum Wanted {
     Stats,
+    Schema,
+    Nothing,
     Export,
     Groups(QueryText),
 }
@@ -72,6 +74,8 @@ pub(crate) fn wanted_of(alloc: Global, command: &Command) -> Result<Wanted, RunF
 {
     match command {
         Command::Stats => Ok(Wanted::Stats),
+        Command::Schema => Ok(Wanted::Schema),
+        Command::Validate => Ok(Wanted::Nothing),
         Command::Export => Ok(Wanted::Export),
         Command::Query(text) => match read_query_text(alloc, text.as_str().as_bytes()) {
             Ok(query) => Ok(Wanted::Groups(query)),

@@ -9,6 +9,7 @@ use Rattle.query.specs.declared.fault.QueryFault.{QueryFault}
 use Rattle.table.specs.History.{History}
 use Rattle.reports.specs.Exported.{exported}
 use Rattle.reports.specs.FaultLine.{line_under}
+use Rattle.reports.specs.Fields.{schema_lines}
 use Rattle.reports.specs.Queried.{PrintsGroups, RefusesGroups}
 use Rattle.reports.specs.Shown.{shown}
 use Rattle.reports.specs.declared.run_fault.RunFault.{RunFault}
@@ -30,6 +31,10 @@ AreLoadable texts = OfTable texts (λ fields h. ⊤)
 -- The text is what `stats` prints of them, for one worker.
 abbrev pub IsStats : List (List ℕ) → List ℕ → Type 0
 IsStats texts text = OfTable texts (λ fields h. text ≡ shown 1 fields h)
+
+-- The text is what `schema` prints of them.
+abbrev pub IsSchema : List (List ℕ) → List ℕ → Type 0
+IsSchema texts text = OfTable texts (λ fields h. text ≡ schema_lines fields)
 
 -- The text is what `export` prints of them.
 abbrev pub IsExport : List (List ℕ) → List ℕ → Type 0

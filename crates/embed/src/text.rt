@@ -1,11 +1,11 @@
 //! What is printed of files.
 ghost use Rattle.std.specs.Prelude.{◌≡◌, IfErr, IfOk, OnOk, map, string_bytes};
-ghost use Rattle.embed.specs.Output.{AreLoadable, IsAnswered, IsExport, IsStats, StopsQuery, fault_line};
+ghost use Rattle.embed.specs.Output.{AreLoadable, IsAnswered, IsExport, IsSchema, IsStats, StopsQuery, fault_line};
 ghost use Rattle.embed.specs.Refused.{Stops};
 
 use crate::loading::load_texts;
 use colbits::NoMemory;
-use reports::{RunFault, export_text, groups_text, read_query_text, stats_text};
+use reports::{RunFault, export_text, groups_text, read_query_text, schema_text, stats_text};
 use std::alloc::Global;
 
 /// What `stats` prints of the files of these texts: how many rows they have, and the statistics of each column.
@@ -15,6 +15,17 @@ pub fn stats(alloc: Global, texts: &[&[u8]]) -> Result<String, RunFault>
 {
     match load_texts(alloc, texts) {
         Ok(version) => Ok(stats_text(alloc, 1, &version)?),
+        Err(fault) => Err(fault),
+    }
+}
+
+/// What `schema` prints of the files of these texts: the fields of their table.
+pub fn schema(alloc: Global, texts: &[&[u8]]) -> Result<String, RunFault>
+    ensures ok { IfOk result (λ text. IsSchema (map (λ t. t.now) texts.now) (string_bytes text)) }
+    ensures err { IfErr result (Stops (map (λ t. t.now) texts.now)) }
+{
+    match load_texts(alloc, texts) {
+        Ok(version) => Ok(schema_text(alloc, &version)?),
         Err(fault) => Err(fault),
     }
 }

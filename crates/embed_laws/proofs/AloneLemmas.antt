@@ -19,7 +19,7 @@ use Rattle.table.specs.declared.refusal.Refusal.{Refusal}
 use Rattle.reports.specs.declared.run_fault.FileFault.TheVariants.{CannotRead, Json, Refused}
 use Rattle.reports.specs.declared.run_fault.RunFault.{RunFault}
 use Rattle.reports.specs.declared.run_fault.RunFault.TheVariants.{NoMemory, OfColumn, OfFile, QueryUnread, QueryRefused}
-use Rattle.embed.specs.Output.{IsAnswered, IsExport, IsQueryRefused, IsStats, OfTable, StopsQuery}
+use Rattle.embed.specs.Output.{AreLoadable, IsAnswered, IsExport, IsQueryRefused, IsSchema, IsStats, OfTable, StopsQuery}
 use Rattle.embed.specs.Refused.{IsRefused, Stops}
 use Rattle.embed.specs.Loaded.{HasAdded, added, all_batches}
 use Rattle.arrowtab.specs.Column.{IsColumn, column_text}
@@ -86,6 +86,12 @@ module _ (job : Job) (texts : List (List ℕ)) (text : List ℕ) (one : job.work
 
   pub stats_alone : job.command ≡ command.Stats → IsStats texts text → Answers job (map (λ t. Some t) texts) text
   stats_alone same is = answers_alone _ (λ fields h prints. subst (λ (c : Command). Prints c 1 fields h text) (sym same) prints) is
+
+  pub schema_alone : job.command ≡ command.Schema → IsSchema texts text → Answers job (map (λ t. Some t) texts) text
+  schema_alone same is = answers_alone _ (λ fields h prints. subst (λ (c : Command). Prints c 1 fields h text) (sym same) prints) is
+
+  pub validate_alone : job.command ≡ command.Validate → text ≡ [] → AreLoadable texts → Answers job (map (λ t. Some t) texts) text
+  validate_alone same none is = answers_alone _ (λ fields h loadable. subst (λ (c : Command). Prints c 1 fields h text) (sym same) none) is
 
   pub export_alone : job.command ≡ command.Export → IsExport texts text → Answers job (map (λ t. Some t) texts) text
   export_alone same is = answers_alone _ (λ fields h prints. subst (λ (c : Command). Prints c 1 fields h text) (sym same) prints) is

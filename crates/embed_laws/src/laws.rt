@@ -1,11 +1,11 @@
 //! That the library gives what the program prints.
-ghost use Rattle.std.specs.Prelude.{◌≡◌, ℕ, List, None, Some, map, string_bytes};
+ghost use Rattle.std.specs.Prelude.{◌≡◌, ℕ, List, [], None, Some, map, string_bytes};
 ghost use Rattle.std.specs.declared.alloc.Global.{Global};
 ghost use Rattle.std.specs.declared.string.String.{String};
 ghost use Rattle.arrowtab.specs.Column.{column_text};
 ghost use Rattle.arrowtab.specs.Explained.{Explains};
 ghost use Rattle.arrowtab.specs.Run.{Answers};
-ghost use Rattle.embed.specs.Output.{IsAnswered, IsExport, IsStats, StopsQuery};
+ghost use Rattle.embed.specs.Output.{AreLoadable, IsAnswered, IsExport, IsSchema, IsStats, StopsQuery};
 ghost use Rattle.embed.specs.Refused.{Stops};
 ghost use Rattle.job.specs.declared.jobs.Command.TheVariants as command;
 ghost use Rattle.job.specs.declared.jobs.Job.{Job};
@@ -16,6 +16,10 @@ ghost use Rattle.reports.specs.declared.run_fault.RunFault.{RunFault};
 pub fn the_library_gives_what_one_worker_prints()
     ensures stats { (job : Job) (texts : List (List ℕ)) (text : List ℕ) → job.workers ≡ 1 → column_text job ≡ None
         → job.command ≡ command.Stats → IsStats texts text → Answers job (map (λ t. Some t) texts) text }
+    ensures schema { (job : Job) (texts : List (List ℕ)) (text : List ℕ) → job.workers ≡ 1 → column_text job ≡ None
+        → job.command ≡ command.Schema → IsSchema texts text → Answers job (map (λ t. Some t) texts) text }
+    ensures validate { (job : Job) (texts : List (List ℕ)) (text : List ℕ) → job.workers ≡ 1 → column_text job ≡ None
+        → job.command ≡ command.Validate → text ≡ [] → AreLoadable texts → Answers job (map (λ t. Some t) texts) text }
     ensures export { (job : Job) (texts : List (List ℕ)) (text : List ℕ) → job.workers ≡ 1 → column_text job ≡ None
         → job.command ≡ command.Export → IsExport texts text → Answers job (map (λ t. Some t) texts) text }
     ensures query { (job : Job) (texts : List (List ℕ)) (text : List ℕ) → job.workers ≡ 1 → column_text job ≡ None

@@ -1,18 +1,46 @@
 -- What `clap` says of the words, at the program's command line.
-use Rattle.std.proofs.Common.{◌≡◌, ◌≢◌, ◌∙◌, ℕ, List, Bool, true, false, ap, refl, subst, sym, inl, inr}
+use Rattle.std.proofs.Common.{◌≡◌, ◌≢◌, ◌∙◌, ℕ, List, [], Bool, true, false, ap, refl, subst, sym, inl, inr}
 use Rattle.std.proofs.lemmas.Option.{same_Some}
 use Rattle.std.specs.Prelude.{Option, None, Some, option_map}
 use Rattle.clap.proofs.OnLiterals.{clap_on_literals}
-use Rattle.clap.specs.Words.{HasKind, IsAmong, Row, Text, fault_of, is_simple_and_free, kind_of, takes}
+use Rattle.clap.specs.Words.{App, HasKind, HasMatchesOf, IsAmong, Row, Text, fault_of, is_simple, is_simple_and_free, kind_of, subcommand_of, subcommand_rows_of, takes}
 use Rattle.clap.specs.declared.error.Error.{Error}
+use Rattle.clap.specs.declared.parser.matches.ArgMatches.{ArgMatches}
 use Rattle.clap.specs.declared.error.kind.ErrorKind.TheVariants.{OutOfMemory}
-use Rattle.job.specs.Jobs.{FindsNone, HasNoWorkers, HasWorkers, IsNumber, IsRefusal}
+use Rattle.job.specs.Jobs.{Asks, Finds, FindsNone, HasNoWorkers, HasWorkers, IsFaultOf, IsNumber, IsRefusal, IsUnfound}
 use Rattle.job.specs.CommandLine.{arrowtab}
+use Rattle.job.specs.declared.fault.JobFault.{JobFault}
+use Rattle.job.specs.declared.fault.JobFault.TheVariants.{Line, NoMemory, Unread}
+use Rattle.job.specs.declared.jobs.Job.{Job}
 
 -- `clap` has an exact function of the words for this command line
 pub is_free_line : is_simple_and_free arrowtab ≡ true
 unfolding clap_on_literals
 is_free_line = refl
+
+-- and of what is found in them
+is_simple_line : is_simple arrowtab ≡ true
+unfolding clap_on_literals
+is_simple_line = refl
+
+-- words that a command like this one takes have no fault
+pub taken_here : (a : App) (words : List Text) → a ≡ arrowtab → (is_simple_and_free a ≡ true → fault_of a words ≡ []) → fault_of arrowtab words ≡ []
+taken_here a words same taken = subst (λ (b : App). is_simple_and_free b ≡ true → fault_of b words ≡ []) same taken is_free_line
+
+-- and what such a command finds in them is found here
+pub found_here : (a : App) (words : List Text) (m : ArgMatches) → a ≡ arrowtab → HasMatchesOf a words m → subcommand_rows_of m ≡ subcommand_of arrowtab words
+found_here a words m same matches = (subst (λ (b : App). HasMatchesOf b words m) same matches is_simple_line).1
+
+-- a job that is found in matches of the words is what they ask for
+pub found_asked : (words : List Text) (found : Option (Text × List Row)) (job : Job) → fault_of arrowtab words ≡ [] → found ≡ subcommand_of arrowtab words → Finds found job → Asks words job
+found_asked words found job taken same finds = record { taken = taken; finds = subst (λ f. Finds f job) same finds }
+
+-- .. and where none is found, they ask for none
+pub unfound_fault : (words : List Text) (found : Option (Text × List Row)) (fault : JobFault) → fault_of arrowtab words ≡ [] → found ≡ subcommand_of arrowtab words → IsUnfound found fault
+    → IsFaultOf words fault
+unfound_fault words found (Line error) taken same why = absurd why
+unfound_fault words found Unread taken same why = (taken, subst FindsNone same why)
+unfound_fault words found NoMemory taken same why = tt
 
 is_not_true : (b : Bool) → b ≢ true → b ≡ false
 is_not_true true other = absurd (other refl)

@@ -40,6 +40,10 @@ with_query = with_rule (over_files (codes "query")) query
 abbrev pub alone : App
 alone = on_top (λ top. record top { arg_required_else_help = true; subcommand_required = true; has_version = true }) (new_app (codes "arrowtab"))
 
--- stats FILE.., export FILE.., and query --query QUERY FILE.., each with --workers N and --add-column FIELD.
+-- The program with a command over files of this name behind those that it has.
+abbrev pub with_command : App → List ℕ → App
+with_command app name = with_subcommand app (over_files name).top
+
+-- stats FILE.., schema FILE.., validate FILE.., export FILE.., and query --query QUERY FILE.., each with --workers N and --add-column FIELD.
 abbrev pub arrowtab : App
-arrowtab = with_subcommand (with_subcommand (with_subcommand alone (over_files (codes "stats")).top) (over_files (codes "export")).top) with_query.top
+arrowtab = with_subcommand (with_command (with_command (with_command (with_command alone (codes "stats")) (codes "schema")) (codes "validate")) (codes "export")) with_query.top

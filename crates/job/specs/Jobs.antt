@@ -7,7 +7,7 @@ use Rattle.clap.specs.declared.error.Error.{Error}
 use Rattle.clap.specs.declared.error.kind.ErrorKind.TheVariants.{OutOfMemory}
 use Rattle.job.specs.CommandLine.{arrowtab}
 use Rattle.job.specs.declared.jobs.Command.{Command}
-use Rattle.job.specs.declared.jobs.Command.TheVariants.{Stats, Export, Query}
+use Rattle.job.specs.declared.jobs.Command.TheVariants.{Stats, Schema, Validate, Export, Query}
 use Rattle.job.specs.declared.jobs.Job.{Job}
 use Rattle.job.specs.declared.fault.JobFault.{JobFault}
 use Rattle.job.specs.declared.fault.JobFault.TheVariants.{Line, Unread, NoMemory}
@@ -15,12 +15,16 @@ use Rattle.job.specs.declared.fault.JobFault.TheVariants.{Line, Unread, NoMemory
 -- The word of a command.
 abbrev pub word_of : Command → Text
 word_of Stats = codes "stats"
+word_of Schema = codes "schema"
+word_of Validate = codes "validate"
 word_of Export = codes "export"
 word_of (Query text) = codes "query"
 
 -- The text of a query is the value of --query.
 abbrev pub HasQuery : List Row → Command → Type 0
 HasQuery rows Stats = ⊤
+HasQuery rows Schema = ⊤
+HasQuery rows Validate = ⊤
 HasQuery rows Export = ⊤
 HasQuery rows (Query text) = first_of (codes "QUERY") rows ≡ Some (string_bytes text)
 

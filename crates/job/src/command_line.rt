@@ -1,7 +1,7 @@
 //! The commands of the program, as `clap` reads them.
 ghost use Rattle.std.specs.Prelude.{◌≡◌, IfOk, false};
 ghost use Rattle.clap.specs.Words.{app_of, rule_of};
-ghost use Rattle.job.specs.CommandLine.{arrowtab, column, files, over_files, query, with_query, workers};
+ghost use Rattle.job.specs.CommandLine.{alone, arrowtab, column, files, over_files, query, with_command, with_query, workers};
 ghost use Rattle.clap.specs.declared.builder.command.Command.TheViews.{out-Command};
 
 use clap::{Arg, Command, value_parser};
@@ -10,7 +10,29 @@ use std::alloc::{AllocError, Global};
 /// What `--version` prints behind the program's name: the version, its date, and the kit that proves it.
 const VERSION: &str = "0.1.0 (2026-11-30, rattle-kit-13f)";
 
-/// What a query may have, as `help query` prints it.
+/// What stands at the end of the help of each command.
+const STATS_HELP: &str = "\
+Output: the rows; of each worker its calls and rows; of each column its name, type, rows, nulls, sum,
+least and greatest, and - where its type has none.
+
+Example: arrowtab stats --workers 2 january.json february.json";
+
+const SCHEMA_HELP: &str = "\
+Output: of each column its name, its type as the table stores it, and whether it may hold nulls.
+
+Example: arrowtab schema cities.json";
+
+const VALIDATE_HELP: &str = "\
+Output: none. The status says whether all files can be loaded into one table; if not, the fault is reported.
+
+Example: arrowtab validate january.json february.json";
+
+const EXPORT_HELP: &str = "\
+Output: an object of JSON with the schema, the batches as they were loaded, and a dictionary for each
+column of texts.
+
+Example: arrowtab export cities.json > table.json";
+
 const QUERY_HELP: &str = "\
 A query is an object of JSON with the members filter (an expression), by (an array of up to 4 names of
 columns) and aggs (an array of aggregates), each of which may be absent. Other members are passed over.
@@ -35,19 +57,43 @@ Examples:
 pub(crate) fn arrowtab<'a>(alloc: Global) -> Result<Command<'a>, AllocError>
     ensures { IfOk result (λ command. app_of command ≡ arrowtab) }
 {
-    let stats = over_files(
+    let program = alone(alloc);
+    let with_stats = with_command(
         alloc,
+        program,
         "stats",
         "Print rows, nulls, sum, least and greatest of each column",
-        "Output: the rows; of each worker its calls and rows; of each column its name, type, rows, nulls, sum,\nleast and greatest, and - where its type has none.\n\nExample: arrowtab stats --workers 2 january.json february.json",
+        STATS_HELP,
     )?;
-    let export = over_files(
+    let with_schema = with_command(
         alloc,
+        with_stats,
+        "schema",
+        "Print name, type and nullability of each column",
+        SCHEMA_HELP,
+    )?;
+    let with_validate = with_command(
+        alloc,
+        with_schema,
+        "validate",
+        "Print nothing where all files make one table, else the first fault",
+        VALIDATE_HELP,
+    )?;
+    let with_export = with_command(
+        alloc,
+        with_validate,
         "export",
         "Print the table as one file, each text once in its dictionary",
-        "Output: an object of JSON with the schema, the batches as they were loaded, and a dictionary for each\ncolumn of texts.\n\nExample: arrowtab export cities.json > table.json",
+        EXPORT_HELP,
     )?;
     let query = with_query(alloc)?;
+    with_export.subcommand(query)
+}
+
+/// The program without its commands.
+fn alone<'a>(alloc: Global) -> Command<'a>
+    ensures { app_of result ≡ alone }
+{
     let bare = Command::new(alloc, "arrowtab");
     let described = bare.about(
         "Tells what files in Apache Arrow's JSON integration format hold, as one table",
@@ -57,10 +103,21 @@ pub(crate) fn arrowtab<'a>(alloc: Global) -> Result<Command<'a>, AllocError>
     );
     let required = explained.subcommand_required(true);
     let helpful = required.arg_required_else_help(true);
-    let versioned = helpful.version(VERSION);
-    let with_stats = versioned.subcommand(stats)?;
-    let with_export = with_stats.subcommand(export)?;
-    with_export.subcommand(query)
+    helpful.version(VERSION)
+}
+
+/// The program with a command over files behind those that it has.
+fn with_command<'a>(
+    alloc: Global,
+    program: Command<'a>,
+    name: &'a str,
+    about: &'a str,
+    example: &'a str,
+) -> Result<Command<'a>, AllocError>
+    ensures { IfOk result (λ command. app_of command ≡ with_command (app_of program.entry) name.now) }
+{
+    let command = over_files(alloc, name, about, example)?;
+    program.subcommand(command)
 }
 
 /// `query --query QUERY --workers N --add-column FIELD FILE..`

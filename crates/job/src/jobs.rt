@@ -5,6 +5,10 @@
 pub enum Command {
     /// Prints rows, workers and the statistics of each column.
     Stats,
+    /// Prints the name, the type and the nullability of each column.
+    Schema,
+    /// Prints nothing where all files can be loaded.
+    Validate,
     /// Prints the table as one file, with a batch for each that was added.
     Export,
     /// Prints a line for each group of rows, as the query of this text asks.

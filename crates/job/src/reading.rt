@@ -69,6 +69,8 @@ fn command_of(alloc: Global, word: &str, found: &ArgMatches<'_>) -> Result<Comma
 {
     match word {
         "stats" => Ok(Command::Stats),
+        "schema" => Ok(Command::Schema),
+        "validate" => Ok(Command::Validate),
         "export" => Ok(Command::Export),
         "query" => query_of(alloc, found),
         _ => Err(JobFault::Unread),

@@ -3,18 +3,19 @@ use Rattle.std.proofs.Common.{◌≡◌, ◌∙◌, ℕ, ◌+◌, ◌<◌, appen
 use Rattle.std.specs.List.{flat_map, range_with_len, enumerate_from, slice_get}
 use Rattle.std.proofs.lemmas.Bool.{ne_eqb}
 use Rattle.std.proofs.lemmas.Grind.{flat_map-append}
-use Rattle.std.proofs.lemmas.List.{take_more, append-nil, get_or-map}
+use Rattle.std.proofs.lemmas.List.{take_more, append-nil, get_or-map, map-append}
 use Rattle.std.proofs.lemmas.List.Elements.{filter-append}
 use Rattle.std.proofs.lemmas.List.FromFn.{map-range_with_len_more}
 use Rattle.std.proofs.lemmas.Option.{slice_get-get_or, slice_get-map}
 use Rattle.arrays.specs.Item.{Item}
-use Rattle.arrays.specs.Shape.{FieldShape, Shape, field_of, field_step, fields_of, kind_of_field, name_of, shape_step}
+use Rattle.arrays.specs.Shape.{FieldShape, Shape, field_of, field_step, fields_of, is_nullable, kind_of_field, name_of, shape_step}
 use Rattle.types.specs.declared.data_type.Field.{Field, fold_out-Field, out-Field}
 use Rattle.types.specs.Kind.{kind_of}
 use Rattle.types.proofs.ShapeLemmas.{kind_of_field-field_of}
 use Rattle.group.specs.Stats.{least_of, nulls_of, sum_of}
 use Rattle.group.specs.Summary.{AreStats, scalar_item}
 use Rattle.group.specs.declared.stats.ColumnStats.{ColumnStats}
+use Rattle.reports.specs.Fields.{schema_line, schema_lines}
 use Rattle.reports.specs.Shown.{worker_lines, worker_line, column_line, column_lines, field_line}
 use Rattle.arrays.specs.Batch.{Table, column}
 use Rattle.table.specs.History.{History, book, rows, of}
@@ -104,6 +105,22 @@ field_line-stats f s items are =
     ∙ ap (λ z. column_line (name_of (field_of f)) k (length items) (nulls_of items) z (option_map scalar_item s.least) (option_map scalar_item s.greatest)) are.sum
     ∙ ap (λ x. column_line (name_of (field_of f)) k (length items) (nulls_of items) (sum_of k items) x (option_map scalar_item s.greatest)) are.least
     ∙ ap (λ x. column_line (name_of (field_of f)) k (length items) (nulls_of items) (sum_of k items) (least_of k items) x) are.greatest
+
+is_nullable-field_of : (f : Field) → is_nullable (field_of f) ≡ (out-Field f).nullable
+is_nullable-field_of f = ap is_nullable (fold_out-Field Shape FieldShape shape_step field_step f)
+
+pub schema_line-field : (f : Field) → schema_line (string_bytes (out-Field f).name) (kind_of (out-Field f).ty) (out-Field f).nullable ≡ schema_lines (field_of f ∷ [])
+schema_line-field f =
+    ap (λ name. schema_line name (kind_of (out-Field f).ty) (out-Field f).nullable) (sym (name_of-field_of f))
+    ∙ ap (λ k. schema_line (name_of (field_of f)) k (out-Field f).nullable) (sym (kind_of_field-field_of f))
+    ∙ ap (schema_line (name_of (field_of f)) (kind_of_field (field_of f))) (sym (is_nullable-field_of f))
+    ∙ sym (append-nil (schema_line (name_of (field_of f)) (kind_of_field (field_of f)) (is_nullable (field_of f))))
+
+pub schema_lines-more : (given : List Field) (i : ℕ) (f : Field) → i < length given → f ≡ get_or given i f → schema_lines (map field_of (take (i + 1) given)) ≡ schema_lines (map field_of (take i given)) ++ schema_lines (field_of f ∷ [])
+schema_lines-more given i f below is =
+    ap (λ (l : List Field). schema_lines (map field_of l)) (take_more given i f below ∙ ap (λ (g : Field). take i given ++ g ∷ []) (sym is))
+    ∙ ap schema_lines (map-append field_of (take i given) (f ∷ []))
+    ∙ flat_map-append (λ (g : FieldShape). schema_line (name_of g) (kind_of_field g) (is_nullable g)) (map field_of (take i given)) (field_of f ∷ [])
 
 -- ---- the lines of columns
 

@@ -4,6 +4,7 @@ pub mod Shown
 pub mod GroupLines
 pub mod Queried
 pub mod Exported
+pub mod Fields
 pub mod FileBatches
 pub mod AddFaultText
 pub mod Lines

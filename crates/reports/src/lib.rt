@@ -1,8 +1,8 @@
 //! What files and a table of them are as text, without a thread, a lock or an end: what `arrowtab` prints, the faults that it
 //! reports, and their lines.
 //!
-//! Start with these: [`stats_text`], [`export_text`] and [`groups_text`] print a version of a table, [`read_query_text`] reads a
-//! query's text, and [`line_of`] gives the line of a [`RunFault`].
+//! Start with these: [`stats_text`], [`schema_text`], [`export_text`] and [`groups_text`] print a version of a table,
+//! [`read_query_text`] reads a query's text, and [`line_of`] gives the line of a [`RunFault`].
 #![tactic(auto)]
 
 pub mod export;
@@ -14,6 +14,7 @@ pub mod query_text;
 pub mod refusal;
 pub mod report;
 pub mod run_fault;
+pub mod schema;
 mod text;
 
 pub use export::export_text;
@@ -22,3 +23,4 @@ pub use groups::{answer_text, groups_text, placed_query};
 pub use query_text::read_query_text;
 pub use report::stats_text;
 pub use run_fault::{ColumnFault, FileFault, RunFault, text_fault};
+pub use schema::schema_text;

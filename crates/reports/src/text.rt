@@ -1,9 +1,10 @@
-//! The lines of `stats`, as text.
+//! The lines of `stats` and of `schema`, as text.
 ghost use Rattle.std.specs.Prelude.{◌≡◌, ◌++◌, OnOk, IfOk, option_map, string_bytes};
 ghost use Rattle.types.specs.Kind.{kind_of};
 ghost use Rattle.group.specs.Summary.{scalar_item};
 ghost use Rattle.json.specs.Print.{quoted};
-ghost use Rattle.reports.specs.Shown.{cell, column_line, kind_name, rows_line, sum_text, type_name, value_text, worker_line};
+ghost use Rattle.reports.specs.Fields.{schema_line};
+ghost use Rattle.reports.specs.Shown.{cell, column_line, kind_name, rows_line, sum_text, truth_text, type_name, value_text, worker_line};
 
 use arrays::{DataType, IntType, Width};
 use colbits::NoMemory;
@@ -66,6 +67,31 @@ pub(crate) fn column_line(
     push_value(alloc, &mut text, &stats.greatest)?;
     text.push_str("\n")?;
     Ok(text)
+}
+
+/// The line of a field of a type.
+pub(crate) fn schema_line(
+    alloc: Global,
+    name: &str,
+    ty: &DataType,
+    nullable: bool,
+) -> Result<String, NoMemory>
+    ensures { IfOk result (λ text. string_bytes text ≡ schema_line name.now (kind_of ty.now) nullable) }
+{
+    let mut text = quoted(alloc, name)?;
+    text.push_str(" ")?;
+    push_type(&mut text, ty)?;
+    text.push_str(" nullable=")?;
+    text.push_str(truth_text(nullable))?;
+    text.push_str("\n")?;
+    Ok(text)
+}
+
+/// A truth value as it is printed.
+fn truth_text(truth: bool) -> &'static str
+    ensures { result.now ≡ truth_text truth }
+{
+    if truth { "true" } else { "false" }
 }
 
 /// Adds the name of a type.
@@ -135,7 +161,7 @@ pub(crate) fn push_scalar(
             write!(text, "{number}")?;
             Ok(())
         }
-        Scalar::Bool(truth) => text.push_str(if *truth { "true" } else { "false" }),
+        Scalar::Bool(truth) => text.push_str(truth_text(*truth)),
         Scalar::Text(value) => {
             let value = quoted(alloc, value.as_str())?;
             text.push_str(value.as_str())

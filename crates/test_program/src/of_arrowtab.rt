@@ -11,6 +11,7 @@ mod names;
 mod queries;
 mod refusals;
 mod runs;
+mod schemas;
 mod several;
 mod together;
 mod windows;
@@ -135,6 +136,11 @@ fn is_of_library(
 fn given(alloc: Global, job: &Job, texts: &[&[u8]]) -> Result<String, RunFault> {
     match &job.command {
         Command::Stats => embed::stats(alloc, texts),
+        Command::Schema => embed::schema(alloc, texts),
+        Command::Validate => match embed::validate(alloc, texts) {
+            Ok(()) => Ok(String::new(alloc)),
+            Err(fault) => Err(fault),
+        },
         Command::Export => embed::export(alloc, texts),
         Command::Query(query_text) => embed::query(alloc, query_text.as_str().as_bytes(), texts),
     }

@@ -19,9 +19,10 @@ const COLUMN: &str = r#"{"name":"m","nullable":true,"type":{"name":"utf8"}}"#;
 const SUM: &str = r#"{"aggs":[{"agg":"rows"},{"agg":"sum","column":"n"}]}"#;
 
 /// The words of runs over one file.
-const ALONE: [&[&str]; 6] = [
+const ALONE: [&[&str]; 7] = [
     &["arrowtab", "stats", "A"],
     &["arrowtab", "stats", "--workers", "2", "A"],
+    &["arrowtab", "schema", "A"],
     &["arrowtab", "export", "A"],
     &["arrowtab", "export", "--workers", "2", "A"],
     &["arrowtab", "query", "--query", SUM, "A"],

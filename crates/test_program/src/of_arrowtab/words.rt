@@ -8,13 +8,15 @@ use std::alloc::Global;
 
 /// Words, each behind one space, the command that they ask for, or the text of its query, the files that it is about, how many
 /// workers, and the text of a column, a dash where there is none.
-const JOBS: [(&str, &str, &str, u32, &str); 18] = [
+const JOBS: [(&str, &str, &str, u32, &str); 20] = [
     ("arrowtab stats A", "stats", "A", 1, "-"),
     ("a/b stats B A B", "stats", "B A B", 1, "-"),
     // An empty name.
     ("arrowtab stats ", "stats", "", 1, "-"),
     ("arrowtab stats stats help", "stats", "stats help", 1, "-"),
     ("arrowtab stats -- -h --", "stats", "-h --", 1, "-"),
+    ("arrowtab schema A", "schema", "A", 1, "-"),
+    ("arrowtab validate B A", "validate", "B A", 1, "-"),
     ("arrowtab export A", "export", "A", 1, "-"),
     ("arrowtab export B A B", "export", "B A B", 1, "-"),
     ("arrowtab query --query {} A", "{}", "A", 1, "-"),
@@ -67,6 +69,8 @@ fn job_of(alloc: Global, line: &str) -> Result<Job, JobFault> {
 fn name_of(command: &Command) -> &str {
     match command {
         Command::Stats => "stats",
+        Command::Schema => "schema",
+        Command::Validate => "validate",
         Command::Export => "export",
         Command::Query(query) => query.as_str(),
     }
@@ -106,10 +110,12 @@ const HELP: &str = "Tells what files in Apache Arrow's JSON integration format h
 Usage: arrowtab <COMMAND>
 
 Commands:
-  stats   Print rows, nulls, sum, least and greatest of each column
-  export  Print the table as one file, each text once in its dictionary
-  query   Print a line for each group of rows, as a query asks
-  help    Print this message or the help of the given subcommand(s)
+  stats     Print rows, nulls, sum, least and greatest of each column
+  schema    Print name, type and nullability of each column
+  validate  Print nothing where all files make one table, else the first fault
+  export    Print the table as one file, each text once in its dictionary
+  query     Print a line for each group of rows, as a query asks
+  help      Print this message or the help of the given subcommand(s)
 
 Options:
   -h, --help     Print help
@@ -135,6 +141,40 @@ Output: the rows; of each worker its calls and rows; of each column its name, ty
 least and greatest, and - where its type has none.
 
 Example: arrowtab stats --workers 2 january.json february.json
+";
+
+const SCHEMA_HELP: &str = "Print name, type and nullability of each column
+
+Usage: arrowtab schema [OPTIONS] <FILE>...
+
+Arguments:
+  <FILE>...  Files of one table, which has the first one's schema
+
+Options:
+      --workers <N>         How many workers load the files and answer the query at once, from 1 to 64 [default: 1]
+      --add-column <FIELD>  A column to add once the files are loaded, null in each row: a field as an object of JSON
+  -h, --help                Print help
+
+Output: of each column its name, its type as the table stores it, and whether it may hold nulls.
+
+Example: arrowtab schema cities.json
+";
+
+const VALIDATE_HELP: &str = "Print nothing where all files make one table, else the first fault
+
+Usage: arrowtab validate [OPTIONS] <FILE>...
+
+Arguments:
+  <FILE>...  Files of one table, which has the first one's schema
+
+Options:
+      --workers <N>         How many workers load the files and answer the query at once, from 1 to 64 [default: 1]
+      --add-column <FIELD>  A column to add once the files are loaded, null in each row: a field as an object of JSON
+  -h, --help                Print help
+
+Output: none. The status says whether all files can be loaded into one table; if not, the fault is reported.
+
+Example: arrowtab validate january.json february.json
 ";
 
 const EXPORT_HELP: &str = "Print the table as one file, each text once in its dictionary
@@ -220,12 +260,14 @@ fn tells_that_help_failed(alloc: Global) -> bool {
 }
 
 /// Words that are no job, what `clap` says of them, and whether that is the help or the version that was requested.
-const NO_JOBS: [(&str, &str, bool); 18] = [
+const NO_JOBS: [(&str, &str, bool); 20] = [
     ("arrowtab --help", HELP, true),
     ("bin/arrowtab -h", HELP, true),
     ("arrowtab help", HELP, true),
     ("arrowtab stats A --help", STATS_HELP, true),
     ("arrowtab help stats", STATS_HELP, true),
+    ("arrowtab help schema", SCHEMA_HELP, true),
+    ("arrowtab help validate", VALIDATE_HELP, true),
     ("arrowtab help export", EXPORT_HELP, true),
     ("arrowtab query --help", QUERY_HELP, true),
     ("arrowtab --version", VERSION, true),
