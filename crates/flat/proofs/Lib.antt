@@ -1,0 +1,6 @@
+-- Lemmas of this crate.
+pub mod ContentLemmas
+pub mod CodeLemmas
+pub mod FieldLemmas
+pub mod RowLemmas
+pub mod ColumnLemmas

@@ -1,0 +1,7 @@
+-- The words of this crate's contracts.
+pub mod Format
+pub mod Content
+pub mod Fields
+pub mod Parts
+pub mod Schema
+pub mod Batch

@@ -1,0 +1,20 @@
+//! Columns that lie in memory elsewhere, as Arrow's C data interface hands them on.
+//!
+//! [`Node`] is a column, or what lies in one. [`batch_of`] makes a record batch of nodes, [`schema_of`] the schema that they name:
+//! each buffer is copied once and checked once, and nothing that is lent is trusted.
+#![tactic(auto)]
+
+pub mod batch;
+mod codes;
+mod columns;
+mod content;
+pub mod fault;
+mod fields;
+pub mod node;
+mod parts;
+pub mod schema;
+
+pub use batch::batch_of;
+pub use fault::FlatFault;
+pub use node::Node;
+pub use schema::schema_of;
