@@ -1,0 +1,259 @@
+//! Tests of what batches of nodes show.
+
+use crate::testing::{ALONE, CODES, LIST, Part, UNKNOWN, nodes};
+use flat::batch_of;
+use std::test::Fail;
+use test_samples::{Shown, shows};
+
+/// The parts of one column, and what it shows.
+type Column = (u32, &'static [Part], Shown);
+
+const NARROW: &[u8] = b"\0\0\0\0\x01\0\0\0\x01\0\0\0\x03\0\0\0";
+
+const WIDE: &[u8] = b"\0\0\0\0\0\0\0\0\x01\0\0\0\0\0\0\0\x01\0\0\0\0\0\0\0\x03\0\0\0\0\0\0\0";
+
+const TEXTS: Shown = Shown::Texts(&[Some("a"), Some(""), Some("bc")]);
+
+const VALUES: &[Column] = &[
+    (
+        2,
+        &[(b"c", ALONE, 2, 0, [b"", b"\x01\xfe", b""])],
+        Shown::Numbers(&[Some(1), Some(-2)]),
+    ),
+    (
+        2,
+        &[(b"C", ALONE, 2, UNKNOWN, [b"", b"\x01\xfe", b""])],
+        Shown::Numbers(&[Some(1), Some(254)]),
+    ),
+    (
+        2,
+        &[(b"s", ALONE, 2, 1, [b"\x02", b"\x01\0\xfe\xff", b""])],
+        Shown::Numbers(&[None, Some(-2)]),
+    ),
+    (
+        1,
+        &[(b"S", ALONE, 1, 0, [b"", b"\xfe\xff", b""])],
+        Shown::Numbers(&[Some(65534)]),
+    ),
+    (
+        1,
+        &[(b"i", ALONE, 1, 0, [b"", b"\xfe\xff\xff\xff", b""])],
+        Shown::Numbers(&[Some(-2)]),
+    ),
+    (
+        1,
+        &[(b"I", ALONE, 1, 0, [b"", b"\xfe\xff\xff\xff", b""])],
+        Shown::Numbers(&[Some(4294967294)]),
+    ),
+    (
+        1,
+        &[(
+            b"l",
+            ALONE,
+            1,
+            0,
+            [b"", b"\xfe\xff\xff\xff\xff\xff\xff\xff", b""],
+        )],
+        Shown::Numbers(&[Some(-2)]),
+    ),
+    (
+        1,
+        &[(
+            b"L",
+            ALONE,
+            1,
+            0,
+            [b"", b"\xfe\xff\xff\xff\xff\xff\xff\xff", b""],
+        )],
+        Shown::Numbers(&[Some(18446744073709551614)]),
+    ),
+    (
+        3,
+        &[(b"b", ALONE, 3, UNKNOWN, [b"\x05", b"\x04", b""])],
+        Shown::Bools(&[Some(false), None, Some(true)]),
+    ),
+    (3, &[(b"u", ALONE, 3, 0, [b"", NARROW, b"abc"])], TEXTS),
+    (3, &[(b"U", ALONE, 3, 0, [b"", WIDE, b"abc"])], TEXTS),
+    // No offsets stand for the one of no slots.
+    (
+        0,
+        &[(b"u", ALONE, 0, 0, [b"", b"", b""])],
+        Shown::Texts(&[]),
+    ),
+];
+
+const ITEMS: Part = (b"c", ALONE, 3, 0, [b"", b"\x01\x02\x03", b""]);
+
+const LISTS: Shown = Shown::Lists(&[Some(&[Some(1)]), None, Some(&[Some(2), Some(3)])]);
+
+const OVER_OTHERS: &[Column] = &[
+    (
+        3,
+        &[(b"+l", LIST, 3, 1, [b"\x05", NARROW, b""]), ITEMS],
+        LISTS,
+    ),
+    (
+        3,
+        &[(b"+L", LIST, 3, 1, [b"\x05", WIDE, b""]), ITEMS],
+        LISTS,
+    ),
+    (
+        1,
+        &[
+            (b"+l", LIST, 1, 0, [b"", b"\0\0\0\0\x03\0\0\0", b""]),
+            (b"+L", LIST, 3, UNKNOWN, [b"\x05", WIDE, b""]),
+            ITEMS,
+        ],
+        Shown::ListsOfLists(&[Some(&[Some(&[Some(1)]), None, Some(&[Some(2), Some(3)])])]),
+    ),
+];
+
+const WORDS: Part = (b"u", ALONE, 3, 0, [b"", NARROW, b"abc"]);
+
+const NAMED: Shown = Shown::Encoded(
+    &[Some(2), None, Some(0)],
+    &[Some("a"), Some(""), Some("bc")],
+    &[Some("bc"), None, Some("a")],
+);
+
+/// What lies under a null names no entry.
+const INDICES: &[Column] = &[
+    (
+        3,
+        &[(b"c", CODES, 3, 1, [b"\x05", b"\x02\xff\0", b""]), WORDS],
+        NAMED,
+    ),
+    (
+        3,
+        &[(b"C", CODES, 3, 1, [b"\x05", b"\x02\xff\0", b""]), WORDS],
+        NAMED,
+    ),
+    (
+        3,
+        &[
+            (b"s", CODES, 3, 1, [b"\x05", b"\x02\0\xff\xff\0\0", b""]),
+            WORDS,
+        ],
+        NAMED,
+    ),
+    (
+        3,
+        &[
+            (b"S", CODES, 3, 1, [b"\x05", b"\x02\0\xff\xff\0\0", b""]),
+            WORDS,
+        ],
+        NAMED,
+    ),
+    (
+        3,
+        &[
+            (
+                b"i",
+                CODES,
+                3,
+                1,
+                [b"\x05", b"\x02\0\0\0\xff\xff\xff\xff\0\0\0\0", b""],
+            ),
+            WORDS,
+        ],
+        NAMED,
+    ),
+    (
+        3,
+        &[
+            (
+                b"I",
+                CODES,
+                3,
+                1,
+                [b"\x05", b"\x02\0\0\0\xff\xff\xff\xff\0\0\0\0", b""],
+            ),
+            WORDS,
+        ],
+        NAMED,
+    ),
+    (
+        3,
+        &[
+            (
+                b"l",
+                CODES,
+                3,
+                1,
+                [
+                    b"\x05",
+                    b"\x02\0\0\0\0\0\0\0\0\0\0\0\x01\0\0\0\0\0\0\0\0\0\0\0",
+                    b"",
+                ],
+            ),
+            WORDS,
+        ],
+        NAMED,
+    ),
+    (
+        3,
+        &[
+            (
+                b"L",
+                CODES,
+                3,
+                UNKNOWN,
+                [
+                    b"\x05",
+                    b"\x02\0\0\0\0\0\0\0\xff\xff\xff\xff\xff\xff\xff\xff\0\0\0\0\0\0\0\0",
+                    b"",
+                ],
+            ),
+            WORDS,
+        ],
+        NAMED,
+    ),
+];
+
+#[test]
+fn a_column_shows_its_values(rt: HostRuntime) -> Result<(), Fail> {
+    for columns in [VALUES, OVER_OTHERS, INDICES] {
+        for (rows, parts, shown) in columns {
+            let nodes = nodes(rt.alloc(), parts)?;
+            let batch = batch_of(rt.alloc(), *rows, &nodes)?;
+            assert!(rt; batch.columns().len() == 1, "{parts:?}");
+            let column = &batch.columns()[0];
+            assert!(rt; shows(&column.view(), *shown), "{parts:?}");
+        }
+    }
+    Ok(())
+}
+
+#[test]
+fn columns_stand_one_after_the_other(rt: HostRuntime) -> Result<(), Fail> {
+    let parts = [
+        (
+            b"+l".as_slice(),
+            LIST,
+            3,
+            1,
+            [b"\x05".as_slice(), NARROW, b""],
+        ),
+        ITEMS,
+        (b"c", CODES, 3, 1, [b"\x05", b"\x02\xff\0", b""]),
+        WORDS,
+        ITEMS,
+    ];
+    let nodes = nodes(rt.alloc(), &parts)?;
+    let batch = batch_of(rt.alloc(), 3, &nodes)?;
+    assert_eq!(rt; batch.rows(), 3);
+    assert_eq!(rt; batch.columns().len(), 3);
+    let numbers = Shown::Numbers(&[Some(1), Some(2), Some(3)]);
+    assert!(rt; shows(&batch.columns()[0].view(), LISTS));
+    assert!(rt; shows(&batch.columns()[1].view(), NAMED));
+    assert!(rt; shows(&batch.columns()[2].view(), numbers));
+    Ok(())
+}
+
+#[test]
+fn a_batch_without_columns_has_rows(rt: HostRuntime) -> Result<(), Fail> {
+    let batch = batch_of(rt.alloc(), 4, &[])?;
+    assert_eq!(rt; batch.rows(), 4);
+    assert_eq!(rt; batch.columns().len(), 0);
+    Ok(())
+}

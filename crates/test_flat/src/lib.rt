@@ -1,0 +1,11 @@
+//! Tests of columns that lie in memory elsewhere.
+#![tactic(auto)]
+
+#[cfg(test)]
+mod batches;
+#[cfg(test)]
+mod faults;
+#[cfg(test)]
+mod schemas;
+#[cfg(test)]
+mod testing;
