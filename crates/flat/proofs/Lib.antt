@@ -4,3 +4,4 @@ pub mod CodeLemmas
 pub mod FieldLemmas
 pub mod RowLemmas
 pub mod ColumnLemmas
+pub mod UniqueLemmas

@@ -10,6 +10,7 @@ mod columns;
 mod content;
 pub mod fault;
 mod fields;
+pub mod laws;
 pub mod node;
 mod parts;
 pub mod schema;
