@@ -1,0 +1,119 @@
+//! Arrays, an item at a time. (RFC 8259, section 5)
+
+ghost use Rattle.std.specs.Prelude.{◌≡◌, ◌-◌, ◌<◌, ◌≤◌, ◌++◌, ◌∷◌, [], ℕ, List, length, drop, get_or, IfOk};
+ghost use Rattle.serde_json.specs.Data.{Data, array, no_items};
+ghost use Rattle.json_scan.specs.Scalars.{AreIntegers};
+ghost use Rattle.json_scan.specs.Spelling.{SpellsAt, SpellsItems, before};
+
+use crate::mark::{Container, Mark, empty_end, read_mark};
+use crate::miss::Miss;
+use crate::number::read_integer;
+use crate::space::{Placed, after_space};
+use crate::word::byte_at;
+use std::alloc::Global;
+
+/// Takes the items of an array as they come.
+pub trait ItemVisitor {
+    /// What holds after the items of a text that are nested so deep: of the visitor as it was before them, and as it is.
+    ghost holds: { List ℕ → ℕ → Self → List Data → Self → Type 0 };
+
+    /// Takes the item that stands here, or after spaces, nested as deep as `depth` at most, and gives the place behind it.
+    fn visit(&mut self, text: &str, at: usize, depth: usize) -> Result<usize, Miss>
+        requires { at ≤ length text.now }
+        ensures ok { IfOk result (λ end. (d : Data) × SpellsAt depth (drop at text.now) d (drop end text.now)
+            × ((first : Self) (ds : List Data) → holds text.now depth first ds self.old → holds text.now depth first (ds ++ d ∷ []) self.new)) }
+        ensures onward { IfOk result (λ end. at < end) }
+        ensures within { IfOk result (λ end. end ≤ length text.now) };
+}
+
+/// Gives a visitor the items that begin here, and passes over the bracket that closes their array.
+fn read_items<V: ItemVisitor>(
+    text: &str,
+    start: usize,
+    depth: usize,
+    visitor: &mut V,
+) -> Result<usize, Miss>
+    requires { start ≤ length text.now }
+    ensures ok { IfOk result (λ end. (ds : List Data) × SpellsItems depth (drop start text.now) (before ds no_items) (drop end text.now)
+        × (V.holds text.now depth visitor.old [] visitor.old → V.holds text.now depth visitor.old ds visitor.new)) }
+    ensures within { IfOk result (λ end. end ≤ length text.now) }
+{
+    let mut at = start;
+    'items: loop {
+        let end = visitor.visit(text, at, depth)?;
+        let Some(mark) = read_mark(text.as_bytes(), end, Container::Array) else {
+            return Err(Miss::Unread);
+        };
+        at = mark.end;
+        match mark.value {
+            Mark::End => return Ok(at),
+            Mark::Comma => {}
+        }
+    }
+}
+
+/// Gives a visitor the items of the array that stands here, or after spaces, nested as deep as `depth` at most. The place is the one behind the
+/// array.
+pub fn read_array<V: ItemVisitor>(
+    text: &str,
+    at: usize,
+    depth: usize,
+    visitor: &mut V,
+) -> Result<usize, Miss>
+    requires { at ≤ length text.now }
+    ensures ok { IfOk result (λ end. (ds : List Data) × SpellsAt depth (drop at text.now) (array (before ds no_items)) (drop end text.now)
+        × (V.holds text.now (depth - 1) visitor.old [] visitor.old → V.holds text.now (depth - 1) visitor.old ds visitor.new)) }
+    ensures within { IfOk result (λ end. end ≤ length text.now) }
+{
+    let bytes = text.as_bytes();
+    let start = after_space(bytes, at);
+    if depth == 0 || byte_at(bytes, start) != b'[' {
+        return Err(Miss::Unread);
+    }
+    match empty_end(bytes, start + 1, Container::Array) {
+        Some(end) => Ok(end),
+        None => read_items(text, start + 1, depth - 1, visitor),
+    }
+}
+
+/// The integers that were taken.
+#[derive(Drop)]
+struct Integers {
+    values: Vec<i128>,
+}
+
+impl ItemVisitor for Integers {
+    ghost holds = { λ text depth first ds now. AreIntegers ds now.values.items };
+
+    fn visit(&mut self, text: &str, at: usize, _depth: usize) -> Result<usize, Miss> {
+        let Some(read) = read_integer(text.as_bytes(), at) else {
+            return Err(Miss::Unread);
+        };
+        match self.values.push(read.value) {
+            Ok(()) => Ok(read.end),
+            Err(_) => Err(Miss::NoMemory),
+        }
+    }
+}
+
+/// The integers of the array that stands here, or after spaces. At a depth of 0 no array is read.
+pub fn read_integers(
+    alloc: Global,
+    text: &str,
+    at: usize,
+    depth: usize,
+) -> Result<Placed<Vec<i128>>, Miss>
+    requires { at ≤ length text.now }
+    ensures ok { IfOk result (λ r. (ds : List Data) × SpellsAt depth (drop at text.now) (array (before ds no_items)) (drop r.end text.now)
+        × AreIntegers ds r.value.items) }
+    ensures within { IfOk result (λ r. r.end ≤ length text.now) }
+{
+    let mut integers = Integers {
+        values: Vec::new(alloc),
+    };
+    let end = read_array(text, at, depth, &mut integers)?;
+    Ok(Placed {
+        value: integers.values,
+        end,
+    })
+}
