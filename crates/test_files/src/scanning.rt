@@ -1,0 +1,151 @@
+//! JSON at places of its text: what stands there and where it ends, or nothing where it is at fault.
+
+use json_scan::{
+    Literal, Miss, find_member, pass_number, pass_value, read_integer, read_integers, read_literal,
+    read_text,
+};
+use std::test::Fail;
+
+/// Values, and where they end: numbers at the limits of a double, escapes, surrogates alone and in pairs, marks too many and too few.
+const VALUES: &[(&str, Option<usize>)] = &[
+    ("", None),
+    ("null", Some(4)),
+    (" true ,", Some(5)),
+    ("falsey", None),
+    ("-0", Some(2)),
+    ("01", None),
+    ("1.", None),
+    ("-1.5e+3]", Some(7)),
+    ("1e308", Some(5)),
+    ("1e309", None),
+    ("1234567890123456789012345678901234567890", Some(40)),
+    (r#""""#, Some(2)),
+    (r#""a\n\u00e9\ud83d\ude00" "#, Some(23)),
+    (r#""\ud83d""#, None),
+    (r#""\ude00""#, None),
+    (r#""\x""#, None),
+    ("\"a\nb\"", None),
+    (r#""a"#, None),
+    ("[ ]", Some(3)),
+    ("[1 , [true]]", Some(12)),
+    ("[1,]", None),
+    ("[1 2]", None),
+    ("{ }", Some(3)),
+    (r#"{"a":1,"\u0061":[2]}x"#, Some(20)),
+    (r#"{"a" 1}"#, None),
+    (r#"{"a":1,}"#, None),
+    ("{a:1}", None),
+];
+
+#[test]
+fn values_end_where_they_do(rt: HostRuntime) -> Result<(), Fail> {
+    for (text, end) in VALUES {
+        assert!(rt; pass_value(text.as_bytes(), 0, 2) == *end, "{text}");
+    }
+    Ok(())
+}
+
+#[test]
+fn values_nest_to_their_depth(rt: HostRuntime) -> Result<(), Fail> {
+    let mut text = "[".repeat(rt.alloc(), 127)?;
+    text.push_str("]".repeat(rt.alloc(), 127)?.as_str())?;
+    assert!(rt; pass_value(text.as_bytes(), 0, 127) == Some(254));
+    assert!(rt; pass_value(text.as_bytes(), 0, 126) == None);
+    Ok(())
+}
+
+/// Whole numbers, and what is none of them.
+const INTEGERS: &[(&str, Option<i128>)] = &[
+    ("0", Some(0)),
+    (" 12,", Some(12)),
+    ("-7]", Some(-7)),
+    ("18446744073709551615", Some(18446744073709551615)),
+    ("18446744073709551616", None),
+    ("-9223372036854775808", Some(-9223372036854775808)),
+    ("-9223372036854775809", None),
+    ("-0", None),
+    ("00", None),
+    ("1.0", None),
+    ("1e2", None),
+    ("1a", None),
+    ("true", None),
+];
+
+#[test]
+fn integers_are_read(rt: HostRuntime) -> Result<(), Fail> {
+    for (text, wanted) in INTEGERS {
+        let read = read_integer(text.as_bytes(), 0).map(|integer| integer.value);
+        assert!(rt; read == *wanted, "{text}");
+    }
+    assert!(rt; pass_number(b"1.5,", 0) == Some(3));
+    assert!(rt; pass_number(b"true", 0) == None);
+    Ok(())
+}
+
+#[test]
+fn literals_are_read(rt: HostRuntime) -> Result<(), Fail> {
+    let cases = [
+        ("null]", Some(Literal::Null)),
+        (" true", Some(Literal::Bool(true))),
+        ("false ", Some(Literal::Bool(false))),
+        ("nul", None),
+        ("1", None),
+    ];
+    for (text, wanted) in &cases {
+        let read = read_literal(text.as_bytes(), 0).map(|literal| literal.value);
+        assert!(rt; read == *wanted, "{text}");
+    }
+    Ok(())
+}
+
+/// Strings, and what they stand for.
+const TEXTS: &[(&str, &str)] = &[
+    (r#""plain""#, "plain"),
+    (r#" "" "#, ""),
+    (r#""\"\\\/\b\f\n\r\t""#, "\"\\/\u{8}\u{c}\n\r\t"),
+    (r#""a\u00e9\ud83d\ude00b""#, "aé😀b"),
+];
+
+#[test]
+fn texts_are_read(rt: HostRuntime) -> Result<(), Fail> {
+    let mut buffer = Vec::new(rt.alloc());
+    for (text, wanted) in TEXTS {
+        let read = read_text(*text, 0, &mut buffer).ok().ok_or("not read")?;
+        assert!(rt; read.value == *wanted, "{text}");
+    }
+    assert!(rt; read_text(r#""\ud83dx""#, 0, &mut buffer).is_err());
+    assert!(rt; read_text("1", 0, &mut buffer).is_err());
+    Ok(())
+}
+
+#[test]
+fn arrays_of_integers_are_read(rt: HostRuntime) -> Result<(), Fail> {
+    let read = read_integers(rt.alloc(), "x [1,-2 , 3] ", 1, 1)
+        .ok()
+        .ok_or("not read")?;
+    assert!(rt; read.value.as_slice() == [1, -2, 3].as_slice());
+    assert!(rt; read.end == 12);
+    let none = read_integers(rt.alloc(), "[]", 0, 1)
+        .ok()
+        .ok_or("not read")?;
+    assert!(rt; none.value.is_empty());
+    for text in ["[1,true]", "[1,]", "[1", "1", "[1.5]"] {
+        let read = read_integers(rt.alloc(), text, 0, 1);
+        assert!(rt; matches!(read, Err(Miss::Unread)), "{text}");
+    }
+    Ok(())
+}
+
+#[test]
+fn the_last_member_of_a_name_is_found(rt: HostRuntime) -> Result<(), Fail> {
+    let text = r#"{"a":1, "b":[2],"a":3}"#;
+    let cases = [("a", Some(20)), ("b", Some(12)), ("c", None)];
+    for (name, wanted) in &cases {
+        let read = find_member(text, 0, 2, *name).ok().ok_or("not read")?;
+        assert!(rt; read.value == *wanted, "{name}");
+        assert!(rt; read.end == 22);
+    }
+    assert!(rt; find_member("[]", 0, 2, "a").is_err());
+    assert!(rt; find_member(text, 0, 1, "a").is_err());
+    Ok(())
+}
