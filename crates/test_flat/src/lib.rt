@@ -8,4 +8,6 @@ mod faults;
 #[cfg(test)]
 mod schemas;
 #[cfg(test)]
+mod tables;
+#[cfg(test)]
 mod testing;
