@@ -1,4 +1,5 @@
 pub mod PartsLemmas
+pub mod LentLemmas
 pub mod ListLemmas
 pub mod BuilderLemmas
 pub mod FromPartsLemmas

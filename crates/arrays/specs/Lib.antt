@@ -32,6 +32,7 @@ pub mod Dictionary
 pub mod Shown
 pub mod Packed
 pub mod Lengths
+pub mod Lent
 pub mod Nulls
 pub mod Slots
 pub mod Growing

@@ -7,6 +7,7 @@ ghost use Rattle.types.specs.Kind as kind;
 ghost use Rattle.types.specs.Kind.{int32, kind_of};
 ghost use Rattle.layout.specs.Reading.{fault, reading};
 ghost use Rattle.arrays.specs.Array.{words_with};
+ghost use Rattle.arrays.specs.Lent.{read_lent};
 ghost use Rattle.arrays.specs.Parts.{read_alone};
 ghost use Rattle.arrays.specs.Words.{read_texts};
 
@@ -19,6 +20,7 @@ mod values;
 
 use crate::array::encoding::Encoding;
 use crate::array::parts::Parts;
+use crate::lent::LentParts;
 use crate::view::{View, ViewType};
 use crate::words::Words;
 use colbits::NoMemory;
@@ -163,6 +165,17 @@ impl Array {
                 None,
                 parts.length,
             ),
+        }
+    }
+
+    /// The parts of the array, as Arrow lays them out. Nothing is copied.
+    pub fn parts(&self) -> LentParts<'_>
+        ensures lawful { (read_lent self.now.kind result).fault ≡ None }
+        ensures shows { (read_lent self.now.kind result).seen ≡ self.now }
+    {
+        match &self.encoding {
+            Some(encoding) => LentParts::of(&self.parts, Some(&encoding.words)),
+            None => LentParts::of(&self.parts, None),
         }
     }
 

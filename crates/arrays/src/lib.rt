@@ -17,6 +17,7 @@ pub mod array;
 pub mod batch;
 pub mod builder;
 pub mod file;
+pub mod lent;
 pub mod offset_slots;
 pub mod validity;
 pub mod view;
@@ -32,6 +33,7 @@ pub use builder::texts::TextBuilder;
 pub use builder::validity::ValidityBuilder;
 pub use file::File;
 pub use layout::{LayoutFault, Offsets, RawArray};
+pub use lent::LentParts;
 pub use offset_slots::OffsetSlots;
 pub use types::{
     DataType, Field, INT32, IntType, Integer, MOST_SLOTS, OffsetWidth, Packed, Schema, SchemaFault,

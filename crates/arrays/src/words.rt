@@ -3,10 +3,12 @@ ghost use Rattle.std.specs.Option.{ForSome};
 ghost use Rattle.std.specs.Arc.{arc_value};
 ghost use Rattle.types.specs.Kind as kind;
 ghost use Rattle.arrays.specs.Dictionary.{entries_shown, texts_alone};
+ghost use Rattle.arrays.specs.Lent.{read_lent};
 ghost use Rattle.layout.specs.Reading.{fault, reading};
 
 use crate::array::Array;
 use crate::array::parts::Parts;
+use crate::lent::LentParts;
 use crate::view::{View, ViewType};
 use colbits::NoMemory;
 use layout::RawArray;
@@ -52,6 +54,20 @@ impl Words {
             None,
             parts.length,
         )
+    }
+
+    /// The parts of the texts, as an array of their own. Nothing is copied.
+    pub fn parts(&self) -> LentParts<'_>
+        ensures lawful { (read_lent kind.utf8 result).fault ≡ None }
+        ensures shows { (read_lent kind.utf8 result).seen ≡ self.now }
+    {
+        let parts = &*self.parts;
+        LentParts {
+            length: parts.length,
+            buffers: &parts.buffers,
+            children: &[],
+            words: None,
+        }
     }
 
     /// An array of texts as a dictionary: its parts move, so that no memory is taken and nothing is copied.
