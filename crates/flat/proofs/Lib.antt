@@ -5,3 +5,4 @@ pub mod FieldLemmas
 pub mod RowLemmas
 pub mod ColumnLemmas
 pub mod UniqueLemmas
+pub mod LentLemmas

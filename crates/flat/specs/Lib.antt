@@ -5,3 +5,4 @@ pub mod Fields
 pub mod Parts
 pub mod Schema
 pub mod Batch
+pub mod Lent

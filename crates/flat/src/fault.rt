@@ -7,23 +7,23 @@ use thiserror::Error;
 #[derive(Clone, Copy, Debug, PartialEq, Eq, Error)]
 pub enum FlatFault {
     /// A name isn't UTF-8.
-    #[error("F1 NameNotUtf8 column={column}")]
+    #[error("X1 NameNotUtf8 column={column}")]
     NameNotUtf8 { column: usize },
     /// A format names no type that a table has.
-    #[error("F2 UnknownFormat column={column}")]
+    #[error("X2 UnknownFormat column={column}")]
     UnknownFormat { column: usize },
     /// A list hasn't exactly one child, another type has some, what has a dictionary is no integer, or a dictionary has other
     /// values than texts with offsets of 32 bits.
-    #[error("F3 ChildrenDiffer column={column}")]
+    #[error("X3 ChildrenDiffer column={column}")]
     ChildrenDiffer { column: usize },
     /// The node of a child or of a dictionary isn't there.
-    #[error("F4 MissingNode column={column}")]
+    #[error("X4 MissingNode column={column}")]
     MissingNode { column: usize },
     /// More than 8 lists in one another.
-    #[error("F5 TooDeep column={column}")]
+    #[error("X5 TooDeep column={column}")]
     TooDeep { column: usize },
     /// The buffers of a column are no Arrow array.
-    #[error("F6 Layout column={column}: {fault}")]
+    #[error("X6 Layout column={column}: {fault}")]
     Layout { column: usize, fault: LayoutFault },
     /// The fields are no schema.
     #[error("{fault}")]
@@ -32,7 +32,7 @@ pub enum FlatFault {
     #[error("{fault}")]
     Batch { fault: BatchFault },
     /// A growth was refused.
-    #[error("F7 NoMemory")]
+    #[error("X7 NoMemory")]
     NoMemory,
 }
 

@@ -11,11 +11,13 @@ mod content;
 pub mod fault;
 mod fields;
 pub mod laws;
+pub mod lent;
 pub mod node;
 mod parts;
 pub mod schema;
 
 pub use batch::batch_of;
 pub use fault::FlatFault;
+pub use lent::nodes_of;
 pub use node::Node;
 pub use schema::schema_of;
