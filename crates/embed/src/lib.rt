@@ -2,14 +2,15 @@
 //! lock or an end.
 //!
 //! Start with these: [`stats`], [`schema`], [`export`] and [`query`] give the text, [`validate`] only says whether the files can be loaded, and
-//! [`load_texts`] gives the table, for several answers.
+//! [`Loaded`] is a table that stays, for several answers, and for batches that are added to it.
 //! Each gives a [`RunFault`] where there is none, whose line is [`line_of`], with the file's number for its name.
 #![tactic(auto)]
 
-pub mod loading;
+pub mod loaded;
+mod loading;
 mod reading;
 mod text;
 
-pub use loading::load_texts;
+pub use loaded::Loaded;
 pub use reports::{ColumnFault, FileFault, RunFault};
 pub use text::{export, line_of, query, schema, stats, validate};

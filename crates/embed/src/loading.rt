@@ -2,36 +2,21 @@
 ghost use Rattle.std.specs.Prelude.{◌≡◌, ◌≢◌, ◌⊎◌, ◌++◌, IfErr, IfOk, List, OnOk, map};
 ghost use Rattle.std.specs.Arc.{arc_value};
 ghost use Rattle.std.specs.List.{AllByRecursion};
-ghost use Rattle.embed.specs.Loaded.{HasAdded, Holds, all_batches};
-ghost use Rattle.embed.specs.Refused.{Stops, StopsIn, StopsLoading};
+ghost use Rattle.embed.specs.Loaded.{HasAdded, all_batches};
+ghost use Rattle.embed.specs.Refused.{StopsIn, StopsLoading};
 ghost use Rattle.json_read.specs.JsonFile.{AreUnder, file_of};
 ghost use Rattle.reports.specs.FileBatches.{FileBatch, batch_of, table_fields};
 ghost use Rattle.table.specs.Stored.{stored_fields};
 
-use crate::reading::read_files;
 use arrays::{File, RecordBatch, Schema};
 use colbits::NoMemory;
 use reports::{FileFault, RunFault};
 use std::alloc::Global;
 use std::sync::Arc;
-use table::{Refusal, TableState, Version};
-
-/// The table of the files of these texts, as it is once all are loaded.
-pub fn load_texts(alloc: Global, texts: &[&[u8]]) -> Result<Arc<Version>, RunFault>
-    ensures ok { IfOk result (λ v. Holds (map (λ t. t.now) texts.now) (arc_value v).fields (arc_value v).history) }
-    ensures err { IfErr result (Stops (map (λ t. t.now) texts.now)) }
-{
-    match read_files(alloc, texts) {
-        Ok(files) => match load_files(alloc, &files) {
-            Ok(table) => Ok(table.version()?),
-            Err(fault) => Err(fault),
-        },
-        Err(fault) => Err(fault),
-    }
-}
+use table::{Refusal, TableState};
 
 /// A table with all batches of the files.
-fn load_files(alloc: Global, files: &[File]) -> Result<TableState, RunFault>
+pub(crate) fn load_files(alloc: Global, files: &[File]) -> Result<TableState, RunFault>
     requires { AllByRecursion (λ f. AreUnder f.fields f.batches) files.now }
     ensures fields { IfOk result (λ t. t.fields ≡ table_fields (map file_of files.now)) }
     ensures loaded { IfOk result (λ t. HasAdded (all_batches (map file_of files.now)) t.fields t.history) }

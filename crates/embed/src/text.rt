@@ -3,9 +3,9 @@ ghost use Rattle.std.specs.Prelude.{◌≡◌, IfErr, IfOk, OnOk, map, string_by
 ghost use Rattle.embed.specs.Output.{AreLoadable, IsAnswered, IsExport, IsSchema, IsStats, StopsQuery, fault_line};
 ghost use Rattle.embed.specs.Refused.{Stops};
 
-use crate::loading::load_texts;
+use crate::loaded::Loaded;
 use colbits::NoMemory;
-use reports::{RunFault, export_text, groups_text, read_query_text, schema_text, stats_text};
+use reports::{RunFault, read_query_text};
 use std::alloc::Global;
 
 /// What `stats` prints of the files of these texts: how many rows they have, and the statistics of each column.
@@ -13,8 +13,8 @@ pub fn stats(alloc: Global, texts: &[&[u8]]) -> Result<String, RunFault>
     ensures ok { IfOk result (λ text. IsStats (map (λ t. t.now) texts.now) (string_bytes text)) }
     ensures err { IfErr result (Stops (map (λ t. t.now) texts.now)) }
 {
-    match load_texts(alloc, texts) {
-        Ok(version) => Ok(stats_text(alloc, 1, &version)?),
+    match Loaded::open(alloc, texts) {
+        Ok(table) => table.stats(alloc, 1),
         Err(fault) => Err(fault),
     }
 }
@@ -24,8 +24,8 @@ pub fn schema(alloc: Global, texts: &[&[u8]]) -> Result<String, RunFault>
     ensures ok { IfOk result (λ text. IsSchema (map (λ t. t.now) texts.now) (string_bytes text)) }
     ensures err { IfErr result (Stops (map (λ t. t.now) texts.now)) }
 {
-    match load_texts(alloc, texts) {
-        Ok(version) => Ok(schema_text(alloc, &version)?),
+    match Loaded::open(alloc, texts) {
+        Ok(table) => table.schema(alloc),
         Err(fault) => Err(fault),
     }
 }
@@ -35,8 +35,8 @@ pub fn export(alloc: Global, texts: &[&[u8]]) -> Result<String, RunFault>
     ensures ok { IfOk result (λ text. IsExport (map (λ t. t.now) texts.now) (string_bytes text)) }
     ensures err { IfErr result (Stops (map (λ t. t.now) texts.now)) }
 {
-    match load_texts(alloc, texts) {
-        Ok(version) => Ok(export_text(alloc, &version)?),
+    match Loaded::open(alloc, texts) {
+        Ok(table) => table.export(alloc),
         Err(fault) => Err(fault),
     }
 }
@@ -47,8 +47,8 @@ pub fn query(alloc: Global, query_text: &[u8], texts: &[&[u8]]) -> Result<String
     ensures err { IfErr result (StopsQuery query_text.now (map (λ t. t.now) texts.now)) }
 {
     match read_query_text(alloc, query_text) {
-        Ok(read) => match load_texts(alloc, texts) {
-            Ok(version) => groups_text(alloc, &read, &version),
+        Ok(read) => match Loaded::open(alloc, texts) {
+            Ok(table) => table.groups(alloc, &read),
             Err(fault) => Err(fault),
         },
         Err(fault) => Err(fault),
@@ -60,7 +60,7 @@ pub fn validate(alloc: Global, texts: &[&[u8]]) -> Result<(), RunFault>
     ensures ok { OnOk result (AreLoadable (map (λ t. t.now) texts.now)) }
     ensures err { IfErr result (Stops (map (λ t. t.now) texts.now)) }
 {
-    match load_texts(alloc, texts) {
+    match Loaded::open(alloc, texts) {
         Ok(_) => Ok(()),
         Err(fault) => Err(fault),
     }

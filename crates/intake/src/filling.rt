@@ -1,10 +1,11 @@
 //! Tables of nodes, and their batches.
 
-ghost use Rattle.std.specs.Prelude.{◌≡◌, ◌⊎◌, IfErr, IfOk, OnErr, OnOk, length};
-ghost use Rattle.flat.specs.Schema.{StopsFields, StopsSchema};
-ghost use Rattle.intake.specs.Filling.{IsAppended, IsEmptyOf, StopsAppend};
+ghost use Rattle.std.specs.Prelude.{◌≡◌, IfErr, IfOk, OnErr, OnOk, length};
+ghost use Rattle.arrays.specs.Shape.{field_of};
+ghost use Rattle.intake.specs.Filling.{IsAppended, IsEmptyOf, IsOnly, IsWidened, StopsAppend, StopsNaming, StopsWidening};
 
 use crate::fault::IntakeFault;
+use arrays::Field;
 use colbits::NoMemory;
 use flat::{FlatFault, Node, batch_of, schema_of};
 use std::alloc::Global;
@@ -16,7 +17,7 @@ use table::TableState;
 /// As those of [`schema_of`](flat::schema_of).
 pub fn table_of(alloc: Global, nodes: &[Node<'_>]) -> Result<TableState, FlatFault>
     ensures ok { IfOk result (λ t. IsEmptyOf nodes.now t) }
-    ensures err { IfErr result (λ e. StopsFields nodes.now e ⊎ (StopsSchema nodes.now e ⊎ (e ≡ FlatFault.NoMemory))) }
+    ensures err { IfErr result (StopsNaming nodes.now) }
 {
     let schema = schema_of(alloc, nodes)?;
     match TableState::new(alloc, schema) {
@@ -46,6 +47,50 @@ pub fn append(
         Ok(batch) => match table.admit(worker, &batch) {
             Ok(number) => Ok(number),
             Err(refusal) => Err(IntakeFault::Refused { refusal }),
+        },
+        Err(fault) => Err(IntakeFault::Flat { fault }),
+    }
+}
+
+/// Adds a column of the field that nodes name behind the others: the rows that are there show null in it. Lengths, null counts and
+/// buffers aren't looked at. After a refusal the table is as it was.
+///
+/// # Errors
+/// `Flat` as those of [`schema_of`](flat::schema_of), then `NotOneColumn`, then `Column` as those of [`TableState::add_column`].
+pub fn add_column(
+    alloc: Global,
+    table: &mut TableState,
+    nodes: &[Node<'_>],
+) -> Result<(), IntakeFault>
+    ensures added { OnOk result (IsWidened nodes.now table.old table.new) }
+    ensures err { IfErr result (StopsWidening nodes.now) }
+    ensures kept { OnErr result (table.new ≡ table.old) }
+{
+    match only_field(alloc, nodes) {
+        Ok(field) => match table.add_column(field) {
+            Ok(()) => Ok(()),
+            Err(fault) => Err(IntakeFault::Column { fault }),
+        },
+        Err(fault) => Err(fault),
+    }
+}
+
+/// The field of the one column that nodes are.
+fn only_field(alloc: Global, nodes: &[Node<'_>]) -> Result<Field, IntakeFault>
+    ensures ok { IfOk result (λ f. IsOnly nodes.now (field_of f)) }
+    ensures err { IfErr result (StopsWidening nodes.now) }
+{
+    match schema_of(alloc, nodes) {
+        Ok(schema) => match schema.fields() {
+            [field] => match field.copy(alloc) {
+                Ok(field) => Ok(field),
+                Err(NoMemory) => Err(IntakeFault::Flat {
+                    fault: FlatFault::NoMemory,
+                }),
+            },
+            fields => Err(IntakeFault::NotOneColumn {
+                columns: fields.len(),
+            }),
         },
         Err(fault) => Err(IntakeFault::Flat { fault }),
     }

@@ -1,10 +1,40 @@
--- Over which files a handle is open.
-use Rattle.std.specs.Prelude.{ℕ, List, Option, None, Some}
-use Rattle.std.specs.Arc.{arc_value}
+-- The table that is open in a handle.
+use Rattle.std.specs.Prelude.{◌≡◌, ℕ, List, Option, None, Some}
+use Rattle.table.specs.Contents.{Contents}
+use Rattle.reports.specs.Exported.{exported}
+use Rattle.reports.specs.Shown.{shown}
+use Rattle.reports.specs.declared.run_fault.RunFault.{RunFault}
+use Rattle.embed.specs.Answer.{PrintsAnswer, StopsAnswer}
 use Rattle.embed.specs.Loaded.{Holds}
-use Rattle.selqumar.specs.declared.slot.LoadedTable.{LoadedTable}
+use Rattle.embed.specs.declared.loaded.Loaded.{Loaded}
 
--- The table that is open is the one of these texts' files.
-abbrev pub IsOpenOver : List (List ℕ) → Option LoadedTable → Type 0
-IsOpenOver texts None = ⊥
-IsOpenOver texts (Some table) = Holds texts (arc_value table.version).fields (arc_value table.version).history
+-- A table is open, of which this holds.
+abbrev pub OfOpen : (Contents → Type 0) → Option Loaded → Type 0
+OfOpen holds None = ⊥
+OfOpen holds (Some table) = holds table.state
+
+-- The table that was open has become the one that is.
+abbrev pub Became : (Contents → Contents → Type 0) → Option Loaded → Option Loaded → Type 0
+Became change None new = ⊥
+Became change (Some before) None = ⊥
+Became change (Some before) (Some after) = change before.state after.state
+
+-- It is the one of these texts' files.
+abbrev pub IsOpenOver : List (List ℕ) → Option Loaded → Type 0
+IsOpenOver texts table = OfOpen (λ t. Holds texts t.fields t.history) table
+
+-- The text is what `stats` prints of it, for so many workers.
+abbrev pub IsStatsOf : ℕ → Option Loaded → List ℕ → Type 0
+IsStatsOf workers table text = OfOpen (λ t. text ≡ shown workers t.fields t.history) table
+
+-- The text is what `export` prints of it.
+abbrev pub IsExportOf : Option Loaded → List ℕ → Type 0
+IsExportOf table text = OfOpen (λ t. text ≡ exported t.fields t.history) table
+
+-- The text is what `query` prints of it.
+abbrev pub IsAnswerOf : List ℕ → Option Loaded → List ℕ → Type 0
+IsAnswerOf query table text = OfOpen (λ t. PrintsAnswer query t.fields t.history text) table
+
+-- The fault of a query over it.
+abbrev pub StopsAnswerOf : List ℕ → Option Loaded → RunFault → Type 0
+StopsAnswerOf query table fault = OfOpen (λ t. StopsAnswer query t.fields t.history fault) table

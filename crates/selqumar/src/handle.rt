@@ -1,18 +1,12 @@
 //! A handle for C: a table that stays open between calls.
-ghost use Rattle.std.specs.Prelude.{◌≡◌, IfErr, IfOk, IfSome, List, None, Some, map, string_bytes, ℕ};
+ghost use Rattle.std.specs.Prelude.{◌≡◌, IfSome, None, Some};
 ghost use Rattle.std.specs.Option.{is_some};
-ghost use Rattle.embed.specs.Loaded.{Holds};
-ghost use Rattle.embed.specs.Output.{IsAnswered, IsExport, IsStats, StopsQuery};
-ghost use Rattle.embed.specs.Refused.{Stops};
-ghost use Rattle.selqumar.specs.Handle.{IsOpenOver};
 
 use crate::boxed::BoxPointer;
-use crate::slot::{LoadedTable, Slot};
-use embed::{RunFault, load_texts};
-use reports::{export_text, groups_text, read_query_text, stats_text};
+use crate::slot::Slot;
+use embed::Loaded;
 use std::alloc::Global;
 use std::mem::replace;
-use table::Version;
 
 /// A table that is open, or none. Its drop would forget the table, so that nothing but a closed one is ever dropped.
 #[repr(C)]
@@ -35,7 +29,7 @@ impl Handle {
     }
 
     /// The table that is open, if one is. The handle is closed.
-    pub(crate) fn take(&mut self, alloc: Global) -> Option<Box<LoadedTable>>
+    pub(crate) fn take(&mut self, alloc: Global) -> Option<Box<Loaded>>
         ensures closed { self.new.slot.table ≡ None }
         ensures some { IfSome result (λ table. self.old.slot.table ≡ Some table.value) }
         ensures none { result ≡ None → self.old.slot.table ≡ None }
@@ -49,7 +43,7 @@ impl Handle {
     }
 
     /// Opens this table.
-    pub(crate) fn put(&mut self, table: Box<LoadedTable>)
+    pub(crate) fn put(&mut self, table: Box<Loaded>)
         requires { self.old.slot.table ≡ None }
         ensures { self.new.slot.table ≡ Some table.value }
     {
@@ -58,46 +52,13 @@ impl Handle {
             slot: Slot::of(BoxPointer::of(table)),
         };
     }
-}
 
-/// A table of the files of these texts.
-pub(crate) fn load(alloc: Global, files: &[&[u8]]) -> Result<Box<LoadedTable>, RunFault>
-    ensures ok { IfOk result (λ table. IsOpenOver (map (λ f. f.now) files.now) (Some table.value)) }
-    ensures err { IfErr result (Stops (map (λ f. f.now) files.now)) }
-{
-    match load_texts(alloc, files) {
-        Ok(version) => match Box::new(alloc, LoadedTable { version }) {
-            Ok(table) => Ok(table),
-            Err(_) => Err(RunFault::NoMemory),
-        },
-        Err(fault) => Err(fault),
-    }
-}
-
-/// What `stats` prints of the files that a table was loaded from.
-pub(crate) fn stats_of(alloc: Global, version: &Version) -> Result<String, RunFault>
-    ensures ok { (texts : List (List ℕ)) → Holds texts version.now.fields version.now.history → IfOk result (λ text. IsStats texts (string_bytes text)) }
-    ensures err { IfErr result (λ fault. fault ≡ RunFault.NoMemory) }
-{
-    Ok(stats_text(alloc, 1, version)?)
-}
-
-/// What `export` prints of them.
-pub(crate) fn export_of(alloc: Global, version: &Version) -> Result<String, RunFault>
-    ensures ok { (texts : List (List ℕ)) → Holds texts version.now.fields version.now.history → IfOk result (λ text. IsExport texts (string_bytes text)) }
-    ensures err { IfErr result (λ fault. fault ≡ RunFault.NoMemory) }
-{
-    Ok(export_text(alloc, version)?)
-}
-
-/// What `query` prints of them.
-pub(crate) fn groups_of(alloc: Global, query: &[u8], version: &Version) -> Result<String, RunFault>
-    ensures ok { (texts : List (List ℕ)) → Holds texts version.now.fields version.now.history
-        → IfOk result (λ text. IsAnswered query.now texts (string_bytes text)) }
-    ensures err { (texts : List (List ℕ)) → Holds texts version.now.fields version.now.history → IfErr result (StopsQuery query.now texts) }
-{
-    match read_query_text(alloc, query) {
-        Ok(read) => groups_text(alloc, &read, version),
-        Err(fault) => Err(fault),
+    /// Opens this table in place of the one that is open.
+    pub(crate) fn open(&mut self, alloc: Global, table: Box<Loaded>)
+        ensures { self.new.slot.table ≡ Some table.value }
+    {
+        let before = self.take(alloc);
+        self.put(table);
+        drop(before);
     }
 }

@@ -14,6 +14,8 @@ ghost use Rattle.embed.specs.Refused.{Stops};
 ghost use Rattle.selqumar.specs.Status.{IsGiven, IsKept, IsReported, IsShort, IsValid};
 
 mod boxed;
+mod fault_line;
+mod filling;
 mod handle;
 mod opened;
 mod slot;

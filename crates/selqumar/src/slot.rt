@@ -1,27 +1,20 @@
 //! A table behind a pointer that C may keep.
 ghost use Rattle.std.specs.Prelude.{◌≡◌, ◌≢◌, None, Option, Some};
 ghost use Rattle.std.specs.Coded.{coded_option};
-ghost use Rattle.selqumar.specs.contracts.slot.LoadedTable.{the_row};
-ghost use Rattle.selqumar.specs.declared.slot.LoadedTable.{LoadedTable};
+ghost use Rattle.embed.specs.contracts.loaded.Loaded.{the_row};
+ghost use Rattle.embed.specs.declared.loaded.Loaded.{Loaded};
 
 use crate::boxed::BoxPointer;
+use embed::Loaded;
 use std::marker::Model;
 use std::ptr::null_mut;
-use std::sync::Arc;
-use table::Version;
 
-/// A table that files were loaded into.
-#[derive(Drop)]
-pub struct LoadedTable {
-    pub version: Arc<Version>,
-}
-
-/// A pointer to a loaded table, or to nothing. It has no type, since C knows none.
+/// A pointer to a table, or to nothing. It has no type, since C knows none.
 #[repr(C)]
 #[derive(Drop)]
 pub struct Slot {
     pointer: *mut u8,
-    pub ghost table: { Option LoadedTable } by { coded_option the_row.coded },
+    pub ghost table: { Option Loaded } by { coded_option the_row.coded },
 }
 
 impl Model for Slot {
@@ -41,7 +34,7 @@ impl Slot {
     }
 
     /// A slot of the table of this pointer.
-    pub(crate) fn of(pointer: BoxPointer<LoadedTable>) -> Slot
+    pub(crate) fn of(pointer: BoxPointer<Loaded>) -> Slot
         ensures { result.table ≡ Some pointer.value }
     {
         let BoxPointer { pointer } = pointer;
@@ -51,13 +44,13 @@ impl Slot {
     }
 
     /// The pointer of the table that is there.
-    pub(crate) fn into_pointer(self) -> BoxPointer<LoadedTable>
+    pub(crate) fn into_pointer(self) -> BoxPointer<Loaded>
         requires { self.table ≢ None }
         ensures { self.table ≡ Some result.value }
     {
         let Slot { pointer } = self;
         BoxPointer {
-            pointer: pointer as *mut LoadedTable,
+            pointer: pointer as *mut Loaded,
         }
     }
 }

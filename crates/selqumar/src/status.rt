@@ -7,16 +7,16 @@ use embed::{RunFault, line_of, validate};
 use std::alloc::Global;
 
 /// All of the text is in the buffer.
-pub(crate) const GIVEN: u32 = 0;
+const GIVEN: u32 = 0;
 
 /// The line of a fault is in the buffer.
-const FAULT: u32 = 1;
+pub(crate) const FAULT: u32 = 1;
 
 /// The buffer is too short.
 const SHORT: u32 = 2;
 
 /// A growth was refused.
-const NO_MEMORY: u32 = 3;
+pub(crate) const NO_MEMORY: u32 = 3;
 
 /// No table is open.
 pub(crate) const NOT_OPEN: u32 = 4;
@@ -45,7 +45,7 @@ pub(crate) fn put(
 }
 
 /// Puts a text at the front of a buffer, and answers the status, or that the buffer is too short.
-fn put_text(text: &[u8], status: u32, out: &mut [u8], needed: &mut usize) -> u32
+pub(crate) fn put_text(text: &[u8], status: u32, out: &mut [u8], needed: &mut usize) -> u32
     requires { status ≤ 1 }
     ensures status { result ≡ status ⊎ (result ≡ 2) }
     ensures written { result ≤ 1 → IsWritten text.now out.old out.new needed.new }
@@ -58,6 +58,15 @@ fn put_text(text: &[u8], status: u32, out: &mut [u8], needed: &mut usize) -> u32
     }
     out[..len].copy_from_slice(text);
     status
+}
+
+/// Puts nothing into a buffer, and answers the status.
+pub(crate) fn done(needed: &mut usize) -> u32
+    ensures status { result ≡ 0 }
+    ensures count { needed.new ≡ 0 }
+{
+    *needed = 0;
+    GIVEN
 }
 
 /// An empty text, where all files can be loaded into one table.

@@ -1,7 +1,7 @@
 //! Tests of what batches of nodes show.
 
 use crate::testing::{ALONE, CODES, LIST, Part, UNKNOWN, nodes};
-use flat::batch_of;
+use flat::{batch_of, nodes_of};
 use std::test::Fail;
 use test_samples::{Shown, shows};
 
@@ -219,6 +219,21 @@ fn a_column_shows_its_values(rt: HostRuntime) -> Result<(), Fail> {
             assert!(rt; batch.columns().len() == 1, "{parts:?}");
             let column = &batch.columns()[0];
             assert!(rt; shows(&column.view(), *shown), "{parts:?}");
+        }
+    }
+    Ok(())
+}
+
+#[test]
+fn what_is_lent_on_shows_the_same(rt: HostRuntime) -> Result<(), Fail> {
+    for columns in [VALUES, OVER_OTHERS, INDICES] {
+        for (rows, parts, shown) in columns {
+            let batch = batch_of(rt.alloc(), *rows, &nodes(rt.alloc(), parts)?)?;
+            let lent = nodes_of(rt.alloc(), &batch)?;
+            assert!(rt; lent.len() == parts.len(), "{parts:?}");
+            let again = batch_of(rt.alloc(), *rows, &lent)?;
+            assert!(rt; again.columns().len() == 1, "{parts:?}");
+            assert!(rt; shows(&again.columns()[0].view(), *shown), "{parts:?}");
         }
     }
     Ok(())

@@ -308,27 +308,27 @@ fn a_name_is_utf8(rt: HostRuntime) -> Result<(), Fail> {
 const LINES: &[(FlatFault, &str)] = &[
     (
         FlatFault::NameNotUtf8 { column: 3 },
-        "F1 NameNotUtf8 column=3",
+        "X1 NameNotUtf8 column=3",
     ),
     (
         FlatFault::UnknownFormat { column: 3 },
-        "F2 UnknownFormat column=3",
+        "X2 UnknownFormat column=3",
     ),
     (
         FlatFault::ChildrenDiffer { column: 3 },
-        "F3 ChildrenDiffer column=3",
+        "X3 ChildrenDiffer column=3",
     ),
     (
         FlatFault::MissingNode { column: 3 },
-        "F4 MissingNode column=3",
+        "X4 MissingNode column=3",
     ),
-    (FlatFault::TooDeep { column: 3 }, "F5 TooDeep column=3"),
+    (FlatFault::TooDeep { column: 3 }, "X5 TooDeep column=3"),
     (
         FlatFault::Layout {
             column: 1,
             fault: NotUtf8 { row: 7 },
         },
-        "F6 Layout column=1: V8 NotUtf8 row=7",
+        "X6 Layout column=1: V8 NotUtf8 row=7",
     ),
     (
         FlatFault::Batch {
@@ -336,7 +336,7 @@ const LINES: &[(FlatFault, &str)] = &[
         },
         "B3 ColumnCount",
     ),
-    (FlatFault::NoMemory, "F7 NoMemory"),
+    (FlatFault::NoMemory, "X7 NoMemory"),
 ];
 
 #[test]

@@ -6,6 +6,8 @@ mod batches;
 #[cfg(test)]
 mod faults;
 #[cfg(test)]
+mod loaded;
+#[cfg(test)]
 mod schemas;
 #[cfg(test)]
 mod tables;

@@ -19,8 +19,8 @@ use Rattle.std.specs.Prelude.{Option, None, Some}
 use Rattle.std.proofs.raw_atomic.Walks.{proved_at, leaves}
 use Rattle.selqumar.specs.Boxed.{is_boxed}
 use Rattle.selqumar.specs.Slot.{owned_at}
-use Rattle.selqumar.specs.declared.slot.LoadedTable.{LoadedTable}
-use Rattle.selqumar.specs.contracts.slot.LoadedTable as table
+use Rattle.embed.specs.declared.loaded.Loaded.{Loaded}
+use Rattle.embed.specs.contracts.loaded.Loaded as table
 use Rattle.selqumar.specs.contracts.slot.Slot as slot
 use Rattle.selqumar.proofs.Pointers.{one, one_good, pointer_good, one_out, one_in}
 use Rattle.selqumar.specs.contracts.slot.Slot.into_pointer as f
@@ -28,7 +28,7 @@ use Rattle.selqumar.proofs.slot.Slot.into_pointer.Statement.{statement}
 use Rattle.selqumar.proofs.slot.Slot.into_pointer.Code as code
 
 -- what is there, where something is
-some_of : (t : Option LoadedTable) → t ≢ None → (x : LoadedTable) × (t ≡ Some x)
+some_of : (t : Option Loaded) → t ≢ None → (x : Loaded) × (t ≡ Some x)
 some_of None there = absurd (there refl)
 some_of (Some x) there = (x, refl)
 
@@ -41,7 +41,7 @@ into_pointer_spec 𝓤 𝓛 𝓜 𝓡 wired =
     let Post : Val → SProp 𝓤 = (walk_of 𝓛 En hs c).post z in let Run : List Val → SProp 𝓤 = λ ws. WpFn 𝓤 H 𝓣.C 𝓣.Λ fn ws Post in
     qed 𝓛 ((raw (alive 𝓛 En.signature κs z.0.1) ⊛ ‵ (owns (types_at En.signature.params κs) z.0.3 z.0.4)) ∷ raw (fact 𝓤 (s.table ≢ None)) ∷ []) ∵
     move ! (1 ∷ []) $ heard ! (s.table ≢ None) (λ there. let x = some_of s.table there in split ! $ move ! (1 ∷ []) $ fsplit ! $ fsplit ! $ one_out ! p z.0.4.0 (λ is.
-    rewrite ! 0 (λ (t : Option LoadedTable). ‵ (owned_at p t)) x.1 refl $
+    rewrite ! 0 (λ (t : Option Loaded). ‵ (owned_at p t)) x.1 refl $
     suffices ! (Run (one p ∷ [])) (subst (λ (us : List Val). ent 𝓤 (Run (one p ∷ [])) (Run us)) (sym (λ i. is i ++ [])) (id⊢ 𝓤 (Run (one p ∷ [])))) $
     enter ! 𝓣.C 𝓣.Λ fn (one p ∷ []) Post $ alloc_all ! (λ l. pass_all ! refl (one_good p, tt) $
     sets ! (of_opd ! (get_in ! (fld ! refl (stop !)) (sub ! 0 refl (whole !)))) refl (pointer_good p) $ sets ! (of_opd ! (get ! refl)) refl (pointer_good p) $

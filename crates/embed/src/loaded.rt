@@ -1,0 +1,95 @@
+//! A table in one's own process.
+ghost use Rattle.std.specs.Prelude.{◌≡◌, IfErr, IfOk, map, string_bytes};
+ghost use Rattle.embed.specs.Answer.{PrintsAnswer, StopsAnswer};
+ghost use Rattle.embed.specs.Loaded.{Holds};
+ghost use Rattle.embed.specs.Refused.{Stops};
+ghost use Rattle.query.specs.Resolved.{named};
+ghost use Rattle.reports.specs.Exported.{exported};
+ghost use Rattle.reports.specs.Fields.{schema_lines};
+ghost use Rattle.reports.specs.Queried.{PrintsGroups};
+ghost use Rattle.reports.specs.QueryFaults.{IsUnanswered};
+ghost use Rattle.reports.specs.Shown.{shown};
+
+use crate::loading::load_files;
+use crate::reading::read_files;
+use query::QueryText;
+use reports::{RunFault, export_text, groups_text, read_query_text, schema_text, stats_text};
+use std::alloc::Global;
+use table::TableState;
+
+/// A table that answers as `arrowtab` does. What is added to its state, or changed there, is in the next answer.
+#[derive(Drop)]
+pub struct Loaded {
+    pub state: TableState,
+}
+
+impl Loaded {
+    /// The table of the files of these texts.
+    pub fn open(alloc: Global, texts: &[&[u8]]) -> Result<Loaded, RunFault>
+        ensures ok { IfOk result (λ t. Holds (map (λ t. t.now) texts.now) t.state.fields t.state.history) }
+        ensures err { IfErr result (Stops (map (λ t. t.now) texts.now)) }
+    {
+        match read_files(alloc, texts) {
+            Ok(files) => match load_files(alloc, &files) {
+                Ok(state) => Ok(Loaded::of(state)),
+                Err(fault) => Err(fault),
+            },
+            Err(fault) => Err(fault),
+        }
+    }
+
+    /// The table of this state.
+    pub fn of(state: TableState) -> Loaded
+        ensures { result.state ≡ state }
+    {
+        Loaded { state }
+    }
+
+    /// What `stats` prints of the table: how many rows it has, how many batches and rows each of so many workers added, and the
+    /// statistics of each column.
+    pub fn stats(&self, alloc: Global, workers: u32) -> Result<String, RunFault>
+        ensures ok { IfOk result (λ text. string_bytes text ≡ shown workers self.now.state.fields self.now.state.history) }
+        ensures err { IfErr result (λ fault. fault ≡ RunFault.NoMemory) }
+    {
+        let version = self.state.version()?;
+        Ok(stats_text(alloc, workers, &version)?)
+    }
+
+    /// What `schema` prints of it: its fields.
+    pub fn schema(&self, alloc: Global) -> Result<String, RunFault>
+        ensures ok { IfOk result (λ text. string_bytes text ≡ schema_lines self.now.state.fields) }
+        ensures err { IfErr result (λ fault. fault ≡ RunFault.NoMemory) }
+    {
+        let version = self.state.version()?;
+        Ok(schema_text(alloc, &version)?)
+    }
+
+    /// What `export` prints of it: one file with a batch for each that was added.
+    pub fn export(&self, alloc: Global) -> Result<String, RunFault>
+        ensures ok { IfOk result (λ text. string_bytes text ≡ exported self.now.state.fields self.now.state.history) }
+        ensures err { IfErr result (λ fault. fault ≡ RunFault.NoMemory) }
+    {
+        let version = self.state.version()?;
+        Ok(export_text(alloc, &version)?)
+    }
+
+    /// What `query` prints of it: a line for each group.
+    pub fn query(&self, alloc: Global, query_text: &[u8]) -> Result<String, RunFault>
+        ensures ok { IfOk result (λ text. PrintsAnswer query_text.now self.now.state.fields self.now.state.history (string_bytes text)) }
+        ensures err { IfErr result (StopsAnswer query_text.now self.now.state.fields self.now.state.history) }
+    {
+        match read_query_text(alloc, query_text) {
+            Ok(read) => self.groups(alloc, &read),
+            Err(fault) => Err(fault),
+        }
+    }
+
+    /// The same for a query that was read.
+    pub(crate) fn groups(&self, alloc: Global, query: &QueryText) -> Result<String, RunFault>
+        ensures ok { IfOk result (λ text. PrintsGroups (named query.now) self.now.state.fields self.now.state.history (string_bytes text)) }
+        ensures err { IfErr result (IsUnanswered (named query.now) self.now.state.fields self.now.state.history) }
+    {
+        let version = self.state.version()?;
+        groups_text(alloc, query, &version)
+    }
+}

@@ -1,0 +1,79 @@
+//! Faults of tables that are filled, as lines in the caller's buffer.
+ghost use Rattle.std.specs.Prelude.{◌≡◌, ◌≢◌, ◌≤◌, Err, IfOk, IsErr, IsOk, List, OnOk, [], false, string_bytes, ℕ};
+ghost use Rattle.ends.specs.Line.{message};
+ghost use Rattle.selqumar.specs.Status.{IsKept, IsWritten};
+ghost use Rattle.selqumar.specs.FaultLine.{IsTold, IsUntold, wants_memory};
+
+use crate::status::{FAULT, NO_MEMORY, done, put_text};
+use colbits::NoMemory;
+use flat::FlatFault;
+use intake::IntakeFault;
+use std::alloc::Global;
+use table::{AddFault, Refusal};
+
+/// Puts nothing into a buffer, or the line of a fault, and answers the status.
+pub(crate) fn put_outcome<T: Drop>(
+    alloc: Global,
+    outcome: Result<T, IntakeFault>,
+    out: &mut [u8],
+    needed: &mut usize,
+) -> u32
+    ensures status { result ≤ 3 }
+    ensures done { result ≡ 0 → IsOk outcome }
+    ensures given { result ≡ 0 → IsWritten [] out.old out.new needed.new }
+    ensures refused { result ≢ 0 → IsErr outcome }
+    ensures fault { result ≡ 1 → IsTold (λ fault. outcome ≡ Err fault) out.old out.new needed.new }
+    ensures short { result ≡ 2 → IsUntold (λ fault. outcome ≡ Err fault) out.old out.new needed.new }
+    ensures memory { result ≡ 3 → IsKept out.old out.new needed.old needed.new }
+{
+    match outcome {
+        Ok(_) => done(needed),
+        Err(fault) => put_fault(alloc, fault, out, needed),
+    }
+}
+
+/// Puts the line of a fault into a buffer, and answers the status.
+pub(crate) fn put_fault(
+    alloc: Global,
+    fault: IntakeFault,
+    out: &mut [u8],
+    needed: &mut usize,
+) -> u32
+    ensures status { result ≤ 3 }
+    ensures refused { result ≢ 0 }
+    ensures fault { result ≡ 1 → IsTold (λ f. f ≡ fault) out.old out.new needed.new }
+    ensures short { result ≡ 2 → IsUntold (λ f. f ≡ fault) out.old out.new needed.new }
+    ensures memory { result ≡ 3 → IsKept out.old out.new needed.old needed.new }
+{
+    match line_of(alloc, fault) {
+        Ok(line) => put_text(line.as_bytes(), FAULT, out, needed),
+        Err(NoMemory) => NO_MEMORY,
+    }
+}
+
+/// The line of a fault. That memory ran out has one that takes none.
+fn line_of(alloc: Global, fault: IntakeFault) -> Result<String, NoMemory>
+    ensures line { IfOk result (λ text. (what : List ℕ) × (string_bytes text ≡ message what)) }
+    ensures other { OnOk result (wants_memory fault ≡ false) }
+{
+    if wants_memory(fault) {
+        return Err(NoMemory);
+    }
+    let what = format!(in alloc; "{fault}")?;
+    let mut line = String::from_str(alloc, "arrowtab: ")?;
+    line.push_str(&what)?;
+    line.push_str("\n")?;
+    Ok(line)
+}
+
+/// Whether a fault is want of memory.
+fn wants_memory(fault: IntakeFault) -> bool
+    ensures { result ≡ wants_memory fault }
+{
+    match fault {
+        IntakeFault::Flat { fault } => matches!(fault, FlatFault::NoMemory),
+        IntakeFault::Refused { refusal } => matches!(refusal, Refusal::NoMemory),
+        IntakeFault::NotOneColumn { columns: _ } => false,
+        IntakeFault::Column { fault } => matches!(fault, AddFault::NoMemory),
+    }
+}

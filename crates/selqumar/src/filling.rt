@@ -1,0 +1,139 @@
+//! Calls that fill a table, and that change it.
+ghost use Rattle.std.specs.Prelude.{◌≡◌, ◌≢◌, ◌≤◌, None, []};
+ghost use Rattle.intake.specs.Filling.{IsAppended, IsEmptyOf, IsWidened, StopsAppend, StopsNew, StopsWidening};
+ghost use Rattle.selqumar.specs.Handle.{Became, OfOpen};
+ghost use Rattle.selqumar.specs.Status.{IsKept, IsWritten};
+ghost use Rattle.selqumar.specs.FaultLine.{IsTold, IsUntold};
+ghost use Rattle.table.specs.Compacted.{IsCompacted};
+
+use crate::fault_line::{put_fault, put_outcome};
+use crate::handle::Handle;
+use crate::status::{NO_MEMORY, NOT_OPEN, done};
+use colbits::NoMemory;
+use embed::Loaded;
+use flat::Node;
+use intake::{IntakeFault, add_column, append, table_of};
+use std::alloc::Global;
+
+/// Opens an empty table of the fields that nodes name, in place of the one that is open. Lengths, null counts and buffers aren't
+/// looked at.
+#[unsafe(no_mangle)]
+pub extern "C" fn selqumar_new(
+    alloc: Global,
+    nodes: &[Node<'_>],
+    handle: &mut Handle,
+    out: &mut [u8],
+    needed: &mut usize,
+) -> u32
+    ensures status { result ≤ 3 }
+    ensures opened { result ≡ 0 → OfOpen (IsEmptyOf nodes.now) handle.new.slot.table }
+    ensures given { result ≡ 0 → IsWritten [] out.old out.new needed.new }
+    ensures unchanged { result ≢ 0 → handle.new.slot.table ≡ handle.old.slot.table }
+    ensures fault { result ≡ 1 → IsTold (StopsNew nodes.now) out.old out.new needed.new }
+    ensures short { result ≡ 2 → IsUntold (StopsNew nodes.now) out.old out.new needed.new }
+    ensures memory { result ≡ 3 → IsKept out.old out.new needed.old needed.new }
+{
+    match table_of(alloc, nodes) {
+        Ok(state) => match Box::new(alloc, Loaded::of(state)) {
+            Ok(table) => {
+                handle.open(alloc, table);
+                done(needed)
+            }
+            Err(_) => NO_MEMORY,
+        },
+        Err(fault) => put_fault(alloc, IntakeFault::Flat { fault }, out, needed),
+    }
+}
+
+/// Adds the batch of so many rows that nodes are at the end of the table that is open, of a worker.
+#[unsafe(no_mangle)]
+pub extern "C" fn selqumar_append(
+    alloc: Global,
+    handle: &mut Handle,
+    worker: u32,
+    rows: u32,
+    nodes: &[Node<'_>],
+    out: &mut [u8],
+    needed: &mut usize,
+) -> u32
+    ensures status { result ≤ 4 }
+    ensures added { result ≡ 0 → Became (IsAppended worker rows nodes.now) handle.old.slot.table handle.new.slot.table }
+    ensures given { result ≡ 0 → IsWritten [] out.old out.new needed.new }
+    ensures unchanged { result ≢ 0 → handle.new.slot.table ≡ handle.old.slot.table }
+    ensures fault { result ≡ 1 → IsTold (λ fault. OfOpen (λ t. StopsAppend rows nodes.now t fault) handle.old.slot.table) out.old out.new needed.new }
+    ensures short { result ≡ 2 → IsUntold (λ fault. OfOpen (λ t. StopsAppend rows nodes.now t fault) handle.old.slot.table) out.old out.new needed.new }
+    ensures memory { result ≡ 3 → IsKept out.old out.new needed.old needed.new }
+    ensures closed { result ≡ 4 → (handle.old.slot.table ≡ None) × IsKept out.old out.new needed.old needed.new }
+    ensures none { handle.old.slot.table ≡ None → result ≡ 4 }
+{
+    match handle.take(alloc) {
+        Some(mut table) => {
+            let outcome = append(alloc, &mut table.state, worker, rows, nodes);
+            handle.put(table);
+            put_outcome(alloc, outcome, out, needed)
+        }
+        None => NOT_OPEN,
+    }
+}
+
+/// Adds a column of the field that nodes name behind the others of the table that is open: the rows that are there show null in it.
+/// Lengths, null counts and buffers aren't looked at.
+#[unsafe(no_mangle)]
+pub extern "C" fn selqumar_add_column(
+    alloc: Global,
+    handle: &mut Handle,
+    nodes: &[Node<'_>],
+    out: &mut [u8],
+    needed: &mut usize,
+) -> u32
+    ensures status { result ≤ 4 }
+    ensures added { result ≡ 0 → Became (IsWidened nodes.now) handle.old.slot.table handle.new.slot.table }
+    ensures given { result ≡ 0 → IsWritten [] out.old out.new needed.new }
+    ensures unchanged { result ≢ 0 → handle.new.slot.table ≡ handle.old.slot.table }
+    ensures fault { result ≡ 1 → IsTold (StopsWidening nodes.now) out.old out.new needed.new }
+    ensures short { result ≡ 2 → IsUntold (StopsWidening nodes.now) out.old out.new needed.new }
+    ensures memory { result ≡ 3 → IsKept out.old out.new needed.old needed.new }
+    ensures closed { result ≡ 4 → (handle.old.slot.table ≡ None) × IsKept out.old out.new needed.old needed.new }
+    ensures none { handle.old.slot.table ≡ None → result ≡ 4 }
+{
+    match handle.take(alloc) {
+        Some(mut table) => {
+            let outcome = add_column(alloc, &mut table.state, nodes);
+            handle.put(table);
+            put_outcome(alloc, outcome, out, needed)
+        }
+        None => NOT_OPEN,
+    }
+}
+
+/// Joins neighbouring batches of the table that is open, of so many rows at most together. Nothing is ever written.
+#[unsafe(no_mangle)]
+pub extern "C" fn selqumar_compact(
+    alloc: Global,
+    handle: &mut Handle,
+    max_rows: u32,
+    out: &mut [u8],
+    needed: &mut usize,
+) -> u32
+    ensures status { result ≤ 4 }
+    ensures joined { result ≡ 0 → Became (IsCompacted max_rows) handle.old.slot.table handle.new.slot.table }
+    ensures given { result ≡ 0 → IsWritten [] out.old out.new needed.new }
+    ensures unchanged { result ≢ 0 → handle.new.slot.table ≡ handle.old.slot.table }
+    ensures fault { result ≢ 1 }
+    ensures short { result ≢ 2 }
+    ensures memory { result ≡ 3 → IsKept out.old out.new needed.old needed.new }
+    ensures closed { result ≡ 4 → (handle.old.slot.table ≡ None) × IsKept out.old out.new needed.old needed.new }
+    ensures none { handle.old.slot.table ≡ None → result ≡ 4 }
+{
+    match handle.take(alloc) {
+        Some(mut table) => {
+            let outcome = table.state.compact(max_rows);
+            handle.put(table);
+            match outcome {
+                Ok(()) => done(needed),
+                Err(NoMemory) => NO_MEMORY,
+            }
+        }
+        None => NOT_OPEN,
+    }
+}
