@@ -1,7 +1,7 @@
 #!/usr/bin/env python3
 """Runs `arrowtab` on files from strangers, each run under a limit of memory and of processor time: small ones that would cost much
 where an array, a schema or a dictionary were copied each time that it is named or grows; some that state 2147483647 where a count or an offset
-stands, and hold nothing; files that are cut, that are none, or whose fault has a place; and ends that aren't files.
+stands, and hold nothing; files that are cut, that are none, or whose fault has a place; ends that aren't files; and first rows and groups that are large.
 
     tools/hostile_files.py PROGRAM
 
@@ -196,6 +196,13 @@ def lists_of(depth):
     return {"name": "m", "nullable": True, "type": {"name": "list"}, "children": [lists_of(depth - 1)]}
 
 
+def column_of_lists(depth):
+    """A column of one such list, of true."""
+    if depth == 0:
+        return {"name": "m", "count": 1, "DATA": [1]}
+    return {"name": "m", "count": 1, "OFFSET": [0, 1], "children": [column_of_lists(depth - 1)]}
+
+
 # What it is, a field of a column that is to be added, and what is reported.
 FIELDS = [
     ("a field of eight lists", json.dumps(lists_of(8)), STATS_OF_A + '"m" ' + "list<" * 8 + "bool" + ">" * 8 + " rows=3 nulls=3 sum=- least=- greatest=-\n"),
@@ -234,9 +241,9 @@ class Runs:
             file.write(data if isinstance(data, bytes) else data.encode())
         return path
 
-    def run(self, names, megabytes=60, seconds=4, **streams):
+    def run(self, names, megabytes=60, seconds=4, command=("stats",), **streams):
         streams = {"stdout": subprocess.PIPE, "stderr": subprocess.PIPE, "stdin": subprocess.DEVNULL, **streams}
-        return subprocess.run([self.program, "stats", *names], preexec_fn=lambda: limited(megabytes, seconds), timeout=60, **streams)
+        return subprocess.run([self.program, *command, *names], preexec_fn=lambda: limited(megabytes, seconds), timeout=60, **streams)
 
     def expect(self, name, run, path, wanted):
         """Says whether a run gave this output, or this fault of the file, or one of these."""
@@ -296,6 +303,21 @@ class Runs:
         self.tell("a field that is no text", None if (run.returncode, run.stdout, run.stderr) == (2, b"", b"arrowtab: bad arguments\n") else run.stderr)
 
 
+    def rows(self):
+        """First rows, and groups in each form."""
+        path = self.file('{"schema":{"fields":[]},"batches":[{"count":2147483647,"columns":[]}]}')
+        self.expect("three of as many rows as there may be", self.run([path], command=("head", "-n", "3")), path, "{}\n" * 3)
+        path = self.file(json.dumps({"schema": {"fields": [lists_of(8)]}, "batches": [{"count": 1, "columns": [column_of_lists(8)]}]}))
+        self.expect("a row of eight lists", self.run([path], command=("head", "-n", str(2 ** 64 - 1))), path, '{"m":' + "[" * 8 + "true" + "]" * 8 + "}\n")
+        column = {"name": "s", "count": 1, "DATA": ['"' * 100000]}
+        path = self.file(json.dumps({"schema": {"fields": [{"name": "s", "nullable": True, "type": {"name": "utf8"}}]}, "batches": [{"count": 1, "columns": [column]}]}))
+        query = ("--query", '{"by":["s"],"aggs":[{"agg":"rows"}]}')
+        self.expect("100,000 quotes as CSV", self.run([path], command=("query", *query, "--output", "csv")), path, 's,rows\r\n"' + '""' * 100000 + '",1\r\n')
+        self.expect("100,000 quotes as JSON", self.run([path], command=("query", *query, "--output", "json")), path, '["' + '\\"' * 100000 + '",1]\n')
+        path = self.file(A[:100])
+        self.expect("rows of a file that is cut", self.run([path], command=("head",)), path, "J1 NotJson")
+
+
 def outcome(path, wanted):
     """The status of a run, its output and the line of its fault."""
     if wanted.endswith("\n"):
@@ -319,6 +341,7 @@ def main():
         runs.cuts()
         runs.ends()
         runs.columns()
+        runs.rows()
     print(f"{runs.passed} passed, {runs.failed} failed")
     return 1 if runs.failed else 0
 

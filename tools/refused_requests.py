@@ -47,6 +47,10 @@ def answered():
     yield ["--version"]
     yield ["schema", example("lists.json")]
     yield ["validate", example("mixed.json"), example("mixed.json")]
+    for name in ("mixed.json", "lists.json"):
+        yield ["head", "-n", "3", example(name)]
+    for output in ("json", "csv"):
+        yield ["query", "--output", output, "--query", query, example("mixed.json")]
     for name in ("primitive.json", "mixed.json", "lists.json", "dictionaries.json", "large.json"):
         yield ["stats", example(name)]
         yield ["export", example(name)]
@@ -66,6 +70,7 @@ def refused(bad_file):
     overflow = '{"filter":{"op":"lt","args":[{"op":"add","args":[{"column":"people"},{"int":9223372036854775000}]},{"int":0}]},"by":["city"]}'
     yield ["stats"], "error: "
     yield ["stats", "--workers", "65", mixed], "error: "
+    yield ["query", "--output", "xml", "--query", "{}", mixed], "arrowtab: --output is lines, json or csv\n"
     for workers in (["--workers", "1"], ["--workers", "2"]):
         yield ["stats", *workers, none], f"arrowtab: {none}: cannot be read\n"
         yield ["stats", *workers, mixed, bad_file], f"arrowtab: {bad_file}: J5 BadNumber at /batches/0/columns/0/DATA/1\n"
@@ -73,6 +78,8 @@ def refused(bad_file):
         yield ["export", *workers, mixed, lists], f"arrowtab: {lists}: batch 0: A1 SchemaDiffers column=0\n"
         yield ["query", *workers, "--query", '{"by":[1]}', mixed], "arrowtab: query: J3 WrongMember at /by/0\n"
         yield ["query", *workers, "--query", '{"by":["town"]}', mixed], "arrowtab: query: Q1 NoColumn\n"
+        yield ["query", *workers, "--output", "csv", "--query", '{"by":["town"]}', mixed], "arrowtab: query: Q1 NoColumn\n"
+        yield ["head", *workers, mixed, bad_file], f"arrowtab: {bad_file}: J5 BadNumber at /batches/0/columns/0/DATA/1\n"
         yield ["query", *workers, "--query", overflow, mixed], "arrowtab: query: Q4 Overflow row=0\n"
         yield ["stats", *workers, "--add-column", '{"name":"m"}', mixed], "arrowtab: column: J2 MissingMember at /nullable\n"
         yield ["stats", *workers, "--add-column", field("m", nullable=False), mixed], "arrowtab: column: N1 NotNullable\n"

@@ -9,6 +9,7 @@ use Rattle.json_read.specs.JsonFile.{file_of}
 use Rattle.job.specs.declared.jobs.Command.{Command}
 use Rattle.job.specs.declared.jobs.Command.TheVariants as command
 use Rattle.job.specs.declared.jobs.Job.{Job}
+use Rattle.job.specs.declared.jobs.Output.{Output}
 use Rattle.query.specs.Resolved.{named}
 use Rattle.query.specs.declared.fault.QueryFault.{QueryFault}
 use Rattle.table.specs.History.{History}
@@ -59,8 +60,9 @@ module _ (workers : ℕ) (inputs : Inputs) (files : List File) (are_read : AreRe
   prints_command command.Stats wanted fields h text is prints = subst (λ w. PrintsWanted w workers fields h text) is prints
   prints_command command.Schema wanted fields h text is prints = subst (λ w. PrintsWanted w workers fields h text) is prints
   prints_command command.Validate wanted fields h text is prints = subst (λ w. PrintsWanted w workers fields h text) is prints
+  prints_command (command.Head count) wanted fields h text is prints = subst (λ w. PrintsWanted w workers fields h text) is prints
   prints_command command.Export wanted fields h text is prints = subst (λ w. PrintsWanted w workers fields h text) is prints
-  prints_command (command.Query bytes) wanted fields h text is prints = (named is.0, is.2, subst (λ w. PrintsWanted w workers fields h text) is.1 prints)
+  prints_command (command.Query bytes output) wanted fields h text is prints = (named is.0, is.2, subst (λ w. PrintsWanted w workers fields h text) is.1 prints)
 
   answers_shown : (job : Job) (request : Request) (text : List ℕ) → IsRequest job request → job.workers ≡ workers → Shows request.wanted workers files (option_map field_of request.column) text
       → Answers job inputs text
@@ -89,8 +91,9 @@ module _ (workers : ℕ) (inputs : Inputs) (files : List File) (are_read : AreRe
   refuses_command command.Stats wanted fields h fault is refuses = subst (λ w. RefusesWanted w fields h fault) is refuses
   refuses_command command.Schema wanted fields h fault is refuses = subst (λ w. RefusesWanted w fields h fault) is refuses
   refuses_command command.Validate wanted fields h fault is refuses = subst (λ w. RefusesWanted w fields h fault) is refuses
+  refuses_command (command.Head count) wanted fields h fault is refuses = subst (λ w. RefusesWanted w fields h fault) is refuses
   refuses_command command.Export wanted fields h fault is refuses = subst (λ w. RefusesWanted w fields h fault) is refuses
-  refuses_command (command.Query bytes) wanted fields h fault is refuses = (named is.0, is.2, subst (λ w. RefusesWanted w fields h fault) is.1 refuses)
+  refuses_command (command.Query bytes output) wanted fields h fault is refuses = (named is.0, is.2, subst (λ w. RefusesWanted w fields h fault) is.1 refuses)
 
   refuses_over : (job : Job) (request : Request) (fault : QueryFault) → IsRequest job request → job.workers ≡ workers
       → IsRefusedOver request.wanted workers files (option_map field_of request.column) fault → RefusesQuery job inputs fault
@@ -174,12 +177,12 @@ text_explains job inputs before after (OfColumn (column.Unread f)) why = why
 text_explains job inputs before after (OfColumn (column.Refused fault)) why = absurd why
 
 -- the fault of a query's text is one of the command that has the text
-pub text_unread : (text : String Global) (fault : RunFault) → IsUnreadQuery (string_bytes text) fault → IsUnread (command.Query text) fault
-text_unread text NoMemory why = tt
-text_unread text (OfFile file fault) why = absurd why
-text_unread text (QueryUnread f) why = why
-text_unread text (QueryRefused f) why = absurd why
-text_unread text (OfColumn f) why = absurd why
+pub text_unread : (text : String Global) (output : Output) (fault : RunFault) → IsUnreadQuery (string_bytes text) fault → IsUnread (command.Query text output) fault
+text_unread text output NoMemory why = tt
+text_unread text output (OfFile file fault) why = absurd why
+text_unread text output (QueryUnread f) why = why
+text_unread text output (QueryRefused f) why = absurd why
+text_unread text output (OfColumn f) why = absurd why
 
 pub query_unread : (job : Job) (fault : RunFault) → IsUnread job.command fault → ExplainsText job fault
 query_unread job NoMemory why = tt

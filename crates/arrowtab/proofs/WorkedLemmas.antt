@@ -138,12 +138,13 @@ unprinted_present : (wanted : Wanted) (workers : ℕ) (files : List File) (colum
 unprinted_present wanted.Stats workers files column v fault holds why = subst (StopsWanted wanted.Stats workers files column) (sym why) tt
 unprinted_present wanted.Schema workers files column v fault holds why = subst (StopsWanted wanted.Schema workers files column) (sym why) tt
 unprinted_present wanted.Nothing workers files column v fault holds why = subst (StopsWanted wanted.Nothing workers files column) (sym why) tt
+unprinted_present (wanted.Head count) workers files column v fault holds why = subst (StopsWanted (wanted.Head count) workers files column) (sym why) tt
 unprinted_present wanted.Export workers files column v fault holds why = subst (StopsWanted wanted.Export workers files column) (sym why) tt
-unprinted_present (wanted.Groups query) workers files column v NoMemory holds why = tt
-unprinted_present (wanted.Groups query) workers files column v (OfFile file fault) holds why = absurd why
-unprinted_present (wanted.Groups query) workers files column v (QueryUnread fault) holds why = absurd why
-unprinted_present (wanted.Groups query) workers files column v (QueryRefused fault) holds why = refused_present (wanted.Groups query) workers files column v holds fault why
-unprinted_present (wanted.Groups query) workers files column v (OfColumn fault) holds why = absurd why
+unprinted_present (wanted.Groups query output) workers files column v NoMemory holds why = tt
+unprinted_present (wanted.Groups query output) workers files column v (OfFile file fault) holds why = absurd why
+unprinted_present (wanted.Groups query output) workers files column v (QueryUnread fault) holds why = absurd why
+unprinted_present (wanted.Groups query output) workers files column v (QueryRefused fault) holds why = refused_present (wanted.Groups query output) workers files column v holds fault why
+unprinted_present (wanted.Groups query output) workers files column v (OfColumn fault) holds why = absurd why
 
 pub output_shows : {A : Type 0} (wanted : Wanted) (workers : ℕ) (files : List File) (column : Option FieldShape) (v : Contents) (r : Result A RunFault) (text : A → List ℕ)
     → Holds workers files column v → IfOk r (λ t. PrintsWanted wanted workers v.fields v.history (text t)) → IfOk r (λ t. Shows wanted workers files column (text t))

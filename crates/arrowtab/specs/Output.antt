@@ -1,29 +1,43 @@
 -- The output of each command.
 use Rattle.std.specs.Prelude.{◌≡◌, ℕ, List, [], string_bytes}
+use Rattle.answers.specs.Groups.{GroupShape}
 use Rattle.arrays.specs.Shape.{FieldShape}
 use Rattle.job.specs.declared.jobs.Command.{Command}
-use Rattle.job.specs.declared.jobs.Command.TheVariants.{Stats, Schema, Validate, Export, Query}
+use Rattle.job.specs.declared.jobs.Command.TheVariants.{Stats, Schema, Validate, Head, Export, Query}
+use Rattle.job.specs.declared.jobs.Output.{Output}
+use Rattle.job.specs.declared.jobs.Output.TheVariants.{Lines, Json, Csv}
 use Rattle.query.specs.QueryShape.{QueryShape}
 use Rattle.query.specs.declared.fault.QueryFault.{QueryFault}
 use Rattle.json_query.specs.QueryDocument.{ReadsQueryText}
 use Rattle.table.specs.History.{History}
 use Rattle.reports.specs.Exported.{exported}
 use Rattle.reports.specs.Fields.{schema_lines}
-use Rattle.reports.specs.Queried.{PrintsGroups, RefusesGroups}
+use Rattle.reports.specs.GroupLines.{group_arrays, group_lines, group_records}
+use Rattle.reports.specs.Queried.{RefusesGroups, ShowsGroups}
+use Rattle.reports.specs.Rows.{first_lines}
 use Rattle.reports.specs.Shown.{shown}
+
+-- What is shown of a query's groups, by the form of the output.
+abbrev pub shown_as : Output → QueryShape (List ℕ) → List GroupShape → List ℕ
+shown_as Lines query found = group_lines found
+shown_as Json query found = group_arrays found
+shown_as Csv query found = group_records query found
 
 -- The text is the output for so many workers, the stored fields and a history.
 abbrev pub Prints : Command → ℕ → List FieldShape → History → List ℕ → Type 0
 Prints Stats workers fields h text = text ≡ shown workers fields h
 Prints Schema workers fields h text = text ≡ schema_lines fields
 Prints Validate workers fields h text = text ≡ []
+Prints (Head count) workers fields h text = text ≡ first_lines count fields h
 Prints Export workers fields h text = text ≡ exported fields h
-Prints (Query bytes) workers fields h text = (query : QueryShape (List ℕ)) × ReadsQueryText (string_bytes bytes) query × PrintsGroups query fields h text
+Prints (Query bytes output) workers fields h text =
+    (query : QueryShape (List ℕ)) × ReadsQueryText (string_bytes bytes) query × ShowsGroups (shown_as output query) query fields h text
 
 -- There is none, since the command's query is refused.
 abbrev pub PrintsNothing : Command → List FieldShape → History → QueryFault → Type 0
 PrintsNothing Stats fields h fault = ⊥
 PrintsNothing Schema fields h fault = ⊥
 PrintsNothing Validate fields h fault = ⊥
+PrintsNothing (Head count) fields h fault = ⊥
 PrintsNothing Export fields h fault = ⊥
-PrintsNothing (Query bytes) fields h fault = (query : QueryShape (List ℕ)) × ReadsQueryText (string_bytes bytes) query × RefusesGroups query fields h fault
+PrintsNothing (Query bytes output) fields h fault = (query : QueryShape (List ℕ)) × ReadsQueryText (string_bytes bytes) query × RefusesGroups query fields h fault

@@ -8,7 +8,7 @@ use Rattle.arrays.specs.Shape.{FieldShape}
 use Rattle.table.specs.History.{History}
 use Rattle.job.specs.Jobs.{names_of}
 use Rattle.job.specs.declared.jobs.Command.{Command}
-use Rattle.job.specs.declared.jobs.Command.TheVariants.{Stats, Schema, Validate, Export, Query}
+use Rattle.job.specs.declared.jobs.Command.TheVariants.{Stats, Schema, Validate, Head, Export, Query}
 use Rattle.job.specs.declared.jobs.Job.{Job}
 use Rattle.query.specs.FaultText.{query_fault_text}
 use Rattle.query.specs.declared.fault.QueryFault.{QueryFault}
@@ -58,8 +58,9 @@ abbrev pub FailedQuery : Command → JsonFaultKind → List Step → Type 0
 FailedQuery Stats kind path = ⊥
 FailedQuery Schema kind path = ⊥
 FailedQuery Validate kind path = ⊥
+FailedQuery (Head count) kind path = ⊥
 FailedQuery Export kind path = ⊥
-FailedQuery (Query bytes) kind path = QueryBytesFault (string_bytes bytes) kind path
+FailedQuery (Query bytes output) kind path = QueryBytesFault (string_bytes bytes) kind path
 
 -- The files of these sources are loaded as for an answer, with the job's column behind all of them, and its query is refused
 -- over their table.

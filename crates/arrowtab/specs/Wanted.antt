@@ -13,24 +13,27 @@ use Rattle.table.specs.History.{History}
 use Rattle.arrowtab.specs.Column.{IsColumn, column_text}
 use Rattle.reports.specs.Exported.{exported}
 use Rattle.reports.specs.Fields.{schema_lines}
-use Rattle.reports.specs.Queried.{PrintsGroups, RefusesGroups}
+use Rattle.reports.specs.Queried.{RefusesGroups, ShowsGroups}
+use Rattle.arrowtab.specs.Output.{shown_as}
 use Rattle.arrowtab.specs.Run.{FailedQuery}
 use Rattle.reports.specs.QueryFaults.{IsUnanswered}
+use Rattle.reports.specs.Rows.{first_lines}
 use Rattle.reports.specs.Shown.{shown}
 use Rattle.reports.specs.declared.run_fault.ColumnFault.TheVariants as column
 use Rattle.reports.specs.declared.run_fault.RunFault.{RunFault}
 use Rattle.reports.specs.declared.run_fault.RunFault.TheVariants.{NoMemory, OfColumn, OfFile, QueryUnread, QueryRefused}
 use Rattle.arrowtab.specs.declared.wanted.Request.{Request}
 use Rattle.arrowtab.specs.declared.wanted.Wanted.{Wanted}
-use Rattle.arrowtab.specs.declared.wanted.Wanted.TheVariants.{Stats, Schema, Nothing, Export, Groups}
+use Rattle.arrowtab.specs.declared.wanted.Wanted.TheVariants.{Stats, Schema, Nothing, Head, Export, Groups}
 
 -- It is what the command asks for.
 abbrev pub IsWanted : Command → Wanted → Type 0
 IsWanted command.Stats wanted = wanted ≡ Stats
 IsWanted command.Schema wanted = wanted ≡ Schema
 IsWanted command.Validate wanted = wanted ≡ Nothing
+IsWanted (command.Head count) wanted = wanted ≡ Head count
 IsWanted command.Export wanted = wanted ≡ Export
-IsWanted (command.Query text) wanted = (query : QueryText) × (wanted ≡ Groups query) × ReadsQueryText (string_bytes text) (named query)
+IsWanted (command.Query text output) wanted = (query : QueryText) × (wanted ≡ Groups query output) × ReadsQueryText (string_bytes text) (named query)
 
 -- The fault of reading the command's query.
 abbrev pub IsUnread : Command → RunFault → Type 0
@@ -60,20 +63,23 @@ abbrev pub PrintsWanted : Wanted → ℕ → List FieldShape → History → Lis
 PrintsWanted Stats workers fields h text = text ≡ shown workers fields h
 PrintsWanted Schema workers fields h text = text ≡ schema_lines fields
 PrintsWanted Nothing workers fields h text = text ≡ []
+PrintsWanted (Head count) workers fields h text = text ≡ first_lines count fields h
 PrintsWanted Export workers fields h text = text ≡ exported fields h
-PrintsWanted (Groups query) workers fields h text = PrintsGroups (named query) fields h text
+PrintsWanted (Groups query output) workers fields h text = ShowsGroups (shown_as output (named query)) (named query) fields h text
 
 abbrev pub RefusesWanted : Wanted → List FieldShape → History → QueryFault → Type 0
 RefusesWanted Stats fields h fault = ⊥
 RefusesWanted Schema fields h fault = ⊥
 RefusesWanted Nothing fields h fault = ⊥
+RefusesWanted (Head count) fields h fault = ⊥
 RefusesWanted Export fields h fault = ⊥
-RefusesWanted (Groups query) fields h fault = RefusesGroups (named query) fields h fault
+RefusesWanted (Groups query output) fields h fault = RefusesGroups (named query) fields h fault
 
 -- The fault of printing what is wanted.
 abbrev pub IsUnprinted : Wanted → List FieldShape → History → RunFault → Type 0
 IsUnprinted Stats fields h fault = fault ≡ NoMemory
 IsUnprinted Schema fields h fault = fault ≡ NoMemory
 IsUnprinted Nothing fields h fault = fault ≡ NoMemory
+IsUnprinted (Head count) fields h fault = fault ≡ NoMemory
 IsUnprinted Export fields h fault = fault ≡ NoMemory
-IsUnprinted (Groups query) fields h fault = IsUnanswered (named query) fields h fault
+IsUnprinted (Groups query output) fields h fault = IsUnanswered (named query) fields h fault

@@ -13,7 +13,7 @@ use crate::wanted::{Request, Wanted, request_of};
 use arrays::File;
 use ends::Source;
 use job::Job;
-use reports::{RunFault, export_text, schema_text, stats_text};
+use reports::{RunFault, export_text, head_text, schema_text, stats_text};
 use std::alloc::Global;
 use std::sync::Wait;
 use std::thread::Threads;
@@ -87,7 +87,10 @@ fn output_of<T: Threads + Sync>(
         Wanted::Stats => Ok(stats_text(alloc, workers, version)?),
         Wanted::Schema => Ok(schema_text(alloc, version)?),
         Wanted::Nothing => Ok(String::new(alloc)),
+        Wanted::Head(count) => Ok(head_text(alloc, *count, version)?),
         Wanted::Export => Ok(export_text(alloc, version)?),
-        Wanted::Groups(query) => groups_text(threads, alloc, query, workers, version),
+        Wanted::Groups(query, output) => {
+            groups_text(threads, alloc, query, *output, workers, version)
+        }
     }
 }

@@ -1,14 +1,16 @@
 //! The output of `query`, over rows that are looked at in several pieces.
-ghost use Rattle.std.specs.Prelude.{◌≡◌, ◌≤◌, IfErr, IfOk, string_bytes, true};
-ghost use Rattle.query.specs.QueryShape.{query_shape};
-ghost use Rattle.query.specs.Fault.{fits};
+ghost use Rattle.std.specs.Prelude.{◌≡◌, ◌≤◌, IfErr, IfOk, map, string_bytes};
+ghost use Rattle.answers.specs.Answers.{shape_of};
+ghost use Rattle.arrowtab.specs.Output.{shown_as};
 ghost use Rattle.query.specs.Resolved.{named};
-ghost use Rattle.reports.specs.Queried.{PrintsGroups, PrintsPlaced};
-ghost use Rattle.reports.specs.QueryFaults.{IsUnanswered, IsUnplaced};
+ghost use Rattle.reports.specs.Queried.{ShowsGroups};
+ghost use Rattle.reports.specs.QueryFaults.{IsUnanswered};
 
-use answers::OpenGate;
-use query::{Query, QueryText};
-use reports::{RunFault, answer_text, placed_query};
+use answers::{Answer, OpenGate};
+use colbits::NoMemory;
+use job::Output;
+use query::QueryText;
+use reports::{RunFault, answer_of, group_arrays, group_lines, group_records, placed_query};
 use std::alloc::Global;
 use std::thread::Threads;
 use table::Version;
@@ -18,36 +20,38 @@ pub(crate) fn groups_text<T: Threads + Sync>(
     threads: &T,
     alloc: Global,
     query: &QueryText,
+    output: Output,
     pieces: u32,
     version: &Version,
 ) -> Result<String, RunFault>
     requires some { 1 ≤ pieces }
     requires most { pieces ≤ 64 }
-    ensures output { IfOk result (λ text. PrintsGroups (named query.now) version.now.fields version.now.history (string_bytes text)) }
+    ensures output { IfOk result (λ text. ShowsGroups (shown_as output (named query.now)) (named query.now)
+        version.now.fields version.now.history (string_bytes text)) }
     ensures err { IfErr result (IsUnanswered (named query.now) version.now.fields version.now.history) }
 {
     match placed_query(alloc, query, version) {
-        Ok(placed) => placed_text(threads, alloc, &placed, pieces, version),
+        Ok(placed) => match answer_of(version.answer(threads, alloc, &placed, pieces, &OpenGate)) {
+            Ok(answer) => Ok(answer_text(alloc, query, output, &answer)?),
+            Err(fault) => Err(fault),
+        },
         Err(fault) => Err(fault),
     }
 }
 
-/// The same for a query by positions.
-fn placed_text<T: Threads + Sync>(
-    threads: &T,
+/// The text of an answer to a query, in this form.
+fn answer_text(
     alloc: Global,
-    query: &Query,
-    pieces: u32,
-    version: &Version,
-) -> Result<String, RunFault>
-    requires fits { fits version.now.fields (query_shape query.now) ≡ true }
-    requires some { 1 ≤ pieces }
-    requires most { pieces ≤ 64 }
-    ensures output { IfOk result (λ text. PrintsPlaced (query_shape query.now) version.now.fields version.now.history (string_bytes text)) }
-    ensures err { IfErr result (IsUnplaced (query_shape query.now) version.now.fields version.now.history) }
+    query: &QueryText,
+    output: Output,
+    answer: &Answer,
+) -> Result<String, NoMemory>
+    ensures { IfOk result (λ text. string_bytes text
+        ≡ shown_as output (named query.now) (map shape_of answer.now.groups.items)) }
 {
-    answer_text(
-        alloc,
-        version.answer(threads, alloc, query, pieces, &OpenGate),
-    )
+    match output {
+        Output::Lines => group_lines(alloc, answer),
+        Output::Json => group_arrays(alloc, answer),
+        Output::Csv => group_records(alloc, query, answer),
+    }
 }

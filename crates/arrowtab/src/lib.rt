@@ -16,6 +16,6 @@ pub use ends::{
     ReadFailed, Sink, Source, SourceFault, WriteFailed, memory, read_whole, write_whole,
 };
 pub use invocation::run;
-pub use job::{Command, Job, JobFault, job, print_fault};
+pub use job::{Command, Job, JobFault, Output, job, print_fault};
 pub use json_base::{JsonFault, JsonFaultKind, Member, Path, Step, fault_text};
 pub use reports::refusal;

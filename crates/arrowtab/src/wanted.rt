@@ -6,7 +6,7 @@ ghost use Rattle.arrowtab.specs.Explained.{ExplainsText};
 ghost use Rattle.arrowtab.specs.Wanted.{IsColumnUnread, IsRequest, IsUnread, IsWanted};
 
 use arrays::Field;
-use job::{Command, Job};
+use job::{Command, Job, Output};
 use json_base::JsonFaultKind;
 use json_read::read_field;
 use query::QueryText;
@@ -19,8 +19,9 @@ pub(crate) enum Wanted {
     Stats,
     Schema,
     Nothing,
+    Head(u64),
     Export,
-    Groups(QueryText),
+    Groups(QueryText, Output),
 }
 
 /// A job whose texts are read.
@@ -76,9 +77,10 @@ pub(crate) fn wanted_of(alloc: Global, command: &Command) -> Result<Wanted, RunF
         Command::Stats => Ok(Wanted::Stats),
         Command::Schema => Ok(Wanted::Schema),
         Command::Validate => Ok(Wanted::Nothing),
+        Command::Head(count) => Ok(Wanted::Head(*count)),
         Command::Export => Ok(Wanted::Export),
-        Command::Query(text) => match read_query_text(alloc, text.as_str().as_bytes()) {
-            Ok(query) => Ok(Wanted::Groups(query)),
+        Command::Query { text, output } => match read_query_text(alloc, text.as_str().as_bytes()) {
+            Ok(query) => Ok(Wanted::Groups(query, *output)),
             Err(fault) => Err(fault),
         },
     }

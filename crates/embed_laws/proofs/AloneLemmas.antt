@@ -9,6 +9,8 @@ use Rattle.json_read.specs.JsonFile.{Reads}
 use Rattle.job.specs.declared.jobs.Command.{Command}
 use Rattle.job.specs.declared.jobs.Command.TheVariants as command
 use Rattle.job.specs.declared.jobs.Job.{Job}
+use Rattle.job.specs.declared.jobs.Output.{Output}
+use Rattle.job.specs.declared.jobs.Output.TheVariants as output
 use Rattle.table.specs.Cause.{difference}
 use Rattle.table.specs.History.{History}
 use Rattle.loads.specs.Plan.{planned}
@@ -96,7 +98,7 @@ module _ (job : Job) (texts : List (List ℕ)) (text : List ℕ) (one : job.work
   pub export_alone : job.command ≡ command.Export → IsExport texts text → Answers job (map (λ t. Some t) texts) text
   export_alone same is = answers_alone _ (λ fields h prints. subst (λ (c : Command). Prints c 1 fields h text) (sym same) prints) is
 
-  pub query_alone : (query : String Global) → job.command ≡ command.Query query → IsAnswered (string_bytes query) texts text → Answers job (map (λ t. Some t) texts) text
+  pub query_alone : (query : String Global) → job.command ≡ command.Query query output.Lines → IsAnswered (string_bytes query) texts text → Answers job (map (λ t. Some t) texts) text
   query_alone query same is = answers_alone _ (λ fields h prints. subst (λ (c : Command). Prints c 1 fields h text) (sym same) (is.0, is.1, prints)) is.2
 
 -- ---- what stands against it
@@ -150,8 +152,8 @@ module _ (job : Job) (texts : List (List ℕ)) (before after : List ℕ) (one : 
   stops_alone (QueryRefused f) is = absurd is
   stops_alone (OfColumn f) is = absurd is
 
-  refused_alone : (query : String Global) → column_text job ≡ None → job.command ≡ command.Query query → (fault : QueryFault) → IsQueryRefused (string_bytes query) texts fault → RefusesQuery job (map (λ t. Some t) texts) fault
-  refused_alone query bare same fault is =
+  refused_alone : (query : String Global) → column_text job ≡ None → (form : Output) → job.command ≡ command.Query query form → (fault : QueryFault) → IsQueryRefused (string_bytes query) texts fault → RefusesQuery job (map (λ t. Some t) texts) fault
+  refused_alone query bare form same fault is =
       let table = is.2 in
       let files = table.holds.files in
       let opened = table.holds.opened in
@@ -168,9 +170,9 @@ module _ (job : Job) (texts : List (List ℕ)) (before after : List ℕ) (one : 
             (subst (λ (c : Command). PrintsNothing c table.fields table.history fault) (sym same) (is.0, is.1, table.is));
       }
 
-  pub query_stops_alone : (query : String Global) → column_text job ≡ None → job.command ≡ command.Query query → (fault : RunFault) → StopsQuery (string_bytes query) texts fault → Explains job (map (λ t. Some t) texts) before after fault
-  query_stops_alone query bare same NoMemory is = tt
-  query_stops_alone query bare same (OfFile file fault) is = stops_alone (OfFile file fault) is
-  query_stops_alone query bare same (QueryUnread f) is = subst (λ (c : Command). FailedQuery c f.kind f.path) (sym same) is
-  query_stops_alone query bare same (QueryRefused f) is = refused_alone query bare same f is
-  query_stops_alone query bare same (OfColumn f) is = absurd is
+  pub query_stops_alone : (query : String Global) → column_text job ≡ None → (form : Output) → job.command ≡ command.Query query form → (fault : RunFault) → StopsQuery (string_bytes query) texts fault → Explains job (map (λ t. Some t) texts) before after fault
+  query_stops_alone query bare form same NoMemory is = tt
+  query_stops_alone query bare form same (OfFile file fault) is = stops_alone (OfFile file fault) is
+  query_stops_alone query bare form same (QueryUnread f) is = subst (λ (c : Command). FailedQuery c f.kind f.path) (sym same) is
+  query_stops_alone query bare form same (QueryRefused f) is = refused_alone query bare form same f is
+  query_stops_alone query bare form same (OfColumn f) is = absurd is

@@ -1,5 +1,5 @@
 -- What `clap` says of the words, at the program's command line.
-use Rattle.std.proofs.Common.{◌≡◌, ◌≢◌, ◌∙◌, ℕ, List, [], Bool, true, false, ap, refl, subst, sym, inl, inr}
+use Rattle.std.proofs.Common.{◌≡◌, ◌≢◌, ◌∙◌, ◌<◌, ◌^◌, ℕ, List, [], Bool, true, false, ap, arith, codes, refl, slice_index_or, subst, sym, inl, inr}
 use Rattle.std.proofs.lemmas.Option.{same_Some}
 use Rattle.std.specs.Prelude.{Option, None, Some, option_map}
 use Rattle.clap.proofs.OnLiterals.{clap_on_literals}
@@ -7,10 +7,12 @@ use Rattle.clap.specs.Words.{App, HasKind, HasMatchesOf, IsAmong, Row, Text, fau
 use Rattle.clap.specs.declared.error.Error.{Error}
 use Rattle.clap.specs.declared.parser.matches.ArgMatches.{ArgMatches}
 use Rattle.clap.specs.declared.error.kind.ErrorKind.TheVariants.{OutOfMemory}
-use Rattle.job.specs.Jobs.{Asks, Finds, FindsNone, HasNoWorkers, HasWorkers, IsFaultOf, IsNumber, IsRefusal, IsUnfound}
+use Rattle.job.specs.Jobs.{Asks, Finds, FindsNone, FindsUnknownOutput, HasNoWorkers, HasNumber, HasOwn, HasWorkers, IsFaultOf, IsNumber, IsRefusal, IsUnfound, word_of}
 use Rattle.job.specs.CommandLine.{arrowtab}
 use Rattle.job.specs.declared.fault.JobFault.{JobFault}
-use Rattle.job.specs.declared.fault.JobFault.TheVariants.{Line, NoMemory, Unread}
+use Rattle.job.specs.declared.fault.JobFault.TheVariants.{Line, NoMemory, Unread, UnknownOutput}
+use Rattle.job.specs.declared.jobs.Command.{Command}
+use Rattle.job.specs.declared.jobs.Command.TheVariants as command
 use Rattle.job.specs.declared.jobs.Job.{Job}
 
 -- `clap` has an exact function of the words for this command line
@@ -40,6 +42,7 @@ pub unfound_fault : (words : List Text) (found : Option (Text × List Row)) (fau
     → IsFaultOf words fault
 unfound_fault words found (Line error) taken same why = absurd why
 unfound_fault words found Unread taken same why = (taken, subst FindsNone same why)
+unfound_fault words found UnknownOutput taken same why = (taken, subst FindsUnknownOutput same why)
 unfound_fault words found NoMemory taken same why = tt
 
 is_not_true : (b : Bool) → b ≢ true → b ≡ false
@@ -69,3 +72,16 @@ pub none_numbered : (found : Option (Text × List Row)) (rows : List Row) → So
 none_numbered found rows is none job finds ready =
     let same : Some rows ≡ Some finds.rows = is ∙ ap (option_map (λ (p : Text × List Row). p.1)) finds.command in
     none job.workers (subst (λ r. HasWorkers r job.workers) (sym (same_Some rows finds.rows same)) finds.workers) ready.worker ready.few
+
+-- what a text begins with
+abbrev first : Text → ℕ
+first t = slice_index_or t 0 0
+
+-- no command of this word has a number of rows
+pub no_head : (rows : List Row) → ((count : ℕ) → HasNumber (codes "ROWS") rows count → count < 2 ^ 64 → ⊥) → (command : Command) → codes "head" ≡ word_of command → HasOwn rows command → ⊥
+no_head rows none command.Stats same own = absurd (omega (arith, ap first same))
+no_head rows none command.Schema same own = absurd (omega (arith, ap first same))
+no_head rows none command.Validate same own = absurd (omega (arith, ap first same))
+no_head rows none (command.Head count) same own = none count own.0 own.1
+no_head rows none command.Export same own = absurd (omega (arith, ap first same))
+no_head rows none (command.Query text output) same own = absurd (omega (arith, ap first same))

@@ -28,13 +28,32 @@ column = record (new_rule (codes "FIELD")) { long = Some (codes "add-column") }
 abbrev pub over_files : List ℕ → App
 over_files name = with_rule (with_rule (with_rule (new_app name) files) workers) column
 
+-- -n ROWS: 10 where it isn't given.
+abbrev pub rows : Rule
+rows = record (new_rule (codes "ROWS")) {
+  short = Some 110;
+  defaults = codes "10" ∷ [];
+  parser = Some (parser.Unsigned 0 18446744073709551615);
+}
+
+-- head -n ROWS --workers N --add-column FIELD FILE..
+abbrev pub with_head : App
+with_head = with_rule (over_files (codes "head")) rows
+
 -- --query QUERY
 abbrev pub query : Rule
 query = record (new_rule (codes "QUERY")) { long = Some (codes "query"); required = true }
 
--- query --query QUERY --workers N --add-column FIELD FILE..
+-- --output FORMAT: lines where it isn't given.
+abbrev pub output : Rule
+output = record (new_rule (codes "FORMAT")) {
+  long = Some (codes "output");
+  defaults = codes "lines" ∷ [];
+}
+
+-- query --query QUERY --output FORMAT --workers N --add-column FIELD FILE..
 abbrev pub with_query : App
-with_query = with_rule (over_files (codes "query")) query
+with_query = with_rule (with_rule (over_files (codes "query")) query) output
 
 -- The program alone, with its version. Without a word it shows its help, and one of its commands has to be there.
 abbrev pub alone : App
@@ -44,6 +63,8 @@ alone = on_top (λ top. record top { arg_required_else_help = true; subcommand_r
 abbrev pub with_command : App → List ℕ → App
 with_command app name = with_subcommand app (over_files name).top
 
--- stats FILE.., schema FILE.., validate FILE.., export FILE.., and query --query QUERY FILE.., each with --workers N and --add-column FIELD.
+-- stats FILE.., schema FILE.., validate FILE.., head -n ROWS FILE.., export FILE.., and query --query QUERY --output FORMAT FILE.., each with --workers N and --add-column FIELD.
 abbrev pub arrowtab : App
-arrowtab = with_subcommand (with_command (with_command (with_command (with_command alone (codes "stats")) (codes "schema")) (codes "validate")) (codes "export")) with_query.top
+arrowtab =
+    let looking = with_command (with_command (with_command alone (codes "stats")) (codes "schema")) (codes "validate") in
+    with_subcommand (with_command (with_subcommand looking with_head.top) (codes "export")) with_query.top

@@ -1,6 +1,6 @@
 -- What printing a fault of the command line comes to: the status, and what the output and the error sink took. A sink
 -- that doesn't tell its bytes is none here.
-use Rattle.std.specs.Prelude.{◌≡◌, ◌≢◌, ℕ, ◌<◌, ◌⊎◌, List, Option, codes}
+use Rattle.std.specs.Prelude.{◌≡◌, ℕ, ◌<◌, ◌⊎◌, List, Option, codes}
 use Rattle.std.specs.Io.KnownBytes.{Appends}
 use Rattle.clap.specs.Words.{kind_of}
 use Rattle.clap.specs.declared.error.Error.{Error}
@@ -9,7 +9,7 @@ use Rattle.clap.specs.declared.error.kind.ErrorKind.TheVariants.{DisplayHelp, Di
 use Rattle.ends.specs.Line.{TookLine, memory_line, message, output_line}
 use Rattle.ends.specs.Sink.{AppendsFront}
 use Rattle.job.specs.declared.fault.JobFault.{JobFault}
-use Rattle.job.specs.declared.fault.JobFault.TheVariants.{Line, Unread, NoMemory}
+use Rattle.job.specs.declared.fault.JobFault.TheVariants.{Line, Unread, UnknownOutput, NoMemory}
 
 -- What was asked for is help or the version.
 abbrev pub IsInquiry : ErrorKind → Type 0
@@ -17,6 +17,9 @@ IsInquiry kind = (kind ≡ DisplayHelp) ⊎ (kind ≡ DisplayVersion)
 
 abbrev pub arguments_line : List ℕ
 arguments_line = message (codes "bad arguments")
+
+abbrev pub unknown_output_line : List ℕ
+unknown_output_line = message (codes "--output is lines, json or csv")
 
 module _ (status out_failed out_failures : ℕ) (out_old out_new : Option (List ℕ)) (err_failed err_failures : ℕ) (err_old err_new : Option (List ℕ)) where
   -- A line on the error sink, and nothing on the output.
@@ -38,4 +41,5 @@ module _ (status out_failed out_failures : ℕ) (out_old out_new : Option (List 
   abbrev pub Printed : JobFault → Type 0
   Printed (Line error) = PrintedLine error
   Printed Unread = PrintedError 2 arguments_line
+  Printed UnknownOutput = PrintedError 2 unknown_output_line
   Printed NoMemory = PrintedError 1 memory_line

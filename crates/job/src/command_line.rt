@@ -1,7 +1,7 @@
 //! The commands of the program, as `clap` reads them.
 ghost use Rattle.std.specs.Prelude.{◌≡◌, IfOk, false};
 ghost use Rattle.clap.specs.Words.{app_of, rule_of};
-ghost use Rattle.job.specs.CommandLine.{alone, arrowtab, column, files, over_files, query, with_command, with_query, workers};
+ghost use Rattle.job.specs.CommandLine.{alone, arrowtab, column, files, output, over_files, query, rows, with_command, with_head, with_query, workers};
 ghost use Rattle.clap.specs.declared.builder.command.Command.TheViews.{out-Command};
 
 use clap::{Arg, Command, value_parser};
@@ -27,6 +27,12 @@ Output: none. The status says whether all files can be loaded into one table; if
 
 Example: arrowtab validate january.json february.json";
 
+const HEAD_HELP: &str = "\
+Output: of each row an object of JSON, whose members are the columns. Where fewer rows are there, all of
+them are printed.
+
+Example: arrowtab head -n 3 cities.json";
+
 const EXPORT_HELP: &str = "\
 Output: an object of JSON with the schema, the batches as they were loaded, and a dictionary for each
 column of texts.
@@ -47,7 +53,8 @@ Expressions E:
 Aggregates:
   {\"agg\":\"rows\"}  {\"agg\":AGG,\"column\":\"n\"}  AGG is count, sum, least or greatest
 
-Output: of each group, in order of first appearance, the items of its key and then its aggregates, as JSON.
+Output: of each group, in order of first appearance, the items of its key and then its aggregates, as JSON;
+with --output csv as CSV, behind a record of names.
 
 Examples:
   arrowtab query --query '{\"by\":[\"city\"],\"aggs\":[{\"agg\":\"rows\"}]}' cities.json
@@ -79,9 +86,11 @@ pub(crate) fn arrowtab<'a>(alloc: Global) -> Result<Command<'a>, AllocError>
         "Print nothing where all files make one table, else the first fault",
         VALIDATE_HELP,
     )?;
+    let head = with_head(alloc)?;
+    let with_rows = with_validate.subcommand(head)?;
     let with_export = with_command(
         alloc,
-        with_validate,
+        with_rows,
         "export",
         "Print the table as one file, each text once in its dictionary",
         EXPORT_HELP,
@@ -120,7 +129,22 @@ fn with_command<'a>(
     program.subcommand(command)
 }
 
-/// `query --query QUERY --workers N --add-column FIELD FILE..`
+/// `head -n ROWS --workers N --add-column FIELD FILE..`
+fn with_head<'a>(alloc: Global) -> Result<Command<'a>, AllocError>
+    ensures line { IfOk result (λ command. app_of command ≡ with_head) }
+    ensures local { IfOk result (λ command. (out-Command command).has_globals ≡ false) }
+{
+    let rows = rows(alloc);
+    let over = over_files(
+        alloc,
+        "head",
+        "Print the first rows, each as an object of JSON",
+        HEAD_HELP,
+    )?;
+    over.arg(rows)
+}
+
+/// `query --query QUERY --output FORMAT --workers N --add-column FIELD FILE..`
 fn with_query<'a>(alloc: Global) -> Result<Command<'a>, AllocError>
     ensures line { IfOk result (λ command. app_of command ≡ with_query) }
     ensures local { IfOk result (λ command. (out-Command command).has_globals ≡ false) }
@@ -132,7 +156,8 @@ fn with_query<'a>(alloc: Global) -> Result<Command<'a>, AllocError>
         "Print a line for each group of rows, as a query asks",
         QUERY_HELP,
     )?;
-    over.arg(query)
+    let asked = over.arg(query)?;
+    asked.arg(output(alloc))
 }
 
 /// `NAME --workers N --add-column FIELD FILE..`
@@ -176,6 +201,29 @@ fn query<'a>(alloc: Global) -> Arg<'a>
     let named = query.long("query");
     let described = named.help("The query, an object of JSON with the members filter, by and aggs");
     described.required(true)
+}
+
+/// `-n ROWS`
+fn rows<'a>(alloc: Global) -> Arg<'a>
+    ensures rule { rule_of result ≡ rows }
+    ensures local { result.global ≡ false }
+{
+    let rows = Arg::new(alloc, "ROWS");
+    let named = rows.short('n');
+    let described = named.help("How many rows are printed");
+    let defaulted = described.default_value("10");
+    defaulted.value_parser(value_parser!(u64))
+}
+
+/// `--output FORMAT`
+fn output<'a>(alloc: Global) -> Arg<'a>
+    ensures rule { rule_of result ≡ output }
+    ensures local { result.global ≡ false }
+{
+    let format = Arg::new(alloc, "FORMAT");
+    let named = format.long("output");
+    let described = named.help("How groups are printed: as lines, json or csv");
+    described.default_value("lines")
 }
 
 /// `FILE..`, at least one.

@@ -9,6 +9,9 @@ pub enum JobFault {
     /// `clap` took the words, but what it made of them is no job.
     #[error("bad arguments")]
     Unread,
+    /// What stands for `--output` is no form of it.
+    #[error("--output is lines, json or csv")]
+    UnknownOutput,
     /// There was no memory to read the words.
     #[error("out of memory")]
     NoMemory,

@@ -9,10 +9,23 @@ pub enum Command {
     Schema,
     /// Prints nothing where all files can be loaded.
     Validate,
+    /// Prints so many rows from the first on, fewer where there are fewer.
+    Head(u64),
     /// Prints the table as one file, with a batch for each that was added.
     Export,
-    /// Prints a line for each group of rows, as the query of this text asks.
-    Query(String),
+    /// Prints the groups of rows that the query of this text asks for, in this form.
+    Query { text: String, output: Output },
+}
+
+/// How the groups of a query are printed.
+#[derive(Clone, Copy, Debug, PartialEq, Eq)]
+pub enum Output {
+    /// A line for each, its items as JSON with one space between.
+    Lines,
+    /// An array of JSON for each.
+    Json,
+    /// A record of CSV for each, behind one of names.
+    Csv,
 }
 
 /// A command, and the files that it is about.

@@ -8,6 +8,6 @@ mod printing;
 mod reading;
 
 pub use fault::JobFault;
-pub use jobs::{Command, Job};
+pub use jobs::{Command, Job, Output};
 pub use printing::print_fault;
 pub use reading::job;

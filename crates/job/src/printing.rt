@@ -11,6 +11,9 @@ use std::alloc::Global;
 /// The line that is written where the words are no job.
 const ARGUMENTS_LINE: &[u8] = b"arrowtab: bad arguments\n";
 
+/// The line that is written where what stands for `--output` is no form of it.
+const OUTPUT_LINE: &[u8] = b"arrowtab: --output is lines, json or csv\n";
+
 /// Prints what a fault says, and answers the status to end with: 0 where that is help or the version and all of it was written, 1 where
 /// memory ran out or the output failed, 2 for a mistake in the words.
 pub fn print_fault<O: Sink, E: Sink>(
@@ -28,6 +31,10 @@ pub fn print_fault<O: Sink, E: Sink>(
         JobFault::Line(error) => print_line(alloc, error, out, err),
         JobFault::Unread => {
             write_line(ARGUMENTS_LINE, err);
+            2
+        }
+        JobFault::UnknownOutput => {
+            write_line(OUTPUT_LINE, err);
             2
         }
         JobFault::NoMemory => {

@@ -1,11 +1,11 @@
 //! The words of the command line as a job.
 ghost use Rattle.std.specs.Prelude.{◌≡◌, ◌≤◌, IfErr, IfOk, IfSome, None, codes, map, option_map};
 ghost use Rattle.clap.specs.Words.{all_of, first_of, found_of, rows_of, subcommand_rows_of};
-ghost use Rattle.job.specs.Jobs.{Asks, Finds, HasColumn, HasNoWorkers, HasQuery, HasWorkers, IsFaultOf, IsNoCommand, IsReady, IsUnfound, names_of, word_of};
+ghost use Rattle.job.specs.Jobs.{Asks, Finds, HasColumn, HasNoOutput, HasNoWorkers, HasOutput, HasOwn, HasWorkers, IsFaultOf, IsNoCommand, IsReady, IsUnfound, names_of, word_of};
 
 use crate::command_line::arrowtab;
 use crate::fault::JobFault;
-use crate::jobs::{Command, Job};
+use crate::jobs::{Command, Job, Output};
 use clap::ArgMatches;
 use clap::error::ErrorKind;
 use std::alloc::{AllocError, Global};
@@ -64,32 +64,68 @@ fn job_of(alloc: Global, matches: &ArgMatches<'_>) -> Result<Job, JobFault>
 /// The command of this word, with what `clap` found behind it.
 fn command_of(alloc: Global, word: &str, found: &ArgMatches<'_>) -> Result<Command, JobFault>
     ensures word { IfOk result (λ command. word.now ≡ word_of command) }
-    ensures query { IfOk result (HasQuery (rows_of (found_of found.now))) }
+    ensures own { IfOk result (HasOwn (rows_of (found_of found.now))) }
     ensures err { IfErr result (IsNoCommand word.now (rows_of (found_of found.now))) }
 {
     match word {
         "stats" => Ok(Command::Stats),
         "schema" => Ok(Command::Schema),
         "validate" => Ok(Command::Validate),
+        "head" => head_of(found),
         "export" => Ok(Command::Export),
         "query" => query_of(alloc, found),
         _ => Err(JobFault::Unread),
     }
 }
 
+/// The command that prints as many rows as stand for `-n`.
+fn head_of(found: &ArgMatches<'_>) -> Result<Command, JobFault>
+    ensures word { IfOk result (λ command. codes "head" ≡ word_of command) }
+    ensures own { IfOk result (HasOwn (rows_of (found_of found.now))) }
+    ensures err { IfErr result (IsNoCommand (codes "head") (rows_of (found_of found.now))) }
+{
+    let Some(rows) = found.get_one::<u64>("ROWS") else {
+        return Err(JobFault::Unread);
+    };
+    Ok(Command::Head(rows))
+}
+
 /// The command that asks the query which stands for `--query`.
 fn query_of(alloc: Global, found: &ArgMatches<'_>) -> Result<Command, JobFault>
     ensures word { IfOk result (λ command. codes "query" ≡ word_of command) }
-    ensures query { IfOk result (HasQuery (rows_of (found_of found.now))) }
+    ensures own { IfOk result (HasOwn (rows_of (found_of found.now))) }
     ensures err { IfErr result (IsNoCommand (codes "query") (rows_of (found_of found.now))) }
 {
     let Some(text) = text_of(found) else {
         return Err(JobFault::Unread);
     };
+    let Some(output) = output_of(found) else {
+        return Err(JobFault::UnknownOutput);
+    };
     match String::from_str(alloc, text) {
-        Ok(query) => Ok(Command::Query(query)),
+        Ok(text) => Ok(Command::Query { text, output }),
         Err(_) => Err(JobFault::NoMemory),
     }
+}
+
+/// The form that stands for `--output`, if it is one.
+fn output_of(found: &ArgMatches<'_>) -> Option<Output>
+    ensures word { IfSome result (HasOutput (rows_of (found_of found.now))) }
+    ensures none { result ≡ None → HasNoOutput (rows_of (found_of found.now)) }
+{
+    match format_of(found)? {
+        "lines" => Some(Output::Lines),
+        "json" => Some(Output::Json),
+        "csv" => Some(Output::Csv),
+        _ => None,
+    }
+}
+
+/// What stands for `--output`.
+fn format_of<'a>(found: &ArgMatches<'a>) -> Option<&'a str>
+    ensures { option_map (λ text. text.now) result ≡ first_of (codes "FORMAT") (rows_of (found_of found.now)) }
+{
+    found.get_str("FORMAT")
 }
 
 /// What stands for `--query`.

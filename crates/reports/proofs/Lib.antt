@@ -1,7 +1,8 @@
 -- What the proofs of this crate share, and those of the crates above.
 mod ReportLemmas
 mod ExportLemmas
-mod GroupLineLemmas
+mod JoinLemmas
+mod RowLemmas
 pub mod FileLemmas
 pub mod ParseLemmas
 pub mod QueryLemmas

@@ -23,7 +23,7 @@ module _ (query : QueryShape (List ℕ)) (placed : QueryShape ℕ) (fields : Lis
   prints_of (Ok t) text prints = record { placed = placed; resolves = resolves; prints = prints }
   prints_of (Err e) text prints = tt
 
-  unanswered : (e : RunFault) → IsUnplaced placed fields h e → IsUnanswered query fields h e
+  pub unanswered : (e : RunFault) → IsUnplaced placed fields h e → IsUnanswered query fields h e
   unanswered NoMemory is = tt
   unanswered (OfFile file e) is = is
   unanswered (QueryUnread e) is = is

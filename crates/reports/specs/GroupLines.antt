@@ -1,13 +1,59 @@
--- The output of `query`, line by line.
-use Rattle.std.specs.Prelude.{ℕ, List, ◌++◌, map}
+-- The output of `query`: the items of each group's key and then its aggregates, as a line, an array of JSON or a record of CSV.
+use Rattle.std.specs.Prelude.{ℕ, List, ◌++◌, codes, map}
 use Rattle.std.specs.List.{flat_map, join_with_byte}
 use Rattle.answers.specs.Groups.{GroupShape}
+use Rattle.arrays.specs.Item.{Item}
 use Rattle.ends.specs.Line.{line}
-use Rattle.reports.specs.Shown.{cell}
+use Rattle.query.specs.QueryShape.{QueryShape}
+use Rattle.query.specs.declared.expr.Agg.{Agg}
+use Rattle.query.specs.declared.expr.Agg.TheVariants.{Rows, Count, Sum, Least, Greatest}
+use Rattle.reports.specs.Csv.{csv_cell, csv_record, csv_text}
+use Rattle.reports.specs.Shown.{array_text, cell}
+use Rattle.reports.specs.declared.forms.Spelling.{Spelling}
+use Rattle.reports.specs.declared.forms.Spelling.TheVariants.{Json, Csv}
 
--- The items of a group's key, then its aggregates, with one space between.
+-- The items, spelled so, with a byte between each two.
+abbrev pub group_text : (Item → List ℕ) → ℕ → GroupShape → List ℕ
+group_text spell separator g = join_with_byte separator (map spell (g.keys ++ g.cells))
+
+-- A line, with one space between each two.
 abbrev pub group_line : GroupShape → List ℕ
-group_line g = line (join_with_byte 32 (map cell (g.keys ++ g.cells)))
+group_line g = line (group_text cell 32 g)
 
 abbrev pub group_lines : List GroupShape → List ℕ
 group_lines groups = flat_map group_line groups
+
+-- An array of JSON.
+abbrev pub group_array : GroupShape → List ℕ
+group_array g = line (array_text (map cell (g.keys ++ g.cells)))
+
+abbrev pub group_arrays : List GroupShape → List ℕ
+group_arrays groups = flat_map group_array groups
+
+-- The name of an aggregate, as sum(people).
+abbrev pub agg_name : Agg (List ℕ) → List ℕ
+agg_name Rows = codes "rows"
+agg_name (Count c) = codes "count(" ++ c ++ codes ")"
+agg_name (Sum c) = codes "sum(" ++ c ++ codes ")"
+agg_name (Least c) = codes "least(" ++ c ++ codes ")"
+agg_name (Greatest c) = codes "greatest(" ++ c ++ codes ")"
+
+-- The names of the keys, as they stand, and those of the aggregates.
+abbrev pub column_names : QueryShape (List ℕ) → List (List ℕ)
+column_names q = q.by ++ map agg_name q.aggs
+
+-- A record of names (RFC 4180, section 2, item 3), and one for each group.
+abbrev pub names_record : QueryShape (List ℕ) → List ℕ
+names_record q = csv_record (map csv_text (column_names q))
+
+abbrev pub group_record : GroupShape → List ℕ
+group_record g = csv_record (map csv_cell (g.keys ++ g.cells))
+
+abbrev pub group_records : QueryShape (List ℕ) → List GroupShape → List ℕ
+group_records q groups = names_record q ++ flat_map group_record groups
+
+-- ---- in the making
+
+abbrev pub spell : Spelling → Item → List ℕ
+spell Json = cell
+spell Csv = csv_cell

@@ -1,7 +1,9 @@
 -- The words of this crate's contracts.
 pub mod RefusalText
 pub mod Shown
+pub mod Csv
 pub mod GroupLines
+pub mod Rows
 pub mod Queried
 pub mod Exported
 pub mod Fields

@@ -9,17 +9,24 @@ use Rattle.query.specs.declared.fault.QueryFault.TheVariants.{Overflow}
 use Rattle.table.specs.History.{History, rows}
 use Rattle.reports.specs.GroupLines.{group_lines}
 
--- The text is the lines of the groups that a query by positions asks of the rows.
-pub record PrintsPlaced (placed : QueryShape ℕ) (fields : List FieldShape) (h : History) (text : List ℕ) : Type 0 where
+-- The text is what is shown of the groups that a query by positions asks of the rows.
+pub record ShowsPlaced (show : List GroupShape → List ℕ) (placed : QueryShape ℕ) (fields : List FieldShape) (h : History) (text : List ℕ) : Type 0 where
   pub found : List GroupShape
   pub asks : groups fields placed (rows h) ≡ Ok found
-  pub shows : text ≡ group_lines found
+  pub shows : text ≡ show found
 
 -- The same of a query by names, each of which is one field's.
-pub record PrintsGroups (query : QueryShape (List ℕ)) (fields : List FieldShape) (h : History) (text : List ℕ) : Type 0 where
+pub record ShowsGroups (show : List GroupShape → List ℕ) (query : QueryShape (List ℕ)) (fields : List FieldShape) (h : History) (text : List ℕ) : Type 0 where
   pub placed : QueryShape ℕ
   pub resolves : resolved fields query ≡ Ok placed
-  pub prints : PrintsPlaced placed fields h text
+  pub prints : ShowsPlaced show placed fields h text
+
+-- The same as lines.
+abbrev pub PrintsPlaced : QueryShape ℕ → List FieldShape → History → List ℕ → Type 0
+PrintsPlaced placed fields h text = ShowsPlaced group_lines placed fields h text
+
+abbrev pub PrintsGroups : QueryShape (List ℕ) → List FieldShape → History → List ℕ → Type 0
+PrintsGroups query fields h text = ShowsGroups group_lines query fields h text
 
 -- A fault of the query stands: under the fields, or at the least of the rows where its filter is bad.
 pub data RefusesGroups (query : QueryShape (List ℕ)) (fields : List FieldShape) (h : History) : QueryFault → Type 0 where

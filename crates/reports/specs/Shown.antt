@@ -1,6 +1,6 @@
 -- The output of `stats`, line by line.
-use Rattle.std.specs.Prelude.{ℕ, ℤ, List, [], ◌++◌, length, Bool, true, false, Option, Some, None, codes}
-use Rattle.std.specs.List.{enumerate_from, range_with_len, flat_map}
+use Rattle.std.specs.Prelude.{ℕ, ℤ, List, [], ◌∷◌, ◌++◌, length, Bool, true, false, Option, Some, None, codes}
+use Rattle.std.specs.List.{enumerate_from, range_with_len, flat_map, join_with_byte}
 use Rattle.std.specs.Fmt.{decimal, signed_decimal}
 use Rattle.json.specs.Print.{quoted}
 use Rattle.ends.specs.Line.{line}
@@ -8,7 +8,7 @@ use Rattle.types.specs.declared.int_type.Width.{Width}
 use Rattle.types.specs.declared.int_type.Width.TheVariants.{W8, W16, W32, W64}
 use Rattle.json_print.specs.SchemaData.{list_name, text_name}
 use Rattle.arrays.specs.Item as item
-use Rattle.arrays.specs.Item.{Item}
+use Rattle.arrays.specs.Item.{Item, Items}
 use Rattle.arrays.specs.Kind as kind
 use Rattle.arrays.specs.Kind.{Kind}
 use Rattle.arrays.specs.Shape.{FieldShape, kind_of_field, name_of}
@@ -47,13 +47,22 @@ abbrev pub truth_text : Bool → List ℕ
 truth_text true = codes "true"
 truth_text false = codes "false"
 
--- A value: a number in decimal, a text as a JSON string. Lists have none.
-abbrev pub cell : Item → List ℕ
-cell item.null = codes "null"
-cell (item.int z) = signed_decimal z
-cell (item.boolean b) = truth_text b
-cell (item.text t) = quoted t
-cell (item.list xs) = []
+-- Values as an array of JSON. (RFC 8259, section 5)
+abbrev pub array_text : List (List ℕ) → List ℕ
+array_text values = codes "[" ++ join_with_byte 44 values ++ codes "]"
+
+-- A value as JSON: a number in decimal, a text as a string, a list as an array. (RFC 8259, sections 3 to 7)
+abbrev mutual
+  pub cell : Item → List ℕ
+  cell item.null = codes "null"
+  cell (item.int z) = signed_decimal z
+  cell (item.boolean b) = truth_text b
+  cell (item.text t) = quoted t
+  cell (item.list xs) = array_text (cells xs)
+
+  pub cells : Items → List (List ℕ)
+  cells item.none = []
+  cells (item.more x xs) = cell x ∷ cells xs
 
 -- A statistic, a dash where there is none.
 abbrev pub sum_text : Option ℤ → List ℕ

@@ -9,7 +9,7 @@ ghost use Rattle.reports.specs.Queried.{PrintsGroups, PrintsPlaced};
 ghost use Rattle.reports.specs.QueryFaults.{IsUnanswered, IsUnplaced};
 ghost use Rattle.table.specs.History.{History, rows};
 
-use crate::group_lines::group_lines;
+use crate::forms::group_lines;
 use crate::run_fault::RunFault;
 use answers::{Answer, Gate};
 use query::{Query, QueryFault, QueryText, resolve};
@@ -43,7 +43,10 @@ fn placed_text(alloc: Global, query: &Query, version: &Version) -> Result<String
     ensures output { IfOk result (λ text. PrintsPlaced (query_shape query.now) version.now.fields version.now.history (string_bytes text)) }
     ensures err { IfErr result (IsUnplaced (query_shape query.now) version.now.fields version.now.history) }
 {
-    answer_text(alloc, version.answer_alone(alloc, query, &NobodyWaits))
+    match answer_of(version.answer_alone(alloc, query, &NobodyWaits)) {
+        Ok(answer) => Ok(group_lines(alloc, &answer)?),
+        Err(fault) => Err(fault),
+    }
 }
 
 /// The query by positions in the fields of a version, or why there is none.
@@ -61,15 +64,15 @@ pub fn placed_query(alloc: Global, query: &QueryText, version: &Version) -> Resu
     }
 }
 
-/// What `query` prints of an answer, or the fault that is reported in its place.
-pub fn answer_text(alloc: Global, answered: Result<Answer, QueryFault>) -> Result<String, RunFault>
-    ensures output { (placed : QueryShape ℕ) (fields : List FieldShape) (h : History) → IfOk answered (IsAnswer fields placed (rows h))
-        → IfOk result (λ text. PrintsPlaced placed fields h (string_bytes text)) }
+/// An answer, or the fault that is reported in its place.
+pub fn answer_of(answered: Result<Answer, QueryFault>) -> Result<Answer, RunFault>
+    ensures ok { (placed : QueryShape ℕ) (fields : List FieldShape) (h : History) → IfOk answered (IsAnswer fields placed (rows h))
+        → IfOk result (IsAnswer fields placed (rows h)) }
     ensures err { (placed : QueryShape ℕ) (fields : List FieldShape) (h : History) → IfErr answered (IsRefusal fields placed (rows h))
         → IfErr result (IsUnplaced placed fields h) }
 {
     match answered {
-        Ok(answer) => Ok(group_lines(alloc, &answer)?),
+        Ok(answer) => Ok(answer),
         Err(fault) => match fault {
             QueryFault::NoMemory => Err(RunFault::NoMemory),
             _ => Err(RunFault::QueryRefused(fault)),

@@ -1,5 +1,6 @@
 //! The lines of `stats` and of `schema`, as text.
 ghost use Rattle.std.specs.Prelude.{◌≡◌, ◌++◌, OnOk, IfOk, option_map, string_bytes};
+ghost use Rattle.arrays.specs.Item as item;
 ghost use Rattle.types.specs.Kind.{kind_of};
 ghost use Rattle.group.specs.Summary.{scalar_item};
 ghost use Rattle.json.specs.Print.{quoted};
@@ -157,16 +158,40 @@ pub(crate) fn push_scalar(
     ensures { OnOk result (string_bytes text.new ≡ string_bytes text.old ++ cell (scalar_item value.now)) }
 {
     match value {
-        Scalar::Int(number) => {
-            write!(text, "{number}")?;
-            Ok(())
-        }
-        Scalar::Bool(truth) => text.push_str(truth_text(*truth)),
-        Scalar::Text(value) => {
-            let value = quoted(alloc, value.as_str())?;
-            text.push_str(value.as_str())
-        }
+        Scalar::Int(number) => push_number(text, *number),
+        Scalar::Bool(truth) => push_truth(text, *truth),
+        Scalar::Text(value) => push_string(alloc, text, value.as_str()),
     }
+}
+
+/// Adds that there is no value.
+pub(crate) fn push_null(text: &mut String) -> Result<(), AllocError>
+    ensures { OnOk result (string_bytes text.new ≡ string_bytes text.old ++ cell item.null) }
+{
+    text.push_str("null")
+}
+
+/// Adds a number.
+pub(crate) fn push_number(text: &mut String, number: i128) -> Result<(), AllocError>
+    ensures { OnOk result (string_bytes text.new ≡ string_bytes text.old ++ cell (item.int number)) }
+{
+    write!(text, "{number}")?;
+    Ok(())
+}
+
+/// Adds a truth value.
+pub(crate) fn push_truth(text: &mut String, truth: bool) -> Result<(), AllocError>
+    ensures { OnOk result (string_bytes text.new ≡ string_bytes text.old ++ cell (item.boolean truth)) }
+{
+    text.push_str(truth_text(truth))
+}
+
+/// Adds a text as a JSON string.
+pub(crate) fn push_string(alloc: Global, text: &mut String, value: &str) -> Result<(), AllocError>
+    ensures { OnOk result (string_bytes text.new ≡ string_bytes text.old ++ cell (item.text value.now)) }
+{
+    let string = quoted(alloc, value)?;
+    text.push_str(string.as_str())
 }
 
 /// The name of an integer type.

@@ -7,7 +7,9 @@ mod bytes;
 mod columns;
 mod exports;
 mod failing;
+mod heads;
 mod names;
+mod outputs;
 mod queries;
 mod refusals;
 mod runs;
@@ -18,7 +20,7 @@ mod windows;
 mod words;
 
 use arrowtab::memory::{MemorySink, MemorySource};
-use arrowtab::{Command, Job, job, run};
+use arrowtab::{Command, Job, Output, job, run};
 use embed::RunFault;
 use reports::line_of;
 use std::alloc::{AllocError, Global};
@@ -132,25 +134,35 @@ fn is_of_library(
     }
 }
 
-/// What the library gives of files for a job.
-fn given(alloc: Global, job: &Job, texts: &[&[u8]]) -> Result<String, RunFault> {
+/// What the library gives of files for a job, none where it has no call for it.
+fn given(alloc: Global, job: &Job, texts: &[&[u8]]) -> Option<Result<String, RunFault>> {
     match &job.command {
-        Command::Stats => embed::stats(alloc, texts),
-        Command::Schema => embed::schema(alloc, texts),
+        Command::Stats => Some(embed::stats(alloc, texts)),
+        Command::Schema => Some(embed::schema(alloc, texts)),
         Command::Validate => match embed::validate(alloc, texts) {
-            Ok(()) => Ok(String::new(alloc)),
-            Err(fault) => Err(fault),
+            Ok(()) => Some(Ok(String::new(alloc))),
+            Err(fault) => Some(Err(fault)),
         },
-        Command::Export => embed::export(alloc, texts),
-        Command::Query(query_text) => embed::query(alloc, query_text.as_str().as_bytes(), texts),
+        Command::Export => Some(embed::export(alloc, texts)),
+        Command::Query {
+            text,
+            output: Output::Lines,
+        } => Some(embed::query(alloc, text.as_str().as_bytes(), texts)),
+        Command::Head(_) | Command::Query { .. } => None,
     }
 }
 
 /// Whether the library's answer is what a run came to: its output, or the line of its fault.
-fn is_same(alloc: Global, job: &Job, given: Result<String, RunFault>, came: &Outcome) -> bool {
+fn is_same(
+    alloc: Global,
+    job: &Job,
+    given: Option<Result<String, RunFault>>,
+    came: &Outcome,
+) -> bool {
     match given {
-        Ok(text) => came.is(0, text.as_str(), ""),
-        Err(fault) => match line_of(alloc, name_of(job, &fault), &fault) {
+        None => true,
+        Some(Ok(text)) => came.is(0, text.as_str(), ""),
+        Some(Err(fault)) => match line_of(alloc, name_of(job, &fault), &fault) {
             Ok(line) => came.is(1, "", line.as_str()),
             Err(_) => false,
         },

@@ -3,12 +3,12 @@ ghost use Rattle.std.specs.Prelude.{◌^◌, ◌-◌, ◌<◌};
 
 use super::{Outcome, assert_case};
 use arrowtab::memory::{MemorySink, Plan};
-use arrowtab::{Command, Job, JobFault, job, print_fault};
+use arrowtab::{Command, Job, JobFault, Output, job, print_fault};
 use std::alloc::Global;
 
 /// Words, each behind one space, the command that they ask for, or the text of its query, the files that it is about, how many
 /// workers, and the text of a column, a dash where there is none.
-const JOBS: [(&str, &str, &str, u32, &str); 20] = [
+const JOBS: [(&str, &str, &str, u32, &str); 21] = [
     ("arrowtab stats A", "stats", "A", 1, "-"),
     ("a/b stats B A B", "stats", "B A B", 1, "-"),
     // An empty name.
@@ -17,6 +17,7 @@ const JOBS: [(&str, &str, &str, u32, &str); 20] = [
     ("arrowtab stats -- -h --", "stats", "-h --", 1, "-"),
     ("arrowtab schema A", "schema", "A", 1, "-"),
     ("arrowtab validate B A", "validate", "B A", 1, "-"),
+    ("arrowtab head -n 3 B A", "head", "B A", 1, "-"),
     ("arrowtab export A", "export", "A", 1, "-"),
     ("arrowtab export B A B", "export", "B A B", 1, "-"),
     ("arrowtab query --query {} A", "{}", "A", 1, "-"),
@@ -71,8 +72,9 @@ fn name_of(command: &Command) -> &str {
         Command::Stats => "stats",
         Command::Schema => "schema",
         Command::Validate => "validate",
+        Command::Head(_) => "head",
         Command::Export => "export",
-        Command::Query(query) => query.as_str(),
+        Command::Query { text, output: _ } => text.as_str(),
     }
 }
 
@@ -89,6 +91,52 @@ fn words_ask_for_a_job(rt: HostRuntime) {
             Err(_) => false,
         };
         assert_case(&rt, is_right, &[line], command);
+    }
+}
+
+/// Words, and how many rows they ask for.
+const HEADS: [(&str, u64); 5] = [
+    ("arrowtab head A", 10),
+    ("arrowtab head -n 0 A", 0),
+    ("arrowtab head -n3 A", 3),
+    ("arrowtab head A -n=+7", 7),
+    (
+        "arrowtab head -n 18446744073709551615 A",
+        18_446_744_073_709_551_615,
+    ),
+];
+
+/// Words, and the form that they ask for.
+const OUTPUTS: [(&str, Output); 4] = [
+    ("arrowtab query --query {} A", Output::Lines),
+    ("arrowtab query --query {} --output lines A", Output::Lines),
+    ("arrowtab query A --output=json --query {}", Output::Json),
+    ("arrowtab query --output csv --query {} A", Output::Csv),
+];
+
+#[test]
+fn words_ask_for_rows_and_forms(rt: HostRuntime) {
+    for (line, count) in HEADS {
+        let is_right = match job_of(rt.alloc(), line) {
+            Ok(job) => job.command == Command::Head(count),
+            Err(_) => false,
+        };
+        assert_case(&rt, is_right, &[line], "head");
+    }
+    for (line, form) in OUTPUTS {
+        let is_right = match job_of(rt.alloc(), line) {
+            Ok(job) => is_of_form(&job.command, form),
+            Err(_) => false,
+        };
+        assert_case(&rt, is_right, &[line], "query");
+    }
+}
+
+/// Whether a command is a query of this form.
+fn is_of_form(command: &Command, form: Output) -> bool {
+    match command {
+        Command::Query { text: _, output } => *output == form,
+        _ => false,
     }
 }
 
@@ -113,6 +161,7 @@ Commands:
   stats     Print rows, nulls, sum, least and greatest of each column
   schema    Print name, type and nullability of each column
   validate  Print nothing where all files make one table, else the first fault
+  head      Print the first rows, each as an object of JSON
   export    Print the table as one file, each text once in its dictionary
   query     Print a line for each group of rows, as a query asks
   help      Print this message or the help of the given subcommand(s)
@@ -177,6 +226,25 @@ Output: none. The status says whether all files can be loaded into one table; if
 Example: arrowtab validate january.json february.json
 ";
 
+const HEAD_HELP: &str = "Print the first rows, each as an object of JSON
+
+Usage: arrowtab head [OPTIONS] <FILE>...
+
+Arguments:
+  <FILE>...  Files of one table, which has the first one's schema
+
+Options:
+      --workers <N>         How many workers load the files and answer the query at once, from 1 to 64 [default: 1]
+      --add-column <FIELD>  A column to add once the files are loaded, null in each row: a field as an object of JSON
+  -n <ROWS>                 How many rows are printed [default: 10]
+  -h, --help                Print help
+
+Output: of each row an object of JSON, whose members are the columns. Where fewer rows are there, all of
+them are printed.
+
+Example: arrowtab head -n 3 cities.json
+";
+
 const EXPORT_HELP: &str = "Print the table as one file, each text once in its dictionary
 
 Usage: arrowtab export [OPTIONS] <FILE>...
@@ -206,6 +274,7 @@ Options:
       --workers <N>         How many workers load the files and answer the query at once, from 1 to 64 [default: 1]
       --add-column <FIELD>  A column to add once the files are loaded, null in each row: a field as an object of JSON
       --query <QUERY>       The query, an object of JSON with the members filter, by and aggs
+      --output <FORMAT>     How groups are printed: as lines, json or csv [default: lines]
   -h, --help                Print help
 
 A query is an object of JSON with the members filter (an expression), by (an array of up to 4 names of
@@ -221,7 +290,8 @@ Expressions E:
 Aggregates:
   {\"agg\":\"rows\"}  {\"agg\":AGG,\"column\":\"n\"}  AGG is count, sum, least or greatest
 
-Output: of each group, in order of first appearance, the items of its key and then its aggregates, as JSON.
+Output: of each group, in order of first appearance, the items of its key and then its aggregates, as JSON;
+with --output csv as CSV, behind a record of names.
 
 Examples:
   arrowtab query --query '{\"by\":[\"city\"],\"aggs\":[{\"agg\":\"rows\"}]}' cities.json
@@ -260,7 +330,7 @@ fn tells_that_help_failed(alloc: Global) -> bool {
 }
 
 /// Words that are no job, what `clap` says of them, and whether that is the help or the version that was requested.
-const NO_JOBS: [(&str, &str, bool); 20] = [
+const NO_JOBS: [(&str, &str, bool); 23] = [
     ("arrowtab --help", HELP, true),
     ("bin/arrowtab -h", HELP, true),
     ("arrowtab help", HELP, true),
@@ -268,6 +338,7 @@ const NO_JOBS: [(&str, &str, bool); 20] = [
     ("arrowtab help stats", STATS_HELP, true),
     ("arrowtab help schema", SCHEMA_HELP, true),
     ("arrowtab help validate", VALIDATE_HELP, true),
+    ("arrowtab help head", HEAD_HELP, true),
     ("arrowtab help export", EXPORT_HELP, true),
     ("arrowtab query --help", QUERY_HELP, true),
     ("arrowtab --version", VERSION, true),
@@ -331,6 +402,19 @@ For more information, try '--help'.
 
 For more information, try '--help'.
 ",
+        false,
+    ),
+    (
+        "arrowtab head -n 18446744073709551616 A",
+        "error: invalid value '18446744073709551616' for '-n <ROWS>': number too large to fit in target type
+
+For more information, try '--help'.
+",
+        false,
+    ),
+    (
+        "arrowtab query --query {} --output xml A",
+        "arrowtab: --output is lines, json or csv\n",
         false,
     ),
     (

@@ -13,4 +13,4 @@ returns-in-Ok-clause-ok c =
 pub returns-in-Err-clause-err : goal.returns-in-Err-clause-err
 returns-in-Err-clause-err c =
     rw c.in-Query.is
-    (text_unread c.in-Query.text c.in-Err.fault (subst (λ b. IsUnreadQuery b c.in-Err.fault) (c.as_bytes.ensures.value ∙ c.as_str.ensures.value) c.in-Err.ensures.err))
+    (text_unread c.in-Query.text c.in-Query.output c.in-Err.fault (subst (λ b. IsUnreadQuery b c.in-Err.fault) (c.as_bytes.ensures.value ∙ c.as_str.ensures.value) c.in-Err.ensures.err))

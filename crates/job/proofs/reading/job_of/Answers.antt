@@ -11,7 +11,7 @@ pub returns-clause-found : goal.returns-clause-found
 returns-clause-found c = record {
   rows = rows_of (found_of c.in-Some.found.now);
   command = search rules;
-  query = c.in_ok-command.ensures.query;
+  own = c.in_ok-command.ensures.own;
   names = search rules;
   workers = c.in-Some-workers_of.ensures.value;
   column = c.in-Ok-column_of.ensures;

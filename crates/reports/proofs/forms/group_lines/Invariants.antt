@@ -1,7 +1,7 @@
 use Rattle.std.proofs.Common.{◌≡◌, map, string_bytes, take}
 use Rattle.answers.specs.Answers.{shape_of}
 use Rattle.reports.specs.GroupLines.{group_lines}
-use Rattle.reports.proofs.group_lines.group_lines.Given as goal
+use Rattle.reports.proofs.forms.group_lines.Given as goal
 
 -- The lines of the groups so far.
 abbrev pub invariant-loop-group : goal.invariant-loop-group

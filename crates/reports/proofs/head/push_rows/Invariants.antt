@@ -1,0 +1,10 @@
+use Rattle.std.proofs.Common.{◌≡◌, ◌++◌, string_bytes, take}
+use Rattle.std.specs.List.{flat_map}
+use Rattle.arrays.specs.Batch.{rows_of}
+use Rattle.arrays.specs.Shape.{fields_of}
+use Rattle.reports.specs.Rows.{row_line}
+use Rattle.reports.proofs.head.push_rows.Given as goal
+
+-- The rows so far.
+abbrev pub invariant-loop-row : goal.invariant-loop-row
+invariant-loop-row l = string_bytes l.text ≡ string_bytes l.fn.text ++ flat_map (row_line (fields_of l.fields)) (take l.row (rows_of l.batch))
