@@ -1,58 +1,48 @@
 //! Columns that calls are tried on.
 
-use arrays::{Array, Field, RawArray};
-use std::alloc::Global;
-use std::test::Fail;
 use test_samples::{
-    Flat, INT8, NAMES, NARROW, Sample, WIDE, WIDE_IN_NARROW, Widths, field, raw_sample, sampled_at,
+    Flat, INT8, INT32, INT64, NAMES, NARROW, Positions, Sample, WIDE, WIDE_IN_NARROW, Widths,
 };
 
 /// A column: how wide its offsets are, and what it holds.
-#[derive(Clone, Copy)]
-pub(crate) struct Column(pub(crate) Widths, pub(crate) Sample);
+pub(crate) type Column = (Widths, Sample);
 
-/// The numbers 1, null, 3 and 4.
-pub(crate) const NUMBERS: Column = Column(
-    NARROW,
-    Sample::Of((Flat::Int(INT8), 4, &[Some(&[0x0d]), Some(&[1, 0, 3, 4])])),
-);
+#[rattlefmt::skip]
+pub(crate) const NUMBERS: Column = (NARROW, Sample::Numbers(INT8, &[Some(1), None, Some(3), Some(4)]));
 
-/// The truth values true, null, false and true.
-pub(crate) const BOOLS: Column = Column(
-    NARROW,
-    Sample::Of((Flat::Bool, 4, &[Some(&[0x0d]), Some(&[0x09])])),
-);
+/// The numbers 1, 2, 3 and 4, none of which is null.
+#[rattlefmt::skip]
+pub(crate) const LONG: Column = (NARROW, Sample::Of((Flat::Int(INT64), 4, &[None, Some(
+    b"\x01\0\0\0\0\0\0\0\x02\0\0\0\0\0\0\0\x03\0\0\0\0\0\0\0\x04\0\0\0\0\0\0\0",
+)])));
 
-pub(crate) const TEXTS: Column = Column(NARROW, Sample::Texts(NAMES));
+#[rattlefmt::skip]
+pub(crate) const BOOLS: Column = (NARROW, Sample::Bools(&[Some(true), None, Some(false), Some(true)]));
 
-pub(crate) const LARGE_TEXTS: Column = Column(WIDE, Sample::Texts(NAMES));
+pub(crate) const TEXTS: Column = (NARROW, Sample::Texts(NAMES));
 
-pub(crate) const CODES: Column = Column(NARROW, Sample::Coded);
+pub(crate) const LARGE_TEXTS: Column = (WIDE, Sample::Texts(NAMES));
 
-pub(crate) const LISTS: Column = Column(NARROW, Sample::Lists);
+pub(crate) const CODES: Column = (NARROW, Sample::Coded);
 
-pub(crate) const LARGE_LISTS: Column = Column(WIDE, Sample::Lists);
+pub(crate) const LISTS: Column = (NARROW, Sample::Lists);
 
-pub(crate) const LISTS_OF_LISTS: Column = Column(NARROW, Sample::ListsOfLists);
+pub(crate) const LARGE_LISTS: Column = (WIDE, Sample::Lists);
+
+pub(crate) const LISTS_OF_LISTS: Column = (NARROW, Sample::ListsOfLists);
 
 /// Large lists, of lists that aren't.
-pub(crate) const LARGE_LISTS_OF_LISTS: Column = Column(WIDE_IN_NARROW, Sample::ListsOfLists);
+pub(crate) const LARGE_LISTS_OF_LISTS: Column = (WIDE_IN_NARROW, Sample::ListsOfLists);
 
-impl Column {
-    /// The column as an array.
-    pub(crate) fn array(self, alloc: Global) -> Result<Array, Fail> {
-        let Column(widths, sample) = self;
-        sampled_at(alloc, widths, sample)
-    }
+/// Rows to be taken.
+#[rattlefmt::skip]
+pub(crate) const ROWS: Column = (NARROW, Sample::Numbers(INT32, &[Some(2), None, Some(0), Some(2)]));
 
-    /// A field of the column's type, in which there may be nulls.
-    pub(crate) fn field(self, alloc: Global) -> Result<Field, Fail> {
-        field(alloc, "added", true, self.array(alloc)?.ty().copy(alloc)?)
-    }
+/// Of so many rows the first and the third are kept.
+pub(crate) const KEPT_OF_3: Column = (NARROW, Sample::Of((Flat::Bool, 3, KEPT)));
 
-    /// The parts of the column.
-    pub(crate) fn parts(self, alloc: Global) -> Result<RawArray, Fail> {
-        let Column(widths, sample) = self;
-        raw_sample(alloc, widths, sample)
-    }
-}
+pub(crate) const KEPT_OF_4: Column = (NARROW, Sample::Of((Flat::Bool, 4, KEPT)));
+
+pub(crate) const KEPT_OF_5: Column = (NARROW, Sample::Of((Flat::Bool, 5, KEPT)));
+
+const KEPT: Positions = &[None, Some(&[0x05])];

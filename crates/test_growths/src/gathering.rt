@@ -1,49 +1,34 @@
 //! A table that is gathered.
 
-use crate::scene::Scene;
+use crate::run::{Scene, Stop, told};
 use crate::stage::tell_workers;
-use crate::stop::Stop;
 use crate::tell::tell_version;
-use shared::{GatherCause, Naming, Publish, SharedTable, Shown, Version, Worker};
+use shared::{GatherCause, Naming, Publish, SharedTable, Shown, Worker};
 use std::alloc::Global;
-use std::sync::{Arc, Wait};
+use std::sync::Wait;
 use std::test::Fail;
 
 /// A table, until it is gathered, and its workers.
 #[derive(Drop)]
 pub(crate) struct Gathering<N: Naming, P: Publish<Item = Shown<N>>> {
-    table: Option<SharedTable<N, P>>,
-    workers: Option<Vec<Worker<N>>>,
-}
-
-impl<N: Naming, P: Publish<Item = Shown<N>>> Gathering<N, P> {
-    pub(crate) fn new(table: SharedTable<N, P>, workers: Vec<Worker<N>>) -> Gathering<N, P> {
-        Gathering {
-            table: Some(table),
-            workers: Some(workers),
-        }
-    }
+    pub(crate) table: Option<SharedTable<N, P>>,
+    pub(crate) workers: Option<Vec<Worker<N>>>,
 }
 
 impl<N: Naming, P: Publish<Item = Shown<N>>, R: Wait> Scene<R> for Gathering<N, P> {
-    type Answer = Arc<Version>;
-
-    fn call(&mut self, rt: &R, _alloc: Global) -> Result<Arc<Version>, Stop> {
+    fn call(&mut self, rt: &R, _alloc: Global, report: &mut String) -> Result<(), Stop> {
         let (Some(table), Some(workers)) = (self.table.take(), self.workers.take()) else {
-            return Err(Stop::Other);
+            return Err(Stop::Refused);
         };
         match table.gather(rt, workers) {
             Ok(gathered) => {
                 self.workers = Some(gathered.workers);
-                Ok(gathered.version)
+                Ok(tell_version(report, &gathered.version)?)
             }
             Err(fault) => {
                 self.table = Some(fault.table);
                 self.workers = Some(fault.workers);
-                Err(match fault.cause {
-                    GatherCause::NoMemory => Stop::NoMemory,
-                    GatherCause::WorkerMissing { .. } => Stop::Other,
-                })
+                told(report, Err::<(), GatherCause>(fault.cause))
             }
         }
     }
@@ -56,9 +41,5 @@ impl<N: Naming, P: Publish<Item = Shown<N>>, R: Wait> Scene<R> for Gathering<N, 
             tell_workers(report, workers)?;
         }
         Ok(())
-    }
-
-    fn tell_answer(report: &mut String, answer: &Arc<Version>) -> Result<(), Fail> {
-        tell_version(report, answer)
     }
 }

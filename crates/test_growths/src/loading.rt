@@ -3,10 +3,9 @@
 ghost use Rattle.std.specs.Prelude.{◌<◌, length};
 ghost use Rattle.shared.specs.Named.{IsNamed};
 
-use crate::fault::Fault;
 use crate::permit::Permit;
 use crate::refusals::{Refused, begin, end};
-use crate::run::Ran;
+use crate::run::{Fault, Ran};
 use crate::samples::{ONE_COLUMN, ONE_MORE, TWO_BATCHES, file};
 use crate::stage::tell_workers;
 use crate::sweep::Trial;
@@ -21,61 +20,45 @@ use std::sync::Wait;
 use std::test::Fail;
 use std::thread::Threads;
 
-/// What the second worker loads.
-#[derive(Clone, Copy)]
-enum Second {
-    Like,
-    /// A file of other fields, which is refused.
-    Other,
-}
-
-/// Two workers load a file each into a new table that so many readers look at.
+/// Two workers load a file each, the second that of a text, into a new table that so many readers look at.
 #[derive(Clone, Copy)]
 pub(crate) struct Loading(u32, Second);
 
-pub(crate) const CASES: [(&str, Loading); 3] = [
-    ("load_all", Loading(1, Second::Like)),
-    ("load_all, no readers", Loading(0, Second::Like)),
-    (
-        "load_all, a file of other fields",
-        Loading(1, Second::Other),
-    ),
-];
-
-/// What came of a load.
-#[derive(Drop)]
-enum Loaded {
-    /// All is there, or a file is refused, and this is seen of it.
-    All(String),
-    /// Memory was wanted, and what was appended before stays.
-    Part,
-    Wrong(Fault),
+/// The second worker's file.
+#[derive(Clone, Copy)]
+enum Second {
+    OneMore,
+    OneColumn,
 }
 
+#[rattlefmt::skip]
+pub(crate) static CASES: [(&str, Loading); 3] = [
+    ("load_all", Loading(1, Second::OneMore)),
+    ("load_all, no readers", Loading(0, Second::OneMore)),
+    ("load_all, a file of other fields", Loading(1, Second::OneColumn)),
+];
+
 impl<R: Threads + Wait + Sync> Trial<R> for Loading {
-    /// What was appended stays after a refusal, so a new table is loaded then.
+    /// What was appended stays where memory is wanted, so a new table is loaded then.
     fn run(&self, rt: &R, alloc: Global, refused: Option<Refused>) -> Result<Ran, Fail> {
         let rt = Permit::of(rt);
-        let (first, met) = load(&rt, alloc, *self, refused)?;
-        let last = match first {
-            Loaded::Part if met => load(&rt, alloc, *self, None)?.0,
-            other => other,
-        };
-        Ok(match last {
-            Loaded::All(report) => Ran::Answered(met, report),
-            Loaded::Part => Ran::Wrong(Fault::NoAnswer),
-            Loaded::Wrong(fault) => Ran::Wrong(fault),
-        })
+        match load(&rt, alloc, *self, refused)? {
+            Ran::Wrong(Fault::NoSecondAnswer) => match load(&rt, alloc, *self, None)? {
+                Ran::Answered(_, report) => Ok(Ran::Answered(true, report)),
+                wrong => Ok(wrong),
+            },
+            ran => Ok(ran),
+        }
     }
 }
 
-/// What comes of a load, of which these requests are refused, and whether one was.
+/// What comes of a load, of which these requests are refused: no second answer yet where memory is wanted.
 fn load<R: Threads + Wait + Sync>(
     rt: &R,
     alloc: Global,
     loading: Loading,
     refused: Option<Refused>,
-) -> Result<(Loaded, bool), Fail> {
+) -> Result<Ran, Fail> {
     let file = file(alloc, TWO_BATCHES)?;
     let opening = Opening::new(alloc, file.schema().copy(alloc)?, 2)?;
     load_under::<Brand, R>(rt, alloc, opening, loading, refused)
@@ -88,7 +71,7 @@ fn load_under<N: Naming + Send + Sync, R: Threads + Wait + Sync>(
     opening: Opening,
     loading: Loading,
     refused: Option<Refused>,
-) -> Result<(Loaded, bool), Fail>
+) -> Result<Ran, Fail>
     requires { IsNamed N.book N.fields N.calls N.rows N.columns N.workers opening }
 {
     let Loading(readers, second) = loading;
@@ -103,30 +86,33 @@ fn load_by<N: Naming + Send + Sync, P: Publish<Item = Shown<N>> + Send, R: Threa
     opened: (SharedTable<N, P>, Vec<Worker<N>>, Vec<Reader<N>>),
     second: Second,
     refused: Option<Refused>,
-) -> Result<(Loaded, bool), Fail>
+) -> Result<Ran, Fail>
     requires { 0 < length opened.1.items }
 {
     let (table, mut workers, mut readers) = opened;
     let second = match second {
-        Second::Like => ONE_MORE,
-        Second::Other => ONE_COLUMN,
+        Second::OneMore => ONE_MORE,
+        Second::OneColumn => ONE_COLUMN,
     };
     let files = [file(alloc, TWO_BATCHES)?, file(alloc, second)?];
     begin(alloc, refused);
     let called = load_all(rt, rt, alloc, &table, &mut workers, &files, &OpenGate);
     let met = end(alloc);
     let Some(worker) = workers.first_mut() else {
-        return Ok((Loaded::Wrong(Fault::NoAnswer), met));
+        return Ok(Ran::Wrong(Fault::NoAnswer));
     };
     let version = table.snapshot(rt, worker)?;
-    let loaded = match called {
-        _ if !are_counted(&version, &workers) => Loaded::Wrong(Fault::Miscounted),
-        Ok(receipts) => Loaded::All(report(alloc, &receipts, &version, &workers, &mut readers)?),
-        Err(LoadFault::NoMemory) => Loaded::Part,
+    if !are_counted(&version, &workers) {
+        return Ok(Ran::Wrong(Fault::Miscounted));
+    }
+    let report = match called {
+        Ok(receipts) => report(alloc, &receipts, &version, &workers, &mut readers)?,
+        Err(LoadFault::NoMemory) if met => return Ok(Ran::Wrong(Fault::NoSecondAnswer)),
+        Err(LoadFault::NoMemory) => return Ok(Ran::Wrong(Fault::NoAnswer)),
         // What the other worker could append is open.
-        Err(fault) => Loaded::All(format!(in alloc; "{fault}")?),
+        Err(fault) => format!(in alloc; "{fault}")?,
     };
-    Ok((loaded, met))
+    Ok(Ran::Answered(met, report))
 }
 
 /// Whether each worker made as many calls as it has batches in the table.
@@ -155,9 +141,10 @@ fn report<N: Naming>(
     readers: &mut [Reader<N>],
 ) -> Result<String, Fail> {
     let mut report = String::new(alloc);
-    tell_receipts(&mut report, receipts)?;
+    let count = receipts.len();
+    let last = receipts.iter().map(|receipt| receipt.entry()).max();
     let rows = version.rows();
-    write!(report, "{rows} rows ")?;
+    write!(report, "{count} receipts up to {last:?}, {rows} rows ")?;
     tell_workers(&mut report, workers)?;
     for worker in workers {
         tell_batches_of(&mut report, version, worker.number())?;
@@ -167,17 +154,6 @@ fn report<N: Naming>(
         write!(report, "{rows} ")?;
     }
     Ok(report)
-}
-
-/// Tells how many receipts there are, and the number of the last entry that one is of.
-fn tell_receipts<N: Naming>(report: &mut String, receipts: &[Receipt<N>]) -> Result<(), Fail> {
-    let count = receipts.len();
-    let mut last = 0;
-    for receipt in receipts {
-        last = receipt.entry().max(last);
-    }
-    write!(report, "{count} receipts up to {last}, ")?;
-    Ok(())
 }
 
 /// Tells the batches of a worker, one after the other.

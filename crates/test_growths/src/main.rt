@@ -5,33 +5,23 @@
 //! What refuses requests is a library that is loaded into the program (`tools/refused_calls.py`). Without it the program says so and fails.
 #![tactic(auto)]
 
-mod bits;
-mod builders;
+mod column_calls;
 mod columns;
-mod fault;
 mod gathering;
-mod kernels_of;
 mod loading;
-mod nulls;
-mod opening;
+mod makers;
+mod nodes;
 mod permit;
 mod pools;
-mod queries;
+mod query_calls;
 mod refusals;
 mod run;
 mod samples;
-mod scene;
-mod selections;
 mod shared_tables;
 mod stage;
-mod statistics;
-mod stop;
 mod sweep;
-mod tables;
-mod tally;
+mod table_calls;
 mod tell;
-mod texts;
-mod widening;
 
 use std::alloc::Global;
 use std::io::Print;
@@ -39,43 +29,47 @@ use std::process::ExitCode;
 use std::sync::Wait;
 use std::test::Fail;
 use std::thread::Threads;
-use sweep::sweep_all;
-use tally::Tally;
+use sweep::{Tally, sweep_all};
 
 fn main(rt: HostRuntime) -> Result<ExitCode, Fail> {
-    if !refusals::are_made(rt.alloc()) {
+    if refusals::end(rt.alloc()) {
         println!(rt; "test_growths: nothing refuses requests, see tools/refused_calls.py")?;
         return Ok(ExitCode::FAILURE);
     }
-    let mut tally = Tally::new();
-    sweep_columns(&rt, rt.alloc(), &mut tally)?;
-    sweep_tables(&rt, rt.alloc(), &mut tally)?;
-    println!(rt; "{tally}")?;
-    Ok(tally.status())
+    let mut tally = Tally {
+        passed: 0,
+        failed: 0,
+    };
+    sweep_calls(&rt, rt.alloc(), &mut tally)?;
+    let Tally { passed, failed } = tally;
+    println!(rt; "{passed} passed, {failed} failed")?;
+    Ok(if failed == 0 {
+        ExitCode::SUCCESS
+    } else {
+        ExitCode::FAILURE
+    })
 }
 
-/// Has each request of the calls on columns, files and texts refused.
-fn sweep_columns<R: Print>(rt: &R, alloc: Global, tally: &mut Tally) -> Result<(), Fail> {
-    sweep_all(rt, alloc, &bits::MAKERS, tally)?;
-    sweep_all(rt, alloc, &builders::BUILDS, tally)?;
-    sweep_all(rt, alloc, &nulls::CASES, tally)?;
-    sweep_all(rt, alloc, &kernels_of::CASES, tally)?;
-    sweep_all(rt, alloc, &selections::CASES, tally)?;
-    sweep_all(rt, alloc, &statistics::CASES, tally)?;
-    sweep_all(rt, alloc, &pools::CASES, tally)?;
-    sweep_all(rt, alloc, &texts::CALLS, tally)
-}
-
-/// Has each request of the calls on batches and tables refused.
-fn sweep_tables<R: Print + Threads + Wait + Sync>(
+/// Has each request of all calls refused.
+fn sweep_calls<R: Print + Threads + Wait + Sync>(
     rt: &R,
     alloc: Global,
     tally: &mut Tally,
 ) -> Result<(), Fail> {
-    sweep_all(rt, alloc, &tables::CASES, tally)?;
-    sweep_all(rt, alloc, &widening::CASES, tally)?;
-    sweep_all(rt, alloc, &queries::CASES, tally)?;
-    sweep_all(rt, alloc, &opening::CASES, tally)?;
+    sweep_all(rt, alloc, &makers::MAKERS, tally)?;
+    sweep_all(rt, alloc, &makers::DOCUMENTS, tally)?;
+    sweep_all(rt, alloc, &makers::LENT, tally)?;
+    sweep_all(rt, alloc, &column_calls::NULLS, tally)?;
+    sweep_all(rt, alloc, &column_calls::KERNELS, tally)?;
+    sweep_all(rt, alloc, &column_calls::TAKE, tally)?;
+    sweep_all(rt, alloc, &column_calls::FILTER, tally)?;
+    sweep_all(rt, alloc, &column_calls::CONCAT, tally)?;
+    sweep_all(rt, alloc, &column_calls::COPY, tally)?;
+    sweep_all(rt, alloc, &column_calls::VALIDATE, tally)?;
+    sweep_all(rt, alloc, &column_calls::STATISTICS, tally)?;
+    sweep_all(rt, alloc, &pools::CASES, tally)?;
+    sweep_all(rt, alloc, &table_calls::CASES, tally)?;
+    sweep_all(rt, alloc, &query_calls::CASES, tally)?;
     sweep_all(rt, alloc, &shared_tables::CASES, tally)?;
     sweep_all(rt, alloc, &loading::CASES, tally)
 }

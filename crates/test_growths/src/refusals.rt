@@ -20,11 +20,6 @@ const KEEP_IN_MIND: usize = 1 << 60;
 
 const ARE_AS_MANY: usize = (1 << 60) + 1;
 
-/// Whether there is such a library. Nothing else would grant the request.
-pub(crate) fn are_made(alloc: Global) -> bool {
-    block(alloc, WAS_NONE_REFUSED).is_some()
-}
-
 /// Has these requests refused from here on, where there are any.
 pub(crate) fn begin(alloc: Global, refused: Option<Refused>) {
     let Some(refused) = refused else {
@@ -38,7 +33,8 @@ pub(crate) fn begin(alloc: Global, refused: Option<Refused>) {
     let _none = block(alloc, ALONE + behind + refused.number as usize);
 }
 
-/// Has nothing refused any more. Whether anything was since this was called last.
+/// Has nothing refused any more. Whether anything was since this was called last, or there is no such library: nothing else would
+/// grant the request.
 pub(crate) fn end(alloc: Global) -> bool {
     block(alloc, WAS_NONE_REFUSED).is_none()
 }

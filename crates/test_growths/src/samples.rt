@@ -1,8 +1,7 @@
 //! Files, a table and queries that calls are tried on.
 
 use arrays::{File, RecordBatch};
-use arrow_json::{read_file, read_query};
-use query::QueryText;
+use arrow_json::read_file;
 use std::alloc::Global;
 use std::sync::Arc;
 use std::test::Fail;
@@ -11,56 +10,41 @@ use table::TableState;
 /// Two batches: texts, numbers, truth values, lists of numbers, lists of such lists, numbers of 64 bits, large texts, large
 /// lists of numbers, and codes.
 pub(crate) const TWO_BATCHES: &str = r#"{"schema":{"fields":[
-{"name":"s","nullable":true,"type":{"name":"utf8"},"children":[]},
-{"name":"n","nullable":true,"type":{"name":"int","bitWidth":32,"isSigned":true},"children":[]},
-{"name":"b","nullable":true,"type":{"name":"bool"},"children":[]},
+{"name":"s","nullable":true,"type":{"name":"utf8"},"children":[]},{"name":"n","nullable":true,"type":{"name":"int","bitWidth":32,"isSigned":true},"children":[]},{"name":"b","nullable":true,"type":{"name":"bool"},"children":[]},
 {"name":"l","nullable":true,"type":{"name":"list"},"children":[{"name":"item","nullable":true,"type":{"name":"int","bitWidth":8,"isSigned":true},"children":[]}]},
 {"name":"m","nullable":true,"type":{"name":"list"},"children":[{"name":"item","nullable":true,"type":{"name":"list"},"children":[{"name":"item","nullable":true,"type":{"name":"int","bitWidth":8,"isSigned":true},"children":[]}]}]},
-{"name":"w","nullable":true,"type":{"name":"int","bitWidth":64,"isSigned":false},"children":[]},
-{"name":"t","nullable":true,"type":{"name":"largeutf8"},"children":[]},
+{"name":"w","nullable":true,"type":{"name":"int","bitWidth":64,"isSigned":false},"children":[]},{"name":"t","nullable":true,"type":{"name":"largeutf8"},"children":[]},
 {"name":"k","nullable":true,"type":{"name":"largelist"},"children":[{"name":"item","nullable":true,"type":{"name":"int","bitWidth":8,"isSigned":true},"children":[]}]},
 {"name":"d","nullable":true,"type":{"name":"utf8"},"children":[],"dictionary":{"id":0,"indexType":{"name":"int","isSigned":true,"bitWidth":32},"isOrdered":false}}]},
 "dictionaries":[{"id":0,"data":{"count":2,"columns":[{"name":"d","count":2,"VALIDITY":[1,1],"OFFSET":[0,1,2],"DATA":["x","y"]}]}}],
 "batches":[{"count":3,"columns":[
-{"name":"s","count":3,"VALIDITY":[1,0,1],"OFFSET":[0,1,1,2],"DATA":["a","","b"]},
-{"name":"n","count":3,"VALIDITY":[1,1,0],"DATA":[5,-6,0]},
-{"name":"b","count":3,"VALIDITY":[1,1,1],"DATA":[1,0,1]},
+{"name":"s","count":3,"VALIDITY":[1,0,1],"OFFSET":[0,1,1,2],"DATA":["a","","b"]},{"name":"n","count":3,"VALIDITY":[1,1,0],"DATA":[5,-6,0]},{"name":"b","count":3,"VALIDITY":[1,1,1],"DATA":[1,0,1]},
 {"name":"l","count":3,"VALIDITY":[1,0,1],"OFFSET":[0,2,2,3],"children":[{"name":"item","count":3,"VALIDITY":[1,0,1],"DATA":[1,0,3]}]},
 {"name":"m","count":3,"VALIDITY":[1,0,1],"OFFSET":[0,2,2,2],"children":[{"name":"item","count":2,"VALIDITY":[1,1],"OFFSET":[0,1,3],"children":[{"name":"item","count":3,"VALIDITY":[1,1,1],"DATA":[1,2,3]}]}]},
-{"name":"w","count":3,"VALIDITY":[1,1,0],"DATA":["5","18446744073709551615","0"]},
-{"name":"t","count":3,"VALIDITY":[1,0,1],"OFFSET":["0","1","1","2"],"DATA":["a","","b"]},
+{"name":"w","count":3,"VALIDITY":[1,1,0],"DATA":["5","18446744073709551615","0"]},{"name":"t","count":3,"VALIDITY":[1,0,1],"OFFSET":["0","1","1","2"],"DATA":["a","","b"]},
 {"name":"k","count":3,"VALIDITY":[1,0,1],"OFFSET":["0","2","2","3"],"children":[{"name":"item","count":3,"VALIDITY":[1,0,1],"DATA":[1,0,3]}]},
 {"name":"d","count":3,"VALIDITY":[1,1,0],"DATA":[1,0,0]}]},
 {"count":2,"columns":[
-{"name":"s","count":2,"VALIDITY":[1,1],"OFFSET":[0,1,2],"DATA":["b","c"]},
-{"name":"n","count":2,"VALIDITY":[1,1],"DATA":[7,5]},
-{"name":"b","count":2,"VALIDITY":[0,1],"DATA":[0,1]},
+{"name":"s","count":2,"VALIDITY":[1,1],"OFFSET":[0,1,2],"DATA":["b","c"]},{"name":"n","count":2,"VALIDITY":[1,1],"DATA":[7,5]},{"name":"b","count":2,"VALIDITY":[0,1],"DATA":[0,1]},
 {"name":"l","count":2,"VALIDITY":[1,1],"OFFSET":[0,0,1],"children":[{"name":"item","count":1,"VALIDITY":[1],"DATA":[4]}]},
 {"name":"m","count":2,"VALIDITY":[1,1],"OFFSET":[0,0,1],"children":[{"name":"item","count":1,"VALIDITY":[0],"OFFSET":[0,0],"children":[{"name":"item","count":0,"VALIDITY":[],"DATA":[]}]}]},
-{"name":"w","count":2,"VALIDITY":[1,0],"DATA":["7","0"]},
-{"name":"t","count":2,"VALIDITY":[1,1],"OFFSET":["0","1","2"],"DATA":["b","c"]},
+{"name":"w","count":2,"VALIDITY":[1,0],"DATA":["7","0"]},{"name":"t","count":2,"VALIDITY":[1,1],"OFFSET":["0","1","2"],"DATA":["b","c"]},
 {"name":"k","count":2,"VALIDITY":[1,1],"OFFSET":["0","0","1"],"children":[{"name":"item","count":1,"VALIDITY":[1],"DATA":[4]}]},
 {"name":"d","count":2,"VALIDITY":[1,1],"DATA":[0,0]}]}]}"#;
 
 /// One more batch, with texts that the two don't have.
 pub(crate) const ONE_MORE: &str = r#"{"schema":{"fields":[
-{"name":"s","nullable":true,"type":{"name":"utf8"},"children":[]},
-{"name":"n","nullable":true,"type":{"name":"int","bitWidth":32,"isSigned":true},"children":[]},
-{"name":"b","nullable":true,"type":{"name":"bool"},"children":[]},
+{"name":"s","nullable":true,"type":{"name":"utf8"},"children":[]},{"name":"n","nullable":true,"type":{"name":"int","bitWidth":32,"isSigned":true},"children":[]},{"name":"b","nullable":true,"type":{"name":"bool"},"children":[]},
 {"name":"l","nullable":true,"type":{"name":"list"},"children":[{"name":"item","nullable":true,"type":{"name":"int","bitWidth":8,"isSigned":true},"children":[]}]},
 {"name":"m","nullable":true,"type":{"name":"list"},"children":[{"name":"item","nullable":true,"type":{"name":"list"},"children":[{"name":"item","nullable":true,"type":{"name":"int","bitWidth":8,"isSigned":true},"children":[]}]}]},
-{"name":"w","nullable":true,"type":{"name":"int","bitWidth":64,"isSigned":false},"children":[]},
-{"name":"t","nullable":true,"type":{"name":"largeutf8"},"children":[]},
+{"name":"w","nullable":true,"type":{"name":"int","bitWidth":64,"isSigned":false},"children":[]},{"name":"t","nullable":true,"type":{"name":"largeutf8"},"children":[]},
 {"name":"k","nullable":true,"type":{"name":"largelist"},"children":[{"name":"item","nullable":true,"type":{"name":"int","bitWidth":8,"isSigned":true},"children":[]}]},
 {"name":"d","nullable":true,"type":{"name":"utf8"},"children":[]}]},
 "batches":[{"count":2,"columns":[
-{"name":"s","count":2,"VALIDITY":[1,1],"OFFSET":[0,6,7],"DATA":["Lisbon","a"]},
-{"name":"n","count":2,"VALIDITY":[1,1],"DATA":[70000,5]},
-{"name":"b","count":2,"VALIDITY":[1,1],"DATA":[0,1]},
+{"name":"s","count":2,"VALIDITY":[1,1],"OFFSET":[0,6,7],"DATA":["Lisbon","a"]},{"name":"n","count":2,"VALIDITY":[1,1],"DATA":[70000,5]},{"name":"b","count":2,"VALIDITY":[1,1],"DATA":[0,1]},
 {"name":"l","count":2,"VALIDITY":[1,0],"OFFSET":[0,1,1],"children":[{"name":"item","count":1,"VALIDITY":[0],"DATA":[0]}]},
 {"name":"m","count":2,"VALIDITY":[1,0],"OFFSET":[0,1,1],"children":[{"name":"item","count":1,"VALIDITY":[1],"OFFSET":[0,2],"children":[{"name":"item","count":2,"VALIDITY":[1,1],"DATA":[4,5]}]}]},
-{"name":"w","count":2,"VALIDITY":[1,1],"DATA":["9","1"]},
-{"name":"t","count":2,"VALIDITY":[1,1],"OFFSET":["0","6","7"],"DATA":["Lisbon","a"]},
+{"name":"w","count":2,"VALIDITY":[1,1],"DATA":["9","1"]},{"name":"t","count":2,"VALIDITY":[1,1],"OFFSET":["0","6","7"],"DATA":["Lisbon","a"]},
 {"name":"k","count":2,"VALIDITY":[1,0],"OFFSET":["0","1","1"],"children":[{"name":"item","count":1,"VALIDITY":[0],"DATA":[0]}]},
 {"name":"d","count":2,"VALIDITY":[1,1],"OFFSET":[0,5,6],"DATA":["Braga","y"]}]}]}"#;
 
@@ -83,11 +67,6 @@ pub(crate) const BY_LARGE_TEXT: &str =
 /// The file of a text.
 pub(crate) fn file(alloc: Global, text: &str) -> Result<File, Fail> {
     Ok(read_file(alloc, text.as_bytes())?)
-}
-
-/// The query of a text.
-pub(crate) fn query_text(alloc: Global, text: &str) -> Result<QueryText, Fail> {
-    Ok(read_query(alloc, text.as_bytes())?)
 }
 
 /// The first batch of the file of a text.

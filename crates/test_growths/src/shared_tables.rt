@@ -2,64 +2,44 @@
 
 use crate::gathering::Gathering;
 use crate::refusals::Refused;
-use crate::run::{Ran, run};
+use crate::run::{Due, Ran, run};
 use crate::samples::{ONE_MORE, TWO_BATCHES, file, first_batch};
 use crate::stage::{Call, Stage};
 use crate::sweep::Trial;
+use arrays::{DataType, Field};
 use shared::{Naming, Publish, Reader, Session, SharedTable, Shown, Worker, with_table};
 use std::alloc::Global;
 use std::sync::Wait;
 use std::test::Fail;
 
-/// What is tried on a table of two workers.
-#[derive(Clone, Copy)]
-enum Play {
-    Call(Call),
-    Gather,
-}
-
-pub(crate) const CASES: [(&str, Case); 11] = [
-    ("SharedTable::append", Case(Play::Call(Call::Append), 1)),
-    (
-        "SharedTable::append, no readers",
-        Case(Play::Call(Call::Append), 0),
-    ),
-    ("SharedTable::snapshot", Case(Play::Call(Call::Snapshot), 1)),
-    ("SharedTable::compact", Case(Play::Call(Call::Compact), 1)),
-    (
-        "SharedTable::compact, no readers",
-        Case(Play::Call(Call::Compact), 0),
-    ),
-    (
-        "SharedTable::add_column",
-        Case(Play::Call(Call::AddColumn), 1),
-    ),
-    (
-        "SharedTable::add_column, no readers",
-        Case(Play::Call(Call::AddColumn), 0),
-    ),
-    ("Reader::latest", Case(Play::Call(Call::Latest), 1)),
-    (
-        "append, compact, add_column and latest in turn",
-        Case(Play::Call(Call::InTurn), 1),
-    ),
-    ("SharedTable::gather", Case(Play::Gather, 1)),
-    ("SharedTable::gather, no readers", Case(Play::Gather, 0)),
-];
-
 /// What is tried, and how many readers there are.
 #[derive(Clone, Copy)]
-pub(crate) struct Case(Play, u32);
+pub(crate) struct Case(Call, u32);
+
+#[rattlefmt::skip]
+pub(crate) static CASES: [(&str, Case); 11] = [
+    ("SharedTable::append", Case(Call::Append, 1)),
+    ("SharedTable::append, no readers", Case(Call::Append, 0)),
+    ("SharedTable::snapshot", Case(Call::Snapshot, 1)),
+    ("SharedTable::compact", Case(Call::Compact, 1)),
+    ("SharedTable::compact, no readers", Case(Call::Compact, 0)),
+    ("SharedTable::add_column", Case(Call::AddColumn, 1)),
+    ("SharedTable::add_column, no readers", Case(Call::AddColumn, 0)),
+    ("Reader::latest", Case(Call::Latest, 1)),
+    ("append, compact, add_column and latest in turn", Case(Call::InTurn, 1)),
+    ("SharedTable::gather", Case(Call::Gather, 1)),
+    ("SharedTable::gather, no readers", Case(Call::Gather, 0)),
+];
 
 impl<R: Wait> Trial<R> for Case {
     fn run(&self, rt: &R, alloc: Global, refused: Option<Refused>) -> Result<Ran, Fail> {
         let file = file(alloc, TWO_BATCHES)?;
         let schema = file.schema().copy(alloc)?;
-        let Case(play, readers) = *self;
+        let Case(call, readers) = *self;
         let playing = Playing {
             rt,
             alloc,
-            play,
+            call,
             refused,
         };
         with_table(rt, alloc, schema, 2, readers, playing)?
@@ -71,7 +51,7 @@ impl<R: Wait> Trial<R> for Case {
 struct Playing<'a, R: Wait> {
     rt: &'a R,
     alloc: Global,
-    play: Play,
+    call: Call,
     refused: Option<Refused>,
 }
 
@@ -87,19 +67,28 @@ impl<'a, R: Wait> Session for Playing<'a, R> {
         let Playing {
             rt,
             alloc,
-            play,
+            call,
             refused,
         } = self;
         let (mut workers, mut readers) = (workers, readers);
         append_two(rt, alloc, &table, &mut workers, &mut readers)?;
-        match play {
-            Play::Call(call) => {
-                let batch = first_batch(alloc, ONE_MORE)?;
-                let scene = Stage::new(call, batch, table, workers, readers);
-                run(rt, alloc, scene, refused)
-            }
-            Play::Gather => run(rt, alloc, Gathering::new(table, workers), refused),
+        if call == Call::Gather {
+            let scene = Gathering {
+                table: Some(table),
+                workers: Some(workers),
+            };
+            return run(rt, alloc, scene, Due::Answer, refused);
         }
+        let scene = Stage {
+            call,
+            batch: first_batch(alloc, ONE_MORE)?,
+            field: Field::nullable(alloc, "added", DataType::Utf8)?,
+            table,
+            workers,
+            readers,
+            turns: 0,
+        };
+        run(rt, alloc, scene, Due::Answer, refused)
     }
 }
 

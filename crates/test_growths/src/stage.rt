@@ -1,11 +1,9 @@
 //! A table with its workers and readers.
 
-use crate::columns::TEXTS;
-use crate::scene::Scene;
-use crate::stop::Stop;
+use crate::run::{Scene, Stop, answered, told};
 use crate::tell::tell_version;
 use arrays::{Field, RecordBatch};
-use shared::{Naming, Publish, Reader, SharedTable, Shown, Version, Worker};
+use shared::{Naming, Publish, Reader, SharedTable, Shown, Worker};
 use std::alloc::Global;
 use std::sync::{Arc, Wait};
 use std::test::Fail;
@@ -23,119 +21,97 @@ pub(crate) enum Call {
     Latest,
     /// Each worker appends, the batches are joined, a column is added, and the reader looks.
     InTurn,
+    /// The table is gathered, see [`Gathering`](crate::gathering::Gathering).
+    Gather,
 }
 
 /// A call with a table, its workers and its readers, a batch that is to be appended, and the field of a column that is to be
 /// added.
 #[derive(Drop)]
 pub(crate) struct Stage<N: Naming, P: Publish<Item = Shown<N>>> {
-    call: Call,
-    batch: Arc<RecordBatch>,
-    field: Option<Field>,
-    table: SharedTable<N, P>,
-    workers: Vec<Worker<N>>,
-    readers: Vec<Reader<N>>,
+    pub(crate) call: Call,
+    pub(crate) batch: Arc<RecordBatch>,
+    pub(crate) field: Field,
+    pub(crate) table: SharedTable<N, P>,
+    pub(crate) workers: Vec<Worker<N>>,
+    pub(crate) readers: Vec<Reader<N>>,
     /// How many of several calls are behind.
-    turns: u32,
+    pub(crate) turns: u32,
 }
 
 impl<N: Naming, P: Publish<Item = Shown<N>>> Stage<N, P> {
-    pub(crate) fn new(
-        call: Call,
-        batch: Arc<RecordBatch>,
-        table: SharedTable<N, P>,
-        workers: Vec<Worker<N>>,
-        readers: Vec<Reader<N>>,
-    ) -> Stage<N, P> {
-        Stage {
-            call,
-            batch,
-            field: None,
-            table,
-            workers,
-            readers,
-            turns: 0,
-        }
-    }
-
     /// Has the worker at a place append the batch.
-    fn append<R: Wait>(&mut self, rt: &R, place: usize) -> Result<Seen, Stop> {
-        match self.workers.get_mut(place) {
-            Some(worker) => {
-                let receipt = self.table.append(rt, worker, &self.batch)?;
-                Ok(Seen::Entry(receipt.entry()))
-            }
-            None => Err(Stop::Other),
-        }
+    fn append<R: Wait>(&mut self, rt: &R, report: &mut String, place: usize) -> Result<(), Stop> {
+        let Some(worker) = self.workers.get_mut(place) else {
+            return Err(Stop::Refused);
+        };
+        let receipt = answered(report, self.table.append(rt, worker, &self.batch))?;
+        let entry = receipt.entry();
+        Ok(write!(report, "{entry} ")?)
     }
 
     /// Has the first worker join the batches, or only look.
-    fn compact<R: Wait>(&mut self, rt: &R, joins: bool) -> Result<Seen, Stop> {
-        match self.workers.first_mut() {
-            Some(worker) if joins => Ok(Seen::Version(self.table.compact(rt, worker, 100)?)),
-            Some(worker) => Ok(Seen::Version(self.table.snapshot(rt, worker)?)),
-            None => Err(Stop::Other),
-        }
+    fn compact<R: Wait>(&mut self, rt: &R, report: &mut String, joins: bool) -> Result<(), Stop> {
+        let Some(worker) = self.workers.first_mut() else {
+            return Err(Stop::Refused);
+        };
+        let version = if joins {
+            answered(report, self.table.compact(rt, worker, 100))?
+        } else {
+            answered(report, self.table.snapshot(rt, worker))?
+        };
+        Ok(tell_version(report, &version)?)
     }
 
     /// Has the first worker add a column.
-    fn add_column<R: Wait>(&mut self, rt: &R) -> Result<Seen, Stop> {
-        match (self.workers.first_mut(), self.field.take()) {
-            (Some(worker), Some(field)) => {
-                self.table.add_column(rt, worker, field)?;
-                Ok(Seen::Nothing)
-            }
-            _ => Err(Stop::Other),
+    fn add_column<R: Wait>(
+        &mut self,
+        rt: &R,
+        alloc: Global,
+        report: &mut String,
+    ) -> Result<(), Stop> {
+        let field = self.field.copy(alloc)?;
+        match self.workers.first_mut() {
+            Some(worker) => told(report, self.table.add_column(rt, worker, field)),
+            None => Err(Stop::Refused),
         }
     }
 
     /// Has the reader look.
-    fn latest(&mut self) -> Result<Seen, Stop> {
-        match self.readers.first_mut() {
-            Some(reader) => Ok(Seen::Version(reader.latest()?)),
-            None => Err(Stop::Other),
-        }
+    fn latest(&mut self, report: &mut String) -> Result<(), Stop> {
+        let Some(reader) = self.readers.first_mut() else {
+            return Err(Stop::Refused);
+        };
+        let version = answered(report, reader.latest())?;
+        Ok(tell_version(report, &version)?)
     }
 
-    /// Makes those of several calls that aren't behind yet.
-    fn go_on<R: Wait>(&mut self, rt: &R) -> Result<Seen, Stop> {
+    /// Makes those of several calls that aren't behind yet, and tells what the last gives.
+    fn go_on<R: Wait>(&mut self, rt: &R, alloc: Global, report: &mut String) -> Result<(), Stop> {
         for turn in self.turns..TURNS {
-            let _seen = match turn {
-                0 => self.append(rt, 0)?,
-                1 => self.append(rt, 1)?,
-                2 => self.compact(rt, true)?,
-                _ => self.add_column(rt)?,
-            };
+            match turn {
+                0 => self.append(rt, report, 0)?,
+                1 => self.append(rt, report, 1)?,
+                2 => self.compact(rt, report, true)?,
+                _ => self.add_column(rt, alloc, report)?,
+            }
             self.turns = turn + 1;
         }
-        self.latest()
+        report.clear();
+        self.latest(report)
     }
-}
-
-/// What a call gave.
-#[derive(Drop)]
-pub(crate) enum Seen {
-    Nothing,
-    Entry(u32),
-    Version(Arc<Version>),
 }
 
 impl<N: Naming, P: Publish<Item = Shown<N>>, R: Wait> Scene<R> for Stage<N, P> {
-    type Answer = Seen;
-
-    fn renew(&mut self, alloc: Global) -> Result<(), Fail> {
-        self.field = Some(TEXTS.field(alloc)?);
-        Ok(())
-    }
-
-    fn call(&mut self, rt: &R, _alloc: Global) -> Result<Seen, Stop> {
+    fn call(&mut self, rt: &R, alloc: Global, report: &mut String) -> Result<(), Stop> {
         match self.call {
-            Call::Append => self.append(rt, 0),
-            Call::Snapshot => self.compact(rt, false),
-            Call::Compact => self.compact(rt, true),
-            Call::AddColumn => self.add_column(rt),
-            Call::Latest => self.latest(),
-            Call::InTurn => self.go_on(rt),
+            Call::Append => self.append(rt, report, 0),
+            Call::Snapshot => self.compact(rt, report, false),
+            Call::Compact => self.compact(rt, report, true),
+            Call::AddColumn => self.add_column(rt, alloc, report),
+            Call::Latest => self.latest(report),
+            Call::InTurn => self.go_on(rt, alloc, report),
+            Call::Gather => Err(Stop::Refused),
         }
     }
 
@@ -152,15 +128,6 @@ impl<N: Naming, P: Publish<Item = Shown<N>>, R: Wait> Scene<R> for Stage<N, P> {
         if let Some(worker) = self.workers.last_mut() {
             let version = self.table.snapshot(rt, worker)?;
             tell_version(report, &version)?;
-        }
-        Ok(())
-    }
-
-    fn tell_answer(report: &mut String, answer: &Seen) -> Result<(), Fail> {
-        match answer {
-            Seen::Nothing => {}
-            Seen::Entry(number) => write!(report, "{number} ")?,
-            Seen::Version(version) => tell_version(report, version)?,
         }
         Ok(())
     }

@@ -1,9 +1,7 @@
 //! All runs of a call.
 
-use crate::fault::Fault;
 use crate::refusals::{Refused, are_all_let_go, count_blocks};
-use crate::run::Ran;
-use crate::tally::Tally;
+use crate::run::{Fault, Ran};
 use std::alloc::Global;
 use std::io::Print;
 use std::test::Fail;
@@ -24,6 +22,13 @@ struct Wrong {
     fault: Fault,
 }
 
+/// How many calls are as they should be, and how many aren't.
+#[derive(Clone, Copy)]
+pub(crate) struct Tally {
+    pub(crate) passed: u32,
+    pub(crate) failed: u32,
+}
+
 /// Has each request of these calls refused, and prints what came of it.
 pub(crate) fn sweep_all<T: Trial<R>, R: Print>(
     rt: &R,
@@ -32,27 +37,15 @@ pub(crate) fn sweep_all<T: Trial<R>, R: Print>(
     tally: &mut Tally,
 ) -> Result<(), Fail> {
     for (name, trial) in calls {
-        sweep(rt, alloc, name, trial, tally)?;
-    }
-    Ok(())
-}
-
-/// Has each request of a call refused, and prints what came of it.
-fn sweep<T: Trial<R>, R: Print>(
-    rt: &R,
-    alloc: Global,
-    name: &str,
-    trial: &T,
-    tally: &mut Tally,
-) -> Result<(), Fail> {
-    match counted(rt, alloc, trial)? {
-        Ok(count) => {
-            println!(rt; "{name}: {count} refused, ok")?;
-            tally.count(true);
-        }
-        Err(Wrong { number, fault }) => {
-            println!(rt; "{name}: request {number}: {fault}")?;
-            tally.count(false);
+        match counted(rt, alloc, trial)? {
+            Ok(count) => {
+                println!(rt; "{name}: {count} refused, ok")?;
+                tally.passed = tally.passed.wrapping_add(1);
+            }
+            Err(Wrong { number, fault }) => {
+                println!(rt; "{name}: request {number}: {fault:?}")?;
+                tally.failed = tally.failed.wrapping_add(1);
+            }
         }
     }
     Ok(())
@@ -68,8 +61,7 @@ fn counted<T: Trial<R>, R>(rt: &R, alloc: Global, trial: &T) -> Result<Result<u3
     let behind = counted_so(rt, alloc, trial, wanted.as_str(), true)?;
     Ok(match (alone, behind) {
         (Ok(alone), Ok(behind)) => Ok(alone.wrapping_add(behind)),
-        (Err(wrong), _) => Err(wrong),
-        (_, Err(wrong)) => Err(wrong),
+        (Err(wrong), _) | (_, Err(wrong)) => Err(wrong),
     })
 }
 
@@ -89,33 +81,19 @@ fn counted_so<T: Trial<R>, R>(
         count_blocks(alloc);
         let looked = looked_at(trial.run(rt, alloc, Some(refused))?, wanted);
         let is_clean = are_all_let_go(alloc);
-        let met = match looked {
-            Ok(met) => met,
-            Err(fault) => return Ok(Err(Wrong { number, fault })),
+        let fault = match looked {
+            Err(fault) => fault,
+            Ok(_) if !is_clean => Fault::BlockInUse,
+            Ok(true) => continue,
+            Ok(false) if number == 1 => Fault::NothingRefused,
+            Ok(false) => return Ok(Ok(number - 1)),
         };
-        if !is_clean {
-            let fault = Fault::BlockInUse;
-            return Ok(Err(Wrong { number, fault }));
-        }
-        if !met {
-            return Ok(ended(number));
-        }
+        return Ok(Err(Wrong { number, fault }));
     }
     Ok(Err(Wrong {
         number: MOST,
         fault: Fault::NoEnd,
     }))
-}
-
-/// How many requests were refused, where that of this number never came.
-fn ended(number: u32) -> Result<u32, Wrong> {
-    if number <= 1 {
-        return Err(Wrong {
-            number,
-            fault: Fault::NothingRefused,
-        });
-    }
-    Ok(number - 1)
 }
 
 /// Whether a request was refused in a run that came to the answer.

@@ -2,7 +2,7 @@ use Rattle.std.proofs.Common.{◌∙◌, ap, sym}
 use Rattle.query.specs.QueryShape.{query_shape}
 use Rattle.query.specs.Fault.{fits}
 use Rattle.table.specs.Contents.{Contents}
-use Rattle.test_growths.proofs.queries.Asking.new.Goals as goal
+use Rattle.test_growths.proofs.query_calls.Asking.new.Goals as goal
 
 pub invariant_of-result : goal.invariant_of-result
 invariant_of-result c = record {
