@@ -1,6 +1,7 @@
-/* What `arrowtab` prints of Arrow integration files (JSON), in one's own process.
+/* A table of Arrow record batches, and what `arrowtab` prints of Arrow integration files (JSON), in one's own process. `selqumar_arrow.h` hands on the
+   batches of other libraries.
 
-   Each call takes the bytes of files, one file after the other, and answers a status:
+   Each call takes the bytes of files, one file after the other, or columns that lie in memory, and answers a status:
 
      SELQUMAR_GIVEN      All of the text is at the front of `out`, and `*needed` is its length. The rest of `out` stays as it was.
      SELQUMAR_FAULT      A fault stands. Its line is at the front of `out`, and `*needed` is its length. It names a file by its number,
@@ -12,12 +13,12 @@
    The text is UTF-8, without a zero behind it. A call that answers SELQUMAR_SHORT has cost as much as another, so begin with a buffer of
    4096 bytes or of as many as the last call needed, and for an export with one that is as long as all files together.
 
-   Nothing stays between calls but what is open in a handle: `selqumar_open` reads files once, and the calls on its handle answer as the
-   ones that take the same files, without reading them again. Calls may run at once in several threads, each with buffers and handles of its
+   Nothing stays between calls but what is open in a handle: the table of files that `selqumar_open` read, or one that `selqumar_new` made and
+   `selqumar_append` filled. A call that is refused leaves it as it was. Calls may run at once in several threads, each with buffers and handles of its
    own. That several threads use one handle, one at a time under a lock, is tested but not proved. A call needs 128 kB of stack. What the
    caller owes is checked by nothing:
 
-     - `files` has `count` entries, and each `data` has `length` bytes; a length is below 2^63.
+     - `files` and `nodes` have `count` entries, and each `data` has `length` bytes; a length is below 2^63. Nothing that these bytes say is trusted.
      - A pointer may be null where there is nothing behind it: a count, a length or `room` of 0. (In other languages it may not: the
        functions themselves want any other aligned address there. What allows it stands at the end of this file.)
      - `out` has `room` bytes, all of them initialized. Neither `out` nor `needed` nor a handle overlaps anything else that is handed in, and
@@ -64,6 +65,23 @@ uint32_t selqumar_query(const struct selqumar_bytes *files, size_t count, const 
 /* Nothing, where all files are read and can be loaded into one table. */
 uint32_t selqumar_validate(const struct selqumar_bytes *files, size_t count, uint8_t *out, size_t room, size_t *needed);
 
+/* A column, or what lies in one: its field and its array, as `ArrowSchema` and `ArrowArray` have them, with the lengths of its buffers. The node of a list is
+   followed by that of its items, that of a dictionary's indices by that of its texts. Where there is no validity or no second buffer, there are no bytes. */
+struct selqumar_node {
+  /* `c C s S i I l L b u U +l +L`; with a dictionary that of its indices, whose texts are `u`. */
+  struct selqumar_bytes format;
+  /* UTF-8. That of a dictionary isn't read. */
+  struct selqumar_bytes name;
+  /* 0 where its slots may not be null, and 0 where it has no dictionary. */
+  uint32_t nullable, dictionary;
+  /* 1 of a list, else 0. */
+  uint64_t children;
+  /* How many slots there are, and how many of them are null, or UINT64_MAX where that isn't known. */
+  uint64_t length, null_count;
+  /* A bit for each slot; numbers, bits, offsets or indices; and the bytes of texts. */
+  struct selqumar_bytes validity, first, second;
+};
+
 /* A table that stays open between calls, or none. */
 struct selqumar_handle {
   bool is_open;
@@ -76,13 +94,31 @@ struct selqumar_handle {
    answers another status than SELQUMAR_GIVEN, what was open stays open. */
 uint32_t selqumar_open(const struct selqumar_bytes *files, size_t count, struct selqumar_handle *handle, uint8_t *out, size_t room, size_t *needed);
 
-/* The same as `selqumar_stats` of the files that the table was opened over. */
+/* Opens an empty table of the fields that the nodes name, in place of the one that is open. Their lengths, null counts and buffers aren't looked at. What is
+   printed, and where the table that was open stays, is as for `selqumar_open`. */
+uint32_t selqumar_new(const struct selqumar_node *nodes, size_t count, struct selqumar_handle *handle, uint8_t *out, size_t room, size_t *needed);
+
+/* Adds the batch of so many rows that the nodes are to the table that is open, all of it or nothing. It is copied once and checked once. Of which worker it is
+   counts for the statistics alone. Nothing is printed. Appends of several threads take turns, which is the caller's to see to. */
+uint32_t selqumar_append(struct selqumar_handle *handle, uint32_t worker, uint32_t rows, const struct selqumar_node *nodes, size_t count, uint8_t *out,
+                         size_t room, size_t *needed);
+
+/* Puts a column of the field that the nodes name behind the others, null in each row. Nothing is printed. */
+uint32_t selqumar_add_column(struct selqumar_handle *handle, const struct selqumar_node *nodes, size_t count, uint8_t *out, size_t room, size_t *needed);
+
+/* Joins neighbouring batches into ones of at most so many rows. No answer of a query changes by it. Nothing is printed. */
+uint32_t selqumar_compact(struct selqumar_handle *handle, uint32_t max_rows, uint8_t *out, size_t room, size_t *needed);
+
+/* What `arrowtab stats` prints of the table that is open, with one worker. */
 uint32_t selqumar_open_stats(struct selqumar_handle *handle, uint8_t *out, size_t room, size_t *needed);
 
-/* The same as `selqumar_export` of them. */
+/* The same with so many workers. */
+uint32_t selqumar_stats_of(struct selqumar_handle *handle, uint32_t workers, uint8_t *out, size_t room, size_t *needed);
+
+/* What `arrowtab export` prints of it. */
 uint32_t selqumar_open_export(struct selqumar_handle *handle, uint8_t *out, size_t room, size_t *needed);
 
-/* The same as `selqumar_query` of them. */
+/* What `arrowtab query` prints of it: a line for each group. */
 uint32_t selqumar_open_query(struct selqumar_handle *handle, const uint8_t *query, size_t query_length, uint8_t *out, size_t room, size_t *needed);
 
 /* Closes the table that is open in the handle, if one is. The handle may be null. */
@@ -158,6 +194,58 @@ static inline uint32_t selqumar_open_or_null(const struct selqumar_bytes *files,
   return some ? selqumar_freed(some, files, selqumar_open(some, count, handle, selqumar_some_out(out), room, needed)) : (uint32_t)SELQUMAR_NO_MEMORY;
 }
 
+static inline struct selqumar_bytes selqumar_some_bytes(struct selqumar_bytes bytes) {
+  bytes.data = selqumar_some(bytes.data);
+  return bytes;
+}
+
+/* A copy of the nodes, none of whose bytes are null. None where there is no memory for it. */
+static inline struct selqumar_node *selqumar_some_nodes(const struct selqumar_node *nodes, size_t count) {
+  struct selqumar_node *copy = (struct selqumar_node *)calloc(count + 1, sizeof *copy);
+  size_t i;
+  for (i = 0; copy && i < count; i++) {
+    copy[i] = nodes[i];
+    copy[i].format = selqumar_some_bytes(nodes[i].format);
+    copy[i].name = selqumar_some_bytes(nodes[i].name);
+    copy[i].validity = selqumar_some_bytes(nodes[i].validity);
+    copy[i].first = selqumar_some_bytes(nodes[i].first);
+    copy[i].second = selqumar_some_bytes(nodes[i].second);
+  }
+  return copy;
+}
+
+static inline uint32_t selqumar_freed_nodes(struct selqumar_node *copy, uint32_t status) {
+  free(copy);
+  return status;
+}
+
+static inline uint32_t selqumar_new_or_null(const struct selqumar_node *nodes, size_t count, struct selqumar_handle *handle, uint8_t *out, size_t room,
+                                            size_t *needed) {
+  struct selqumar_node *some = selqumar_some_nodes(nodes, count);
+  return some ? selqumar_freed_nodes(some, selqumar_new(some, count, handle, selqumar_some_out(out), room, needed)) : (uint32_t)SELQUMAR_NO_MEMORY;
+}
+
+static inline uint32_t selqumar_append_or_null(struct selqumar_handle *handle, uint32_t worker, uint32_t rows, const struct selqumar_node *nodes,
+                                               size_t count, uint8_t *out, size_t room, size_t *needed) {
+  struct selqumar_node *some = selqumar_some_nodes(nodes, count);
+  return some ? selqumar_freed_nodes(some, selqumar_append(handle, worker, rows, some, count, selqumar_some_out(out), room, needed))
+              : (uint32_t)SELQUMAR_NO_MEMORY;
+}
+
+static inline uint32_t selqumar_add_column_or_null(struct selqumar_handle *handle, const struct selqumar_node *nodes, size_t count, uint8_t *out,
+                                                   size_t room, size_t *needed) {
+  struct selqumar_node *some = selqumar_some_nodes(nodes, count);
+  return some ? selqumar_freed_nodes(some, selqumar_add_column(handle, some, count, selqumar_some_out(out), room, needed)) : (uint32_t)SELQUMAR_NO_MEMORY;
+}
+
+static inline uint32_t selqumar_compact_or_null(struct selqumar_handle *handle, uint32_t max_rows, uint8_t *out, size_t room, size_t *needed) {
+  return selqumar_compact(handle, max_rows, selqumar_some_out(out), room, needed);
+}
+
+static inline uint32_t selqumar_stats_of_or_null(struct selqumar_handle *handle, uint32_t workers, uint8_t *out, size_t room, size_t *needed) {
+  return selqumar_stats_of(handle, workers, selqumar_some_out(out), room, needed);
+}
+
 static inline uint32_t selqumar_open_stats_or_null(struct selqumar_handle *handle, uint8_t *out, size_t room, size_t *needed) {
   return selqumar_open_stats(handle, selqumar_some_out(out), room, needed);
 }
@@ -181,6 +269,11 @@ static inline void selqumar_close_or_null(struct selqumar_handle *handle) {
 #define selqumar_query(...) selqumar_query_or_null(__VA_ARGS__)
 #define selqumar_validate(...) selqumar_validate_or_null(__VA_ARGS__)
 #define selqumar_open(...) selqumar_open_or_null(__VA_ARGS__)
+#define selqumar_new(...) selqumar_new_or_null(__VA_ARGS__)
+#define selqumar_append(...) selqumar_append_or_null(__VA_ARGS__)
+#define selqumar_add_column(...) selqumar_add_column_or_null(__VA_ARGS__)
+#define selqumar_compact(...) selqumar_compact_or_null(__VA_ARGS__)
+#define selqumar_stats_of(...) selqumar_stats_of_or_null(__VA_ARGS__)
 #define selqumar_open_stats(...) selqumar_open_stats_or_null(__VA_ARGS__)
 #define selqumar_open_export(...) selqumar_open_export_or_null(__VA_ARGS__)
 #define selqumar_open_query(...) selqumar_open_query_or_null(__VA_ARGS__)

@@ -6,6 +6,7 @@ import platform
 import zipfile
 
 HERE = os.path.dirname(os.path.abspath(__file__))
+PACKAGE = os.path.join(HERE, "selqumar")
 METADATA = "Metadata-Version: 2.1\nName: selqumar\nVersion: {version}\nSummary: {summary}\nRequires-Python: {python}\n"
 WHEEL = "Wheel-Version: 1.0\nGenerator: wheel_of_selqumar\nRoot-Is-Purelib: false\nTag: {tag}\n"
 
@@ -19,7 +20,7 @@ def project():
 
 def library():
     """The place of the shared library, under the name that the module looks for."""
-    with open(os.path.join(HERE, "selqumar.py"), encoding="utf-8") as file:
+    with open(os.path.join(PACKAGE, "_library.py"), encoding="utf-8") as file:
         name = next(line.split('"')[1] for line in file if line.startswith("LIBRARY = "))
     place = os.path.join(os.path.dirname(HERE), "build", name)
     if not os.path.exists(place):
@@ -34,8 +35,8 @@ def build_wheel(wheel_directory, config_settings=None, metadata_directory=None):
     tag = f"py3-none-linux_{platform.machine()}"
     info = f"selqumar-{version}.dist-info"
     place = library()
-    with open(place, "rb") as shared, open(os.path.join(HERE, "selqumar.py"), "rb") as module:
-        files = {"selqumar.py": module.read(), os.path.basename(place): shared.read()}
+    modules = [os.path.join(PACKAGE, name) for name in sorted(os.listdir(PACKAGE)) if name.endswith(".py") or name == "py.typed"]
+    files = {f"selqumar/{os.path.basename(path)}": read(path) for path in [*modules, place]}
     files[f"{info}/METADATA"] = METADATA.format(version=version, summary=given["description"], python=given["requires-python"]).encode()
     files[f"{info}/WHEEL"] = WHEEL.format(tag=tag).encode()
     files[f"{info}/RECORD"] = record(files, info).encode()
@@ -44,6 +45,11 @@ def build_wheel(wheel_directory, config_settings=None, metadata_directory=None):
         for path, data in files.items():
             wheel.writestr(path, data)
     return name
+
+
+def read(path):
+    with open(path, "rb") as file:
+        return file.read()
 
 
 def record(files, info):

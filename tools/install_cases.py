@@ -19,14 +19,15 @@ from refusals import TOP, compiler
 SECONDS = 120
 MIXED = os.path.join(TOP, "examples", "mixed.json")
 QUERY = '{"by":["city"],"aggs":[{"agg":"rows"}]}'
-INSTALLED = """bin/arrowtab bin/arrowtab-shards include/selqumar.h lib/libselqumar.a lib/libselqumar.so lib/libselqumar.so.1 lib/pkgconfig/selqumar.pc
+INSTALLED = """bin/arrowtab bin/arrowtab-shards include/selqumar.h include/selqumar_arrow.h lib/libselqumar.a lib/libselqumar.so lib/libselqumar.so.1 lib/pkgconfig/selqumar.pc
 share/bash-completion/completions/arrowtab share/doc/selqumar/CHANGELOG.md share/doc/selqumar/FAULTS.md share/doc/selqumar/NOTICE
 share/doc/selqumar/QUERIES.md share/doc/selqumar/README.md share/doc/selqumar/SECURITY.md share/doc/selqumar/SHARDS.md share/man/man1/arrowtab.1
-share/selqumar/selqumar.py share/selqumar/shard_groups.py share/selqumar/shard_runs.py share/selqumar/shards""".split()
+share/selqumar/selqumar/__init__.py share/selqumar/selqumar/_columns.py share/selqumar/selqumar/_files.py share/selqumar/selqumar/_library.py
+share/selqumar/selqumar/_memory.py share/selqumar/selqumar/_table.py share/selqumar/selqumar/_values.py share/selqumar/selqumar/py.typed share/selqumar/shard_groups.py share/selqumar/shard_runs.py share/selqumar/shards""".split()
 # Where the version stands, and how.
 VERSIONS = {
     "include/selqumar.h": r'^#define SELQUMAR_RELEASE "(.*)"$',
-    "python/selqumar.py": r'^__version__ = "(.*)"$',
+    "python/selqumar/__init__.py": r'^__version__ = "(.*)"$',
     "python/pyproject.toml": r'^version = "(.*)"$',
     "CITATION.cff": r"^version: (.*)$",
     "CHANGELOG.md": r"^## (\S+), \d{4}-\d\d-\d\d$",
@@ -65,10 +66,10 @@ def program_cases(program, room):
     yield "shards", difference(run(f"{room}/bin/arrowtab-shards", QUERY, MIXED, cwd=room).stdout, run(program, "query", "--query", QUERY, MIXED).stdout)
     with open(f"{room}/share/man/man1/arrowtab.1", encoding="utf-8") as file:
         page = file.read().replace("\\-", "-").replace("\\&", "").replace("\\e", "\\")
-    for command in ("arrowtab", "stats", "schema", "validate", "export", "query"):
+    for command in ("arrowtab", "stats", "schema", "validate", "head", "export", "query"):
         yield f"the page has the help of {command}", None if text_of("docs", "help", f"{command}.txt") in page else page
     complete = f". {room}/share/bash-completion/completions/arrowtab; COMP_WORDS=(arrowtab $1); COMP_CWORD=$(($# ? ${{#COMP_WORDS[@]}} - 1 : 1)); _arrowtab; echo ${{COMPREPLY[@]}}"
-    for words, wanted in (("ex", "export"), ("stats --w", "--workers"), ("query --q", "--query"), ("help q", "query")):
+    for words, wanted in (("ex", "export"), ("stats --w", "--workers"), ("query --q", "--query"), ("query --output j", "json"), ("help q", "query")):
         yield f"completions of {words}", difference(run("bash", "-c", complete, "bash", words).stdout.strip(), wanted)
 
 
@@ -101,7 +102,7 @@ def wheel_cases(room):
     script = "import selqumar, sys; print(selqumar.__version__, selqumar.stats(sys.argv[1]).rows, selqumar.__file__)"
     for place in places:
         ran = run(sys.executable, "-c", script, MIXED, cwd=room, PYTHONPATH=place)
-        yield f"Python from {os.path.basename(place)}", difference(ran.stdout.strip(), f"{text_of('VERSION').strip()} 5 {place}/selqumar.py") and ran.stdout + ran.stderr
+        yield f"Python from {os.path.basename(place)}", difference(ran.stdout.strip(), f"{text_of('VERSION').strip()} 5 {place}/selqumar/__init__.py") and ran.stdout + ran.stderr
 
 
 def cases(program, room):

@@ -5,7 +5,7 @@
      library stack CALL FILES
      library nulls CALL FILES
 
-   For the first two `refusals.c` has to be loaded. The query of `query` is the text of the variable QUERY. The status is 0 where all is as it should
+   A call is one of those on files, or `nodes`: all that make, fill and change a table of columns in memory. For the first two `refusals.c` has to be loaded. The query of `query` is the text of the variable QUERY. The status is 0 where all is as it should
    be. */
 #include "selqumar.h"
 #include <pthread.h>
@@ -52,11 +52,56 @@ static void call_on_table(struct answer *answer) {
   selqumar_close(&handle);
 }
 
+static struct selqumar_bytes text(const char *text) {
+  struct selqumar_bytes bytes = {(const uint8_t *)text, strlen(text)};
+  return bytes;
+}
+
+/* Makes a table, appends to it, and changes it in each way there is: up to the step that isn't given. A fault of an append stands between. */
+static uint32_t steps(struct selqumar_handle *handle, struct answer *answer) {
+  static const uint8_t numbers[] = {1, 2, 3, 4}, ends[] = {0, 0, 0, 0, 1, 0, 0, 0, 1, 0, 0, 0, 3, 0, 0, 0}, valid[] = {5};
+  const struct selqumar_bytes number = {numbers, 3}, offsets = {ends, sizeof ends}, bits = {valid, 1};
+  struct selqumar_node nodes[] = {
+    {.format = text("c"), .name = text("n"), .nullable = 1, .length = 3, .null_count = 1, .validity = bits, .first = number},
+    {.format = text("u"), .name = text("t"), .nullable = 1, .length = 3, .null_count = UINT64_MAX, .first = offsets, .second = text("xyz")},
+    {.format = text("+l"), .name = text("l"), .nullable = 1, .children = 1, .length = 3, .first = offsets},
+    {.format = text("b"), .name = text("item"), .nullable = 1, .length = 3, .first = bits},
+  };
+  struct selqumar_node added = {.format = text("u"), .name = text("more"), .nullable = 1};
+  uint8_t *out = answer->out;
+  size_t *needed = &answer->needed;
+  uint32_t status = selqumar_new(nodes, 4, handle, out, ROOM, needed);
+  for (uint32_t worker = 0; status == SELQUMAR_GIVEN && worker < 3; worker++)
+    status = selqumar_append(handle, worker, 3, nodes, 4, out, ROOM, needed);
+  if (status == SELQUMAR_GIVEN && (status = selqumar_append(handle, 0, 4, nodes, 4, out, ROOM, needed)) == SELQUMAR_FAULT)
+    status = SELQUMAR_GIVEN;
+  if (status == SELQUMAR_GIVEN)
+    status = selqumar_add_column(handle, &added, 1, out, ROOM, needed);
+  if (status == SELQUMAR_GIVEN)
+    status = selqumar_compact(handle, 5, out, ROOM, needed);
+  return status == SELQUMAR_GIVEN ? selqumar_stats_of(handle, 3, out, ROOM, needed) : status;
+}
+
+/* The steps, over a table that is open, and twice. What memory stopped has printed nothing. */
+static void call_on_nodes(struct answer *answer) {
+  struct selqumar_handle handle = SELQUMAR_CLOSED;
+  answer->status = steps(&handle, answer);
+  if (answer->status == SELQUMAR_GIVEN)
+    answer->status = steps(&handle, answer);
+  selqumar_close(&handle);
+  if (answer->status == SELQUMAR_NO_MEMORY) {
+    memset(answer->out, 0xA5, ROOM);
+    answer->needed = UNTOUCHED;
+  }
+}
+
 /* Calls the function, over a buffer that it finds filled. */
 static void call(struct answer *answer) {
   memset(answer->out, 0xA5, ROOM);
   answer->needed = UNTOUCHED;
-  if (!strncmp(name, "open_", 5))
+  if (!strcmp(name, "nodes"))
+    call_on_nodes(answer);
+  else if (!strncmp(name, "open_", 5))
     call_on_table(answer);
   else if (!strcmp(name, "stats"))
     answer->status = selqumar_stats(files, count, answer->out, ROOM, &answer->needed);

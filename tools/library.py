@@ -96,7 +96,7 @@ def given(selqumar, call, files, query=QUERY):
 def opened(selqumar, call, files, query=QUERY):
     """The same of a table that is opened over the files, asked twice."""
     try:
-        with selqumar.Table(files) as table:
+        with selqumar.Table.of_files(files) as table:
             run = {"stats": table.stats_text, "export": table.export, "query": lambda: table.query_text(query)}[call]
             run()
             return True, run()
@@ -160,7 +160,7 @@ def check_values(selqumar):
     lines = selqumar.query_text(files, QUERY).count("\n")
     check("query as a value", difference(selqumar.query(files, {"aggs": [{"agg": "rows"}]}), [[people.rows]]))
     check("groups as values", difference(len(groups), lines))
-    table = selqumar.Table(files)
+    table = selqumar.Table.of_files(files)
     check("a table as values", difference((table.stats(), table.query(QUERY)), (selqumar.stats(files), groups)))
     table.close()
     number = {"name": "n", "nullable": True, "type": {"name": "int", "bitWidth": 8, "isSigned": True}, "children": []}
@@ -236,7 +236,7 @@ def check_example(what, example_program, program, room):
     check(f"{what} over a pipe", difference(ran.returncode, 0))
 
 
-HEADER = """#include "selqumar.h"
+HEADER = """#include "selqumar_arrow.h"
 int main(void) { size_t needed = 0; selqumar_close(NULL); return selqumar_stats(NULL, 0, NULL, 0, &needed) != SELQUMAR_SHORT || SELQUMAR_VERSION < 1; }
 """
 
@@ -255,12 +255,41 @@ def check_header(archive, folder):
               difference(subprocess.run([os.path.join(folder, "h")], timeout=SECONDS).returncode, 0))
 
 
+TABLE = b"""\"Lisbon\" 1091846
+\"Braga\" 386648
+null 2
+rows 6
+worker 0 calls 1 rows 3
+worker 1 calls 1 rows 3
+\"city\" dictionary rows=6 nulls=2 sum=- least=\"Braga\" greatest=\"Lisbon\"
+\"people\" int64 rows=6 nulls=0 sum=1478496 least=1 greatest=545923
+"""
+
+
+def check_table(archive, folder):
+    """The table of a program in C, also where each access to memory is looked at."""
+    source = os.path.join(TOP, "examples", "table.c")
+    for what, more, before in [("as it is", [], []), ("with sanitizers", ["-fsanitize=address,undefined", "-fno-sanitize-recover"], []),
+                               ("below valgrind", ["-g"], ["valgrind", "-q", "--leak-check=full", "--error-exitcode=9"])]:
+        if before and not shutil.which(before[0]):
+            print(f"not tried: {before[0]}", flush=True)
+            continue
+        out = os.path.join(folder, "table")
+        built = subprocess.run([*compiler(), "-O1", *more, f"-I{TOP}/include", source, archive, "-o", out], capture_output=True, check=False)
+        if built.returncode and what == "with sanitizers":
+            print("not tried: sanitizers", flush=True)
+            continue
+        ran = subprocess.run([*before, out], capture_output=True, timeout=SECONDS)
+        check(f"a table in C {what}", difference((ran.returncode, ran.stdout, ran.stderr.count(b"OffsetDecreases")), (0, TABLE, 1)))
+
+
 def check_c_and_rust(program, archive, folder, room):
     for source in ("examples/embed.c", "tools/library.c"):
         out = os.path.join(folder, os.path.basename(source)[:-2])
         words = [*compiler(), "-O1", "-Wall", "-Wextra", "-Wpedantic", "-Werror", "-pthread", f"-I{TOP}/include", os.path.join(TOP, source), archive, "-o", out]
         subprocess.run(words, check=True)
     check_example("C", os.path.join(folder, "embed"), program, room)
+    check_table(archive, folder)
     check_header(archive, folder)
     if not shutil.which("rustc"):
         print("not tried: Rust", flush=True)
@@ -300,6 +329,9 @@ def check_memory(program, folder, room):
             words = [os.path.join(folder, "library"), how, call, *files]
             ran = subprocess.run(words, env={**os.environ, "QUERY": QUERY.decode(), **more}, capture_output=True, timeout=SECONDS)
             check(f"{how} {call} of {os.path.basename(files[0])}", None if ran.returncode == 0 else f"status {ran.returncode} {ran.stdout!r:.200}")
+    for how, more in (("repeated", loaded), ("refused", loaded), ("stack", {})):
+        ran = subprocess.run([os.path.join(folder, "library"), how, "nodes"], env={**os.environ, **more}, capture_output=True, timeout=SECONDS)
+        check(f"{how} calls on nodes", None if ran.returncode == 0 else f"status {ran.returncode} {ran.stdout!r:.200}")
 
 
 def library_in(words):
@@ -317,6 +349,7 @@ def main():
     library = os.environ["SELQUMAR_LIBRARY"] = os.path.join(place, "libselqumar.so")
     sys.path.insert(0, os.path.join(TOP, "python"))
     import library_python
+    import library_table
     import selqumar
     with tempfile.TemporaryDirectory() as folder, tempfile.TemporaryDirectory() as room, tempfile.TemporaryDirectory() as other:
         check_cases(program, selqumar, room)
@@ -325,7 +358,7 @@ def main():
         check_buffers(program, ctypes.CDLL(library), room)
         check_c_and_rust(program, os.path.join(place, "libselqumar.a"), folder, room)
         check_memory(program, folder, room)
-        for what, fault in [*library_build.cases(folder), *library_python.cases(selqumar, library, other)]:
+        for what, fault in [*library_build.cases(folder), *library_python.cases(selqumar, library, other), *library_table.cases(selqumar)]:
             check(what, fault)
     print(f"{passed} passed, {failed} failed")
     return failed > 0

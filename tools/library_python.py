@@ -56,7 +56,7 @@ def input_cases(selqumar, path):
         for name, one in kinds.items():
             yield f"{name} alone", difference(selqumar.stats_text(one), wanted)
             yield f"{name} among several", difference(selqumar.stats_text([one, data]), wanted_twice)
-            with selqumar.Table(one) as table:
+            with selqumar.Table.of_files(one) as table:
                 yield f"a table of {name}", difference(table.stats_text(), wanted)
     yield "an iterator", difference(selqumar.stats_text(iter([data, data])), wanted_twice)
     numbers = array.array("i", [1, 2, 3])
@@ -64,7 +64,7 @@ def input_cases(selqumar, path):
         others = {"a number": 3, "numbers": [3], "None": None, "a dict": {"a": data}, "an open file": opened, "an array of numbers": numbers,
                   "a memoryview of numbers": memoryview(numbers), "every second byte": memoryview(data)[::2], "a list in a list": [[data]]}
         for name, other in others.items():
-            yield f"{name} for files", difference((name_of(selqumar.stats, other), name_of(selqumar.Table, other)), ("TypeError", "TypeError"))
+            yield f"{name} for files", difference((name_of(selqumar.stats, other), name_of(selqumar.Table.of_files, other)), ("TypeError", "TypeError"))
     yield "a path that isn't there", difference(name_of(selqumar.stats, pathlib.Path(path + ".none")), "FileNotFoundError")
     held = bytearray(data)
     selqumar.stats(held)
@@ -112,20 +112,22 @@ def form_cases(selqumar, data):
         version = re.search(r"^#define SELQUMAR_VERSION (\d+)$", file.read(), re.M)[1]
     yield "the library's number", difference(selqumar.LIBRARY, f"libselqumar.so.{version}")
     functions = [value for name in selqumar.__all__ for value in [getattr(selqumar, name)] if not isinstance(value, type)]
-    functions += [getattr(selqumar.Table, name) for name in ("__init__", "stats", "query", "export", "stats_text", "query_text", "close")]
+    functions += [getattr(selqumar.Table, name) for name in ("__init__", "of", "of_files", "append", "add_column", "compact", "stats", "query", "export", "stats_text",
+                                                             "query_text", "close")]
     bare = [it.__name__ for it in functions if "return" not in typing.get_type_hints(it)]
-    yield "type hints", difference((len(functions), bare), (13, []))
-    table = selqumar.Table([data, data])
+    yield "type hints", difference((len(functions), bare), (18, []))
+    table = selqumar.Table.of_files([data, data])
     shown = repr(table)
     table.close()
-    yield "repr", difference((shown, repr(table)), ("<selqumar.Table of 2 files, open>", "<selqumar.Table of 2 files, closed>"))
+    yield "repr", difference((shown, repr(table)), ("<selqumar.Table of 10 rows: city, capital, people>", "<selqumar.Table, closed>"))
 
 
 def import_cases(library, room):
     """Where the module looks for the library, and what it says where there is none."""
     for folder in ("python", "build"):
         os.mkdir(os.path.join(room, folder))
-    shutil.copy(os.path.join(TOP, "python", "selqumar.py"), os.path.join(room, "python"))
+    package = os.path.join(room, "python", "selqumar")
+    shutil.copytree(os.path.join(TOP, "python", "selqumar"), package, ignore=shutil.ignore_patterns("__pycache__"))
     env = {name: it for name, it in os.environ.items() if name != "SELQUMAR_LIBRARY"}
     env["PYTHONPATH"] = os.path.join(room, "python")
 
@@ -139,7 +141,7 @@ def import_cases(library, room):
     yield "it is another library", difference(imported(SELQUMAR_LIBRARY="libc.so.6"), ("ImportError", True))
     os.symlink(library, os.path.join(room, "build", "libselqumar.so.1"))
     yield "the library of the tree", difference(imported(), ("", False))
-    os.symlink(library, os.path.join(room, "python", "libselqumar.so.1"))
+    os.symlink(library, os.path.join(package, "libselqumar.so.1"))
     os.remove(os.path.join(room, "build", "libselqumar.so.1"))
     yield "the library beside the module", difference(imported(), ("", False))
 
@@ -161,7 +163,7 @@ def room_cases(selqumar, data):
     numbers = numbers_file(4000)
     ctypes.create_string_buffer = noted
     try:
-        with selqumar.Table(file) as table, selqumar.Table(numbers) as other:
+        with selqumar.Table.of_files(file) as table, selqumar.Table.of_files(numbers) as other:
             rooms.clear()
             table.query(ROWS)
             table.stats()
@@ -189,14 +191,14 @@ class Noted:
     """In a `with`, the handles of all tables that are made."""
 
     def __init__(self, selqumar):
-        self.selqumar, self.real, self.handles = selqumar, selqumar._Handle, []
+        self.library, self.real, self.handles = selqumar._library, selqumar._library.Handle, []
 
     def __enter__(self):
-        self.selqumar._Handle = self.made
+        self.library.Handle = self.made
         return self.handles
 
     def __exit__(self, *_):
-        self.selqumar._Handle = self.real
+        self.library.Handle = self.real
 
     def made(self):
         self.handles.append(self.real())
@@ -206,12 +208,12 @@ class Noted:
 def table_cases(selqumar, data):
     """What was opened is closed, also where nobody says so."""
     with Noted(selqumar) as handles:
-        table = selqumar.Table(data)
+        table = selqumar.Table.of_files(data)
         was_open = handles[0].is_open
         del table
         gc.collect()
         yield "a table that nobody closes", difference((was_open, handles[0].is_open), (True, False))
-        table = selqumar.Table(data)
+        table = selqumar.Table.of_files(data)
         table.close()
         table.close()
         yield "a table that is closed", difference((handles[1].is_open, name_of(table.query, ROWS)), (False, "ValueError"))
@@ -230,7 +232,7 @@ def interrupted(selqumar, file, delay):
     before = signal.signal(signal.SIGALRM, interrupt)
     signal.setitimer(signal.ITIMER_REAL, delay)
     try:
-        selqumar.Table([file])
+        selqumar.Table.of_files([file])
     except KeyboardInterrupt:
         return True
     finally:

@@ -24,7 +24,7 @@ class Slot:
     """A table, and whether it is being closed."""
 
     def __init__(self, files):
-        self.table, self.is_closing = selqumar.Table(files), False
+        self.table, self.is_closing = selqumar.Table.of_files(files), False
 
 
 class Run:

@@ -1,0 +1,130 @@
+"""The shared library: its structs, its functions, and a call of one."""
+from __future__ import annotations
+
+import ctypes
+import os
+import re
+from typing import Any, Optional
+
+# The shared library whose functions these are, by the number that its header counts.
+LIBRARY = "libselqumar.so.1"
+GIVEN, FAULT, SHORT, NO_MEMORY, NOT_OPEN = range(5)
+# A buffer of a call has so many bytes, or as many as the last call needed.
+ROOM = 4096
+
+
+class Fault(Exception):
+    """Why there is no answer. Its text is the line that the program would report, in which a file is named by its number, from 0.
+
+    `code` is the fault's number, such as `J3`; `path` its place in the JSON of the file or the query, such as `/batches/0/count`; `file` the file's number,
+    `batch` the number of its batch, or of the batch of a stream; `column` and `row` the place in a batch, from 0. Each is None where nothing is told of it."""
+
+    LINE = re.compile(r"arrowtab: (?:(?:(?P<file>\d+)|\w+): )?(?:batch (?P<batch>\d+): )?(?P<code>[A-Z]\d+) [^/]*?(?: at (?P<path>/.*))?", re.S)
+    PLACE = re.compile(r" (column|row)=(\d+)")
+
+    def __init__(self, line: str, batch: Optional[int] = None) -> None:
+        super().__init__(line)
+        told = self.LINE.fullmatch(line)
+        parts = told.groupdict() if told else {}
+        places = dict(self.PLACE.findall(line)) if parts.get("path") is None else {}
+        self.code: Optional[str] = parts.get("code")
+        self.path: Optional[str] = parts.get("path")
+        self.file: Optional[int] = _number(parts.get("file"))
+        self.batch: Optional[int] = _number(parts.get("batch")) if batch is None else batch
+        self.column: Optional[int] = _number(places.get("column"))
+        self.row: Optional[int] = _number(places.get("row"))
+
+
+def _number(digits: Optional[str]) -> Optional[int]:
+    return None if digits is None else int(digits)
+
+
+class Bytes(ctypes.Structure):
+    _fields_ = [("data", ctypes.c_void_p), ("length", ctypes.c_size_t)]
+
+
+class Handle(ctypes.Structure):
+    _fields_ = [("is_open", ctypes.c_bool), ("table", ctypes.c_void_p)]
+
+
+class Node(ctypes.Structure):
+    _fields_ = [("format", Bytes), ("name", Bytes), ("nullable", ctypes.c_uint32), ("dictionary", ctypes.c_uint32), ("children", ctypes.c_uint64),
+                ("length", ctypes.c_uint64), ("null_count", ctypes.c_uint64), ("validity", Bytes), ("first", Bytes), ("second", Bytes)]
+
+
+_LIST = [ctypes.c_void_p, ctypes.c_size_t]
+_TEXT = [ctypes.c_void_p, ctypes.c_size_t]
+_OUT = [ctypes.c_void_p, ctypes.c_size_t, ctypes.c_void_p]
+_HANDLE = [ctypes.c_void_p]
+_STREAM = _HANDLE + [ctypes.c_uint32, ctypes.c_void_p, ctypes.c_void_p, ctypes.c_void_p] + _OUT
+_FUNCTIONS = {
+    "selqumar_stats": _LIST + _OUT,
+    "selqumar_export": _LIST + _OUT,
+    "selqumar_query": _LIST + _TEXT + _OUT,
+    "selqumar_validate": _LIST + _OUT,
+    "selqumar_open": _LIST + _HANDLE + _OUT,
+    "selqumar_new": _LIST + _HANDLE + _OUT,
+    "selqumar_append": _HANDLE + [ctypes.c_uint32, ctypes.c_uint32] + _LIST + _OUT,
+    "selqumar_add_column": _HANDLE + _LIST + _OUT,
+    "selqumar_compact": _HANDLE + [ctypes.c_uint32] + _OUT,
+    "selqumar_stats_of": _HANDLE + [ctypes.c_uint32] + _OUT,
+    "selqumar_open_export": _HANDLE + _OUT,
+    "selqumar_open_query": _HANDLE + _TEXT + _OUT,
+    "selqumar_close": _HANDLE,
+    "selqumar_arrow_new": [ctypes.c_void_p] + _HANDLE + _OUT,
+    "selqumar_arrow_append": _HANDLE + [ctypes.c_uint32, ctypes.c_void_p, ctypes.c_void_p] + _OUT,
+    "selqumar_arrow_open_stream": _STREAM,
+    "selqumar_arrow_append_stream": _STREAM,
+}
+
+
+def _loaded() -> ctypes.CDLL:
+    """The library, with what each function takes."""
+    here = os.path.dirname(os.path.abspath(__file__))
+    places = [os.path.join(here, LIBRARY), os.path.join(os.path.dirname(os.path.dirname(here)), "build", LIBRARY)]
+    named = os.environ.get("SELQUMAR_LIBRARY")
+    place = named or next(filter(os.path.exists, places), None)
+    if place is None:
+        raise ImportError(f"selqumar: there is no {LIBRARY} in {here} or in ../../build: `tools/library build` builds it, or the variable SELQUMAR_LIBRARY names one")
+    try:
+        library = ctypes.CDLL(place)
+        for function, takes in _FUNCTIONS.items():
+            getattr(library, function).argtypes = takes
+            getattr(library, function).restype = None if function == "selqumar_close" else ctypes.c_uint32
+    except (OSError, AttributeError) as fault:
+        raise ImportError(f"selqumar: {place} is no library of this version ({fault}): `tools/library build` builds one") from fault
+    return library
+
+
+_LIBRARY = _loaded()
+
+
+def close(handle: Handle) -> None:
+    _LIBRARY.selqumar_close(ctypes.byref(handle))
+
+
+class Rooms:
+    """How long a buffer each function is given at first."""
+
+    def __init__(self) -> None:
+        self.needed: dict[str, int] = {}
+
+    def text(self, name: str, *front: Any, least: int = ROOM) -> str:
+        """The text that a function of the library gives. It is called again where the buffer was too short, which none is that changes a table."""
+        room = max(least, self.needed.get(name, 0))
+        needed = ctypes.c_size_t()
+        while True:
+            out = ctypes.create_string_buffer(room)
+            status = getattr(_LIBRARY, name)(*front, out, room, ctypes.byref(needed))
+            if status == NO_MEMORY:
+                raise MemoryError("selqumar: a request for memory was refused")
+            if status == NOT_OPEN:
+                raise ValueError("selqumar: the table is closed")
+            if status != SHORT:
+                break
+            room = needed.value
+        self.needed[name] = needed.value
+        text = ctypes.string_at(out, needed.value).decode()
+        if status == FAULT:
+            raise Fault(text.rstrip("\n"))
+        return text

@@ -1,0 +1,217 @@
+"""A table that stays open between calls."""
+from __future__ import annotations
+
+import ctypes
+import threading
+import weakref
+from collections.abc import Mapping
+from typing import Any, Optional, Union
+
+from . import _columns, _files, _library, _values
+from ._columns import Field, Schema
+from ._files import Files, Query
+from ._values import Stats, Value
+
+_MOST_WORKERS = 64
+# As many rows as a batch may have.
+_MOST_ROWS = 2 ** 31 - 1
+
+_pointer_of = ctypes.pythonapi.PyCapsule_GetPointer
+_pointer_of.restype, _pointer_of.argtypes = ctypes.c_void_p, [ctypes.py_object, ctypes.c_char_p]
+
+
+class Table:
+    """A table that batches are appended to while it is asked, until `close`, the end of a `with`, or the end of the last reference. Threads may share one: its
+    calls take turns. A call that raises a `Fault` leaves it as it was.
+
+    `Table(schema)` is an empty one, of names with types (see `Field`), or of the schema of whatever has `__arrow_c_schema__`. `Table.of_files(files)` has the
+    batches of files, and `Table.of(data)` those of an Arrow stream."""
+
+    def __init__(self, schema: Union[Schema, Any]) -> None:
+        self._begin()
+        with self._closed_where_raised():
+            if hasattr(schema, "__arrow_c_schema__"):
+                capsule = schema.__arrow_c_schema__()
+                self._call("selqumar_arrow_new", _pointer_of(capsule, b"arrow_schema"), ctypes.byref(self._handle))
+            elif isinstance(schema, Mapping):
+                parts = _columns.parts_of_fields(_columns.fields_of(schema))
+                with _columns.nodes(parts) as nodes:
+                    self._call("selqumar_new", nodes, len(parts), ctypes.byref(self._handle))
+            else:
+                raise TypeError(f"selqumar: a schema is a dict of names and types, or has __arrow_c_schema__, and isn't {type(schema).__name__}")
+
+    @classmethod
+    def of_files(cls, files: Files) -> Table:
+        """A table of Arrow integration files (JSON): it has the first one's schema, and the batches of all, of worker 0."""
+        listed = _files.listed(files)
+        table = cls.__new__(cls)
+        table._begin()
+        with table._closed_where_raised(), _files.entries(listed) as (entries, table._length):
+            table._call("selqumar_open", entries, len(listed), ctypes.byref(table._handle))
+        return table
+
+    @classmethod
+    def of(cls, data: Any, worker: int = 0) -> Table:
+        """A table of the schema and the batches of whatever has `__arrow_c_stream__`."""
+        table = cls.__new__(cls)
+        table._begin()
+        with table._closed_where_raised():
+            table._read("selqumar_arrow_open_stream", data, worker)
+        return table
+
+    def _begin(self) -> None:
+        self._lock = threading.RLock()
+        self._handle = _library.Handle()
+        self._rooms = _library.Rooms()
+        self._length = 0
+        self._workers = 1
+        self._fields: Optional[list[tuple[str, str]]] = None
+        # It is there before anything is open, so that whatever comes in between, what was opened is closed.
+        self._finalizer = weakref.finalize(self, _library.close, self._handle)
+        self._finalizer.atexit = False
+
+    def _closed_where_raised(self) -> _Closing:
+        return _Closing(self._finalizer)
+
+    def __enter__(self) -> Table:
+        return self
+
+    def __exit__(self, *_: object) -> None:
+        self.close()
+
+    def __repr__(self) -> str:
+        with self._lock:
+            if self.closed:
+                return "<selqumar.Table, closed>"
+            stats = self.stats()
+        return f"<selqumar.Table of {stats.rows} row{'' if stats.rows == 1 else 's'}: {', '.join(column.name for column in stats.columns)}>"
+
+    def _repr_html_(self) -> str:
+        """The statistics of its columns, for a notebook."""
+        return self.stats()._repr_html_()
+
+    @property
+    def closed(self) -> bool:
+        """Whether it is closed."""
+        return not self._finalizer.alive
+
+    def close(self) -> None:
+        """Gives its memory back. What is called on it from then on is a `ValueError`."""
+        with self._lock:
+            self._finalizer()
+
+    # ---- what changes it
+
+    def append(self, data: Any, worker: int = 0) -> int:
+        """Adds rows, of a worker from 0 to 63, and gives how many.
+
+        Data are a dict with a list or a numpy array for each column (masked ones too; None is a null), a frame of pandas, or whatever has `__arrow_c_stream__`
+        or `__arrow_c_array__`. Of a batch all comes in or nothing. The batches of a stream come in one by one: those before the one that a `Fault` names stay."""
+        if hasattr(data, "__arrow_c_stream__"):
+            return self._read("selqumar_arrow_append_stream", data, worker)
+        if hasattr(data, "__arrow_c_array__"):
+            return self._append_array(data, worker)
+        if isinstance(data, Mapping) or (hasattr(data, "columns") and hasattr(data, "to_numpy")):
+            return self._append_columns(data, worker)
+        raise TypeError(f"selqumar: rows are a dict of columns, or have __arrow_c_stream__ or __arrow_c_array__, and aren't {type(data).__name__}")
+
+    def _append_columns(self, data: Any, worker: int) -> int:
+        with self._lock:
+            names = list(data) if isinstance(data, Mapping) else list(data.columns)
+            fields = self._named_fields()
+            if sorted(names) != sorted(name for name, _ in fields):
+                raise ValueError(f"selqumar: the table has the columns {', '.join(name for name, _ in fields)}, and the rows {', '.join(map(str, names))}")
+            parts = _columns.parts_of_columns((name, kind, data[name]) for name, kind in fields)
+            rows = parts[0].length if parts else 0
+            with _columns.nodes(parts) as nodes:
+                self._call("selqumar_append", ctypes.byref(self._handle), self._worker(worker), rows, nodes, len(parts))
+        return rows
+
+    def _append_array(self, data: Any, worker: int) -> int:
+        schema, batch = data.__arrow_c_array__()
+        place = _pointer_of(batch, b"arrow_array")
+        # Its first member is its length.
+        rows = ctypes.c_int64.from_address(place).value
+        with self._lock:
+            self._call("selqumar_arrow_append", ctypes.byref(self._handle), self._worker(worker), _pointer_of(schema, b"arrow_schema"), place)
+        return rows
+
+    def _read(self, name: str, data: Any, worker: int) -> int:
+        capsule = data.__arrow_c_stream__()
+        batches, rows = ctypes.c_uint64(), ctypes.c_uint64()
+        with self._lock:
+            try:
+                self._call(name, ctypes.byref(self._handle), self._worker(worker), _pointer_of(capsule, b"arrow_array_stream"), ctypes.byref(batches),
+                           ctypes.byref(rows))
+            except _library.Fault as fault:
+                raise _library.Fault(str(fault), batches.value) from None
+        return rows.value
+
+    def add_column(self, name: str, field: Union[str, Field]) -> None:
+        """Puts a column of nulls behind the others."""
+        parts = _columns.parts_of_fields(_columns.fields_of({name: field}))
+        with self._lock, _columns.nodes(parts) as nodes:
+            self._call("selqumar_add_column", ctypes.byref(self._handle), nodes, len(parts))
+            self._fields = None
+
+    def compact(self, max_rows: int = _MOST_ROWS) -> None:
+        """Joins neighbouring batches into ones of at most so many rows. No answer changes by it."""
+        with self._lock:
+            self._call("selqumar_compact", ctypes.byref(self._handle), max_rows)
+
+    # ---- what it is asked
+
+    def stats_text(self) -> str:
+        """What `arrowtab stats` prints of it, with as many workers as appended."""
+        with self._lock:
+            return self._text("selqumar_stats_of", self._workers)
+
+    def export(self) -> str:
+        """What `arrowtab export` prints of it: one file with all batches."""
+        return self._text("selqumar_open_export")
+
+    def query_text(self, query: Query) -> str:
+        """What `arrowtab query` prints of it, for a query as JSON text or as the value of one."""
+        text = _files.query_bytes(query)
+        return self._text("selqumar_open_query", text, len(text))
+
+    def stats(self) -> Stats:
+        """The same as `stats_text`, as values."""
+        return _values.stats_of(self.stats_text())
+
+    def query(self, query: Query) -> list[list[Value]]:
+        """The same as `query_text`, as values: a list for each group, its keys before its aggregates."""
+        return _values.groups_of(self.query_text(query))
+
+    def _named_fields(self) -> list[tuple[str, str]]:
+        """The names and types of its columns."""
+        if self._fields is None:
+            self._fields = [(column.name, column.type) for column in self.stats().columns]
+        return self._fields
+
+    def _worker(self, worker: int) -> int:
+        if not 0 <= worker < _MOST_WORKERS:
+            raise ValueError(f"selqumar: a worker is a number from 0 to {_MOST_WORKERS - 1}, and not {worker!r}")
+        self._workers = max(self._workers, worker + 1)
+        return worker
+
+    def _call(self, name: str, *words: Any) -> None:
+        self._rooms.text(name, *words)
+
+    def _text(self, name: str, *middle: Any) -> str:
+        with self._lock:
+            return self._rooms.text(name, ctypes.byref(self._handle), *middle, least=_files.least(name, self._length))
+
+
+class _Closing:
+    """In a `with`, a table in the making: where something is raised, it is closed."""
+
+    def __init__(self, finalizer: weakref.finalize) -> None:
+        self._finalizer = finalizer
+
+    def __enter__(self) -> None:
+        pass
+
+    def __exit__(self, kind: Optional[type], *_: object) -> None:
+        if kind is not None:
+            self._finalizer()
