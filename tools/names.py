@@ -1,5 +1,5 @@
 #!/usr/bin/env python3
-"""Looks up each name that stands in backquotes in README.md and docs/*.md, outside of blocks of code, and whither their links lead.
+"""Looks up each name that stands in backquotes in README.md, docs/*.md and the like, outside of blocks of code, and whither their links lead.
 
     tools/names.py
 
@@ -203,7 +203,7 @@ def files_named(lines):
 def main():
     tree = Tree()
     passed = failed = 0
-    for path in ["README.md", "CHANGELOG.md", "SECURITY.md", *sorted(glob.glob("docs/*.md", root_dir=TOP))]:
+    for path in ["README.md", "CHANGELOG.md", "SECURITY.md", *sorted(glob.glob("docs/*.md", root_dir=TOP)), "bodies/README.md"]:
         lines = list(lines_of(path))
         looked = [(number, text, tree.lacks(text)) for number, line in lines for text in SPAN.findall(line)]
         looked += [(number, name, tree.lacks_in(name, names, folder)) for number, name, names, folder in files_named(lines)]
