@@ -2,7 +2,7 @@
 
     import selqumar
     with selqumar.Table({"city": "utf8", "people": "int64"}) as table:
-        table.append({"city": ["Lisbon", None], "people": [545923, 1]})  # or numpy arrays, or a stream of pyarrow, Polars, DuckDB
+        table.append({"city": ["Lisbon", None], "people": [545923, 1]})  # or numpy arrays, a frame, an Arrow stream
         table.query({"by": ["city"], "aggs": [{"agg": "sum", "column": "people"}]})
     selqumar.stats("examples/mixed.json").column("people")
 
