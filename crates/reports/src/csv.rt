@@ -22,14 +22,14 @@ pub(crate) fn push_names(
 ) -> Result<(), NoMemory>
     ensures { OnOk result (string_bytes text.new ≡ string_bytes text.old ++ names_record (named query.now)) }
 {
-    let names = names_of(alloc, query)?;
+    let names = column_names(alloc, query)?;
     push_texts(text, &names)?;
     text.push_str("\r\n")?;
     Ok(())
 }
 
-/// The names of what a query asks for: its keys, and then its aggregates.
-fn names_of(alloc: Global, query: &QueryText) -> Result<Vec<String>, NoMemory>
+/// The names of what a query asks for: its keys, and then its aggregates, such as `sum(people)`.
+pub fn column_names(alloc: Global, query: &QueryText) -> Result<Vec<String>, NoMemory>
     ensures { IfOk result (λ names. map string_bytes names.items ≡ column_names (named query.now)) }
 {
     let mut names = keys_of(alloc, &query.by)?;

@@ -43,10 +43,19 @@ fn placed_text(alloc: Global, query: &Query, version: &Version) -> Result<String
     ensures output { IfOk result (λ text. PrintsPlaced (query_shape query.now) version.now.fields version.now.history (string_bytes text)) }
     ensures err { IfErr result (IsUnplaced (query_shape query.now) version.now.fields version.now.history) }
 {
-    match answer_of(version.answer_alone(alloc, query, &NobodyWaits)) {
+    match placed_groups(alloc, query, version) {
         Ok(answer) => Ok(group_lines(alloc, &answer)?),
         Err(fault) => Err(fault),
     }
+}
+
+/// The groups themselves, or the fault of the query at a row.
+pub fn placed_groups(alloc: Global, query: &Query, version: &Version) -> Result<Answer, RunFault>
+    requires fits { fits version.now.fields (query_shape query.now) ≡ true }
+    ensures ok { IfOk result (IsAnswer version.now.fields (query_shape query.now) (rows version.now.history)) }
+    ensures err { IfErr result (IsUnplaced (query_shape query.now) version.now.fields version.now.history) }
+{
+    answer_of(version.answer_alone(alloc, query, &NobodyWaits))
 }
 
 /// The query by positions in the fields of a version, or why there is none.

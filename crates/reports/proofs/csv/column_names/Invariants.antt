@@ -1,7 +1,7 @@
 use Rattle.std.proofs.Common.{◌≡◌, ◌++◌, map, string_bytes, take}
 use Rattle.query.specs.Resolved.{renamed_agg}
 use Rattle.reports.specs.GroupLines.{agg_name}
-use Rattle.reports.proofs.csv.names_of.Given as goal
+use Rattle.reports.proofs.csv.column_names.Given as goal
 
 -- The names of the keys, and of the aggregates so far.
 abbrev pub invariant-loop-agg : goal.invariant-loop-agg
