@@ -1,10 +1,18 @@
 -- What a table answers to the bytes of a query.
-use Rattle.std.specs.Prelude.{ℕ, List, ⊤}
+use Rattle.std.specs.Prelude.{◌≡◌, ℕ, List, [], Ok, ⊤}
+use Rattle.answers.specs.Groups.{GroupShape, groups}
+use Rattle.arrays.specs.Batch.{Batch}
 use Rattle.arrays.specs.Shape.{FieldShape}
 use Rattle.json_query.specs.QueryDocument.{ReadsQueryText}
 use Rattle.json_query.specs.QueryDocumentFault.{QueryBytesFault}
 use Rattle.query.specs.QueryShape.{QueryShape}
-use Rattle.table.specs.History.{History}
+use Rattle.query.specs.Resolved.{resolved}
+use Rattle.results.specs.Result.{result_batch}
+use Rattle.results.specs.Types.{result_types}
+use Rattle.table.specs.Contents.{Contents, admitted}
+use Rattle.table.specs.History.{History, rows}
+use Rattle.table.specs.Stored.{stored_fields}
+use Rattle.reports.specs.GroupLines.{column_names}
 use Rattle.reports.specs.Queried.{PrintsGroups, RefusesGroups}
 use Rattle.reports.specs.declared.run_fault.RunFault.{RunFault}
 use Rattle.reports.specs.declared.run_fault.RunFault.TheVariants.{NoMemory, OfColumn, OfFile, QueryUnread, QueryRefused}
@@ -20,3 +28,25 @@ StopsAnswer query fields h (OfFile file fault) = ⊥
 StopsAnswer query fields h (QueryUnread f) = QueryBytesFault query f.kind f.path
 StopsAnswer query fields h (QueryRefused f) = (shape : QueryShape (List ℕ)) × ReadsQueryText query shape × RefusesGroups shape fields h f
 StopsAnswer query fields h (OfColumn f) = ⊥
+
+-- ---- the answer as a table
+
+-- A table of the batch's fields to which it was added, by worker 0.
+abbrev pub of_batch : Batch → Contents
+of_batch b = admitted (record { fields = stored_fields b.fields; history = []; batches = [] }) 0 b
+
+-- The table has the groups that a query by positions asks of the rows, under the names of the query by names.
+pub record IsPlacedAnswer (query : QueryShape (List ℕ)) (placed : QueryShape ℕ) (fields : List FieldShape) (h : History) (t : Contents) : Type 0 where
+  pub found : List GroupShape
+  pub asks : groups fields placed (rows h) ≡ Ok found
+  pub is : t ≡ of_batch (result_batch (column_names query) (result_types fields placed) found)
+
+-- The same of a query by names, each of which is one field's.
+pub record IsNamedAnswer (query : QueryShape (List ℕ)) (fields : List FieldShape) (h : History) (t : Contents) : Type 0 where
+  pub placed : QueryShape ℕ
+  pub resolves : resolved fields query ≡ Ok placed
+  pub answers : IsPlacedAnswer query placed fields h t
+
+-- The same of the query that the bytes are read as.
+abbrev pub IsAnswerTable : List ℕ → List FieldShape → History → Contents → Type 0
+IsAnswerTable query fields h t = (shape : QueryShape (List ℕ)) × ReadsQueryText query shape × IsNamedAnswer shape fields h t

@@ -1,6 +1,6 @@
 //! A table in one's own process.
 ghost use Rattle.std.specs.Prelude.{◌≡◌, IfErr, IfOk, map, string_bytes};
-ghost use Rattle.embed.specs.Answer.{PrintsAnswer, StopsAnswer};
+ghost use Rattle.embed.specs.Answer.{IsAnswerTable, PrintsAnswer, StopsAnswer};
 ghost use Rattle.embed.specs.Loaded.{Holds};
 ghost use Rattle.embed.specs.Refused.{Stops};
 ghost use Rattle.query.specs.Resolved.{named};
@@ -12,8 +12,10 @@ ghost use Rattle.reports.specs.Shown.{shown};
 
 use crate::loading::load_files;
 use crate::reading::read_files;
+use crate::snapshot::Snapshot;
+use colbits::NoMemory;
 use query::QueryText;
-use reports::{RunFault, export_text, groups_text, read_query_text, schema_text, stats_text};
+use reports::RunFault;
 use std::alloc::Global;
 use table::TableState;
 
@@ -45,14 +47,23 @@ impl Loaded {
         Loaded { state }
     }
 
+    /// The table as it is now.
+    pub fn snapshot(&self) -> Result<Snapshot, NoMemory>
+        ensures { IfOk result (λ s. s.version ≡ self.now.state) }
+    {
+        let version = self.state.version()?;
+        Ok(Snapshot {
+            version: version.share()?,
+        })
+    }
+
     /// What `stats` prints of the table: how many rows it has, how many batches and rows each of so many workers added, and the
     /// statistics of each column.
     pub fn stats(&self, alloc: Global, workers: u32) -> Result<String, RunFault>
         ensures ok { IfOk result (λ text. string_bytes text ≡ shown workers self.now.state.fields self.now.state.history) }
         ensures err { IfErr result (λ fault. fault ≡ RunFault.NoMemory) }
     {
-        let version = self.state.version()?;
-        Ok(stats_text(alloc, workers, &version)?)
+        self.snapshot()?.stats(alloc, workers)
     }
 
     /// What `schema` prints of it: its fields.
@@ -60,8 +71,7 @@ impl Loaded {
         ensures ok { IfOk result (λ text. string_bytes text ≡ schema_lines self.now.state.fields) }
         ensures err { IfErr result (λ fault. fault ≡ RunFault.NoMemory) }
     {
-        let version = self.state.version()?;
-        Ok(schema_text(alloc, &version)?)
+        self.snapshot()?.schema(alloc)
     }
 
     /// What `export` prints of it: one file with a batch for each that was added.
@@ -69,8 +79,7 @@ impl Loaded {
         ensures ok { IfOk result (λ text. string_bytes text ≡ exported self.now.state.fields self.now.state.history) }
         ensures err { IfErr result (λ fault. fault ≡ RunFault.NoMemory) }
     {
-        let version = self.state.version()?;
-        Ok(export_text(alloc, &version)?)
+        self.snapshot()?.export(alloc)
     }
 
     /// What `query` prints of it: a line for each group.
@@ -78,10 +87,15 @@ impl Loaded {
         ensures ok { IfOk result (λ text. PrintsAnswer query_text.now self.now.state.fields self.now.state.history (string_bytes text)) }
         ensures err { IfErr result (StopsAnswer query_text.now self.now.state.fields self.now.state.history) }
     {
-        match read_query_text(alloc, query_text) {
-            Ok(read) => self.groups(alloc, &read),
-            Err(fault) => Err(fault),
-        }
+        self.snapshot()?.query(alloc, query_text)
+    }
+
+    /// The same as a table of its own, as [`Snapshot::answer`] gives.
+    pub fn answer(&self, alloc: Global, query_text: &[u8]) -> Result<Loaded, RunFault>
+        ensures ok { IfOk result (λ t. IsAnswerTable query_text.now self.now.state.fields self.now.state.history t.state) }
+        ensures err { IfErr result (StopsAnswer query_text.now self.now.state.fields self.now.state.history) }
+    {
+        self.snapshot()?.answer(alloc, query_text)
     }
 
     /// The same for a query that was read.
@@ -89,7 +103,6 @@ impl Loaded {
         ensures ok { IfOk result (λ text. PrintsGroups (named query.now) self.now.state.fields self.now.state.history (string_bytes text)) }
         ensures err { IfErr result (IsUnanswered (named query.now) self.now.state.fields self.now.state.history) }
     {
-        let version = self.state.version()?;
-        groups_text(alloc, query, &version)
+        self.snapshot()?.groups(alloc, query)
     }
 }

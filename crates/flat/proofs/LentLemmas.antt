@@ -35,7 +35,8 @@ use Rattle.types.specs.declared.data_type.Field.{Field, fold-Field, fold_out-Fie
 use Rattle.types.specs.declared.offset_width.OffsetWidth.{OffsetWidth}
 use Rattle.types.specs.declared.offset_width.OffsetWidth.TheVariants.{Narrow, Wide}
 use Rattle.flat.specs.Fields.{Begins, field_named, is_dictionary, shape_alone}
-use Rattle.flat.specs.Lent.{ArePushed, IsNodeOver, IsOver, IsTextPushed, Lends, LendsColumn, LendsColumns}
+use Rattle.flat.specs.Content.{content_of}
+use Rattle.flat.specs.Lent.{ArePushed, IsNodeOver, IsOver, IsTextPushed, Lends, LendsColumn, LendsColumns, content_of_kind}
 use Rattle.flat.specs.Schema.{most_levels}
 use Rattle.flat.specs.Parts.{stated}
 use Rattle.flat.specs.declared.node.Node.{Node}
@@ -72,9 +73,13 @@ text_pushed name nullable n texts p old new is lawful shows pushed =
 
 -- ---- fields
 
--- The node of a field.
+-- The node of a field, over these buffers.
+abbrev pub IsHeadOf : FieldShape → ℕ → Buffers → Node → Type 0
+IsHeadOf f length buffers n = IsNodeOver (name_of f) (is_nullable f) (kind_of_field f) length buffers n
+
+-- The same over those of parts.
 abbrev pub IsNodeOf : FieldShape → LentParts → Node → Type 0
-IsNodeOf f p n = IsNodeOver (name_of f) (is_nullable f) (kind_of_field f) p.length p.buffers.now n
+IsNodeOf f p n = IsHeadOf f p.length p.buffers.now n
 
 named_so : (name : List ℕ) (nullable : Bool) (ty : Shape) (n : Node) → n.name.now ≡ name → not (n.nullable == 0) ≡ nullable → field name nullable ty ≡ field_named n ty
 named_so name nullable ty n named nulls = ap (λ m. field m nullable ty) (sym named) ∙ ap (λ b. field n.name.now b ty) (sym nulls)
@@ -114,17 +119,30 @@ lends_alone (kind.texts w) n rest r alone over = over
 lends_alone (kind.lists w k) n rest r alone over = cc
 lends_alone kind.dict n rest r alone over = cc
 
-begins_alone : (f : FieldShape) (p : LentParts) (n : Node) → IsNodeOf f p n → is_alone (kind_of_field f) ≡ true → (levels : ℕ) → depth (kind_of_field f) < levels → (rest : List Node)
-    → Begins levels (n ∷ rest) f rest
-begins_alone f p n is alone zero below rest = absurd (not_below (kind_of_field f) below)
-begins_alone (field name nullable (shape.int t)) p n is alone (suc l) below rest =
+pub alone_begins : (f : FieldShape) (length : ℕ) (buffers : Buffers) (n : Node) → IsHeadOf f length buffers n → is_alone (kind_of_field f) ≡ true → (levels : ℕ) → depth (kind_of_field f) < levels
+    → (rest : List Node) → Begins levels (n ∷ rest) f rest
+alone_begins f length buffers n is alone zero below rest = absurd (not_below (kind_of_field f) below)
+alone_begins (field name nullable (shape.int t)) length buffers n is alone (suc l) below rest =
     inl (record { ty = shape.int t; holds = ap (option_and_then shape_alone) is.holds; field = named_so name nullable (shape.int t) n is.named is.nulls; next = refl })
-begins_alone (field name nullable shape.boolean) p n is alone (suc l) below rest =
+alone_begins (field name nullable shape.boolean) length buffers n is alone (suc l) below rest =
     inl (record { ty = shape.boolean; holds = ap (option_and_then shape_alone) is.holds; field = named_so name nullable shape.boolean n is.named is.nulls; next = refl })
-begins_alone (field name nullable (shape.texts w)) p n is alone (suc l) below rest =
+alone_begins (field name nullable (shape.texts w)) length buffers n is alone (suc l) below rest =
     inl (record { ty = shape.texts w; holds = ap (option_and_then shape_alone) is.holds; field = named_so name nullable (shape.texts w) n is.named is.nulls; next = refl })
-begins_alone (field name nullable (shape.lists w item)) p n is alone (suc l) below rest = cc
-begins_alone (field name nullable shape.dict) p n is alone (suc l) below rest = cc
+alone_begins (field name nullable (shape.lists w item)) length buffers n is alone (suc l) below rest = cc
+alone_begins (field name nullable shape.dict) length buffers n is alone (suc l) below rest = cc
+
+pub codes_begin : (name : List ℕ) (nullable : Bool) (length : ℕ) (buffers : Buffers) (n d : Node) → IsHeadOf (field name nullable shape.dict) length buffers n → content_of d ≡ Some (content_of_kind kind.utf8)
+    → (levels : ℕ) → 0 < levels → (rest : List Node) → Begins levels (n ∷ d ∷ rest) (field name nullable shape.dict) rest
+codes_begin name nullable length buffers n d is texts zero below rest = absurd (not_below kind.dict below)
+codes_begin name nullable length buffers n d is texts (suc l) below rest =
+    inr (inl (record { indices = int32; holds = is.holds; dictionary = d; texts = ap is_dictionary texts; field = named_so name nullable shape.dict n is.named is.nulls; next = refl }))
+
+pub lists_begin : (name : List ℕ) (nullable : Bool) (w : OffsetWidth) (item : FieldShape) (length : ℕ) (buffers : Buffers) (n : Node) (own : List Node)
+    → IsHeadOf (field name nullable (shape.lists w item)) length buffers n → ((levels : ℕ) → depth (kind_of_field item) < levels → (rest : List Node) → Begins levels (own ++ rest) item rest)
+    → (levels : ℕ) → suc (depth (kind_of_field item)) < levels → (rest : List Node) → Begins levels (n ∷ own ++ rest) (field name nullable (shape.lists w item)) rest
+lists_begin name nullable w item length buffers n own is begins zero below rest = absurd (not_below (kind.lists w (kind_of_field item)) below)
+lists_begin name nullable w item length buffers n own is begins (suc l) below rest =
+    inr (inr (item, begins l (omega (arith, below)) rest, record { width = w; holds = is.holds; field = named_so name nullable (shape.lists w item) n is.named is.nulls }))
 
 -- a column of one node
 pub pushed_alone : (f : FieldShape) (p : LentParts) (n : Node) (old new : List Node) → IsNodeOf f p n → is_alone (kind_of_field f) ≡ true → (read_lent (kind_of_field f) p).fault ≡ None
@@ -132,7 +150,7 @@ pub pushed_alone : (f : FieldShape) (p : LentParts) (n : Node) (old new : List N
 pushed_alone f p n old new is alone lawful pushed = record {
   own = n ∷ [];
   is = pushed;
-  begins = begins_alone f p n is alone;
+  begins = alone_begins f p.length p.buffers.now n is alone;
   lends = λ rest. lends_alone (kind_of_field f) n rest (read_lent (kind_of_field f) p) alone (over_alone f p n is alone lawful);
 }
 
@@ -158,7 +176,7 @@ pushed_coded (field name nullable shape.dict) p words n old mid new is coded law
     record {
       own = n ∷ d ∷ [];
       is = texts.is ∙ ap (λ l. l ++ d ∷ []) pushed ∙ append_assoc old (n ∷ []) (d ∷ []);
-      begins = begun;
+      begins = codes_begin name nullable p.length p.buffers.now n d is texts.holds;
       lends = λ rest. (
         texts.parts,
         texts.lawful,
@@ -167,11 +185,6 @@ pushed_coded (field name nullable shape.dict) p words n old mid new is coded law
             (subst (λ (o : Option Reading). IsOver kind.dict n children o (read_lent kind.dict p)) named over),
       );
     }
-  where
-    begun : (levels : ℕ) → 0 < levels → (rest : List Node) → Begins levels (n ∷ texts.own ∷ rest) (field name nullable shape.dict) rest
-    begun zero below rest = absurd (not_below kind.dict below)
-    begun (suc l) below rest =
-        inr (inl (record { indices = int32; holds = is.holds; dictionary = texts.own; texts = ap is_dictionary texts.holds; field = named_so name nullable shape.dict n is.named is.nulls; next = refl }))
 
 -- ---- lists
 
@@ -227,19 +240,13 @@ pushed_listed (field name nullable ty) w item p raw n inner old mid new is liste
         record {
           own = n ∷ items.own;
           is = items.is ∙ ap (λ l. l ++ items.own) pushed ∙ append_assoc old (n ∷ []) items.own;
-          begins = begun is;
+          begins = lists_begin name nullable w item p.length p.buffers.now n items.own is items.begins;
           lends = λ rest. (
             inner,
             items.lends rest,
             subst (λ (cs : List Reading). IsOver k n cs None (read_lent k p)) only (subst (λ (o : Option Reading). IsOver k n children o (read_lent k p)) none over),
           );
         }
-      where
-        begun : IsNodeOf (field name nullable (shape.lists w item)) p n → (levels : ℕ) → suc (depth (kind_of_field item)) < levels → (rest : List Node)
-            → Begins levels (n ∷ items.own ++ rest) (field name nullable (shape.lists w item)) rest
-        begun is zero below rest = absurd (not_below (kind.lists w (kind_of_field item)) below)
-        begun is (suc l) below rest =
-            inr (inr (item, items.begins l (omega (arith, below)) rest, record { width = w; holds = is.holds; field = named_so name nullable (shape.lists w item) n is.named is.nulls }))
 
 -- the one child of lists
 pub one_child : (w : OffsetWidth) (item : FieldShape) (f : FieldShape) (p : LentParts) (d : RawArray) → f ≡ field (name_of f) (is_nullable f) (shape.lists w item) → (read_lent (kind_of_field f) p).fault ≡ None

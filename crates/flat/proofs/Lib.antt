@@ -6,3 +6,4 @@ pub mod RowLemmas
 pub mod ColumnLemmas
 pub mod UniqueLemmas
 pub mod LentLemmas
+pub mod NamedLemmas

@@ -6,3 +6,4 @@ pub mod Parts
 pub mod Schema
 pub mod Batch
 pub mod Lent
+pub mod Named

@@ -84,14 +84,14 @@ fn push_words<'a>(nodes: &mut Vec<Node<'a>>, words: &'a Words) -> Result<(), NoM
 }
 
 /// The node of a field over these buffers.
-fn node_of<'a>(field: &'a Field, length: u64, buffers: &'a [Option<Buffer>]) -> Node<'a>
+pub(crate) fn node_of<'a>(field: &'a Field, length: u64, buffers: &'a [Option<Buffer>]) -> Node<'a>
     ensures { IsNodeOver (name_of (field_of field.now)) (is_nullable (field_of field.now)) (kind_of_field (field_of field.now)) length buffers.now result }
 {
     node_over(&field.name, field.nullable, &field.ty, length, buffers)
 }
 
 /// The node of a name and a type over these buffers.
-fn node_over<'a>(
+pub(crate) fn node_over<'a>(
     name: &'a str,
     nullable: bool,
     ty: &DataType,

@@ -11,7 +11,7 @@ use crate::content::Content;
 /// The node of a list is followed by that of its items, that of a dictionary's indices by that of its texts. Where it has no
 /// validity or no second buffer, there are no bytes.
 #[repr(C)]
-#[derive(Drop)]
+#[derive(Clone, Copy, Drop)]
 pub struct Node<'a> {
     /// `c C s S i I l L b u U +l +L`; with a dictionary that of its indices.
     pub format: &'a [u8],

@@ -1,6 +1,10 @@
 -- The words of this crate's contracts.
 pub mod Boxed
 pub mod FaultLine
+pub mod Follows
 pub mod Handle
+pub mod Lent
 pub mod Slot
+pub mod Snapshot
+pub mod SnapshotSlot
 pub mod Status

@@ -6,23 +6,27 @@ use Rattle.reports.specs.declared.run_fault.RunFault.{RunFault}
 use Rattle.reports.specs.declared.run_fault.RunFault.TheVariants.{NoMemory}
 use Rattle.embed.specs.Output.{AreLoadable, fault_line}
 
--- The text is at the front of the buffer, whose rest stayed as it was.
-pub record IsWritten (text old new : List ℕ) (needed : ℕ) : Type 0 where
-  pub count : needed ≡ length text
-  pub fits : length text ≤ length old
-  pub buffer : new ≡ text ++ drop (length text) old
+-- The items are at the front of the buffer, whose rest stayed as it was.
+pub record IsWritten {A : Type 0} (items old new : List A) (needed : ℕ) : Type 0 where
+  pub count : needed ≡ length items
+  pub fits : length items ≤ length old
+  pub buffer : new ≡ items ++ drop (length items) old
 
--- The buffer is shorter than the text, and stayed as it was.
-pub record IsTooShort (text old new : List ℕ) (needed : ℕ) : Type 0 where
-  pub count : needed ≡ length text
-  pub short : length old < length text
+-- The buffer is shorter than the items, and stayed as it was.
+pub record IsTooShort {A : Type 0} (items old new : List A) (needed : ℕ) : Type 0 where
+  pub count : needed ≡ length items
+  pub short : length old < length items
   pub kept : new ≡ old
 
 -- ---- by what an answer has to say
 
--- Status 0: such a text is in the buffer.
-abbrev pub IsGiven : (List ℕ → Type 0) → List ℕ → List ℕ → ℕ → Type 0
-IsGiven says old new needed = (text : List ℕ) × says text × IsWritten text old new needed
+-- Status 0: such a text is in the buffer, or such nodes.
+abbrev pub IsGiven : {A : Type 0} → (List A → Type 0) → List A → List A → ℕ → Type 0
+IsGiven {A} says old new needed = (items : List A) × says items × IsWritten items old new needed
+
+-- Status 2, where no fault can stand: the buffer is too short for such.
+abbrev pub HasNoRoom : {A : Type 0} → (List A → Type 0) → List A → List A → ℕ → Type 0
+HasNoRoom {A} says old new needed = (items : List A) × says items × IsTooShort items old new needed
 
 -- The text is the line of a fault that stands, and isn't want of memory.
 abbrev pub IsLine : (RunFault → Type 0) → List ℕ → Type 0
@@ -37,7 +41,7 @@ abbrev pub IsShort : (List ℕ → Type 0) → (RunFault → Type 0) → List �
 IsShort says stands old new needed = (text : List ℕ) × (says text ⊎ IsLine stands text) × IsTooShort text old new needed
 
 -- Status 3: nothing was written.
-pub record IsKept (old new : List ℕ) (needed_old needed_new : ℕ) : Type 0 where
+pub record IsKept {A : Type 0} (old new : List A) (needed_old needed_new : ℕ) : Type 0 where
   pub buffer : new ≡ old
   pub needed : needed_new ≡ needed_old
 

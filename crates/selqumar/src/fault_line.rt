@@ -4,7 +4,7 @@ ghost use Rattle.ends.specs.Line.{message};
 ghost use Rattle.selqumar.specs.Status.{IsKept, IsWritten};
 ghost use Rattle.selqumar.specs.FaultLine.{IsTold, IsUntold, wants_memory};
 
-use crate::status::{FAULT, NO_MEMORY, done, put_text};
+use crate::status::{FAULT, NO_MEMORY, done, put_items};
 use colbits::NoMemory;
 use flat::FlatFault;
 use intake::IntakeFault;
@@ -46,7 +46,7 @@ pub(crate) fn put_fault(
     ensures memory { result ≡ 3 → IsKept out.old out.new needed.old needed.new }
 {
     match line_of(alloc, fault) {
-        Ok(line) => put_text(line.as_bytes(), FAULT, out, needed),
+        Ok(line) => put_items(line.as_bytes(), FAULT, out, needed),
         Err(NoMemory) => NO_MEMORY,
     }
 }

@@ -5,7 +5,10 @@
 //! - 1: a fault stands; its line is at the front of `out`, and `needed` is its length. A file is named by its number, from 0.
 //! - 2: `out` is shorter than the text or the line; `needed` is its length, and `out` stays as it was.
 //! - 3: a growth was refused; `out` and `needed` stay as they were.
-//! - 4: no table is open in the handle; `out` and `needed` stay as they were.
+//! - 4: no table is open in the handle, or no snapshot; `out` and `needed` stay as they were.
+//! - 5: the snapshot has no such batch; nothing is written.
+//!
+//! Calls that lend columns have nodes in place of a text. What they lend stands until the snapshot's next call.
 #![tactic(auto)]
 
 ghost use Rattle.std.specs.Prelude.{◌≡◌, ◌≤◌, map};
@@ -14,11 +17,16 @@ ghost use Rattle.embed.specs.Refused.{Stops};
 ghost use Rattle.selqumar.specs.Status.{IsGiven, IsKept, IsReported, IsShort, IsValid};
 
 mod boxed;
+mod columns;
 mod fault_line;
 mod filling;
 mod handle;
+mod lending;
 mod opened;
 mod slot;
+mod snapshot_handle;
+mod snapshot_slot;
+mod snapshots;
 mod status;
 
 use crate::status::{put, validity};

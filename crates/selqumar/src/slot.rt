@@ -6,7 +6,7 @@ ghost use Rattle.embed.specs.declared.loaded.Loaded.{Loaded};
 
 use crate::boxed::BoxPointer;
 use embed::Loaded;
-use std::marker::Model;
+use std::marker::{Model, Send};
 use std::ptr::null_mut;
 
 /// A pointer to a table, or to nothing. It has no type, since C knows none.
@@ -22,6 +22,8 @@ impl Model for Slot {
 
     ghost also_owns = { λ s. owned_at s.pointer s.table };
 }
+
+unsafe impl Send for Slot {}
 
 impl Slot {
     /// A slot of nothing.

@@ -6,8 +6,8 @@ ghost use Rattle.selqumar.specs.Status.{IsGivenBy, IsKept, IsReportedBy, IsShort
 use embed::{RunFault, line_of, validate};
 use std::alloc::Global;
 
-/// All of the text is in the buffer.
-const GIVEN: u32 = 0;
+/// All of the text is in the buffer, or all of the nodes.
+pub(crate) const GIVEN: u32 = 0;
 
 /// The line of a fault is in the buffer.
 pub(crate) const FAULT: u32 = 1;
@@ -18,8 +18,11 @@ const SHORT: u32 = 2;
 /// A growth was refused.
 pub(crate) const NO_MEMORY: u32 = 3;
 
-/// No table is open.
+/// No table is open, or no snapshot.
 pub(crate) const NOT_OPEN: u32 = 4;
+
+/// There is no such batch.
+pub(crate) const NO_BATCH: u32 = 5;
 
 /// Puts the text of an answer, or the line of its fault, into a buffer, and answers the status.
 pub(crate) fn put(
@@ -35,28 +38,28 @@ pub(crate) fn put(
     ensures memory { result ≡ 3 → IsKept out.old out.new needed.old needed.new }
 {
     match answered {
-        Ok(text) => put_text(text.as_bytes(), GIVEN, out, needed),
+        Ok(text) => put_items(text.as_bytes(), GIVEN, out, needed),
         Err(RunFault::NoMemory) => NO_MEMORY,
         Err(fault) => match line_of(alloc, &fault) {
-            Ok(line) => put_text(line.as_bytes(), FAULT, out, needed),
+            Ok(line) => put_items(line.as_bytes(), FAULT, out, needed),
             Err(_) => NO_MEMORY,
         },
     }
 }
 
-/// Puts a text at the front of a buffer, and answers the status, or that the buffer is too short.
-pub(crate) fn put_text(text: &[u8], status: u32, out: &mut [u8], needed: &mut usize) -> u32
+/// Puts items at the front of a buffer, and answers the status, or that the buffer is too short.
+pub(crate) fn put_items<T: Copy>(items: &[T], status: u32, out: &mut [T], needed: &mut usize) -> u32
     requires { status ≤ 1 }
     ensures status { result ≡ status ⊎ (result ≡ 2) }
-    ensures written { result ≤ 1 → IsWritten text.now out.old out.new needed.new }
-    ensures short { result ≡ 2 → IsTooShort text.now out.old out.new needed.new }
+    ensures written { result ≤ 1 → IsWritten items.now out.old out.new needed.new }
+    ensures short { result ≡ 2 → IsTooShort items.now out.old out.new needed.new }
 {
-    let len = text.len();
+    let len = items.len();
     *needed = len;
     if out.len() < len {
         return SHORT;
     }
-    out[..len].copy_from_slice(text);
+    out[..len].copy_from_slice(items);
     status
 }
 

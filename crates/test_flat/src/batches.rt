@@ -1,7 +1,9 @@
 //! Tests of what batches of nodes show.
 
 use crate::testing::{ALONE, CODES, LIST, Part, UNKNOWN, nodes};
-use flat::{batch_of, nodes_of};
+use flat::{Node, batch_of, nodes_of};
+use std::alloc::Global;
+use std::process::Abort;
 use std::test::Fail;
 use test_samples::{Shown, shows};
 
@@ -210,9 +212,42 @@ const INDICES: &[Column] = &[
     ),
 ];
 
+/// No slots, with no bytes at all.
+const WITHOUT_ROWS: &[Column] = &[
+    (
+        0,
+        &[(b"l", ALONE, 0, 0, [b"", b"", b""])],
+        Shown::Numbers(&[]),
+    ),
+    (
+        0,
+        &[(b"b", ALONE, 0, UNKNOWN, [b"", b"", b""])],
+        Shown::Bools(&[]),
+    ),
+    (
+        0,
+        &[(b"U", ALONE, 0, 0, [b"", b"", b""])],
+        Shown::Texts(&[]),
+    ),
+    (
+        0,
+        &[(b"+l", LIST, 0, 0, [b"", b"", b""]), NO_ITEMS],
+        Shown::Lists(&[]),
+    ),
+    (
+        0,
+        &[(b"i", CODES, 0, 0, [b"", b"", b""]), NO_WORDS],
+        Shown::Encoded(&[], &[], &[]),
+    ),
+];
+
+const NO_ITEMS: Part = (b"c", ALONE, 0, 0, [b"", b"", b""]);
+
+const NO_WORDS: Part = (b"u", ALONE, 0, 0, [b"", b"", b""]);
+
 #[test]
 fn a_column_shows_its_values(rt: HostRuntime) -> Result<(), Fail> {
-    for columns in [VALUES, OVER_OTHERS, INDICES] {
+    for columns in [VALUES, OVER_OTHERS, INDICES, WITHOUT_ROWS] {
         for (rows, parts, shown) in columns {
             let nodes = nodes(rt.alloc(), parts)?;
             let batch = batch_of(rt.alloc(), *rows, &nodes)?;
@@ -226,7 +261,7 @@ fn a_column_shows_its_values(rt: HostRuntime) -> Result<(), Fail> {
 
 #[test]
 fn what_is_lent_on_shows_the_same(rt: HostRuntime) -> Result<(), Fail> {
-    for columns in [VALUES, OVER_OTHERS, INDICES] {
+    for columns in [VALUES, OVER_OTHERS, INDICES, WITHOUT_ROWS] {
         for (rows, parts, shown) in columns {
             let batch = batch_of(rt.alloc(), *rows, &nodes(rt.alloc(), parts)?)?;
             let lent = nodes_of(rt.alloc(), &batch)?;
@@ -235,6 +270,42 @@ fn what_is_lent_on_shows_the_same(rt: HostRuntime) -> Result<(), Fail> {
             assert!(rt; again.columns().len() == 1, "{parts:?}");
             assert!(rt; shows(&again.columns()[0].view(), *shown), "{parts:?}");
         }
+    }
+    Ok(())
+}
+
+/// Whether a node has the bytes of another that may hold nulls.
+fn has_bytes_of(lent: &Node<'_>, made: &Node<'_>) -> bool {
+    let is_named = lent.format == made.format && lent.name == made.name;
+    let is_long = lent.length == made.length && lent.nullable == 1;
+    let is_over = lent.validity == made.validity
+        && lent.first == made.first
+        && lent.second == made.second;
+    is_named && is_long && is_over
+}
+
+/// Asserts that a batch of one plain column lends what it was made of.
+fn expect_lent(
+    rt: &impl Abort,
+    alloc: Global,
+    rows: u32,
+    parts: &'static [Part],
+) -> Result<(), Fail> {
+    let made = nodes(alloc, parts)?;
+    let batch = batch_of(alloc, rows, &made)?;
+    let lent = nodes_of(alloc, &batch)?;
+    assert_eq!(rt; lent.len(), 1);
+    let one = lent.first().ok_or("nothing lent")?;
+    let other = made.first().ok_or("nothing made")?;
+    assert!(rt; has_bytes_of(one, other), "{parts:?}");
+    Ok(())
+}
+
+#[test]
+fn what_is_lent_is_the_bytes_of_the_columns(rt: HostRuntime) -> Result<(), Fail> {
+    for place in [2, 8, 9, 10] {
+        let (rows, parts, _) = VALUES.get(place).ok_or("no such column")?;
+        expect_lent(&rt, rt.alloc(), *rows, parts)?;
     }
     Ok(())
 }

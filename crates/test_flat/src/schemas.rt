@@ -3,7 +3,8 @@
 use crate::testing::{ALONE, Behind, CODES, LIST, Part, UNKNOWN, node, nodes};
 use arrays::SchemaFault::DictInList;
 use arrays::{DataType, IntType, OffsetWidth, Width, is_too_deep};
-use flat::{FlatFault, Node, schema_of};
+use flat::{FlatFault, Node, fields_of, schema_of};
+use std::alloc::Global;
 use std::test::Fail;
 use test_samples::INT8;
 
@@ -28,8 +29,8 @@ fn is_int(ty: &DataType, number: IntType) -> bool {
     }
 }
 
-#[test]
-fn a_schema_has_a_field_for_each_column(rt: HostRuntime) -> Result<(), Fail> {
+/// The nodes of six columns.
+fn six_columns(alloc: Global) -> Result<Vec<Node<'static>>, Fail> {
     let parts = [
         empty(b"c", ALONE),
         empty(b"b", ALONE),
@@ -40,7 +41,12 @@ fn a_schema_has_a_field_for_each_column(rt: HostRuntime) -> Result<(), Fail> {
         empty(b"u", ALONE),
         empty(b"u", ALONE),
     ];
-    let nodes = nodes(rt.alloc(), &parts)?;
+    nodes(alloc, &parts)
+}
+
+#[test]
+fn a_schema_has_a_field_for_each_column(rt: HostRuntime) -> Result<(), Fail> {
+    let nodes = six_columns(rt.alloc())?;
     let schema = schema_of(rt.alloc(), &nodes)?;
     let uint16 = IntType {
         bits: Width::W16,
@@ -55,6 +61,40 @@ fn a_schema_has_a_field_for_each_column(rt: HostRuntime) -> Result<(), Fail> {
     assert!(rt; is_list(&fields[3].ty, OffsetWidth::Wide, uint16));
     assert!(rt; matches!(fields[4].ty, DataType::Dict));
     assert!(rt; matches!(fields[5].ty, DataType::Utf8));
+    Ok(())
+}
+
+/// Whether a node without slots names what another does: the same type, and unless it is a dictionary, the same name.
+fn names_the_same(lent: &Node<'_>, named: &Node<'_>, is_dictionary: bool) -> bool {
+    let type_is = lent.format == named.format
+        && lent.children == named.children
+        && lent.dictionary == named.dictionary;
+    let name_is = is_dictionary
+        || (lent.name == named.name && (lent.nullable == 0) == (named.nullable == 0));
+    let has_no_slot = lent.length == 0
+        && lent.validity.is_empty()
+        && lent.first.is_empty()
+        && lent.second.is_empty();
+    type_is && name_is && has_no_slot
+}
+
+#[test]
+fn fields_are_lent_as_the_nodes_that_named_them(rt: HostRuntime) -> Result<(), Fail> {
+    let mut nodes = six_columns(rt.alloc())?;
+    if let Some(node) = nodes.get_mut(1) {
+        node.nullable = 0;
+    }
+    let schema = schema_of(rt.alloc(), &nodes)?;
+    let lent = fields_of(rt.alloc(), &schema)?;
+    assert_eq!(rt; lent.len(), nodes.len());
+    for k in 0..lent.len() {
+        let is_dictionary = k > 0 && nodes[k - 1].dictionary == 1;
+        assert!(rt;
+            names_the_same(&lent[k], &nodes[k], is_dictionary),
+            "at {k}"
+        );
+    }
+    assert_eq!(rt; schema_of(rt.alloc(), &lent)?.len(), 6);
     Ok(())
 }
 

@@ -1,0 +1,76 @@
+//! What a query answers, as a table.
+ghost use Rattle.std.specs.Prelude.{◌≡◌, IfErr, IfOk, Ok, true};
+ghost use Rattle.embed.specs.Answer.{IsAnswerTable, IsNamedAnswer, IsPlacedAnswer, StopsAnswer, of_batch};
+ghost use Rattle.query.specs.Fault.{fits};
+ghost use Rattle.query.specs.QueryShape.{query_shape};
+ghost use Rattle.query.specs.Resolved.{named, resolved};
+ghost use Rattle.reports.specs.QueryFaults.{IsUnanswered, IsUnplaced};
+
+use arrays::RecordBatch;
+use colbits::NoMemory;
+use query::{Query, QueryText};
+use reports::{RunFault, column_names, placed_groups, placed_query, read_query_text};
+use results::{result_batch, result_types};
+use std::alloc::Global;
+use table::{TableState, Version};
+
+/// The table of the groups that a query of these bytes asks of a version.
+pub(crate) fn answer_table(
+    alloc: Global,
+    query_text: &[u8],
+    version: &Version,
+) -> Result<TableState, RunFault>
+    ensures ok { IfOk result (IsAnswerTable query_text.now version.now.fields version.now.history) }
+    ensures err { IfErr result (StopsAnswer query_text.now version.now.fields version.now.history) }
+{
+    match read_query_text(alloc, query_text) {
+        Ok(read) => named_table(alloc, &read, version),
+        Err(fault) => Err(fault),
+    }
+}
+
+/// The same for a query that was read.
+fn named_table(alloc: Global, query: &QueryText, version: &Version) -> Result<TableState, RunFault>
+    ensures ok { IfOk result (IsNamedAnswer (named query.now) version.now.fields version.now.history) }
+    ensures err { IfErr result (IsUnanswered (named query.now) version.now.fields version.now.history) }
+{
+    match placed_query(alloc, query, version) {
+        Ok(placed) => placed_table(alloc, query, &placed, version),
+        Err(fault) => Err(fault),
+    }
+}
+
+/// The same for its query by positions.
+fn placed_table(
+    alloc: Global,
+    query: &QueryText,
+    placed: &Query,
+    version: &Version,
+) -> Result<TableState, RunFault>
+    requires resolved { resolved version.now.fields (named query.now) ≡ Ok (query_shape placed.now) }
+    requires fits { fits version.now.fields (query_shape placed.now) ≡ true }
+    ensures ok { IfOk result (IsPlacedAnswer (named query.now) (query_shape placed.now) version.now.fields version.now.history) }
+    ensures err { IfErr result (IsUnplaced (query_shape placed.now) version.now.fields version.now.history) }
+{
+    match placed_groups(alloc, placed, version) {
+        Ok(answer) => {
+            let names = column_names(alloc, query)?;
+            let types = result_types(alloc, version.schema(), placed)?;
+            let batch = result_batch(alloc, &names, &types, &answer)?;
+            Ok(table_of(alloc, &batch)?)
+        }
+        Err(fault) => Err(fault),
+    }
+}
+
+/// A table of one batch, of worker 0. Nothing stands against the batch of an answer but want of memory.
+fn table_of(alloc: Global, batch: &RecordBatch) -> Result<TableState, NoMemory>
+    ensures { IfOk result (λ t. t ≡ of_batch batch.now) }
+{
+    let schema = batch.schema().copy(alloc)?;
+    let mut table = TableState::new(alloc, schema)?;
+    match table.admit(0, batch) {
+        Ok(_) => Ok(table),
+        Err(_) => Err(NoMemory),
+    }
+}

@@ -1,0 +1,8 @@
+use Rattle.std.proofs.Common.{take}
+use Rattle.types.specs.Shape.{fields_of}
+use Rattle.flat.proofs.NamedLemmas.{NamesSoFar}
+use Rattle.flat.proofs.named.fields_of.Given as goal
+
+-- the fields so far
+abbrev pub invariant-loop-k : goal.invariant-loop-k
+invariant-loop-k l = NamesSoFar l.nodes.items (take l.k (fields_of l.fields))
