@@ -4,10 +4,11 @@
      library repeated CALL FILES
      library stack CALL FILES
      library nulls CALL FILES
+     library fault LINE
 
-   A call is one of those on files, or `nodes`: all that make, fill and change a table of columns in memory. For the first two `refusals.c` has to be loaded. The query of `query` is the text of the variable QUERY. The status is 0 where all is as it should
+   A call is one of those on files, or `nodes`: all that make, fill and change a table of columns in memory, and hand it on. For the first two `refusals.c` has to be loaded. The query of `query` is the text of the variable QUERY. The status is 0 where all is as it should
    be. */
-#include "selqumar.h"
+#include "selqumar_arrow.h"
 #include <pthread.h>
 #include <stdio.h>
 #include <stdlib.h>
@@ -57,7 +58,36 @@ static struct selqumar_bytes text(const char *text) {
   return bytes;
 }
 
-/* Makes a table, appends to it, and changes it in each way there is: up to the step that isn't given. A fault of an append stands between. */
+/* Hands a table's batches on to another, and gives the statistics of that one. */
+static uint32_t hand_on(struct selqumar_handle *handle, struct answer *answer) {
+  struct selqumar_handle other = SELQUMAR_CLOSED;
+  struct ArrowArrayStream stream;
+  uint64_t batches, rows;
+  uint32_t status = selqumar_arrow_stream(handle, &stream);
+  if (status == SELQUMAR_GIVEN)
+    status = selqumar_arrow_open_stream(&other, 0, &stream, &batches, &rows, answer->out, ROOM, &answer->needed);
+  if (status == SELQUMAR_GIVEN)
+    status = selqumar_stats_of(&other, 1, answer->out, ROOM, &answer->needed);
+  selqumar_close(&other);
+  return status;
+}
+
+/* Makes a table of an answer over a snapshot, and gives the statistics of that one. */
+static uint32_t ask(struct selqumar_handle *handle, struct answer *answer) {
+  static const char sums[] = "{\"by\":[\"t\"],\"aggs\":[{\"agg\":\"sum\",\"column\":\"n\"}]}";
+  struct selqumar_handle other = SELQUMAR_CLOSED;
+  struct selqumar_snapshot snapshot = SELQUMAR_CLOSED;
+  uint32_t status = selqumar_snapshot(handle, &snapshot);
+  if (status == SELQUMAR_GIVEN)
+    status = selqumar_answer(&snapshot, (const uint8_t *)sums, sizeof sums - 1, &other, answer->out, ROOM, &answer->needed);
+  if (status == SELQUMAR_GIVEN)
+    status = selqumar_stats_of(&other, 1, answer->out, ROOM, &answer->needed);
+  selqumar_snapshot_close(&snapshot);
+  selqumar_close(&other);
+  return status;
+}
+
+/* Makes a table, appends to it, changes it in each way there is, asks it, and hands it on: up to the step that isn't given. A fault of an append stands between. */
 static uint32_t steps(struct selqumar_handle *handle, struct answer *answer) {
   static const uint8_t numbers[] = {1, 2, 3, 4}, ends[] = {0, 0, 0, 0, 1, 0, 0, 0, 1, 0, 0, 0, 3, 0, 0, 0}, valid[] = {5};
   const struct selqumar_bytes number = {numbers, 3}, offsets = {ends, sizeof ends}, bits = {valid, 1};
@@ -79,6 +109,10 @@ static uint32_t steps(struct selqumar_handle *handle, struct answer *answer) {
     status = selqumar_add_column(handle, &added, 1, out, ROOM, needed);
   if (status == SELQUMAR_GIVEN)
     status = selqumar_compact(handle, 5, out, ROOM, needed);
+  if (status == SELQUMAR_GIVEN)
+    status = hand_on(handle, answer);
+  if (status == SELQUMAR_GIVEN)
+    status = ask(handle, answer);
   return status == SELQUMAR_GIVEN ? selqumar_stats_of(handle, 3, out, ROOM, needed) : status;
 }
 
@@ -218,10 +252,24 @@ static int nulls(struct answer *right, struct answer *other) {
   return needed == also ? 0 : (printf("another length\n"), 1);
 }
 
+/* Prints what a line of a fault says. */
+static int told(const char *line) {
+  struct selqumar_fault fault;
+  const int is_fault = selqumar_fault_of((const uint8_t *)line, strlen(line), &fault);
+  const uint64_t places[] = {fault.file, fault.batch, fault.column, fault.row};
+  printf("%d %c%u", is_fault, fault.group ? (int)fault.group : '-', (unsigned)fault.number);
+  for (size_t i = 0; i < 4; i++)
+    printf(places[i] == SELQUMAR_NOWHERE ? " -" : " %" PRIu64, places[i]);
+  printf("\n");
+  return 0;
+}
+
 int main(int words, char **word) {
   struct answer right = {0, 0, malloc(ROOM)}, other = {0, 0, malloc(ROOM)}, none = {SELQUMAR_NO_MEMORY, UNTOUCHED, malloc(ROOM)};
   if (words < 3)
     return 2;
+  if (!strcmp(word[1], "fault"))
+    return told(word[2]);
   name = word[2];
   query = getenv("QUERY");
   for (int i = 3; i < words; i++)

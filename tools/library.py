@@ -334,6 +334,22 @@ def check_memory(program, folder, room):
         check(f"{how} calls on nodes", None if ran.returncode == 0 else f"status {ran.returncode} {ran.stdout!r:.200}")
 
 
+LINES = [
+    "arrowtab: 0: J1 NotJson", "arrowtab: 12: J10 Layout V5 OffsetDecreases row=1 at /batches/0/columns/1", "arrowtab: query: J3 WrongMember at /aggs/0/agg column=1",
+    "arrowtab: 3: batch 7: A2 NullInNonNullable column=2 row=18446744073709551614", "arrowtab: A4 ColumnLength column=0", "arrowtab: column: N1 NotNullable",
+    "arrowtab: E6 Stream code=5", "arrowtab: 0: cannot be read", "arrowtab: no memory", "arrowtab: ", "error: 1",
+]
+
+
+def check_lines(selqumar, folder):
+    """A line says the same in C as in Python."""
+    for line in LINES:
+        told = selqumar.Fault(line)
+        wanted = ["1", told.code, *("-" if it is None else str(it) for it in (told.file, told.batch, told.column, told.row))] if told.code else ["0", "-0"]
+        ran = subprocess.run([os.path.join(folder, "library"), "fault", line], capture_output=True, text=True, timeout=SECONDS)
+        check(f"the line {line!r}", difference(ran.stdout.split()[:len(wanted)], wanted))
+
+
 def library_in(words):
     """The folder that has the library, which is built where none is named."""
     if words:
@@ -358,6 +374,7 @@ def main():
         check_buffers(program, ctypes.CDLL(library), room)
         check_c_and_rust(program, os.path.join(place, "libselqumar.a"), folder, room)
         check_memory(program, folder, room)
+        check_lines(selqumar, folder)
         for what, fault in [*library_build.cases(folder), *library_python.cases(selqumar, library, other), *library_table.cases(selqumar)]:
             check(what, fault)
     print(f"{passed} passed, {failed} failed")

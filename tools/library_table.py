@@ -7,8 +7,10 @@ import json
 import os
 import random
 import tempfile
+from concurrent.futures import ThreadPoolExecutor
 
-from arrow_producer import Column, Exporter, Producer, Stream
+from arrow_consumer import Taken, release, rows_of_stream, values as values_of
+from arrow_producer import NULLABLE, Column, Exporter, Producer, Stream
 from library_python import difference, raised
 
 BATCHES = 1000
@@ -296,6 +298,105 @@ def gdal_cases(selqumar, room):
     gdal.GDALClose(source)
 
 
+# ---- columns out
+
+
+def out_cases(selqumar):
+    """Streams of a table and of snapshots: what comes out is what is there, also once the table is gone."""
+    chance = random.Random(3)
+    for kind in [it for it in KINDS if not it.startswith("dictionary")]:
+        items = [random_item(chance, kind) for _ in range(40)]
+        with selqumar.Table({"v": kind, "n": "int8"}) as table:
+            table.append({"v": items[:9], "n": range(9)})
+            table.append({"v": items[9:], "n": range(31)})
+            yield f"a stream of {kind}", difference(rows_of_stream(table), {"v": items, "n": [*range(9), *range(31)]})
+            with selqumar.Table.of(table) as copy:
+                yield f"a table of a table of {kind}", difference((rows_of(copy), copy.stats().columns), (rows_of(table), table.stats().columns))
+    schema = {"a": selqumar.Field("utf8", nullable=False), "b": "largelist<list<bool>>"}
+    with selqumar.Table(schema) as table:
+        taken = Taken(table)
+        fields = [(it.name, it.format, it.flags) for it in taken.fields()]
+        yield "a stream without a batch", difference((fields, len(list(taken.batches()))), ([(b"a", b"i", 0), (b"b", b"+L", NULLABLE)], 0))
+        taken.close()
+    with selqumar.Table({}) as table:
+        yield "a stream without a column", difference(rows_of_stream(table), {})
+    with selqumar.Table({"a\0b": "int8"}) as table:
+        yield "a name with a zero byte", difference((raised(rows_of_stream, table) or ("nothing",))[0], "AssertionError")
+
+
+def snapshot_cases(selqumar):
+    """Snapshots: each shows what was there, and stays when the table goes on or is closed."""
+    table = selqumar.Table({"a": "int32", "t": "utf8"})
+    table.append({"a": [1, None], "t": ["x", "y"]}, worker=1)
+    with table.snapshot() as snapshot, table.snapshot() as other:
+        taken = Taken(snapshot)
+        table.append({"a": [3], "t": ["x"]})
+        table.add_column("b", "bool")
+        table.compact()
+        wanted = {"a": [1, None], "t": ["x", "y"]}
+        yield "a snapshot", difference((rows_of(snapshot), rows_of_stream(snapshot), snapshot.query(ROWS)), (wanted, wanted, [[2]]))
+        yield "its statistics", difference([(it.batches, it.rows) for it in snapshot.stats().workers], [(0, 0), (1, 2)])
+        yield "its table", difference(rows_of_stream(table), {"a": [1, None, 3], "t": ["x", "y", "x"], "b": [None] * 3})
+        yield "repr of a snapshot", difference(repr(snapshot), "<selqumar.Snapshot of 2 rows: a, t>")
+        batches = list(taken.batches())
+        table.close()
+        snapshot.close()
+        found = [values_of(field, batches[0].children[place].contents) for place, field in enumerate(taken.fields())]
+        yield "a batch that outlives its table", difference((len(batches), found), (1, [[1, None], ["x", "y"]]))
+        with ThreadPoolExecutor(1) as threads:
+            threads.submit(release, batches[0]).result()
+        taken.close()
+        yield "another snapshot", difference(rows_of_stream(other), wanted)
+    yield "a snapshot that is closed", difference((raised(snapshot.query, ROWS) or ("nothing",))[0], "ValueError")
+    yield "a stream of what is closed", difference((raised(table.__arrow_c_stream__) or ("nothing",))[0], "ValueError")
+    yield "a snapshot of what is closed", difference((raised(table.snapshot) or ("nothing",))[0], "ValueError")
+
+
+def answer_cases(selqumar):
+    """Answers as tables: the rows of the groups."""
+    chance = random.Random(4)
+    for kind in [*INTEGERS, "bool", "utf8", "largeutf8"]:
+        items = [random_item(chance, kind) for _ in range(60)]
+        with selqumar.Table({"k": kind, "n": "int16"}) as table:
+            table.append({"k": items, "n": [None, 1, 2] * 20})
+            aggs = [{"agg": "rows"}, *({"agg": agg, "column": "n"} for agg in ("count", "sum", "least", "greatest")), {"agg": "least", "column": "k"}]
+            query = {"filter": {"op": "not", "args": [{"op": "is_null", "args": [{"column": "n"}]}]}, "by": ["k"], "aggs": aggs}
+            groups = table.query(query)
+            with table.answer(query) as answer:
+                found = rows_of_stream(answer)
+                names = ["k", "rows", "count(n)", "sum(n)", "least(n)", "greatest(n)", "least(k)"]
+                yield f"an answer by {kind}", difference((list(found), [list(row) for row in zip(*found.values())]), (names, groups))
+                types = [column.type for column in answer.stats().columns]
+                plain_ = "largeutf8" if kind == "utf8" else kind
+                yield f"its types by {kind}", difference(types, [plain_, "int64", "int64", "int64", "int16", "int16", plain_])
+                yield f"an answer that is asked by {kind}", difference(answer.query(ROWS), [[len(groups)]])
+    with selqumar.Table({"u": "uint64"}) as table:
+        aggs = {"aggs": [{"agg": "sum", "column": "u"}, {"agg": "greatest", "column": "u"}]}
+        for rows in ([], [2 ** 63], [2 ** 64 - 1]):
+            table.append({"u": rows})
+            total, greatest = table.query(aggs)[0]
+            wanted = {"sum(u)": [total if total is None or total < 2 ** 63 else str(total)], "greatest(u)": [greatest]}
+            yield f"a sum of {total}", difference(rows_of_stream(table.answer(aggs)), wanted)
+        yield "an answer without a group", difference(rows_of_stream(table.answer({"filter": {"op": "lt", "args": [{"column": "u"}, {"int": 0}]}, "by": ["u"]})), {"u": []})
+        yield "a query that is refused", difference((raised(table.answer, {"by": ["v"]}) or ("", ""))[1], "arrowtab: query: Q1 NoColumn")
+    yield "an answer of what is closed", difference((raised(table.answer, aggs) or ("nothing",))[0], "ValueError")
+
+
+def reader_cases(selqumar):
+    """Threads that read snapshots of their own while another appends: each is a front of the table."""
+    with selqumar.Table({"n": "int32"}) as table:
+        def read(snapshot):
+            with snapshot:
+                return rows_of_stream(snapshot)["n"] == list(range(snapshot.stats().rows))
+
+        with ThreadPoolExecutor(4) as threads:
+            found = []
+            for number in range(200):
+                table.append({"n": [number]})
+                found.append(threads.submit(read, table.snapshot()))
+            yield "readers beside an append", difference([it.result() for it in found].count(True), 200)
+
+
 def pyarrow_cases(selqumar):
     try:
         pyarrow = importlib.import_module("pyarrow")
@@ -306,6 +407,7 @@ def pyarrow_cases(selqumar):
     with selqumar.Table.of(pyarrow.table(data)) as table:
         table.append(pyarrow.record_batch(data))
         yield "a table of pyarrow", difference(rows_of(table), {name: items * 2 for name, items in data.items()})
+        yield "a table for pyarrow", difference(pyarrow.table(table).to_pydict(), {name: items * 2 for name, items in data.items()})
 
 
 # ---- nodes that lie
@@ -395,6 +497,10 @@ def cases(selqumar):
         yield from array_cases(selqumar)
         yield from stream_cases(selqumar)
         yield from shape_cases(selqumar)
+        yield from out_cases(selqumar)
+        yield from snapshot_cases(selqumar)
+        yield from answer_cases(selqumar)
+        yield from reader_cases(selqumar)
         yield from gdal_cases(selqumar, room)
         yield from pyarrow_cases(selqumar)
         yield from hostile_cases(selqumar)

@@ -19,11 +19,11 @@ from . import _files, _library, _values
 from ._columns import Field
 from ._files import Files, Query
 from ._library import LIBRARY, Fault
-from ._table import Table
+from ._table import Snapshot, Table
 from ._values import Column, Stats, Value, Worker
 
 __version__ = "0.1.0"
-__all__ = ["Column", "Fault", "Field", "Stats", "Table", "Worker", "export", "query", "query_text", "stats", "stats_text", "validate"]
+__all__ = ["Column", "Fault", "Field", "Snapshot", "Stats", "Table", "Worker", "export", "query", "query_text", "stats", "stats_text", "validate"]
 
 _rooms = _library.Rooms()
 

@@ -26,7 +26,8 @@ class Fault(Exception):
         super().__init__(line)
         told = self.LINE.fullmatch(line)
         parts = told.groupdict() if told else {}
-        places = dict(self.PLACE.findall(line)) if parts.get("path") is None else {}
+        # Behind a path any name may stand.
+        places = dict(self.PLACE.findall(line.partition(" at /")[0])) if told else {}
         self.code: Optional[str] = parts.get("code")
         self.path: Optional[str] = parts.get("path")
         self.file: Optional[int] = _number(parts.get("file"))
@@ -75,7 +76,19 @@ _FUNCTIONS = {
     "selqumar_arrow_append": _HANDLE + [ctypes.c_uint32, ctypes.c_void_p, ctypes.c_void_p] + _OUT,
     "selqumar_arrow_open_stream": _STREAM,
     "selqumar_arrow_append_stream": _STREAM,
+    "selqumar_snapshot": _HANDLE + _HANDLE,
+    "selqumar_snapshot_stats": _HANDLE + [ctypes.c_uint32] + _OUT,
+    "selqumar_snapshot_export": _HANDLE + _OUT,
+    "selqumar_snapshot_query": _HANDLE + _TEXT + _OUT,
+    "selqumar_snapshot_close": _HANDLE,
+    "selqumar_answer": _HANDLE + _TEXT + _HANDLE + _OUT,
+    "selqumar_arrow_stream": _HANDLE + [ctypes.c_void_p],
+    "selqumar_arrow_snapshot_stream": _HANDLE + [ctypes.c_void_p],
+    "selqumar_arrow_room": [],
+    "selqumar_arrow_end_capsule": [ctypes.c_void_p],
 }
+# What gives something else than a status.
+_GIVES = {"selqumar_close": None, "selqumar_snapshot_close": None, "selqumar_arrow_end_capsule": None, "selqumar_arrow_room": ctypes.c_void_p}
 
 
 def _loaded() -> ctypes.CDLL:
@@ -90,7 +103,7 @@ def _loaded() -> ctypes.CDLL:
         library = ctypes.CDLL(place)
         for function, takes in _FUNCTIONS.items():
             getattr(library, function).argtypes = takes
-            getattr(library, function).restype = None if function == "selqumar_close" else ctypes.c_uint32
+            getattr(library, function).restype = _GIVES.get(function, ctypes.c_uint32)
     except (OSError, AttributeError) as fault:
         raise ImportError(f"selqumar: {place} is no library of this version ({fault}): `tools/library build` builds one") from fault
     return library
@@ -99,8 +112,28 @@ def _loaded() -> ctypes.CDLL:
 _LIBRARY = _loaded()
 
 
-def close(handle: Handle) -> None:
-    _LIBRARY.selqumar_close(ctypes.byref(handle))
+# What lets go of a capsule's stream, as an address.
+END_OF_CAPSULE = ctypes.cast(_LIBRARY.selqumar_arrow_end_capsule, ctypes.c_void_p)
+
+
+def close(name: str, handle: Handle) -> None:
+    getattr(_LIBRARY, name)(ctypes.byref(handle))
+
+
+def new_stream() -> int:
+    """Room for a stream, which lets go of nothing yet."""
+    place = _LIBRARY.selqumar_arrow_room()
+    if not place:
+        raise _no_memory()
+    return place
+
+
+def _no_memory() -> MemoryError:
+    return MemoryError("selqumar: a request for memory was refused")
+
+
+def _closed() -> ValueError:
+    return ValueError("selqumar: the table is closed")
 
 
 class Rooms:
@@ -117,9 +150,9 @@ class Rooms:
             out = ctypes.create_string_buffer(room)
             status = getattr(_LIBRARY, name)(*front, out, room, ctypes.byref(needed))
             if status == NO_MEMORY:
-                raise MemoryError("selqumar: a request for memory was refused")
+                raise _no_memory()
             if status == NOT_OPEN:
-                raise ValueError("selqumar: the table is closed")
+                raise _closed()
             if status != SHORT:
                 break
             room = needed.value
@@ -128,3 +161,11 @@ class Rooms:
         if status == FAULT:
             raise Fault(text.rstrip("\n"))
         return text
+
+    def done(self, name: str, *words: Any) -> None:
+        """Calls a function that gives no text."""
+        status = getattr(_LIBRARY, name)(*words)
+        if status == NO_MEMORY:
+            raise _no_memory()
+        if status == NOT_OPEN:
+            raise _closed()

@@ -1,16 +1,14 @@
-"""A table that stays open between calls."""
+"""A table that stays open between calls, and a snapshot of one."""
 from __future__ import annotations
 
 import ctypes
-import threading
-import weakref
 from collections.abc import Mapping
 from typing import Any, Optional, Union
 
-from . import _columns, _files, _library, _values
+from . import _columns, _files, _library
+from ._asked import Asked
 from ._columns import Field, Schema
 from ._files import Files, Query
-from ._values import Stats, Value
 
 _MOST_WORKERS = 64
 # As many rows as a batch may have.
@@ -20,12 +18,15 @@ _pointer_of = ctypes.pythonapi.PyCapsule_GetPointer
 _pointer_of.restype, _pointer_of.argtypes = ctypes.c_void_p, [ctypes.py_object, ctypes.c_char_p]
 
 
-class Table:
+class Table(Asked):
     """A table that batches are appended to while it is asked, until `close`, the end of a `with`, or the end of the last reference. Threads may share one: its
-    calls take turns. A call that raises a `Fault` leaves it as it was.
+    calls take turns, and a `snapshot` is for a thread of its own. A call that raises a `Fault` leaves it as it was.
 
     `Table(schema)` is an empty one, of names with types (see `Field`), or of the schema of whatever has `__arrow_c_schema__`. `Table.of_files(files)` has the
     batches of files, and `Table.of(data)` those of an Arrow stream."""
+
+    _STATS, _EXPORT, _QUERY = "selqumar_stats_of", "selqumar_open_export", "selqumar_open_query"
+    _STREAM, _CLOSE = "selqumar_arrow_stream", "selqumar_close"
 
     def __init__(self, schema: Union[Schema, Any]) -> None:
         self._begin()
@@ -60,45 +61,8 @@ class Table:
         return table
 
     def _begin(self) -> None:
-        self._lock = threading.RLock()
-        self._handle = _library.Handle()
-        self._rooms = _library.Rooms()
-        self._length = 0
-        self._workers = 1
+        super()._begin()
         self._fields: Optional[list[tuple[str, str]]] = None
-        # It is there before anything is open, so that whatever comes in between, what was opened is closed.
-        self._finalizer = weakref.finalize(self, _library.close, self._handle)
-        self._finalizer.atexit = False
-
-    def _closed_where_raised(self) -> _Closing:
-        return _Closing(self._finalizer)
-
-    def __enter__(self) -> Table:
-        return self
-
-    def __exit__(self, *_: object) -> None:
-        self.close()
-
-    def __repr__(self) -> str:
-        with self._lock:
-            if self.closed:
-                return "<selqumar.Table, closed>"
-            stats = self.stats()
-        return f"<selqumar.Table of {stats.rows} row{'' if stats.rows == 1 else 's'}: {', '.join(column.name for column in stats.columns)}>"
-
-    def _repr_html_(self) -> str:
-        """The statistics of its columns, for a notebook."""
-        return self.stats()._repr_html_()
-
-    @property
-    def closed(self) -> bool:
-        """Whether it is closed."""
-        return not self._finalizer.alive
-
-    def close(self) -> None:
-        """Gives its memory back. What is called on it from then on is a `ValueError`."""
-        with self._lock:
-            self._finalizer()
 
     # ---- what changes it
 
@@ -159,29 +123,23 @@ class Table:
         with self._lock:
             self._call("selqumar_compact", ctypes.byref(self._handle), max_rows)
 
-    # ---- what it is asked
+    # ---- what it is asked beside what a snapshot is
 
-    def stats_text(self) -> str:
-        """What `arrowtab stats` prints of it, with as many workers as appended."""
-        with self._lock:
-            return self._text("selqumar_stats_of", self._workers)
+    def snapshot(self) -> Snapshot:
+        """The table as it stands, for other threads: each reads one of its own."""
+        snapshot = Snapshot.__new__(Snapshot)
+        snapshot._begin()
+        with snapshot._closed_where_raised(), self._lock:
+            snapshot._length, snapshot._workers = self._length, self._workers
+            self._rooms.done("selqumar_snapshot", ctypes.byref(self._handle), ctypes.byref(snapshot._handle))
+        return snapshot
 
-    def export(self) -> str:
-        """What `arrowtab export` prints of it: one file with all batches."""
-        return self._text("selqumar_open_export")
-
-    def query_text(self, query: Query) -> str:
-        """What `arrowtab query` prints of it, for a query as JSON text or as the value of one."""
-        text = _files.query_bytes(query)
-        return self._text("selqumar_open_query", text, len(text))
-
-    def stats(self) -> Stats:
-        """The same as `stats_text`, as values."""
-        return _values.stats_of(self.stats_text())
-
-    def query(self, query: Query) -> list[list[Value]]:
-        """The same as `query_text`, as values: a list for each group, its keys before its aggregates."""
-        return _values.groups_of(self.query_text(query))
+    def answer(self, query: Query) -> Table:
+        """What `query` gives, as a table of its own, for whatever takes an Arrow stream, or to be asked again: a row for each group, a column for each item of its
+        key and each aggregate, such as `sum(people)`. Integers keep their column's type; counts and sums are int64, and a column with a sum past that is one of
+        texts."""
+        with self.snapshot() as snapshot:
+            return snapshot.answer(query)
 
     def _named_fields(self) -> list[tuple[str, str]]:
         """The names and types of its columns."""
@@ -198,20 +156,19 @@ class Table:
     def _call(self, name: str, *words: Any) -> None:
         self._rooms.text(name, *words)
 
-    def _text(self, name: str, *middle: Any) -> str:
-        with self._lock:
-            return self._rooms.text(name, ctypes.byref(self._handle), *middle, least=_files.least(name, self._length))
 
+class Snapshot(Asked):
+    """A table at a moment, from `Table.snapshot`. What is appended later isn't in it, so that a thread can read one while another appends; no row was copied for
+    it."""
 
-class _Closing:
-    """In a `with`, a table in the making: where something is raised, it is closed."""
+    _STATS, _EXPORT, _QUERY = "selqumar_snapshot_stats", "selqumar_snapshot_export", "selqumar_snapshot_query"
+    _STREAM, _CLOSE = "selqumar_arrow_snapshot_stream", "selqumar_snapshot_close"
 
-    def __init__(self, finalizer: weakref.finalize) -> None:
-        self._finalizer = finalizer
-
-    def __enter__(self) -> None:
-        pass
-
-    def __exit__(self, kind: Optional[type], *_: object) -> None:
-        if kind is not None:
-            self._finalizer()
+    def answer(self, query: Query) -> Table:
+        """As `Table.answer`."""
+        text = _files.query_bytes(query)
+        table = Table.__new__(Table)
+        table._begin()
+        with table._closed_where_raised(), self._lock:
+            self._rooms.text("selqumar_answer", ctypes.byref(self._handle), text, len(text), ctypes.byref(table._handle))
+        return table
