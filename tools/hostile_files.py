@@ -1,7 +1,8 @@
 #!/usr/bin/env python3
 """Runs `arrowtab` on files from strangers, each run under a limit of memory and of processor time: small ones that would cost much
 where an array, a schema or a dictionary were copied each time that it is named or grows; some that state 2147483647 where a count or an offset
-stands, and hold nothing; files that are cut, that are none, or whose fault has a place; ends that aren't files; and first rows and groups that are large.
+stands, and hold nothing; files that are cut, that are none, or whose fault has a place; ends that aren't files; first rows and groups that are large; and queries from files and
+standard input.
 
     tools/hostile_files.py PROGRAM
 
@@ -215,6 +216,44 @@ FIELDS = [
     ("no field", "", "J1 NotJson"),
 ]
 
+# ---- queries from files, and standard input
+
+COUNT = '{"aggs":[{"agg":"rows"}]}'
+
+
+def negated(depth):
+    """A filter of so many expressions in one another."""
+    test = {"op": "is_null", "args": [{"column": "n"}]}
+    for _ in range(depth - 2):
+        test = {"op": "not", "args": [test]}
+    return json.dumps({"filter": test, "aggs": [{"agg": "rows"}]}).encode()
+
+
+# What it is, what the query's file holds, and what is reported.
+QUERY_FILES = [
+    ("a query that counts", COUNT.encode(), "3\n"),
+    ("a query between empty lines", b"\n\n" + COUNT.encode() + b"\r\n", "3\n"),
+    ("no query", b"", "J1 NotJson"),
+    ("a query of a byte that is 0", b"\0", "J1 NotJson"),
+    ("a query that is no text", b'{"by":["\xff"]}', "J1 NotJson"),
+    ("a query that is cut", COUNT[:-1].encode(), "J1 NotJson"),
+    ("two queries", COUNT.encode() * 2, "J1 NotJson"),
+    ("100,000 arrays for a query", b"[" * 100000, "J1 NotJson"),
+    ("a query that is an array", b"[]", "J3 WrongMember"),
+    ("a query of 32 expressions in one another", negated(32), "1\n"),
+    ("a query of 40", negated(40), "Q5 TooDeep"),
+    ("a query of 2 MB", COUNT.encode() + b" " * 2000000, "3\n"),
+]
+# What it is, the words for a file and one of a query, what comes on standard input, and what is reported.
+INPUTS = [
+    ("the table from standard input", lambda path, query: ["stats", "-"], A.encode(), STATS_OF_A),
+    ("one of its files", lambda path, query: ["validate", path, "-"], A[:100].encode(), "J1 NotJson"),
+    ("nothing on standard input", lambda path, query: ["export", "-"], b"", "J1 NotJson"),
+    ("a query from standard input", lambda path, query: ["query", "--query-file", "-", path], COUNT.encode(), "3\n"),
+    ("an array there", lambda path, query: ["query", "--query-file", "-", path], b"[]", "J3 WrongMember"),
+    ("a query from a file over it", lambda path, query: ["query", "-", "--query-file", query], A.encode(), "3\n"),
+]
+
 # ---- runs
 
 
@@ -318,6 +357,50 @@ class Runs:
         self.expect("rows of a file that is cut", self.run([path], command=("head",)), path, "J1 NotJson")
 
 
+    def queries(self):
+        """Queries that are in files."""
+        path = self.file(A)
+        query = os.path.join(self.room, "query")
+        for name, data, wanted in QUERY_FILES:
+            with open(query, "wb") as file:
+                file.write(data)
+            self.expect(name, self.run(["--query-file", query, path], command=("query",)), "query", wanted)
+        for name in (self.room, os.path.join(self.room, "nothing"), "/proc/self/mem"):
+            self.expect(f"a query from {name}", self.run(["--query-file", name, path], command=("query",)), name, "cannot be read")
+        self.expect_mistake(["query", path], "query wants --query or --query-file")
+        self.expect_mistake(["query", "--query", "{}", "--query-file", query, path], "--query and --query-file are two queries")
+
+    def expect_mistake(self, words, wanted):
+        """Says whether this was told of the words, and nothing was read."""
+        run = self.run(words[1:], command=words[:1])
+        given = (run.returncode, run.stdout, run.stderr)
+        self.tell(" ".join(words), None if given == (2, b"", f"arrowtab: {wanted}\n".encode()) else f"{given[0]} {given[2][:200]!r}")
+
+    def input(self):
+        """Standard input in a file's place."""
+        path = self.file(A)
+        query = os.path.join(self.room, "query")
+        with open(query, "w") as file:
+            file.write(COUNT)
+        for name, words, data, wanted in INPUTS:
+            run = self.run_over(words(path, query), data)
+            self.expect(name, run, "query" if wanted == "J3 WrongMember" else "-", wanted)
+        with open(path, "rb") as file:
+            self.expect("a file as standard input", self.run(["-"], stdin=file), "-", STATS_OF_A)
+        folder = os.open(self.room, os.O_RDONLY)
+        for words in (["stats", "-"], ["query", "--query-file", "-", path]):
+            self.expect("a folder as standard input", self.run(words[1:], command=words[:1], stdin=folder), "-", "cannot be read")
+        os.close(folder)
+        run = subprocess.run(["sh", "-c", 'exec "$0" stats - <&-', self.program], stdout=subprocess.PIPE, stderr=subprocess.PIPE, timeout=60)
+        self.expect("standard input that is closed", run, "-", "cannot be read")
+        for words in (["stats", "-", path, "-"], ["query", "--query-file", "-", "-"], ["query", "--query-file=-", path, "--", "-"]):
+            self.expect_mistake(words, "- is standard input, which is read once")
+
+    def run_over(self, words, data):
+        """A run with these bytes on standard input, which come through a pipe."""
+        return subprocess.run([self.program, *words], preexec_fn=lambda: limited(60, 4), timeout=60, input=data, stdout=subprocess.PIPE, stderr=subprocess.PIPE)
+
+
 def outcome(path, wanted):
     """The status of a run, its output and the line of its fault."""
     if wanted.endswith("\n"):
@@ -342,6 +425,8 @@ def main():
         runs.ends()
         runs.columns()
         runs.rows()
+        runs.queries()
+        runs.input()
     print(f"{runs.passed} passed, {runs.failed} failed")
     return 1 if runs.failed else 0
 

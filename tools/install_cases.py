@@ -69,7 +69,7 @@ def program_cases(program, room):
     for command in ("arrowtab", "stats", "schema", "validate", "head", "export", "query"):
         yield f"the page has the help of {command}", None if text_of("docs", "help", f"{command}.txt") in page else page
     complete = f". {room}/share/bash-completion/completions/arrowtab; COMP_WORDS=(arrowtab $1); COMP_CWORD=$(($# ? ${{#COMP_WORDS[@]}} - 1 : 1)); _arrowtab; echo ${{COMPREPLY[@]}}"
-    for words, wanted in (("ex", "export"), ("stats --w", "--workers"), ("query --q", "--query"), ("query --output j", "json"), ("help q", "query")):
+    for words, wanted in (("ex", "export"), ("stats --w", "--workers"), ("query --q", "--query --query-file"), ("query --output j", "json"), ("help q", "query")):
         yield f"completions of {words}", difference(run("bash", "-c", complete, "bash", words).stdout.strip(), wanted)
 
 

@@ -4,7 +4,7 @@
     tools/refused_requests.py PROGRAM
 
 Each run gives exactly the answer of a run that nothing was refused in, be it an output or the line of a fault, or `arrowtab: no memory` with
-status 1 and nothing on standard output. With several workers the runs are of one file, or print statistics or a fault, which don't depend on
+status 1 and nothing on standard output. On standard input each has the file `mixed.json`. With several workers the runs are of one file, or print statistics or a fault, which don't depend on
 who was first. The last line is 'N passed, M failed', of cases."""
 import concurrent.futures
 import os
@@ -32,17 +32,19 @@ def field(name, nullable=True):
 BAD_FILE = """{"schema":{"fields":[{"name":"n","nullable":true,"type":{"name":"int","bitWidth":8,"isSigned":true},"children":[]}]},
 "batches":[{"count":2,"columns":[{"name":"n","count":2,"VALIDITY":[1,1],"DATA":[1,128]}]}]}"""
 
+# A query of the file `mixed.json`.
+QUERY = '{"filter":{"op":"lt","args":[{"column":"people"},{"int":200000}]},"by":["city"],"aggs":[{"agg":"rows"},{"agg":"sum","column":"people"}]}'
 
-def cases(bad_file):
+
+def cases(bad_file, query_file):
     """The words of each case, and what stands on standard error in the end."""
-    for words in answered():
+    for words in answered(query_file):
         yield words, ""
-    yield from refused(bad_file)
+    yield from refused(bad_file, query_file)
 
 
-def answered():
+def answered(query_file):
     """The words of runs that end with an output."""
-    query = '{"filter":{"op":"lt","args":[{"column":"people"},{"int":200000}]},"by":["city"],"aggs":[{"agg":"rows"},{"agg":"sum","column":"people"}]}'
     yield ["--help"]
     yield ["--version"]
     yield ["schema", example("lists.json")]
@@ -50,27 +52,35 @@ def answered():
     for name in ("mixed.json", "lists.json"):
         yield ["head", "-n", "3", example(name)]
     for output in ("json", "csv"):
-        yield ["query", "--output", output, "--query", query, example("mixed.json")]
+        yield ["query", "--output", output, "--query", QUERY, example("mixed.json")]
     for name in ("primitive.json", "mixed.json", "lists.json", "dictionaries.json", "large.json"):
         yield ["stats", example(name)]
         yield ["export", example(name)]
     lists = '{"name":"l","nullable":true,"type":{"name":"list"},"children":[{"name":"item","nullable":true,"type":{"name":"utf8"}}]}'
     texts = field("m")
     yield ["export", "--add-column", lists, example("mixed.json")]
+    yield ["stats", "-"]
+    yield ["query", "--query-file", query_file, "-"]
+    yield ["query", "--query-file", "-", example("mixed.json")]
     for workers in ("1", "2", "4"):
         yield ["query", "--workers", workers, "--query", '{"by":["m"],"aggs":[{"agg":"rows"}]}', "--add-column", texts, example("mixed.json")]
         yield ["stats", "--workers", workers, example("mixed.json"), example("mixed.json")]
         yield ["export", "--workers", workers, example("dictionaries.json")]
-        yield ["query", "--workers", workers, "--query", query, example("mixed.json")]
+        yield ["query", "--workers", workers, "--query", QUERY, example("mixed.json")]
 
 
-def refused(bad_file):
+def refused(bad_file, query_file):
     """The words of runs that end with a fault, and what is said of it: of the command line, a file, a batch, the query or a column."""
     mixed, lists, none = example("mixed.json"), example("lists.json"), bad_file + ".none"
     overflow = '{"filter":{"op":"lt","args":[{"op":"add","args":[{"column":"people"},{"int":9223372036854775000}]},{"int":0}]},"by":["city"]}'
     yield ["stats"], "error: "
     yield ["stats", "--workers", "65", mixed], "error: "
     yield ["query", "--output", "xml", "--query", "{}", mixed], "arrowtab: --output is lines, json or csv\n"
+    yield ["query", mixed], "arrowtab: query wants --query or --query-file\n"
+    yield ["query", "--query", "{}", "--query-file", query_file, mixed], "arrowtab: --query and --query-file are two queries\n"
+    yield ["query", "--query-file", "-", "-"], "arrowtab: - is standard input, which is read once\n"
+    yield ["query", "--query-file", none, mixed], f"arrowtab: {none}: cannot be read\n"
+    yield ["query", "--query-file", bad_file, "-", none], f"arrowtab: {none}: cannot be read\n"
     for workers in (["--workers", "1"], ["--workers", "2"]):
         yield ["stats", *workers, none], f"arrowtab: {none}: cannot be read\n"
         yield ["stats", *workers, mixed, bad_file], f"arrowtab: {bad_file}: J5 BadNumber at /batches/0/columns/0/DATA/1\n"
@@ -97,8 +107,9 @@ class Sweep:
         if on:
             names["REFUSED_ON"] = "1"
         try:
-            done = subprocess.run([self.program, *words], env={**os.environ, **names}, pass_fds=[write], stdin=subprocess.DEVNULL,
-                                  stdout=subprocess.PIPE, stderr=subprocess.PIPE, timeout=SECONDS)
+            with open(example("mixed.json"), "rb") as file:
+                done = subprocess.run([self.program, *words], env={**os.environ, **names}, pass_fds=[write], stdin=file, stdout=subprocess.PIPE,
+                                      stderr=subprocess.PIPE, timeout=SECONDS)
             given = (done.returncode, done.stdout, done.stderr)
         except subprocess.TimeoutExpired:
             given = (None, b"", b"it didn't end")
@@ -131,10 +142,11 @@ def main():
     failed, refused, count = 0, 0, 0
     with tempfile.TemporaryDirectory() as room, concurrent.futures.ThreadPoolExecutor(os.cpu_count()) as pool:
         sweep = Sweep(program, built(room))
-        bad_file = os.path.join(room, "bad.json")
-        with open(bad_file, "w", encoding="utf-8") as file:
-            file.write(BAD_FILE)
-        tasks = [(words, on, pool.submit(sweep.fault, words, said, on)) for words, said in cases(bad_file) for on in (False, True)]
+        bad_file, query_file = os.path.join(room, "bad.json"), os.path.join(room, "query.json")
+        for name, text in ((bad_file, BAD_FILE), (query_file, QUERY)):
+            with open(name, "w", encoding="utf-8") as file:
+                file.write(text)
+        tasks = [(words, on, pool.submit(sweep.fault, words, said, on)) for words, said in cases(bad_file, query_file) for on in (False, True)]
         for words, on, task in tasks:
             found, number = task.result()
             count += 1

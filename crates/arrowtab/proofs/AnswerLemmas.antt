@@ -1,15 +1,17 @@
 -- What was made of the files, as an answer of the sources' bytes.
-use Rattle.std.proofs.Common.{Result, Ok, Err, IfOk, IfErr, ◌≡◌, ◌∙◌, ℕ, List, [], ◌∷◌, length, map, Option, None, Some, String, Global, option_map, string_bytes, ap, sym, refl, subst}
+use Rattle.std.proofs.Common.{Result, Ok, Err, IfOk, IfErr, ◌≡◌, ◌∙◌, ℕ, List, [], ◌∷◌, length, map, Option, None, Some, option_map, ap, sym, refl, subst}
 use Rattle.std.proofs.lemmas.List.{length-map}
 use Rattle.std.proofs.lemmas.Slice.Zip.{AllZip-long}
 use Rattle.arrays.specs.File.{File}
 use Rattle.arrays.specs.Shape.{FieldShape, field_of}
 use Rattle.json_read.specs.JsonField.{IsFieldText}
 use Rattle.json_read.specs.JsonFile.{file_of}
+use Rattle.job.specs.Jobs.{text_of}
 use Rattle.job.specs.declared.jobs.Command.{Command}
 use Rattle.job.specs.declared.jobs.Command.TheVariants as command
 use Rattle.job.specs.declared.jobs.Job.{Job}
 use Rattle.job.specs.declared.jobs.Output.{Output}
+use Rattle.job.specs.declared.jobs.QuerySource.{QuerySource}
 use Rattle.query.specs.Resolved.{named}
 use Rattle.query.specs.declared.fault.QueryFault.{QueryFault}
 use Rattle.table.specs.History.{History}
@@ -62,7 +64,7 @@ module _ (workers : ℕ) (inputs : Inputs) (files : List File) (are_read : AreRe
   prints_command command.Validate wanted fields h text is prints = subst (λ w. PrintsWanted w workers fields h text) is prints
   prints_command (command.Head count) wanted fields h text is prints = subst (λ w. PrintsWanted w workers fields h text) is prints
   prints_command command.Export wanted fields h text is prints = subst (λ w. PrintsWanted w workers fields h text) is prints
-  prints_command (command.Query bytes output) wanted fields h text is prints = (named is.0, is.2, subst (λ w. PrintsWanted w workers fields h text) is.1 prints)
+  prints_command (command.Query source output) wanted fields h text is prints = (named is.0, is.2, subst (λ w. PrintsWanted w workers fields h text) is.1 prints)
 
   answers_shown : (job : Job) (request : Request) (text : List ℕ) → IsRequest job request → job.workers ≡ workers → Shows request.wanted workers files (option_map field_of request.column) text
       → Answers job inputs text
@@ -93,7 +95,7 @@ module _ (workers : ℕ) (inputs : Inputs) (files : List File) (are_read : AreRe
   refuses_command command.Validate wanted fields h fault is refuses = subst (λ w. RefusesWanted w fields h fault) is refuses
   refuses_command (command.Head count) wanted fields h fault is refuses = subst (λ w. RefusesWanted w fields h fault) is refuses
   refuses_command command.Export wanted fields h fault is refuses = subst (λ w. RefusesWanted w fields h fault) is refuses
-  refuses_command (command.Query bytes output) wanted fields h fault is refuses = (named is.0, is.2, subst (λ w. RefusesWanted w fields h fault) is.1 refuses)
+  refuses_command (command.Query source output) wanted fields h fault is refuses = (named is.0, is.2, subst (λ w. RefusesWanted w fields h fault) is.1 refuses)
 
   refuses_over : (job : Job) (request : Request) (fault : QueryFault) → IsRequest job request → job.workers ≡ workers
       → IsRefusedOver request.wanted workers files (option_map field_of request.column) fault → RefusesQuery job inputs fault
@@ -177,12 +179,12 @@ text_explains job inputs before after (OfColumn (column.Unread f)) why = why
 text_explains job inputs before after (OfColumn (column.Refused fault)) why = absurd why
 
 -- the fault of a query's text is one of the command that has the text
-pub text_unread : (text : String Global) (output : Output) (fault : RunFault) → IsUnreadQuery (string_bytes text) fault → IsUnread (command.Query text output) fault
-text_unread text output NoMemory why = tt
-text_unread text output (OfFile file fault) why = absurd why
-text_unread text output (QueryUnread f) why = why
-text_unread text output (QueryRefused f) why = absurd why
-text_unread text output (OfColumn f) why = absurd why
+pub text_unread : (source : QuerySource) (output : Output) (fault : RunFault) → IsUnreadQuery (text_of source) fault → IsUnread (command.Query source output) fault
+text_unread source output NoMemory why = tt
+text_unread source output (OfFile file fault) why = absurd why
+text_unread source output (QueryUnread f) why = why
+text_unread source output (QueryRefused f) why = absurd why
+text_unread source output (OfColumn f) why = absurd why
 
 pub query_unread : (job : Job) (fault : RunFault) → IsUnread job.command fault → ExplainsText job fault
 query_unread job NoMemory why = tt

@@ -8,3 +8,4 @@ mod TogetherLemmas
 mod WideLemmas
 mod SettledLemmas
 mod OneLemmas
+mod QueryFileLemmas

@@ -5,6 +5,7 @@ pub mod Loaded
 pub mod Column
 pub mod TookFault
 pub mod Run
+pub mod QueryFile
 pub mod Explained
 pub mod Wanted
 pub mod Worked

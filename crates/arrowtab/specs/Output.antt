@@ -1,7 +1,8 @@
 -- The output of each command.
-use Rattle.std.specs.Prelude.{◌≡◌, ℕ, List, [], string_bytes}
+use Rattle.std.specs.Prelude.{◌≡◌, ℕ, List, []}
 use Rattle.answers.specs.Groups.{GroupShape}
 use Rattle.arrays.specs.Shape.{FieldShape}
+use Rattle.job.specs.Jobs.{text_of}
 use Rattle.job.specs.declared.jobs.Command.{Command}
 use Rattle.job.specs.declared.jobs.Command.TheVariants.{Stats, Schema, Validate, Head, Export, Query}
 use Rattle.job.specs.declared.jobs.Output.{Output}
@@ -30,8 +31,8 @@ Prints Schema workers fields h text = text ≡ schema_lines fields
 Prints Validate workers fields h text = text ≡ []
 Prints (Head count) workers fields h text = text ≡ first_lines count fields h
 Prints Export workers fields h text = text ≡ exported fields h
-Prints (Query bytes output) workers fields h text =
-    (query : QueryShape (List ℕ)) × ReadsQueryText (string_bytes bytes) query × ShowsGroups (shown_as output query) query fields h text
+Prints (Query source output) workers fields h text =
+    (query : QueryShape (List ℕ)) × ReadsQueryText (text_of source) query × ShowsGroups (shown_as output query) query fields h text
 
 -- There is none, since the command's query is refused.
 abbrev pub PrintsNothing : Command → List FieldShape → History → QueryFault → Type 0
@@ -40,4 +41,4 @@ PrintsNothing Schema fields h fault = ⊥
 PrintsNothing Validate fields h fault = ⊥
 PrintsNothing (Head count) fields h fault = ⊥
 PrintsNothing Export fields h fault = ⊥
-PrintsNothing (Query bytes output) fields h fault = (query : QueryShape (List ℕ)) × ReadsQueryText (string_bytes bytes) query × RefusesGroups query fields h fault
+PrintsNothing (Query source output) fields h fault = (query : QueryShape (List ℕ)) × ReadsQueryText (text_of source) query × RefusesGroups query fields h fault

@@ -1,12 +1,12 @@
 -- What the program writes, and why it refuses: stated over the bytes that its sources tell.
-use Rattle.std.specs.Prelude.{◌≡◌, ◌<◌, ℕ, List, map, Option, Some, IfSome, slice_get, string_bytes}
+use Rattle.std.specs.Prelude.{◌≡◌, ◌<◌, ℕ, List, map, Option, Some, IfSome, slice_get}
 use Rattle.std.specs.List.{AllZip}
 use Rattle.std.specs.Io.KnownBytes.{Appends, Keeps}
 use Rattle.ends.specs.Line.{memory_line, output_line}
 use Rattle.ends.specs.Sink.{AppendsFront}
 use Rattle.arrays.specs.Shape.{FieldShape}
 use Rattle.table.specs.History.{History}
-use Rattle.job.specs.Jobs.{names_of}
+use Rattle.job.specs.Jobs.{names_of, text_of}
 use Rattle.job.specs.declared.jobs.Command.{Command}
 use Rattle.job.specs.declared.jobs.Command.TheVariants.{Stats, Schema, Validate, Head, Export, Query}
 use Rattle.job.specs.declared.jobs.Job.{Job}
@@ -60,7 +60,7 @@ FailedQuery Schema kind path = ⊥
 FailedQuery Validate kind path = ⊥
 FailedQuery (Head count) kind path = ⊥
 FailedQuery Export kind path = ⊥
-FailedQuery (Query bytes output) kind path = QueryBytesFault (string_bytes bytes) kind path
+FailedQuery (Query source output) kind path = QueryBytesFault (text_of source) kind path
 
 -- The files of these sources are loaded as for an answer, with the job's column behind all of them, and its query is refused
 -- over their table.

@@ -1,7 +1,8 @@
 -- What a job wants to be printed, its query being read.
-use Rattle.std.specs.Prelude.{◌≡◌, ℕ, List, [], Option, Some, option_map, string_bytes, ⊤}
+use Rattle.std.specs.Prelude.{◌≡◌, ℕ, List, [], Option, Some, option_map, ⊤}
 use Rattle.arrays.specs.Shape.{FieldShape, field_of}
 use Rattle.json_read.specs.JsonField.{FieldTextFault}
+use Rattle.job.specs.Jobs.{text_of}
 use Rattle.job.specs.declared.jobs.Command.{Command}
 use Rattle.job.specs.declared.jobs.Command.TheVariants as command
 use Rattle.job.specs.declared.jobs.Job.{Job}
@@ -33,7 +34,7 @@ IsWanted command.Schema wanted = wanted ≡ Schema
 IsWanted command.Validate wanted = wanted ≡ Nothing
 IsWanted (command.Head count) wanted = wanted ≡ Head count
 IsWanted command.Export wanted = wanted ≡ Export
-IsWanted (command.Query text output) wanted = (query : QueryText) × (wanted ≡ Groups query output) × ReadsQueryText (string_bytes text) (named query)
+IsWanted (command.Query source output) wanted = (query : QueryText) × (wanted ≡ Groups query output) × ReadsQueryText (text_of source) (named query)
 
 -- The fault of reading the command's query.
 abbrev pub IsUnread : Command → RunFault → Type 0

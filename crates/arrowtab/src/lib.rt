@@ -6,6 +6,7 @@ mod answer;
 mod groups;
 mod invocation;
 pub mod laws;
+mod query_file;
 mod reading;
 mod tell;
 mod together;
@@ -16,6 +17,7 @@ pub use ends::{
     ReadFailed, Sink, Source, SourceFault, WriteFailed, memory, read_whole, write_whole,
 };
 pub use invocation::run;
-pub use job::{Command, Job, JobFault, Output, job, print_fault};
+pub use job::{Command, Job, JobFault, Output, QuerySource, is_standard_input, job, print_fault};
 pub use json_base::{JsonFault, JsonFaultKind, Member, Path, Step, fault_text};
+pub use query_file::read_query_file;
 pub use reports::refusal;

@@ -79,7 +79,7 @@ pub(crate) fn wanted_of(alloc: Global, command: &Command) -> Result<Wanted, RunF
         Command::Validate => Ok(Wanted::Nothing),
         Command::Head(count) => Ok(Wanted::Head(*count)),
         Command::Export => Ok(Wanted::Export),
-        Command::Query { text, output } => match read_query_text(alloc, text.as_str().as_bytes()) {
+        Command::Query { query, output } => match read_query_text(alloc, query.text()) {
             Ok(query) => Ok(Wanted::Groups(query, *output)),
             Err(fault) => Err(fault),
         },

@@ -1,16 +1,18 @@
 -- One worker's table, as the library's.
-use Rattle.std.proofs.Common.{zero, suc, ◌%◌, take, option_map, ◌≡◌, ◌∙◌, ℕ, ◌<◌, List, [], ◌∷◌, ◌++◌, map, None, Some, IfSome, Option, String, Global, string_bytes, ap, sym, refl, subst, arith}
+use Rattle.std.proofs.Common.{zero, suc, ◌%◌, take, option_map, ◌≡◌, ◌∙◌, ℕ, ◌<◌, List, [], ◌∷◌, ◌++◌, map, None, Some, IfSome, Option, ap, sym, refl, subst, arith}
 use Rattle.std.proofs.lemmas.Option.{slice_get-map}
 use Rattle.std.specs.Prelude.{All}
 use Rattle.std.specs.List.{AllByRecursion, AllZip, flat_map}
 use Rattle.arrays.specs.Shape.{FieldShape}
 use Rattle.json_base.specs.JsonTable.{FileData}
 use Rattle.json_read.specs.JsonFile.{Reads}
+use Rattle.job.specs.Jobs.{text_of}
 use Rattle.job.specs.declared.jobs.Command.{Command}
 use Rattle.job.specs.declared.jobs.Command.TheVariants as command
 use Rattle.job.specs.declared.jobs.Job.{Job}
 use Rattle.job.specs.declared.jobs.Output.{Output}
 use Rattle.job.specs.declared.jobs.Output.TheVariants as output
+use Rattle.job.specs.declared.jobs.QuerySource.{QuerySource}
 use Rattle.table.specs.Cause.{difference}
 use Rattle.table.specs.History.{History}
 use Rattle.loads.specs.Plan.{planned}
@@ -98,8 +100,8 @@ module _ (job : Job) (texts : List (List ℕ)) (text : List ℕ) (one : job.work
   pub export_alone : job.command ≡ command.Export → IsExport texts text → Answers job (map (λ t. Some t) texts) text
   export_alone same is = answers_alone _ (λ fields h prints. subst (λ (c : Command). Prints c 1 fields h text) (sym same) prints) is
 
-  pub query_alone : (query : String Global) → job.command ≡ command.Query query output.Lines → IsAnswered (string_bytes query) texts text → Answers job (map (λ t. Some t) texts) text
-  query_alone query same is = answers_alone _ (λ fields h prints. subst (λ (c : Command). Prints c 1 fields h text) (sym same) (is.0, is.1, prints)) is.2
+  pub query_alone : (source : QuerySource) → job.command ≡ command.Query source output.Lines → IsAnswered (text_of source) texts text → Answers job (map (λ t. Some t) texts) text
+  query_alone source same is = answers_alone _ (λ fields h prints. subst (λ (c : Command). Prints c 1 fields h text) (sym same) (is.0, is.1, prints)) is.2
 
 -- ---- what stands against it
 
@@ -152,8 +154,8 @@ module _ (job : Job) (texts : List (List ℕ)) (before after : List ℕ) (one : 
   stops_alone (QueryRefused f) is = absurd is
   stops_alone (OfColumn f) is = absurd is
 
-  refused_alone : (query : String Global) → column_text job ≡ None → (form : Output) → job.command ≡ command.Query query form → (fault : QueryFault) → IsQueryRefused (string_bytes query) texts fault → RefusesQuery job (map (λ t. Some t) texts) fault
-  refused_alone query bare form same fault is =
+  refused_alone : (source : QuerySource) → column_text job ≡ None → (form : Output) → job.command ≡ command.Query source form → (fault : QueryFault) → IsQueryRefused (text_of source) texts fault → RefusesQuery job (map (λ t. Some t) texts) fault
+  refused_alone source bare form same fault is =
       let table = is.2 in
       let files = table.holds.files in
       let opened = table.holds.opened in
@@ -170,9 +172,9 @@ module _ (job : Job) (texts : List (List ℕ)) (before after : List ℕ) (one : 
             (subst (λ (c : Command). PrintsNothing c table.fields table.history fault) (sym same) (is.0, is.1, table.is));
       }
 
-  pub query_stops_alone : (query : String Global) → column_text job ≡ None → (form : Output) → job.command ≡ command.Query query form → (fault : RunFault) → StopsQuery (string_bytes query) texts fault → Explains job (map (λ t. Some t) texts) before after fault
-  query_stops_alone query bare form same NoMemory is = tt
-  query_stops_alone query bare form same (OfFile file fault) is = stops_alone (OfFile file fault) is
-  query_stops_alone query bare form same (QueryUnread f) is = subst (λ (c : Command). FailedQuery c f.kind f.path) (sym same) is
-  query_stops_alone query bare form same (QueryRefused f) is = refused_alone query bare form same f is
-  query_stops_alone query bare form same (OfColumn f) is = absurd is
+  pub query_stops_alone : (source : QuerySource) → column_text job ≡ None → (form : Output) → job.command ≡ command.Query source form → (fault : RunFault) → StopsQuery (text_of source) texts fault → Explains job (map (λ t. Some t) texts) before after fault
+  query_stops_alone source bare form same NoMemory is = tt
+  query_stops_alone source bare form same (OfFile file fault) is = stops_alone (OfFile file fault) is
+  query_stops_alone source bare form same (QueryUnread f) is = subst (λ (c : Command). FailedQuery c f.kind f.path) (sym same) is
+  query_stops_alone source bare form same (QueryRefused f) is = refused_alone source bare form same f is
+  query_stops_alone source bare form same (OfColumn f) is = absurd is

@@ -1,16 +1,16 @@
 //! That the library gives what the program prints.
-ghost use Rattle.std.specs.Prelude.{◌≡◌, ℕ, List, [], None, Some, map, string_bytes};
-ghost use Rattle.std.specs.declared.alloc.Global.{Global};
-ghost use Rattle.std.specs.declared.string.String.{String};
+ghost use Rattle.std.specs.Prelude.{◌≡◌, ℕ, List, [], None, Some, map};
 ghost use Rattle.arrowtab.specs.Column.{column_text};
 ghost use Rattle.arrowtab.specs.Explained.{Explains};
 ghost use Rattle.arrowtab.specs.Run.{Answers};
 ghost use Rattle.embed.specs.Output.{AreLoadable, IsAnswered, IsExport, IsSchema, IsStats, StopsQuery};
 ghost use Rattle.embed.specs.Refused.{Stops};
+ghost use Rattle.job.specs.Jobs.{text_of};
 ghost use Rattle.job.specs.declared.jobs.Command.TheVariants as command;
 ghost use Rattle.job.specs.declared.jobs.Job.{Job};
 ghost use Rattle.job.specs.declared.jobs.Output.{Output};
 ghost use Rattle.job.specs.declared.jobs.Output.TheVariants as output;
+ghost use Rattle.job.specs.declared.jobs.QuerySource.{QuerySource};
 ghost use Rattle.reports.specs.declared.run_fault.RunFault.{RunFault};
 
 /// What the library gives of files, from their bytes, is what the program prints of them with one worker and without a column; and
@@ -25,11 +25,11 @@ pub fn the_library_gives_what_one_worker_prints()
     ensures export { (job : Job) (texts : List (List ℕ)) (text : List ℕ) → job.workers ≡ 1 → column_text job ≡ None
         → job.command ≡ command.Export → IsExport texts text → Answers job (map (λ t. Some t) texts) text }
     ensures query { (job : Job) (texts : List (List ℕ)) (text : List ℕ) → job.workers ≡ 1 → column_text job ≡ None
-        → (query : String Global) → job.command ≡ command.Query query output.Lines → IsAnswered (string_bytes query) texts text
+        → (source : QuerySource) → job.command ≡ command.Query source output.Lines → IsAnswered (text_of source) texts text
         → Answers job (map (λ t. Some t) texts) text }
     ensures err { (job : Job) (texts : List (List ℕ)) (before after : List ℕ) → job.workers ≡ 1
         → (fault : RunFault) → Stops texts fault → Explains job (map (λ t. Some t) texts) before after fault }
     ensures query_err { (job : Job) (texts : List (List ℕ)) (before after : List ℕ) → job.workers ≡ 1
-        → (query : String Global) → column_text job ≡ None → (form : Output) → job.command ≡ command.Query query form
-        → (fault : RunFault) → StopsQuery (string_bytes query) texts fault → Explains job (map (λ t. Some t) texts) before after fault }
+        → (source : QuerySource) → column_text job ≡ None → (form : Output) → job.command ≡ command.Query source form
+        → (fault : RunFault) → StopsQuery (text_of source) texts fault → Explains job (map (λ t. Some t) texts) before after fault }
 {}

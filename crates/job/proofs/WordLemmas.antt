@@ -7,10 +7,10 @@ use Rattle.clap.specs.Words.{App, HasKind, HasMatchesOf, IsAmong, Row, Text, fau
 use Rattle.clap.specs.declared.error.Error.{Error}
 use Rattle.clap.specs.declared.parser.matches.ArgMatches.{ArgMatches}
 use Rattle.clap.specs.declared.error.kind.ErrorKind.TheVariants.{OutOfMemory}
-use Rattle.job.specs.Jobs.{Asks, Finds, FindsNone, FindsUnknownOutput, HasNoWorkers, HasNumber, HasOwn, HasWorkers, IsFaultOf, IsNumber, IsRefusal, IsUnfound, word_of}
+use Rattle.job.specs.Jobs.{Asks, Finds, FindsInputTwice, FindsNone, FindsQuery, HasNoOutput, HasNoQuery, HasNoWorkers, HasTwoQueries, HasNumber, HasOwn, HasWorkers, IsFaultOf, IsNumber, IsRefusal, IsUnfound, word_of}
 use Rattle.job.specs.CommandLine.{arrowtab}
 use Rattle.job.specs.declared.fault.JobFault.{JobFault}
-use Rattle.job.specs.declared.fault.JobFault.TheVariants.{Line, NoMemory, Unread, UnknownOutput}
+use Rattle.job.specs.declared.fault.JobFault.TheVariants.{Line, Unread, NoQuery, TwoQueries, UnknownOutput, InputTwice, NoMemory}
 use Rattle.job.specs.declared.jobs.Command.{Command}
 use Rattle.job.specs.declared.jobs.Command.TheVariants as command
 use Rattle.job.specs.declared.jobs.Job.{Job}
@@ -42,7 +42,10 @@ pub unfound_fault : (words : List Text) (found : Option (Text × List Row)) (fau
     → IsFaultOf words fault
 unfound_fault words found (Line error) taken same why = absurd why
 unfound_fault words found Unread taken same why = (taken, subst FindsNone same why)
-unfound_fault words found UnknownOutput taken same why = (taken, subst FindsUnknownOutput same why)
+unfound_fault words found NoQuery taken same why = (taken, subst (λ f. FindsQuery f HasNoQuery) same why)
+unfound_fault words found TwoQueries taken same why = (taken, subst (λ f. FindsQuery f HasTwoQueries) same why)
+unfound_fault words found UnknownOutput taken same why = (taken, subst (λ f. FindsQuery f HasNoOutput) same why)
+unfound_fault words found InputTwice taken same why = (taken, subst FindsInputTwice same why)
 unfound_fault words found NoMemory taken same why = tt
 
 is_not_true : (b : Bool) → b ≢ true → b ≡ false
@@ -84,4 +87,4 @@ no_head rows none command.Schema same own = absurd (omega (arith, ap first same)
 no_head rows none command.Validate same own = absurd (omega (arith, ap first same))
 no_head rows none (command.Head count) same own = none count own.0 own.1
 no_head rows none command.Export same own = absurd (omega (arith, ap first same))
-no_head rows none (command.Query text output) same own = absurd (omega (arith, ap first same))
+no_head rows none (command.Query source output) same own = absurd (omega (arith, ap first same))

@@ -42,7 +42,11 @@ with_head = with_rule (over_files (codes "head")) rows
 
 -- --query QUERY
 abbrev pub query : Rule
-query = record (new_rule (codes "QUERY")) { long = Some (codes "query"); required = true }
+query = record (new_rule (codes "QUERY")) { long = Some (codes "query") }
+
+-- --query-file FILE
+abbrev pub query_file : Rule
+query_file = record (new_rule (codes "QUERY_FILE")) { long = Some (codes "query-file"); value_names = 1 }
 
 -- --output FORMAT: lines where it isn't given.
 abbrev pub output : Rule
@@ -51,9 +55,9 @@ output = record (new_rule (codes "FORMAT")) {
   defaults = codes "lines" ∷ [];
 }
 
--- query --query QUERY --output FORMAT --workers N --add-column FIELD FILE..
+-- query --query QUERY --query-file FILE --output FORMAT --workers N --add-column FIELD FILE..
 abbrev pub with_query : App
-with_query = with_rule (with_rule (over_files (codes "query")) query) output
+with_query = with_rule (with_rule (with_rule (over_files (codes "query")) query) query_file) output
 
 -- The program alone, with its version. Without a word it shows its help, and one of its commands has to be there.
 abbrev pub alone : App
@@ -63,7 +67,7 @@ alone = on_top (λ top. record top { arg_required_else_help = true; subcommand_r
 abbrev pub with_command : App → List ℕ → App
 with_command app name = with_subcommand app (over_files name).top
 
--- stats FILE.., schema FILE.., validate FILE.., head -n ROWS FILE.., export FILE.., and query --query QUERY --output FORMAT FILE.., each with --workers N and --add-column FIELD.
+-- stats FILE.., schema FILE.., validate FILE.., head -n ROWS FILE.., export FILE.., and query --query QUERY --query-file FILE --output FORMAT FILE.., each with --workers N and --add-column FIELD.
 abbrev pub arrowtab : App
 arrowtab =
     let looking = with_command (with_command (with_command alone (codes "stats")) (codes "schema")) (codes "validate") in

@@ -1,5 +1,6 @@
 -- Which job the words of the command line ask for, and why they ask for none. `clap` has functions of the words for both.
-use Rattle.std.specs.Prelude.{◌≡◌, ◌≢◌, ◌<◌, ◌≤◌, ◌^◌, ℕ, List, [], length, map, Option, option_map, Some, false, ⊤, codes, string_bytes, String}
+use Rattle.std.specs.Prelude.{◌≡◌, ◌≢◌, ◌<◌, ◌≤◌, ◌^◌, ℕ, Bool, List, [], ◌∷◌, length, count_by, map, Option, option_map, None, Some, false, ⊤, codes, string_bytes, String, Vec}
+use Rattle.std.specs.Str.{bytes_eq}
 use Rattle.std.specs.Str.Parse.{IsNumeral, digits_value, without_leading_plus}
 use Rattle.std.specs.declared.alloc.Global.{Global}
 use Rattle.clap.specs.Words.{IsAmong, Row, Text, all_of, fault_of, first_of, kind_of, one_of, subcommand_of, takes}
@@ -11,8 +12,10 @@ use Rattle.job.specs.declared.jobs.Command.TheVariants.{Stats, Schema, Validate,
 use Rattle.job.specs.declared.jobs.Job.{Job}
 use Rattle.job.specs.declared.jobs.Output.{Output}
 use Rattle.job.specs.declared.jobs.Output.TheVariants.{Lines, Json, Csv}
+use Rattle.job.specs.declared.jobs.QuerySource.{QuerySource}
+use Rattle.job.specs.declared.jobs.QuerySource.TheVariants as query
 use Rattle.job.specs.declared.fault.JobFault.{JobFault}
-use Rattle.job.specs.declared.fault.JobFault.TheVariants.{Line, Unread, UnknownOutput, NoMemory}
+use Rattle.job.specs.declared.fault.JobFault.TheVariants.{Line, Unread, NoQuery, TwoQueries, UnknownOutput, InputTwice, NoMemory}
 
 -- The word of a command.
 abbrev pub word_of : Command → Text
@@ -21,7 +24,7 @@ word_of Schema = codes "schema"
 word_of Validate = codes "validate"
 word_of (Head rows) = codes "head"
 word_of Export = codes "export"
-word_of (Query text output) = codes "query"
+word_of (Query source output) = codes "query"
 
 -- The text is the number in decimal digits, with a plus before them or none.
 abbrev pub IsNumber : Text → ℕ → Type 0
@@ -44,22 +47,71 @@ HasOutput rows output = first_of (codes "FORMAT") rows ≡ Some (format_of outpu
 abbrev pub HasNoOutput : List Row → Type 0
 HasNoOutput rows = (output : Output) → HasOutput rows output → ⊥
 
--- How many rows are printed is the value of -n, the text of a query that of --query, and its form that of --output.
+-- The text of a query is the value of --query, or the name of its file that of --query-file, and there is no other.
+abbrev pub HasQuery : List Row → QuerySource → Type 0
+HasQuery rows (query.Text text) = (first_of (codes "QUERY") rows ≡ Some text.items) × (first_of (codes "QUERY_FILE") rows ≡ None)
+HasQuery rows (query.File name) = (first_of (codes "QUERY") rows ≡ None) × (first_of (codes "QUERY_FILE") rows ≡ Some (string_bytes name))
+
+abbrev pub HasNoQuery : List Row → Type 0
+HasNoQuery rows = (first_of (codes "QUERY") rows ≡ None) × (first_of (codes "QUERY_FILE") rows ≡ None)
+
+-- Both have a value.
+abbrev pub HasTwoQueries : List Row → Type 0
+HasTwoQueries rows = (text : Text) × (name : Text) × (first_of (codes "QUERY") rows ≡ Some text) × (first_of (codes "QUERY_FILE") rows ≡ Some name)
+
+-- How many rows are printed is the value of -n, where a query is says HasQuery, and its form is the value of --output.
 abbrev pub HasOwn : List Row → Command → Type 0
 HasOwn rows Stats = ⊤
 HasOwn rows Schema = ⊤
 HasOwn rows Validate = ⊤
 HasOwn rows (Head count) = HasNumber (codes "ROWS") rows count × (count < 2 ^ 64)
 HasOwn rows Export = ⊤
-HasOwn rows (Query text output) = (first_of (codes "QUERY") rows ≡ Some (string_bytes text)) × HasOutput rows output
+HasOwn rows (Query source output) = HasQuery rows source × HasOutput rows output
 
 -- The text of a column's field is the value of --add-column, where there is one.
 abbrev pub HasColumn : List Row → Option (String Global) → Type 0
 HasColumn rows column = option_map string_bytes column ≡ first_of (codes "FIELD") rows
 
--- The names of the files.
+-- The names of the files of a table.
 abbrev pub names_of : List (String Global) → List Text
 names_of names = map string_bytes names
+
+-- The name of the file that a command's query is in, where it is in one.
+abbrev pub query_file : Command → Option Text
+query_file Stats = None
+query_file Schema = None
+query_file Validate = None
+query_file (Head count) = None
+query_file Export = None
+query_file (Query (query.Text text) output) = None
+query_file (Query (query.File name) output) = Some (string_bytes name)
+
+-- The text of a query, which nothing is known of while it is in a file: none of its bytes is here.
+abbrev pub text_of : QuerySource → Text
+text_of (query.Text text) = text.items
+text_of (query.File name) = []
+
+-- The command with this text for its query, where it asks one.
+abbrev pub with_text : Vec ℕ Global → Command → Command
+with_text text Stats = Stats
+with_text text Schema = Schema
+with_text text Validate = Validate
+with_text text (Head count) = Head count
+with_text text Export = Export
+with_text text (Query source output) = Query (query.Text text) output
+
+-- The name `-` is standard input's. (POSIX.1-2017, Base Definitions, 12.2, Guideline 13)
+abbrev pub is_standard_input : Text → Bool
+is_standard_input name = bytes_eq name (codes "-")
+
+-- The names with one before them, where there is one.
+abbrev pub with_first : Option Text → List Text → List Text
+with_first None names = names
+with_first (Some name) names = name ∷ names
+
+-- How many of the files that are read for a job, its query's and its table's, are standard input.
+abbrev pub inputs_of : Job → ℕ
+inputs_of job = count_by is_standard_input (with_first (query_file job.command) (names_of job.names.items))
 
 -- The number of workers is the value of --workers.
 abbrev pub HasWorkers : List Row → ℕ → Type 0
@@ -84,6 +136,7 @@ pub record IsReady (job : Job) : Type 0 where
   pub some : 0 < length job.names.items
   pub worker : 1 ≤ job.workers
   pub few : job.workers ≤ 64
+  pub once : inputs_of job ≤ 1
 
 -- `clap` doesn't take the words, and the error is of a kind that they give.
 pub record IsRefusal (words : List Text) (error : Error) : Type 0 where
@@ -95,15 +148,22 @@ pub record IsRefusal (words : List Text) (error : Error) : Type 0 where
 abbrev pub FindsNone : Option (Text × List Row) → Type 0
 FindsNone found = (job : Job) → Finds found job → IsReady job → ⊥
 
--- A query is found with a value of --output that is no form.
-abbrev pub FindsUnknownOutput : Option (Text × List Row) → Type 0
-FindsUnknownOutput found = (rows : List Row) × (found ≡ Some (codes "query", rows)) × HasNoOutput rows
+-- A query is found of which this holds.
+abbrev pub FindsQuery : Option (Text × List Row) → (List Row → Type 0) → Type 0
+FindsQuery found is = (rows : List Row) × (found ≡ Some (codes "query", rows)) × is rows
+
+-- A job is found that reads standard input twice.
+abbrev pub FindsInputTwice : Option (Text × List Row) → Type 0
+FindsInputTwice found = (job : Job) × Finds found job × (1 < inputs_of job)
 
 -- Why the words ask for no job. Memory may run out at any words.
 abbrev pub IsFaultOf : List Text → JobFault → Type 0
 IsFaultOf words (Line error) = IsRefusal words error
 IsFaultOf words Unread = (fault_of arrowtab words ≡ []) × FindsNone (subcommand_of arrowtab words)
-IsFaultOf words UnknownOutput = (fault_of arrowtab words ≡ []) × FindsUnknownOutput (subcommand_of arrowtab words)
+IsFaultOf words NoQuery = (fault_of arrowtab words ≡ []) × FindsQuery (subcommand_of arrowtab words) HasNoQuery
+IsFaultOf words TwoQueries = (fault_of arrowtab words ≡ []) × FindsQuery (subcommand_of arrowtab words) HasTwoQueries
+IsFaultOf words UnknownOutput = (fault_of arrowtab words ≡ []) × FindsQuery (subcommand_of arrowtab words) HasNoOutput
+IsFaultOf words InputTwice = (fault_of arrowtab words ≡ []) × FindsInputTwice (subcommand_of arrowtab words)
 IsFaultOf words NoMemory = ⊤
 
 -- ---- the same of what `clap` found, which is no error of `clap`
@@ -112,14 +172,20 @@ IsFaultOf words NoMemory = ⊤
 abbrev pub IsUnfound : Option (Text × List Row) → JobFault → Type 0
 IsUnfound found (Line error) = ⊥
 IsUnfound found Unread = FindsNone found
-IsUnfound found UnknownOutput = FindsUnknownOutput found
+IsUnfound found NoQuery = FindsQuery found HasNoQuery
+IsUnfound found TwoQueries = FindsQuery found HasTwoQueries
+IsUnfound found UnknownOutput = FindsQuery found HasNoOutput
+IsUnfound found InputTwice = FindsInputTwice found
 IsUnfound found NoMemory = ⊤
 
 -- Why there is no command: none of this word has what is its own.
 abbrev pub IsNoCommand : Text → List Row → JobFault → Type 0
 IsNoCommand word rows (Line error) = ⊥
 IsNoCommand word rows Unread = (command : Command) → word ≡ word_of command → HasOwn rows command → ⊥
+IsNoCommand word rows NoQuery = (word ≡ codes "query") × HasNoQuery rows
+IsNoCommand word rows TwoQueries = (word ≡ codes "query") × HasTwoQueries rows
 IsNoCommand word rows UnknownOutput = (word ≡ codes "query") × HasNoOutput rows
+IsNoCommand word rows InputTwice = ⊥
 IsNoCommand word rows NoMemory = ⊤
 
 -- No number of workers is one that a job may have.

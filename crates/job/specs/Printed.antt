@@ -9,7 +9,7 @@ use Rattle.clap.specs.declared.error.kind.ErrorKind.TheVariants.{DisplayHelp, Di
 use Rattle.ends.specs.Line.{TookLine, memory_line, message, output_line}
 use Rattle.ends.specs.Sink.{AppendsFront}
 use Rattle.job.specs.declared.fault.JobFault.{JobFault}
-use Rattle.job.specs.declared.fault.JobFault.TheVariants.{Line, Unread, UnknownOutput, NoMemory}
+use Rattle.job.specs.declared.fault.JobFault.TheVariants.{Line, Unread, NoQuery, TwoQueries, UnknownOutput, InputTwice, NoMemory}
 
 -- What was asked for is help or the version.
 abbrev pub IsInquiry : ErrorKind → Type 0
@@ -17,6 +17,15 @@ IsInquiry kind = (kind ≡ DisplayHelp) ⊎ (kind ≡ DisplayVersion)
 
 abbrev pub arguments_line : List ℕ
 arguments_line = message (codes "bad arguments")
+
+abbrev pub no_query_line : List ℕ
+no_query_line = message (codes "query wants --query or --query-file")
+
+abbrev pub two_queries_line : List ℕ
+two_queries_line = message (codes "--query and --query-file are two queries")
+
+abbrev pub input_twice_line : List ℕ
+input_twice_line = message (codes "- is standard input, which is read once")
 
 abbrev pub unknown_output_line : List ℕ
 unknown_output_line = message (codes "--output is lines, json or csv")
@@ -41,5 +50,8 @@ module _ (status out_failed out_failures : ℕ) (out_old out_new : Option (List 
   abbrev pub Printed : JobFault → Type 0
   Printed (Line error) = PrintedLine error
   Printed Unread = PrintedError 2 arguments_line
+  Printed NoQuery = PrintedError 2 no_query_line
+  Printed TwoQueries = PrintedError 2 two_queries_line
   Printed UnknownOutput = PrintedError 2 unknown_output_line
+  Printed InputTwice = PrintedError 2 input_twice_line
   Printed NoMemory = PrintedError 1 memory_line

@@ -1,7 +1,7 @@
 //! The commands of the program, as `clap` reads them.
 ghost use Rattle.std.specs.Prelude.{◌≡◌, IfOk, false};
 ghost use Rattle.clap.specs.Words.{app_of, rule_of};
-ghost use Rattle.job.specs.CommandLine.{alone, arrowtab, column, files, output, over_files, query, rows, with_command, with_head, with_query, workers};
+ghost use Rattle.job.specs.CommandLine.{alone, arrowtab, column, files, output, over_files, query, query_file, rows, with_command, with_head, with_query, workers};
 ghost use Rattle.clap.specs.declared.builder.command.Command.TheViews.{out-Command};
 
 use clap::{Arg, Command, value_parser};
@@ -144,7 +144,7 @@ fn with_head<'a>(alloc: Global) -> Result<Command<'a>, AllocError>
     over.arg(rows)
 }
 
-/// `query --query QUERY --output FORMAT --workers N --add-column FIELD FILE..`
+/// `query --query QUERY --query-file FILE --output FORMAT --workers N --add-column FIELD FILE..`
 fn with_query<'a>(alloc: Global) -> Result<Command<'a>, AllocError>
     ensures line { IfOk result (λ command. app_of command ≡ with_query) }
     ensures local { IfOk result (λ command. (out-Command command).has_globals ≡ false) }
@@ -157,7 +157,9 @@ fn with_query<'a>(alloc: Global) -> Result<Command<'a>, AllocError>
         QUERY_HELP,
     )?;
     let asked = over.arg(query)?;
-    asked.arg(output(alloc))
+    let from_file = query_file(alloc);
+    let either = asked.arg(from_file)?;
+    either.arg(output(alloc))
 }
 
 /// `NAME --workers N --add-column FIELD FILE..`
@@ -199,8 +201,18 @@ fn query<'a>(alloc: Global) -> Arg<'a>
 {
     let query = Arg::new(alloc, "QUERY");
     let named = query.long("query");
-    let described = named.help("The query, an object of JSON with the members filter, by and aggs");
-    described.required(true)
+    named.help("The query, an object of JSON with the members filter, by and aggs")
+}
+
+/// `--query-file FILE`
+fn query_file<'a>(alloc: Global) -> Arg<'a>
+    ensures rule { rule_of result ≡ query_file }
+    ensures local { result.global ≡ false }
+{
+    let file = Arg::new(alloc, "QUERY_FILE");
+    let named = file.long("query-file");
+    let called = named.value_name("FILE");
+    called.help("The file that the query is in, in place of --query")
 }
 
 /// `-n ROWS`
@@ -232,7 +244,9 @@ fn files<'a>(alloc: Global) -> Arg<'a>
     ensures local { result.global ≡ false }
 {
     let file = Arg::new(alloc, "FILE");
-    let described = file.help("Files of one table, which has the first one's schema");
+    let described = file.help(
+        "Files of one table, which has the first one's schema; - is standard input",
+    );
     let required = described.required(true);
     required.num_args(1..)
 }

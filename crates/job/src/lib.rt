@@ -8,6 +8,6 @@ mod printing;
 mod reading;
 
 pub use fault::JobFault;
-pub use jobs::{Command, Job, Output};
+pub use jobs::{Command, Job, Output, QuerySource, is_standard_input};
 pub use printing::print_fault;
 pub use reading::job;

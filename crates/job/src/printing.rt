@@ -11,6 +11,15 @@ use std::alloc::Global;
 /// The line that is written where the words are no job.
 const ARGUMENTS_LINE: &[u8] = b"arrowtab: bad arguments\n";
 
+/// The line that is written where there is no query.
+const NO_QUERY_LINE: &[u8] = b"arrowtab: query wants --query or --query-file\n";
+
+/// The line that is written where there are two queries.
+const TWO_QUERIES_LINE: &[u8] = b"arrowtab: --query and --query-file are two queries\n";
+
+/// The line that is written where more than one of the files is standard input.
+const INPUT_TWICE_LINE: &[u8] = b"arrowtab: - is standard input, which is read once\n";
+
 /// The line that is written where what stands for `--output` is no form of it.
 const OUTPUT_LINE: &[u8] = b"arrowtab: --output is lines, json or csv\n";
 
@@ -31,6 +40,18 @@ pub fn print_fault<O: Sink, E: Sink>(
         JobFault::Line(error) => print_line(alloc, error, out, err),
         JobFault::Unread => {
             write_line(ARGUMENTS_LINE, err);
+            2
+        }
+        JobFault::NoQuery => {
+            write_line(NO_QUERY_LINE, err);
+            2
+        }
+        JobFault::TwoQueries => {
+            write_line(TWO_QUERIES_LINE, err);
+            2
+        }
+        JobFault::InputTwice => {
+            write_line(INPUT_TWICE_LINE, err);
             2
         }
         JobFault::UnknownOutput => {

@@ -1,11 +1,11 @@
 //! The words of the command line as a job.
 ghost use Rattle.std.specs.Prelude.{◌≡◌, ◌≤◌, IfErr, IfOk, IfSome, None, codes, map, option_map};
 ghost use Rattle.clap.specs.Words.{all_of, first_of, found_of, rows_of, subcommand_rows_of};
-ghost use Rattle.job.specs.Jobs.{Asks, Finds, HasColumn, HasNoOutput, HasNoWorkers, HasOutput, HasOwn, HasWorkers, IsFaultOf, IsNoCommand, IsReady, IsUnfound, names_of, word_of};
+ghost use Rattle.job.specs.Jobs.{Asks, Finds, HasColumn, HasNoOutput, HasNoWorkers, HasOutput, HasOwn, HasQuery, HasWorkers, IsFaultOf, IsNoCommand, IsReady, IsUnfound, names_of, word_of};
 
 use crate::command_line::arrowtab;
 use crate::fault::JobFault;
-use crate::jobs::{Command, Job, Output};
+use crate::jobs::{Command, Job, Output, QuerySource};
 use clap::ArgMatches;
 use clap::error::ErrorKind;
 use std::alloc::{AllocError, Global};
@@ -53,12 +53,16 @@ fn job_of(alloc: Global, matches: &ArgMatches<'_>) -> Result<Job, JobFault>
     let Ok(column) = column_of(alloc, found) else {
         return Err(JobFault::NoMemory);
     };
-    Ok(Job {
+    let job = Job {
         command,
         names,
         workers,
         column,
-    })
+    };
+    if job.reads_input_twice() {
+        return Err(JobFault::InputTwice);
+    }
+    Ok(job)
 }
 
 /// The command of this word, with what `clap` found behind it.
@@ -90,21 +94,37 @@ fn head_of(found: &ArgMatches<'_>) -> Result<Command, JobFault>
     Ok(Command::Head(rows))
 }
 
-/// The command that asks the query which stands for `--query`.
+/// The command that asks the query.
 fn query_of(alloc: Global, found: &ArgMatches<'_>) -> Result<Command, JobFault>
     ensures word { IfOk result (λ command. codes "query" ≡ word_of command) }
     ensures own { IfOk result (HasOwn (rows_of (found_of found.now))) }
     ensures err { IfErr result (IsNoCommand (codes "query") (rows_of (found_of found.now))) }
 {
-    let Some(text) = text_of(found) else {
-        return Err(JobFault::Unread);
-    };
     let Some(output) = output_of(found) else {
         return Err(JobFault::UnknownOutput);
     };
-    match String::from_str(alloc, text) {
-        Ok(text) => Ok(Command::Query { text, output }),
-        Err(_) => Err(JobFault::NoMemory),
+    match source_of(alloc, found) {
+        Ok(query) => Ok(Command::Query { query, output }),
+        Err(fault) => Err(fault),
+    }
+}
+
+/// A copy of what stands for `--query`, or of the name for `--query-file`.
+fn source_of(alloc: Global, found: &ArgMatches<'_>) -> Result<QuerySource, JobFault>
+    ensures ok { IfOk result (HasQuery (rows_of (found_of found.now))) }
+    ensures err { IfErr result (IsNoCommand (codes "query") (rows_of (found_of found.now))) }
+{
+    match (text_of(found), file_of(found)) {
+        (Some(text), None) => match Vec::from_slice(alloc, text.as_bytes()) {
+            Ok(text) => Ok(QuerySource::Text(text)),
+            Err(_) => Err(JobFault::NoMemory),
+        },
+        (None, Some(name)) => match String::from_str(alloc, name) {
+            Ok(name) => Ok(QuerySource::File(name)),
+            Err(_) => Err(JobFault::NoMemory),
+        },
+        (None, None) => Err(JobFault::NoQuery),
+        (Some(_), Some(_)) => Err(JobFault::TwoQueries),
     }
 }
 
@@ -133,6 +153,13 @@ fn text_of<'a>(found: &ArgMatches<'a>) -> Option<&'a str>
     ensures { option_map (λ text. text.now) result ≡ first_of (codes "QUERY") (rows_of (found_of found.now)) }
 {
     found.get_str("QUERY")
+}
+
+/// What stands for `--query-file`.
+fn file_of<'a>(found: &ArgMatches<'a>) -> Option<&'a str>
+    ensures { option_map (λ name. name.now) result ≡ first_of (codes "QUERY_FILE") (rows_of (found_of found.now)) }
+{
+    found.get_str("QUERY_FILE")
 }
 
 /// A copy of what stands for `--add-column`, where it is there.

@@ -1,33 +1,34 @@
-//! A file as a source of bytes.
+//! A file, or standard input, as a source of bytes.
 ghost use Rattle.std.specs.Prelude.{◌≡◌, ◌^◌, ◌-◌, ◌<◌, ◌≢◌, IfErr, None};
 ghost use Rattle.std.specs.Io.{ReadsAtMost};
 ghost use Rattle.std.specs.IoError.{error_kind};
 ghost use Rattle.std.specs.Io.KnownBytes.{ReadConsumes};
 
-use arrowtab::{ReadFailed, Source};
-use std::io::{ErrorKind, Read};
+use arrowtab::{ReadFailed, Source, is_standard_input};
+use std::io::{ErrorKind, Input, Read};
 use std::rt::Files;
 use std::{fs, io};
 
 /// A file that is opened at its first read, and let go of at its end: a name alone costs no descriptor.
-/// Each read of a file that can't be opened fails.
+/// Each read of a file that can't be opened fails. The name `-` is standard input's, which nothing opens.
 #[derive(Drop)]
-pub struct FileSource<'a, R: Files> {
+pub struct FileSource<'a, R: Files + Input> {
     files: &'a R,
     path: &'a str,
-    stage: Stage<R::File>,
+    stage: Stage<R::File, R::Reader>,
     failures: u64,
 }
 
 /// How far a file was read.
 #[derive(Drop)]
-enum Stage<F> {
+enum Stage<F, I> {
     Named,
     Open(F),
+    Input(I),
     Ended,
 }
 
-impl<'a, R: Files> FileSource<'a, R> {
+impl<'a, R: Files + Input> FileSource<'a, R> {
     pub fn new(files: &'a R, path: &'a str) -> Self
         ensures { result.failures ≡ 0 }
     {
@@ -45,20 +46,30 @@ impl<'a, R: Files> FileSource<'a, R> {
         ensures count { self.new.failures ≡ self.old.failures }
     {
         if let Stage::Named = &self.stage {
-            self.stage = Stage::Open(fs::open(self.files, self.path)?);
+            self.stage = self.opened()?;
         }
-        let Stage::Open(file) = &mut self.stage else {
-            return Ok(0);
+        let count = match &mut self.stage {
+            Stage::Open(file) => read_retrying(file, buffer)?,
+            Stage::Input(input) => read_retrying(input, buffer)?,
+            _ => return Ok(0),
         };
-        let count = read_retrying(file, buffer)?;
         if count == 0 && !buffer.is_empty() {
             self.stage = Stage::Ended;
         }
         Ok(count)
     }
+
+    // The file, or standard input, from which nothing was read.
+    fn opened(&self) -> io::Result<Stage<R::File, R::Reader>> {
+        if is_standard_input(self.path) {
+            Ok(Stage::Input(self.files.reader()))
+        } else {
+            Ok(Stage::Open(fs::open(self.files, self.path)?))
+        }
+    }
 }
 
-impl<'a, R: Files> Source for FileSource<'a, R> {
+impl<'a, R: Files + Input> Source for FileSource<'a, R> {
     ghost failures = { λ s. s.failures };
 
     // What a file holds nobody tells.

@@ -1,6 +1,7 @@
 //! `arrowtab stats FILE..` prints the statistics of the columns of Arrow integration JSON files, `arrowtab export FILE..` the
-//! table that they are, and `arrowtab query --query QUERY FILE..` what a query asks of it. With `--workers N` so many load the files;
-//! with `--add-column FIELD` a column comes behind the others then.
+//! table that they are, and `arrowtab query --query QUERY FILE..` what a query asks of it, which may be in a file (`--query-file`). With
+//! `--workers N` so many load the files; with `--add-column FIELD` a column comes behind the others then. One of the files may be `-`,
+//! standard input.
 //!
 //! It ends with status 0 where all of that was written, 1 where a fault was reported on standard error
 //! instead, and 2 where its arguments are others. `arrowtab --help` tells what it takes.
@@ -12,7 +13,7 @@ mod output;
 ghost use Rattle.std.specs.Prelude.{◌≡◌, ◌<◌, ◌^◌, ◌-◌, All, IfOk, length};
 ghost use Rattle.job.specs.Jobs.{IsReady};
 
-use arrowtab::{Job, JobFault, job, print_fault, run};
+use arrowtab::{Job, JobFault, job, print_fault, read_query_file, run};
 use file::FileSource;
 use output::OutputSink;
 use std::alloc::AllocError;
@@ -64,6 +65,24 @@ fn sources_of<'a>(
     Ok(sources)
 }
 
+// The job with its query, which is read where it is in a file; or the status, where that can't be and was reported.
+fn with_query(rt: &HostRuntime, job: Job) -> Result<Job, u8>
+    requires { IsReady job }
+    ensures { IfOk result IsReady }
+{
+    let name = match job.query_file() {
+        Some(name) => String::from_str(rt.alloc(), name),
+        None => return Ok(job),
+    };
+    let Ok(name) = name else {
+        return Err(report(rt, &JobFault::NoMemory));
+    };
+    let errors = rt.stderr();
+    let mut err = OutputSink::new(io::writer(&errors));
+    let mut source = FileSource::new(rt, name.as_str());
+    read_query_file(rt.alloc(), job, &mut source, &mut err).ok_or(1)
+}
+
 // Does the job, in threads of this handle, which may wait for one another, and answers the status.
 fn run_job<W: Wait + Sync, T: Threads + Sync>(
     wait: &W,
@@ -100,7 +119,10 @@ fn report(rt: &HostRuntime, fault: &JobFault) -> u8 {
 
 fn main(rt: HostRuntime) -> ExitCode {
     let status = match requested_job(&rt) {
-        Ok(job) => run_job(&rt, &rt, &rt, &job),
+        Ok(job) => match with_query(&rt, job) {
+            Ok(job) => run_job(&rt, &rt, &rt, &job),
+            Err(status) => status,
+        },
         Err(fault) => report(&rt, &fault),
     };
     ExitCode::from(status)

@@ -11,6 +11,7 @@ mod heads;
 mod names;
 mod outputs;
 mod queries;
+mod query_files;
 mod refusals;
 mod runs;
 mod schemas;
@@ -72,15 +73,32 @@ pub(crate) fn ran(
     requires sources { All (λ s. s.failures < 2 ^ 64 - 1) sources.old }
     requires out { out.failures < 2 ^ 64 - 1 }
 {
-    let Ok(job) = job(alloc, words) else {
-        return None;
-    };
+    match job(alloc, words) {
+        Ok(job) => ran_job(rt, alloc, &job, sources, out),
+        Err(_) => None,
+    }
+}
+
+/// Does a job from these sources to this output. None where it is of other files than so many, or of no workers that it may have.
+pub(crate) fn ran_job(
+    rt: &(impl Wait + Threads + Sync),
+    alloc: Global,
+    job: &Job,
+    sources: &mut [MemorySource],
+    out: MemorySink,
+) -> Option<Outcome>
+    requires sources { All (λ s. s.failures < 2 ^ 64 - 1) sources.old }
+    requires out { out.failures < 2 ^ 64 - 1 }
+{
     if sources.is_empty() || job.names.len() != sources.len() {
+        return None;
+    }
+    if job.workers < 1 || job.workers > 64 {
         return None;
     }
     let mut out = out;
     let mut err = MemorySink::new(alloc);
-    let status = run(rt, rt, alloc, &job, sources, &mut out, &mut err);
+    let status = run(rt, rt, alloc, job, sources, &mut out, &mut err);
     Some(Outcome { status, out, err })
 }
 
@@ -145,9 +163,9 @@ fn given(alloc: Global, job: &Job, texts: &[&[u8]]) -> Option<Result<String, Run
         },
         Command::Export => Some(embed::export(alloc, texts)),
         Command::Query {
-            text,
+            query,
             output: Output::Lines,
-        } => Some(embed::query(alloc, text.as_str().as_bytes(), texts)),
+        } => Some(embed::query(alloc, query.text(), texts)),
         Command::Head(_) | Command::Query { .. } => None,
     }
 }

@@ -3,12 +3,12 @@ ghost use Rattle.std.specs.Prelude.{◌^◌, ◌-◌, ◌<◌};
 
 use super::{Outcome, assert_case};
 use arrowtab::memory::{MemorySink, Plan};
-use arrowtab::{Command, Job, JobFault, Output, job, print_fault};
+use arrowtab::{Command, Job, JobFault, Output, QuerySource, job, print_fault};
 use std::alloc::Global;
 
-/// Words, each behind one space, the command that they ask for, or the text of its query, the files that it is about, how many
-/// workers, and the text of a column, a dash where there is none.
-const JOBS: [(&str, &str, &str, u32, &str); 21] = [
+/// Words, each behind one space, the command that they ask for, or the text of its query, or the name of its file, the files that it is about,
+/// how many workers, and the text of a column, a dash where there is none.
+const JOBS: [(&str, &str, &str, u32, &str); 24] = [
     ("arrowtab stats A", "stats", "A", 1, "-"),
     ("a/b stats B A B", "stats", "B A B", 1, "-"),
     // An empty name.
@@ -31,6 +31,9 @@ const JOBS: [(&str, &str, &str, u32, &str); 21] = [
         1,
         "-",
     ),
+    ("arrowtab query --query-file Q A", "Q", "A", 1, "-"),
+    ("arrowtab query A --query-file=- B", "-", "A B", 1, "-"),
+    ("arrowtab stats B - ./-", "stats", "B - ./-", 1, "-"),
     ("arrowtab export A --workers=64", "export", "A", 64, "-"),
     ("arrowtab stats --workers +7 A", "stats", "A", 7, "-"),
     (
@@ -74,7 +77,10 @@ fn name_of(command: &Command) -> &str {
         Command::Validate => "validate",
         Command::Head(_) => "head",
         Command::Export => "export",
-        Command::Query { text, output: _ } => text.as_str(),
+        Command::Query { query, output: _ } => match query {
+            QuerySource::Text(text) => str::from_utf8(text).unwrap_or("no text"),
+            QuerySource::File(name) => name.as_str(),
+        },
     }
 }
 
@@ -135,7 +141,7 @@ fn words_ask_for_rows_and_forms(rt: HostRuntime) {
 /// Whether a command is a query of this form.
 fn is_of_form(command: &Command, form: Output) -> bool {
     match command {
-        Command::Query { text: _, output } => *output == form,
+        Command::Query { query: _, output } => *output == form,
         _ => false,
     }
 }
@@ -179,7 +185,7 @@ const STATS_HELP: &str = "Print rows, nulls, sum, least and greatest of each col
 Usage: arrowtab stats [OPTIONS] <FILE>...
 
 Arguments:
-  <FILE>...  Files of one table, which has the first one's schema
+  <FILE>...  Files of one table, which has the first one's schema; - is standard input
 
 Options:
       --workers <N>         How many workers load the files and answer the query at once, from 1 to 64 [default: 1]
@@ -197,7 +203,7 @@ const SCHEMA_HELP: &str = "Print name, type and nullability of each column
 Usage: arrowtab schema [OPTIONS] <FILE>...
 
 Arguments:
-  <FILE>...  Files of one table, which has the first one's schema
+  <FILE>...  Files of one table, which has the first one's schema; - is standard input
 
 Options:
       --workers <N>         How many workers load the files and answer the query at once, from 1 to 64 [default: 1]
@@ -214,7 +220,7 @@ const VALIDATE_HELP: &str = "Print nothing where all files make one table, else 
 Usage: arrowtab validate [OPTIONS] <FILE>...
 
 Arguments:
-  <FILE>...  Files of one table, which has the first one's schema
+  <FILE>...  Files of one table, which has the first one's schema; - is standard input
 
 Options:
       --workers <N>         How many workers load the files and answer the query at once, from 1 to 64 [default: 1]
@@ -231,7 +237,7 @@ const HEAD_HELP: &str = "Print the first rows, each as an object of JSON
 Usage: arrowtab head [OPTIONS] <FILE>...
 
 Arguments:
-  <FILE>...  Files of one table, which has the first one's schema
+  <FILE>...  Files of one table, which has the first one's schema; - is standard input
 
 Options:
       --workers <N>         How many workers load the files and answer the query at once, from 1 to 64 [default: 1]
@@ -250,7 +256,7 @@ const EXPORT_HELP: &str = "Print the table as one file, each text once in its di
 Usage: arrowtab export [OPTIONS] <FILE>...
 
 Arguments:
-  <FILE>...  Files of one table, which has the first one's schema
+  <FILE>...  Files of one table, which has the first one's schema; - is standard input
 
 Options:
       --workers <N>         How many workers load the files and answer the query at once, from 1 to 64 [default: 1]
@@ -265,15 +271,16 @@ Example: arrowtab export cities.json > table.json
 
 const QUERY_HELP: &str = "Print a line for each group of rows, as a query asks
 
-Usage: arrowtab query [OPTIONS] --query <QUERY> <FILE>...
+Usage: arrowtab query [OPTIONS] <FILE>...
 
 Arguments:
-  <FILE>...  Files of one table, which has the first one's schema
+  <FILE>...  Files of one table, which has the first one's schema; - is standard input
 
 Options:
       --workers <N>         How many workers load the files and answer the query at once, from 1 to 64 [default: 1]
       --add-column <FIELD>  A column to add once the files are loaded, null in each row: a field as an object of JSON
       --query <QUERY>       The query, an object of JSON with the members filter, by and aggs
+      --query-file <FILE>   The file that the query is in, in place of --query
       --output <FORMAT>     How groups are printed: as lines, json or csv [default: lines]
   -h, --help                Print help
 
@@ -330,7 +337,7 @@ fn tells_that_help_failed(alloc: Global) -> bool {
 }
 
 /// Words that are no job, what `clap` says of them, and whether that is the help or the version that was requested.
-const NO_JOBS: [(&str, &str, bool); 23] = [
+const NO_JOBS: [(&str, &str, bool); 27] = [
     ("arrowtab --help", HELP, true),
     ("bin/arrowtab -h", HELP, true),
     ("arrowtab help", HELP, true),
@@ -369,20 +376,39 @@ For more information, try '--help'.
     ),
     (
         "arrowtab query A",
-        "error: the following required arguments were not provided:
-  --query <QUERY>
+        "arrowtab: query wants --query or --query-file\n",
+        false,
+    ),
+    (
+        "arrowtab query --query {} A --query-file Q",
+        "arrowtab: --query and --query-file are two queries\n",
+        false,
+    ),
+    (
+        "arrowtab query --query-file Q --query-file Q A",
+        "error: the argument '--query-file <FILE>' cannot be used multiple times
 
-Usage: arrowtab query --query <QUERY> <FILE>...
+Usage: arrowtab query [OPTIONS] <FILE>...
 
 For more information, try '--help'.
 ",
         false,
     ),
     (
+        "arrowtab stats - A -",
+        "arrowtab: - is standard input, which is read once\n",
+        false,
+    ),
+    (
+        "arrowtab query --query-file - -",
+        "arrowtab: - is standard input, which is read once\n",
+        false,
+    ),
+    (
         "arrowtab query --query {} --query={} A",
         "error: the argument '--query <QUERY>' cannot be used multiple times
 
-Usage: arrowtab query [OPTIONS] --query <QUERY> <FILE>...
+Usage: arrowtab query [OPTIONS] <FILE>...
 
 For more information, try '--help'.
 ",

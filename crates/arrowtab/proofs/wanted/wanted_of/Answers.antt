@@ -1,4 +1,4 @@
-use Rattle.std.proofs.Common.{◌∙◌, refl, subst}
+use Rattle.std.proofs.Common.{refl, subst}
 use Rattle.query.specs.Resolved.{named}
 use Rattle.json_query.specs.QueryDocument.{ReadsQueryText}
 use Rattle.reports.specs.QueryFaults.{IsUnreadQuery}
@@ -8,9 +8,9 @@ use Rattle.arrowtab.proofs.wanted.wanted_of.Goals as goal
 pub returns-in-Ok-clause-ok : goal.returns-in-Ok-clause-ok
 returns-in-Ok-clause-ok c =
     rw c.in-Query.is
-    (c.in-Ok.query, refl, subst (λ b. ReadsQueryText b (named c.in-Ok.query)) (c.as_bytes.ensures.value ∙ c.as_str.ensures.value) c.in-Ok.ensures.ok)
+    (c.in-Ok.query, refl, subst (λ b. ReadsQueryText b (named c.in-Ok.query)) c.text.ensures c.in-Ok.ensures.ok)
 
 pub returns-in-Err-clause-err : goal.returns-in-Err-clause-err
 returns-in-Err-clause-err c =
     rw c.in-Query.is
-    (text_unread c.in-Query.text c.in-Query.output c.in-Err.fault (subst (λ b. IsUnreadQuery b c.in-Err.fault) (c.as_bytes.ensures.value ∙ c.as_str.ensures.value) c.in-Err.ensures.err))
+    (text_unread c.in-Query.query c.in-Query.output c.in-Err.fault (subst (λ b. IsUnreadQuery b c.in-Err.fault) c.text.ensures c.in-Err.ensures.err))
