@@ -1,5 +1,5 @@
-//! Tests of files of JSON: what is read of them and what is reported, what is printed, and that it reads back as it was; and JSON at
-//! places of a text.
+//! Tests of files of JSON: what is read of them and what is reported, what is printed, and that it reads back as it was; and JSON and
+//! columns at places of a text.
 #![tactic(auto)]
 
 #[cfg(test)]
@@ -10,3 +10,5 @@ mod reading;
 mod scanning;
 #[cfg(test)]
 mod shipped;
+#[cfg(test)]
+mod streaming;

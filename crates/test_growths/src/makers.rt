@@ -20,6 +20,7 @@ use flat::{batch_of, schema_of};
 use intake::table_of;
 use job::job;
 use json_scan::{read_integers, read_text};
+use json_stream::read_column;
 use std::alloc::Global;
 use std::sync::Arc;
 use std::test::Fail;
@@ -62,6 +63,7 @@ pub(crate) enum Document {
     Job,
     Text,
     Integers,
+    Column,
 }
 
 /// What is made of nodes.
@@ -103,7 +105,7 @@ pub(crate) static MAKERS: [(&str, Maker); 17] = [
 ];
 
 #[rattlefmt::skip]
-pub(crate) static DOCUMENTS: [(&str, Maker); 11] = [
+pub(crate) static DOCUMENTS: [(&str, Maker); 12] = [
     ("read_file", Maker::Document(Document::File(TWO_BATCHES))),
     ("read_file, a wrong kind", Maker::Document(Document::File(WRONG_KIND))),
     ("read_file, an offset past the items", Maker::Document(Document::File(PAST_END))),
@@ -115,6 +117,7 @@ pub(crate) static DOCUMENTS: [(&str, Maker); 11] = [
     ("job", Maker::Document(Document::Job)),
     ("json_scan::read_text", Maker::Document(Document::Text)),
     ("json_scan::read_integers", Maker::Document(Document::Integers)),
+    ("json_stream::read_column", Maker::Document(Document::Column)),
 ];
 
 #[rattlefmt::skip]
@@ -142,6 +145,10 @@ const PAST_END: &str =
     r#"{"schema":{"fields":[{"name":"l","nullable":true,"type":{"name":"list"},"children":[{"name":"item","nullable":true,"type":{"name":"bool"},"children":[]}]}]},"batches":[{"count":1,"columns":[{"name":"l","count":1,"VALIDITY":[1],"OFFSET":[0,2],"children":[{"name":"item","count":1,"VALIDITY":[1],"DATA":[true]}]}]}]}"#;
 
 const NO_AGGREGATE: &str = r#"{"by":["s"],"aggs":[{"agg":"mean","column":"n"}]}"#;
+
+/// A column of texts with a null, in one of which much is escaped.
+const COLUMN: &str =
+    r#"{"count":3,"VALIDITY":[1,0,1],"DATA":["plain",7,"\u0061\u0062\u0063\u0064\u0065\u0066\u0067\u0068\u0069\u006a\u006b\u006c\u006d\u006e"]}"#;
 
 /// A string in which much is escaped.
 const ESCAPED: &str =
@@ -305,6 +312,15 @@ fn read(alloc: Global, report: &mut String, document: Document) -> Result<(), St
             told(report, read_text(ESCAPED, 0, &mut buffer))
         }
         Document::Integers => told(report, read_integers(alloc, INTEGERS, 0, 1)),
+        Document::Column => {
+            let field = Field {
+                name: String::from_str(alloc, "s")?,
+                nullable: true,
+                ty: DataType::Utf8,
+            };
+            let column = answered(report, read_column(alloc, &field, COLUMN, 0, 2))?;
+            Ok(tell_array(report, &column.value)?)
+        }
     }
 }
 

@@ -1,0 +1,23 @@
+use Rattle.std.proofs.Common.{subst}
+use Rattle.serde_json.specs.Find.{get_member}
+use Rattle.json_base.specs.JsonPath.{member_name}
+use Rattle.json_base.specs.declared.path.Member.TheVariants as member
+use Rattle.json_scan.proofs.Values.{if_ok_then}
+use Rattle.json_stream.specs.Column.{IsValues}
+use Rattle.json_stream.proofs.ColumnLemmas.{column_held}
+use Rattle.json_stream.proofs.column.column_of.Goals as goal
+
+pub returns-in-Some : goal.returns-in-Some
+returns-in-Some c =
+    let p = c.args.parts in
+    if_ok_then c.if_whole.result c.if_whole.ensures
+    (λ a whole ms h.
+    let values = subst (IsValues _ p.validity (get_member (member_name member.Data) ms)) c.in-Some.is h.values in
+    column_held _ c.args.depth c.args.text.now ms p c.in-Some.array a h values whole.0 whole.1 whole.2)
+
+pub returns-in-Ok : goal.returns-in-Ok
+returns-in-Ok c =
+    let p = c.args.parts in
+    if_ok_then c.if_whole-in-Ok.result c.if_whole-in-Ok.ensures
+    (λ a whole ms h.
+    column_held _ c.args.depth c.args.text.now ms p c.in-Ok.array a h (c.in-Ok.ensures (get_member (member_name member.Data) ms) h.place) whole.0 whole.1 whole.2)

@@ -1,0 +1,37 @@
+-- The members of a column object, as far as they are read. (Arrow integration testing, "JSON test data format", FieldData)
+use Rattle.std.specs.Prelude.{◌≡◌, ℕ, List, drop, Bool, false, Option, Some, None, option_and_then}
+use Rattle.arrays.specs.Kind.{Kind}
+use Rattle.arrays.specs.Seen.{Seen}
+use Rattle.json.specs.Lex.{lex, between, begins_colon}
+use Rattle.serde_json.specs.Data.{Data, Members, array, no_items}
+use Rattle.serde_json.specs.Find.{get_member}
+use Rattle.json_base.specs.JsonNumber.{count_of}
+use Rattle.json_base.specs.JsonPath.{member_name}
+use Rattle.json_base.specs.declared.path.Member.TheVariants as member
+use Rattle.json_scan.specs.Spelling.{SpellsAt, before}
+use Rattle.json_stream.specs.Validity.{IsValidity}
+use Rattle.json_stream.specs.Slots.{HoldsSlots}
+use Rattle.json_stream.specs.declared.column.Stretch.{Stretch}
+use Rattle.json_stream.specs.declared.column.ColumnParts.{ColumnParts}
+
+-- The member is a count, if there is one.
+abbrev pub IsCount : Option Data → Option ℕ → Type 0
+IsCount found None = found ≡ None
+IsCount found (Some n) = option_and_then count_of found ≡ Some n
+
+-- The member, if there is one, has the value that stands on the stretch of the text. It is no key: no colon follows.
+abbrev pub StandsOn : ℕ → List ℕ → Option Data → Option Stretch → Type 0
+StandsOn depth text found None = found ≡ None
+StandsOn depth text found (Some s) = (d : Data) × (found ≡ Some d) × SpellsAt depth (drop s.start text) d (drop s.end text) × (begins_colon (lex between (drop s.end text)) ≡ false)
+
+-- The member is the values of the array, if there is one.
+abbrev pub IsValues : Kind → Option (List Bool) → Option Data → Option Seen → Type 0
+IsValues k validity found None = Unit {0}
+IsValues k validity found (Some a) = (ds : List Data) × (found ≡ Some (array (before ds no_items))) × HoldsSlots k validity ds a
+
+-- What is known of the members, nested so deep in the text.
+pub record HoldsParts (k : Kind) (depth : ℕ) (text : List ℕ) (ms : Members) (p : ColumnParts) : Type 0 where
+  pub count : IsCount (get_member (member_name member.Count) ms) p.count
+  pub validity : IsValidity (get_member (member_name member.Validity) ms) p.validity
+  pub place : StandsOn depth text (get_member (member_name member.Data) ms) p.place
+  pub values : IsValues k p.validity (get_member (member_name member.Data) ms) p.values

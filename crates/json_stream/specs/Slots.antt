@@ -1,0 +1,35 @@
+-- The member DATA of a column whose slots have a value each. (Arrow integration testing, "JSON test data format", FieldData)
+use Rattle.std.specs.Prelude.{◌≡◌, ℕ, ◌<◌, List, [], ◌∷◌, ◌++◌, length, slice_get, Bool, false, true, Option, Some}
+use Rattle.arrays.specs.Item.{Item}
+use Rattle.arrays.specs.Kind.{Kind, int, boolean, texts, lists, dict}
+use Rattle.arrays.specs.Seen.{Seen}
+use Rattle.serde_json.specs.Data.{Data}
+use Rattle.json_read.specs.JsonColumn.{Spelling, spelling_of, is_full, slot_of}
+use Rattle.json_stream.specs.Validity.{valid_of}
+
+-- The items, which the offsets count, are those of the values: null, or what a value spells whose slot is valid.
+pub record AreSlots (s : Spelling) (validity : Option (List Bool)) (ds : List Data) (items : List Item) : Type 0 where
+  pub len : length items ≡ length ds
+  pub each : (i : ℕ) → i < length ds → slice_get items i ≡ slot_of s (valid_of validity i) (slice_get ds i)
+  pub fits : is_full s items ≡ false
+
+-- The item of one more slot follows, which is valid or not.
+pub record IsSlotAdded (s : Spelling) (valid : Option Bool) (d : Data) (old new : List Item) : Type 0 where
+  pub item : Item
+  pub slot : slot_of s valid (Some d) ≡ Some item
+  pub grown : new ≡ old ++ item ∷ []
+  pub fits : is_full s old ≡ false → is_full s new ≡ false
+
+-- Each slot of the kind has a value of its own.
+abbrev pub is_plain : Kind → Bool
+is_plain (int t) = true
+is_plain boolean = true
+is_plain (texts w) = true
+is_plain (lists w k) = false
+is_plain dict = false
+
+-- An array of the kind that has these slots.
+pub record HoldsSlots (k : Kind) (validity : Option (List Bool)) (ds : List Data) (array : Seen) : Type 0 where
+  pub plain : is_plain k ≡ true
+  pub kind : array.kind ≡ k
+  pub slots : AreSlots (spelling_of k) validity ds array.items

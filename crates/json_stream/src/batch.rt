@@ -1,0 +1,127 @@
+//! Batches of files without dictionaries.
+
+ghost use Rattle.std.specs.Prelude.{◌≡◌, ◌<◌, ◌≤◌, List, length, drop, IfOk, IsTrue};
+ghost use Rattle.std.specs.Arc.{arc_value};
+ghost use Rattle.std.specs.List.{All};
+ghost use Rattle.serde_json.specs.Data.{Data};
+ghost use Rattle.json_base.specs.JsonTable.{table_of};
+ghost use Rattle.json_read.specs.JsonBatch.{ReadsBatch};
+ghost use Rattle.json_scan.specs.Spelling.{SpellsAt};
+ghost use Rattle.json_stream.specs.Batch.{no_codings};
+ghost use Rattle.json_stream.specs.Columns.{AreColumns};
+
+use crate::columns::read_columns;
+use crate::natural::read_natural;
+use arrays::{Array, Field, MOST_SLOTS, RecordBatch, Schema};
+use json_base::Member;
+use json_scan::{MemberVisitor, Miss, Placed, pass_value, read_object};
+use std::alloc::Global;
+use std::sync::Arc;
+
+/// What has been read of a batch object.
+#[derive(Drop)]
+pub(crate) struct BatchParts<'f> {
+    alloc: Global,
+    fields: &'f [Field],
+    pub count: Option<u32>,
+    pub columns: Option<Vec<Array>>,
+}
+
+impl MemberVisitor for BatchParts<'_> {
+    ghost use Rattle.std.specs.Prelude.{◌≡◌};
+    ghost use Rattle.arrays.specs.Shape.{fields_of};
+    ghost use Rattle.json_stream.specs.Batch.{HoldsBatch};
+
+    ghost holds = { λ text depth first ms now. (now.fields ≡ first.fields) × HoldsBatch (fields_of first.fields.now) ms now };
+
+    fn visit(&mut self, text: &str, name: &str, at: usize, depth: usize) -> Result<usize, Miss> {
+        if name == Member::Count.name() {
+            let Some(count) = read_natural(text.as_bytes(), at) else {
+                return Err(Miss::Unread);
+            };
+            self.count = Some(count.value);
+            return Ok(count.end);
+        }
+        if name == Member::Columns.name() {
+            let columns = read_columns(self.alloc, self.fields, text, at, depth)?;
+            self.columns = Some(columns.value);
+            return Ok(columns.end);
+        }
+        match pass_value(text.as_bytes(), at, depth) {
+            Some(end) => Ok(end),
+            None => Err(Miss::Unread),
+        }
+    }
+}
+
+/// Whether each column has so many slots.
+fn are_of_len(columns: &[Array], len: usize) -> bool
+    ensures { IsTrue result → All (λ s. length s.items ≡ len) columns.now }
+{
+    for column in columns {
+        if column.len() != len {
+            return false;
+        }
+    }
+    true
+}
+
+/// The batch of columns of the schema's fields, if each is there and has so many slots.
+fn batch_of(schema: &Arc<Schema>, rows: u32, columns: Vec<Array>) -> Result<RecordBatch, Miss>
+    requires { (ds : List Data) × AreColumns (arc_value schema.now) ds columns.items }
+    ensures fields { IfOk result (λ b. b.fields ≡ arc_value schema.now) }
+    ensures rows { IfOk result (λ b. b.rows ≡ rows) }
+    ensures columns { IfOk result (λ b. b.columns ≡ columns.items) }
+    ensures whole { IfOk result (λ b. length b.columns ≡ length (arc_value schema.now)) }
+    ensures even { IfOk result (λ b. All (λ s. length s.items ≡ rows) b.columns) }
+{
+    if columns.len() != schema.len() || rows as usize > MOST_SLOTS {
+        return Err(Miss::Unread);
+    }
+    if !are_of_len(&columns, rows as usize) {
+        return Err(Miss::Unread);
+    }
+    match schema.clone() {
+        Ok(schema) => Ok(RecordBatch::under(schema, rows, columns)),
+        Err(_) => Err(Miss::NoMemory),
+    }
+}
+
+/// The batch that stands here, or after spaces, which shares the schema. Where a field is a list or encoded, it isn't read.
+pub fn read_batch(
+    alloc: Global,
+    schema: &Arc<Schema>,
+    text: &str,
+    at: usize,
+    depth: usize,
+) -> Result<Placed<RecordBatch>, Miss>
+    requires { at ≤ length text.now }
+    ensures fields { IfOk result (λ r. r.value.fields ≡ arc_value schema.now) }
+    ensures ok { IfOk result (λ r. (d : Data) × SpellsAt depth (drop at text.now) d (drop r.end text.now)
+        × ReadsBatch (arc_value schema.now) (no_codings (arc_value schema.now)) d (table_of r.value)) }
+    ensures onward { IfOk result (λ r. at < r.end) }
+    ensures within { IfOk result (λ r. r.end ≤ length text.now) }
+{
+    let mut parts = BatchParts {
+        alloc,
+        fields: schema.fields(),
+        count: None,
+        columns: None,
+    };
+    let end = read_object(text, at, depth, &mut parts)?;
+    // An object has two braces at least, but `read_object` doesn't say so.
+    if end <= at {
+        return Err(Miss::Unread);
+    }
+    let BatchParts { count, columns, .. } = parts;
+    let Some(rows) = count else {
+        return Err(Miss::Unread);
+    };
+    let Some(columns) = columns else {
+        return Err(Miss::Unread);
+    };
+    match batch_of(schema, rows, columns) {
+        Ok(value) => Ok(Placed { value, end }),
+        Err(miss) => Err(miss),
+    }
+}

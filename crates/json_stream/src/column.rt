@@ -1,0 +1,225 @@
+//! Column objects: their members in any order, of those of one name the last.
+
+ghost use Rattle.std.specs.Prelude.{◌≡◌, ◌<◌, ◌≤◌, false, length, drop, List, Option, Some, IfOk, IfSome, IsTrue};
+ghost use Rattle.types.specs.declared.data_type.Field.{out-Field};
+ghost use Rattle.arrays.specs.Kind.{kind_of};
+ghost use Rattle.json.specs.Lex.{lex, between, begins_colon};
+ghost use Rattle.serde_json.specs.Data.{Data, Members, object};
+ghost use Rattle.json_read.specs.JsonBatch.{HoldsColumn};
+ghost use Rattle.json_scan.specs.Spelling.{SpellsAt};
+ghost use Rattle.json_stream.specs.Column.{HoldsParts, IsValues, StandsOn};
+
+use crate::natural::read_natural;
+use crate::validity::read_validity;
+use crate::values::read_values;
+use arrays::{Array, Field};
+use colbits::BitmapBuf;
+use json_base::Member;
+use json_scan::{Container, MemberVisitor, Miss, Placed, pass_value, read_mark, read_object};
+use std::alloc::Global;
+
+/// Where a value stands.
+#[derive(Clone, Copy, Drop)]
+pub(crate) struct Stretch {
+    pub start: usize,
+    pub end: usize,
+}
+
+/// What has been read of a column object.
+#[derive(Drop)]
+pub(crate) struct ColumnParts<'f> {
+    alloc: Global,
+    field: &'f Field,
+    pub count: Option<u32>,
+    /// None where all slots are valid.
+    pub validity: Option<BitmapBuf>,
+    /// Where DATA stands.
+    pub place: Option<Stretch>,
+    /// The values of DATA, if it stands behind the flags; else it is read once all members are known.
+    pub values: Option<Array>,
+}
+
+/// The values that stand here, or after spaces, where flags are known; else they are passed over.
+fn read_or_pass(
+    alloc: Global,
+    field: &Field,
+    validity: &Option<BitmapBuf>,
+    text: &str,
+    at: usize,
+    depth: usize,
+) -> Result<Placed<Option<Array>>, Miss>
+    requires { at ≤ length text.now }
+    ensures ok { IfOk result (λ r. (d : Data) × SpellsAt depth (drop at text.now) d (drop r.end text.now)
+        × IsValues (kind_of (out-Field field.now).ty) validity.now (Some d) r.value) }
+    ensures onward { IfOk result (λ r. at < r.end) }
+    ensures within { IfOk result (λ r. r.end ≤ length text.now) }
+{
+    if validity.is_some() {
+        return match read_values(alloc, field, validity, text, at, depth) {
+            Ok(values) => Ok(Placed {
+                value: Some(values.value),
+                end: values.end,
+            }),
+            Err(miss) => Err(miss),
+        };
+    }
+    match pass_value(text.as_bytes(), at, depth) {
+        Some(end) => Ok(Placed { value: None, end }),
+        None => Err(Miss::Unread),
+    }
+}
+
+/// Whether a member ends here.
+fn ends_member(text: &str, at: usize) -> bool
+    requires { at ≤ length text.now }
+    ensures { IsTrue result → begins_colon (lex between (drop at text.now)) ≡ false }
+{
+    read_mark(text.as_bytes(), at, Container::Object).is_some()
+}
+
+impl MemberVisitor for ColumnParts<'_> {
+    ghost use Rattle.std.specs.Prelude.{◌≡◌};
+    ghost use Rattle.types.specs.declared.data_type.Field.{out-Field};
+    ghost use Rattle.arrays.specs.Kind.{kind_of};
+    ghost use Rattle.json_stream.specs.Column.{HoldsParts};
+
+    ghost holds = { λ text depth first ms now. (now.field ≡ first.field)
+        × HoldsParts (kind_of (out-Field first.field.now).ty) depth text ms now };
+
+    fn visit(&mut self, text: &str, name: &str, at: usize, depth: usize) -> Result<usize, Miss> {
+        if name == Member::Count.name() {
+            let Some(count) = read_natural(text.as_bytes(), at) else {
+                return Err(Miss::Unread);
+            };
+            self.count = Some(count.value);
+            return Ok(count.end);
+        }
+        if name == Member::Validity.name() {
+            let validity = read_validity(self.alloc, text, at, depth)?;
+            self.validity = validity.value;
+            self.values = None;
+            return Ok(validity.end);
+        }
+        if name == Member::Data.name() {
+            let data = read_or_pass(self.alloc, self.field, &self.validity, text, at, depth)?;
+            if !ends_member(text, data.end) {
+                return Err(Miss::Unread);
+            }
+            self.place = Some(Stretch {
+                start: at,
+                end: data.end,
+            });
+            self.values = data.value;
+            return Ok(data.end);
+        }
+        match pass_value(text.as_bytes(), at, depth) {
+            Some(end) => Ok(end),
+            None => Err(Miss::Unread),
+        }
+    }
+}
+
+/// The values of DATA, which stands there.
+fn values_at(
+    alloc: Global,
+    field: &Field,
+    validity: &Option<BitmapBuf>,
+    text: &str,
+    place: Option<Stretch>,
+    depth: usize,
+) -> Result<Array, Miss>
+    ensures { IfOk result (λ a. (found : Option Data) → StandsOn depth text.now found place
+        → IsValues (kind_of (out-Field field.now).ty) validity.now found (Some a)) }
+{
+    let Some(place) = place else {
+        return Err(Miss::Unread);
+    };
+    if place.start > text.len() {
+        return Err(Miss::Unread);
+    }
+    match read_values(alloc, field, validity, text, place.start, depth) {
+        Ok(values) if values.end == place.end => Ok(values.value),
+        Ok(_) => Err(Miss::Unread),
+        Err(miss) => Err(miss),
+    }
+}
+
+/// Whether there are so many flags, or none.
+fn are_flags_of(validity: &Option<BitmapBuf>, count: usize) -> bool
+    ensures { IsTrue result → IfSome validity.now (λ bits. length bits ≡ count) }
+{
+    match validity {
+        None => true,
+        Some(bits) => bits.bits().len() == count,
+    }
+}
+
+/// The array, if the count and the flags are of as many slots.
+fn if_whole(count: Option<u32>, validity: &Option<BitmapBuf>, array: Array) -> Result<Array, Miss>
+    ensures { IfOk result (λ a. (a ≡ array) × (count ≡ Some (length a.items))
+        × IfSome validity.now (λ bits. length bits ≡ length a.items)) }
+{
+    let Some(count) = count else {
+        return Err(Miss::Unread);
+    };
+    if array.len() == count as usize && are_flags_of(validity, array.len()) {
+        Ok(array)
+    } else {
+        Err(Miss::Unread)
+    }
+}
+
+/// The column of these parts.
+fn column_of(parts: ColumnParts, text: &str, depth: usize) -> Result<Array, Miss>
+    ensures { IfOk result (λ a. (ms : Members) → HoldsParts (kind_of (out-Field parts.entry.field.now).ty) depth text.now ms parts.entry
+        → HoldsColumn (kind_of (out-Field parts.entry.field.now).ty) (length a.items) (object ms) a) }
+{
+    let ColumnParts {
+        alloc,
+        field,
+        count,
+        validity,
+        place,
+        values,
+    } = parts;
+    if let Some(array) = values {
+        return if_whole(count, &validity, array);
+    }
+    match values_at(alloc, field, &validity, text, place, depth) {
+        Ok(array) => if_whole(count, &validity, array),
+        Err(miss) => Err(miss),
+    }
+}
+
+/// The column that stands here, or after spaces, as an array of the field's type: of integers, truth values or texts.
+pub fn read_column(
+    alloc: Global,
+    field: &Field,
+    text: &str,
+    at: usize,
+    depth: usize,
+) -> Result<Placed<Array>, Miss>
+    requires { at ≤ length text.now }
+    ensures ok { IfOk result (λ r. (d : Data) × SpellsAt depth (drop at text.now) d (drop r.end text.now)
+        × HoldsColumn (kind_of (out-Field field.now).ty) (length r.value.items) d r.value) }
+    ensures onward { IfOk result (λ r. at < r.end) }
+    ensures within { IfOk result (λ r. r.end ≤ length text.now) }
+{
+    let mut parts = ColumnParts {
+        alloc,
+        field,
+        count: None,
+        validity: None,
+        place: None,
+        values: None,
+    };
+    let end = read_object(text, at, depth, &mut parts)?;
+    // An object has two braces at least, but `read_object` doesn't say so.
+    if end <= at {
+        return Err(Miss::Unread);
+    }
+    match column_of(parts, text, depth.saturating_sub(1)) {
+        Ok(value) => Ok(Placed { value, end }),
+        Err(miss) => Err(miss),
+    }
+}

@@ -1,0 +1,17 @@
+//! Columns of Arrow's JSON integration files read straight from the bytes of the text, with no tree in between. What a column holds is what
+//! `json_read` finds in the tree of the same text; where a text is at fault, or is written in a way that isn't read here, nothing is told, and
+//! the reader of trees tells why.
+#![tactic(auto)]
+
+mod batch;
+mod column;
+mod columns;
+mod natural;
+mod numeral;
+mod slots;
+mod validity;
+mod values;
+
+pub use batch::read_batch;
+pub use column::read_column;
+pub use columns::read_columns;

@@ -1,0 +1,159 @@
+//! Columns in the making, a slot at a time from the text.
+
+ghost use Rattle.std.specs.Prelude.{◌≡◌, ◌<◌, ◌≤◌, ◌∷◌, ◌++◌, [], length, drop, IfOk, OnErr, OnOk};
+ghost use Rattle.types.specs.Limits.{most_slots};
+ghost use Rattle.arrays.specs.Item.{null};
+ghost use Rattle.serde_json.specs.Data.{Data};
+ghost use Rattle.json_read.specs.JsonColumn.{spelling_of};
+ghost use Rattle.json_read.specs.Unfit.{IsWith};
+ghost use Rattle.json_scan.specs.Spelling.{Spells};
+
+use crate::natural::read_flag;
+use crate::numeral::read_whole;
+use arrays::{Array, BoolBuilder, BuildFault, IntBuilder, IntType, TextBuilder};
+use colbits::NoMemory;
+use json_scan::{Miss, read_text};
+
+/// A column in the making, of which each slot has a value of its own. Where nothing is added, the column is as it was.
+pub(crate) trait SlotBuilder: Drop {
+    ghost use Rattle.std.specs.Prelude.{List};
+    ghost use Rattle.arrays.specs.Item.{Item};
+    ghost use Rattle.arrays.specs.Kind.{Kind};
+
+    ghost kind: { Self → Kind };
+
+    ghost items: { Self → List Item };
+
+    /// Adds the item that the value spells which stands here, or after spaces, and gives the place behind it.
+    fn push_value(&mut self, text: &str, at: usize) -> Result<usize, Miss>
+        requires at { at ≤ length text.now }
+        requires room { length (items self.old) < most_slots }
+        ensures kept { kind self.new ≡ kind self.old }
+        ensures ok { IfOk result (λ end. (d : Data) × Spells (drop at text.now) d (drop end text.now)
+            × IsWith (spelling_of (kind self.old)) (items self.old) d (items self.new)) }
+        ensures err { OnErr result (items self.new ≡ items self.old) }
+        ensures onward { IfOk result (λ end. at < end) }
+        ensures within { IfOk result (λ end. end ≤ length text.now) };
+
+    /// Adds a null.
+    fn push_null(&mut self) -> Result<(), NoMemory>
+        requires room { length (items self.old) < most_slots }
+        ensures kept { kind self.new ≡ kind self.old }
+        ensures ok { OnOk result (items self.new ≡ items self.old ++ null ∷ []) }
+        ensures err { OnErr result (items self.new ≡ items self.old) };
+
+    /// The column as an array.
+    fn finish(self) -> Result<Array, NoMemory>
+        ensures kind { IfOk result (λ a. a.kind ≡ kind self) }
+        ensures items { IfOk result (λ a. a.items ≡ items self) };
+}
+
+/// A column of integers in the making.
+#[derive(Drop)]
+pub(crate) struct IntColumn {
+    pub ty: IntType,
+    pub builder: IntBuilder,
+    ghost one_type: { builder.ty ≡ ty },
+}
+
+impl SlotBuilder for IntColumn {
+    ghost use Rattle.arrays.specs.Kind.{int};
+
+    ghost kind = { λ c. int c.ty };
+
+    ghost items = { λ c. c.builder.items };
+
+    #[inline]
+    fn push_value(&mut self, text: &str, at: usize) -> Result<usize, Miss> {
+        let Some(number) = read_whole(text, at) else {
+            return Err(Miss::Unread);
+        };
+        if !self.ty.holds(number.value) {
+            return Err(Miss::Unread);
+        }
+        match self.builder.push(Some(number.value)) {
+            Ok(()) => Ok(number.end),
+            Err(NoMemory) => Err(Miss::NoMemory),
+        }
+    }
+
+    #[inline]
+    fn push_null(&mut self) -> Result<(), NoMemory> {
+        self.builder.push(None)
+    }
+
+    fn finish(self) -> Result<Array, NoMemory> {
+        let IntColumn { ty: _, builder } = self;
+        builder.finish()
+    }
+}
+
+impl SlotBuilder for BoolBuilder {
+    ghost use Rattle.arrays.specs.Kind.{boolean};
+
+    ghost kind = { λ _. boolean };
+
+    ghost items = { λ items. items };
+
+    #[inline]
+    fn push_value(&mut self, text: &str, at: usize) -> Result<usize, Miss> {
+        let Some(truth) = read_flag(text.as_bytes(), at) else {
+            return Err(Miss::Unread);
+        };
+        match self.push(Some(truth.value)) {
+            Ok(()) => Ok(truth.end),
+            Err(NoMemory) => Err(Miss::NoMemory),
+        }
+    }
+
+    #[inline]
+    fn push_null(&mut self) -> Result<(), NoMemory> {
+        self.push(None)
+    }
+
+    fn finish(self) -> Result<Array, NoMemory> {
+        BoolBuilder::finish(self)
+    }
+}
+
+/// A column of texts in the making.
+#[derive(Drop)]
+pub(crate) struct TextColumn {
+    pub builder: TextBuilder,
+    /// What a text stands for in which something is escaped.
+    pub buffer: Vec<u8>,
+}
+
+impl SlotBuilder for TextColumn {
+    ghost use Rattle.arrays.specs.Kind.{texts};
+
+    ghost kind = { λ c. texts c.builder.width };
+
+    ghost items = { λ c. c.builder.items };
+
+    #[inline]
+    fn push_value(&mut self, text: &str, at: usize) -> Result<usize, Miss> {
+        let read = match read_text(text, at, &mut self.buffer) {
+            Ok(read) => read,
+            Err(miss) => return Err(miss),
+        };
+        match self.builder.push(Some(read.value)) {
+            Ok(()) => Ok(read.end),
+            Err(BuildFault::OffsetsFull) => Err(Miss::Unread),
+            Err(BuildFault::NoMemory) => Err(Miss::NoMemory),
+        }
+    }
+
+    #[inline]
+    fn push_null(&mut self) -> Result<(), NoMemory> {
+        match self.builder.push(None) {
+            Ok(()) => Ok(()),
+            Err(_) => Err(NoMemory),
+        }
+    }
+
+    fn finish(self) -> Result<Array, NoMemory> {
+        let TextColumn { builder, buffer: _ } = self;
+        builder.finish()
+    }
+}

@@ -1,0 +1,216 @@
+//! DATA: the values of a column's slots.
+
+ghost use Rattle.std.specs.Prelude.{◌≡◌, ◌<◌, ◌≤◌, List, [], length, drop, IfOk, IsTrue, OnErr};
+ghost use Rattle.types.specs.declared.data_type.Field.{out-Field};
+ghost use Rattle.types.specs.Limits.{most_slots};
+ghost use Rattle.arrays.specs.Kind as kind;
+ghost use Rattle.arrays.specs.Kind.{kind_of};
+ghost use Rattle.serde_json.specs.Data.{Data, array, no_items};
+ghost use Rattle.json_read.specs.JsonColumn.{spelling_of};
+ghost use Rattle.json_scan.specs.Spelling.{SpellsAt, before};
+ghost use Rattle.json_stream.specs.Slots.{IsSlotAdded, HoldsSlots, is_plain};
+
+use crate::slots::{IntColumn, SlotBuilder, TextColumn};
+use crate::validity::valid_at;
+use arrays::{
+    Array, BoolBuilder, DataType, Field, IntBuilder, IntType, MOST_SLOTS, OffsetWidth, TextBuilder,
+};
+use colbits::{BitmapBuf, NoMemory};
+use json_scan::{ItemVisitor, Miss, Placed, pass_value, read_array};
+use std::alloc::Global;
+
+/// Adds a slot by the value that stands here, or after spaces, and gives the place behind it. Under a null the value is passed over, whatever it
+/// is.
+#[inline]
+fn push_slot<B: SlotBuilder>(
+    builder: &mut B,
+    valid: Option<bool>,
+    text: &str,
+    at: usize,
+    depth: usize,
+) -> Result<usize, Miss>
+    requires at { at ≤ length text.now }
+    requires room { length (B.items builder.old) < most_slots }
+    ensures kept { B.kind builder.new ≡ B.kind builder.old }
+    ensures ok { IfOk result (λ end. (d : Data) × SpellsAt depth (drop at text.now) d (drop end text.now)
+        × IsSlotAdded (spelling_of (B.kind builder.old)) valid d (B.items builder.old) (B.items builder.new)) }
+    ensures err { OnErr result (B.items builder.new ≡ B.items builder.old) }
+    ensures onward { IfOk result (λ end. at < end) }
+    ensures within { IfOk result (λ end. end ≤ length text.now) }
+{
+    match valid {
+        Some(true) => return builder.push_value(text, at),
+        Some(false) => {}
+        None => return Err(Miss::Unread),
+    }
+    let Some(end) = pass_value(text.as_bytes(), at, depth) else {
+        return Err(Miss::Unread);
+    };
+    match builder.push_null() {
+        Ok(()) => Ok(end),
+        Err(NoMemory) => Err(Miss::NoMemory),
+    }
+}
+
+/// The slots so far.
+#[derive(Drop)]
+struct Slots<'v, B: SlotBuilder> {
+    builder: B,
+    validity: &'v Option<BitmapBuf>,
+    count: usize,
+    ghost counted: { length (B.items builder) ≡ count },
+}
+
+impl<'v, B: SlotBuilder> ItemVisitor for Slots<'v, B> {
+    ghost use Rattle.std.specs.Prelude.{◌≡◌};
+    ghost use Rattle.json_read.specs.JsonColumn.{spelling_of};
+    ghost use Rattle.json_stream.specs.Slots.{AreSlots};
+
+    ghost holds = { λ text depth first ds now. (B.kind now.builder ≡ B.kind first.builder) × (now.validity ≡ first.validity)
+        × AreSlots (spelling_of (B.kind first.builder)) first.validity.now ds (B.items now.builder) };
+
+    #[inline]
+    fn visit(&mut self, text: &str, at: usize, depth: usize) -> Result<usize, Miss> {
+        if self.count >= MOST_SLOTS {
+            return Err(Miss::Unread);
+        }
+        let valid = valid_at(self.validity, self.count);
+        match push_slot(&mut self.builder, valid, text, at, depth) {
+            Ok(end) => {
+                self.count += 1;
+                Ok(end)
+            }
+            Err(miss) => Err(miss),
+        }
+    }
+}
+
+/// The array of the values that stand here, or after spaces, by a column that has none yet.
+fn read_slots<B: SlotBuilder>(
+    builder: B,
+    validity: &Option<BitmapBuf>,
+    text: &str,
+    at: usize,
+    depth: usize,
+) -> Result<Placed<Array>, Miss>
+    requires at { at ≤ length text.now }
+    requires empty { B.items builder ≡ [] }
+    requires plain { IsTrue (is_plain (B.kind builder)) }
+    ensures ok { IfOk result (λ r. (ds : List Data) × SpellsAt depth (drop at text.now) (array (before ds no_items)) (drop r.end text.now)
+        × HoldsSlots (B.kind builder) validity.now ds r.value) }
+    ensures onward { IfOk result (λ r. at < r.end) }
+    ensures within { IfOk result (λ r. r.end ≤ length text.now) }
+{
+    let mut slots = Slots {
+        builder,
+        validity,
+        count: 0,
+    };
+    let end = read_array(text, at, depth, &mut slots)?;
+    // An array has two brackets at least, but `read_array` doesn't say so.
+    if end <= at {
+        return Err(Miss::Unread);
+    }
+    match slots.builder.finish() {
+        Ok(array) => Ok(Placed { value: array, end }),
+        Err(NoMemory) => Err(Miss::NoMemory),
+    }
+}
+
+/// How many slots have a flag: so many are known to come.
+fn flagged(validity: &Option<BitmapBuf>) -> usize
+    ensures { result ≤ most_slots }
+{
+    match validity {
+        Some(bits) => bits.bits().len().min(MOST_SLOTS),
+        None => 0,
+    }
+}
+
+/// The same of integers.
+fn read_numbers(
+    alloc: Global,
+    ty: IntType,
+    validity: &Option<BitmapBuf>,
+    text: &str,
+    at: usize,
+    depth: usize,
+) -> Result<Placed<Array>, Miss>
+    requires { at ≤ length text.now }
+    ensures ok { IfOk result (λ r. (ds : List Data) × SpellsAt depth (drop at text.now) (array (before ds no_items)) (drop r.end text.now)
+        × HoldsSlots (kind.int ty) validity.now ds r.value) }
+    ensures onward { IfOk result (λ r. at < r.end) }
+    ensures within { IfOk result (λ r. r.end ≤ length text.now) }
+{
+    match IntBuilder::with_capacity(alloc, ty, flagged(validity)) {
+        Ok(builder) => read_slots(IntColumn { ty, builder }, validity, text, at, depth),
+        Err(NoMemory) => Err(Miss::NoMemory),
+    }
+}
+
+/// The same of truth values.
+fn read_truths(
+    alloc: Global,
+    validity: &Option<BitmapBuf>,
+    text: &str,
+    at: usize,
+    depth: usize,
+) -> Result<Placed<Array>, Miss>
+    requires { at ≤ length text.now }
+    ensures ok { IfOk result (λ r. (ds : List Data) × SpellsAt depth (drop at text.now) (array (before ds no_items)) (drop r.end text.now)
+        × HoldsSlots kind.boolean validity.now ds r.value) }
+    ensures onward { IfOk result (λ r. at < r.end) }
+    ensures within { IfOk result (λ r. r.end ≤ length text.now) }
+{
+    match BoolBuilder::with_capacity(alloc, flagged(validity)) {
+        Ok(builder) => read_slots(builder, validity, text, at, depth),
+        Err(NoMemory) => Err(Miss::NoMemory),
+    }
+}
+
+/// The same of texts with offsets of this width.
+fn read_texts(
+    alloc: Global,
+    width: OffsetWidth,
+    validity: &Option<BitmapBuf>,
+    text: &str,
+    at: usize,
+    depth: usize,
+) -> Result<Placed<Array>, Miss>
+    requires { at ≤ length text.now }
+    ensures ok { IfOk result (λ r. (ds : List Data) × SpellsAt depth (drop at text.now) (array (before ds no_items)) (drop r.end text.now)
+        × HoldsSlots (kind.texts width) validity.now ds r.value) }
+    ensures onward { IfOk result (λ r. at < r.end) }
+    ensures within { IfOk result (λ r. r.end ≤ length text.now) }
+{
+    let builder = match TextBuilder::with_capacity(alloc, width, flagged(validity), 0) {
+        Ok(builder) => builder,
+        Err(NoMemory) => return Err(Miss::NoMemory),
+    };
+    let buffer = Vec::new(alloc);
+    read_slots(TextColumn { builder, buffer }, validity, text, at, depth)
+}
+
+/// The values that stand here, or after spaces, as an array of the field's type. Columns of lists and of dictionaries aren't read.
+pub(crate) fn read_values(
+    alloc: Global,
+    field: &Field,
+    validity: &Option<BitmapBuf>,
+    text: &str,
+    at: usize,
+    depth: usize,
+) -> Result<Placed<Array>, Miss>
+    requires { at ≤ length text.now }
+    ensures ok { IfOk result (λ r. (ds : List Data) × SpellsAt depth (drop at text.now) (array (before ds no_items)) (drop r.end text.now)
+        × HoldsSlots (kind_of (out-Field field.now).ty) validity.now ds r.value) }
+    ensures onward { IfOk result (λ r. at < r.end) }
+    ensures within { IfOk result (λ r. r.end ≤ length text.now) }
+{
+    match &field.ty {
+        DataType::Int(ty) => read_numbers(alloc, *ty, validity, text, at, depth),
+        DataType::Bool => read_truths(alloc, validity, text, at, depth),
+        DataType::Utf8 => read_texts(alloc, OffsetWidth::Narrow, validity, text, at, depth),
+        DataType::LargeUtf8 => read_texts(alloc, OffsetWidth::Wide, validity, text, at, depth),
+        DataType::List(_) | DataType::LargeList(_) | DataType::Dict => Err(Miss::Unread),
+    }
+}
