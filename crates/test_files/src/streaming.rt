@@ -2,6 +2,7 @@
 
 use arrays::{Array, Field, Schema};
 use arrow_json::{read_field, read_file};
+use json_file::read_batches;
 use json_scan::Miss;
 use json_stream::{read_batch, read_column, read_columns};
 use std::alloc::Global;
@@ -49,8 +50,9 @@ fn expect(
         .as_str()
         .replace(alloc, "COLUMN", column)?;
     let file = read_file(alloc, file.as_bytes())?;
-    let columns = file.batches()[0].columns();
-    assert!(rt; shows(&columns[0].view(), shown), "{column} of a file");
+    let batch = file.batches().first().ok_or("no batch")?;
+    let whole = batch.columns().first().ok_or("no column")?;
+    assert!(rt; shows(&whole.view(), shown), "{column} of a file");
     Ok(())
 }
 
@@ -205,8 +207,10 @@ fn batches_are_read(rt: HostRuntime) -> Result<(), Fail> {
         .ok_or("not read")?;
     assert!(&rt; read.end == BATCH.len() && read.value.rows() == 2);
     let columns = read.value.columns();
-    assert!(&rt; shows(&columns[0].view(), Shown::Numbers(&[Some(1), None])));
-    assert!(&rt; shows(&columns[1].view(), Shown::Texts(&[Some("a"), Some("b")])));
+    let numbers = columns.first().ok_or("no numbers")?;
+    let texts = columns.get(1).ok_or("no texts")?;
+    assert!(&rt; shows(&numbers.view(), Shown::Numbers(&[Some(1), None])));
+    assert!(&rt; shows(&texts.view(), Shown::Texts(&[Some("a"), Some("b")])));
     let none = read_columns(alloc, schema.fields(), " []", 0, DEPTH)
         .ok()
         .ok_or("not read")?;
@@ -215,5 +219,24 @@ fn batches_are_read(rt: HostRuntime) -> Result<(), Fail> {
         let read = read_batch(alloc, &schema, *text, 0, DEPTH);
         assert!(&rt; matches!(read, Err(Miss::Unread)), "{text}");
     }
+    Ok(())
+}
+
+#[test]
+fn batches_share_their_schema(rt: HostRuntime) -> Result<(), Fail> {
+    let alloc = rt.alloc();
+    let schema = schema(alloc)?;
+    let text = format!(in alloc; "[{BATCH} , {BATCH}]")?;
+    let read = read_batches(alloc, &schema, text.as_str(), 0, DEPTH)
+        .ok()
+        .ok_or("not read")?;
+    assert!(&rt; read.end == text.len() && read.value.len() == 2);
+    for batch in &read.value {
+        let numbers = batch.columns().first().ok_or("no numbers")?;
+        assert!(&rt; shows(&numbers.view(), Shown::Numbers(&[Some(1), None])));
+    }
+    let text = format!(in alloc; "[{BATCH},{{}}]")?;
+    let read = read_batches(alloc, &schema, text.as_str(), 0, DEPTH);
+    assert!(&rt; matches!(read, Err(Miss::Unread)));
     Ok(())
 }
