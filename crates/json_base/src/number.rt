@@ -56,7 +56,7 @@ pub fn flag(value: &Value) -> Option<bool>
 
 /// The number that a text spells: an optional minus and one or more decimal digits, nothing else.
 /// It is none from 2^64 on, and so below 0.
-fn text_integer(text: &str) -> Option<i128>
+pub fn text_integer(text: &str) -> Option<i128>
     ensures { result ≡ option_and_then narrow (spelled text.now) }
 {
     match text.as_bytes() {

@@ -26,7 +26,7 @@ use std::sync::Arc;
 
 /// That a column is indices of this type into these texts.
 #[derive(Drop)]
-pub(crate) struct Coding {
+pub struct Coding {
     pub index: IntType,
     pub words: Arc<Words>,
 }

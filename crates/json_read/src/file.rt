@@ -100,6 +100,31 @@ fn read_under(
     Ok(File::new(schema, batches))
 }
 
+/// What a file says before its batches: its schema, and how the column of each field is encoded.
+#[derive(Drop)]
+pub struct FileHead {
+    pub schema: Arc<Schema>,
+    /// One for each field, none where its column isn't encoded.
+    pub catalog: Vec<Option<Coding>>,
+}
+
+/// Reads what a document says before its batches. Of the document it looks at `schema` and `dictionaries` alone.
+#[tactic(auto, using(crate::proofs::JsonFiles::file_faults))]
+pub fn read_head(alloc: Global, document: &Value) -> Result<FileHead, JsonFault>
+    ensures object { OnOk result (IsObject (view document.now)) }
+    ensures schema { IfOk result (λ h. HasSchema (view document.now) (arc_value h.schema)) }
+    ensures catalog { IfOk result (λ h. HasCatalog (view document.now) (map (option_map coding_of) h.catalog.items)) }
+    ensures err { IfErr result (Tells (FileFault (view document.now))) }
+{
+    check_object(alloc, document)?;
+    let read = file_schema(alloc, document)?;
+    let catalog = read_catalog(alloc, document, &read.encodings)?;
+    Ok(FileHead {
+        schema: read.schema,
+        catalog,
+    })
+}
+
 /// The file of a document.
 #[tactic(auto, using(crate::proofs::JsonFiles::file_faults))]
 fn read_document(alloc: Global, document: &Value) -> Result<File, JsonFault>
@@ -107,10 +132,8 @@ fn read_document(alloc: Global, document: &Value) -> Result<File, JsonFault>
     ensures ok { IfOk result (λ f. ReadsFile (view document.now) (file_of f)) }
     ensures err { IfErr result (Tells (FileFault (view document.now))) }
 {
-    check_object(alloc, document)?;
-    let read = file_schema(alloc, document)?;
-    let catalog = read_catalog(alloc, document, &read.encodings)?;
-    read_under(alloc, document, read.schema, &catalog)
+    let FileHead { schema, catalog } = read_head(alloc, document)?;
+    read_under(alloc, document, schema, &catalog)
 }
 
 /// The document that the bytes spell, which are let go of here.

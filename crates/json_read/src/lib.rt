@@ -15,5 +15,7 @@ mod place;
 mod schema;
 mod type_object;
 
+pub use catalog::Coding;
 pub use field::read_field;
-pub use file::{read_file, read_file_from_vec};
+pub use file::{FileHead, read_file, read_file_from_vec, read_head};
+pub use list::{offset_type, push_offset};

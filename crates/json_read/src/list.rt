@@ -127,7 +127,7 @@ fn read_validity(alloc: Global, parts: &ListParts, count: u32) -> Result<Option<
 }
 
 /// The type of offsets of this width.
-fn offset_type(width: OffsetWidth) -> IntType
+pub fn offset_type(width: OffsetWidth) -> IntType
     ensures { result ≡ offset_type width }
 {
     match width {
@@ -137,7 +137,7 @@ fn offset_type(width: OffsetWidth) -> IntType
 }
 
 /// Adds the bytes of an offset at the end, which may be negative: of that the layout tells. A refused growth changes nothing.
-fn push_offset(bytes: &mut Vec<u8>, width: OffsetWidth, offset: i128) -> Result<(), NoMemory>
+pub fn push_offset(bytes: &mut Vec<u8>, width: OffsetWidth, offset: i128) -> Result<(), NoMemory>
     requires { IsOfType (offset_type width) offset }
     ensures ok { OnOk result (bytes.new.items ≡ bytes.old.items ++ bytes_of_number (offset_type width) offset) }
     ensures err { OnErr result (bytes.new.items ≡ bytes.old.items) }
