@@ -4,3 +4,4 @@ pub mod Numbers
 pub mod Arrays
 pub mod Objects
 pub mod Strings
+pub mod Trees

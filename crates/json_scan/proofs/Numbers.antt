@@ -1,6 +1,7 @@
 -- The number that a word of a text writes.
-use Rattle.std.proofs.Common.{◌≡◌, ◌∙◌, ◌≢◌, ℕ, suc, ◌+◌, ◌-◌, ◌*◌, ◌^◌, ◌<◌, ◌≤◌, ◌==◌, Bool, true, false, cond, List, [], ◌∷◌, ◌++◌, length, take, drop, get_or, slice_range, Option, Some, None, option_map, option_and_then, refl, sym, ap, ap₂, subst, arith, append-nil}
+use Rattle.std.proofs.Common.{◌≡◌, ◌∙◌, ◌≢◌, ℕ, zero, suc, ◌+◌, ◌-◌, ◌*◌, ◌^◌, ◌<◌, ◌≤◌, ◌==◌, Bool, true, false, cond, List, [], ◌∷◌, ◌++◌, length, take, drop, get_or, slice_range, Option, Some, None, option_map, option_and_then, refl, sym, ap, ap₂, subst, arith, append-nil}
 use Rattle.std.proofs.lemmas.List.{drop_more, get_or_default, length-drop, length-take-le}
+use Rattle.std.proofs.lemmas.List.Folds.{drop_split}
 use Rattle.std.proofs.lemmas.Int.Digits.{digits_push, digits_value_push}
 use Rattle.std.proofs.lemmas.Bool.{ne_eqb, eq-eqb, eqb-true, lt-ltb, le-leb}
 use Rattle.std.proofs.lemmas.Bool.Decides.{nat_tests}
@@ -12,14 +13,16 @@ use Rattle.fast_float.proofs.Writing.{scan-text_of}
 use Rattle.json.specs.Token.{number}
 use Rattle.json.specs.Lex.{token, lex, between, in_word, class, other}
 use Rattle.json.specs.Word.{head, ends_word, after_minus, after_whole, after_fraction, after_exponent, after_number, number_before, word}
+use Rattle.json.specs.Print.{IsNumber}
+use Rattle.json.proofs.Printed.Numbers.{number_alone, lex-number}
 use Rattle.serde_json.specs.Data.{Num, unsigned, negative, float}
 use Rattle.serde_json.specs.Data as data_of
-use Rattle.serde_json.specs.Find.{as_integer}
-use Rattle.serde_json.specs.Read.{number_of, number_from}
+use Rattle.serde_json.specs.Find.{as_integer, of_integer}
+use Rattle.serde_json.specs.Read.{number_of, number_from, max_depth, read}
 use Rattle.json_scan.specs.Scalars.{begins_number}
 use Rattle.json_scan.specs.Spelling.{Spells}
 use Rattle.json_scan.proofs.Lexemes.{word_ended, slice_more}
-use Rattle.json_scan.proofs.Values.{token_spells}
+use Rattle.json_scan.proofs.Values.{token_spells, whole_document}
 
 -- ---- a number is one lexeme
 
@@ -114,6 +117,19 @@ pub finite_negative : (w : List ℕ) (p : Parts) → get_or w 0 32 ≡ 45 → p 
 unfolding number_of
 finite_negative w p first e f = let m = finite true p f in (m.0, rw (first_byte w ∙ eq-eqb _ _ first) (ap (number_from true) (sym e) ∙ m.1))
 
+-- ---- a number by itself
+
+nothing : lex between [] ≡ []
+unfolding lex
+nothing = refl
+
+pub word_alone : (d : List ℕ) (at end : ℕ) (n : Num) → at ≤ end → after_number (drop at d) ≡ Some (drop end d) → ends_word (drop end d) ≡ true → number_of (slice_range d at end) ≡ Some n → read (slice_range d at end) ≡ Some (data_of.number n)
+word_alone d at end n h e ends is =
+    let w = slice_range d at end in
+    let alone : IsNumber w = number_alone w (drop end d) ends (ap after_number (sym (drop_split d at end h)) ∙ e) in
+    let lexed : lex between w ≡ token (number w) ∷ lex between [] = ap (lex between) (sym (append-nil w)) ∙ lex-number w [] alone refl in
+    whole_document w [] (data_of.number n) (token_spells w [] (number w) (data_of.number n) lexed (ap (option_map data_of.number) is) max_depth) nothing
+
 -- ---- one more digit
 
 is_digit_value : (x : ℕ) → is_ascii_digit x ≡ true → digit_value x ≡ x - 48
@@ -139,6 +155,10 @@ slice_first d i end h within =
     let k : end - i ≡ suc (end - (i + 1)) = omega arith in
     ap (λ n. take n (drop i d)) k ∙ ap (take (suc (end - (i + 1)))) (drop_more d i 0 (omega arith))
 
+below_zero : (n : ℕ) → 0 < n → negative (with_sign true n) ≡ of_integer (with_sign true n)
+below_zero zero h = absurd (omega arith)
+below_zero (suc n) h = refl
+
 module _ (d : List ℕ) (at start first end n : ℕ) (same : lex between (drop start d) ≡ lex between (drop at d)) (minus : drop first d ≡ after_minus (drop start d)) (passed : lex in_word (drop first d) ≡ lex in_word (drop start d))
     (all : AllDigits 10 (slice_range d first end)) (value : n ≡ digits_value 10 (slice_range d first end)) (small : n < 2 ^ 64) (part : after_whole (drop first d) ≡ Some (drop end d)) (over : lex in_word (drop end d) ≡ lex in_word (drop first d))
     (some : first < end) (within : end ≤ length d) (ends : ends_word (drop end d) ≡ true) where
@@ -162,9 +182,9 @@ module _ (d : List ℕ) (at start first end n : ℕ) (same : lex between (drop s
 
   -- a 0 after a minus is none, and below -2^63 there is none
   pub integer_spells : (b : Bool) → (get_or d start 32 == 45) ≡ b → first ≡ cond (get_or d start 32 == 45) (start + 1) start → (b ≡ true → (0 < n) × (n ≤ 2 ^ 63))
-      → (m : Num) × (as_integer m ≡ Some (with_sign b n)) × Spells (drop at d) (data_of.number m) (drop end d)
+      → (m : Num) × (as_integer m ≡ Some (with_sign b n)) × Spells (drop at d) (data_of.number m) (drop end d) × (m ≡ of_integer (with_sign b n))
   integer_spells true e next range =
       let sign : first ≡ start + 1 = next ∙ ap (λ c. cond c (start + 1) start) e in
       let here : get_or d start 0 ≡ 45 = get_or_default d start 0 32 (omega arith) ∙ eqb-true (get_or d start 32) 45 e in
-      (negative (with_sign true n), refl, negative_spells here sign (range refl).0 (range refl).1)
-  integer_spells false e next range = (unsigned n, refl, positive_spells (sym (next ∙ ap (λ c. cond c (start + 1) start) e)))
+      (negative (with_sign true n), refl, negative_spells here sign (range refl).0 (range refl).1, below_zero n (range refl).0)
+  integer_spells false e next range = (unsigned n, refl, positive_spells (sym (next ∙ ap (λ c. cond c (start + 1) start) e)), refl)

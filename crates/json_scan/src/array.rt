@@ -36,6 +36,7 @@ fn read_items<V: ItemVisitor>(
     requires { start ≤ length text.now }
     ensures ok { IfOk result (λ end. (ds : List Data) × SpellsItems depth (drop start text.now) (before ds no_items) (drop end text.now)
         × (V.holds text.now depth visitor.old [] visitor.old → V.holds text.now depth visitor.old ds visitor.new)) }
+    ensures onward { IfOk result (λ end. start < end) }
     ensures within { IfOk result (λ end. end ≤ length text.now) }
 {
     let mut at = start;
@@ -63,6 +64,7 @@ pub fn read_array<V: ItemVisitor>(
     requires { at ≤ length text.now }
     ensures ok { IfOk result (λ end. (ds : List Data) × SpellsAt depth (drop at text.now) (array (before ds no_items)) (drop end text.now)
         × (V.holds text.now (depth - 1) visitor.old [] visitor.old → V.holds text.now (depth - 1) visitor.old ds visitor.new)) }
+    ensures onward { IfOk result (λ end. at < end) }
     ensures within { IfOk result (λ end. end ≤ length text.now) }
 {
     let bytes = text.as_bytes();
@@ -106,6 +108,7 @@ pub fn read_integers(
     requires { at ≤ length text.now }
     ensures ok { IfOk result (λ r. (ds : List Data) × SpellsAt depth (drop at text.now) (array (before ds no_items)) (drop r.end text.now)
         × AreIntegers ds r.value.items) }
+    ensures onward { IfOk result (λ r. at < r.end) }
     ensures within { IfOk result (λ r. r.end ≤ length text.now) }
 {
     let mut integers = Integers {

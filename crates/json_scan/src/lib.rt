@@ -12,6 +12,7 @@ mod number;
 mod object;
 mod space;
 mod text;
+mod tree;
 mod value;
 mod word;
 
@@ -23,4 +24,5 @@ pub use number::{pass_number, read_integer};
 pub use object::{MemberVisitor, find_member, read_object};
 pub use space::{Placed, after_space};
 pub use text::{read_key, read_plain_text, read_text};
+pub use tree::read_value;
 pub use value::pass_value;

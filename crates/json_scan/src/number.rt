@@ -8,8 +8,8 @@ ghost use Rattle.fast_float.specs.Text.{with_sign};
 ghost use Rattle.json.specs.Lex.{lex, in_word};
 ghost use Rattle.json.specs.Word.{after_minus, after_sign, after_digits, after_whole, after_fraction, after_exponent, after_number};
 ghost use Rattle.serde_json.specs.Data.{Num, Data, number};
-ghost use Rattle.serde_json.specs.Find.{as_integer};
-ghost use Rattle.serde_json.specs.Read.{number_of};
+ghost use Rattle.serde_json.specs.Find.{as_integer, of_integer};
+ghost use Rattle.serde_json.specs.Read.{number_of, read};
 ghost use Rattle.json_scan.specs.Scalars.{begins_number};
 ghost use Rattle.json_scan.specs.Spelling.{Spells};
 
@@ -157,6 +157,26 @@ pub(crate) fn begins_number(byte: u8) -> bool
     byte == b'-' || is_digit(byte)
 }
 
+/// The word of the number that stands here, or after spaces: by itself it is a text of that number.
+pub(crate) fn number_word<'t>(text: &'t [u8], at: usize) -> Option<Placed<&'t [u8]>>
+    requires { at ≤ length text.now }
+    ensures reads { IfSome result (λ r. (n : Num) × Spells (drop at text.now) (number n) (drop r.end text.now) × (read r.value.now ≡ Some (number n))) }
+    ensures onward { IfSome result (λ r. at < r.end) }
+    ensures within { IfSome result (λ r. r.end ≤ length text.now) }
+{
+    let start = after_space(text, at);
+    if !begins_number(byte_at(text, start)) {
+        return None;
+    }
+    let end = number_end(text, start)?;
+    let value = &text[start..end];
+    if end > start && ends_word(byte_at(text, end)) && is_finite(value) {
+        Some(Placed { value, end })
+    } else {
+        None
+    }
+}
+
 /// Where the number ends that stands here, or after spaces.
 pub fn pass_number(text: &[u8], at: usize) -> Option<usize>
     requires { at ≤ length text.now }
@@ -164,16 +184,8 @@ pub fn pass_number(text: &[u8], at: usize) -> Option<usize>
     ensures onward { IfSome result (λ end. at < end) }
     ensures within { IfSome result (λ end. end ≤ length text.now) }
 {
-    let start = after_space(text, at);
-    if !begins_number(byte_at(text, start)) {
-        return None;
-    }
-    let end = number_end(text, start)?;
-    if end > start && ends_word(byte_at(text, end)) && is_finite(&text[start..end]) {
-        Some(end)
-    } else {
-        None
-    }
+    let word = number_word(text, at)?;
+    Some(word.end)
 }
 
 /// The number that the digits which begin here write, if it is below 2^64.
@@ -233,7 +245,7 @@ fn signed(minus: bool, magnitude: u64) -> i128
 pub fn read_integer(text: &[u8], at: usize) -> Option<Placed<i128>>
     requires { at ≤ length text.now }
     ensures reads { IfSome result (λ r. (n : Num) × (as_integer n ≡ Some r.value)
-        × Spells (drop at text.now) (number n) (drop r.end text.now)) }
+        × Spells (drop at text.now) (number n) (drop r.end text.now) × (n ≡ of_integer r.value)) }
     ensures onward { IfSome result (λ r. at < r.end) }
     ensures within { IfSome result (λ r. r.end ≤ length text.now) }
 {

@@ -36,6 +36,7 @@ fn read_members<V: MemberVisitor>(
     requires { start ≤ length text.now }
     ensures ok { IfOk result (λ end. (ms : Members) × SpellsMembers depth (drop start text.now) no_members ms (drop end text.now)
         × (V.holds text.now depth visitor.old no_members visitor.old → V.holds text.now depth visitor.old ms visitor.new)) }
+    ensures onward { IfOk result (λ end. start < end) }
     ensures within { IfOk result (λ end. end ≤ length text.now) }
 {
     let mut at = start;
@@ -66,6 +67,7 @@ pub fn read_object<V: MemberVisitor>(
     requires { at ≤ length text.now }
     ensures ok { IfOk result (λ end. (ms : Members) × SpellsAt depth (drop at text.now) (object ms) (drop end text.now)
         × (V.holds text.now (depth - 1) visitor.old no_members visitor.old → V.holds text.now (depth - 1) visitor.old ms visitor.new)) }
+    ensures onward { IfOk result (λ end. at < end) }
     ensures within { IfOk result (λ end. end ≤ length text.now) }
 {
     let bytes = text.as_bytes();
@@ -111,6 +113,7 @@ pub fn find_member(
     requires { at ≤ length text.now }
     ensures ok { IfOk result (λ r. (ms : Members) × SpellsAt depth (drop at text.now) (object ms) (drop r.end text.now)
         × IsMemberAt (depth - 1) text.now name.now ms r.value) }
+    ensures onward { IfOk result (λ r. at < r.end) }
     ensures within { IfOk result (λ r. r.end ≤ length text.now) }
 {
     let mut member = MemberPlace { name, place: None };

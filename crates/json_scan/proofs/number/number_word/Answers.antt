@@ -4,9 +4,9 @@ use Rattle.json.specs.Token as token
 use Rattle.json.specs.Word.{is_operator, is_space, ends_word}
 use Rattle.serde_json.specs.Data.{number}
 use Rattle.json_scan.specs.Scalars.{begins_number}
-use Rattle.json_scan.proofs.Numbers.{number_lexed}
+use Rattle.json_scan.proofs.Numbers.{number_lexed, word_alone}
 use Rattle.json_scan.proofs.Values.{token_spells}
-use Rattle.json_scan.proofs.number.pass_number.Goals as goal
+use Rattle.json_scan.proofs.number.number_word.Goals as goal
 
 pub returns-then-is_finite-clause-reads : goal.returns-then-is_finite-clause-reads
 returns-then-is_finite-clause-reads c =
@@ -21,4 +21,5 @@ returns-then-is_finite-clause-reads c =
           (sym c.after_space-start.ensures.same
           ∙ number_lexed d start end within c.in_ok-end.ensures.within.1 (ap begins_number (get_or_default d start 0 32 within ∙ sym c.byte_at.ensures.value) ∙ sym c.if-not-begins_number.ensures) c.in_ok-end.ensures.part c.in_ok-end.ensures.word ends)
           (ap (option_map number) m.1),
+      word_alone d start end m.0 c.in_ok-end.ensures.within.0 c.in_ok-end.ensures.part ends m.1,
     )
