@@ -6,7 +6,7 @@ ghost use Rattle.reports.specs.Parsed.{AddsFiles, IsParsed, StopsParsing};
 use arrays::File;
 use colbits::NoMemory;
 use json_base::JsonFault;
-use json_read::read_file_from_vec;
+use json_file::read_file_from_vec;
 use reports::{RunFault, text_fault};
 use std::alloc::Global;
 use std::thread::{Threads, map_vec};

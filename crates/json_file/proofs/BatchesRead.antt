@@ -1,5 +1,5 @@
 -- Batches one after another.
-use Rattle.std.proofs.Common.{◌≡◌, ◌∙◌, ◌+◌, ◌<◌, List, [], ◌∷◌, ◌++◌, length, map, Some, sym, ap, subst, arith, length-append}
+use Rattle.std.proofs.Common.{◌≡◌, ◌∙◌, ◌+◌, ◌<◌, List, [], ◌∷◌, ◌++◌, length, map, Option, Some, sym, ap, subst, arith, length-append}
 use Rattle.std.proofs.lemmas.List.{map-append}
 use Rattle.std.proofs.lemmas.Option.{slice_get_within}
 use Rattle.arrays.specs.Batch.{Batch}
@@ -10,9 +10,9 @@ use Rattle.json_base.specs.JsonMember.{ReadsFirst}
 use Rattle.json_base.specs.JsonTable.{Table, table_of}
 use Rattle.json_base.proofs.JsonItems.{first_pushed, slice_get-front, slice_get-last}
 use Rattle.json_read.specs.JsonBatch.{ReadsBatch}
+use Rattle.json_read.specs.JsonCatalog.{Coding}
 use Rattle.json_read.proofs.JsonFiles.{AreUnder-push}
 use Rattle.json_scan.specs.Spelling.{before}
-use Rattle.json_stream.specs.Batch.{no_codings}
 use Rattle.json_stream.proofs.SlotLemmas.{get_item-before}
 use Rattle.json_file.specs.Batches.{AreBatches}
 
@@ -31,11 +31,11 @@ one_more R ds d xs x h r =
     let many : length ds + 1 ≡ length (ds ++ d ∷ []) = omega (arith, length-append ds (d ∷ [])) in
     subst (λ n. ReadsFirst R (before (ds ++ d ∷ []) no_items) n (xs ++ x ∷ [])) many (first_pushed R (before (ds ++ d ∷ []) no_items) (length ds) xs d x (first_kept R ds d xs h) at r)
 
-pub batches_more : (fields gs : List FieldShape) (ds : List Data) (d : Data) (old new : List Batch) (b : Batch) → gs ≡ fields → AreBatches fields ds old → b.fields ≡ gs → ReadsBatch gs (no_codings gs) d (table_of b)
-    → new ≡ old ++ b ∷ [] → AreBatches fields (ds ++ d ∷ []) new
-batches_more fields gs ds d old new b same h under reads grown =
-    let R : Data → Table → Type 0 = ReadsBatch fields (no_codings fields) in
-    let one : R d (table_of b) = subst (λ fs. ReadsBatch fs (no_codings fs) d (table_of b)) same reads in
+pub batches_more : (fields gs : List FieldShape) (catalog cs : List (Option Coding)) (ds : List Data) (d : Data) (old new : List Batch) (b : Batch) → gs ≡ fields → cs ≡ catalog → AreBatches fields catalog ds old
+    → b.fields ≡ gs → ReadsBatch gs cs d (table_of b) → new ≡ old ++ b ∷ [] → AreBatches fields catalog (ds ++ d ∷ []) new
+batches_more fields gs catalog cs ds d old new b same coded h under reads grown =
+    let R : Data → Table → Type 0 = ReadsBatch fields catalog in
+    let one : R d (table_of b) = subst (λ c. ReadsBatch fields c d (table_of b)) coded (subst (λ fs. ReadsBatch fs cs d (table_of b)) same reads) in
     let tables : map table_of new ≡ map table_of old ++ table_of b ∷ [] = ap (map table_of) grown ∙ map-append table_of old (b ∷ []) in
     record {
       read = subst (λ xs. ReadsFirst R (before (ds ++ d ∷ []) no_items) (length (ds ++ d ∷ [])) xs) (sym tables) (one_more R ds d (map table_of old) (table_of b) h.read one);

@@ -1,2 +1,4 @@
 -- What the proofs of this crate share.
 pub mod BatchesRead
+pub mod DocumentLemmas
+pub mod HeadLemmas

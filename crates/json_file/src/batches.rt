@@ -1,16 +1,17 @@
 //! The batches of a file.
 
-ghost use Rattle.std.specs.Prelude.{◌≡◌, ◌<◌, ◌≤◌, ◌∷◌, ◌++◌, List, [], length, drop, map, IfOk, OnOk};
+ghost use Rattle.std.specs.Prelude.{◌≡◌, ◌<◌, ◌≤◌, ◌∷◌, ◌++◌, List, [], length, drop, map, option_map, IfOk, OnOk};
 ghost use Rattle.std.specs.Arc.{arc_value};
 ghost use Rattle.serde_json.specs.Data.{Data, array, no_items};
 ghost use Rattle.json_base.specs.JsonTable.{table_of};
+ghost use Rattle.json_read.specs.CatalogParts.{coding_of};
 ghost use Rattle.json_read.specs.JsonBatch.{ReadsBatch};
 ghost use Rattle.json_scan.specs.Spelling.{SpellsAt, before};
-ghost use Rattle.json_stream.specs.Batch.{no_codings};
 ghost use Rattle.json_file.specs.Batches.{AreBatches};
 
 use arrays::{RecordBatch, Schema};
 use colbits::NoMemory;
+use json_read::Coding;
 use json_scan::{ItemVisitor, Miss, Placed, read_array};
 use json_stream::read_batch;
 use std::alloc::Global;
@@ -20,6 +21,7 @@ use std::sync::Arc;
 fn read_shared(
     alloc: Global,
     schema: &Arc<Schema>,
+    catalog: &[Option<Coding>],
     text: &str,
     at: usize,
     depth: usize,
@@ -27,11 +29,11 @@ fn read_shared(
     requires { at ≤ length text.now }
     ensures fields { IfOk result (λ r. (arc_value r.value).fields ≡ arc_value schema.now) }
     ensures ok { IfOk result (λ r. (d : Data) × SpellsAt depth (drop at text.now) d (drop r.end text.now)
-        × ReadsBatch (arc_value schema.now) (no_codings (arc_value schema.now)) d (table_of (arc_value r.value))) }
+        × ReadsBatch (arc_value schema.now) (map (option_map coding_of) catalog.now) d (table_of (arc_value r.value))) }
     ensures onward { IfOk result (λ r. at < r.end) }
     ensures within { IfOk result (λ r. r.end ≤ length text.now) }
 {
-    let batch = match read_batch(alloc, schema, text, at, depth) {
+    let batch = match read_batch(alloc, schema, catalog, text, at, depth) {
         Ok(batch) => batch,
         Err(miss) => return Err(miss),
     };
@@ -56,19 +58,21 @@ fn push(batches: &mut Vec<Arc<RecordBatch>>, batch: Arc<RecordBatch>) -> Result<
 struct Batches<'s> {
     alloc: Global,
     schema: &'s Arc<Schema>,
+    catalog: &'s [Option<Coding>],
     batches: Vec<Arc<RecordBatch>>,
 }
 
 impl ItemVisitor for Batches<'_> {
-    ghost use Rattle.std.specs.Prelude.{◌≡◌, map};
+    ghost use Rattle.std.specs.Prelude.{◌≡◌, map, option_map};
     ghost use Rattle.std.specs.Arc.{arc_value};
+    ghost use Rattle.json_read.specs.CatalogParts.{coding_of};
     ghost use Rattle.json_file.specs.Batches.{AreBatches};
 
-    ghost holds = { λ text depth first ds now. (now.schema ≡ first.schema)
-        × AreBatches (arc_value first.schema.now) ds (map arc_value now.batches.items) };
+    ghost holds = { λ text depth first ds now. (now.schema ≡ first.schema) × (now.catalog ≡ first.catalog)
+        × AreBatches (arc_value first.schema.now) (map (option_map coding_of) first.catalog.now) ds (map arc_value now.batches.items) };
 
     fn visit(&mut self, text: &str, at: usize, depth: usize) -> Result<usize, Miss> {
-        let batch = match read_shared(self.alloc, self.schema, text, at, depth) {
+        let batch = match read_shared(self.alloc, self.schema, self.catalog, text, at, depth) {
             Ok(batch) => batch,
             Err(miss) => return Err(miss),
         };
@@ -79,30 +83,28 @@ impl ItemVisitor for Batches<'_> {
     }
 }
 
-/// The batches that stand here, or after spaces, each under the schema, which they share. Where a field is a list or encoded, none is read.
+/// The batches that stand here, or after spaces, each under the schema, which they share. How the column of each field is encoded, the catalog says.
 pub fn read_batches(
     alloc: Global,
     schema: &Arc<Schema>,
+    catalog: &[Option<Coding>],
     text: &str,
     at: usize,
     depth: usize,
 ) -> Result<Placed<Vec<Arc<RecordBatch>>>, Miss>
     requires { at ≤ length text.now }
     ensures ok { IfOk result (λ r. (ds : List Data) × SpellsAt depth (drop at text.now) (array (before ds no_items)) (drop r.end text.now)
-        × AreBatches (arc_value schema.now) ds (map arc_value r.value.items)) }
+        × AreBatches (arc_value schema.now) (map (option_map coding_of) catalog.now) ds (map arc_value r.value.items)) }
     ensures onward { IfOk result (λ r. at < r.end) }
     ensures within { IfOk result (λ r. r.end ≤ length text.now) }
 {
     let mut batches = Batches {
         alloc,
         schema,
+        catalog,
         batches: Vec::new(alloc),
     };
     let end = read_array(text, at, depth, &mut batches)?;
-    // An array has two brackets at least, but `read_array` doesn't say so.
-    if end <= at {
-        return Err(Miss::Unread);
-    }
     let Batches { batches, .. } = batches;
     Ok(Placed {
         value: batches,

@@ -1,6 +1,12 @@
-//! The batches of Arrow's JSON integration files read straight from the bytes of the text, with no tree in between.
+//! Arrow's JSON integration files read straight from the bytes of the text, with no tree of their batches in between. What isn't read so,
+//! `json_read` reads, which tells what is at fault.
 #![tactic(auto)]
 
 mod batches;
+mod document;
+mod file;
+mod head;
 
 pub use batches::read_batches;
+pub use document::read_text;
+pub use file::{read_file, read_file_from_vec};

@@ -1,5 +1,5 @@
 -- Columns one after another, and the batch that they make.
-use Rattle.std.proofs.Common.{◌≡◌, ◌∙◌, ℕ, ◌<◌, List, [], ◌∷◌, ◌++◌, length, get_or, Some, refl, sym, ap, subst, arith, length-append, below_more}
+use Rattle.std.proofs.Common.{◌≡◌, ◌∙◌, ℕ, ◌<◌, List, [], ◌∷◌, ◌++◌, length, get_or, map, Option, Some, option_map, refl, sym, ap, subst, arith, length-append, below_more}
 use Rattle.std.specs.List.{slice_get}
 use Rattle.std.proofs.lemmas.Option.{slice_get_within}
 use Rattle.types.specs.declared.data_type.Field.{Field, out-Field}
@@ -9,36 +9,54 @@ use Rattle.arrays.specs.Seen.{Seen}
 use Rattle.arrays.specs.Shape.{FieldShape, field_of, fields_of, kind_of_field}
 use Rattle.serde_json.specs.Data.{Data}
 use Rattle.json_base.proofs.JsonItems.{slice_get-front, slice_get-last}
-use Rattle.json_read.specs.JsonBatch.{HoldsColumn}
-use Rattle.json_read.proofs.JsonBatches.{field_at}
+use Rattle.json_read.specs.CatalogParts.{coding_of}
+use Rattle.json_read.specs.JsonBatch.{HoldsTop}
+use Rattle.json_read.specs.JsonCatalog.{Coding}
+use Rattle.json_read.specs.declared.catalog.Coding as reader
+use Rattle.json_read.proofs.JsonBatches.{field_at, coding_at}
 use Rattle.json_stream.specs.Columns.{AreColumns}
 
-pub no_columns : (fields : List FieldShape) (columns : List Seen) → columns ≡ [] → AreColumns fields [] columns
-no_columns fields columns none = subst (λ cs. AreColumns fields [] cs) (sym none) record { len = refl; each = λ i f d s field found got. absurd cc }
+pub no_columns : (fields : List FieldShape) (catalog : List (Option Coding)) (columns : List Seen) → columns ≡ [] → AreColumns fields catalog [] columns
+no_columns fields catalog columns none =
+    subst (λ cs. AreColumns fields catalog [] cs) (sym none) record { len = refl; within = omega arith; each = λ i f c d s field coding found got. absurd cc }
 
-moved : (f g : FieldShape) (d e : Data) (s t : Seen) → HoldsColumn (kind_of_field f) (length s.items) d s → Some f ≡ Some g → Some d ≡ Some e → Some s ≡ Some t → HoldsColumn (kind_of_field g) (length t.items) e t
-moved f g d e s t h p q r =
-    let a : f ≡ g = cc in
-    let b : d ≡ e = cc in
-    let c : s ≡ t = cc in
-    subst (λ x. HoldsColumn (kind_of_field x) (length t.items) e t) a (subst (λ x. HoldsColumn (kind_of_field f) (length t.items) x t) b (subst (λ x. HoldsColumn (kind_of_field f) (length x.items) d x) c h))
+-- the same columns by another name of the fields and of the catalog
+pub columns_known : (fields gs : List FieldShape) (catalog cs : List (Option Coding)) (ds : List Data) (columns : List Seen) → fields ≡ gs → catalog ≡ cs → AreColumns fields catalog ds columns → AreColumns gs cs ds columns
+columns_known fields gs catalog cs ds columns same coded h = subst (λ c. AreColumns gs c ds columns) coded (subst (λ fs. AreColumns fs catalog ds columns) same h)
 
-columns_more : (fields : List FieldShape) (ds : List Data) (columns : List Seen) (f : FieldShape) (d : Data) (s : Seen) → AreColumns fields ds columns → slice_get fields (length ds) ≡ Some f
-    → HoldsColumn (kind_of_field f) (length s.items) d s → AreColumns fields (ds ++ d ∷ []) (columns ++ s ∷ [])
-columns_more fields ds columns f d s h at column = record {
+moved : (f g : FieldShape) (b c : Option Coding) (d e : Data) (s t : Seen) → HoldsTop (kind_of_field f) b (length s.items) d s → Some f ≡ Some g → Some b ≡ Some c → Some d ≡ Some e → Some s ≡ Some t
+    → HoldsTop (kind_of_field g) c (length t.items) e t
+moved f g b c d e s t h p q r u =
+    let to_g : f ≡ g = cc in
+    let to_c : b ≡ c = cc in
+    let to_e : d ≡ e = cc in
+    let to_t : s ≡ t = cc in
+    subst (λ x. HoldsTop (kind_of_field x) c (length t.items) e t) to_g
+    (subst (λ x. HoldsTop (kind_of_field f) x (length t.items) e t) to_c (subst (λ x. HoldsTop (kind_of_field f) b (length t.items) x t) to_e (subst (λ x. HoldsTop (kind_of_field f) b (length x.items) d x) to_t h)))
+
+columns_more : (fields : List FieldShape) (catalog : List (Option Coding)) (ds : List Data) (columns : List Seen) (f : FieldShape) (b : Option Coding) (d : Data) (s : Seen) → AreColumns fields catalog ds columns
+    → slice_get fields (length ds) ≡ Some f → slice_get catalog (length ds) ≡ Some b → HoldsTop (kind_of_field f) b (length s.items) d s → AreColumns fields catalog (ds ++ d ∷ []) (columns ++ s ∷ [])
+columns_more fields catalog ds columns f b d s h at_field at_coding column = record {
   len = omega (arith, length-append columns (s ∷ []), length-append ds (d ∷ []), h.len);
-  each = λ i g e t field found got.
+  within = omega (arith, length-append ds (d ∷ []), slice_get_within catalog (length ds) b at_coding);
+  each = λ i g c e t field coding found got.
       below_more
-      (λ k. (g : FieldShape) (e : Data) (t : Seen) → slice_get fields k ≡ Some g → slice_get (ds ++ d ∷ []) k ≡ Some e → slice_get (columns ++ s ∷ []) k ≡ Some t → HoldsColumn (kind_of_field g) (length t.items) e t)
+      (λ k. (g : FieldShape) (c : Option Coding) (e : Data) (t : Seen) → slice_get fields k ≡ Some g → slice_get catalog k ≡ Some c → slice_get (ds ++ d ∷ []) k ≡ Some e → slice_get (columns ++ s ∷ []) k ≡ Some t
+      → HoldsTop (kind_of_field g) c (length t.items) e t)
       (length ds)
-      (λ k within g e t field found got. h.each k g e t field (sym (slice_get-front ds (d ∷ []) k within) ∙ found) (sym (slice_get-front columns (s ∷ []) k (omega (arith, h.len))) ∙ got))
-      (λ g e t field found got. moved f g d e s t column (sym at ∙ field) (sym (slice_get-last ds d) ∙ found) (sym (slice_get-last columns s) ∙ (ap (slice_get (columns ++ s ∷ [])) h.len ∙ got)))
-      i (omega (arith, slice_get_within (ds ++ d ∷ []) i e found, length-append ds (d ∷ []))) g e t field found got;
+      (λ k within g c e t field coding found got. h.each k g c e t field coding (sym (slice_get-front ds (d ∷ []) k within) ∙ found) (sym (slice_get-front columns (s ∷ []) k (omega (arith, h.len))) ∙ got))
+      (λ g c e t field coding found got. moved f g b c d e s t column (sym at_field ∙ field) (sym at_coding ∙ coding) (sym (slice_get-last ds d) ∙ found)
+      (sym (slice_get-last columns s) ∙ (ap (slice_get (columns ++ s ∷ [])) h.len ∙ got)))
+      i (omega (arith, slice_get_within (ds ++ d ∷ []) i e found, length-append ds (d ∷ []))) g c e t field coding found got;
 }
 
 -- the column of the field behind those before it
-pub column_taken : (fs : List Field) (ds : List Data) (columns : List Seen) (n : ℕ) (f : Field) (d : Data) (s : Seen) → AreColumns (fields_of fs) ds columns → n ≡ length columns → n < length fs → f ≡ get_or fs n f
-    → HoldsColumn (kind_of (out-Field f).ty) (length s.items) d s → AreColumns (fields_of fs) (ds ++ d ∷ []) (columns ++ s ∷ [])
-column_taken fs ds columns n f d s h many within is column =
-    let at : slice_get (fields_of fs) (length ds) ≡ Some (field_of f) = ap (slice_get (fields_of fs)) (sym (many ∙ h.len)) ∙ field_at fs n f within is in
-    columns_more (fields_of fs) ds columns (field_of f) d s h at (subst (λ k. HoldsColumn k (length s.items) d s) (sym (kind_of_field-field_of f)) column)
+pub column_taken : (fs : List Field) (cs : List (Option reader.Coding)) (ds : List Data) (columns : List Seen) (n : ℕ) (f : Field) (b : Option reader.Coding) (d : Data) (s : Seen)
+    → AreColumns (fields_of fs) (map (option_map coding_of) cs) ds columns → n ≡ length columns → n < length fs → f ≡ get_or fs n f → n < length cs → b ≡ get_or cs n b
+    → HoldsTop (kind_of (out-Field f).ty) (option_map coding_of b) (length s.items) d s → AreColumns (fields_of fs) (map (option_map coding_of) cs) (ds ++ d ∷ []) (columns ++ s ∷ [])
+column_taken fs cs ds columns n f b d s h many at_field is_field at_coding is_coding column =
+    let here = sym (many ∙ h.len) in
+    let field : slice_get (fields_of fs) (length ds) ≡ Some (field_of f) = ap (slice_get (fields_of fs)) here ∙ field_at fs n f at_field is_field in
+    let coding : slice_get (map (option_map coding_of) cs) (length ds) ≡ Some (option_map coding_of b) = ap (slice_get (map (option_map coding_of) cs)) here ∙ coding_at cs n b at_coding is_coding in
+    columns_more (fields_of fs) (map (option_map coding_of) cs) ds columns (field_of f) (option_map coding_of b) d s h field coding
+    (subst (λ k. HoldsTop k (option_map coding_of b) (length s.items) d s) (sym (kind_of_field-field_of f)) column)

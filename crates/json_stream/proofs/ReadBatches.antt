@@ -1,5 +1,5 @@
 -- The members of a batch one after another, and the batch that they make.
-use Rattle.std.proofs.Common.{◌≡◌, ◌≢◌, ◌∙◌, ℕ, zero, suc, ◌≤◌, ◌==◌, nat_lt, List, [], ◌∷◌, length, map, true, false, not, Option, Some, None, option_map, option_and_then, Vec, Global, refl, sym, ap, subst, arith}
+use Rattle.std.proofs.Common.{◌≡◌, ◌≢◌, ◌∙◌, ℕ, zero, suc, ◌<◌, ◌≤◌, ◌==◌, nat_lt, List, [], ◌∷◌, length, map, true, false, not, Option, Some, None, option_map, option_and_then, Vec, Global, refl, sym, ap, subst, arith}
 use Rattle.std.specs.List.{slice_get, zip, All}
 use Rattle.std.proofs.lemmas.List.{length-map}
 use Rattle.std.proofs.lemmas.Option.{slice_get-map, slice_get_within, get_or_from_slice_get}
@@ -17,13 +17,13 @@ use Rattle.json_base.specs.JsonPath.{member_name}
 use Rattle.json_base.specs.JsonTable.{table_of}
 use Rattle.json_base.specs.declared.path.Member.TheVariants as member
 use Rattle.json_base.proofs.MemberLaws.{slice_get_some}
-use Rattle.json_read.specs.JsonBatch.{ReadsColumn, ReadsTop, ReadsColumns, ReadsBatch}
+use Rattle.json_read.specs.JsonBatch.{ReadsTop, ReadsColumns, ReadsBatch}
 use Rattle.json_read.specs.JsonCatalog.{Coding}
 use Rattle.json_read.proofs.JsonSchemas.{position-none}
 use Rattle.json_scan.specs.Spelling.{before}
 use Rattle.json_stream.specs.Column.{IsCount}
 use Rattle.json_stream.specs.Columns.{AreColumns}
-use Rattle.json_stream.specs.Batch.{no_codings, IsColumns, HoldsBatch}
+use Rattle.json_stream.specs.Batch.{IsColumns, HoldsBatch}
 use Rattle.json_stream.specs.declared.batch.BatchParts.{BatchParts}
 use Rattle.json_stream.proofs.SlotLemmas.{items_len-before, get_item-before}
 use Rattle.json_stream.proofs.ColumnLemmas.{here, there, no_member}
@@ -33,20 +33,20 @@ use Rattle.json_stream.proofs.ColumnLemmas.{here, there, no_member}
 count_apart_columns : member_name member.Count ≢ member_name member.Columns
 count_apart_columns e = absurd cc
 
-module _ (fields : List FieldShape) (name : List ℕ) (d : Data) (ms : Members) (p : BatchParts) (h : HoldsBatch fields ms p) where
+module _ (fields : List FieldShape) (catalog : List (Option Coding)) (name : List ℕ) (d : Data) (ms : Members) (p : BatchParts) (h : HoldsBatch fields catalog ms p) where
   same_count : name ≢ member_name member.Count → IsCount (get_member (member_name member.Count) (put name d ms)) p.count
   same_count apart = subst (λ o. IsCount o p.count) (sym (there member.Count name d ms apart)) h.count
 
-  same_columns : name ≢ member_name member.Columns → IsColumns fields (get_member (member_name member.Columns) (put name d ms)) (option_map (λ v. v.items) p.columns)
-  same_columns apart = subst (λ o. IsColumns fields o (option_map (λ v. v.items) p.columns)) (sym (there member.Columns name d ms apart)) h.columns
+  same_columns : name ≢ member_name member.Columns → IsColumns fields catalog (get_member (member_name member.Columns) (put name d ms)) (option_map (λ v. v.items) p.columns)
+  same_columns apart = subst (λ o. IsColumns fields catalog o (option_map (λ v. v.items) p.columns)) (sym (there member.Columns name d ms apart)) h.columns
 
-  pub rows_taken : (n : ℕ) → name ≡ member_name member.Count → count_of d ≡ Some n → HoldsBatch fields (put name d ms) (record p { count = Some n })
+  pub rows_taken : (n : ℕ) → name ≡ member_name member.Count → count_of d ≡ Some n → HoldsBatch fields catalog (put name d ms) (record p { count = Some n })
   rows_taken n e is = record { count = ap (option_and_then count_of) (here member.Count name d ms e) ∙ is; columns = same_columns (no_member member.Count member.Columns name e count_apart_columns) }
 
-  pub columns_taken : (v : Vec Seen Global) (ds : List Data) → name ≡ member_name member.Columns → d ≡ array (before ds no_items) → AreColumns fields ds v.items → HoldsBatch fields (put name d ms) (record p { columns = Some v })
+  pub columns_taken : (v : Vec Seen Global) (ds : List Data) → name ≡ member_name member.Columns → d ≡ array (before ds no_items) → AreColumns fields catalog ds v.items → HoldsBatch fields catalog (put name d ms) (record p { columns = Some v })
   columns_taken v ds e is columns = record { count = same_count (λ f. count_apart_columns (sym f ∙ e)); columns = (ds, here member.Columns name d ms e ∙ ap Some is, columns) }
 
-  pub other_passed : name ≢ member_name member.Count → name ≢ member_name member.Columns → HoldsBatch fields (put name d ms) p
+  pub other_passed : name ≢ member_name member.Count → name ≢ member_name member.Columns → HoldsBatch fields catalog (put name d ms) p
   other_passed no_count no_columns = record { count = same_count no_count; columns = same_columns no_columns }
 
 -- ---- the batch is lawful
@@ -62,15 +62,17 @@ both_at (x ∷ xs) (y ∷ ys) (suc i) p h = both_at xs ys i p h
 length_at : (columns : List Seen) (rows : ℕ) (i : ℕ) (s : Seen) → All (λ s. length s.items ≡ rows) columns → slice_get columns i ≡ Some s → length s.items ≡ rows
 length_at columns rows i s even at = sym (ap (λ (t : Seen). length t.items) (get_or_from_slice_get columns i s s at)) ∙ even i s (slice_get_within columns i s at)
 
-pub lawful_batch : (fields : List FieldShape) (ds : List Data) (columns : List Seen) (rows : ℕ) → AreColumns fields ds columns → length columns ≡ length fields → All (λ s. length s.items ≡ rows) columns → rows ≤ 2147483647
+pub lawful_batch : (fields : List FieldShape) (catalog : List (Option Coding)) (ds : List Data) (columns : List Seen) (rows : ℕ) → AreColumns fields catalog ds columns → length columns ≡ length fields → All (λ s. length s.items ≡ rows) columns → rows ≤ 2147483647
     → batch_fault fields rows columns ≡ None
-lawful_batch fields ds columns rows h len even small =
+lawful_batch fields catalog ds columns rows h len even small =
     let types : differing_type fields columns ≡ None =
     position-none (λ p. not (same_kind p.0.kind (kind_of_field p.1))) (zip columns fields)
     (λ i p at.
     let both = both_at columns fields i p at in
-    let d = slice_get_some ds i (omega (arith, slice_get_within columns i p.0 both.0, h.len)) in
-    ap (λ k. not (same_kind k (kind_of_field p.1))) (h.each i p.1 d.0 p.0 both.1 d.1 both.0).kind ∙ ap not (same_kind-refl (kind_of_field p.1))) in
+    let within : i < length ds = omega (arith, slice_get_within columns i p.0 both.0, h.len) in
+    let d = slice_get_some ds i within in
+    let c = slice_get_some catalog i (omega (arith, within, h.within)) in
+    ap (λ k. not (same_kind k (kind_of_field p.1))) (h.each i p.1 c.0 d.0 p.0 both.1 c.1 d.1 both.0).kind ∙ ap not (same_kind-refl (kind_of_field p.1))) in
     let lengths : differing_length rows columns ≡ None = position-none (λ s. not (length s.items == rows)) columns (λ i s at. ap not (eq-eqb (length s.items) rows (length_at columns rows i s even at))) in
     let count : (length columns == length fields) ≡ true = eq-eqb (length columns) (length fields) len in
     let short : nat_lt 2147483647 rows ≡ false = grind (arith, nat_tests) in
@@ -82,34 +84,29 @@ some_under : {A B : Type 0} (f : A → B) (o : Option A) (y : B) → option_map 
 some_under f None y h = absurd cc
 some_under f (Some x) y h = (x, refl, cc)
 
-not_coded : (fields : List FieldShape) (i : ℕ) (f : FieldShape) (c : Option Coding) → slice_get fields i ≡ Some f → slice_get (no_codings fields) i ≡ Some c → None ≡ c
-not_coded fields i f c field coding =
-    let e : Some None ≡ Some c = sym (ap (option_map (λ _. None)) field) ∙ (sym (slice_get-map (λ _. None) fields i) ∙ coding) in
-    cc
-
-pub columns_read : (fields : List FieldShape) (ds : List Data) (columns : List Seen) (rows : ℕ) → AreColumns fields ds columns → length columns ≡ length fields → All (λ s. length s.items ≡ rows) columns
-    → ReadsColumns fields (no_codings fields) rows (before ds no_items) (length fields) (map (λ s. s.items) columns)
-columns_read fields ds columns rows h len even = record {
+pub columns_read : (fields : List FieldShape) (catalog : List (Option Coding)) (ds : List Data) (columns : List Seen) (rows : ℕ) → AreColumns fields catalog ds columns → length columns ≡ length fields → All (λ s. length s.items ≡ rows) columns
+    → ReadsColumns fields catalog rows (before ds no_items) (length fields) (map (λ s. s.items) columns)
+columns_read fields catalog ds columns rows h len even = record {
   len = length-map columns _ ∙ len;
   each = λ i f c d items field coding found got.
       let s = some_under (λ (s : Seen). s.items) (slice_get columns i) items (sym (slice_get-map (λ s. s.items) columns i) ∙ got) in
-      let column = h.each i f d s.0 field (sym (get_item-before ds i) ∙ found) s.1 in
-      let read : ReadsColumn (kind_of_field f) rows d s.0.items = subst (λ n. ReadsColumn (kind_of_field f) n d s.0.items) (length_at columns rows i s.0 even s.1) column.reads in
-      subst (λ xs. ReadsTop (kind_of_field f) c rows d xs) s.2 (subst (λ b. ReadsTop (kind_of_field f) b rows d s.0.items) (not_coded fields i f c field coding) read);
+      let column = h.each i f c d s.0 field coding (sym (get_item-before ds i) ∙ found) s.1 in
+      let read : ReadsTop (kind_of_field f) c rows d s.0.items = subst (λ n. ReadsTop (kind_of_field f) c n d s.0.items) (length_at columns rows i s.0 even s.1) column.reads in
+      subst (λ xs. ReadsTop (kind_of_field f) c rows d xs) s.2 read;
 }
 
-pub batch_read : (fields gs : List FieldShape) (ms : Members) (p : BatchParts) (rows : ℕ) (v : Vec Seen Global) (b : Batch) → gs ≡ fields → HoldsBatch gs ms p → p.count ≡ Some rows → p.columns ≡ Some v
-    → b.rows ≡ rows → b.columns ≡ v.items → length b.columns ≡ length fields → All (λ (s : Seen). length s.items ≡ rows) b.columns → ReadsBatch fields (no_codings fields) (object ms) (table_of b)
-batch_read fields gs ms p rows v b same h count is at_rows at_columns len even =
-    let held = subst (λ fs. HoldsBatch fs ms p) same h in
+pub batch_read : (fields gs : List FieldShape) (catalog : List (Option Coding)) (ms : Members) (p : BatchParts) (rows : ℕ) (v : Vec Seen Global) (b : Batch) → gs ≡ fields → HoldsBatch gs catalog ms p → p.count ≡ Some rows → p.columns ≡ Some v
+    → b.rows ≡ rows → b.columns ≡ v.items → length b.columns ≡ length fields → All (λ (s : Seen). length s.items ≡ rows) b.columns → ReadsBatch fields catalog (object ms) (table_of b)
+batch_read fields gs catalog ms p rows v b same h count is at_rows at_columns len even =
+    let held = subst (λ fs. HoldsBatch fs catalog ms p) same h in
     let counted = subst (IsCount (get_member (member_name member.Count) ms)) count held.count in
-    let columns = subst (λ o. IsColumns fields (get_member (member_name member.Columns) ms) (option_map (λ w. w.items) o)) is held.columns in
+    let columns = subst (λ o. IsColumns fields catalog (get_member (member_name member.Columns) ms) (option_map (λ w. w.items) o)) is held.columns in
     let ds = columns.0 in
-    let are : AreColumns fields ds b.columns = subst (AreColumns fields ds) (sym at_columns) columns.2 in
+    let are : AreColumns fields catalog ds b.columns = subst (AreColumns fields catalog ds) (sym at_columns) columns.2 in
     record {
       count = counted ∙ ap Some (sym at_rows);
       found = before ds no_items;
       listed = ap (option_and_then as_array) columns.1;
       whole = items_len-before ds ∙ (sym are.len ∙ len);
-      columns = subst (λ n. ReadsColumns fields (no_codings fields) n (before ds no_items) (length fields) (map (λ (s : Seen). s.items) b.columns)) (sym at_rows) (columns_read fields ds b.columns rows are len even);
+      columns = subst (λ n. ReadsColumns fields catalog n (before ds no_items) (length fields) (map (λ (s : Seen). s.items) b.columns)) (sym at_rows) (columns_read fields catalog ds b.columns rows are len even);
     }

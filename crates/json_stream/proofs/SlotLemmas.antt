@@ -1,14 +1,14 @@
 -- Slots one after another.
-use Rattle.std.proofs.Common.{◌≡◌, ◌∙◌, ℕ, zero, suc, ◌+◌, ◌<◌, List, [], ◌∷◌, ◌++◌, length, Bool, false, Option, refl, sym, ap, ap₂, subst, arith, length-append, below_more}
+use Rattle.std.proofs.Common.{◌≡◌, ◌∙◌, ℕ, zero, suc, ◌+◌, ◌<◌, List, [], ◌∷◌, ◌++◌, length, Bool, false, Option, Some, None, refl, sym, ap, ap₂, subst, arith, length-append, below_more}
 use Rattle.std.specs.List.{slice_get}
+use Rattle.types.specs.declared.offset_width.OffsetWidth.{OffsetWidth}
 use Rattle.types.specs.declared.offset_width.OffsetWidth.TheVariants.{Narrow, Wide}
 use Rattle.arrays.specs.Item.{Item}
-use Rattle.arrays.specs.Kind.{Kind, int, boolean, texts, lists, dict}
 use Rattle.serde_json.specs.Data.{Data, Items, no_items}
 use Rattle.serde_json.specs.Find.{get_item}
 use Rattle.serde_json.specs.Events.{items_len}
 use Rattle.json_base.proofs.JsonItems.{slice_get-front, slice_get-last}
-use Rattle.json_read.specs.JsonColumn.{Spelling, spelling_of, is_full, slot_of, valid_at, ReadsSlots}
+use Rattle.json_read.specs.JsonColumn.{Spelling, is_past_offsets, slot_of, valid_at, ReadsSlots}
 use Rattle.json_scan.specs.Spelling.{before}
 use Rattle.json_stream.specs.Validity.{valid_of}
 use Rattle.json_stream.specs.Slots.{AreSlots, IsSlotAdded}
@@ -22,17 +22,14 @@ get_item-before [] i = refl
 get_item-before (d ∷ ds) zero = refl
 get_item-before (d ∷ ds) (suc i) = get_item-before ds i
 
-nothing_fits : (k : Kind) → is_full (spelling_of k) [] ≡ false
-nothing_fits (int t) = refl
-nothing_fits boolean = refl
-nothing_fits (texts Narrow) = refl
-nothing_fits (texts Wide) = refl
-nothing_fits (lists w k) = refl
-nothing_fits dict = refl
+nothing_fits : (offsets : Option OffsetWidth) → is_past_offsets offsets 0 ≡ false
+nothing_fits None = refl
+nothing_fits (Some Narrow) = refl
+nothing_fits (Some Wide) = refl
 
-pub no_slots : (k : Kind) (validity : Option (List Bool)) (items : List Item) → items ≡ [] → AreSlots (spelling_of k) validity [] items
-no_slots k validity items none =
-    subst (λ xs. AreSlots (spelling_of k) validity [] xs) (sym none) record { len = refl; each = λ i within. absurd (omega (arith, within)); fits = nothing_fits k }
+pub no_slots : (s : Spelling) (validity : Option (List Bool)) (items : List Item) → items ≡ [] → AreSlots s validity [] items
+no_slots s validity items none =
+    subst (λ xs. AreSlots s validity [] xs) (sym none) record { len = refl; each = λ i within. absurd (omega (arith, within)); fits = nothing_fits s.offsets }
 
 pub slots_more : (s : Spelling) (validity : Option (List Bool)) (ds : List Data) (d : Data) (old new : List Item) → AreSlots s validity ds old → IsSlotAdded s (valid_of validity (length ds)) d old new → AreSlots s validity (ds ++ d ∷ []) new
 slots_more s validity ds d old new h added =
@@ -51,10 +48,10 @@ pub reads_slots : (s : Spelling) (flags : Option Items) (validity : Option (List
     → ReadsSlots s flags (before ds no_items) (length ds) items
 reads_slots s flags validity ds items same h = record { len = h.len; each = λ i within. h.each i within ∙ sym (ap₂ (slot_of s) (same i) (get_item-before ds i)) }
 
--- the same where the kind and the validity are those from before, and the slot is the one behind the items
-pub slot_taken : (k l : Kind) (v w : Option (List Bool)) (ds : List Data) (d : Data) (old new : List Item) (n : ℕ) (valid : Option Bool) → l ≡ k → v ≡ w → valid ≡ valid_of v n → length old ≡ n
-    → AreSlots (spelling_of k) w ds old → IsSlotAdded (spelling_of l) valid d old new → AreSlots (spelling_of k) w (ds ++ d ∷ []) new
-slot_taken k l v w ds d old new n valid kind validity is count h added =
+-- the same where the spelling and the validity are those from before, and the slot is the one behind the items
+pub slot_taken : (s t : Spelling) (v w : Option (List Bool)) (ds : List Data) (d : Data) (old new : List Item) (n : ℕ) (valid : Option Bool) → t ≡ s → v ≡ w → valid ≡ valid_of v n → length old ≡ n
+    → AreSlots s w ds old → IsSlotAdded t valid d old new → AreSlots s w (ds ++ d ∷ []) new
+slot_taken s t v w ds d old new n valid spelling validity is count h added =
     let place : valid ≡ valid_of w (length ds) = is ∙ ap₂ valid_of validity (sym count ∙ h.len) in
-    let same = subst (λ x. IsSlotAdded (spelling_of x) valid d old new) kind added in
-    slots_more (spelling_of k) w ds d old new h (subst (λ x. IsSlotAdded (spelling_of k) x d old new) place same)
+    let same = subst (λ x. IsSlotAdded x valid d old new) spelling added in
+    slots_more s w ds d old new h (subst (λ x. IsSlotAdded s x d old new) place same)

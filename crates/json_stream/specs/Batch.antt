@@ -1,5 +1,5 @@
--- A batch of a file without dictionaries, as far as its members are read. (Arrow integration testing, "JSON test data format", RecordBatch)
-use Rattle.std.specs.Prelude.{◌≡◌, List, map, Option, Some, None, option_map}
+-- A batch, as far as its members are read. (Arrow integration testing, "JSON test data format", RecordBatch)
+use Rattle.std.specs.Prelude.{◌≡◌, List, Option, Some, None, option_map}
 use Rattle.arrays.specs.Seen.{Seen}
 use Rattle.arrays.specs.Shape.{FieldShape}
 use Rattle.serde_json.specs.Data.{Data, Members, array, no_items}
@@ -12,16 +12,12 @@ use Rattle.json_stream.specs.Column.{IsCount}
 use Rattle.json_stream.specs.Columns.{AreColumns}
 use Rattle.json_stream.specs.declared.batch.BatchParts.{BatchParts}
 
--- No field is encoded.
-abbrev pub no_codings : List FieldShape → List (Option Coding)
-no_codings fields = map (λ _. None) fields
-
 -- The member is an array of these columns, if they are read.
-abbrev pub IsColumns : List FieldShape → Option Data → Option (List Seen) → Type 0
-IsColumns fields found None = Unit {0}
-IsColumns fields found (Some columns) = (ds : List Data) × (found ≡ Some (array (before ds no_items))) × AreColumns fields ds columns
+abbrev pub IsColumns : List FieldShape → List (Option Coding) → Option Data → Option (List Seen) → Type 0
+IsColumns fields catalog found None = Unit {0}
+IsColumns fields catalog found (Some columns) = (ds : List Data) × (found ≡ Some (array (before ds no_items))) × AreColumns fields catalog ds columns
 
 -- What is known of the members.
-pub record HoldsBatch (fields : List FieldShape) (ms : Members) (p : BatchParts) : Type 0 where
+pub record HoldsBatch (fields : List FieldShape) (catalog : List (Option Coding)) (ms : Members) (p : BatchParts) : Type 0 where
   pub count : IsCount (get_member (member_name member.Count) ms) p.count
-  pub columns : IsColumns fields (get_member (member_name member.Columns) ms) (option_map (λ v. v.items) p.columns)
+  pub columns : IsColumns fields catalog (get_member (member_name member.Columns) ms) (option_map (λ v. v.items) p.columns)

@@ -8,6 +8,7 @@ use Rattle.serde_json.specs.Find.{get_member}
 use Rattle.json_base.specs.JsonNumber.{count_of}
 use Rattle.json_base.specs.JsonPath.{member_name}
 use Rattle.json_base.specs.declared.path.Member.TheVariants as member
+use Rattle.json_read.specs.JsonCatalog.{Coding}
 use Rattle.json_scan.specs.Spelling.{SpellsAt, before}
 use Rattle.json_stream.specs.Validity.{IsValidity}
 use Rattle.json_stream.specs.Slots.{HoldsSlots}
@@ -25,13 +26,13 @@ StandsOn depth text found None = found ≡ None
 StandsOn depth text found (Some s) = (d : Data) × (found ≡ Some d) × SpellsAt depth (drop s.start text) d (drop s.end text) × (begins_colon (lex between (drop s.end text)) ≡ false)
 
 -- The member is the values of the array, if there is one.
-abbrev pub IsValues : Kind → Option (List Bool) → Option Data → Option Seen → Type 0
-IsValues k validity found None = Unit {0}
-IsValues k validity found (Some a) = (ds : List Data) × (found ≡ Some (array (before ds no_items))) × HoldsSlots k validity ds a
+abbrev pub IsValues : Kind → Option Coding → Option (List Bool) → Option Data → Option Seen → Type 0
+IsValues k c validity found None = Unit {0}
+IsValues k c validity found (Some a) = (ds : List Data) × (found ≡ Some (array (before ds no_items))) × HoldsSlots k c validity ds a
 
 -- What is known of the members, nested so deep in the text.
-pub record HoldsParts (k : Kind) (depth : ℕ) (text : List ℕ) (ms : Members) (p : ColumnParts) : Type 0 where
+pub record HoldsParts (k : Kind) (c : Option Coding) (depth : ℕ) (text : List ℕ) (ms : Members) (p : ColumnParts) : Type 0 where
   pub count : IsCount (get_member (member_name member.Count) ms) p.count
   pub validity : IsValidity (get_member (member_name member.Validity) ms) p.validity
   pub place : StandsOn depth text (get_member (member_name member.Data) ms) p.place
-  pub values : IsValues k p.validity (get_member (member_name member.Data) ms) p.values
+  pub values : IsValues k c p.validity (get_member (member_name member.Data) ms) p.values

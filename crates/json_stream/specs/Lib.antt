@@ -1,6 +1,9 @@
 -- The words of this crate's contracts.
 pub mod Validity
+pub mod Field
 pub mod Slots
 pub mod Column
+pub mod Offsets
+pub mod Lists
 pub mod Columns
 pub mod Batch

@@ -1,11 +1,18 @@
 -- The member DATA of a column whose slots have a value each. (Arrow integration testing, "JSON test data format", FieldData)
-use Rattle.std.specs.Prelude.{◌≡◌, ℕ, ◌<◌, List, [], ◌∷◌, ◌++◌, length, slice_get, Bool, false, true, Option, Some}
+use Rattle.std.specs.Prelude.{◌≡◌, ℕ, ◌<◌, List, [], ◌∷◌, ◌++◌, length, slice_get, Bool, false, true, Option, Some, None}
 use Rattle.arrays.specs.Item.{Item}
 use Rattle.arrays.specs.Kind.{Kind, int, boolean, texts, lists, dict}
 use Rattle.arrays.specs.Seen.{Seen}
 use Rattle.serde_json.specs.Data.{Data}
+use Rattle.json_read.specs.JsonCatalog.{Coding}
+use Rattle.json_read.specs.JsonCodes.{indices}
 use Rattle.json_read.specs.JsonColumn.{Spelling, spelling_of, is_full, slot_of}
 use Rattle.json_stream.specs.Validity.{valid_of}
+
+-- What the values of a column's slots spell: where it is encoded, the entries that they name.
+abbrev pub spelling_at : Kind → Option Coding → Spelling
+spelling_at k None = spelling_of k
+spelling_at k (Some c) = indices c.index c.texts
 
 -- The items, which the offsets count, are those of the values: null, or what a value spells whose slot is valid.
 pub record AreSlots (s : Spelling) (validity : Option (List Bool)) (ds : List Data) (items : List Item) : Type 0 where
@@ -28,8 +35,13 @@ is_plain (texts w) = true
 is_plain (lists w k) = false
 is_plain dict = false
 
+-- Each slot of a column of the kind has: an index, where it is encoded.
+abbrev pub is_slotted : Kind → Option Coding → Bool
+is_slotted k None = is_plain k
+is_slotted k (Some c) = true
+
 -- An array of the kind that has these slots.
-pub record HoldsSlots (k : Kind) (validity : Option (List Bool)) (ds : List Data) (array : Seen) : Type 0 where
-  pub plain : is_plain k ≡ true
+pub record HoldsSlots (k : Kind) (c : Option Coding) (validity : Option (List Bool)) (ds : List Data) (array : Seen) : Type 0 where
+  pub slotted : is_slotted k c ≡ true
   pub kind : array.kind ≡ k
-  pub slots : AreSlots (spelling_of k) validity ds array.items
+  pub slots : AreSlots (spelling_at k c) validity ds array.items

@@ -1,19 +1,21 @@
-//! Batches of files without dictionaries.
+//! Batches.
 
-ghost use Rattle.std.specs.Prelude.{◌≡◌, ◌<◌, ◌≤◌, List, length, drop, IfOk, IsTrue};
+ghost use Rattle.std.specs.Prelude.{◌≡◌, ◌<◌, ◌≤◌, List, length, drop, map, Option, option_map, IfOk, IsTrue};
 ghost use Rattle.std.specs.Arc.{arc_value};
 ghost use Rattle.std.specs.List.{All};
 ghost use Rattle.serde_json.specs.Data.{Data};
 ghost use Rattle.json_base.specs.JsonTable.{table_of};
+ghost use Rattle.json_read.specs.CatalogParts.{coding_of};
 ghost use Rattle.json_read.specs.JsonBatch.{ReadsBatch};
+ghost use Rattle.json_read.specs.JsonCatalog as coded;
 ghost use Rattle.json_scan.specs.Spelling.{SpellsAt};
-ghost use Rattle.json_stream.specs.Batch.{no_codings};
 ghost use Rattle.json_stream.specs.Columns.{AreColumns};
 
 use crate::columns::read_columns;
 use crate::natural::read_natural;
 use arrays::{Array, Field, MOST_SLOTS, RecordBatch, Schema};
 use json_base::Member;
+use json_read::Coding;
 use json_scan::{MemberVisitor, Miss, Placed, pass_value, read_object};
 use std::alloc::Global;
 use std::sync::Arc;
@@ -23,16 +25,19 @@ use std::sync::Arc;
 pub(crate) struct BatchParts<'f> {
     alloc: Global,
     fields: &'f [Field],
+    catalog: &'f [Option<Coding>],
     pub count: Option<u32>,
     pub columns: Option<Vec<Array>>,
 }
 
 impl MemberVisitor for BatchParts<'_> {
-    ghost use Rattle.std.specs.Prelude.{◌≡◌};
+    ghost use Rattle.std.specs.Prelude.{◌≡◌, map, option_map};
     ghost use Rattle.arrays.specs.Shape.{fields_of};
+    ghost use Rattle.json_read.specs.CatalogParts.{coding_of};
     ghost use Rattle.json_stream.specs.Batch.{HoldsBatch};
 
-    ghost holds = { λ text depth first ms now. (now.fields ≡ first.fields) × HoldsBatch (fields_of first.fields.now) ms now };
+    ghost holds = { λ text depth first ms now. (now.fields ≡ first.fields) × (now.catalog ≡ first.catalog)
+        × HoldsBatch (fields_of first.fields.now) (map (option_map coding_of) first.catalog.now) ms now };
 
     fn visit(&mut self, text: &str, name: &str, at: usize, depth: usize) -> Result<usize, Miss> {
         if name == Member::Count.name() {
@@ -43,7 +48,7 @@ impl MemberVisitor for BatchParts<'_> {
             return Ok(count.end);
         }
         if name == Member::Columns.name() {
-            let columns = read_columns(self.alloc, self.fields, text, at, depth)?;
+            let columns = read_columns(self.alloc, self.fields, self.catalog, text, at, depth)?;
             self.columns = Some(columns.value);
             return Ok(columns.end);
         }
@@ -68,7 +73,7 @@ fn are_of_len(columns: &[Array], len: usize) -> bool
 
 /// The batch of columns of the schema's fields, if each is there and has so many slots.
 fn batch_of(schema: &Arc<Schema>, rows: u32, columns: Vec<Array>) -> Result<RecordBatch, Miss>
-    requires { (ds : List Data) × AreColumns (arc_value schema.now) ds columns.items }
+    requires { (catalog : List (Option coded.Coding)) × (ds : List Data) × AreColumns (arc_value schema.now) catalog ds columns.items }
     ensures fields { IfOk result (λ b. b.fields ≡ arc_value schema.now) }
     ensures rows { IfOk result (λ b. b.rows ≡ rows) }
     ensures columns { IfOk result (λ b. b.columns ≡ columns.items) }
@@ -87,10 +92,11 @@ fn batch_of(schema: &Arc<Schema>, rows: u32, columns: Vec<Array>) -> Result<Reco
     }
 }
 
-/// The batch that stands here, or after spaces, which shares the schema. Where a field is a list or encoded, it isn't read.
+/// The batch that stands here, or after spaces, which shares the schema. How the column of each field is encoded, the catalog says.
 pub fn read_batch(
     alloc: Global,
     schema: &Arc<Schema>,
+    catalog: &[Option<Coding>],
     text: &str,
     at: usize,
     depth: usize,
@@ -98,21 +104,18 @@ pub fn read_batch(
     requires { at ≤ length text.now }
     ensures fields { IfOk result (λ r. r.value.fields ≡ arc_value schema.now) }
     ensures ok { IfOk result (λ r. (d : Data) × SpellsAt depth (drop at text.now) d (drop r.end text.now)
-        × ReadsBatch (arc_value schema.now) (no_codings (arc_value schema.now)) d (table_of r.value)) }
+        × ReadsBatch (arc_value schema.now) (map (option_map coding_of) catalog.now) d (table_of r.value)) }
     ensures onward { IfOk result (λ r. at < r.end) }
     ensures within { IfOk result (λ r. r.end ≤ length text.now) }
 {
     let mut parts = BatchParts {
         alloc,
         fields: schema.fields(),
+        catalog,
         count: None,
         columns: None,
     };
     let end = read_object(text, at, depth, &mut parts)?;
-    // An object has two braces at least, but `read_object` doesn't say so.
-    if end <= at {
-        return Err(Miss::Unread);
-    }
     let BatchParts { count, columns, .. } = parts;
     let Some(rows) = count else {
         return Err(Miss::Unread);

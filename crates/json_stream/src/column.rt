@@ -1,26 +1,31 @@
 //! Column objects: their members in any order, of those of one name the last.
 
-ghost use Rattle.std.specs.Prelude.{◌≡◌, ◌<◌, ◌≤◌, false, length, drop, List, Option, Some, IfOk, IfSome, IsTrue};
+ghost use Rattle.std.specs.Prelude.{◌≡◌, ◌<◌, ◌≤◌, false, length, drop, List, Option, Some, option_map, IfOk, IfSome, IsTrue};
 ghost use Rattle.types.specs.declared.data_type.Field.{out-Field};
 ghost use Rattle.arrays.specs.Kind.{kind_of};
 ghost use Rattle.json.specs.Lex.{lex, between, begins_colon};
 ghost use Rattle.serde_json.specs.Data.{Data, Members, object};
-ghost use Rattle.json_read.specs.JsonBatch.{HoldsColumn};
+ghost use Rattle.json_read.specs.CatalogParts.{coding_of};
+ghost use Rattle.json_read.specs.JsonBatch.{HoldsColumn, HoldsTop};
 ghost use Rattle.json_scan.specs.Spelling.{SpellsAt};
 ghost use Rattle.json_stream.specs.Column.{HoldsParts, IsValues, StandsOn};
+ghost use Rattle.json_stream.specs.Field.{coding_in, kind_in};
 
+use crate::field::EncodedField;
+use crate::list::read_list;
 use crate::natural::read_natural;
 use crate::validity::read_validity;
 use crate::values::read_values;
-use arrays::{Array, Field};
+use arrays::{Array, DataType, Field, OffsetWidth};
 use colbits::BitmapBuf;
 use json_base::Member;
+use json_read::Coding;
 use json_scan::{Container, MemberVisitor, Miss, Placed, pass_value, read_mark, read_object};
 use std::alloc::Global;
 
 /// Where a value stands.
-#[derive(Clone, Copy, Drop)]
-pub(crate) struct Stretch {
+#[derive(Clone, Copy, Drop, PartialEq, Eq)]
+pub struct Stretch {
     pub start: usize,
     pub end: usize,
 }
@@ -29,7 +34,7 @@ pub(crate) struct Stretch {
 #[derive(Drop)]
 pub(crate) struct ColumnParts<'f> {
     alloc: Global,
-    field: &'f Field,
+    field: EncodedField<'f>,
     pub count: Option<u32>,
     /// None where all slots are valid.
     pub validity: Option<BitmapBuf>,
@@ -42,7 +47,7 @@ pub(crate) struct ColumnParts<'f> {
 /// The values that stand here, or after spaces, where flags are known; else they are passed over.
 fn read_or_pass(
     alloc: Global,
-    field: &Field,
+    field: EncodedField,
     validity: &Option<BitmapBuf>,
     text: &str,
     at: usize,
@@ -50,7 +55,7 @@ fn read_or_pass(
 ) -> Result<Placed<Option<Array>>, Miss>
     requires { at ≤ length text.now }
     ensures ok { IfOk result (λ r. (d : Data) × SpellsAt depth (drop at text.now) d (drop r.end text.now)
-        × IsValues (kind_of (out-Field field.now).ty) validity.now (Some d) r.value) }
+        × IsValues (kind_in field.entry) (coding_in field.entry) validity.now (Some d) r.value) }
     ensures onward { IfOk result (λ r. at < r.end) }
     ensures within { IfOk result (λ r. r.end ≤ length text.now) }
 {
@@ -69,22 +74,21 @@ fn read_or_pass(
     }
 }
 
-/// Whether a member ends here.
-fn ends_member(text: &str, at: usize) -> bool
+/// Whether a member or an item ends here.
+pub(crate) fn ends_in(text: &str, at: usize, container: Container) -> bool
     requires { at ≤ length text.now }
     ensures { IsTrue result → begins_colon (lex between (drop at text.now)) ≡ false }
 {
-    read_mark(text.as_bytes(), at, Container::Object).is_some()
+    read_mark(text.as_bytes(), at, container).is_some()
 }
 
 impl MemberVisitor for ColumnParts<'_> {
     ghost use Rattle.std.specs.Prelude.{◌≡◌};
-    ghost use Rattle.types.specs.declared.data_type.Field.{out-Field};
-    ghost use Rattle.arrays.specs.Kind.{kind_of};
     ghost use Rattle.json_stream.specs.Column.{HoldsParts};
+    ghost use Rattle.json_stream.specs.Field.{coding_in, kind_in};
 
     ghost holds = { λ text depth first ms now. (now.field ≡ first.field)
-        × HoldsParts (kind_of (out-Field first.field.now).ty) depth text ms now };
+        × HoldsParts (kind_in first.field) (coding_in first.field) depth text ms now };
 
     fn visit(&mut self, text: &str, name: &str, at: usize, depth: usize) -> Result<usize, Miss> {
         if name == Member::Count.name() {
@@ -102,7 +106,7 @@ impl MemberVisitor for ColumnParts<'_> {
         }
         if name == Member::Data.name() {
             let data = read_or_pass(self.alloc, self.field, &self.validity, text, at, depth)?;
-            if !ends_member(text, data.end) {
+            if !ends_in(text, data.end, Container::Object) {
                 return Err(Miss::Unread);
             }
             self.place = Some(Stretch {
@@ -122,14 +126,14 @@ impl MemberVisitor for ColumnParts<'_> {
 /// The values of DATA, which stands there.
 fn values_at(
     alloc: Global,
-    field: &Field,
+    field: EncodedField,
     validity: &Option<BitmapBuf>,
     text: &str,
     place: Option<Stretch>,
     depth: usize,
 ) -> Result<Array, Miss>
     ensures { IfOk result (λ a. (found : Option Data) → StandsOn depth text.now found place
-        → IsValues (kind_of (out-Field field.now).ty) validity.now found (Some a)) }
+        → IsValues (kind_in field.entry) (coding_in field.entry) validity.now found (Some a)) }
 {
     let Some(place) = place else {
         return Err(Miss::Unread);
@@ -145,7 +149,7 @@ fn values_at(
 }
 
 /// Whether there are so many flags, or none.
-fn are_flags_of(validity: &Option<BitmapBuf>, count: usize) -> bool
+pub(crate) fn are_flags_of(validity: &Option<BitmapBuf>, count: usize) -> bool
     ensures { IsTrue result → IfSome validity.now (λ bits. length bits ≡ count) }
 {
     match validity {
@@ -171,8 +175,9 @@ fn if_whole(count: Option<u32>, validity: &Option<BitmapBuf>, array: Array) -> R
 
 /// The column of these parts.
 fn column_of(parts: ColumnParts, text: &str, depth: usize) -> Result<Array, Miss>
-    ensures { IfOk result (λ a. (ms : Members) → HoldsParts (kind_of (out-Field parts.entry.field.now).ty) depth text.now ms parts.entry
-        → HoldsColumn (kind_of (out-Field parts.entry.field.now).ty) (length a.items) (object ms) a) }
+    ensures { IfOk result (λ a. (ms : Members)
+        → HoldsParts (kind_in parts.entry.field) (coding_in parts.entry.field) depth text.now ms parts.entry
+        → HoldsTop (kind_in parts.entry.field) (coding_in parts.entry.field) (length a.items) (object ms) a) }
 {
     let ColumnParts {
         alloc,
@@ -191,8 +196,39 @@ fn column_of(parts: ColumnParts, text: &str, depth: usize) -> Result<Array, Miss
     }
 }
 
-/// The column that stands here, or after spaces, as an array of the field's type: of integers, truth values or texts.
-pub fn read_column(
+/// The column that stands here, or after spaces, as an array of the field's type: of integers, truth values, texts, or indices into the dictionary
+/// of the coding. A field that is a dictionary has a coding, and no other has one: else nothing is read.
+fn read_slotted(
+    alloc: Global,
+    field: &Field,
+    coding: &Option<Coding>,
+    text: &str,
+    at: usize,
+    depth: usize,
+) -> Result<Placed<Array>, Miss>
+    requires { at ≤ length text.now }
+    ensures ok { IfOk result (λ r. (d : Data) × SpellsAt depth (drop at text.now) d (drop r.end text.now)
+        × HoldsTop (kind_of (out-Field field.now).ty) (option_map coding_of coding.now) (length r.value.items) d r.value) }
+    ensures onward { IfOk result (λ r. at < r.end) }
+    ensures within { IfOk result (λ r. r.end ≤ length text.now) }
+{
+    let mut parts = ColumnParts {
+        alloc,
+        field: EncodedField { field, coding },
+        count: None,
+        validity: None,
+        place: None,
+        values: None,
+    };
+    let end = read_object(text, at, depth, &mut parts)?;
+    match column_of(parts, text, depth.saturating_sub(1)) {
+        Ok(value) => Ok(Placed { value, end }),
+        Err(miss) => Err(miss),
+    }
+}
+
+/// The same without a coding.
+pub(crate) fn read_plain(
     alloc: Global,
     field: &Field,
     text: &str,
@@ -205,21 +241,56 @@ pub fn read_column(
     ensures onward { IfOk result (λ r. at < r.end) }
     ensures within { IfOk result (λ r. r.end ≤ length text.now) }
 {
-    let mut parts = ColumnParts {
-        alloc,
-        field,
-        count: None,
-        validity: None,
-        place: None,
-        values: None,
-    };
-    let end = read_object(text, at, depth, &mut parts)?;
-    // An object has two braces at least, but `read_object` doesn't say so.
-    if end <= at {
-        return Err(Miss::Unread);
+    match read_slotted(alloc, field, &None, text, at, depth) {
+        Ok(read) => Ok(read),
+        Err(miss) => Err(miss),
     }
-    match column_of(parts, text, depth.saturating_sub(1)) {
-        Ok(value) => Ok(Placed { value, end }),
+}
+
+/// The column that stands here, or after spaces, as an array of the field's type. One of a dictionary isn't read.
+#[cycle(columns)]
+pub(crate) fn read_uncoded(
+    alloc: Global,
+    field: &Field,
+    text: &str,
+    at: usize,
+    depth: usize,
+) -> Result<Placed<Array>, Miss>
+    requires { at ≤ length text.now }
+    ensures ok { IfOk result (λ r. (d : Data) × SpellsAt depth (drop at text.now) d (drop r.end text.now)
+        × HoldsColumn (kind_of (out-Field field.now).ty) (length r.value.items) d r.value) }
+    ensures onward { IfOk result (λ r. at < r.end) }
+    ensures within { IfOk result (λ r. r.end ≤ length text.now) }
+{
+    match &field.ty {
+        DataType::List(item) => read_list(alloc, OffsetWidth::Narrow, item, text, at, depth),
+        DataType::LargeList(item) => read_list(alloc, OffsetWidth::Wide, item, text, at, depth),
+        DataType::Int(_) | DataType::Bool | DataType::Utf8 | DataType::LargeUtf8 | DataType::Dict =>
+            read_plain(alloc, field, text, at, depth),
+    }
+}
+
+/// The column that stands here, or after spaces, as an array of the field's type, by its coding where it is encoded. A field that is a dictionary
+/// has a coding, and no other has one: else nothing is read.
+pub fn read_column(
+    alloc: Global,
+    field: &Field,
+    coding: &Option<Coding>,
+    text: &str,
+    at: usize,
+    depth: usize,
+) -> Result<Placed<Array>, Miss>
+    requires { at ≤ length text.now }
+    ensures ok { IfOk result (λ r. (d : Data) × SpellsAt depth (drop at text.now) d (drop r.end text.now)
+        × HoldsTop (kind_of (out-Field field.now).ty) (option_map coding_of coding.now) (length r.value.items) d r.value) }
+    ensures onward { IfOk result (λ r. at < r.end) }
+    ensures within { IfOk result (λ r. r.end ≤ length text.now) }
+{
+    if coding.is_some() {
+        return read_slotted(alloc, field, coding, text, at, depth);
+    }
+    match read_uncoded(alloc, field, text, at, depth) {
+        Ok(read) => Ok(read),
         Err(miss) => Err(miss),
     }
 }

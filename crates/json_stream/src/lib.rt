@@ -6,12 +6,15 @@
 mod batch;
 mod column;
 mod columns;
+mod field;
+mod list;
 mod natural;
 mod numeral;
+mod offsets;
 mod slots;
 mod validity;
 mod values;
 
 pub use batch::read_batch;
-pub use column::read_column;
+pub use column::{Stretch, read_column};
 pub use columns::read_columns;

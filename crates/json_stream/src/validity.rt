@@ -77,10 +77,6 @@ fn read_flags(
         bits: BitmapBuilder::new(alloc),
     };
     let end = read_array(text, at, depth, &mut flags)?;
-    // An array has two brackets at least, but `read_array` doesn't say so.
-    if end <= at {
-        return Err(Miss::Unread);
-    }
     match flags.bits.finish() {
         Ok(bits) => Ok(Placed {
             value: Some(bits),

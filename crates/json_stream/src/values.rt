@@ -1,21 +1,25 @@
 //! DATA: the values of a column's slots.
 
-ghost use Rattle.std.specs.Prelude.{◌≡◌, ◌<◌, ◌≤◌, List, [], length, drop, IfOk, IsTrue, OnErr};
+ghost use Rattle.std.specs.Prelude.{◌≡◌, ◌<◌, ◌≤◌, List, [], length, drop, None, Some, IfOk, IsTrue, OnErr};
 ghost use Rattle.types.specs.declared.data_type.Field.{out-Field};
 ghost use Rattle.types.specs.Limits.{most_slots};
 ghost use Rattle.arrays.specs.Kind as kind;
 ghost use Rattle.arrays.specs.Kind.{kind_of};
 ghost use Rattle.serde_json.specs.Data.{Data, array, no_items};
-ghost use Rattle.json_read.specs.JsonColumn.{spelling_of};
+ghost use Rattle.json_read.specs.CatalogParts.{coding_of};
 ghost use Rattle.json_scan.specs.Spelling.{SpellsAt, before};
-ghost use Rattle.json_stream.specs.Slots.{IsSlotAdded, HoldsSlots, is_plain};
+ghost use Rattle.json_stream.specs.Field.{coding_in, kind_in};
+ghost use Rattle.json_stream.specs.Slots.{IsSlotAdded, HoldsSlots, is_slotted, spelling_at};
 
-use crate::slots::{IntColumn, SlotBuilder, TextColumn};
+use crate::field::EncodedField;
+use crate::slots::{CodeColumn, IntColumn, SlotBuilder, TextColumn};
 use crate::validity::valid_at;
 use arrays::{
-    Array, BoolBuilder, DataType, Field, IntBuilder, IntType, MOST_SLOTS, OffsetWidth, TextBuilder,
+    Array, BoolBuilder, DataType, Field, INT32, IntBuilder, IntType, MOST_SLOTS, OffsetWidth,
+    TextBuilder,
 };
 use colbits::{BitmapBuf, NoMemory};
+use json_read::Coding;
 use json_scan::{ItemVisitor, Miss, Placed, pass_value, read_array};
 use std::alloc::Global;
 
@@ -31,9 +35,10 @@ fn push_slot<B: SlotBuilder>(
 ) -> Result<usize, Miss>
     requires at { at ≤ length text.now }
     requires room { length (B.items builder.old) < most_slots }
-    ensures kept { B.kind builder.new ≡ B.kind builder.old }
+    ensures kind { B.kind builder.new ≡ B.kind builder.old }
+    ensures coding { B.coding builder.new ≡ B.coding builder.old }
     ensures ok { IfOk result (λ end. (d : Data) × SpellsAt depth (drop at text.now) d (drop end text.now)
-        × IsSlotAdded (spelling_of (B.kind builder.old)) valid d (B.items builder.old) (B.items builder.new)) }
+        × IsSlotAdded (spelling_at (B.kind builder.old) (B.coding builder.old)) valid d (B.items builder.old) (B.items builder.new)) }
     ensures err { OnErr result (B.items builder.new ≡ B.items builder.old) }
     ensures onward { IfOk result (λ end. at < end) }
     ensures within { IfOk result (λ end. end ≤ length text.now) }
@@ -63,11 +68,11 @@ struct Slots<'v, B: SlotBuilder> {
 
 impl<'v, B: SlotBuilder> ItemVisitor for Slots<'v, B> {
     ghost use Rattle.std.specs.Prelude.{◌≡◌};
-    ghost use Rattle.json_read.specs.JsonColumn.{spelling_of};
-    ghost use Rattle.json_stream.specs.Slots.{AreSlots};
+    ghost use Rattle.json_stream.specs.Slots.{AreSlots, spelling_at};
 
-    ghost holds = { λ text depth first ds now. (B.kind now.builder ≡ B.kind first.builder) × (now.validity ≡ first.validity)
-        × AreSlots (spelling_of (B.kind first.builder)) first.validity.now ds (B.items now.builder) };
+    ghost holds = { λ text depth first ds now. (B.kind now.builder ≡ B.kind first.builder) × (B.coding now.builder ≡ B.coding first.builder)
+        × (now.validity ≡ first.validity)
+        × AreSlots (spelling_at (B.kind first.builder) (B.coding first.builder)) first.validity.now ds (B.items now.builder) };
 
     #[inline]
     fn visit(&mut self, text: &str, at: usize, depth: usize) -> Result<usize, Miss> {
@@ -95,9 +100,9 @@ fn read_slots<B: SlotBuilder>(
 ) -> Result<Placed<Array>, Miss>
     requires at { at ≤ length text.now }
     requires empty { B.items builder ≡ [] }
-    requires plain { IsTrue (is_plain (B.kind builder)) }
+    requires slotted { IsTrue (is_slotted (B.kind builder) (B.coding builder)) }
     ensures ok { IfOk result (λ r. (ds : List Data) × SpellsAt depth (drop at text.now) (array (before ds no_items)) (drop r.end text.now)
-        × HoldsSlots (B.kind builder) validity.now ds r.value) }
+        × HoldsSlots (B.kind builder) (B.coding builder) validity.now ds r.value) }
     ensures onward { IfOk result (λ r. at < r.end) }
     ensures within { IfOk result (λ r. r.end ≤ length text.now) }
 {
@@ -107,10 +112,6 @@ fn read_slots<B: SlotBuilder>(
         count: 0,
     };
     let end = read_array(text, at, depth, &mut slots)?;
-    // An array has two brackets at least, but `read_array` doesn't say so.
-    if end <= at {
-        return Err(Miss::Unread);
-    }
     match slots.builder.finish() {
         Ok(array) => Ok(Placed { value: array, end }),
         Err(NoMemory) => Err(Miss::NoMemory),
@@ -138,7 +139,7 @@ fn read_numbers(
 ) -> Result<Placed<Array>, Miss>
     requires { at ≤ length text.now }
     ensures ok { IfOk result (λ r. (ds : List Data) × SpellsAt depth (drop at text.now) (array (before ds no_items)) (drop r.end text.now)
-        × HoldsSlots (kind.int ty) validity.now ds r.value) }
+        × HoldsSlots (kind.int ty) None validity.now ds r.value) }
     ensures onward { IfOk result (λ r. at < r.end) }
     ensures within { IfOk result (λ r. r.end ≤ length text.now) }
 {
@@ -158,7 +159,7 @@ fn read_truths(
 ) -> Result<Placed<Array>, Miss>
     requires { at ≤ length text.now }
     ensures ok { IfOk result (λ r. (ds : List Data) × SpellsAt depth (drop at text.now) (array (before ds no_items)) (drop r.end text.now)
-        × HoldsSlots kind.boolean validity.now ds r.value) }
+        × HoldsSlots kind.boolean None validity.now ds r.value) }
     ensures onward { IfOk result (λ r. at < r.end) }
     ensures within { IfOk result (λ r. r.end ≤ length text.now) }
 {
@@ -179,7 +180,7 @@ fn read_texts(
 ) -> Result<Placed<Array>, Miss>
     requires { at ≤ length text.now }
     ensures ok { IfOk result (λ r. (ds : List Data) × SpellsAt depth (drop at text.now) (array (before ds no_items)) (drop r.end text.now)
-        × HoldsSlots (kind.texts width) validity.now ds r.value) }
+        × HoldsSlots (kind.texts width) None validity.now ds r.value) }
     ensures onward { IfOk result (λ r. at < r.end) }
     ensures within { IfOk result (λ r. r.end ≤ length text.now) }
 {
@@ -191,8 +192,36 @@ fn read_texts(
     read_slots(TextColumn { builder, buffer }, validity, text, at, depth)
 }
 
-/// The values that stand here, or after spaces, as an array of the field's type. Columns of lists and of dictionaries aren't read.
-pub(crate) fn read_values(
+/// The same of indices into a dictionary.
+fn read_codes(
+    alloc: Global,
+    coding: &Coding,
+    validity: &Option<BitmapBuf>,
+    text: &str,
+    at: usize,
+    depth: usize,
+) -> Result<Placed<Array>, Miss>
+    requires { at ≤ length text.now }
+    ensures ok { IfOk result (λ r. (ds : List Data) × SpellsAt depth (drop at text.now) (array (before ds no_items)) (drop r.end text.now)
+        × HoldsSlots kind.dict (Some (coding_of coding.now)) validity.now ds r.value) }
+    ensures onward { IfOk result (λ r. at < r.end) }
+    ensures within { IfOk result (λ r. r.end ≤ length text.now) }
+{
+    let entries = coding.words.view().slots();
+    let builder = match IntBuilder::with_capacity(alloc, INT32, flagged(validity)) {
+        Ok(builder) => builder,
+        Err(NoMemory) => return Err(Miss::NoMemory),
+    };
+    let codes = CodeColumn {
+        coding,
+        entries,
+        builder,
+    };
+    read_slots(codes, validity, text, at, depth)
+}
+
+/// The same of a column that isn't encoded. Lists aren't read.
+fn read_plain(
     alloc: Global,
     field: &Field,
     validity: &Option<BitmapBuf>,
@@ -202,7 +231,7 @@ pub(crate) fn read_values(
 ) -> Result<Placed<Array>, Miss>
     requires { at ≤ length text.now }
     ensures ok { IfOk result (λ r. (ds : List Data) × SpellsAt depth (drop at text.now) (array (before ds no_items)) (drop r.end text.now)
-        × HoldsSlots (kind_of (out-Field field.now).ty) validity.now ds r.value) }
+        × HoldsSlots (kind_of (out-Field field.now).ty) None validity.now ds r.value) }
     ensures onward { IfOk result (λ r. at < r.end) }
     ensures within { IfOk result (λ r. r.end ≤ length text.now) }
 {
@@ -212,5 +241,34 @@ pub(crate) fn read_values(
         DataType::Utf8 => read_texts(alloc, OffsetWidth::Narrow, validity, text, at, depth),
         DataType::LargeUtf8 => read_texts(alloc, OffsetWidth::Wide, validity, text, at, depth),
         DataType::List(_) | DataType::LargeList(_) | DataType::Dict => Err(Miss::Unread),
+    }
+}
+
+/// The values that stand here, or after spaces, as an array of the field's type. Lists aren't read.
+pub(crate) fn read_values(
+    alloc: Global,
+    field: EncodedField,
+    validity: &Option<BitmapBuf>,
+    text: &str,
+    at: usize,
+    depth: usize,
+) -> Result<Placed<Array>, Miss>
+    requires { at ≤ length text.now }
+    ensures ok { IfOk result (λ r. (ds : List Data) × SpellsAt depth (drop at text.now) (array (before ds no_items)) (drop r.end text.now)
+        × HoldsSlots (kind_in field.entry) (coding_in field.entry) validity.now ds r.value) }
+    ensures onward { IfOk result (λ r. at < r.end) }
+    ensures within { IfOk result (λ r. r.end ≤ length text.now) }
+{
+    let Some(coding) = field.coding else {
+        return read_plain(alloc, field.field, validity, text, at, depth);
+    };
+    match &field.field.ty {
+        DataType::Dict => read_codes(alloc, coding, validity, text, at, depth),
+        DataType::Int(_)
+        | DataType::Bool
+        | DataType::Utf8
+        | DataType::LargeUtf8
+        | DataType::List(_)
+        | DataType::LargeList(_) => Err(Miss::Unread),
     }
 }

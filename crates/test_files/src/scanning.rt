@@ -2,8 +2,9 @@
 
 use json_scan::{
     Literal, Miss, find_member, pass_number, pass_value, read_integer, read_integers, read_literal,
-    read_text,
+    read_text, read_value,
 };
+use serde_json::Value;
 use std::test::Fail;
 
 /// Values, and where they end: numbers at the limits of a double, escapes, surrogates alone and in pairs, marks too many and too few.
@@ -147,5 +148,79 @@ fn the_last_member_of_a_name_is_found(rt: HostRuntime) -> Result<(), Fail> {
     }
     assert!(rt; find_member("[]", 0, 2, "a").is_err());
     assert!(rt; find_member(text, 0, 1, "a").is_err());
+    Ok(())
+}
+
+/// Values of each kind: numbers at the limits of 64 bits and of a double, escapes, arrays and objects in one another, members of one name.
+static TREES: &[&str] = &[
+    "null",
+    " true",
+    "\nfalse",
+    "0",
+    "-0",
+    "18446744073709551615",
+    "18446744073709551616",
+    "-9223372036854775808",
+    "-9223372036854775809",
+    "-1.5e+3",
+    "1e308",
+    r#""""#,
+    r#""plain""#,
+    r#""a\n\u00e9\ud83d\ude00""#,
+    "[ ]",
+    "[1 , [true, []],\t\"b\"]",
+    "{ }",
+    r#"{"b" : [{"c":"\t"}], "a":{"b":null}, "":-7}"#,
+    r#"{"a":1,"b":2,"a":[3]}"#,
+];
+
+#[test]
+fn trees_are_read_as_serde_json_reads_them(rt: HostRuntime) -> Result<(), Fail> {
+    for text in TREES {
+        let read = read_value(rt.alloc(), *text, 0, 3).ok().ok_or("not read")?;
+        assert!(rt; read.value == Value::from_str(rt.alloc(), *text)?, "{text}");
+        assert!(rt; read.end == text.len(), "{text}");
+    }
+    Ok(())
+}
+
+#[test]
+fn a_tree_is_read_at_its_place(rt: HostRuntime) -> Result<(), Fail> {
+    let read = read_value(rt.alloc(), r#"[1, {"a" : [2]} ]"#, 3, 2)
+        .ok()
+        .ok_or("not read")?;
+    assert!(rt; read.value == Value::from_str(rt.alloc(), r#"{"a":[2]}"#)?);
+    assert!(rt; read.end == 15);
+    Ok(())
+}
+
+/// What isn't read, at the depth of its row: too deep, at fault, or with an escape in a key.
+static NO_TREES: &[(&str, usize)] = &[
+    ("[]", 0),
+    ("{}", 0),
+    ("[[1]]", 1),
+    (r#"{"a":{}}"#, 1),
+    (r#"[{"a":[]}]"#, 2),
+    ("", 9),
+    ("nul", 9),
+    ("01", 9),
+    ("1e309", 9),
+    (r#""a"#, 9),
+    (r#""\ud83d""#, 9),
+    ("[1,]", 9),
+    ("[1 2]", 9),
+    ("[1", 9),
+    (r#"{"a" 1}"#, 9),
+    (r#"{"a":1,}"#, 9),
+    ("{a:1}", 9),
+    (r#"{"\u0061":1}"#, 9),
+];
+
+#[test]
+fn no_tree_is_read_of_what_is_none(rt: HostRuntime) -> Result<(), Fail> {
+    for (text, depth) in NO_TREES {
+        let read = read_value(rt.alloc(), *text, 0, *depth);
+        assert!(rt; matches!(read, Err(Miss::Unread)), "{text}");
+    }
     Ok(())
 }

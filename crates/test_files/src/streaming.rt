@@ -1,10 +1,13 @@
 //! Columns read from the bytes of a text, beside what the reader of whole files makes of the same.
 
-use arrays::{Array, Field, Schema};
+use crate::lawful::expect_read;
+use arrays::{Array, Field, File, Schema, View, ViewType};
 use arrow_json::{read_field, read_file};
 use json_file::read_batches;
-use json_scan::Miss;
+use json_read::{Coding, FileHead, read_head};
+use json_scan::{Miss, find_member};
 use json_stream::{read_batch, read_column, read_columns};
+use serde_json::Value;
 use std::alloc::Global;
 use std::process::Abort;
 use std::sync::Arc;
@@ -21,8 +24,8 @@ const FILE: &str =
 const FIELD: &str = r#"{"name":"n","nullable":true,"type":{TYPE},"children":[]}"#;
 
 /// The column of a text, which ends where the text does.
-fn read(alloc: Global, field: &Field, text: &str) -> Result<Array, Miss> {
-    let read = read_column(alloc, field, text, 0, DEPTH)?;
+fn read(alloc: Global, field: &Field, coding: &Option<Coding>, text: &str) -> Result<Array, Miss> {
+    let read = read_column(alloc, field, coding, text, 0, DEPTH)?;
     if read.end == text.len() {
         Ok(read.value)
     } else {
@@ -40,20 +43,25 @@ fn expect(
 ) -> Result<(), Fail> {
     let field_text = FIELD.replace(alloc, "TYPE", ty)?;
     let field = read_field(alloc, field_text.as_bytes())?;
-    let read = read(alloc, &field, column).ok().ok_or("not read")?;
+    let read = read(alloc, &field, &None, column).ok().ok_or("not read")?;
     assert!(rt; shows(&read.view(), shown), "{column}");
-    let count = format!(in alloc; "{}", read.len())?;
-    let file = FILE
-        .replace(alloc, "FIELD", field_text.as_str())?
-        .as_str()
-        .replace(alloc, "COUNT", count.as_str())?
-        .as_str()
-        .replace(alloc, "COLUMN", column)?;
-    let file = read_file(alloc, file.as_bytes())?;
+    let file = file_of(alloc, field_text.as_str(), read.len(), column)?;
     let batch = file.batches().first().ok_or("no batch")?;
     let whole = batch.columns().first().ok_or("no column")?;
     assert!(rt; shows(&whole.view(), shown), "{column} of a file");
     Ok(())
+}
+
+/// The file of one column of this field, as the reader of files takes it.
+fn file_of(alloc: Global, field: &str, count: usize, column: &str) -> Result<File, Fail> {
+    let count = format!(in alloc; "{count}")?;
+    let file = FILE
+        .replace(alloc, "FIELD", field)?
+        .as_str()
+        .replace(alloc, "COUNT", count.as_str())?
+        .as_str()
+        .replace(alloc, "COLUMN", column)?;
+    Ok(read_file(alloc, file.as_bytes())?)
 }
 
 const INT8: &str = r#""name":"int","bitWidth":8,"isSigned":true"#;
@@ -166,7 +174,7 @@ fn what_is_at_fault_is_unread(rt: HostRuntime) -> Result<(), Fail> {
     let field = FIELD.replace(rt.alloc(), "TYPE", INT8)?;
     let field = read_field(rt.alloc(), field.as_bytes())?;
     for text in UNREAD {
-        let read = read(rt.alloc(), &field, *text);
+        let read = read(rt.alloc(), &field, &None, *text);
         assert!(&rt; matches!(read, Err(Miss::Unread)), "{text}");
     }
     Ok(())
@@ -202,7 +210,7 @@ fn schema(alloc: Global) -> Result<Arc<Schema>, Fail> {
 fn batches_are_read(rt: HostRuntime) -> Result<(), Fail> {
     let alloc = rt.alloc();
     let schema = schema(alloc)?;
-    let read = read_batch(alloc, &schema, BATCH, 0, DEPTH)
+    let read = read_batch(alloc, &schema, &[None, None], BATCH, 0, DEPTH)
         .ok()
         .ok_or("not read")?;
     assert!(&rt; read.end == BATCH.len() && read.value.rows() == 2);
@@ -211,12 +219,12 @@ fn batches_are_read(rt: HostRuntime) -> Result<(), Fail> {
     let texts = columns.get(1).ok_or("no texts")?;
     assert!(&rt; shows(&numbers.view(), Shown::Numbers(&[Some(1), None])));
     assert!(&rt; shows(&texts.view(), Shown::Texts(&[Some("a"), Some("b")])));
-    let none = read_columns(alloc, schema.fields(), " []", 0, DEPTH)
+    let none = read_columns(alloc, schema.fields(), &[None, None], " []", 0, DEPTH)
         .ok()
         .ok_or("not read")?;
     assert!(&rt; none.value.is_empty() && none.end == 3);
     for text in UNREAD_BATCHES {
-        let read = read_batch(alloc, &schema, *text, 0, DEPTH);
+        let read = read_batch(alloc, &schema, &[None, None], *text, 0, DEPTH);
         assert!(&rt; matches!(read, Err(Miss::Unread)), "{text}");
     }
     Ok(())
@@ -227,7 +235,7 @@ fn batches_share_their_schema(rt: HostRuntime) -> Result<(), Fail> {
     let alloc = rt.alloc();
     let schema = schema(alloc)?;
     let text = format!(in alloc; "[{BATCH} , {BATCH}]")?;
-    let read = read_batches(alloc, &schema, text.as_str(), 0, DEPTH)
+    let read = read_batches(alloc, &schema, &[None, None], text.as_str(), 0, DEPTH)
         .ok()
         .ok_or("not read")?;
     assert!(&rt; read.end == text.len() && read.value.len() == 2);
@@ -236,7 +244,368 @@ fn batches_share_their_schema(rt: HostRuntime) -> Result<(), Fail> {
         assert!(&rt; shows(&numbers.view(), Shown::Numbers(&[Some(1), None])));
     }
     let text = format!(in alloc; "[{BATCH},{{}}]")?;
-    let read = read_batches(alloc, &schema, text.as_str(), 0, DEPTH);
+    let read = read_batches(alloc, &schema, &[None, None], text.as_str(), 0, DEPTH);
     assert!(&rt; matches!(read, Err(Miss::Unread)));
+    Ok(())
+}
+
+/// A file of a field with a dictionary of three entries, of indices of the type INDEX, and of one batch with this column.
+const CODED: &str =
+    r#"{"schema":{"fields":[{"name":"s","nullable":true,"type":{"name":"utf8"},"children":[],"dictionary":{"id":7,"indexType":{INDEX}}}]},"dictionaries":[{"id":7,"data":{"count":3,"columns":[{"count":3,"VALIDITY":[1,0,1],"DATA":["a","","c"]}]}}],"batches":[{"count":COUNT,"columns":[COLUMN]}]}"#;
+
+/// The column of indices of this type by either reader: by that of columns, and as it stands in a file.
+fn read_both(
+    alloc: Global,
+    index: &str,
+    count: &str,
+    column: &str,
+) -> Result<(Result<Array, Miss>, Option<File>), Fail> {
+    let file = CODED
+        .replace(alloc, "INDEX", index)?
+        .as_str()
+        .replace(alloc, "COUNT", count)?
+        .as_str()
+        .replace(alloc, "COLUMN", column)?;
+    let head = read_head(alloc, &Value::from_str(alloc, file.as_str())?)?;
+    let field = head.schema.fields().first().ok_or("no field")?;
+    let coding = head.catalog.first().ok_or("no coding")?;
+    let read = read(alloc, field, coding, column);
+    Ok((read, read_file(alloc, file.as_bytes()).ok()))
+}
+
+const UINT8: &str = r#""name":"int","bitWidth":8,"isSigned":false"#;
+
+const INT16: &str = r#""name":"int","bitWidth":16,"isSigned":true"#;
+
+const UINT32: &str = r#""name":"int","bitWidth":32,"isSigned":false"#;
+
+/// A type of indices, a column of three of them, and the codes and texts that it holds.
+struct CodedCase {
+    index: &'static str,
+    column: &'static str,
+    codes: &'static [Option<i128>],
+    texts: &'static [Option<&'static str>],
+}
+
+#[rattlefmt::skip]
+static CODED_CASES: [CodedCase; 7] = [
+    CodedCase { index: INT8, column: r#"{"count":3,"VALIDITY":[1,1,1],"DATA":[2,0,1]}"#, codes: &[Some(2), Some(0), Some(1)], texts: &[Some("c"), Some("a"), None] },
+    CodedCase { index: UINT8, column: r#"{"count":3,"VALIDITY":[0,true,0],"DATA":[-1,2,"x"]}"#, codes: &[None, Some(2), None], texts: &[None, Some("c"), None] },
+    CodedCase { index: INT16, column: r#"{"DATA":[0,3,2],"VALIDITY":[1,0,1],"count":3}"#, codes: &[Some(0), None, Some(2)], texts: &[Some("a"), None, Some("c")] },
+    CodedCase { index: UINT32, column: r#"{"DATA":["2","02",2],"count":3}"#, codes: &[Some(2), Some(2), Some(2)], texts: &[Some("c"), Some("c"), Some("c")] },
+    CodedCase { index: INT64, column: r#"{"VALIDITY":[0,0,0],"DATA":["-0",[{}],null],"VALIDITY":[1,0,0],"count":3}"#, codes: &[Some(0), None, None], texts: &[Some("a"), None, None] },
+    CodedCase { index: UINT64, column: r#"{"VALIDITY":[1,0,1],"DATA":["0",18446744073709551616,"2"],"count":3}"#, codes: &[Some(0), None, Some(2)], texts: &[Some("a"), None, Some("c")] },
+    CodedCase { index: UINT64, column: r#"{"count":3,"VALIDITY":null,"DATA":[0,0,0]}"#, codes: &[Some(0), Some(0), Some(0)], texts: &[Some("a"), Some("a"), Some("a")] },
+];
+
+#[test]
+fn indices_lead_into_their_dictionary(rt: HostRuntime) -> Result<(), Fail> {
+    for case in &CODED_CASES {
+        let shown = Shown::Encoded(case.codes, &[Some("a"), None, Some("c")], case.texts);
+        let (read, file) = read_both(rt.alloc(), case.index, "3", case.column)?;
+        let read = read.ok().ok_or("not read")?;
+        assert!(&rt; shows(&read.view(), shown), "{}", case.column);
+        let file = file.ok_or("no file")?;
+        let batch = file.batches().first().ok_or("no batch")?;
+        let whole = batch.columns().first().ok_or("no column")?;
+        assert!(&rt; shows(&whole.view(), shown), "{} of a file", case.column);
+    }
+    Ok(())
+}
+
+/// A type of indices, and a column of one that isn't one, or is past the dictionary.
+static UNREAD_CODES: [(&str, &str); 9] = [
+    (INT8, r#"{"count":1,"DATA":[3]}"#),
+    (INT8, r#"{"count":1,"DATA":[-1]}"#),
+    (INT8, r#"{"DATA":["-1"],"VALIDITY":[1],"count":1}"#),
+    (INT64, r#"{"count":1,"DATA":[4294967296]}"#),
+    (UINT64, r#"{"count":1,"DATA":["18446744073709551615"]}"#),
+    (UINT8, r#"{"count":1,"DATA":[256]}"#),
+    (UINT32, r#"{"count":1,"DATA":["a"]}"#),
+    (INT16, r#"{"count":1,"DATA":[1.0]}"#),
+    (INT16, r#"{"count":1,"VALIDITY":[],"DATA":[1]}"#),
+];
+
+#[test]
+fn an_index_past_its_dictionary_is_unread(rt: HostRuntime) -> Result<(), Fail> {
+    for (index, column) in &UNREAD_CODES {
+        let (read, file) = read_both(rt.alloc(), *index, "1", *column)?;
+        assert!(&rt;
+            matches!(read, Err(Miss::Unread)) && file.is_none(),
+            "{column}"
+        );
+    }
+    Ok(())
+}
+
+/// A file of two fields that share a dictionary, and of two batches.
+const SHARED: &str =
+    r#"{"schema":{"fields":[{"name":"a","nullable":true,"type":{"name":"utf8"},"children":[],"dictionary":{"id":7,"indexType":{"name":"int","bitWidth":8,"isSigned":true}}},{"name":"n","nullable":true,"type":{"name":"bool"},"children":[]},{"name":"b","nullable":true,"type":{"name":"utf8"},"children":[],"dictionary":{"id":7,"indexType":{"name":"int","bitWidth":64,"isSigned":false}}}]},"dictionaries":[{"id":7,"data":{"count":2,"columns":[{"count":2,"DATA":["x","y"]}]}}],"batches":[{"count":2,"columns":[{"count":2,"DATA":[1,0]},{"count":2,"DATA":[1,0]},{"count":2,"VALIDITY":[0,1],"DATA":[9,"1"]}]},{"count":0,"columns":[{"count":0,"DATA":[]},{"count":0,"DATA":[]},{"count":0,"DATA":[]}]}]}"#;
+
+#[test]
+fn fields_share_a_dictionary(rt: HostRuntime) -> Result<(), Fail> {
+    let alloc = rt.alloc();
+    let head = read_head(alloc, &Value::from_str(alloc, SHARED)?)?;
+    let found = find_member(SHARED, 0, DEPTH, "batches")
+        .ok()
+        .ok_or("no object")?;
+    let at = found.value.ok_or("no batches")?.min(SHARED.len());
+    let schema = head.schema;
+    let none = read_batches(alloc, &schema, &[], SHARED, at, DEPTH);
+    assert!(&rt; matches!(none, Err(Miss::Unread)));
+    let other = read_batches(alloc, &schema, &[None, None, None], SHARED, at, DEPTH);
+    assert!(&rt; matches!(other, Err(Miss::Unread)));
+    expect_read(&rt, alloc, SHARED)
+}
+
+#[test]
+fn only_a_dictionary_is_encoded(rt: HostRuntime) -> Result<(), Fail> {
+    let alloc = rt.alloc();
+    let FileHead { schema, catalog } = read_head(alloc, &Value::from_str(alloc, SHARED)?)?;
+    let column = r#"{"count":1,"DATA":[1]}"#;
+    let encoded = schema.fields().first().ok_or("no field")?;
+    let plain = schema.fields().get(1).ok_or("one field")?;
+    let coding = catalog.first().ok_or("no coding")?;
+    assert!(&rt; read(alloc, encoded, coding, column).is_ok());
+    assert!(&rt; matches!(read(alloc, encoded, &None, column), Err(Miss::Unread)));
+    assert!(&rt; matches!(read(alloc, plain, coding, column), Err(Miss::Unread)));
+    assert!(&rt; read(alloc, plain, &None, column).is_ok());
+    Ok(())
+}
+
+/// A type of lists, the item's type and the item's own children, the members of a column but for its count, and what the lists hold.
+struct ListCase {
+    ty: &'static str,
+    item: &'static str,
+    below: &'static str,
+    validity: &'static str,
+    offsets: &'static str,
+    child: &'static str,
+    lists: &'static [Option<Shown>],
+}
+
+const LIST: &str = r#""name":"list""#;
+
+const LARGE_LIST: &str = r#""name":"largelist""#;
+
+/// A field of lists of ITEM.
+const LISTS: &str =
+    r#"{"name":"n","nullable":true,"type":{TYPE},"children":[{"name":"i","nullable":true,"type":{ITEM},"children":[BELOW]}]}"#;
+
+/// A field of integers of 8 bits, and one of lists of them.
+const BYTES: &str =
+    r#"{"name":"b","nullable":true,"type":{"name":"int","bitWidth":8,"isSigned":true},"children":[]}"#;
+
+const LISTS_OF_BYTES: &str =
+    r#"{"name":"l","nullable":true,"type":{"name":"largelist"},"children":[{"name":"b","nullable":true,"type":{"name":"int","bitWidth":8,"isSigned":true},"children":[]}]}"#;
+
+#[rattlefmt::skip]
+static LIST_CASES: [ListCase; 9] = [
+    ListCase {
+        ty: LIST, item: INT8, below: "",
+        validity: r#""VALIDITY":[1,0,true,1]"#, offsets: r#""OFFSET":[0,2,3,3,4]"#, child: r#"{"count":4,"VALIDITY":[1,0,1,1],"DATA":[1,"x",9,-3]}"#,
+        lists: &[Some(Shown::Numbers(&[Some(1), None])), None, Some(Shown::Numbers(&[])), Some(Shown::Numbers(&[Some(-3)]))],
+    },
+    ListCase {
+        ty: LIST, item: LARGE_LIST, below: BYTES,
+        validity: r#""VALIDITY":[1,1,0]"#, offsets: r#""OFFSET":[0,2,3,3]"#,
+        child: r#"{"children":[{"DATA":[5,6],"count":2}],"OFFSET":["0","1",1,2],"VALIDITY":[1,0,1],"count":3}"#,
+        lists: &[Some(Shown::Lists(&[Some(&[Some(5)]), None])), Some(Shown::Lists(&[Some(&[Some(6)])])), None],
+    },
+    ListCase {
+        ty: LARGE_LIST, item: INT8, below: "",
+        validity: r#""VALIDITY":null"#, offsets: r#""OFFSET":["1", "3" ,"03"]"#, child: r#" {"count":4,"DATA":[1,2,3,4]} "#,
+        lists: &[Some(Shown::Numbers(&[Some(2), Some(3)])), Some(Shown::Numbers(&[]))],
+    },
+    ListCase {
+        ty: LIST, item: UTF8, below: "",
+        validity: r#""VALIDITY":[1,1]"#, offsets: r#""OFFSET":[0,1,3]"#, child: r#"{"count":3,"VALIDITY":[1,0,1],"OFFSET":[0],"DATA":["a]\n","",""]}"#,
+        lists: &[Some(Shown::Texts(&[Some("a]\n")])), Some(Shown::Texts(&[None, Some("")]))],
+    },
+    ListCase {
+        ty: LARGE_LIST, item: BOOL, below: "",
+        validity: r#""VALIDITY":[false,1]"#, offsets: r#""OFFSET":[0,0,"2"]"#, child: r#"{"count":2,"DATA":[true,0]}"#,
+        lists: &[None, Some(Shown::Bools(&[Some(true), Some(false)]))],
+    },
+    ListCase {
+        ty: LIST, item: INT8, below: "",
+        validity: r#""VALIDITY":[]"#, offsets: r#""OFFSET":[]"#, child: r#"{"count":0,"DATA":[]}"#,
+        lists: &[],
+    },
+    ListCase {
+        ty: LARGE_LIST, item: LIST, below: BYTES,
+        validity: r#""other":[[{}]]"#, offsets: r#""OFFSET":[0]"#, child: r#"{"count":1,"OFFSET":[0,0],"children":[{"count":0,"DATA":[]}]}"#,
+        lists: &[],
+    },
+    ListCase {
+        ty: LARGE_LIST, item: LIST, below: LISTS_OF_BYTES,
+        validity: r#""VALIDITY":[1]"#, offsets: r#""OFFSET":[0,1]"#,
+        child: r#"{"count":1,"OFFSET":[0,2],"children":[{"count":2,"OFFSET":[0,1,1],"VALIDITY":[1,0],"children":[{"count":1,"DATA":[8]}]}]}"#,
+        lists: &[Some(Shown::ListsOfLists(&[Some(&[Some(&[Some(8)]), None])]))],
+    },
+    ListCase {
+        ty: LIST, item: INT8, below: "",
+        validity: r#""VALIDITY":[0],"OFFSET":[0,2],"count":5,"children":[{"count":2,"DATA":[9,9]}],"VALIDITY":null"#, offsets: r#""OFFSET":[0,1]"#,
+        child: r#"{"count":1,"DATA":[4]}"#, lists: &[Some(Shown::Numbers(&[Some(4)]))],
+    },
+];
+
+/// Whether the slots of a view hold these lists.
+fn shows_each(view: &View<'_>, lists: &[Option<Shown>]) -> bool {
+    let ViewType::List(_, _) = view.ty() else {
+        return false;
+    };
+    if view.len() != lists.len() {
+        return false;
+    }
+    for (i, list) in lists.iter().enumerate() {
+        let is_same = match (view.list_at(i), list) {
+            (Some(items), Some(shown)) => shows(&items, *shown),
+            (None, None) => true,
+            _ => false,
+        };
+        if !is_same || view.holds(i) != list.is_some() {
+            return false;
+        }
+    }
+    true
+}
+
+/// Asserts that both readers take a column of lists, and that it holds these.
+fn expect_lists(rt: &impl Abort, alloc: Global, case: &ListCase, column: &str) -> Result<(), Fail> {
+    let field_text = lists_field(alloc, case)?;
+    let field = read_field(alloc, field_text.as_bytes())?;
+    let read = read(alloc, &field, &None, column).ok().ok_or("not read")?;
+    assert!(rt; shows_each(&read.view(), case.lists), "{column}");
+    let file = file_of(alloc, field_text.as_str(), read.len(), column)?;
+    let batch = file.batches().first().ok_or("no batch")?;
+    let whole = batch.columns().first().ok_or("no column")?;
+    assert!(rt; shows_each(&whole.view(), case.lists), "{column} of a file");
+    Ok(())
+}
+
+/// The text of the field of a column of lists.
+fn lists_field(alloc: Global, case: &ListCase) -> Result<String, Fail> {
+    let text = LISTS.replace(alloc, "TYPE", case.ty)?;
+    let text = text.as_str().replace(alloc, "ITEM", case.item)?;
+    Ok(text.as_str().replace(alloc, "BELOW", case.below)?)
+}
+
+#[test]
+fn lists_are_read(rt: HostRuntime) -> Result<(), Fail> {
+    let alloc = rt.alloc();
+    for case in &LIST_CASES {
+        let (validity, offsets, child) = (case.validity, case.offsets, case.child);
+        let count = case.lists.len();
+        let column = format!(in alloc;
+            "{{\"name\":\"n\",{validity},\"count\":{count},{offsets},\"children\":[{child}]}}"
+        )?;
+        expect_lists(&rt, alloc, case, column.as_str())?;
+    }
+    Ok(())
+}
+
+/// The orders of four members.
+#[rattlefmt::skip]
+static ORDERS: [[usize; 4]; 24] = [
+    [0, 1, 2, 3], [0, 1, 3, 2], [0, 2, 1, 3], [0, 2, 3, 1], [0, 3, 1, 2], [0, 3, 2, 1],
+    [1, 0, 2, 3], [1, 0, 3, 2], [1, 2, 0, 3], [1, 2, 3, 0], [1, 3, 0, 2], [1, 3, 2, 0],
+    [2, 0, 1, 3], [2, 0, 3, 1], [2, 1, 0, 3], [2, 1, 3, 0], [2, 3, 0, 1], [2, 3, 1, 0],
+    [3, 0, 1, 2], [3, 0, 2, 1], [3, 1, 0, 2], [3, 1, 2, 0], [3, 2, 0, 1], [3, 2, 1, 0],
+];
+
+#[test]
+fn members_of_lists_come_in_any_order(rt: HostRuntime) -> Result<(), Fail> {
+    let alloc = rt.alloc();
+    for case in LIST_CASES.iter().take(2) {
+        let count = format!(in alloc; "\"count\":{}", case.lists.len())?;
+        let children = format!(in alloc; "\"children\":[{}]", case.child)?;
+        let members = [
+            count.as_str(),
+            case.validity,
+            case.offsets,
+            children.as_str(),
+        ];
+        for order in &ORDERS {
+            let mut column = String::new(alloc);
+            for i in order {
+                let start = if column.is_empty() { "{" } else { "," };
+                column.push_str(start)?;
+                column.push_str(members.get(*i).ok_or("no member")?)?;
+            }
+            column.push_str("}")?;
+            expect_lists(&rt, alloc, case, column.as_str())?;
+        }
+    }
+    Ok(())
+}
+
+/// Columns of lists of integers of 8 bits, with narrow offsets, that are at fault.
+const UNREAD_LISTS: &[&str] = &[
+    "[]",
+    "{}",
+    r#"{"OFFSET":[0,1],"children":[{"count":1,"DATA":[1]}]}"#,
+    r#"{"count":1,"children":[{"count":1,"DATA":[1]}]}"#,
+    r#"{"count":1,"OFFSET":[0,1]}"#,
+    r#"{"count":1,"OFFSET":[0,1],"children":[]}"#,
+    r#"{"count":1,"OFFSET":[0,1],"children":{"count":1,"DATA":[1]}}"#,
+    r#"{"count":1,"OFFSET":[0,1],"children":[{"count":1,"DATA":[1]},{"count":1,"DATA":[1]}]}"#,
+    r#"{"count":1,"OFFSET":[0,2],"children":[{"count":1,"DATA":[1]}]}"#,
+    r#"{"count":2,"OFFSET":[0,2,1],"children":[{"count":2,"DATA":[1,2]}]}"#,
+    r#"{"count":1,"OFFSET":[-1,0],"children":[{"count":1,"DATA":[1]}]}"#,
+    r#"{"count":1,"OFFSET":[0,4294967296],"children":[{"count":1,"DATA":[1]}]}"#,
+    r#"{"count":1,"OFFSET":[0,0.5],"children":[{"count":1,"DATA":[1]}]}"#,
+    r#"{"count":1,"OFFSET":[0],"children":[{"count":1,"DATA":[1]}]}"#,
+    r#"{"count":1,"OFFSET":[0,1,1],"children":[{"count":1,"DATA":[1]}]}"#,
+    r#"{"count":0,"OFFSET":[0,1],"children":[{"count":1,"DATA":[1]}]}"#,
+    r#"{"count":1,"OFFSET":[],"children":[{"count":0,"DATA":[]}]}"#,
+    r#"{"count":1,"OFFSET":null,"children":[{"count":1,"DATA":[1]}]}"#,
+    r#"{"count":1,"OFFSET":[0,1],"children":[{"count":2,"DATA":[1]}]}"#,
+    r#"{"count":1,"OFFSET":[0,1],"children":[{"count":1,"DATA":[128]}]}"#,
+    r#"{"count":1,"OFFSET":[0,1],"VALIDITY":[1,1],"children":[{"count":1,"DATA":[1]}]}"#,
+    r#"{"count":1,"OFFSET":[0,1],"VALIDITY":[2],"children":[{"count":1,"DATA":[1]}]}"#,
+    r#"{"count":1,"OFFSET":[0,1],"children":[{"count":1,"DATA":[1]}]"#,
+];
+
+#[test]
+fn lists_at_fault_are_unread(rt: HostRuntime) -> Result<(), Fail> {
+    let alloc = rt.alloc();
+    let case = LIST_CASES.first().ok_or("no case")?;
+    let field = read_field(alloc, lists_field(alloc, case)?.as_bytes())?;
+    for text in UNREAD_LISTS {
+        let read = read(alloc, &field, &None, *text);
+        assert!(&rt; matches!(read, Err(Miss::Unread)), "{text}");
+    }
+    Ok(())
+}
+
+/// Columns of lists of such lists that are at fault below, where the lists would be found.
+const UNREAD_BELOW: &[&str] = &[
+    r#"{"count":0,"OFFSET":[0],"children":[[]]}"#,
+    r#"{"count":0,"OFFSET":[0],"children":[{"count":0,"OFFSET":[0]}]}"#,
+    r#"{"count":0,"OFFSET":[0],"children":[{"count":1,"OFFSET":[0,4294967297],"children":[{"count":1,"DATA":[1]}]}]}"#,
+    r#"{"count":0,"OFFSET":[0],"children":[{"count":0,"OFFSET":[0],"children":[{"count":1,"DATA":[]}]}]}"#,
+    r#"{"count":0,"OFFSET":[0],"children":[{"count":0,"OFFSET":[0],"children":[{"count":0,"DATA":[]}]},1]}"#,
+    r#"{"count":0,"OFFSET":[0],"children":[{"count":0,"OFFSET":[0],"children":[{"count":0,"DATA":[]}]}:1]}"#,
+];
+
+#[test]
+fn lists_at_fault_below_are_unread(rt: HostRuntime) -> Result<(), Fail> {
+    let alloc = rt.alloc();
+    let case = LIST_CASES.get(1).ok_or("no case")?;
+    let field = read_field(alloc, lists_field(alloc, case)?.as_bytes())?;
+    for text in UNREAD_BELOW {
+        let read = read(alloc, &field, &None, *text);
+        assert!(&rt; matches!(read, Err(Miss::Unread)), "{text}");
+    }
+    let deep =
+        r#"{"count":0,"OFFSET":[],"children":[{"count":0,"OFFSET":[],"children":[{"count":0,"DATA":[]}]}]}"#;
+    assert!(&rt; read_column(alloc, &field, &None, deep, 0, 6).is_ok());
+    assert!(&rt;
+        matches!(
+            read_column(alloc, &field, &None, deep, 0, 5),
+            Err(Miss::Unread)
+        )
+    );
     Ok(())
 }

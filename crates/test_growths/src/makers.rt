@@ -8,9 +8,10 @@ use crate::refusals::Refused;
 use crate::run::{Due, Ran, Scene, Stop, answered, run, told};
 use crate::samples::{BY_TEXT, TWO_BATCHES};
 use crate::sweep::Trial;
-use crate::tell::{tell_array, tell_batch, tell_file, tell_version};
+use crate::tell::{tell_array, tell_arrays, tell_batch, tell_batches, tell_file, tell_version};
 use arrays::{
-    Array, BuildFault, DataType, Field, IntBuilder, ListBuilder, OffsetWidth, TextBuilder, Words,
+    Array, BuildFault, DataType, Field, IntBuilder, ListBuilder, OffsetWidth, Schema, TextBuilder,
+    Words,
 };
 use arrow_json::{read_field, read_file, read_file_from_vec, read_query};
 use colbits::{BitmapBuf, BitmapBuilder, Bits, Buffer, NoMemory};
@@ -19,8 +20,10 @@ use ends::read_whole;
 use flat::{batch_of, schema_of};
 use intake::table_of;
 use job::job;
-use json_scan::{read_integers, read_text};
-use json_stream::read_column;
+use json_file::{read_batches, read_text as read_file_text};
+use json_read::{Coding, read_head};
+use json_scan::{read_integers, read_text, read_value};
+use json_stream::{read_batch, read_column, read_columns};
 use std::alloc::Global;
 use std::sync::Arc;
 use std::test::Fail;
@@ -63,7 +66,21 @@ pub(crate) enum Document {
     Job,
     Text,
     Integers,
+    Tree,
     Column,
+    Codes,
+    FileTree,
+    FileText,
+    Head,
+    Part(Part),
+}
+
+/// What is read of batches.
+#[derive(Clone, Copy)]
+pub(crate) enum Part {
+    Columns,
+    Batch,
+    Batches,
 }
 
 /// What is made of nodes.
@@ -105,7 +122,7 @@ pub(crate) static MAKERS: [(&str, Maker); 17] = [
 ];
 
 #[rattlefmt::skip]
-pub(crate) static DOCUMENTS: [(&str, Maker); 12] = [
+pub(crate) static DOCUMENTS: [(&str, Maker); 20] = [
     ("read_file", Maker::Document(Document::File(TWO_BATCHES))),
     ("read_file, a wrong kind", Maker::Document(Document::File(WRONG_KIND))),
     ("read_file, an offset past the items", Maker::Document(Document::File(PAST_END))),
@@ -117,7 +134,15 @@ pub(crate) static DOCUMENTS: [(&str, Maker); 12] = [
     ("job", Maker::Document(Document::Job)),
     ("json_scan::read_text", Maker::Document(Document::Text)),
     ("json_scan::read_integers", Maker::Document(Document::Integers)),
+    ("json_scan::read_value", Maker::Document(Document::Tree)),
     ("json_stream::read_column", Maker::Document(Document::Column)),
+    ("json_stream::read_column, encoded", Maker::Document(Document::Codes)),
+    ("json_stream::read_columns", Maker::Document(Document::Part(Part::Columns))),
+    ("json_stream::read_batch", Maker::Document(Document::Part(Part::Batch))),
+    ("json_file::read_batches", Maker::Document(Document::Part(Part::Batches))),
+    ("json_file::read_text", Maker::Document(Document::FileText)),
+    ("json_read::read_head", Maker::Document(Document::Head)),
+    ("json_read::read_file", Maker::Document(Document::FileTree)),
 ];
 
 #[rattlefmt::skip]
@@ -150,11 +175,25 @@ const NO_AGGREGATE: &str = r#"{"by":["s"],"aggs":[{"agg":"mean","column":"n"}]}"
 const COLUMN: &str =
     r#"{"count":3,"VALIDITY":[1,0,1],"DATA":["plain",7,"\u0061\u0062\u0063\u0064\u0065\u0066\u0067\u0068\u0069\u006a\u006b\u006c\u006d\u006e"]}"#;
 
+/// Batches of such a column, one.
+const BATCHES: &str =
+    r#"[{"count":3,"columns":[{"count":3,"VALIDITY":[1,0,1],"DATA":["plain",7,"\u0061\u0062\u0063\u0064\u0065\u0066\u0067\u0068\u0069\u006a\u006b\u006c\u006d\u006e"]}]}]"#;
+
+/// Where its columns stand.
+const COLUMNS_AT: usize = 22;
+
+/// A column of indices with a null.
+const CODES: &str = r#"{"count":3,"DATA":[1,null,0],"VALIDITY":[1,0,1]}"#;
+
 /// A string in which much is escaped.
 const ESCAPED: &str =
     r#"  "a text\n\u00e9\ud83d\ude00 that is longer than a buffer is at first, \"twice\"", "#;
 
 const INTEGERS: &str = "[1, -2, 3, 18446744073709551615, 5, 6, 7, 8, 9, 10]";
+
+/// Values of each kind in one another, with more items than there is room for at first.
+const TREE: &str =
+    r#"{"a":[true,null,-1,1.5,"plain","\u0061\u0062\u0063",{"b":[],"c":{}},8,9,10],"d":{},"a2":2}"#;
 
 #[rattlefmt::skip]
 const WORDS: [&str; 9] =
@@ -312,14 +351,87 @@ fn read(alloc: Global, report: &mut String, document: Document) -> Result<(), St
             told(report, read_text(ESCAPED, 0, &mut buffer))
         }
         Document::Integers => told(report, read_integers(alloc, INTEGERS, 0, 1)),
-        Document::Column => {
-            let field = Field {
-                name: String::from_str(alloc, "s")?,
-                nullable: true,
-                ty: DataType::Utf8,
-            };
-            let column = answered(report, read_column(alloc, &field, COLUMN, 0, 2))?;
-            Ok(tell_array(report, &column.value)?)
+        Document::Tree => told(report, read_value(alloc, TREE, 0, 4)),
+        Document::Column => read_one(alloc, report, DataType::Utf8, &None, COLUMN),
+        Document::Codes => {
+            let coding = answered(report, coding(alloc))?;
+            read_one(alloc, report, DataType::Dict, &Some(coding), CODES)
+        }
+        Document::FileTree => {
+            let file = answered(report, json_read::read_file(alloc, TWO_BATCHES.as_bytes()))?;
+            Ok(tell_file(report, &file)?)
+        }
+        Document::FileText => {
+            let file = answered(report, read_file_text(alloc, TWO_BATCHES))?;
+            Ok(tell_file(report, &file)?)
+        }
+        Document::Head => {
+            let document = answered(report, read_value(alloc, TWO_BATCHES, 0, 20))?;
+            let head = answered(report, read_head(alloc, &document.value))?;
+            let fields = head.schema.fields();
+            Ok(write!(report, "{fields:?}")?)
+        }
+        Document::Part(part) => read_part(alloc, report, part),
+    }
+}
+
+/// A coding by two texts.
+fn coding(alloc: Global) -> Result<Coding, BuildFault> {
+    let words = Words::of(Array::of_texts(alloc, &[Some(LONG), Some("")])?);
+    Ok(Coding {
+        index: INT8,
+        words: Arc::new(alloc, words)?,
+    })
+}
+
+/// Tells the column of a field.
+fn read_one(
+    alloc: Global,
+    report: &mut String,
+    ty: DataType,
+    coding: &Option<Coding>,
+    column: &str,
+) -> Result<(), Stop> {
+    let field = Field {
+        name: String::from_str(alloc, "s")?,
+        nullable: true,
+        ty,
+    };
+    let column = answered(report, read_column(alloc, &field, coding, column, 0, 2))?;
+    Ok(tell_array(report, &column.value)?)
+}
+
+/// The schema of one column of texts.
+fn schema_of_texts(alloc: Global) -> Result<Arc<Schema>, NoMemory> {
+    let field = Field {
+        name: String::from_str(alloc, "s")?,
+        nullable: true,
+        ty: DataType::Utf8,
+    };
+    let Ok(schema) = Schema::new(vec![in alloc; field]?) else {
+        return Err(NoMemory);
+    };
+    Arc::new(alloc, schema).map_err(|_| NoMemory)
+}
+
+/// Tells what is read of batches of texts.
+fn read_part(alloc: Global, report: &mut String, part: Part) -> Result<(), Stop> {
+    let schema = answered(report, schema_of_texts(alloc))?;
+    match part {
+        Part::Columns => {
+            let fields = schema.fields();
+            let columns = read_columns(alloc, fields, &[None], BATCHES, COLUMNS_AT, 4);
+            let columns = answered(report, columns)?;
+            Ok(tell_arrays(report, &columns.value)?)
+        }
+        Part::Batch => {
+            let batch = answered(report, read_batch(alloc, &schema, &[None], BATCHES, 1, 5))?;
+            Ok(tell_batch(report, &batch.value)?)
+        }
+        Part::Batches => {
+            let batches = read_batches(alloc, &schema, &[None], BATCHES, 0, 6);
+            let batches = answered(report, batches)?;
+            Ok(tell_batches(report, &batches.value)?)
         }
     }
 }

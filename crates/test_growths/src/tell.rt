@@ -83,7 +83,10 @@ pub(crate) fn tell_rows(report: &mut String, batch: &RecordBatch) -> Result<(), 
 }
 
 /// Tells batches, one after the other.
-fn tell_batches(report: &mut String, batches: &[Arc<RecordBatch>]) -> Result<(), AllocError> {
+pub(crate) fn tell_batches(
+    report: &mut String,
+    batches: &[Arc<RecordBatch>],
+) -> Result<(), AllocError> {
     for batch in batches {
         tell_batch(report, batch)?;
     }

@@ -14,4 +14,4 @@ under-requires c =
     let even : All (λ (s : Seen). length s.items ≡ c.args.rows) columns = search rules in
     let small : c.args.rows ≤ 2147483647 = omega arith in
     let named : arc_value c.in-Ok.schema ≡ arc_value c.args.schema.now = c.in-Ok.ensures.cases in
-    subst (λ s. batch_fault s c.args.rows columns ≡ None) (sym named) (lawful_batch (arc_value c.args.schema.now) c.requires.0 columns c.args.rows c.requires.1 len even small)
+    subst (λ s. batch_fault s c.args.rows columns ≡ None) (sym named) (lawful_batch (arc_value c.args.schema.now) c.requires.0 c.requires.1 columns c.args.rows c.requires.2 len even small)

@@ -7,10 +7,10 @@ use Rattle.json_stream.proofs.batch.read_batch.Goals as goal
 pub returns-in-Ok-clause-ok : goal.returns-in-Ok-clause-ok
 returns-in-Ok-clause-ok c =
     let read = c.in_ok-end.ensures.ok in
-    let h = read.2 (refl, record { count = refl; columns = tt }) in
+    let h = read.2 (refl, refl, record { count = refl; columns = tt }) in
     let made = c.in-Ok.ensures in (
       object read.0,
       read.1,
-      batch_read (arc_value c.args.schema.now) _ read.0 c.read_object.new.visitor c.in-Some.rows c.in-Some-columns.columns c.in-Ok.value (c.fields.ensures.value ∙ c.deref.ensures) h.1 c.in-Some.is c.in-Some-columns.is made.rows made.columns
+      batch_read (arc_value c.args.schema.now) _ _ read.0 c.read_object.new.visitor c.in-Some.rows c.in-Some-columns.columns c.in-Ok.value (c.fields.ensures.value ∙ c.deref.ensures) h.2 c.in-Some.is c.in-Some-columns.is made.rows made.columns
           made.whole made.even,
     )

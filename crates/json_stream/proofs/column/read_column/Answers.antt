@@ -1,14 +1,10 @@
-use Rattle.std.proofs.Common.{refl, ap}
-use Rattle.types.specs.declared.data_type.Field.{out-Field}
-use Rattle.arrays.specs.Kind.{kind_of}
-use Rattle.serde_json.specs.Data.{object}
-use Rattle.json_stream.proofs.ColumnLemmas.{column_known}
+use Rattle.std.proofs.Common.{◌≡◌, None, option_map, rules}
+use Rattle.json_read.specs.CatalogParts.{coding_of}
+use Rattle.json_stream.proofs.ColumnLemmas.{plain_top}
 use Rattle.json_stream.proofs.column.read_column.Goals as goal
 
 pub returns-in-Ok-clause-ok : goal.returns-in-Ok-clause-ok
 returns-in-Ok-clause-ok c =
-    let read = c.in_ok-end.ensures.ok in
-    let parts = c.read_object.new.visitor in
-    let h = read.2 (refl, record { count = refl; validity = refl; place = refl; values = tt }) in
-    let kind = ap (λ f. kind_of (out-Field f.now).ty) h.0 in
-    (object read.0, read.1, column_known _ _ _ _ c.args.text.now read.0 parts c.in-Ok.value kind c.saturating_sub.ensures (c.in-Ok.ensures read.0) h.1)
+    let read = c.in-Ok.ensures.ok in
+    let none : option_map coding_of c.args.coding.now ≡ None = search rules in
+    (read.0, read.1, plain_top _ _ _ _ _ none read.2)

@@ -6,4 +6,4 @@ returns-in-Ok c =
     λ found stands.
     let read = c.in-Ok.ensures.ok in
     let place = rw c.in-Some.is at stands in
-    placed_values _ c.args.depth c.args.text.now c.args.validity.now found c.in-Some.place read.0 c.in-Ok.values.value place (rw c.if-read_values-place.true at read.1) read.2
+    placed_values _ _ c.args.depth c.args.text.now c.args.validity.now found c.in-Some.place read.0 c.in-Ok.values.value place (rw c.if-read_values-place.true at read.1) read.2

@@ -1,10 +1,11 @@
-use Rattle.std.proofs.Common.{◌≡◌, ◌≢◌, refl, subst, rules}
+use Rattle.std.proofs.Common.{◌≡◌, ◌≢◌, map, option_map, refl, ap, rules}
 use Rattle.arrays.specs.Shape.{fields_of}
 use Rattle.serde_json.specs.Data.{number, array, no_items}
 use Rattle.json_base.specs.JsonPath.{member_name}
 use Rattle.json_base.specs.declared.path.Member.TheVariants as member
+use Rattle.json_read.specs.CatalogParts.{coding_of}
 use Rattle.json_scan.specs.Spelling.{before}
-use Rattle.json_stream.specs.Columns.{AreColumns}
+use Rattle.json_stream.proofs.BatchLemmas.{columns_known}
 use Rattle.json_stream.proofs.ColumnLemmas.{counted}
 use Rattle.json_stream.proofs.ReadBatches.{rows_taken, columns_taken, other_passed}
 use Rattle.json_stream.proofs.batch.BatchPartsMemberVisitor.visit.Goals as goal
@@ -14,19 +15,24 @@ returns-then-eq-clause-ok c =
     let read = rw c.as_bytes.ensures.value at c.in-Some.ensures.reads in
     let n = c.in-Some.count.value in
     let same : c.args.name.now ≡ member_name member.Count = search rules in
-    (number read.0, read.2 c.args.depth, λ first ms h. (h.0, rows_taken _ c.args.name.now (number read.0) ms c.args.self.now h.1 n same (counted read.0 n read.1 c.in-Some.ensures.small)))
+    (number read.0, read.2 c.args.depth, λ first ms h. (h.0, h.1, rows_taken _ _ c.args.name.now (number read.0) ms c.args.self.now h.2 n same (counted read.0 n read.1 c.in-Some.ensures.small)))
 
 pub returns-then-eq-2-clause-ok : goal.returns-then-eq-2-clause-ok
 returns-then-eq-2-clause-ok c =
     let read = c.in_ok-columns.ensures.ok in
     let columns = c.in_ok-columns.columns.value in
     let same : c.args.name.now ≡ member_name member.Columns = search rules in
-    let d = array (before read.0 no_items) in
-    (d, read.1, λ first ms h. (h.0, columns_taken _ c.args.name.now d ms c.args.self.now h.1 columns read.0 same refl (subst (λ r. AreColumns (fields_of r.now) read.0 columns.items) h.0 read.2)))
+    let d = array (before read.0 no_items) in (
+      d,
+      read.1,
+      λ first ms h.
+          let are = columns_known _ _ _ _ read.0 columns.items (ap (λ r. fields_of r.now) h.0) (ap (λ r. map (option_map coding_of) r.now) h.1) read.2 in
+          (h.0, h.1, columns_taken _ _ c.args.name.now d ms c.args.self.now h.2 columns read.0 same refl are),
+    )
 
 pub returns-in-Some-pass_value-clause-ok : goal.returns-in-Some-pass_value-clause-ok
 returns-in-Some-pass_value-clause-ok c =
     let read = rw c.as_bytes-2.ensures.value at c.in-Some-pass_value.ensures.reads in
     let no_count : c.args.name.now ≢ member_name member.Count = search rules in
     let no_columns : c.args.name.now ≢ member_name member.Columns = search rules in
-    (read.0, read.1, λ first ms h. (h.0, other_passed _ c.args.name.now read.0 ms c.args.self.now h.1 no_count no_columns))
+    (read.0, read.1, λ first ms h. (h.0, h.1, other_passed _ _ c.args.name.now read.0 ms c.args.self.now h.2 no_count no_columns))

@@ -1,11 +1,10 @@
-use Rattle.std.proofs.Common.{◌≡◌, ◌≢◌, false, drop, Some, ap, subst, rules}
-use Rattle.types.specs.declared.data_type.Field.{out-Field}
-use Rattle.arrays.specs.Kind.{kind_of}
+use Rattle.std.proofs.Common.{◌≡◌, ◌≢◌, false, drop, Some, subst, rules}
 use Rattle.json.specs.Lex.{lex, between, begins_colon}
 use Rattle.serde_json.specs.Data.{number}
 use Rattle.json_base.specs.JsonPath.{member_name}
 use Rattle.json_base.specs.declared.path.Member.TheVariants as member
 use Rattle.json_stream.specs.Column.{IsValues}
+use Rattle.json_stream.specs.Field.{kind_in, coding_in}
 use Rattle.json_stream.proofs.ColumnLemmas.{count_taken, counted, validity_taken, data_taken, passed}
 use Rattle.json_stream.proofs.column.ColumnPartsMemberVisitor.visit.Goals as goal
 
@@ -14,13 +13,13 @@ returns-then-eq-clause-ok c =
     let read = rw c.as_bytes.ensures.value at c.in-Some.ensures.reads in
     let n = c.in-Some.count.value in
     let same : c.args.name.now ≡ member_name member.Count = search rules in
-    (number read.0, read.2 c.args.depth, λ first ms h. (h.0, count_taken _ c.args.depth c.args.text.now c.args.name.now (number read.0) ms c.args.self.now h.1 n same (counted read.0 n read.1 c.in-Some.ensures.small)))
+    (number read.0, read.2 c.args.depth, λ first ms h. (h.0, count_taken _ _ c.args.depth c.args.text.now c.args.name.now (number read.0) ms c.args.self.now h.1 n same (counted read.0 n read.1 c.in-Some.ensures.small)))
 
 pub returns-then-eq-2-clause-ok : goal.returns-then-eq-2-clause-ok
 returns-then-eq-2-clause-ok c =
     let read = c.in_ok-validity.ensures.ok in
     let same : c.args.name.now ≡ member_name member.Validity = search rules in
-    (read.0, read.1, λ first ms h. (h.0, validity_taken _ c.args.depth c.args.text.now c.args.name.now read.0 ms c.args.self.now h.1 c.in_ok-validity.validity.value same read.2))
+    (read.0, read.1, λ first ms h. (h.0, validity_taken _ _ c.args.depth c.args.text.now c.args.name.now read.0 ms c.args.self.now h.1 c.in_ok-validity.validity.value same read.2))
 
 pub returns-then-eq-3-clause-ok : goal.returns-then-eq-3-clause-ok
 returns-then-eq-3-clause-ok c =
@@ -33,8 +32,8 @@ returns-then-eq-3-clause-ok c =
       read.1,
       λ first ms h. (
         h.0,
-        data_taken _ c.args.depth c.args.text.now c.args.name.now read.0 ms c.args.self.now h.1 (record { start = c.args.at; end = end }) values same read.1 apart
-            (subst (λ k. IsValues k c.args.self.now.validity (Some read.0) values) (ap (λ f. kind_of (out-Field f.now).ty) h.0) read.2),
+        data_taken _ _ c.args.depth c.args.text.now c.args.name.now read.0 ms c.args.self.now h.1 (record { start = c.args.at; end = end }) values same read.1 apart
+            (subst (λ f. IsValues (kind_in f) (coding_in f) c.args.self.now.validity (Some read.0) values) h.0 read.2),
       ),
     )
 
@@ -44,4 +43,4 @@ returns-in-Some-pass_value-clause-ok c =
     let no_count : c.args.name.now ≢ member_name member.Count = search rules in
     let no_validity : c.args.name.now ≢ member_name member.Validity = search rules in
     let no_data : c.args.name.now ≢ member_name member.Data = search rules in
-    (read.0, read.1, λ first ms h. (h.0, passed _ c.args.depth c.args.text.now c.args.name.now read.0 ms c.args.self.now h.1 no_count no_validity no_data))
+    (read.0, read.1, λ first ms h. (h.0, passed _ _ c.args.depth c.args.text.now c.args.name.now read.0 ms c.args.self.now h.1 no_count no_validity no_data))

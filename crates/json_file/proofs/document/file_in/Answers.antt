@@ -1,0 +1,23 @@
+use Rattle.std.proofs.Common.{◌≡◌, subst, rules}
+use Rattle.serde_json.specs.Find.{get_member}
+use Rattle.json_base.specs.JsonPath.{member_name}
+use Rattle.json_base.specs.declared.path.Member.TheVariants as member
+use Rattle.json_file.specs.Document.{IsFileAt, StandsAt}
+use Rattle.json_file.proofs.DocumentLemmas.{document_read}
+use Rattle.json_file.proofs.document.file_in.Goals as goal
+
+pub returns-then-eq-clause-ok : goal.returns-then-eq-clause-ok
+returns-then-eq-clause-ok c =
+    let places = c.args.parts.places in
+    let same : c.in-Some.found.places ≡ places = search rules in
+    λ ms h.
+    let found = subst (IsFileAt c.args.depth c.args.text.now (get_member (member_name member.Batches) ms)) c.in-Some.is h.file in
+    document_read c.args.depth c.args.text.now ms places found.0 c.in-Some.found.file h.schema h.dictionaries (subst (StandsAt c.args.depth c.args.text.now found.0) same found.1) found.2
+
+pub returns-in-Ok-clause-under : goal.returns-in-Ok-clause-under
+returns-in-Ok-clause-under c = λ ms h. (c.in-Ok.ensures _ h.batches).2.under
+
+pub returns-in-Ok-clause-ok : goal.returns-in-Ok-clause-ok
+returns-in-Ok-clause-ok c = λ ms h.
+    let found = c.in-Ok.ensures _ h.batches in
+    document_read c.args.depth c.args.text.now ms c.args.parts.places found.0 c.in-Ok.file h.schema h.dictionaries found.1 found.2

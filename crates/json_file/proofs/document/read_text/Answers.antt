@@ -1,0 +1,28 @@
+use Rattle.std.proofs.Common.{◌≡◌, ◌∙◌, ◌≤◌, [], length, drop, None, refl, sym, ap, arith}
+use Rattle.std.proofs.lemmas.List.{drop_all}
+use Rattle.json.specs.Lex.{lex, between}
+use Rattle.serde_json.specs.Data.{object, no_members}
+use Rattle.json_scan.proofs.Values.{whole_document}
+use Rattle.json_file.specs.Document.{HoldsDocument}
+use Rattle.json_file.specs.declared.document.DocumentParts.{DocumentParts}
+use Rattle.json_file.proofs.document.read_text.Goals as goal
+
+no_lexemes : lex between [] ≡ []
+unfolding lex
+no_lexemes = refl
+
+pub returns-in-Ok-clause-ok : goal.returns-in-Ok-clause-ok
+returns-in-Ok-clause-ok c =
+    let text = c.args.text.now in
+    let read = c.in_ok-end.ensures.ok in
+    let end = c.in_ok-end.end in
+    let spaces = rw c.as_bytes.ensures.value at c.after_space.ensures.same in
+    let past : length text ≤ c.after_space.result = omega (arith, c.if-after_space-text.false) in
+    let ended : lex between (drop end text) ≡ [] = sym spaces ∙ (ap (lex between) (drop_all c.after_space.result text past) ∙ no_lexemes) in
+    let held = read.2 (record { schema = refl; dictionaries = refl; batches = refl; file = tt }) in
+    record { text = c.utf8.text; document = object read.0; parsed = whole_document text (drop end text) (object read.0) read.1 ended; file = c.in-Ok.ensures.ok read.0 held }
+
+pub returns-in-Ok-clause-under : goal.returns-in-Ok-clause-under
+returns-in-Ok-clause-under c =
+    let read = c.in_ok-end.ensures.ok in
+    c.in-Ok.ensures.under read.0 (read.2 (record { schema = refl; dictionaries = refl; batches = refl; file = tt }))

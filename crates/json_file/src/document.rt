@@ -1,0 +1,199 @@
+//! The document of a file: its members in any order, of those of one name the last.
+
+ghost use Rattle.std.specs.Prelude.{◌≡◌, ◌<◌, ◌≤◌, Option, Some, length, drop, IfOk, IfSome};
+ghost use Rattle.serde_json.specs.Data.{Data, Members, object};
+ghost use Rattle.json_read.specs.JsonFile.{AreUnder, Reads, ReadsFile, file_of};
+ghost use Rattle.json_scan.specs.Spelling.{SpellsAt};
+ghost use Rattle.json_stream.specs.Column.{StandsOn};
+ghost use Rattle.json_file.specs.Document.{HoldsDocument, HoldsFile, IsFileAt, StandsAt};
+
+use crate::batches::read_batches;
+use crate::head::{HeadPlaces, ends_member, head_at, pass_member};
+use arrays::File;
+use json_base::Member;
+use json_read::FileHead;
+use json_scan::{MemberVisitor, Miss, Placed, after_space, pass_value, read_object};
+use json_stream::Stretch;
+use std::alloc::Global;
+
+/// How deep a document may be nested. (`serde_json`, recursion limit)
+const MAX_DEPTH: usize = 127;
+
+/// A file, by the schema and the dictionaries that stand there.
+#[derive(Drop)]
+pub(crate) struct FileAt {
+    pub places: HeadPlaces,
+    pub file: File,
+}
+
+/// What has been read of a document.
+#[derive(Drop)]
+pub(crate) struct DocumentParts {
+    alloc: Global,
+    pub places: HeadPlaces,
+    /// Where `batches` stands.
+    pub batches: Option<Stretch>,
+    /// The file by what stood before its batches, or by what was taken for what decides how they are read.
+    pub file: Option<FileAt>,
+}
+
+/// The file whose batches stand here, or after spaces, by the schema and the dictionaries that stand at those places.
+fn read_by(
+    alloc: Global,
+    places: HeadPlaces,
+    text: &str,
+    at: usize,
+    depth: usize,
+) -> Result<Placed<File>, Miss>
+    requires { at ≤ length text.now }
+    ensures ok { IfOk result (λ r. (d : Data) × SpellsAt depth (drop at text.now) d (drop r.end text.now)
+        × (head : Data) × StandsAt depth text.now head places × HoldsFile head (Some d) r.value) }
+    ensures onward { IfOk result (λ r. at < r.end) }
+    ensures within { IfOk result (λ r. r.end ≤ length text.now) }
+{
+    let FileHead { schema, catalog } = head_at(alloc, text, places, depth)?;
+    match read_batches(alloc, &schema, &catalog, text, at, depth) {
+        Ok(batches) => Ok(Placed {
+            value: File::new(schema, batches.value),
+            end: batches.end,
+        }),
+        Err(miss) => Err(miss),
+    }
+}
+
+/// The same where it is known, or can be guessed, how they are read; else, or where the guess is wrong, they are passed over.
+fn read_or_pass(
+    alloc: Global,
+    known: HeadPlaces,
+    text: &str,
+    at: usize,
+    depth: usize,
+) -> Result<Placed<Option<FileAt>>, Miss>
+    requires { at ≤ length text.now }
+    ensures ok { IfOk result (λ r. (d : Data) × SpellsAt depth (drop at text.now) d (drop r.end text.now)
+        × IsFileAt depth text.now (Some d) r.value) }
+    ensures onward { IfOk result (λ r. at < r.end) }
+    ensures within { IfOk result (λ r. r.end ≤ length text.now) }
+{
+    let places = known.guessed(text, depth);
+    match read_by(alloc, places, text, at, depth) {
+        Ok(read) => return Ok(Placed {
+            value: Some(FileAt {
+                places,
+                file: read.value,
+            }),
+            end: read.end,
+        }),
+        Err(miss) => if miss == Miss::NoMemory || places == known {
+            return Err(miss);
+        },
+    }
+    match pass_value(text.as_bytes(), at, depth) {
+        Some(end) => Ok(Placed { value: None, end }),
+        None => Err(Miss::Unread),
+    }
+}
+
+impl MemberVisitor for DocumentParts {
+    ghost use Rattle.json_file.specs.Document.{HoldsDocument};
+
+    ghost holds = { λ text depth first ms now. HoldsDocument depth text ms now };
+
+    fn visit(&mut self, text: &str, name: &str, at: usize, depth: usize) -> Result<usize, Miss> {
+        if name == Member::Batches.name() {
+            let batches = read_or_pass(self.alloc, self.places, text, at, depth)?;
+            if !ends_member(text, batches.end) {
+                return Err(Miss::Unread);
+            }
+            self.batches = Some(Stretch {
+                start: at,
+                end: batches.end,
+            });
+            self.file = batches.value;
+            return Ok(batches.end);
+        }
+        let Some(place) = pass_member(text, at, depth) else {
+            return Err(Miss::Unread);
+        };
+        if name == Member::Schema.name() {
+            self.places.schema = Some(place);
+        } else if name == Member::Dictionaries.name() {
+            self.places.dictionaries = Some(place);
+        }
+        Ok(place.end)
+    }
+}
+
+/// The file whose batches stand there.
+fn file_at(
+    alloc: Global,
+    places: HeadPlaces,
+    text: &str,
+    batches: Option<Stretch>,
+    depth: usize,
+) -> Result<File, Miss>
+    ensures { IfOk result (λ f. (found : Option Data) → StandsOn depth text.now found batches
+        → (head : Data) × StandsAt depth text.now head places × HoldsFile head found f) }
+{
+    let Some(place) = batches else {
+        return Err(Miss::Unread);
+    };
+    if place.start > text.len() {
+        return Err(Miss::Unread);
+    }
+    let read = match read_by(alloc, places, text, place.start, depth) {
+        Ok(read) => read,
+        Err(miss) => return Err(miss),
+    };
+    if read.end == place.end {
+        Ok(read.value)
+    } else {
+        Err(Miss::Unread)
+    }
+}
+
+/// The file of these parts.
+fn file_in(parts: DocumentParts, text: &str, depth: usize) -> Result<File, Miss>
+    ensures under { IfOk result (λ f. (ms : Members) → HoldsDocument depth text.now ms parts → AreUnder f.fields f.batches) }
+    ensures ok { IfOk result (λ f. (ms : Members) → HoldsDocument depth text.now ms parts → ReadsFile (object ms) (file_of f)) }
+{
+    let DocumentParts {
+        alloc,
+        places,
+        batches,
+        file,
+    } = parts;
+    if let Some(found) = file {
+        if found.places == places {
+            return Ok(found.file);
+        }
+    }
+    match file_at(alloc, places, text, batches, depth) {
+        Ok(file) => Ok(file),
+        Err(miss) => Err(miss),
+    }
+}
+
+/// The file of a text. Where the text is at fault, or is written in a way that isn't read here, there is none, and `json_read` tells why.
+pub fn read_text(alloc: Global, text: &str) -> Result<File, Miss>
+    ensures ok { IfOk result (λ f. Reads text.now (file_of f)) }
+    ensures under { IfOk result (λ f. AreUnder f.fields f.batches) }
+{
+    let mut parts = DocumentParts {
+        alloc,
+        places: HeadPlaces {
+            schema: None,
+            dictionaries: None,
+        },
+        batches: None,
+        file: None,
+    };
+    let end = read_object(text, 0, MAX_DEPTH, &mut parts)?;
+    if after_space(text.as_bytes(), end) < text.len() {
+        return Err(Miss::Unread);
+    }
+    match file_in(parts, text, MAX_DEPTH - 1) {
+        Ok(file) => Ok(file),
+        Err(miss) => Err(miss),
+    }
+}

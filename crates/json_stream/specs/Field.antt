@@ -1,0 +1,13 @@
+-- A field, and how its column is encoded, as they are lent.
+use Rattle.std.specs.Prelude.{Option, option_map}
+use Rattle.types.specs.declared.data_type.Field.{out-Field}
+use Rattle.arrays.specs.Kind.{Kind, kind_of}
+use Rattle.json_read.specs.CatalogParts.{coding_of}
+use Rattle.json_read.specs.JsonCatalog.{Coding}
+use Rattle.json_stream.specs.declared.field.EncodedField.{EncodedField}
+
+abbrev pub kind_in : EncodedField → Kind
+kind_in f = kind_of (out-Field f.field.now).ty
+
+abbrev pub coding_in : EncodedField → Option Coding
+coding_in f = option_map coding_of f.coding.now
