@@ -70,6 +70,19 @@ const MASK_OF_CODES: Piece = All(Of((Flat::Bool, 5, &[Some(&[0x0f]), Some(&[0x1e
 /// The truth values true, null, false, null, true.
 const MASK_OF_PART: Piece = Part(TRUTHS, 3, 5);
 
+/// 66 bytes.
+const LETTERS: &[u8] = b"0123456789ABCDEFGHIJKLMNOPQRSTUVWXYZabcdefghijklmnopqrstuvwxyz!#$%";
+
+/// As many truth values: true at 0, 63 and 65; null over true at 1, 62 and 64, and over false at 3.
+const MASK_OF_LETTERS: Piece = All(Of((
+    Flat::Bool,
+    66,
+    &[
+        Some(b"\xf5\xff\xff\xff\xff\xff\xff\xbf\x02"),
+        Some(b"\x03\0\0\0\0\0\0\xc0\x03"),
+    ],
+)));
+
 /// The numbers of the lists.
 const FIRST: &[Option<i128>] = &[Some(12), Some(-7), Some(25)];
 
@@ -166,7 +179,7 @@ static TAKEN_TEXTS: [Chosen; 2] = [
     ),
 ];
 
-static KEPT: [Chosen; 4] = [
+static KEPT: [Chosen; 5] = [
     // A null drops its row: 1, 2, null, 4 by true, null, true, false.
     (
         All(Of((INT8S, 4, &[Some(&[0x0b]), Some(&[1, 2, 9, 4])]))),
@@ -187,6 +200,12 @@ static KEPT: [Chosen; 4] = [
         Part(NUMBERS, 3, 0),
         Choice::Filter(Part(TRUTHS, 5, 0)),
         Selected::Slots(Shown::Numbers(&[])),
+    ),
+    // A word of 64 slots and two more: true first, last, and last in the word, with nulls beside these.
+    (
+        All(Of((INT8S, 66, &[None, Some(LETTERS)]))),
+        Choice::Filter(MASK_OF_LETTERS),
+        Selected::Slots(Shown::Numbers(&[Some(48), Some(35), Some(37)])),
     ),
 ];
 

@@ -111,5 +111,7 @@ fn none_is_no_number(rt: HostRuntime) -> Result<(), Fail> {
     let both = joined(rt.alloc(), &a, &b)?;
     let wanted =
         r#"ColumnStats { rows: 2, nulls: 1, sum: Some(-5), least: Some(Int(-5)), greatest: Some(Int(-5)) }"#;
+    expect(&rt, rt.alloc(), &both, wanted)?;
+    let both = joined(rt.alloc(), &b, &a)?;
     expect(&rt, rt.alloc(), &both, wanted)
 }
