@@ -16,7 +16,7 @@ const WIDE: &[u8] = b"\0\0\0\0\0\0\0\0\x01\0\0\0\0\0\0\0\x01\0\0\0\0\0\0\0\x03\0
 
 const TEXTS: Shown = Shown::Texts(&[Some("a"), Some(""), Some("bc")]);
 
-const VALUES: &[Column] = &[
+static VALUES: &[Column] = &[
     (
         2,
         &[(b"c", ALONE, 2, 0, [b"", b"\x01\xfe", b""])],
@@ -88,7 +88,7 @@ const ITEMS: Part = (b"c", ALONE, 3, 0, [b"", b"\x01\x02\x03", b""]);
 
 const LISTS: Shown = Shown::Lists(&[Some(&[Some(1)]), None, Some(&[Some(2), Some(3)])]);
 
-const OVER_OTHERS: &[Column] = &[
+static OVER_OTHERS: &[Column] = &[
     (
         3,
         &[(b"+l", LIST, 3, 1, [b"\x05", NARROW, b""]), ITEMS],
@@ -119,7 +119,7 @@ const NAMED: Shown = Shown::Encoded(
 );
 
 /// What lies under a null names no entry.
-const INDICES: &[Column] = &[
+static INDICES: &[Column] = &[
     (
         3,
         &[(b"c", CODES, 3, 1, [b"\x05", b"\x02\xff\0", b""]), WORDS],
@@ -213,7 +213,7 @@ const INDICES: &[Column] = &[
 ];
 
 /// No slots, with no bytes at all.
-const WITHOUT_ROWS: &[Column] = &[
+static WITHOUT_ROWS: &[Column] = &[
     (
         0,
         &[(b"l", ALONE, 0, 0, [b"", b"", b""])],

@@ -20,7 +20,7 @@ const WORDS: Part = (b"u", ALONE, 2, 0, [b"", OFFSETS, b"ab"]);
 
 const LISTS: Part = (b"+l", LIST, 2, 0, [b"", OFFSETS, b""]);
 
-const NODES: &[Case<FlatFault>] = &[
+static NODES: &[Case<FlatFault>] = &[
     (
         2,
         &[NUMBERS, (b"", ALONE, 2, 0, [b"", b"", b""])],
@@ -113,7 +113,7 @@ const NODES: &[Case<FlatFault>] = &[
 ];
 
 /// The fault is that of the buffers of column 1.
-const BUFFERS: &[Case<LayoutFault>] = &[
+static BUFFERS: &[Case<LayoutFault>] = &[
     (
         2,
         &[NUMBERS, (b"c", ALONE, 2, 0, [b"", b"\x01", b""])],
@@ -250,7 +250,7 @@ const BUFFERS: &[Case<LayoutFault>] = &[
     ),
 ];
 
-const BATCHES: &[Case<BatchFault>] = &[
+static BATCHES: &[Case<BatchFault>] = &[
     (3, &[NUMBERS], LengthsDiffer { column: 0 }),
     (
         2,
@@ -305,7 +305,7 @@ fn a_name_is_utf8(rt: HostRuntime) -> Result<(), Fail> {
 }
 
 /// Faults as they are printed.
-const LINES: &[(FlatFault, &str)] = &[
+static LINES: &[(FlatFault, &str)] = &[
     (
         FlatFault::NameNotUtf8 { column: 3 },
         "X1 NameNotUtf8 column=3",
