@@ -67,7 +67,7 @@ def growing(count, batches):
 COSTS = [
     ("3,000 fields that name one dictionary of 125,000 texts", one_dictionary, 70, 4),
     ("2,000 batches without rows under a name of 2 MB", long_name, 50, 4),
-    ("100,000 fields with a dictionary each", many_dictionaries, 1000, 12),
+    ("100,000 fields with a dictionary each", many_dictionaries, 550, 6),
     ("100,000 texts, and 400 batches with a new one each", lambda: growing(100000, 400), 150, 3),
     ("200,000 texts, and 400 batches with a new one each", lambda: growing(200000, 400), 300, 6),
 ]
@@ -304,7 +304,7 @@ class Runs:
         print(f"{name}: within {megabytes} MB and {seconds} s", flush=True)
 
     def cuts(self):
-        """The file of three numbers at each cut, alone; and behind itself, cut after 100 bytes."""
+        """The file of three numbers at each cut, alone; and behind itself, cut after 100 bytes. A long one, in the memory of its bytes and its column."""
         for size in range(len(A)):
             path = self.file(A[:size])
             self.expect(f"the first {size} bytes", self.run([path]), path, "J1 NotJson")
@@ -313,6 +313,10 @@ class Runs:
             file.write(A)
         path = self.file(A[:100])
         self.expect("a file, and one that is cut", self.run([whole, path]), path, "J1 NotJson")
+        column = {"name": "n", "count": 1000000, "DATA": list(range(1000000))}
+        document = {"schema": {"fields": [field("int")]}, "batches": [{"count": 1000000, "columns": [column]}]}
+        path = self.file(json.dumps(document)[:-1])
+        self.expect("a million numbers without the last brace", self.run([path], 80), path, "J1 NotJson")
 
     def ends(self):
         """Sources that can't be read, and outputs that take nothing."""

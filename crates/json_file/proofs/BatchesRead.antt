@@ -25,7 +25,7 @@ first_kept R ds d xs h = record {
       h.each i e x (get_item-before ds i ∙ (sym (slice_get-front ds (d ∷ []) i within) ∙ (sym (get_item-before (ds ++ d ∷ []) i) ∙ found))) got;
 }
 
-one_more : {A : Type 0} (R : Data → A → Type 0) (ds : List Data) (d : Data) (xs : List A) (x : A) → ReadsFirst R (before ds no_items) (length ds) xs → R d x → ReadsFirst R (before (ds ++ d ∷ []) no_items) (length (ds ++ d ∷ [])) (xs ++ x ∷ [])
+pub one_more : {A : Type 0} (R : Data → A → Type 0) (ds : List Data) (d : Data) (xs : List A) (x : A) → ReadsFirst R (before ds no_items) (length ds) xs → R d x → ReadsFirst R (before (ds ++ d ∷ []) no_items) (length (ds ++ d ∷ [])) (xs ++ x ∷ [])
 one_more R ds d xs x h r =
     let at : get_item (length ds) (before (ds ++ d ∷ []) no_items) ≡ Some d = get_item-before (ds ++ d ∷ []) (length ds) ∙ slice_get-last ds d in
     let many : length ds + 1 ≡ length (ds ++ d ∷ []) = omega (arith, length-append ds (d ∷ [])) in

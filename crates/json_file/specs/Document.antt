@@ -1,6 +1,5 @@
 -- The members of a document, as far as they are read. (Arrow integration testing, "JSON test data format")
 use Rattle.std.specs.Prelude.{◌≡◌, ℕ, List, map, Option, Some, None, option_and_then}
-use Rattle.std.specs.Arc.{arc_value}
 use Rattle.arrays.specs.File.{File}
 use Rattle.serde_json.specs.Data.{Data, Items, Members}
 use Rattle.serde_json.specs.Find.{get_member, as_array}

@@ -8,16 +8,18 @@ ghost use Rattle.json_stream.specs.Column.{StandsOn};
 ghost use Rattle.json_file.specs.Document.{HoldsDocument, HoldsFile, IsFileAt, StandsAt};
 
 use crate::batches::read_batches;
-use crate::head::{HeadPlaces, ends_member, head_at, pass_member};
+use crate::head::{HeadPlaces, head_at, pass_member};
 use arrays::File;
 use json_base::Member;
 use json_read::FileHead;
-use json_scan::{MemberVisitor, Miss, Placed, after_space, pass_value, read_object};
+use json_scan::{
+    Container, MemberVisitor, Miss, Placed, after_space, ends_in, pass_value, read_object,
+};
 use json_stream::Stretch;
 use std::alloc::Global;
 
 /// How deep a document may be nested. (`serde_json`, recursion limit)
-const MAX_DEPTH: usize = 127;
+pub(crate) const MAX_DEPTH: usize = 127;
 
 /// A file, by the schema and the dictionaries that stand there.
 #[derive(Drop)]
@@ -75,7 +77,7 @@ fn read_or_pass(
     ensures onward { IfOk result (λ r. at < r.end) }
     ensures within { IfOk result (λ r. r.end ≤ length text.now) }
 {
-    let places = known.guessed(text, depth);
+    let places = known.guessed(alloc, text, depth);
     match read_by(alloc, places, text, at, depth) {
         Ok(read) => return Ok(Placed {
             value: Some(FileAt {
@@ -84,9 +86,8 @@ fn read_or_pass(
             }),
             end: read.end,
         }),
-        Err(miss) => if miss == Miss::NoMemory || places == known {
-            return Err(miss);
-        },
+        Err(Miss::NoMemory) => return Err(Miss::NoMemory),
+        Err(Miss::Unread) => {}
     }
     match pass_value(text.as_bytes(), at, depth) {
         Some(end) => Ok(Placed { value: None, end }),
@@ -102,7 +103,7 @@ impl MemberVisitor for DocumentParts {
     fn visit(&mut self, text: &str, name: &str, at: usize, depth: usize) -> Result<usize, Miss> {
         if name == Member::Batches.name() {
             let batches = read_or_pass(self.alloc, self.places, text, at, depth)?;
-            if !ends_member(text, batches.end) {
+            if !ends_in(text, batches.end, Container::Object) {
                 return Err(Miss::Unread);
             }
             self.batches = Some(Stretch {
@@ -188,7 +189,7 @@ pub fn read_text(alloc: Global, text: &str) -> Result<File, Miss>
         batches: None,
         file: None,
     };
-    let end = read_object(text, 0, MAX_DEPTH, &mut parts)?;
+    let end = read_object(alloc, text, 0, MAX_DEPTH, &mut parts)?;
     if after_space(text.as_bytes(), end) < text.len() {
         return Err(Miss::Unread);
     }

@@ -5,6 +5,7 @@ ghost use Rattle.json_base.specs.JsonFault.{Tells};
 ghost use Rattle.json_read.specs.JsonFile.{AreUnder, BytesFault, Reads, file_of};
 
 use crate::document::read_text;
+use crate::syntax::check_json;
 use arrays::File;
 use json_base::JsonFault;
 use json_scan::Miss;
@@ -21,8 +22,8 @@ fn read_bytes(alloc: Global, bytes: &[u8]) -> Result<File, Miss>
     }
 }
 
-/// Reads a file: its schema, and its batches under it. Beside the bytes and the arrays it needs the memory of the schema and of the
-/// dictionaries; a file that is at fault is read as a tree, which takes several times its size.
+/// Reads a file: its schema, and its batches under it. Beside the bytes and the arrays it needs the memory of the schema's tree; JSON that is
+/// at fault is read as a tree, which takes several times its size.
 ///
 /// Where several faults stand, which of them is reported is open. A count that is stated takes no memory:
 /// it is compared with the arrays that are there.
@@ -38,7 +39,10 @@ pub fn read_file(alloc: Global, bytes: &[u8]) -> Result<File, JsonFault>
     match read_bytes(alloc, bytes) {
         Ok(file) => Ok(file),
         Err(Miss::NoMemory) => Err(JsonFault::no_memory(alloc)),
-        Err(Miss::Unread) => json_read::read_file(alloc, bytes),
+        Err(Miss::Unread) => {
+            check_json(alloc, bytes)?;
+            json_read::read_file(alloc, bytes)
+        }
     }
 }
 
@@ -52,6 +56,9 @@ pub fn read_file_from_vec(alloc: Global, bytes: Vec<u8>) -> Result<File, JsonFau
     match read_bytes(alloc, &bytes) {
         Ok(file) => Ok(file),
         Err(Miss::NoMemory) => Err(JsonFault::no_memory(alloc)),
-        Err(Miss::Unread) => json_read::read_file_from_vec(alloc, bytes),
+        Err(Miss::Unread) => {
+            check_json(alloc, &bytes)?;
+            json_read::read_file_from_vec(alloc, bytes)
+        }
     }
 }

@@ -1,11 +1,15 @@
-//! Arrow's JSON integration files read straight from the bytes of the text, with no tree of their batches in between. What isn't read so,
-//! `json_read` reads, which tells what is at fault.
+//! Arrow's JSON integration files read straight from the bytes of the text, with no tree of their dictionaries and batches in between. What
+//! isn't read so, `json_read` reads, which tells what is at fault.
 #![tactic(auto)]
 
 mod batches;
+mod catalog;
+mod dictionary;
 mod document;
 mod file;
 mod head;
+mod syntax;
+mod texts;
 
 pub use batches::read_batches;
 pub use document::read_text;

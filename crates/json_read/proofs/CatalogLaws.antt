@@ -18,12 +18,12 @@ use Rattle.json_read.specs.JsonColumn.{texts, slot_of, ReadsPlain}
 use Rattle.json_read.specs.JsonColumnFault.{ColumnFault}
 use Rattle.json_read.specs.JsonCodes.{entry_at, indices, ReadsCodes}
 use Rattle.json_read.specs.JsonCodesFault.{IndicesFault, no_index_flag, no_index, past_dictionary, CodesFault, no_code_slots, bad_codes}
-use Rattle.json_read.specs.JsonDictionary.{ReadsTexts, HasTexts, bare, wrapped, ReadsEntry}
+use Rattle.json_read.specs.JsonDictionary.{ReadsTexts, WrapsTexts, bare, wrapped, ReadsEntry}
 use Rattle.json_read.specs.JsonDictionaryFault.{TextsFault, no_texts_object, bad_texts_count, bad_texts_list, bad_texts, WrapperFault, no_batch, bad_bare, bad_wrapped, EntryFault}
 use Rattle.json_read.specs.JsonEncoding.{Encoding, HasEncoding, IsEncoding, id_of}
 use Rattle.json_read.specs.JsonEncodingFault.{EncodedFault}
-use Rattle.json_read.specs.JsonCatalog.{Coding, HasId, HasEntries, HasDictionary, IsCoded, HasCoding, HasCatalog}
-use Rattle.json_read.specs.JsonCatalogFault.{NoId, no_entry_object, bad_entry_id, EntriesFault, no_entries, bad_numbers, NamedFault, nowhere, again, bad_entry, Names, CatalogFault, bad_encodings, bad_entries, bad_named}
+use Rattle.json_read.specs.JsonCatalog.{Coding, HasId, HasEntries, HasDictionary, IsEncodedBy, HasCoding, HasCatalog}
+use Rattle.json_read.specs.JsonCatalogFault.{NoId, no_entry_object, bad_entry_id, EntriesFault, no_entries, bad_numbers, NamedFault, nowhere, again, bad_entry, NamesEncoding, CatalogFault, bad_encodings, bad_entries, bad_named}
 use Rattle.json_base.proofs.MemberLaws.{has_object, no_null, inner, no_object, not_unlike, no_member, under_law, get_item-within, slice_get_some, each_law, same_each}
 use Rattle.json_read.proofs.ColumnLaws.{list_law, no_flag_law, valid_law, slot_read, no_slots_law, plain_law, same_plain}
 use Rattle.json_read.proofs.SchemaLaws.{encoded_law, encoding_object, without_law, same_int}
@@ -75,7 +75,7 @@ not_single (data'.object ms) e h at = cc
 texts_object : (d : Data) (items : List Item) → ReadsTexts d items → IsObject d
 texts_object d items h = has_object count_of member.Count d h.n h.count
 
-wrapper_law : (d : Data) (items : List Item) (k : JsonFaultKind) (p : List Step) → HasTexts d items → WrapperFault d k p → ⊥
+wrapper_law : (d : Data) (items : List Item) (k : JsonFaultKind) (p : List Step) → WrapsTexts d items → WrapperFault d k p → ⊥
 wrapper_law d items k p (bare r) (no_batch none single) = no_object count_of member.Count d r.n r.count none
 wrapper_law d items k p (bare r) (bad_bare k' p' object w) = texts_law d items _ _ r w
 wrapper_law d items k p (bare r) (bad_wrapped e k' p' single w) = not_single d e (texts_object d items r) single
@@ -127,7 +127,7 @@ named_coding d field (Some c) e h g =
     let id : h.id ≡ e.id = cc (ap (λ x. option_and_then id_of (member_of member.Id x)) object, h.encoding.2.id, g.2.id) in
     (h.entries, h.ids, c.texts, h.given, subst (λ x. HasDictionary h.entries h.ids x c.texts) id h.dictionary)
 
-named_at : (d : Data) (catalog : List (Option Coding)) (i : ℕ) (e : Encoding) → HasCatalog d catalog → Names d i e
+named_at : (d : Data) (catalog : List (Option Coding)) (i : ℕ) (e : Encoding) → HasCatalog d catalog → NamesEncoding d i e
     → (entries : Items) × (ids : List ℤ) × (items : List Item) × HasEntries d entries ids × HasDictionary entries ids e.id items
 named_at d catalog i e h names =
     let same : names.fields ≡ h.fields = cc (names.listed, h.listed) in
@@ -160,7 +160,7 @@ same_texts d xs ys h g =
     let column : h.column ≡ g.column = cc (h.columns, g.columns) in
     same_plain (texts Narrow) g.n g.column xs ys (subst (λ m. ReadsPlain (texts Narrow) m g.column xs) n (subst (λ e. ReadsPlain (texts Narrow) h.n e xs) column h.reads)) g.reads
 
-same_wrapper : (d : Data) (xs ys : List Item) → HasTexts d xs → HasTexts d ys → xs ≡ ys
+same_wrapper : (d : Data) (xs ys : List Item) → WrapsTexts d xs → WrapsTexts d ys → xs ≡ ys
 same_wrapper d xs ys (bare r) (bare q) = same_texts d xs ys r q
 same_wrapper d xs ys (bare r) (wrapped b at q) = absurd (not_single d b (texts_object d xs r) at)
 same_wrapper d xs ys (wrapped b at r) (bare q) = absurd (not_single d b (texts_object d ys q) at)
@@ -171,7 +171,7 @@ same_wrapper d xs ys (wrapped b at r) (wrapped e at' q) =
 same_entry : (d : Data) (xs ys : List Item) → ReadsEntry d xs → ReadsEntry d ys → xs ≡ ys
 same_entry d xs ys h g =
     let wrapper : h.wrapper ≡ g.wrapper = cc (h.at_wrapper, g.at_wrapper) in
-    same_wrapper g.wrapper xs ys (subst (λ x. HasTexts x xs) wrapper h.reads) g.reads
+    same_wrapper g.wrapper xs ys (subst (λ x. WrapsTexts x xs) wrapper h.reads) g.reads
 
 same_dictionary : (entries : Items) (ids : List ℤ) (id : ℤ) (xs ys : List Item) → HasDictionary entries ids id xs → HasDictionary entries ids id ys → xs ≡ ys
 same_dictionary entries ids id xs ys h g =
@@ -182,7 +182,7 @@ same_dictionary entries ids id xs ys h g =
 coding_by : (c b : Coding) → c.index ≡ b.index → c.texts ≡ b.texts → c ≡ b
 coding_by c b index items = ap (λ t. record { index = t; texts = c.texts }) index ∙ ap (λ xs. record { index = b.index; texts = xs }) items
 
-same_coded : (d field : Data) (c b : Coding) → IsCoded d field c → IsCoded d field b → c ≡ b
+same_coded : (d field : Data) (c b : Coding) → IsEncodedBy d field c → IsEncodedBy d field b → c ≡ b
 same_coded d field c b h g =
     let object : h.encoding.0 ≡ g.encoding.0 = cc (h.encoding.1, g.encoding.1) in
     let encoding = subst (λ x. IsEncoding x (record { id = h.id; index = c.index })) object h.encoding.2 in
@@ -197,7 +197,7 @@ same_coded d field c b h g =
     g.dictionary)
 
 -- a field isn't both encoded and not
-one_way : (d field : Data) (c : Coding) → HasCoding d field None → IsCoded d field c → ⊥
+one_way : (d field : Data) (c : Coding) → HasCoding d field None → IsEncodedBy d field c → ⊥
 one_way d field c h g =
     let object = encoding_object field (record { id = g.id; index = c.index }) g.encoding in
     without_law field object.0 h object.1 (no_null object.0 object.2)

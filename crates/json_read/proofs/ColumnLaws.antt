@@ -17,7 +17,7 @@ use Rattle.json_base.specs.declared.path.Step.{Step}
 use Rattle.json_base.specs.declared.fault.JsonFaultKind.{JsonFaultKind}
 use Rattle.json_base.specs.JsonMember.{member_of, ListFault, no_array, length_differs}
 use Rattle.json_base.specs.JsonNumber.{count_of}
-use Rattle.json_read.specs.JsonColumn.{Spelling, is_past_offsets, is_full, flags_of, HasFlags, valid_at, slot_of, ReadsSlots, HasSlots, ReadsPlain}
+use Rattle.json_read.specs.JsonColumn.{Spelling, is_past_offsets, overflows, flags_of, HasFlags, flagged_at, slot_of, ReadsSlots, HasSlots, ReadsPlain}
 use Rattle.arrays.specs.Lengths.{text_length, text_bytes}
 use Rattle.json_read.specs.JsonColumnFault.{CountFault, no_count, other_count, FlagsFault, no_flags, NoSlots, no_column_object, bad_count, bad_flags, bad_values, SlotsFault, no_flag, no_value, too_long, ColumnFault, no_slots, bad_slots}
 use Rattle.json_base.proofs.MemberLaws.{inner, no_object, not_unlike, no_member, under_law, get_item-within, slice_get_some, same_lists}
@@ -63,7 +63,7 @@ no_flag_law s None x h = cc
 no_flag_law s (Some e) x h = cc
 
 pub slot_read : (s : Spelling) (n : ℕ) (d : Data) (items : List Item) (h : ReadsPlain s n d items) (i : ℕ) (e : Data) → get_item i h.values ≡ Some e
-    → (x : Item) × (slot_of s (valid_at h.flags i) (get_item i h.values) ≡ Some x)
+    → (x : Item) × (slot_of s (flagged_at h.flags i) (get_item i h.values) ≡ Some x)
 slot_read s n d items h i e found =
     let within : i < n = omega (arith, get_item-within h.values i e found, h.given.whole) in
     let x = slice_get_some items i (omega (arith, h.slots.len)) in
@@ -91,14 +91,14 @@ not_past None m n h past within = false≢true past
 not_past (Some Narrow) m n h past within = grind (arith, nat_tests)
 not_past (Some Wide) m n h past within = false≢true past
 
-long_law : (s : Spelling) (n : ℕ) (d : Data) (items first : List Item) (m : ℕ) → (h : ReadsPlain s n d items) → ReadsSlots s h.flags h.values m first → is_full s first ≡ true → ⊥
+long_law : (s : Spelling) (n : ℕ) (d : Data) (items first : List Item) (m : ℕ) → (h : ReadsPlain s n d items) → ReadsSlots s h.flags h.values m first → overflows s first ≡ true → ⊥
 long_law s n d items first m h reads full =
     not_past s.offsets (text_bytes first) (text_bytes items)
     (text_bytes-first first items
     (λ i x at.
     let below : i < m = omega (arith, slice_get_within first i x at, reads.len) in
     let slot = sym (reads.each i below) ∙ at in
-    let given = slot_given s (valid_at h.flags i) (get_item i h.values) x slot in
+    let given = slot_given s (flagged_at h.flags i) (get_item i h.values) x slot in
     h.slots.each i (omega (arith, get_item-within h.values i given.0 given.1, h.given.whole)) ∙ slot))
     full h.fits
 
@@ -134,6 +134,6 @@ same_plain s n d xs ys h g =
     same_lists xs ys (h.slots.len ∙ sym g.slots.len)
     (λ i x y at at'.
     let within : i < n = omega (arith, slice_get_within xs i x at, h.slots.len) in
-    let slot = ap (λ fs. slot_of s (valid_at fs i) (get_item i h.values)) flags ∙ ap (λ vs. slot_of s (valid_at g.flags i) (get_item i vs)) values in
+    let slot = ap (λ fs. slot_of s (flagged_at fs i) (get_item i h.values)) flags ∙ ap (λ vs. slot_of s (flagged_at g.flags i) (get_item i vs)) values in
     let e : Some x ≡ Some y = sym at ∙ (h.slots.each i within ∙ (slot ∙ (sym (g.slots.each i within) ∙ at'))) in
     cc)

@@ -25,15 +25,15 @@ use Rattle.json_read.specs.declared.place.Place.TheVariants.{Nowhere, Again}
 use Rattle.json_base.specs.declared.fault.JsonFault.{JsonFault}
 use Rattle.json_base.specs.declared.fault.JsonFaultKind.{JsonFaultKind}
 use Rattle.json_base.specs.declared.fault.JsonFaultKind.TheVariants.{NoDictionary, DictionaryTwice}
-use Rattle.json_read.specs.CatalogParts.{HasEncodings, HasSome, IsNoDictionary, IsCoding, IsCodingAt, AreCodings, ArePlaced, IsKept, ids_of}
-use Rattle.json_read.specs.PlaceParts.{IsPlace, IsBefore, ArePlaces, place_at}
+use Rattle.json_read.specs.CatalogParts.{HasEncodings, HasSome, IsNoDictionary, IsCoding, IsCodingAt, AreCodings, AreNumbered, AreWordsOf, ids_of}
+use Rattle.json_read.specs.PlaceParts.{IsNumberPlace, IsBefore, ArePlaces, place_at}
 use Rattle.json_base.specs.JsonFault.{IsFault, IsUnder, Tells}
 use Rattle.json_base.specs.JsonMember.{member_of, IsObject, Unlike, MemberFault, EachFault, ReadsEach, ReadsFirst}
 use Rattle.json_read.specs.JsonEncoding.{Encoding, HasEncoding, id_of}
 use Rattle.json_read.specs.JsonDictionaryFault.{EntryFault}
 use Rattle.json_read.specs.JsonCatalog as catalog
 use Rattle.json_read.specs.JsonCatalog.{listed_fields, HasId, HasEntries, HasCoding, HasCatalog}
-use Rattle.json_read.specs.JsonCatalogFault.{NoId, no_entry_object, bad_entry_id, EntriesFault, no_entries, bad_numbers, NamedFault, nowhere, again, bad_entry, CodingsFault, bad_coding, Names, CatalogFault, bad_entries, bad_named}
+use Rattle.json_read.specs.JsonCatalogFault.{NoId, no_entry_object, bad_entry_id, EntriesFault, no_entries, bad_numbers, NamedFault, nowhere, again, bad_entry, CodingsFault, bad_coding, NamesEncoding, CatalogFault, bad_entries, bad_named}
 use Rattle.json_base.proofs.JsonTells.{tells_at, tells_as, tells_under, tells_wants}
 use Rattle.json_base.proofs.MemberLaws.{has_object}
 use Rattle.json_base.proofs.JsonItems.{slice_get-front, slice_get-last, get_item_some, first_pushed}
@@ -67,25 +67,25 @@ ids_read (item d ds) (x ∷ xs) h =
     let rest : ReadsEach HasId ds xs = record { len = omega (arith, h.len); each = λ i. h.each (suc i) } in
     ap (λ y. y ∷ xs) (sym (ap (λ o. unwrap_or o (pos 0)) first)) ∙ ap (λ ys. unwrap_or (option_and_then id_of (member_of member.Id d)) (pos 0) ∷ ys) (ids_read ds xs rest)
 
-pub entries_placed : (entries : Items) (ids : List ℤ) (places : BTreeMap ℤ Place) → ReadsEach HasId entries ids → ArePlaces ids (length ids) places → ArePlaced entries places
+pub entries_placed : (entries : Items) (ids : List ℤ) (places : BTreeMap ℤ Place) → ReadsEach HasId entries ids → ArePlaces ids (length ids) places → AreNumbered entries places
 entries_placed entries ids places h placed = record {
   numbered = subst (ReadsEach HasId entries) (ids_read entries ids h) h;
   placed = subst (λ xs. ArePlaces xs (length xs) places) (ids_read entries ids h) placed;
 }
 
 -- the place that is found
-pub placed_at : (entries : Items) (places : BTreeMap ℤ Place) (id : ℤ) (p : Place) → ArePlaced entries places → p ≡ place_at places id → IsPlace (ids_of entries) id (length (ids_of entries)) p
-placed_at entries places id p h is = subst (IsPlace (ids_of entries) id (length (ids_of entries))) (sym is) (h.placed id).0
+pub placed_at : (entries : Items) (places : BTreeMap ℤ Place) (id : ℤ) (p : Place) → AreNumbered entries places → p ≡ place_at places id → IsNumberPlace (ids_of entries) id (length (ids_of entries)) p
+placed_at entries places id p h is = subst (IsNumberPlace (ids_of entries) id (length (ids_of entries))) (sym is) (h.placed id).0
 
 pub entries_read : (d : Data) (entries : Items) (ids : List ℤ) → option_and_then as_array (member_of member.Dictionaries d) ≡ Some entries → ReadsEach HasId entries ids
     → HasEntries d entries (ids_of entries)
 entries_read d entries ids listed h = record { listed = listed; numbered = subst (ReadsEach HasId entries) (ids_read entries ids h) h }
 
-pub none_placed : (places : BTreeMap ℤ Place) → places.entries ≡ [] → ArePlaced no_items places
+pub none_placed : (places : BTreeMap ℤ Place) → places.entries ≡ [] → AreNumbered no_items places
 none_placed places none = record {
   numbered = record { len = refl; each = λ i d x found at. cc };
   placed = λ id.
-      subst (λ p. IsPlace [] id 0 p × IsBefore 0 p) (sym (ap (λ es. unwrap_or (lookup (is_at (int_cmp id)) es) Nowhere) none)) (λ j below at. omega (arith, below), tt);
+      subst (λ p. IsNumberPlace [] id 0 p × IsBefore 0 p) (sym (ap (λ es. unwrap_or (lookup (is_at (int_cmp id)) es) Nowhere) none)) (λ j below at. omega (arith, below), tt);
 }
 
 -- ---- the texts that are kept
@@ -101,36 +101,36 @@ set_each P (z ∷ xs) (suc i) y h p zero x at = h 0 x at
 set_each P (z ∷ xs) (suc i) y h p (suc j) x at = set_each (λ k. P (suc k)) xs i y (λ k. h (suc k)) p j x at
 
 -- more is kept of the entry i
-pub kept_set : (entries : Items) (kept : List (Option (Arc Seen Global))) (i : ℕ) (o : Option (Arc Seen Global)) (d : Data) → ReadsEach IsKept entries kept → get_item i entries ≡ Some d
-    → IsKept d o → ReadsEach IsKept entries (slice_set kept i o)
+pub kept_set : (entries : Items) (kept : List (Option (Arc Seen Global))) (i : ℕ) (o : Option (Arc Seen Global)) (d : Data) → ReadsEach AreWordsOf entries kept → get_item i entries ≡ Some d
+    → AreWordsOf d o → ReadsEach AreWordsOf entries (slice_set kept i o)
 kept_set entries kept i o d h at is = record {
   len = length-set kept i o ∙ h.len;
   each = λ j e x found got.
-      set_each (λ j x. (e : Data) → get_item j entries ≡ Some e → IsKept e x) kept i o (λ j x got e found. h.each j e x found got)
+      set_each (λ j x. (e : Data) → get_item j entries ≡ Some e → AreWordsOf e x) kept i o (λ j x got e found. h.each j e x found got)
       (λ e found.
       let same : d ≡ e = cc (at, found) in
-      subst (λ y. IsKept y o) same is)
+      subst (λ y. AreWordsOf y o) same is)
       j x got e found;
 }
 
 -- what is kept of it
-pub kept_at : (entries : Items) (kept : List (Option (Arc Seen Global))) (i : ℕ) (o : Option (Arc Seen Global)) (d : Data) → ReadsEach IsKept entries kept → get_item i entries ≡ Some d
-    → i < length kept → IsKept d (get_or kept i o)
+pub kept_at : (entries : Items) (kept : List (Option (Arc Seen Global))) (i : ℕ) (o : Option (Arc Seen Global)) (d : Data) → ReadsEach AreWordsOf entries kept → get_item i entries ≡ Some d
+    → i < length kept → AreWordsOf d (get_or kept i o)
 kept_at entries kept i o d h at within = h.each i d (get_or kept i o) at (slice_get-get_or kept i o within)
 
 -- nothing of one more
-pub kept_none : (entries : Items) (n : ℕ) (kept : List (Option (Arc Seen Global))) → ReadsFirst IsKept entries n kept → n < items_len entries
-    → ReadsFirst IsKept entries (n + 1) (kept ++ None ∷ [])
+pub kept_none : (entries : Items) (n : ℕ) (kept : List (Option (Arc Seen Global))) → ReadsFirst AreWordsOf entries n kept → n < items_len entries
+    → ReadsFirst AreWordsOf entries (n + 1) (kept ++ None ∷ [])
 kept_none entries n kept h within =
     let d = get_item_some entries n within in
-    first_pushed IsKept entries n kept d.0 None h d.1 tt
+    first_pushed AreWordsOf entries n kept d.0 None h d.1 tt
 
-pub tells_nowhere : (entries : Items) (ids : List ℤ) (i : ℕ) (id : ℤ) (f : JsonFault) → IsPlace ids id (length ids) Nowhere → IsNoDictionary i f → Tells (NamedFault entries ids i id) f
+pub tells_nowhere : (entries : Items) (ids : List ℤ) (i : ℕ) (id : ℤ) (f : JsonFault) → IsNumberPlace ids id (length ids) Nowhere → IsNoDictionary i f → Tells (NamedFault entries ids i id) f
 tells_nowhere entries ids i id f h is =
     tells_at (NamedFault entries ids i id) NoDictionary (step.Member member.Schema ∷ step.Member member.Fields ∷ step.Item i ∷ step.Member member.Dictionary ∷ step.Member member.Id ∷ []) f
     (nowhere (λ j at. h j (slice_get_within ids j id at) at)) is
 
-pub tells_again : (entries : Items) (ids : List ℤ) (i : ℕ) (id : ℤ) (n k : ℕ) (f : JsonFault) → IsPlace ids id n (Again k)
+pub tells_again : (entries : Items) (ids : List ℤ) (i : ℕ) (id : ℤ) (n k : ℕ) (f : JsonFault) → IsNumberPlace ids id n (Again k)
     → IsFault DictionaryTwice (step.Member member.Dictionaries ∷ step.Item k ∷ step.Member member.Id ∷ []) f → Tells (NamedFault entries ids i id) f
 tells_again entries ids i id n k f h is =
     tells_at (NamedFault entries ids i id) DictionaryTwice (step.Member member.Dictionaries ∷ step.Item k ∷ step.Member member.Id ∷ []) f (again h.0 k h.1 h.2 h.3) is
@@ -212,7 +212,7 @@ pub ruleset codings_faults = (tells_wants)
 
 -- a column that is encoded is that of a field
 named_at : (d : Data) (fields : Items) (encodings : List (Option Encoding)) (i : ℕ) (e : Encoding) → listed_fields d ≡ Some fields → ReadsEach HasEncoding fields encodings
-    → slice_get encodings i ≡ Some (Some e) → Names d i e
+    → slice_get encodings i ≡ Some (Some e) → NamesEncoding d i e
 named_at d fields encodings i e listed h at =
     let field = get_item_some fields i (omega (arith, slice_get_within encodings i (Some e) at, h.len)) in
     record { fields = fields; listed = listed; field = field.0; found = field.1; encoding = h.each i field.0 (Some e) field.1 at }

@@ -22,7 +22,7 @@ use Rattle.json_base.specs.declared.fault.JsonFaultKind.TheVariants.{WrongMember
 use Rattle.json_read.specs.CodeParts.{HoldsCodes}
 use Rattle.json_base.specs.JsonFault.{IsFault, Tells}
 use Rattle.json_base.specs.JsonNumber.{integer_of}
-use Rattle.json_read.specs.JsonColumn.{valid_at, ReadsSlots, HasSlots}
+use Rattle.json_read.specs.JsonColumn.{flagged_at, ReadsSlots, HasSlots}
 use Rattle.json_read.specs.JsonColumnFault.{NoSlots}
 use Rattle.json_read.specs.JsonCodes.{entry_at, indices, ReadsCodes}
 use Rattle.json_read.specs.JsonCodesFault.{IndicesFault, no_index_flag, no_index, past_dictionary, CodesFault, no_code_slots, bad_codes}
@@ -61,7 +61,7 @@ code_added t entries flags values i old new x h kept grown code slots = record {
 }
 
 pub index_added : (t : IntType) (entries : List Item) (flags : Option Items) (values : Items) (i : ℕ) (old new : Column) (d : Data) (z : ℤ) → HoldsCodes t entries flags values i old
-    → valid_at flags i ≡ Some true → get_item i values ≡ Some d → integer_of t d ≡ Some z → is_code (length entries) (int z) ≡ true → new.ty ≡ old.ty → new.items ≡ old.items ++ int z ∷ []
+    → flagged_at flags i ≡ Some true → get_item i values ≡ Some d → integer_of t d ≡ Some z → is_code (length entries) (int z) ≡ true → new.ty ≡ old.ty → new.items ≡ old.items ++ int z ∷ []
     → HoldsCodes t entries flags values (i + 1) new
 index_added t entries flags values i old new d z h valid found number code kept grown =
     code_added t entries flags values i old new (int z) h kept grown code
@@ -69,7 +69,7 @@ index_added t entries flags values i old new d z h valid found number code kept 
     (valid_slot (indices t entries) flags values i d (get_or entries (natural z) null) valid found (ap (option_and_then (entry_at entries)) number ∙ entry_named entries z code)))
 
 pub null_added : (t : IntType) (entries : List Item) (flags : Option Items) (values : Items) (i : ℕ) (old new : Column) (d : Data) → HoldsCodes t entries flags values i old
-    → valid_at flags i ≡ Some false → get_item i values ≡ Some d → new.ty ≡ old.ty → new.items ≡ old.items ++ null ∷ [] → HoldsCodes t entries flags values (i + 1) new
+    → flagged_at flags i ≡ Some false → get_item i values ≡ Some d → new.ty ≡ old.ty → new.items ≡ old.items ++ null ∷ [] → HoldsCodes t entries flags values (i + 1) new
 null_added t entries flags values i old new d h invalid found kept grown =
     code_added t entries flags values i old new null h kept grown refl
     (slots_pushed (indices t entries) flags values i (map (looked_up entries) old.items) null h.slots (null_slot (indices t entries) flags values i d invalid found))
@@ -86,18 +86,18 @@ no_codes_yet t entries flags values c ty none = record {
 
 -- ---- a slot is refused
 
-pub tells_no_index_flag : (t : IntType) (entries : List Item) (flags : Option Items) (values : Items) (i : ℕ) (d : Data) (f : JsonFault) → get_item i values ≡ Some d → valid_at flags i ≡ None
+pub tells_no_index_flag : (t : IntType) (entries : List Item) (flags : Option Items) (values : Items) (i : ℕ) (d : Data) (f : JsonFault) → get_item i values ≡ Some d → flagged_at flags i ≡ None
     → IsFault WrongMember (step.Member member.Validity ∷ step.Item i ∷ []) f → Tells (IndicesFault t entries flags values) f
 tells_no_index_flag t entries flags values i d f found none is =
     tells_at (IndicesFault t entries flags values) WrongMember (step.Member member.Validity ∷ step.Item i ∷ []) f (no_index_flag i d found none) is
 
-pub tells_no_index : (t : IntType) (entries : List Item) (flags : Option Items) (values : Items) (i : ℕ) (d : Data) (f : JsonFault) → get_item i values ≡ Some d → valid_at flags i ≡ Some true
+pub tells_no_index : (t : IntType) (entries : List Item) (flags : Option Items) (values : Items) (i : ℕ) (d : Data) (f : JsonFault) → get_item i values ≡ Some d → flagged_at flags i ≡ Some true
     → integer_of t d ≡ None → IsFault BadNumber (step.Member member.Data ∷ step.Item i ∷ []) f → Tells (IndicesFault t entries flags values) f
 tells_no_index t entries flags values i d f found valid none is =
     tells_at (IndicesFault t entries flags values) BadNumber (step.Member member.Data ∷ step.Item i ∷ []) f (no_index i d found valid none) is
 
 pub tells_past : (t : IntType) (entries : List Item) (flags : Option Items) (values : Items) (i : ℕ) (c : Column) (d : Data) (z : ℤ) (f : JsonFault) → HoldsCodes t entries flags values i c
-    → get_item i values ≡ Some d → valid_at flags i ≡ Some true → integer_of t d ≡ Some z → is_code (length entries) (int z) ≡ false → IsFault (Layout (layout.IndexPastDictionary i)) [] f
+    → get_item i values ≡ Some d → flagged_at flags i ≡ Some true → integer_of t d ≡ Some z → is_code (length entries) (int z) ≡ false → IsFault (Layout (layout.IndexPastDictionary i)) [] f
     → Tells (IndicesFault t entries flags values) f
 tells_past t entries flags values i c d z f h found valid number past is =
     tells_at (IndicesFault t entries flags values) (Layout (layout.IndexPastDictionary i)) [] f

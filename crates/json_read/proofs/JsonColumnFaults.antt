@@ -24,7 +24,7 @@ use Rattle.json_read.specs.declared.column.Slots.{Slots}
 use Rattle.json_read.specs.SlotParts.{flags_in, values_in}
 use Rattle.json_read.specs.JsonBatch.{HoldsColumn, ReadsColumn}
 use Rattle.json_read.specs.JsonColumnFault.{CountFault, no_count, other_count, FlagsFault, no_flags, NoSlots, no_column_object, bad_count, bad_flags, bad_values, SlotsFault, ColumnFault, no_slots, bad_slots}
-use Rattle.json_read.specs.JsonColumn.{Spelling, numbers, truths, texts, is_full, flags_of, HasFlags, ReadsSlots, HasSlots, ReadsPlain}
+use Rattle.json_read.specs.JsonColumn.{Spelling, numbers, truths, texts, overflows, flags_of, HasFlags, ReadsSlots, HasSlots, ReadsPlain}
 use Rattle.json_base.proofs.JsonTells.{tells_at, tells_as, tells_under, tells_absent, tells_wants}
 
 pub tells_count : (n : ℕ) (d : Data) (f : JsonFault) → Tells (MemberFault member.Count (Unlike count_of) d) f → Tells (CountFault n d) f
@@ -103,21 +103,21 @@ pub column_slots : (s : Spelling) (n : ℕ) (d : Data) (f : JsonFault) (flags : 
 column_slots s n d f flags values h given = tells_as (SlotsFault s flags values) (ColumnFault s n d) f (λ k p w. bad_slots flags values k p given w) h
 
 holds : (k : Kind) (s : Spelling) (n : ℕ) (d : Data) (flags : Option Items) (vs : List Value) (a : Seen) → a.kind ≡ k → HasSlots n d flags (items_view vs)
-    → ReadsSlots s flags (items_view vs) (length vs) a.items → length vs ≡ n → is_full s a.items ≡ false → (ReadsPlain s n d a.items → ReadsColumn k n d a.items) → HoldsColumn k n d a
+    → ReadsSlots s flags (items_view vs) (length vs) a.items → length vs ≡ n → overflows s a.items ≡ false → (ReadsPlain s n d a.items → ReadsColumn k n d a.items) → HoldsColumn k n d a
 holds k s n d flags vs a same given slots whole fits reads =
     let all = subst (λ m. ReadsSlots s flags (items_view vs) m a.items) whole slots in
     record { kind = same; len = all.len; reads = reads record { flags = flags; values = items_view vs; given = given; slots = all; fits = fits } }
 
 pub holds_numbers : (t : IntType) (n : ℕ) (d : Data) (flags : Option Items) (vs : List Value) (a : Seen) → a.kind ≡ kind.int t → HasSlots n d flags (items_view vs)
-    → ReadsSlots (numbers t) flags (items_view vs) (length vs) a.items → length vs ≡ n → is_full (numbers t) a.items ≡ false → HoldsColumn (kind.int t) n d a
+    → ReadsSlots (numbers t) flags (items_view vs) (length vs) a.items → length vs ≡ n → overflows (numbers t) a.items ≡ false → HoldsColumn (kind.int t) n d a
 holds_numbers t n d flags vs a same given slots whole fits = holds (kind.int t) (numbers t) n d flags vs a same given slots whole fits (λ r. r)
 
 pub holds_truths : (n : ℕ) (d : Data) (flags : Option Items) (vs : List Value) (a : Seen) → a.kind ≡ kind.boolean → HasSlots n d flags (items_view vs)
-    → ReadsSlots truths flags (items_view vs) (length vs) a.items → length vs ≡ n → is_full truths a.items ≡ false → HoldsColumn kind.boolean n d a
+    → ReadsSlots truths flags (items_view vs) (length vs) a.items → length vs ≡ n → overflows truths a.items ≡ false → HoldsColumn kind.boolean n d a
 holds_truths n d flags vs a same given slots whole fits = holds kind.boolean truths n d flags vs a same given slots whole fits (λ r. r)
 
 pub holds_texts : (w : OffsetWidth) (n : ℕ) (d : Data) (flags : Option Items) (vs : List Value) (a : Seen) → a.kind ≡ kind.texts w → HasSlots n d flags (items_view vs)
-    → ReadsSlots (texts w) flags (items_view vs) (length vs) a.items → length vs ≡ n → is_full (texts w) a.items ≡ false → HoldsColumn (kind.texts w) n d a
+    → ReadsSlots (texts w) flags (items_view vs) (length vs) a.items → length vs ≡ n → overflows (texts w) a.items ≡ false → HoldsColumn (kind.texts w) n d a
 holds_texts w n d flags vs a same given slots whole fits = holds (kind.texts w) (texts w) n d flags vs a same given slots whole fits (λ r. r)
 
 pub ruleset column_faults = (column_no_slots, column_slots, holds_numbers, holds_truths, holds_texts, tells_wants)

@@ -19,7 +19,7 @@ use Rattle.json_base.specs.JsonMember.{member_of, IsObject, Unlike, unlike, Miss
 use Rattle.json_base.specs.JsonNumber.{width_of}
 use Rattle.json_base.proofs.JsonTells.{tells_at, tells_as, tells_under, tells_wants}
 use Rattle.json_read.specs.BareField.{IsTypeRead}
-use Rattle.json_read.specs.JsonSchema.{ReadsShape, type_name, texts_name, lists_name, named_type, NamesLists, is_childless, only_item, only_child}
+use Rattle.json_read.specs.JsonSchema.{ReadsShape, type_name, texts_name, lists_name, member_type, NamesLists, is_childless, only_item, only_child}
 use Rattle.json_read.specs.declared.type_object.NamedType.TheVariants.{Flat}
 use Rattle.json_read.proofs.JsonNames.{by_width}
 use Rattle.json_read.specs.JsonSchemaFault.{NamesChildless, int_name, bool_name, texts_called, TypeFault, no_type_object, bad_type_name, other_type, bad_width, other_width, bad_sign, FieldFault, no_field_object, bad_field_name, bad_nullable, bad_type, no_dictionary_object, encoded_item, has_children, no_child, ninth_list, bad_child, IndexFault, bad_index_type, other_index}
@@ -90,17 +90,17 @@ pub field_no_dictionary : (n : ℕ) (d e : Data) (f g : JsonFault) → Tells (Un
 field_no_dictionary n d e f g t at some up = tells_under (Unlike as_object e) (FieldFault n d) (step.Member member.Dictionary) f g (λ k p h. no_dictionary_object n d e k p at some h) t up
 
 -- what a field's type object is called
-pub named_by : (d e : Data) (o : Option (List ℕ)) → member_of member.DataType d ≡ Some e → type_name e ≡ o → named_type d ≡ o
+pub named_by : (d e : Data) (o : Option (List ℕ)) → member_of member.DataType d ≡ Some e → type_name e ≡ o → member_type d ≡ o
 named_by d e o at named = ap (option_and_then type_name) at ∙ named
 
-pub names_lists : (d : Data) (w : OffsetWidth) → named_type d ≡ Some (lists_name w) → NamesLists d
+pub names_lists : (d : Data) (w : OffsetWidth) → member_type d ≡ Some (lists_name w) → NamesLists d
 names_lists d w named = record { width = w; named = named }
 
 -- a type that isn't one of lists isn't called so
 pub not_named : (d e : Data) → member_of member.DataType d ≡ Some e → ((w : OffsetWidth) → type_name e ≢ Some (lists_name w)) → ¬ NamesLists d
 not_named d e at other lists = other lists.width (sym (named_by d e (type_name e) at refl) ∙ lists.named)
 
-pub field_children_named : (n : ℕ) (d : Data) (bytes : List ℕ) (f : JsonFault) → named_type d ≡ Some bytes → NamesChildless bytes → is_childless (member_of member.Children d) ≡ false
+pub field_children_named : (n : ℕ) (d : Data) (bytes : List ℕ) (f : JsonFault) → member_type d ≡ Some bytes → NamesChildless bytes → is_childless (member_of member.Children d) ≡ false
     → IsFault WrongMember (step.Member member.Children ∷ []) f → Tells (FieldFault n d) f
 field_children_named n d bytes f named flat h is = tells_at (FieldFault n d) WrongMember (step.Member member.Children ∷ []) f (has_children n d bytes named flat h) is
 

@@ -21,7 +21,7 @@ use Rattle.json_read.specs.EncodingParts.{HasSomeEncoding}
 use Rattle.json_read.specs.JsonEncoding.{id_of}
 use Rattle.json_read.specs.JsonEncodingFault.{EncodedFault}
 use Rattle.json_read.specs.JsonFieldsFault.{TopFault, bad_top, bad_encoded, other_values, SchemaFault, no_schema_object, bad_fields, bad_field}
-use Rattle.json_read.specs.JsonSchema.{HasType, IsFieldOf, type_name, named_type, is_childless}
+use Rattle.json_read.specs.JsonSchema.{HasType, IsFieldOf, type_name, member_type, is_childless}
 use Rattle.json_read.specs.JsonFields.{IsEncodedField, ReadsField, plain_field, encoded_field}
 use Rattle.json_read.specs.JsonSchemaFault.{TypeFault, FieldFault, texts_called}
 use Rattle.json_base.proofs.JsonTells.{tells_at, tells_as, tells_under, tells_wants, tells_item_at}
@@ -43,7 +43,7 @@ top_name d f t = top_plain d f (field_name_faults 0 d f t)
 pub top_nullable : (d : Data) (f : JsonFault) → Tells (MemberFault member.Nullable (Unlike as_bool) d) f → Tells (TopFault d) f
 top_nullable d f t = top_plain d f (field_nullable_faults 0 d f t)
 
-pub top_values : (d e : Data) (bytes : List ℕ) (f : JsonFault) → member_of member.Dictionary d ≡ Some e → IsObject e → named_type d ≡ Some bytes → bytes ≢ codes "utf8"
+pub top_values : (d e : Data) (bytes : List ℕ) (f : JsonFault) → member_of member.Dictionary d ≡ Some e → IsObject e → member_type d ≡ Some bytes → bytes ≢ codes "utf8"
     → IsFault UnsupportedType (step.Member member.DataType ∷ []) f → Tells (TopFault d) f
 top_values d e bytes f at object named other is = tells_at (TopFault d) UnsupportedType (step.Member member.DataType ∷ []) f (other_values e bytes at object named other) is
 

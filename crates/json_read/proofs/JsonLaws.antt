@@ -17,9 +17,9 @@ use Rattle.json_base.specs.JsonMember as at
 use Rattle.json_base.specs.JsonMember.{member_of, Unlike, ListFault, EachFault, ReadsEach}
 use Rattle.json_base.specs.JsonNumber.{count_of, flag_of}
 use Rattle.json_read.specs.JsonFieldsFault.{SchemaFault}
-use Rattle.json_read.specs.JsonColumn.{numbers, truths, texts, HasFlags, valid_at}
+use Rattle.json_read.specs.JsonColumn.{numbers, truths, texts, HasFlags, flagged_at}
 use Rattle.arrays.specs.Offsets.{slot_at}
-use Rattle.json_read.specs.JsonList.{Spells, offset_bytes, are_enough, lists_fault, list_slot, ReadsLists, HasLists, ReadsList}
+use Rattle.json_read.specs.JsonList.{SpellsOffset, offset_bytes, are_enough, lists_fault, list_slot, ReadsLists, HasListMembers, IsListColumn}
 use Rattle.json_read.specs.JsonListFault.{OffsetsFault, no_offsets, not_enough, NoLists, no_list_object, bad_list_count, bad_list_flags, bad_offsets, bad_children, NoOffset, no_offset, no_flag_at, ChildFault, no_child_object, bad_child_count, bad_child_column, NotLawful, not_lawful, ListsFault, no_lists, no_flags_of_lists, bad_offset, bad_child, bad_lists}
 use Rattle.json_read.proofs.JsonLists.{column_count}
 use Rattle.json_base.specs.JsonTable.{Table, FileData}
@@ -44,7 +44,7 @@ offsets_law n d offsets k p h enough (not_enough ds found few) =
     let same : ds ≡ offsets = cc (found, h) in
     cc (ap (λ xs. are_enough n (items_len xs)) same, few, enough)
 
-no_lists_law : (n : ℕ) (d : Data) (flags : Option Items) (offsets : Items) (child : Data) (k : JsonFaultKind) (p : List Step) → HasLists n d flags offsets child → NoLists n d k p → ⊥
+no_lists_law : (n : ℕ) (d : Data) (flags : Option Items) (offsets : Items) (child : Data) (k : JsonFaultKind) (p : List Step) → HasListMembers n d flags offsets child → NoLists n d k p → ⊥
 no_lists_law n d flags offsets child k p h (no_list_object k' p' u) = no_object count_of member.Count d n h.count (not_unlike as_object d _ _ u)
 no_lists_law n d flags offsets child k p h (bad_list_count k' p' f) = count_law n d _ _ h.count f
 no_lists_law n d flags offsets child k p h (bad_list_flags k' p' f) = flags_law n d flags _ _ h.validity h.flagged f
@@ -59,11 +59,11 @@ no_flags_law : (w : OffsetWidth) (fs : Items) (n : ℕ) (offsets : List ℕ) (be
 no_flags_law w fs n offsets below items k p many slots (at.item i e k' p' found u) =
     let within : i < n = omega (arith, get_item-within fs i e found, many) in
     let x = slice_get_some items i (omega (arith, slots.len)) in
-    let none : valid_at (Some fs) i ≡ None = ap (option_and_then flag_of) found ∙ not_unlike flag_of e _ _ u in
+    let none : flagged_at (Some fs) i ≡ None = ap (option_and_then flag_of) found ∙ not_unlike flag_of e _ _ u in
     let slot = ap (λ o. list_slot o (slot_at w offsets below i)) none in
     cc (slots.each i within, slot, x.1)
 
-no_offset_law : (w : OffsetWidth) (d : Data) (z : ℤ) (k : JsonFaultKind) (p : List Step) → Spells w d z → NoOffset w d k p → ⊥
+no_offset_law : (w : OffsetWidth) (d : Data) (z : ℤ) (k : JsonFaultKind) (p : List Step) → SpellsOffset w d z → NoOffset w d k p → ⊥
 no_offset_law w d z k p h (no_offset none) = cc (none, h)
 
 child_law : (R : ℕ → Data → List Item → Type 0) (W : ℕ → Data → JsonFaultKind → List Step → Type 0) (m : ℕ) (d : Data) (items : List Item) (k : JsonFaultKind) (p : List Step)
@@ -78,31 +78,31 @@ not_lawful_law : (w : OffsetWidth) (c : Kind) (n : ℕ) (offsets : List ℕ) (m 
 not_lawful_law w c n offsets m k p lawful (not_lawful fault stands) = cc (lawful, stands)
 
 -- what an object's flags, offsets and child are is decided by the object
-same_flags : (n m : ℕ) (d : Data) (flags fs : Option Items) (offsets os : Items) (child e : Data) → HasLists n d flags offsets child → HasLists m d fs os e → fs ≡ flags
+same_flags : (n m : ℕ) (d : Data) (flags fs : Option Items) (offsets os : Items) (child e : Data) → HasListMembers n d flags offsets child → HasListMembers m d fs os e → fs ≡ flags
 same_flags n m d flags fs offsets os child e h g = cc (h.validity, g.validity)
 
-same_offsets : (n m : ℕ) (d : Data) (flags fs : Option Items) (offsets os : Items) (child e : Data) → HasLists n d flags offsets child → HasLists m d fs os e → os ≡ offsets
+same_offsets : (n m : ℕ) (d : Data) (flags fs : Option Items) (offsets os : Items) (child e : Data) → HasListMembers n d flags offsets child → HasListMembers m d fs os e → os ≡ offsets
 same_offsets n m d flags fs offsets os child e h g = cc (h.listed, g.listed)
 
-same_child : (n m : ℕ) (d : Data) (flags fs : Option Items) (offsets os : Items) (child e : Data) → HasLists n d flags offsets child → HasLists m d fs os e → e ≡ child
+same_child : (n m : ℕ) (d : Data) (flags fs : Option Items) (offsets os : Items) (child e : Data) → HasListMembers n d flags offsets child → HasListMembers m d fs os e → e ≡ child
 same_child n m d flags fs offsets os child e h g = cc (h.children, g.children)
 
-same_number : (w : OffsetWidth) (d : Data) (a b : ℤ) → Spells w d a → Spells w d b → a ≡ b
+same_number : (w : OffsetWidth) (d : Data) (a b : ℤ) → SpellsOffset w d a → SpellsOffset w d b → a ≡ b
 same_number w d a b h g = cc
 
-same_numbers : (w : OffsetWidth) (offsets os : Items) (a b : List ℤ) → os ≡ offsets → ReadsEach (Spells w) offsets a → ReadsEach (Spells w) os b → b ≡ a
-same_numbers w offsets os a b same h g = same_each (Spells w) offsets b a (same_number w) (subst (λ o. ReadsEach (Spells w) o b) same g) h
+same_numbers : (w : OffsetWidth) (offsets os : Items) (a b : List ℤ) → os ≡ offsets → ReadsEach (SpellsOffset w) offsets a → ReadsEach (SpellsOffset w) os b → b ≡ a
+same_numbers w offsets os a b same h g = same_each (SpellsOffset w) offsets b a (same_number w) (subst (λ o. ReadsEach (SpellsOffset w) o b) same g) h
 
 lists_law : (R : ℕ → Data → List Item → Type 0) (W : ℕ → Data → JsonFaultKind → List Step → Type 0) (w : OffsetWidth) (c : Kind) (n : ℕ) (d : Data) (items : List Item) (k : JsonFaultKind) (p : List Step)
     → ((m : ℕ) (e : Data) (xs : List Item) → R m e xs → option_and_then count_of (member_of member.Count e) ≡ Some m)
-    → ((m : ℕ) (e : Data) (xs : List Item) (k : JsonFaultKind) (p : List Step) → R m e xs → W m e k p → ⊥) → ReadsList R w c n d items → ListsFault W w c n d k p → ⊥
+    → ((m : ℕ) (e : Data) (xs : List Item) (k : JsonFaultKind) (p : List Step) → R m e xs → W m e k p → ⊥) → IsListColumn R w c n d items → ListsFault W w c n d k p → ⊥
 lists_law R W w c n d items k p count law h (no_lists k' p' f) = no_lists_law n d h.flags h.offsets h.child _ _ h.given f
 lists_law R W w c n d items k p count law h (no_flags_of_lists flags offsets child k' p' given (no_flag_at fs k'' p'' is f)) =
     let same : h.flags ≡ Some fs = sym (same_flags n n d h.flags flags h.offsets offsets h.child child h.given given) ∙ is in
     no_flags_law w fs n (offset_bytes w h.numbers) h.below items _ _ (subst (HasFlags n) same h.given.flagged) (subst (λ o. ReadsLists w o (offset_bytes w h.numbers) h.below n items) same h.slots) f
 lists_law R W w c n d items k p count law h (bad_offset flags offsets child k' p' given f) =
     let same = same_offsets n n d h.flags flags h.offsets offsets h.child child h.given given in
-    each_law (Spells w) (NoOffset w) h.offsets h.numbers k' p' h.spelled (no_offset_law w) (subst (λ o. EachFault (NoOffset w) o k' p') same f)
+    each_law (SpellsOffset w) (NoOffset w) h.offsets h.numbers k' p' h.spelled (no_offset_law w) (subst (λ o. EachFault (NoOffset w) o k' p') same f)
 lists_law R W w c n d items k p count law h (bad_child flags offsets child k' p' given f) =
     let same = same_child n n d h.flags flags h.offsets offsets h.child child h.given given in
     child_law R W h.m h.child h.below k' p' (count h.m h.child h.below h.inner) (λ k p f. law h.m h.child h.below k p h.inner f) (subst (λ e. ChildFault W e k' p') same f)
@@ -167,7 +167,7 @@ bytes_law bytes f k p h (bad_file d k' p' text parsed w) =
 
 same_list_column : (R : ℕ → Data → List Item → Type 0) (w : OffsetWidth) (c : Kind) (n : ℕ) (d : Data) (xs ys : List Item)
     → ((m : ℕ) (e : Data) (zs : List Item) → R m e zs → option_and_then count_of (member_of member.Count e) ≡ Some m)
-    → ((m : ℕ) (e : Data) (vs ws : List Item) → R m e vs → R m e ws → vs ≡ ws) → ReadsList R w c n d xs → ReadsList R w c n d ys → xs ≡ ys
+    → ((m : ℕ) (e : Data) (vs ws : List Item) → R m e vs → R m e ws → vs ≡ ws) → IsListColumn R w c n d xs → IsListColumn R w c n d ys → xs ≡ ys
 same_list_column R w c n d xs ys count law h g =
     let flags = same_flags n n d g.flags h.flags g.offsets h.offsets g.child h.child g.given h.given in
     let child = same_child n n d g.flags h.flags g.offsets h.offsets g.child h.child g.given h.given in
@@ -177,9 +177,9 @@ same_list_column R w c n d xs ys count law h g =
     same_lists xs ys (h.slots.len ∙ sym g.slots.len)
     (λ i x y at at'.
     let within : i < n = omega (arith, slice_get_within xs i x at, h.slots.len) in
-    let slot : list_slot (valid_at h.flags i) (slot_at w (offset_bytes w h.numbers) h.below i) ≡ list_slot (valid_at g.flags i) (slot_at w (offset_bytes w g.numbers) g.below i) =
-    ap (λ fs. list_slot (valid_at fs i) (slot_at w (offset_bytes w h.numbers) h.below i)) flags
-    ∙ (ap (λ ns. list_slot (valid_at g.flags i) (slot_at w (offset_bytes w ns) h.below i)) numbers ∙ ap (λ zs. list_slot (valid_at g.flags i) (slot_at w (offset_bytes w g.numbers) zs i)) below) in
+    let slot : list_slot (flagged_at h.flags i) (slot_at w (offset_bytes w h.numbers) h.below i) ≡ list_slot (flagged_at g.flags i) (slot_at w (offset_bytes w g.numbers) g.below i) =
+    ap (λ fs. list_slot (flagged_at fs i) (slot_at w (offset_bytes w h.numbers) h.below i)) flags
+    ∙ (ap (λ ns. list_slot (flagged_at g.flags i) (slot_at w (offset_bytes w ns) h.below i)) numbers ∙ ap (λ zs. list_slot (flagged_at g.flags i) (slot_at w (offset_bytes w g.numbers) zs i)) below) in
     let e : Some x ≡ Some y = sym at ∙ (h.slots.each i within ∙ (slot ∙ (sym (g.slots.each i within) ∙ at'))) in
     cc)
 

@@ -41,9 +41,9 @@ use Rattle.json_base.specs.JsonFault.{Tells, IsFault, IsUnder, no_memory}
 use Rattle.json_base.specs.JsonMember as at
 use Rattle.json_base.specs.JsonMember.{member_of, Unlike, unlike, MemberFault, ListFault, EachFault, ReadsEach}
 use Rattle.json_base.specs.JsonNumber.{integer_of, count_of, flag_of}
-use Rattle.json_read.specs.JsonColumn.{flags_of, valid_at}
+use Rattle.json_read.specs.JsonColumn.{flags_of, flagged_at}
 use Rattle.json_read.specs.JsonColumnFault.{CountFault, FlagsFault}
-use Rattle.json_read.specs.JsonList.{offset_bytes, are_enough, lists_fault, list_slot, ReadsLists, HasLists}
+use Rattle.json_read.specs.JsonList.{offset_bytes, are_enough, lists_fault, list_slot, ReadsLists, HasListMembers}
 use Rattle.json_read.specs.JsonListFault.{OffsetsFault, no_offsets, not_enough, NoLists, no_list_object, bad_list_count, bad_list_flags, bad_offsets, bad_children, NoOffset, no_offset, NoFlags, no_flag_at, ChildFault, no_child_object, bad_child_count, bad_child_column, NotLawful, not_lawful, ListsFault, no_lists, no_flags_of_lists, bad_offset, bad_child, bad_lists}
 use Rattle.json_read.specs.ListParts.{list_flags, list_offsets, list_child}
 use Rattle.json_read.specs.ListBuffers.{IsFlag, HoldsFlags, HoldsOffsets}
@@ -94,7 +94,7 @@ parts_child n d f t = tells_as (MemberFault member.Children (ListFault 1) d) (No
 
 pub has_lists : (n : ℕ) (d : Data) (p : ListParts) → option_and_then count_of (member_of member.Count d) ≡ Some n → flags_of (member_of member.Validity d) ≡ Some (list_flags p)
     → IfSome p.flags (λ fs. length fs.now ≡ n) → option_and_then as_array (member_of member.Offset d) ≡ Some (list_offsets p) → are_enough n (length p.offsets.now) ≡ true
-    → option_and_then as_array (member_of member.Children d) ≡ Some (item (list_child p) no_items) → HasLists n d (list_flags p) (list_offsets p) (list_child p)
+    → option_and_then as_array (member_of member.Children d) ≡ Some (item (list_child p) no_items) → HasListMembers n d (list_flags p) (list_offsets p) (list_child p)
 has_lists n d p count validity flagged listed enough children = record {
   count = count;
   validity = validity;
@@ -126,7 +126,7 @@ tells_flags_under vs f g t up =
 listed : (bits : List Bool) → bits ≡ map (λ i. get_or bits i false) (range_with_len 0 (length bits))
 listed bits = fill_by_all (λ i. get_or bits i false) bits (length bits) false refl (λ k h. refl)
 
-flag_at : (fs : Items) (bits : List Bool) (i : ℕ) → ReadsEach IsFlag fs bits → i < length bits → valid_at (Some fs) i ≡ Some (get_or bits i false)
+flag_at : (fs : Items) (bits : List Bool) (i : ℕ) → ReadsEach IsFlag fs bits → i < length bits → flagged_at (Some fs) i ≡ Some (get_or bits i false)
 flag_at fs bits i h within =
     let d = get_item_some fs i (omega (arith, h.len)) in
     ap (option_and_then flag_of) d.1 ∙ h.each i d.0 (get_or bits i false) d.1 (slice_get-get_or bits i false within)
@@ -208,16 +208,16 @@ pub lists_no_parts : (W : ℕ → Data → JsonFaultKind → List Step → Type 
 lists_no_parts W w k n d f t = tells_as (NoLists n d) (ListsFault W w k n d) f (λ a p h. no_lists a p h) t
 
 pub lists_flags : (W : ℕ → Data → JsonFaultKind → List Step → Type 0) (w : OffsetWidth) (k : Kind) (n : ℕ) (d : Data) (f : JsonFault) (flags : Option Items) (offsets : Items) (child : Data)
-    → Tells (NoFlags flags) f → HasLists n d flags offsets child → Tells (ListsFault W w k n d) f
+    → Tells (NoFlags flags) f → HasListMembers n d flags offsets child → Tells (ListsFault W w k n d) f
 lists_flags W w k n d f flags offsets child t given = tells_as (NoFlags flags) (ListsFault W w k n d) f (λ a p h. no_flags_of_lists flags offsets child a p given h) t
 
 pub lists_offsets : (W : ℕ → Data → JsonFaultKind → List Step → Type 0) (w : OffsetWidth) (k : Kind) (n : ℕ) (d : Data) (f g : JsonFault) (flags : Option Items) (offsets : Items) (child : Data)
-    → Tells (EachFault (NoOffset w) offsets) f → HasLists n d flags offsets child → IsUnder (step.Member member.Offset) f g → Tells (ListsFault W w k n d) g
+    → Tells (EachFault (NoOffset w) offsets) f → HasListMembers n d flags offsets child → IsUnder (step.Member member.Offset) f g → Tells (ListsFault W w k n d) g
 lists_offsets W w k n d f g flags offsets child t given up =
     tells_under (EachFault (NoOffset w) offsets) (ListsFault W w k n d) (step.Member member.Offset) f g (λ a p h. bad_offset flags offsets child a p given h) t up
 
 pub lists_child : (W : ℕ → Data → JsonFaultKind → List Step → Type 0) (w : OffsetWidth) (k : Kind) (n : ℕ) (d : Data) (f g h : JsonFault) (flags : Option Items) (offsets : Items) (child : Data)
-    → Tells (ChildFault W child) f → HasLists n d flags offsets child → IsUnder (step.Item 0) f g → IsUnder (step.Member member.Children) g h → Tells (ListsFault W w k n d) h
+    → Tells (ChildFault W child) f → HasListMembers n d flags offsets child → IsUnder (step.Item 0) f g → IsUnder (step.Member member.Children) g h → Tells (ListsFault W w k n d) h
 lists_child W w k n d f g h flags offsets child t given up up_again =
     let Inside : JsonFaultKind → List Step → Type 0 = λ a p. ListsFault W w k n d a (step.Member member.Children ∷ p) in
     tells_under Inside (ListsFault W w k n d) (step.Member member.Children) g h (λ a p x. x)
@@ -243,7 +243,7 @@ column_plain (kind.lists w k) n d items h = refl
 column_plain kind.dict n d items h = absurd h
 
 pub lists_not_lawful : (W : ℕ → Data → JsonFaultKind → List Step → Type 0) (w : OffsetWidth) (k : Kind) (n : ℕ) (d : Data) (f : JsonFault) (flags : Option Items) (offsets : Items) (child : Data)
-    (bytes : List ℕ) (s : Seen) → Tells (NotLawful w s.kind n bytes (length s.items)) f → HasLists n d flags offsets child → HoldsOffsets w offsets bytes → HoldsColumn k (length s.items) child s
+    (bytes : List ℕ) (s : Seen) → Tells (NotLawful w s.kind n bytes (length s.items)) f → HasListMembers n d flags offsets child → HoldsOffsets w offsets bytes → HoldsColumn k (length s.items) child s
     → Tells (ListsFault W w k n d) f
 lists_not_lawful W w k n d f flags offsets child bytes s t given wrapper column =
     tells_as (NotLawful w s.kind n bytes (length s.items)) (ListsFault W w k n d) f
@@ -274,7 +274,7 @@ shown_slots w n flags validity offsets child wrapper =
     }
 
 pub lists_hold : (w : OffsetWidth) (k : Kind) (n : ℕ) (d : Data) (flags : Option Items) (offsets : Items) (child : Data) (validity : Option (List ℕ)) (bytes : List ℕ) (s a : Seen)
-    → HasLists n d flags offsets child → HoldsFlags flags n validity → HoldsOffsets w offsets bytes → HoldsColumn k (length s.items) child s
+    → HasListMembers n d flags offsets child → HoldsFlags flags n validity → HoldsOffsets w offsets bytes → HoldsColumn k (length s.items) child s
     → lists_fault w s.kind n bytes (length s.items) ≡ None → a ≡ (list_parts w s.kind n validity bytes s).seen → HoldsColumn (kind.lists w k) n d a
 lists_hold w k n d flags offsets child validity bytes s a given wrapper numbers column lawful is =
     let shown : a ≡ show_lists w n validity bytes s = is ∙ show_read_lists w n validity bytes s in

@@ -13,7 +13,7 @@ use Rattle.json_base.specs.declared.path.Step.{Step}
 use Rattle.json_base.specs.declared.fault.JsonFaultKind.{JsonFaultKind}
 use Rattle.json_base.specs.JsonMember.{IsObject, member_of, is_without, Unlike, MemberFault, EachFault, ReadsEach}
 use Rattle.json_base.specs.JsonNumber.{width_of}
-use Rattle.json_read.specs.JsonSchema.{type_name, texts_name, lists_name, named_type, NamesLists, is_childless, only_item, only_child, ReadsInt, ReadsShape, HasType, HasField, HasChildren, IsFieldOf}
+use Rattle.json_read.specs.JsonSchema.{type_name, texts_name, lists_name, member_type, NamesLists, is_childless, only_item, only_child, ReadsInt, ReadsShape, HasType, HasField, HasChildren, IsFieldOf}
 use Rattle.json_read.specs.JsonEncoding.{Encoding, HasEncoding, IsEncoding, id_of}
 use Rattle.json_read.specs.JsonEncodingFault.{EncodingFault, bad_id, bad_index, EncodedFault, no_encoding_object, bad_encoding}
 use Rattle.json_read.specs.JsonFields.{IsEncodedField, ReadsField, plain_field, encoded_field, ReadsSchema}
@@ -64,7 +64,7 @@ no_lists_name bytes w int_name e = other_name (codes "int") (lists_name w) (λ n
 no_lists_name bytes w bool_name e = other_name (codes "bool") (lists_name w) (λ n. omega (arith, n, lists_mark w)) e
 no_lists_name bytes w (texts_called v) e = other_name (texts_name v) (lists_name w) (λ n. omega (arith, n, texts_mark v, lists_mark w)) e
 
-called_lists : (d : Data) (bytes : List ℕ) → named_type d ≡ Some bytes → NamesChildless bytes → NamesLists d → ⊥
+called_lists : (d : Data) (bytes : List ℕ) → member_type d ≡ Some bytes → NamesChildless bytes → NamesLists d → ⊥
 called_lists d bytes named flat called =
     let same : bytes ≡ lists_name called.width = cc (named, called.named) in
     no_lists_name bytes called.width flat same
@@ -173,7 +173,7 @@ field_law d f k p (plain_field g object shallow) (other_values e bytes at is_obj
 field_law d f k p (encoded_field bytes b h) (bad_top k' p' w) = encoded_field_law d bytes b _ _ h w
 field_law d f k p (encoded_field bytes b h) (bad_encoded k' p' w) = encoded_law d (Some h.encoded_as) _ _ h.encoding w
 field_law d f k p (encoded_field bytes' b h) (other_values e bytes at is_object named other) =
-    let utf8_named : named_type d ≡ Some (codes "utf8") = ap (option_and_then type_name) h.ty.at_type ∙ h.ty.reads in
+    let utf8_named : member_type d ≡ Some (codes "utf8") = ap (option_and_then type_name) h.ty.at_type ∙ h.ty.reads in
     let same : bytes ≡ codes "utf8" = cc in
     other same
 

@@ -5,7 +5,7 @@ use Rattle.arrays.specs.Shape.{shape_of}
 use Rattle.serde_json.specs.Data.{Data}
 use Rattle.serde_json.specs.Find.{as_bool, as_str}
 use Rattle.json_base.specs.JsonMember.{member_of, is_without}
-use Rattle.json_read.specs.JsonSchema.{type_name, lists_name, named_type, NamesLists, is_childless, ReadsShape, HasType}
+use Rattle.json_read.specs.JsonSchema.{type_name, lists_name, member_type, NamesLists, is_childless, ReadsShape, HasType}
 use Rattle.json_base.specs.declared.path.Member.TheVariants as member
 use Rattle.json_read.specs.declared.schema.Bare.{Bare}
 use Rattle.json_read.specs.declared.type_object.NamedType.{NamedType}
@@ -19,7 +19,7 @@ IsTypeRead d (Lists w) = type_name d ≡ Some (lists_name w)
 -- The same of a field: one without children has none.
 abbrev pub IsFieldType : Data → NamedType → Type 0
 IsFieldType d (Flat t) = HasType d (shape_of t) × (¬ NamesLists d) × (is_childless (member_of member.Children d) ≡ true)
-IsFieldType d (Lists w) = named_type d ≡ Some (lists_name w)
+IsFieldType d (Lists w) = member_type d ≡ Some (lists_name w)
 
 pub record IsBare (d : Data) (b : Bare) : Type 0 where
   pub name : option_and_then as_str (member_of member.Name d) ≡ Some (string_bytes b.name)

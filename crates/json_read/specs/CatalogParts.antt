@@ -29,14 +29,14 @@ ids_of no_items = []
 ids_of (item d ds) = unwrap_or (option_and_then id_of (member_of member.Id d)) (pos 0) ∷ ids_of ds
 
 -- The entries all have a number, and these are the places of the numbers.
-pub record ArePlaced (entries : Items) (places : BTreeMap ℤ Place) : Type 0 where
+pub record AreNumbered (entries : Items) (places : BTreeMap ℤ Place) : Type 0 where
   pub numbered : ReadsEach HasId entries (ids_of entries)
   pub placed : ArePlaces (ids_of entries) (length (ids_of entries)) places
 
 -- The texts that are kept of an entry, where it was read, are its own.
-abbrev pub IsKept : Data → Option (Arc Seen Global) → Type 0
-IsKept d None = Unit {0}
-IsKept d (Some words) = ReadsEntry d (arc_value words).items
+abbrev pub AreWordsOf : Data → Option (Arc Seen Global) → Type 0
+AreWordsOf d None = Unit {0}
+AreWordsOf d (Some words) = ReadsEntry d (arc_value words).items
 
 -- The fault of field i that no entry has its number.
 abbrev pub IsNoDictionary : ℕ → JsonFault → Type 0

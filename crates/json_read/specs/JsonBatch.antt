@@ -10,7 +10,7 @@ use Rattle.serde_json.specs.Events.{items_len}
 use Rattle.json_base.specs.JsonNumber.{count_of}
 use Rattle.json_base.specs.JsonMember.{member_of}
 use Rattle.json_read.specs.JsonColumn.{ReadsPlain, numbers, truths, texts as texts_spelled}
-use Rattle.json_read.specs.JsonList.{ReadsList}
+use Rattle.json_read.specs.JsonList.{IsListColumn}
 use Rattle.json_read.specs.JsonCodes.{ReadsCodes}
 use Rattle.json_read.specs.JsonCatalog.{Coding}
 use Rattle.json_base.specs.JsonTable.{Table}
@@ -21,7 +21,7 @@ abbrev pub ReadsColumn : Kind → ℕ → Data → List Item → Type 0
 ReadsColumn (int t) n d items = ReadsPlain (numbers t) n d items
 ReadsColumn boolean n d items = ReadsPlain truths n d items
 ReadsColumn (texts w) n d items = ReadsPlain (texts_spelled w) n d items
-ReadsColumn (lists w k) n d items = ReadsList (ReadsColumn k) w k n d items
+ReadsColumn (lists w k) n d items = IsListColumn (ReadsColumn k) w k n d items
 ReadsColumn dict n d items = ⊥
 
 -- An array that is the column of the kind.

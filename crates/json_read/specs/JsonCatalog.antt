@@ -30,14 +30,14 @@ pub record HasEntries (d : Data) (entries : Items) (ids : List ℤ) : Type 0 whe
   pub numbered : ReadsEach HasId entries ids
 
 -- The number stands at i, and nowhere else among the first n.
-pub record IsOnly (ids : List ℤ) (id : ℤ) (n i : ℕ) : Type 0 where
+pub record StandsOnce (ids : List ℤ) (id : ℤ) (n i : ℕ) : Type 0 where
   pub here : slice_get ids i ≡ Some id
   pub only : (j : ℕ) → j < n → slice_get ids j ≡ Some id → j ≡ i
 
 -- The one entry of the number holds the texts.
 pub record HasDictionary (entries : Items) (ids : List ℤ) (id : ℤ) (texts : List Item) : Type 0 where
   pub i : ℕ
-  pub place : IsOnly ids id (length ids) i
+  pub place : StandsOnce ids id (length ids) i
   pub entry : Data
   pub found : get_item i entries ≡ Some entry
   pub reads : ReadsEntry entry texts
@@ -45,7 +45,7 @@ pub record HasDictionary (entries : Items) (ids : List ℤ) (id : ℤ) (texts : 
 -- ---- the catalog
 
 -- The field is encoded by a dictionary of the document.
-pub record IsCoded (d field : Data) (c : Coding) : Type 0 where
+pub record IsEncodedBy (d field : Data) (c : Coding) : Type 0 where
   pub id : ℤ
   pub encoding : HasEncoding field (Some (record { id = id; index = c.index }))
   pub entries : Items
@@ -56,7 +56,7 @@ pub record IsCoded (d field : Data) (c : Coding) : Type 0 where
 -- How the column of a field is read: `dictionaries` is only looked at where one is encoded.
 abbrev pub HasCoding : Data → Data → Option Coding → Type 0
 HasCoding d field None = HasEncoding field None
-HasCoding d field (Some c) = IsCoded d field c
+HasCoding d field (Some c) = IsEncodedBy d field c
 
 -- That of each field.
 pub record HasCatalog (d : Data) (catalog : List (Option Coding)) : Type 0 where

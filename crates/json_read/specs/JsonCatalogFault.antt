@@ -6,7 +6,7 @@ use Rattle.json_base.specs.JsonMember.{member_of, Unlike, MemberFault, EachFault
 use Rattle.json_read.specs.JsonEncoding.{Encoding, HasEncoding, id_of}
 use Rattle.json_read.specs.JsonEncodingFault.{EncodedFault}
 use Rattle.json_read.specs.JsonDictionaryFault.{EntryFault}
-use Rattle.json_read.specs.JsonCatalog.{listed_fields, HasEntries, IsOnly}
+use Rattle.json_read.specs.JsonCatalog.{listed_fields, HasEntries, StandsOnce}
 use Rattle.json_base.specs.declared.path.Member.TheVariants as member
 use Rattle.json_base.specs.declared.path.Step.{Step}
 use Rattle.json_base.specs.declared.path.Step.TheVariants as step
@@ -29,7 +29,7 @@ pub data NamedFault (entries : Items) (ids : List ℤ) (i : ℕ) (id : ℤ) : Js
   nowhere : ((j : ℕ) → slice_get ids j ≢ Some id)
       → NamedFault entries ids i id NoDictionary (step.Member member.Schema ∷ step.Member member.Fields ∷ step.Item i ∷ step.Member member.Dictionary ∷ step.Member member.Id ∷ [])
   -- k is its second place
-  again : (j k : ℕ) → j < k → IsOnly ids id k j → slice_get ids k ≡ Some id
+  again : (j k : ℕ) → j < k → StandsOnce ids id k j → slice_get ids k ≡ Some id
       → NamedFault entries ids i id DictionaryTwice (step.Member member.Dictionaries ∷ step.Item k ∷ step.Member member.Id ∷ [])
   bad_entry : (j : ℕ) (entry : Data) (kind : JsonFaultKind) (path : List Step) → slice_get ids j ≡ Some id → get_item j entries ≡ Some entry → EntryFault entry kind path
       → NamedFault entries ids i id kind (step.Member member.Dictionaries ∷ step.Item j ∷ path)
@@ -40,7 +40,7 @@ pub data CodingsFault (entries : Items) (ids : List ℤ) (encodings : List (Opti
       → CodingsFault entries ids encodings kind path
 
 -- Field i is encoded so.
-pub record Names (d : Data) (i : ℕ) (e : Encoding) : Type 0 where
+pub record NamesEncoding (d : Data) (i : ℕ) (e : Encoding) : Type 0 where
   pub fields : Items
   pub listed : listed_fields d ≡ Some fields
   pub field : Data
@@ -51,6 +51,6 @@ pub record Names (d : Data) (i : ℕ) (e : Encoding) : Type 0 where
 pub data CatalogFault (d : Data) : JsonFaultKind → List Step → Type 0 where
   bad_encodings : (fields : Items) (kind : JsonFaultKind) (path : List Step) → listed_fields d ≡ Some fields → EachFault EncodedFault fields kind path
       → CatalogFault d kind (step.Member member.Schema ∷ step.Member member.Fields ∷ path)
-  bad_entries : (i : ℕ) (e : Encoding) (kind : JsonFaultKind) (path : List Step) → Names d i e → EntriesFault d kind path → CatalogFault d kind path
-  bad_named : (i : ℕ) (e : Encoding) (entries : Items) (ids : List ℤ) (kind : JsonFaultKind) (path : List Step) → Names d i e → HasEntries d entries ids
+  bad_entries : (i : ℕ) (e : Encoding) (kind : JsonFaultKind) (path : List Step) → NamesEncoding d i e → EntriesFault d kind path → CatalogFault d kind path
+  bad_named : (i : ℕ) (e : Encoding) (entries : Items) (ids : List ℤ) (kind : JsonFaultKind) (path : List Step) → NamesEncoding d i e → HasEntries d entries ids
       → NamedFault entries ids i e.id kind path → CatalogFault d kind path

@@ -32,9 +32,9 @@ HasFlags n None = Unit {0}
 HasFlags n (Some fs) = items_len fs ≡ n
 
 -- Whether slot i is valid.
-abbrev pub valid_at : Option Items → ℕ → Option Bool
-valid_at None i = Some true
-valid_at (Some fs) i = option_and_then flag_of (get_item i fs)
+abbrev pub flagged_at : Option Items → ℕ → Option Bool
+flagged_at None i = Some true
+flagged_at (Some fs) i = option_and_then flag_of (get_item i fs)
 
 -- ---- what values spell
 
@@ -73,8 +73,8 @@ is_past_offsets None n = false
 is_past_offsets (Some w) n = is_past w n
 
 -- The items are more than the offsets count.
-abbrev pub is_full : Spelling → List Item → Bool
-is_full s items = is_past_offsets s.offsets (text_bytes items)
+abbrev pub overflows : Spelling → List Item → Bool
+overflows s items = is_past_offsets s.offsets (text_bytes items)
 
 -- ---- slots
 
@@ -88,7 +88,7 @@ slot_of s None d = None
 -- The first n slots.
 pub record ReadsSlots (s : Spelling) (flags : Option Items) (values : Items) (n : ℕ) (items : List Item) : Type 0 where
   pub len : length items ≡ n
-  pub each : (i : ℕ) → i < n → slice_get items i ≡ slot_of s (valid_at flags i) (get_item i values)
+  pub each : (i : ℕ) → i < n → slice_get items i ≡ slot_of s (flagged_at flags i) (get_item i values)
 
 -- A column object of n slots, with a flag for each or none, and a value for each.
 pub record HasSlots (n : ℕ) (d : Data) (flags : Option Items) (values : Items) : Type 0 where
@@ -104,4 +104,4 @@ pub record ReadsPlain (s : Spelling) (n : ℕ) (d : Data) (items : List Item) : 
   pub values : Items
   pub given : HasSlots n d flags values
   pub slots : ReadsSlots s flags values n items
-  pub fits : is_full s items ≡ false
+  pub fits : overflows s items ≡ false

@@ -6,7 +6,7 @@ use Rattle.serde_json.specs.Data.{Data, Items}
 use Rattle.serde_json.specs.Find.{get_item, as_null, as_object}
 use Rattle.json_base.specs.JsonNumber.{count_of}
 use Rattle.json_base.specs.JsonMember.{member_of, Unlike, MemberFault, ListFault}
-use Rattle.json_read.specs.JsonColumn.{Spelling, is_full, valid_at, ReadsSlots, HasSlots}
+use Rattle.json_read.specs.JsonColumn.{Spelling, overflows, flagged_at, ReadsSlots, HasSlots}
 use Rattle.json_base.specs.declared.path.Member.TheVariants as member
 use Rattle.json_base.specs.declared.path.Step.{Step}
 use Rattle.json_base.specs.declared.path.Step.TheVariants as step
@@ -17,9 +17,9 @@ use Rattle.json_base.specs.declared.fault.JsonFaultKind.TheVariants.{WrongMember
 
 -- Some slot's flag is none, or it is valid and its value spells nothing; or the first slots are more than the offsets count.
 pub data SlotsFault (s : Spelling) (flags : Option Items) (values : Items) : JsonFaultKind → List Step → Type 0 where
-  no_flag : (i : ℕ) (d : Data) → get_item i values ≡ Some d → valid_at flags i ≡ None → SlotsFault s flags values WrongMember (step.Member member.Validity ∷ step.Item i ∷ [])
-  no_value : (i : ℕ) (d : Data) → get_item i values ≡ Some d → valid_at flags i ≡ Some true → s.spelled d ≡ None → SlotsFault s flags values s.bad (step.Member member.Data ∷ step.Item i ∷ [])
-  too_long : (n : ℕ) (items : List Item) → ReadsSlots s flags values n items → is_full s items ≡ true → SlotsFault s flags values (Layout TooLong) []
+  no_flag : (i : ℕ) (d : Data) → get_item i values ≡ Some d → flagged_at flags i ≡ None → SlotsFault s flags values WrongMember (step.Member member.Validity ∷ step.Item i ∷ [])
+  no_value : (i : ℕ) (d : Data) → get_item i values ≡ Some d → flagged_at flags i ≡ Some true → s.spelled d ≡ None → SlotsFault s flags values s.bad (step.Member member.Data ∷ step.Item i ∷ [])
+  too_long : (n : ℕ) (items : List Item) → ReadsSlots s flags values n items → overflows s items ≡ true → SlotsFault s flags values (Layout TooLong) []
 
 -- ---- where they stand
 

@@ -19,12 +19,12 @@ pub record ReadsTexts (d : Data) (items : List Item) : Type 0 where
   pub reads : ReadsPlain (texts Narrow) n column items
 
 -- Such a batch object, or an array of exactly one.
-pub data HasTexts (d : Data) (items : List Item) : Type 0 where
-  bare : ReadsTexts d items → HasTexts d items
-  wrapped : (batch : Data) → only_item d ≡ Some batch → ReadsTexts batch items → HasTexts d items
+pub data WrapsTexts (d : Data) (items : List Item) : Type 0 where
+  bare : ReadsTexts d items → WrapsTexts d items
+  wrapped : (batch : Data) → only_item d ≡ Some batch → ReadsTexts batch items → WrapsTexts d items
 
 -- The entry of a dictionary of the texts.
 pub record ReadsEntry (d : Data) (items : List Item) : Type 0 where
   pub wrapper : Data
   pub at_wrapper : member_of member.Texts d ≡ Some wrapper
-  pub reads : HasTexts wrapper items
+  pub reads : WrapsTexts wrapper items

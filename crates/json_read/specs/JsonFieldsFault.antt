@@ -3,7 +3,7 @@ use Rattle.std.specs.Prelude.{◌≡◌, ◌≢◌, ℕ, List, [], ◌∷◌, co
 use Rattle.serde_json.specs.Data.{Data, Items}
 use Rattle.serde_json.specs.Find.{as_array, as_object}
 use Rattle.json_base.specs.JsonMember.{IsObject, member_of, Unlike, MemberFault, EachFault}
-use Rattle.json_read.specs.JsonSchema.{named_type}
+use Rattle.json_read.specs.JsonSchema.{member_type}
 use Rattle.json_read.specs.JsonSchemaFault.{FieldFault}
 use Rattle.json_read.specs.JsonEncodingFault.{EncodedFault}
 use Rattle.json_base.specs.declared.path.Member.TheVariants as member
@@ -17,7 +17,7 @@ pub data TopFault (d : Data) : JsonFaultKind → List Step → Type 0 where
   bad_top : (kind : JsonFaultKind) (path : List Step) → FieldFault 0 d kind path → TopFault d kind path
   bad_encoded : (kind : JsonFaultKind) (path : List Step) → EncodedFault d kind path → TopFault d kind path
   -- a dictionary of other values than texts
-  other_values : (e : Data) (bytes : List ℕ) → member_of member.Dictionary d ≡ Some e → IsObject e → named_type d ≡ Some bytes → bytes ≢ codes "utf8"
+  other_values : (e : Data) (bytes : List ℕ) → member_of member.Dictionary d ≡ Some e → IsObject e → member_type d ≡ Some bytes → bytes ≢ codes "utf8"
       → TopFault d UnsupportedType (step.Member member.DataType ∷ [])
 
 pub data SchemaFault (d : Data) : JsonFaultKind → List Step → Type 0 where

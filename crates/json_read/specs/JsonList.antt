@@ -16,14 +16,14 @@ use Rattle.serde_json.specs.Find.{as_array}
 use Rattle.serde_json.specs.Events.{items_len}
 use Rattle.json_base.specs.JsonNumber.{integer_of, count_of}
 use Rattle.json_base.specs.JsonMember.{member_of, ReadsEach}
-use Rattle.json_read.specs.JsonColumn.{flags_of, HasFlags, valid_at}
+use Rattle.json_read.specs.JsonColumn.{flags_of, HasFlags, flagged_at}
 use Rattle.json_base.specs.declared.path.Member.TheVariants as member
 
 -- ---- offsets
 
 -- An item of OFFSET spells the number: one of 32 bits, or of 64 where lists are large.
-abbrev pub Spells : OffsetWidth → Data → ℤ → Type 0
-Spells w d z = integer_of (offset_type w) d ≡ Some z
+abbrev pub SpellsOffset : OffsetWidth → Data → ℤ → Type 0
+SpellsOffset w d z = integer_of (offset_type w) d ≡ Some z
 
 -- The numbers, little-endian, one after another.
 abbrev pub offset_bytes : OffsetWidth → List ℤ → List ℕ
@@ -48,10 +48,10 @@ list_slot None items = None
 -- n slots over the child's items, each from one offset up to the next.
 pub record ReadsLists (w : OffsetWidth) (flags : Option Items) (offsets : List ℕ) (below : List Item) (n : ℕ) (items : List Item) : Type 0 where
   pub len : length items ≡ n
-  pub each : (i : ℕ) → i < n → slice_get items i ≡ list_slot (valid_at flags i) (slot_at w offsets below i)
+  pub each : (i : ℕ) → i < n → slice_get items i ≡ list_slot (flagged_at flags i) (slot_at w offsets below i)
 
 -- A column object of n lists, with a flag for each or none, offsets for all, and one child.
-pub record HasLists (n : ℕ) (d : Data) (flags : Option Items) (offsets : Items) (child : Data) : Type 0 where
+pub record HasListMembers (n : ℕ) (d : Data) (flags : Option Items) (offsets : Items) (child : Data) : Type 0 where
   pub count : option_and_then count_of (member_of member.Count d) ≡ Some n
   pub validity : flags_of (member_of member.Validity d) ≡ Some flags
   pub flagged : HasFlags n flags
@@ -60,13 +60,13 @@ pub record HasLists (n : ℕ) (d : Data) (flags : Option Items) (offsets : Items
   pub children : option_and_then as_array (member_of member.Children d) ≡ Some (item child no_items)
 
 -- The column object of n lists over the items of a child. The child is a column of m items, as `Reads` says, whichever of them the lists hold.
-pub record ReadsList (Reads : ℕ → Data → List Item → Type 0) (w : OffsetWidth) (k : Kind) (n : ℕ) (d : Data) (items : List Item) : Type 0 where
+pub record IsListColumn (Reads : ℕ → Data → List Item → Type 0) (w : OffsetWidth) (k : Kind) (n : ℕ) (d : Data) (items : List Item) : Type 0 where
   pub flags : Option Items
   pub offsets : Items
   pub child : Data
-  pub given : HasLists n d flags offsets child
+  pub given : HasListMembers n d flags offsets child
   pub numbers : List ℤ
-  pub spelled : ReadsEach (Spells w) offsets numbers
+  pub spelled : ReadsEach (SpellsOffset w) offsets numbers
   pub m : ℕ
   pub below : List Item
   pub inner : Reads m child below

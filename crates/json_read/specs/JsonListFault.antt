@@ -10,7 +10,7 @@ use Rattle.serde_json.specs.Events.{items_len}
 use Rattle.json_base.specs.JsonNumber.{integer_of, count_of, flag_of}
 use Rattle.json_base.specs.JsonMember.{member_of, Unlike, MemberFault, ListFault, EachFault, ReadsEach}
 use Rattle.json_read.specs.JsonColumnFault.{CountFault, FlagsFault}
-use Rattle.json_read.specs.JsonList.{Spells, offset_bytes, are_enough, lists_fault, HasLists}
+use Rattle.json_read.specs.JsonList.{SpellsOffset, offset_bytes, are_enough, lists_fault, HasListMembers}
 use Rattle.json_base.specs.declared.path.Member.TheVariants as member
 use Rattle.json_base.specs.declared.path.Step.{Step}
 use Rattle.json_base.specs.declared.path.Step.TheVariants as step
@@ -51,12 +51,12 @@ pub data NotLawful (w : OffsetWidth) (k : Kind) (n : ℕ) (offsets : List ℕ) (
 
 pub data ListsFault (Wrong : ℕ → Data → JsonFaultKind → List Step → Type 0) (w : OffsetWidth) (k : Kind) (n : ℕ) (d : Data) : JsonFaultKind → List Step → Type 0 where
   no_lists : (kind : JsonFaultKind) (path : List Step) → NoLists n d kind path → ListsFault Wrong w k n d kind path
-  no_flags_of_lists : (flags : Option Items) (offsets : Items) (child : Data) (kind : JsonFaultKind) (path : List Step) → HasLists n d flags offsets child
+  no_flags_of_lists : (flags : Option Items) (offsets : Items) (child : Data) (kind : JsonFaultKind) (path : List Step) → HasListMembers n d flags offsets child
       → NoFlags flags kind path → ListsFault Wrong w k n d kind path
-  bad_offset : (flags : Option Items) (offsets : Items) (child : Data) (kind : JsonFaultKind) (path : List Step) → HasLists n d flags offsets child
+  bad_offset : (flags : Option Items) (offsets : Items) (child : Data) (kind : JsonFaultKind) (path : List Step) → HasListMembers n d flags offsets child
       → EachFault (NoOffset w) offsets kind path → ListsFault Wrong w k n d kind (step.Member member.Offset ∷ path)
-  bad_child : (flags : Option Items) (offsets : Items) (child : Data) (kind : JsonFaultKind) (path : List Step) → HasLists n d flags offsets child
+  bad_child : (flags : Option Items) (offsets : Items) (child : Data) (kind : JsonFaultKind) (path : List Step) → HasListMembers n d flags offsets child
       → ChildFault Wrong child kind path → ListsFault Wrong w k n d kind (step.Member member.Children ∷ step.Item 0 ∷ path)
-  bad_lists : (flags : Option Items) (offsets : Items) (child : Data) (numbers : List ℤ) (m : ℕ) (kind : JsonFaultKind) (path : List Step) → HasLists n d flags offsets child
-      → ReadsEach (Spells w) offsets numbers → option_and_then count_of (member_of member.Count child) ≡ Some m → NotLawful w k n (offset_bytes w numbers) m kind path
+  bad_lists : (flags : Option Items) (offsets : Items) (child : Data) (numbers : List ℤ) (m : ℕ) (kind : JsonFaultKind) (path : List Step) → HasListMembers n d flags offsets child
+      → ReadsEach (SpellsOffset w) offsets numbers → option_and_then count_of (member_of member.Count child) ≡ Some m → NotLawful w k n (offset_bytes w numbers) m kind path
       → ListsFault Wrong w k n d kind path

@@ -48,26 +48,26 @@ is_childless None = true
 is_childless (Some d) = unwrap_or (option_map (λ ds. items_len ds == 0) (as_array d)) (is_some (as_null d))
 
 -- The item of an array of exactly one.
-abbrev pub only_of : Items → Option Data
-only_of no_items = None
-only_of (item d no_items) = Some d
-only_of (item d (item e ds)) = None
+abbrev pub single_of : Items → Option Data
+single_of no_items = None
+single_of (item d no_items) = Some d
+single_of (item d (item e ds)) = None
 
 abbrev pub only_item : Data → Option Data
-only_item d = option_and_then only_of (as_array d)
+only_item d = option_and_then single_of (as_array d)
 
 -- The one child of a field.
 abbrev pub only_child : Data → Option Data
 only_child d = option_and_then only_item (member_of member.Children d)
 
 -- The name of a field's type.
-abbrev pub named_type : Data → Option (List ℕ)
-named_type d = option_and_then type_name (member_of member.DataType d)
+abbrev pub member_type : Data → Option (List ℕ)
+member_type d = option_and_then type_name (member_of member.DataType d)
 
 -- The field's type is called as lists are, of either width.
 pub record NamesLists (d : Data) : Type 0 where
   pub width : OffsetWidth
-  pub named : named_type d ≡ Some (lists_name width)
+  pub named : member_type d ≡ Some (lists_name width)
 
 -- The field's type object is that of the type.
 pub record HasType (d : Data) (shape : Shape) : Type 0 where

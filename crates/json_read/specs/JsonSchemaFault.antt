@@ -5,7 +5,7 @@ use Rattle.serde_json.specs.Data.{Data, Num}
 use Rattle.serde_json.specs.Find.{as_bool, as_null, as_number, as_str, as_object}
 use Rattle.json_base.specs.JsonNumber.{width_of}
 use Rattle.json_base.specs.JsonMember.{IsObject, member_of, Unlike, MemberFault}
-use Rattle.json_read.specs.JsonSchema.{type_name, texts_name, lists_name, named_type, NamesLists, is_childless, only_item, only_child}
+use Rattle.json_read.specs.JsonSchema.{type_name, texts_name, lists_name, member_type, NamesLists, is_childless, only_item, only_child}
 use Rattle.json_base.specs.declared.path.Member.TheVariants as member
 use Rattle.json_base.specs.declared.path.Step.{Step}
 use Rattle.json_base.specs.declared.path.Step.TheVariants as step
@@ -46,7 +46,7 @@ pub data FieldFault : ℕ → Data → JsonFaultKind → List Step → Type 0 wh
   -- a dictionary inside a list
   encoded_item : (within : ℕ) (d e : Data) → member_of member.Dictionary d ≡ Some e → IsObject e → FieldFault (suc within) d UnsupportedType []
   -- only lists have children
-  has_children : (within : ℕ) (d : Data) (bytes : List ℕ) → named_type d ≡ Some bytes → NamesChildless bytes → is_childless (member_of member.Children d) ≡ false
+  has_children : (within : ℕ) (d : Data) (bytes : List ℕ) → member_type d ≡ Some bytes → NamesChildless bytes → is_childless (member_of member.Children d) ≡ false
       → FieldFault within d WrongMember (step.Member member.Children ∷ [])
   no_child : (within : ℕ) (d : Data) (kind : JsonFaultKind) (path : List Step) → NamesLists d → MemberFault member.Children (Unlike only_item) d kind path
       → FieldFault within d kind path

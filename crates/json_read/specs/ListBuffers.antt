@@ -4,8 +4,8 @@ use Rattle.types.specs.declared.offset_width.OffsetWidth.{OffsetWidth}
 use Rattle.arrays.specs.Fault.{is_validity_short}
 use Rattle.arrays.specs.Layout.{is_valid_in}
 use Rattle.serde_json.specs.Data.{Data, Items}
-use Rattle.json_read.specs.JsonColumn.{valid_at}
-use Rattle.json_read.specs.JsonList.{Spells, offset_bytes}
+use Rattle.json_read.specs.JsonColumn.{flagged_at}
+use Rattle.json_read.specs.JsonList.{SpellsOffset, offset_bytes}
 use Rattle.json_base.specs.JsonMember.{ReadsEach}
 use Rattle.json_base.specs.JsonNumber.{flag_of}
 
@@ -16,10 +16,10 @@ IsFlag d b = flag_of d ≡ Some b
 -- The bitmap, where there is one, has n bits, as the flags say.
 pub record HoldsFlags (flags : Option Items) (n : ℕ) (validity : Option (List ℕ)) : Type 0 where
   pub enough : is_validity_short n validity ≡ false
-  pub each : (i : ℕ) → i < n → valid_at flags i ≡ Some (is_valid_in validity i)
+  pub each : (i : ℕ) → i < n → flagged_at flags i ≡ Some (is_valid_in validity i)
 
 -- The bytes are the numbers that the items of OFFSET spell.
 pub record HoldsOffsets (w : OffsetWidth) (offsets : Items) (bytes : List ℕ) : Type 0 where
   pub numbers : List ℤ
-  pub spelled : ReadsEach (Spells w) offsets numbers
+  pub spelled : ReadsEach (SpellsOffset w) offsets numbers
   pub laid : bytes ≡ offset_bytes w numbers

@@ -2,15 +2,15 @@
 use Rattle.std.specs.Prelude.{◌≡◌, ◌≢◌, ℕ, ◌<◌, ℤ, List, slice_get, Some, unwrap_or}
 use Rattle.std.specs.BTreeMap.{BTreeMap, get}
 use Rattle.std.specs.Ordering.{int_cmp}
-use Rattle.json_read.specs.JsonCatalog.{IsOnly}
+use Rattle.json_read.specs.JsonCatalog.{StandsOnce}
 use Rattle.json_read.specs.declared.place.Place.{Place}
 use Rattle.json_read.specs.declared.place.Place.TheVariants.{Nowhere, At, Again}
 
 -- Where a number stands among the first n.
-abbrev pub IsPlace : List ℤ → ℤ → ℕ → Place → Type 0
-IsPlace ids id n Nowhere = (j : ℕ) → j < n → slice_get ids j ≢ Some id
-IsPlace ids id n (At i) = IsOnly ids id n i
-IsPlace ids id n (Again k) = (j : ℕ) × (j < k) × IsOnly ids id k j × (slice_get ids k ≡ Some id)
+abbrev pub IsNumberPlace : List ℤ → ℤ → ℕ → Place → Type 0
+IsNumberPlace ids id n Nowhere = (j : ℕ) → j < n → slice_get ids j ≢ Some id
+IsNumberPlace ids id n (At i) = StandsOnce ids id n i
+IsNumberPlace ids id n (Again k) = (j : ℕ) × (j < k) × StandsOnce ids id k j × (slice_get ids k ≡ Some id)
 
 -- A place of one of the first n.
 abbrev pub IsBefore : ℕ → Place → Type 0
@@ -30,4 +30,4 @@ place_at places id = unwrap_or (get int_cmp places id) Nowhere
 
 -- A map has the places of all numbers among the first n.
 abbrev pub ArePlaces : List ℤ → ℕ → BTreeMap ℤ Place → Type 0
-ArePlaces ids n places = (id : ℤ) → IsPlace ids id n (place_at places id) × IsBefore n (place_at places id)
+ArePlaces ids n places = (id : ℤ) → IsNumberPlace ids id n (place_at places id) × IsBefore n (place_at places id)

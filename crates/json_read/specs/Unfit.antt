@@ -3,7 +3,7 @@ use Rattle.std.specs.Prelude.{◌≡◌, ℕ, List, [], ◌∷◌, ◌++◌, tru
 use Rattle.layout.specs.declared.fault.LayoutFault.TheVariants as layout
 use Rattle.arrays.specs.Item.{Item}
 use Rattle.serde_json.specs.Data.{Data}
-use Rattle.json_read.specs.JsonColumn.{Spelling, is_full}
+use Rattle.json_read.specs.JsonColumn.{Spelling, overflows}
 use Rattle.json_base.specs.JsonFault.{IsFault, no_memory}
 use Rattle.json_base.specs.declared.path.Member.TheVariants as member
 use Rattle.json_base.specs.declared.path.Step.TheVariants as step
@@ -13,20 +13,20 @@ use Rattle.json_read.specs.declared.column.Unfit.{Unfit}
 use Rattle.json_read.specs.declared.column.Unfit.TheVariants.{Unspelled, TooLong, NoMemory}
 
 -- The value's item follows, and the offsets count all.
-pub record IsWith (s : Spelling) (old : List Item) (d : Data) (new : List Item) : Type 0 where
+pub record HasNextItem (s : Spelling) (old : List Item) (d : Data) (new : List Item) : Type 0 where
   pub item : Item
   pub spelled : s.spelled d ≡ Some item
   pub grown : new ≡ old ++ item ∷ []
-  pub fits : is_full s new ≡ false
+  pub fits : overflows s new ≡ false
 
 pub data IsUnfit (s : Spelling) (old : List Item) (d : Data) : Unfit → Type 0 where
   spells_nothing : s.spelled d ≡ None → IsUnfit s old d (Unspelled s.bad)
-  has_no_room : (item : Item) → s.spelled d ≡ Some item → is_full s (old ++ item ∷ []) ≡ true → IsUnfit s old d TooLong
+  has_no_room : (item : Item) → s.spelled d ≡ Some item → overflows s (old ++ item ∷ []) ≡ true → IsUnfit s old d TooLong
   -- only of a value that would be taken
   refused : (item : Item) → s.spelled d ≡ Some item → IsUnfit s old d NoMemory
 
 -- How it is reported of slot i.
-abbrev pub IsReported : ℕ → Unfit → JsonFault → Type 0
-IsReported i (Unspelled kind) fault = IsFault kind (step.Member member.Data ∷ step.Item i ∷ []) fault
-IsReported i TooLong fault = IsFault (Layout layout.TooLong) [] fault
-IsReported i NoMemory fault = fault ≡ no_memory
+abbrev pub IsSlotFault : ℕ → Unfit → JsonFault → Type 0
+IsSlotFault i (Unspelled kind) fault = IsFault kind (step.Member member.Data ∷ step.Item i ∷ []) fault
+IsSlotFault i TooLong fault = IsFault (Layout layout.TooLong) [] fault
+IsSlotFault i NoMemory fault = fault ≡ no_memory

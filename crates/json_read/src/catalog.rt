@@ -4,7 +4,7 @@ ghost use Rattle.std.specs.Prelude.{◌≡◌, ◌<◌, length, Some, IfOk, IfEr
 ghost use Rattle.std.specs.Bool.{OnFalse, OnTrue};
 ghost use Rattle.std.specs.Arc.{arc_value};
 ghost use Rattle.serde_json.specs.View.{view, items_view};
-ghost use Rattle.json_read.specs.CatalogParts.{AreCodings, ArePlaced, HasEncodings, HasSome, IsCodingAt, IsKept, IsNoDictionary, coding_of, ids_of};
+ghost use Rattle.json_read.specs.CatalogParts.{AreCodings, AreNumbered, HasEncodings, HasSome, IsCodingAt, AreWordsOf, IsNoDictionary, coding_of, ids_of};
 ghost use Rattle.json_read.specs.EncodingParts.{parts_of};
 ghost use Rattle.json_read.specs.JsonCatalog.{HasCatalog, HasDictionary, HasEntries, HasId};
 ghost use Rattle.json_read.specs.JsonCatalogFault.{CatalogFault, CodingsFault, EntriesFault, NamedFault, NoId};
@@ -75,8 +75,8 @@ fn share_words(
     kept: &mut Option<Arc<Words>>,
 ) -> Result<Arc<Words>, JsonFault>
     requires object { IsObject (view entry.now) }
-    requires kept { IsKept (view entry.now) kept.old }
-    ensures kept { IsKept (view entry.now) kept.new }
+    requires kept { AreWordsOf (view entry.now) kept.old }
+    ensures kept { AreWordsOf (view entry.now) kept.new }
     ensures ok { IfOk result (λ w. ReadsEntry (view entry.now) (arc_value w).items) }
     ensures err { IfErr result (Tells (EntryFault (view entry.now))) }
 {
@@ -91,7 +91,7 @@ fn share_words(
 
 /// Nothing is kept of any entry yet.
 fn kept_of_none(alloc: Global, entries: &[Value]) -> Result<Vec<Option<Arc<Words>>>, JsonFault>
-    ensures ok { IfOk result (λ kept. ReadsEach IsKept (items_view entries.now) kept.items) }
+    ensures ok { IfOk result (λ kept. ReadsEach AreWordsOf (items_view entries.now) kept.items) }
     ensures err { IfErr result (λ fault. fault ≡ no_memory) }
 {
     let mut kept = Vec::new(alloc);
@@ -135,9 +135,9 @@ fn read_dictionary(
     id: i128,
     field: usize,
 ) -> Result<Arc<Words>, JsonFault>
-    requires placed { ArePlaced (items_view entries.now.values.now) entries.now.places }
-    requires kept { ReadsEach IsKept (items_view entries.now.values.now) kept.old }
-    ensures kept { ReadsEach IsKept (items_view entries.now.values.now) kept.new }
+    requires placed { AreNumbered (items_view entries.now.values.now) entries.now.places }
+    requires kept { ReadsEach AreWordsOf (items_view entries.now.values.now) kept.old }
+    ensures kept { ReadsEach AreWordsOf (items_view entries.now.values.now) kept.new }
     ensures ok { let items = items_view entries.now.values.now in
         IfOk result (λ w. HasDictionary items (ids_of items) id (arc_value w).items) }
     ensures err { let items = items_view entries.now.values.now in
@@ -168,7 +168,7 @@ fn read_dictionary(
 fn read_entries(alloc: Global, document: &Value) -> Result<Entries<'_>, JsonFault>
     requires { IsObject (view document.now) }
     ensures ok { IfOk result (λ e. let items = items_view e.values.now in HasEntries (view document.now) items (ids_of items)) }
-    ensures placed { IfOk result (λ e. ArePlaced (items_view e.values.now) e.places) }
+    ensures placed { IfOk result (λ e. AreNumbered (items_view e.values.now) e.places) }
     ensures err { IfErr result (Tells (EntriesFault (view document.now))) }
 {
     let values = array_member(alloc, document, Member::Dictionaries)?;
@@ -182,7 +182,7 @@ fn read_entries(alloc: Global, document: &Value) -> Result<Entries<'_>, JsonFaul
 }
 
 /// Whether a column is encoded.
-fn has_some(encodings: &[Option<Encoding>]) -> bool
+pub fn has_some(encodings: &[Option<Encoding>]) -> bool
     ensures some { OnTrue result (HasSome (map (option_map parts_of) encodings.now)) }
     ensures none { OnFalse result (¬ HasSome (map (option_map parts_of) encodings.now)) }
 {
@@ -203,7 +203,7 @@ fn entries_for<'v>(
     requires { IsObject (view document.now) }
     ensures ok { IfOk result (λ e. HasSome (map (option_map parts_of) encodings.now) →
         HasEntries (view document.now) (items_view e.values.now) (ids_of (items_view e.values.now))) }
-    ensures placed { IfOk result (λ e. ArePlaced (items_view e.values.now) e.places) }
+    ensures placed { IfOk result (λ e. AreNumbered (items_view e.values.now) e.places) }
     ensures needed { OnErr result (HasSome (map (option_map parts_of) encodings.now)) }
     ensures err { IfErr result (Tells (EntriesFault (view document.now))) }
 {
@@ -226,9 +226,9 @@ fn read_coding(
     index: usize,
 ) -> Result<Option<Coding>, JsonFault>
     requires within { index < length encodings.now }
-    requires placed { ArePlaced (items_view entries.now.values.now) entries.now.places }
-    requires kept { ReadsEach IsKept (items_view entries.now.values.now) kept.old }
-    ensures kept { ReadsEach IsKept (items_view entries.now.values.now) kept.new }
+    requires placed { AreNumbered (items_view entries.now.values.now) entries.now.places }
+    requires kept { ReadsEach AreWordsOf (items_view entries.now.values.now) kept.old }
+    ensures kept { ReadsEach AreWordsOf (items_view entries.now.values.now) kept.new }
     ensures ok { let items = items_view entries.now.values.now in
         IfOk result (λ c. IsCodingAt items (ids_of items) (map (option_map parts_of) encodings.now) index (option_map coding_of c)) }
     ensures err { let items = items_view entries.now.values.now in
@@ -254,8 +254,8 @@ fn read_codings(
     kept: &mut [Option<Arc<Words>>],
     encodings: &[Option<Encoding>],
 ) -> Result<Vec<Option<Coding>>, JsonFault>
-    requires placed { ArePlaced (items_view entries.now.values.now) entries.now.places }
-    requires kept { ReadsEach IsKept (items_view entries.now.values.now) kept.old }
+    requires placed { AreNumbered (items_view entries.now.values.now) entries.now.places }
+    requires kept { ReadsEach AreWordsOf (items_view entries.now.values.now) kept.old }
     ensures ok { let items = items_view entries.now.values.now in IfOk result (λ cs. AreCodings items (ids_of items)
         (map (option_map parts_of) encodings.now) (length encodings.now) (map (option_map coding_of) cs.items)) }
     ensures err { let items = items_view entries.now.values.now in

@@ -9,7 +9,7 @@ ghost use Rattle.serde_json.specs.View.{view};
 ghost use Rattle.json_read.specs.CodeParts.{HoldsCodes};
 ghost use Rattle.json_read.specs.JsonCodes.{ReadsCodes};
 ghost use Rattle.json_read.specs.JsonCodesFault.{CodesFault, IndicesFault};
-ghost use Rattle.json_read.specs.JsonColumn.{valid_at};
+ghost use Rattle.json_read.specs.JsonColumn.{flagged_at};
 ghost use Rattle.json_base.specs.JsonFault.{Tells};
 ghost use Rattle.json_read.specs.SlotParts.{flags_in, values_in};
 
@@ -42,7 +42,7 @@ fn push_index(
     requires short { index < 2147483647 }
     requires few { length texts.now.items ≤ 2147483647 }
     requires within { index < length slots.now.values.now }
-    requires valid { valid_at (flags_in slots.now) index ≡ Some true }
+    requires valid { flagged_at (flags_in slots.now) index ≡ Some true }
     requires so_far { HoldsCodes ty texts.now.items (flags_in slots.now) (values_in slots.now) index builder.old }
     ensures ok { OnOk result
         (HoldsCodes ty texts.now.items (flags_in slots.now) (values_in slots.now) (index + 1) builder.new) }

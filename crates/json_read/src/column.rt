@@ -5,13 +5,13 @@ ghost use Rattle.serde_json.specs.Data.{item, no_items};
 ghost use Rattle.serde_json.specs.Find.{as_array};
 ghost use Rattle.serde_json.specs.View.{view, items_view};
 ghost use Rattle.json_read.specs.JsonBatch.{HoldsColumn};
-ghost use Rattle.json_read.specs.JsonColumn.{flags_of, valid_at, numbers, truths, texts, spelling_of, is_full, ReadsSlots, HasSlots};
+ghost use Rattle.json_read.specs.JsonColumn.{flags_of, flagged_at, numbers, truths, texts, spelling_of, overflows, ReadsSlots, HasSlots};
 ghost use Rattle.json_read.specs.JsonColumnFault.{CountFault, FlagsFault, NoSlots, SlotsFault, ColumnFault};
 ghost use Rattle.json_base.specs.JsonFault.{Tells};
 ghost use Rattle.json_base.specs.JsonMember.{member_of, IsObject, ListFault, MemberFault};
 ghost use Rattle.json_base.specs.JsonNumber.{count_of};
 ghost use Rattle.json_read.specs.SlotParts.{flags_in, values_in};
-ghost use Rattle.json_read.specs.Unfit.{IsWith, IsUnfit, IsReported};
+ghost use Rattle.json_read.specs.Unfit.{HasNextItem, IsUnfit, IsSlotFault};
 ghost use Rattle.json_base.specs.declared.path.Member.TheVariants as member;
 
 use arrays::{
@@ -137,7 +137,7 @@ impl Slots<'_> {
     pub(crate) fn valid_at(&self, index: usize) -> Option<bool>
         requires short { index < 2 ^ 31 }
         requires within { IfSome self.now.flags (λ fs. index < length fs.now) }
-        ensures { result ≡ valid_at (flags_in self.now) index }
+        ensures { result ≡ flagged_at (flags_in self.now) index }
     {
         match self.flags {
             None => Some(true),
@@ -190,7 +190,7 @@ trait ColumnBuilder: Drop {
         requires room { length (items self.old) < 2147483647 }
         ensures kept { kind self.new ≡ kind self.old }
         ensures ok { OnOk result
-            (IsWith (spelling_of (kind self.old)) (items self.old) (view value.now) (items self.new)) }
+            (HasNextItem (spelling_of (kind self.old)) (items self.old) (view value.now) (items self.new)) }
         ensures err { IfErr result (IsUnfit (spelling_of (kind self.old)) (items self.old) (view value.now)) };
 
     /// Adds a null.
@@ -308,7 +308,7 @@ impl ColumnBuilder for TextBuilder {
 /// The fault of the value of a slot that isn't taken.
 #[cold]
 fn unfit_at(alloc: Global, index: usize, unfit: Unfit) -> JsonFault
-    ensures { IsReported index unfit result }
+    ensures { IsSlotFault index unfit result }
 {
     match unfit {
         Unfit::Unspelled(kind) => JsonFault::at(
@@ -335,11 +335,11 @@ fn push_slot<B: ColumnBuilder>(
     requires flagged { IfSome slots.now.flags (λ fs. index < length fs.now) }
     requires so_far { ReadsSlots (spelling_of (B.kind builder.old))
         (flags_in slots.now) (values_in slots.now) index (B.items builder.old) }
-    requires fits { is_full (spelling_of (B.kind builder.old)) (B.items builder.old) ≡ false }
+    requires fits { overflows (spelling_of (B.kind builder.old)) (B.items builder.old) ≡ false }
     ensures kept { B.kind builder.new ≡ B.kind builder.old }
     ensures ok { OnOk result (ReadsSlots (spelling_of (B.kind builder.old))
         (flags_in slots.now) (values_in slots.now) (index + 1) (B.items builder.new)) }
-    ensures fits { OnOk result (is_full (spelling_of (B.kind builder.old)) (B.items builder.new) ≡ false) }
+    ensures fits { OnOk result (overflows (spelling_of (B.kind builder.old)) (B.items builder.new) ≡ false) }
     ensures err { IfErr result (Tells (SlotsFault (spelling_of (B.kind builder.old))
         (flags_in slots.now) (values_in slots.now))) }
 {
@@ -369,7 +369,7 @@ fn filled<B: ColumnBuilder>(alloc: Global, builder: B, slots: &Slots) -> Result<
     ensures kept { IfOk result (λ b. B.kind b ≡ B.kind builder) }
     ensures ok { IfOk result (λ b. ReadsSlots (spelling_of (B.kind builder))
         (flags_in slots.now) (values_in slots.now) (length slots.now.values.now) (B.items b)) }
-    ensures fits { IfOk result (λ b. is_full (spelling_of (B.kind builder)) (B.items b) ≡ false) }
+    ensures fits { IfOk result (λ b. overflows (spelling_of (B.kind builder)) (B.items b) ≡ false) }
     ensures err { IfErr result (Tells (SlotsFault (spelling_of (B.kind builder))
         (flags_in slots.now) (values_in slots.now))) }
 {
@@ -388,7 +388,7 @@ fn array_of<B: ColumnBuilder>(alloc: Global, builder: B, slots: &Slots) -> Resul
     ensures kind { IfOk result (λ a. a.kind ≡ B.kind builder) }
     ensures ok { IfOk result (λ a. ReadsSlots (spelling_of (B.kind builder))
         (flags_in slots.now) (values_in slots.now) (length slots.now.values.now) a.items) }
-    ensures fits { IfOk result (λ a. is_full (spelling_of (B.kind builder)) a.items ≡ false) }
+    ensures fits { IfOk result (λ a. overflows (spelling_of (B.kind builder)) a.items ≡ false) }
     ensures err { IfErr result (Tells (SlotsFault (spelling_of (B.kind builder))
         (flags_in slots.now) (values_in slots.now))) }
 {

@@ -3,7 +3,7 @@
 ghost use Rattle.std.specs.Prelude.{◌≡◌, IfOk, IfErr};
 ghost use Rattle.arrays.specs.Kind as kind;
 ghost use Rattle.serde_json.specs.View.{view};
-ghost use Rattle.json_read.specs.JsonDictionary.{HasTexts, ReadsEntry, ReadsTexts};
+ghost use Rattle.json_read.specs.JsonDictionary.{WrapsTexts, ReadsEntry, ReadsTexts};
 ghost use Rattle.json_read.specs.JsonDictionaryFault.{EntryFault, WrapperFault, TextsFault};
 ghost use Rattle.json_base.specs.JsonFault.{Tells};
 ghost use Rattle.json_base.specs.JsonMember.{IsObject};
@@ -39,7 +39,7 @@ fn read_batch_of_texts(alloc: Global, batch: &Value) -> Result<Array, JsonFault>
 #[tactic(auto, using(crate::proofs::JsonDictionaries::wrapper_faults))]
 fn read_wrapper(alloc: Global, wrapper: &Value) -> Result<Array, JsonFault>
     ensures kind { IfOk result (λ a. a.kind ≡ kind.utf8) }
-    ensures ok { IfOk result (λ a. HasTexts (view wrapper.now) a.items) }
+    ensures ok { IfOk result (λ a. WrapsTexts (view wrapper.now) a.items) }
     ensures err { IfErr result (Tells (WrapperFault (view wrapper.now))) }
 {
     if wrapper.is_object() {

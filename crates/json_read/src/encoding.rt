@@ -25,7 +25,7 @@ const ID: IntType = IntType {
 
 /// That a column is indices into a dictionary.
 #[derive(Clone, Copy)]
-pub(crate) struct Encoding {
+pub struct Encoding {
     /// The number of the dictionary, of 64 signed bits.
     pub id: i128,
     /// The type of the indices.

@@ -15,7 +15,10 @@ mod place;
 mod schema;
 mod type_object;
 
-pub use catalog::Coding;
+pub use catalog::{Coding, has_some};
+pub use encoding::Encoding;
 pub use field::read_field;
 pub use file::{FileHead, read_file, read_file_from_vec, read_head};
 pub use list::{offset_type, push_offset};
+pub use place::{Place, place_of, places_of};
+pub use schema::{EncodedSchema, read_schema};

@@ -13,7 +13,7 @@ ghost use Rattle.serde_json.specs.View.{view, items_view};
 ghost use Rattle.json_read.specs.JsonBatch.{HoldsColumn};
 ghost use Rattle.json_read.specs.JsonBatchFault.{KindFault};
 ghost use Rattle.json_base.specs.JsonFault.{Tells, IsFault, no_memory};
-ghost use Rattle.json_read.specs.JsonList.{HasLists, are_enough, lists_fault};
+ghost use Rattle.json_read.specs.JsonList.{HasListMembers, are_enough, lists_fault};
 ghost use Rattle.json_read.specs.JsonListFault.{ChildFault, ListsFault, NoFlags, NoLists, NoOffset, NotLawful, OffsetsFault};
 ghost use Rattle.json_base.specs.JsonMember.{EachFault, IsObject, ReadsEach, Unlike, member_of};
 ghost use Rattle.json_base.specs.JsonNumber.{flag_of};
@@ -72,7 +72,7 @@ fn offsets_member<'v>(
 /// The parts of a column of `count` lists.
 #[tactic(auto, using(crate::proofs::JsonLists::parts_found))]
 fn read_parts(alloc: Global, count: u32, column: &Value) -> Result<ListParts<'_>, JsonFault>
-    ensures given { IfOk result (λ p. HasLists count (view column.now) (list_flags p) (list_offsets p) (list_child p)) }
+    ensures given { IfOk result (λ p. HasListMembers count (view column.now) (list_flags p) (list_offsets p) (list_child p)) }
     ensures flagged { IfOk result (λ p. IfSome p.flags (λ fs. length fs.now ≡ count)) }
     ensures err { IfErr result (Tells (NoLists count (view column.now))) }
 {

@@ -10,7 +10,7 @@ use std::collections::BTreeMap;
 
 /// Where a number stands among numbers.
 #[derive(Clone, Copy)]
-pub(crate) enum Place {
+pub enum Place {
     Nowhere,
     At(usize),
     /// It stands at two places or more, of which this is the second.
@@ -18,7 +18,7 @@ pub(crate) enum Place {
 }
 
 /// Where the number stands.
-pub(crate) fn place_of(places: &BTreeMap<i128, Place>, id: i128) -> Place
+pub fn place_of(places: &BTreeMap<i128, Place>, id: i128) -> Place
     ensures { result ≡ place_at places.now id }
 {
     match places.get(&id) {
@@ -58,8 +58,8 @@ fn add_place(
     }
 }
 
-/// Where each number stands.
-pub(crate) fn places_of(alloc: Global, ids: &[i128]) -> Result<BTreeMap<i128, Place>, JsonFault>
+/// Where each number stands. The one error is that memory is wanting.
+pub fn places_of(alloc: Global, ids: &[i128]) -> Result<BTreeMap<i128, Place>, JsonFault>
     ensures ok { IfOk result (ArePlaces ids.now (length ids.now)) }
     ensures err { IfErr result (λ fault. fault ≡ no_memory) }
 {

@@ -313,14 +313,15 @@ fn share_schema(alloc: Global, fields: Vec<Field>) -> Result<Arc<Schema>, JsonFa
 
 /// The schema of a file, to be shared by its batches, and how the column of each field is encoded.
 #[derive(Drop)]
-pub(crate) struct EncodedSchema {
+pub struct EncodedSchema {
     pub schema: Arc<Schema>,
+    /// One for each field, none where its column isn't encoded.
     pub encodings: Vec<Option<Encoding>>,
 }
 
-/// The schema of a file.
+/// Reads the schema of a file, and how the column of each field is encoded. Which dictionaries there are it doesn't look at.
 #[tactic(auto, using(crate::proofs::JsonFields::schema_faults))]
-pub(crate) fn read_schema(alloc: Global, schema: &Value) -> Result<EncodedSchema, JsonFault>
+pub fn read_schema(alloc: Global, schema: &Value) -> Result<EncodedSchema, JsonFault>
     ensures ok { IfOk result (λ s. ReadsSchema (view schema.now) (arc_value s.schema)) }
     ensures encodings { IfOk result (λ s. AreEncoded (view schema.now) (map (option_map parts_of) s.encodings.items)) }
     ensures err { IfErr result (Tells (SchemaFault (view schema.now))) }

@@ -9,7 +9,7 @@ use Rattle.std.proofs.lemmas.List.{map-append}
 use Rattle.serde_json.specs.Data.{Num, Data, number, array, Items, no_items, item}
 use Rattle.serde_json.specs.Find.{as_integer}
 use Rattle.serde_json.specs.Read.{of_json, of_items, converted}
-use Rattle.json_scan.specs.Scalars.{integer_of, AreIntegers}
+use Rattle.json_scan.specs.Scalars.{number_integer, AreIntegers}
 use Rattle.json_scan.specs.Spelling.{tokens_in, SpellsAt, SpellsItems, IsMark, before}
 use Rattle.json_scan.specs.declared.mark.Container.TheVariants.{Array}
 use Rattle.json_scan.specs.declared.mark.Mark.TheVariants.{Comma, End}
@@ -118,4 +118,4 @@ all_items depth xs ys us zs ds d t s mark = subst (λ k. SpellsItems depth xs k 
 -- ---- integers
 
 pub another_integer : (ds : List Data) (zs : List ℤ) (n : Num) (z : ℤ) → AreIntegers ds zs → as_integer n ≡ Some z → AreIntegers (ds ++ number n ∷ []) (zs ++ z ∷ [])
-another_integer ds zs n z are e = map-append integer_of ds (number n ∷ []) ∙ ap₂ (λ a b. a ++ b ∷ []) are e ∙ sym (map-append Some zs (z ∷ []))
+another_integer ds zs n z are e = map-append number_integer ds (number n ∷ []) ∙ ap₂ (λ a b. a ++ b ∷ []) are e ∙ sym (map-append Some zs (z ∷ []))

@@ -119,16 +119,16 @@ finite_negative w p first e f = let m = finite true p f in (m.0, rw (first_byte 
 
 -- ---- a number by itself
 
-nothing : lex between [] ≡ []
+pub no_lexemes : lex between [] ≡ []
 unfolding lex
-nothing = refl
+no_lexemes = refl
 
 pub word_alone : (d : List ℕ) (at end : ℕ) (n : Num) → at ≤ end → after_number (drop at d) ≡ Some (drop end d) → ends_word (drop end d) ≡ true → number_of (slice_range d at end) ≡ Some n → read (slice_range d at end) ≡ Some (data_of.number n)
 word_alone d at end n h e ends is =
     let w = slice_range d at end in
     let alone : IsNumber w = number_alone w (drop end d) ends (ap after_number (sym (drop_split d at end h)) ∙ e) in
     let lexed : lex between w ≡ token (number w) ∷ lex between [] = ap (lex between) (sym (append-nil w)) ∙ lex-number w [] alone refl in
-    whole_document w [] (data_of.number n) (token_spells w [] (number w) (data_of.number n) lexed (ap (option_map data_of.number) is) max_depth) nothing
+    whole_document w [] (data_of.number n) (token_spells w [] (number w) (data_of.number n) lexed (ap (option_map data_of.number) is) max_depth) no_lexemes
 
 -- ---- one more digit
 

@@ -10,7 +10,7 @@ use Rattle.json.specs.Token.{string}
 use Rattle.json.specs.Text.{content, plain, after_backslash, after_u, after_high, prepend, code_unit, short_escape, is_high_surrogate, is_low_surrogate, surrogate_pair}
 use Rattle.serde_json.specs.Data as data_of
 use Rattle.json_scan.specs.Scalars.{IsTextBody}
-use Rattle.json_scan.specs.Spelling.{Spells, IsText, IsKey}
+use Rattle.json_scan.specs.Spelling.{Spells, IsString, IsKey}
 use Rattle.json_scan.proofs.Lexemes.{from_byte, operator_lexed, byte_stands, slice_more}
 use Rattle.json_scan.proofs.Values.{token_spells}
 
@@ -200,30 +200,31 @@ quote_lexed xs = refl
 pub string_lexed : (d : List ℕ) (quote : ℕ) (s ys : List ℕ) → quote < length d → get_or d quote 0 ≡ 34 → IsTextBody (drop (quote + 1) d) s ys → lex between (drop quote d) ≡ token (string s) ∷ lex between ys
 string_lexed d quote s ys h q body = from_byte (lex between) d quote 34 h q ∙ quote_lexed (drop (quote + 1) d) ∙ ap₂ (λ o ls. token (string_token o) ∷ ls) body.0 body.1
 
-pub string_spells : (d : List ℕ) (at quote : ℕ) (s ys : List ℕ) → lex between (drop quote d) ≡ lex between (drop at d) → get_or d quote 32 ≡ 34 → IsTextBody (drop (quote + 1) d) s ys → Spells (drop at d) (data_of.string s) ys
-string_spells d at quote s ys same q body =
+pub text_lexed : (d : List ℕ) (at quote : ℕ) (s ys : List ℕ) → lex between (drop quote d) ≡ lex between (drop at d) → get_or d quote 32 ≡ 34 → IsTextBody (drop (quote + 1) d) s ys → IsString (drop at d) s ys
+text_lexed d at quote s ys same q body =
     let first = byte_stands d quote 34 q (λ e. omega arith) in
-    token_spells (drop at d) ys (string s) (data_of.string s) (sym same ∙ string_lexed d quote s ys first.0 first.1 body) refl
+    sym same ∙ string_lexed d quote s ys first.0 first.1 body
+
+pub text_spells : (xs ys s : List ℕ) → IsString xs s ys → Spells xs (data_of.string s) ys
+text_spells xs ys s text = token_spells xs ys (string s) (data_of.string s) text refl
+
+pub string_spells : (d : List ℕ) (at quote : ℕ) (s ys : List ℕ) → lex between (drop quote d) ≡ lex between (drop at d) → get_or d quote 32 ≡ 34 → IsTextBody (drop (quote + 1) d) s ys → Spells (drop at d) (data_of.string s) ys
+string_spells d at quote s ys same q body = text_spells (drop at d) ys s (text_lexed d at quote s ys same q body)
 
 -- a string in which nothing is escaped is a part of the text
 pub plain_text : (d : List ℕ) (at quote stop : ℕ) → lex between (drop quote d) ≡ lex between (drop at d) → get_or d quote 32 ≡ 34 → content plain (drop (quote + 1) d) ≡ prepend (slice_range d (quote + 1) stop) (content plain (drop stop d))
-    → lex in_string (drop stop d) ≡ lex in_string (drop (quote + 1) d) → get_or d stop 32 ≡ 34 → IsText (drop at d) (slice_range d (quote + 1) stop) (drop (stop + 1) d)
+    → lex in_string (drop stop d) ≡ lex in_string (drop (quote + 1) d) → get_or d stop 32 ≡ 34 → IsString (drop at d) (slice_range d (quote + 1) stop) (drop (stop + 1) d)
 plain_text d at quote stop same q is over close =
     let first = byte_stands d quote 34 q (λ e. omega arith) in
     let last = byte_stands d stop 34 close (λ e. omega arith) in
     let run = string_run d (quote + 1) [] (quote + 1) (string_begins d (quote + 1)) (slice_range d (quote + 1) stop) stop is over in
     sym same ∙ string_lexed d quote (slice_range d (quote + 1) stop) (drop (stop + 1) d) first.0 first.1 (string_ends d (quote + 1) (slice_range d (quote + 1) stop) stop run last.0 last.1)
 
-pub key_lexed : (d : List ℕ) (at end mark : ℕ) (s : List ℕ) → IsText (drop at d) s (drop end d) → lex between (drop mark d) ≡ lex between (drop end d) → get_or d mark 32 ≡ 58 → IsKey (drop at d) s (drop (mark + 1) d)
+pub key_lexed : (d : List ℕ) (at end mark : ℕ) (s : List ℕ) → IsString (drop at d) s (drop end d) → lex between (drop mark d) ≡ lex between (drop end d) → get_or d mark 32 ≡ 58 → IsKey (drop at d) s (drop (mark + 1) d)
 key_lexed d at end mark s text over c =
     let colon = byte_stands d mark 58 c (λ e. omega arith) in
     text ∙ ap (λ ls. token (string s) ∷ ls) (sym over ∙ operator_lexed d mark 58 colon.0 colon.1 refl)
 
-pub text_spells : (xs ys s : List ℕ) → IsText xs s ys → Spells xs (data_of.string s) ys
-text_spells xs ys s text = token_spells xs ys (string s) (data_of.string s) text refl
-
 pub key_spells : (d : List ℕ) (at quote end mark : ℕ) (s : List ℕ) → lex between (drop quote d) ≡ lex between (drop at d) → get_or d quote 32 ≡ 34 → IsTextBody (drop (quote + 1) d) s (drop end d) → lex between (drop mark d) ≡ lex between (drop end d)
     → get_or d mark 32 ≡ 58 → IsKey (drop at d) s (drop (mark + 1) d)
-key_spells d at quote end mark s same q body over c =
-    let first = byte_stands d quote 34 q (λ e. omega arith) in
-    key_lexed d at end mark s (sym same ∙ string_lexed d quote s (drop end d) first.0 first.1 body) over c
+key_spells d at quote end mark s same q body over c = key_lexed d at end mark s (text_lexed d at quote s (drop end d) same q body) over c

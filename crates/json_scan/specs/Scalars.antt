@@ -17,17 +17,17 @@ abbrev pub begins_number : ℕ → Bool
 begins_number x = (x == 45) || is_ascii_digit x
 
 -- The integer of a number; of another value there is none.
-abbrev pub integer_of : Data → Option ℤ
-integer_of null = None
-integer_of (boolean b) = None
-integer_of (number n) = as_integer n
-integer_of (string s) = None
-integer_of (array ds) = None
-integer_of (object ms) = None
+abbrev pub number_integer : Data → Option ℤ
+number_integer null = None
+number_integer (boolean b) = None
+number_integer (number n) = as_integer n
+number_integer (string s) = None
+number_integer (array ds) = None
+number_integer (object ms) = None
 
 -- The values are numbers, and these are their integers.
 abbrev pub AreIntegers : List Data → List ℤ → Type 0
-AreIntegers ds zs = map integer_of ds ≡ map Some zs
+AreIntegers ds zs = map number_integer ds ≡ map Some zs
 
 -- After the quote that opens a string the text xs has the string s and the quote that closes it, and ys follows it.
 abbrev pub IsTextBody : List ℕ → List ℕ → List ℕ → Type 0

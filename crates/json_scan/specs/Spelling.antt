@@ -23,8 +23,8 @@ abbrev pub Spells : List ℕ → Data → List ℕ → Type 0
 Spells xs d ys = (depth : ℕ) → SpellsAt depth xs d ys
 
 -- The text xs begins with the string s, and ys follows it.
-abbrev pub IsText : List ℕ → List ℕ → List ℕ → Type 0
-IsText xs s ys = lex between xs ≡ token (string s) ∷ lex between ys
+abbrev pub IsString : List ℕ → List ℕ → List ℕ → Type 0
+IsString xs s ys = lex between xs ≡ token (string s) ∷ lex between ys
 
 -- ---- arrays and objects
 

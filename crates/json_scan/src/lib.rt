@@ -18,7 +18,7 @@ mod word;
 
 pub use array::{ItemVisitor, read_array, read_integers};
 pub use literal::{Literal, read_literal};
-pub use mark::{Container, Mark, empty_end, read_mark};
+pub use mark::{Container, Mark, empty_end, ends_in, read_mark};
 pub use miss::Miss;
 pub use number::{pass_number, read_integer};
 pub use object::{MemberVisitor, find_member, read_object};

@@ -1,7 +1,7 @@
 //! What stands between the items of an array and the members of an object, and after the last. (RFC 8259, sections 4 and 5)
 
-ghost use Rattle.std.specs.Prelude.{◌≡◌, ◌<◌, ◌≤◌, length, drop, true, IfSome};
-ghost use Rattle.json.specs.Lex.{operator_lexeme};
+ghost use Rattle.std.specs.Prelude.{◌≡◌, ◌<◌, ◌≤◌, length, drop, false, true, IfSome, IsTrue};
+ghost use Rattle.json.specs.Lex.{lex, between, begins_colon, operator_lexeme};
 ghost use Rattle.json.specs.Word.{is_operator};
 ghost use Rattle.json_scan.specs.Spelling.{IsMark, mark_lexeme};
 
@@ -59,6 +59,14 @@ pub fn read_mark(text: &[u8], at: usize, container: Container) -> Option<Placed<
         });
     }
     None
+}
+
+/// Whether an item or a member ends here, or after spaces: its mark follows, and no colon.
+pub fn ends_in(text: &str, at: usize, container: Container) -> bool
+    requires { at ≤ length text.now }
+    ensures { IsTrue result → begins_colon (lex between (drop at text.now)) ≡ false }
+{
+    read_mark(text.as_bytes(), at, container).is_some()
 }
 
 /// The place behind what ends an array or an object that begins just before, if nothing is in it.

@@ -11,6 +11,7 @@ use crate::space::{Placed, after_space};
 use crate::text::read_key;
 use crate::value::pass_value;
 use crate::word::byte_at;
+use std::alloc::Global;
 
 /// Takes the members of an object as they come, of two of one name the second after the first.
 pub trait MemberVisitor {
@@ -28,6 +29,7 @@ pub trait MemberVisitor {
 
 /// Gives a visitor the members that begin here, and passes over the brace that closes their object.
 fn read_members<V: MemberVisitor>(
+    alloc: Global,
     text: &str,
     start: usize,
     depth: usize,
@@ -39,11 +41,10 @@ fn read_members<V: MemberVisitor>(
     ensures onward { IfOk result (λ end. start < end) }
     ensures within { IfOk result (λ end. end ≤ length text.now) }
 {
+    let mut buffer = Vec::new(alloc);
     let mut at = start;
     'members: loop {
-        let Some(key) = read_key(text, at) else {
-            return Err(Miss::Unread);
-        };
+        let key = read_key(text, at, &mut buffer)?;
         let end = visitor.visit(text, key.value, key.end, depth)?;
         let Some(mark) = read_mark(text.as_bytes(), end, Container::Object) else {
             return Err(Miss::Unread);
@@ -57,8 +58,9 @@ fn read_members<V: MemberVisitor>(
 }
 
 /// Gives a visitor the members of the object that stands here, or after spaces, nested as deep as `depth` at most. The place is the one behind the
-/// object.
+/// object. A key with an escape wants memory.
 pub fn read_object<V: MemberVisitor>(
+    alloc: Global,
     text: &str,
     at: usize,
     depth: usize,
@@ -77,7 +79,7 @@ pub fn read_object<V: MemberVisitor>(
     }
     match empty_end(bytes, start + 1, Container::Object) {
         Some(end) => Ok(end),
-        None => read_members(text, start + 1, depth - 1, visitor),
+        None => read_members(alloc, text, start + 1, depth - 1, visitor),
     }
 }
 
@@ -105,6 +107,7 @@ impl MemberVisitor for MemberPlace<'_> {
 /// In the object that stands here, or after spaces: the place from which the value of the last member of that name is read, if there is one,
 /// and the place behind the object.
 pub fn find_member(
+    alloc: Global,
     text: &str,
     at: usize,
     depth: usize,
@@ -117,7 +120,7 @@ pub fn find_member(
     ensures within { IfOk result (λ r. r.end ≤ length text.now) }
 {
     let mut member = MemberPlace { name, place: None };
-    let end = read_object(text, at, depth, &mut member)?;
+    let end = read_object(alloc, text, at, depth, &mut member)?;
     Ok(Placed {
         value: member.place,
         end,

@@ -6,7 +6,7 @@ ghost use Rattle.json.specs.Lex.{lex, in_string, in_escape};
 ghost use Rattle.json.specs.Text.{content, plain, after_backslash, after_u, after_high, prepend, code_unit, short_escape};
 ghost use Rattle.serde_json.specs.Data.{string};
 ghost use Rattle.json_scan.specs.Scalars.{IsTextBody};
-ghost use Rattle.json_scan.specs.Spelling.{IsKey, IsText, Spells};
+ghost use Rattle.json_scan.specs.Spelling.{IsKey, IsString, Spells};
 
 use crate::miss::Miss;
 use crate::space::{Placed, after_space};
@@ -154,7 +154,7 @@ pub(crate) fn string_end(text: &[u8], at: usize) -> Option<usize>
 #[inline(always)]
 pub fn read_plain_text<'t>(text: &'t str, at: usize) -> Option<Placed<&'t str>>
     requires { at ≤ length text.now }
-    ensures lexeme { IfSome result (λ r. IsText (drop at text.now) r.value.now (drop r.end text.now)) }
+    ensures lexeme { IfSome result (λ r. IsString (drop at text.now) r.value.now (drop r.end text.now)) }
     ensures reads { IfSome result (λ r. Spells (drop at text.now) (string r.value.now) (drop r.end text.now)) }
     ensures onward { IfSome result (λ r. at < r.end) }
     ensures within { IfSome result (λ r. r.end ≤ length text.now) }
@@ -171,26 +171,6 @@ pub fn read_plain_text<'t>(text: &'t str, at: usize) -> Option<Placed<&'t str>>
     Some(Placed {
         value: &text[quote + 1..stop],
         end: stop + 1,
-    })
-}
-
-/// The key that stands here, or after spaces, if nothing in it is escaped, with its colon.
-#[inline(always)]
-pub fn read_key<'t>(text: &'t str, at: usize) -> Option<Placed<&'t str>>
-    requires { at ≤ length text.now }
-    ensures reads { IfSome result (λ r. IsKey (drop at text.now) r.value.now (drop r.end text.now)) }
-    ensures onward { IfSome result (λ r. at < r.end) }
-    ensures within { IfSome result (λ r. r.end ≤ length text.now) }
-{
-    let key = read_plain_text(text, at)?;
-    let bytes = text.as_bytes();
-    let colon = after_space(bytes, key.end);
-    if byte_at(bytes, colon) != b':' {
-        return None;
-    }
-    Some(Placed {
-        value: key.value,
-        end: colon + 1,
     })
 }
 
@@ -231,6 +211,7 @@ pub fn read_text<'t>(
     buffer: &'t mut Vec<u8>,
 ) -> Result<Placed<&'t str>, Miss>
     requires { at ≤ length text.now }
+    ensures lexeme { IfOk result (λ r. IsString (drop at text.now) r.value.now (drop r.end text.now)) }
     ensures reads { IfOk result (λ r. Spells (drop at text.now) (string r.value.now) (drop r.end text.now)) }
     ensures onward { IfOk result (λ r. at < r.end) }
     ensures within { IfOk result (λ r. r.end ≤ length text.now) }
@@ -248,4 +229,28 @@ pub fn read_text<'t>(
         Ok(value) => Ok(Placed { value, end }),
         Err(_) => Err(Miss::Unread),
     }
+}
+
+/// The key that stands here, or after spaces, with its colon: in the buffer where something in it is escaped, else in the text.
+#[inline(always)]
+pub fn read_key<'t>(
+    text: &'t str,
+    at: usize,
+    buffer: &'t mut Vec<u8>,
+) -> Result<Placed<&'t str>, Miss>
+    requires { at ≤ length text.now }
+    ensures reads { IfOk result (λ r. IsKey (drop at text.now) r.value.now (drop r.end text.now)) }
+    ensures onward { IfOk result (λ r. at < r.end) }
+    ensures within { IfOk result (λ r. r.end ≤ length text.now) }
+{
+    let key = read_text(text, at, buffer)?;
+    let bytes = text.as_bytes();
+    let colon = after_space(bytes, key.end);
+    if byte_at(bytes, colon) != b':' {
+        return Err(Miss::Unread);
+    }
+    Ok(Placed {
+        value: key.value,
+        end: colon + 1,
+    })
 }

@@ -90,8 +90,7 @@ fn read_text_value(alloc: Global, text: &str, at: usize) -> Result<Placed<Value>
     }
 }
 
-/// The value that stands here, or after spaces, as a tree. Arrays and objects in it are nested as deep as `depth` at most. A key with an escape
-/// isn't read.
+/// The value that stands here, or after spaces, as a tree. Arrays and objects in it are nested as deep as `depth` at most.
 #[cycle(trees)]
 pub fn read_value(alloc: Global, text: &str, at: usize, depth: usize) -> Result<Placed<Value>, Miss>
     requires { at ≤ length text.now }
@@ -215,11 +214,10 @@ fn read_member_values(
     ensures within { IfOk result (λ r. r.end ≤ length text.now) }
 {
     let mut values = Map::new(alloc);
+    let mut buffer = Vec::new(alloc);
     let mut at = start;
     'members: loop {
-        let Some(key) = read_key(text, at) else {
-            return Err(Miss::Unread);
-        };
+        let key = read_key(text, at, &mut buffer)?;
         let member = read_value(alloc, text, key.end, depth)?;
         let Ok(()) = put(&mut values, alloc, key.value, member.value) else {
             return Err(Miss::NoMemory);

@@ -14,15 +14,15 @@ use Rattle.json_read.specs.JsonBatch.{HoldsTop}
 use Rattle.json_read.specs.JsonCatalog.{Coding}
 use Rattle.json_read.specs.declared.catalog.Coding as reader
 use Rattle.json_read.proofs.JsonBatches.{field_at, coding_at}
-use Rattle.json_stream.specs.Columns.{AreColumns}
+use Rattle.json_stream.specs.Columns.{AreReadColumns}
 
-pub no_columns : (fields : List FieldShape) (catalog : List (Option Coding)) (columns : List Seen) → columns ≡ [] → AreColumns fields catalog [] columns
+pub no_columns : (fields : List FieldShape) (catalog : List (Option Coding)) (columns : List Seen) → columns ≡ [] → AreReadColumns fields catalog [] columns
 no_columns fields catalog columns none =
-    subst (λ cs. AreColumns fields catalog [] cs) (sym none) record { len = refl; within = omega arith; each = λ i f c d s field coding found got. absurd cc }
+    subst (λ cs. AreReadColumns fields catalog [] cs) (sym none) record { len = refl; within = omega arith; each = λ i f c d s field coding found got. absurd cc }
 
 -- the same columns by another name of the fields and of the catalog
-pub columns_known : (fields gs : List FieldShape) (catalog cs : List (Option Coding)) (ds : List Data) (columns : List Seen) → fields ≡ gs → catalog ≡ cs → AreColumns fields catalog ds columns → AreColumns gs cs ds columns
-columns_known fields gs catalog cs ds columns same coded h = subst (λ c. AreColumns gs c ds columns) coded (subst (λ fs. AreColumns fs catalog ds columns) same h)
+pub columns_known : (fields gs : List FieldShape) (catalog cs : List (Option Coding)) (ds : List Data) (columns : List Seen) → fields ≡ gs → catalog ≡ cs → AreReadColumns fields catalog ds columns → AreReadColumns gs cs ds columns
+columns_known fields gs catalog cs ds columns same coded h = subst (λ c. AreReadColumns gs c ds columns) coded (subst (λ fs. AreReadColumns fs catalog ds columns) same h)
 
 moved : (f g : FieldShape) (b c : Option Coding) (d e : Data) (s t : Seen) → HoldsTop (kind_of_field f) b (length s.items) d s → Some f ≡ Some g → Some b ≡ Some c → Some d ≡ Some e → Some s ≡ Some t
     → HoldsTop (kind_of_field g) c (length t.items) e t
@@ -34,8 +34,8 @@ moved f g b c d e s t h p q r u =
     subst (λ x. HoldsTop (kind_of_field x) c (length t.items) e t) to_g
     (subst (λ x. HoldsTop (kind_of_field f) x (length t.items) e t) to_c (subst (λ x. HoldsTop (kind_of_field f) b (length t.items) x t) to_e (subst (λ x. HoldsTop (kind_of_field f) b (length x.items) d x) to_t h)))
 
-columns_more : (fields : List FieldShape) (catalog : List (Option Coding)) (ds : List Data) (columns : List Seen) (f : FieldShape) (b : Option Coding) (d : Data) (s : Seen) → AreColumns fields catalog ds columns
-    → slice_get fields (length ds) ≡ Some f → slice_get catalog (length ds) ≡ Some b → HoldsTop (kind_of_field f) b (length s.items) d s → AreColumns fields catalog (ds ++ d ∷ []) (columns ++ s ∷ [])
+columns_more : (fields : List FieldShape) (catalog : List (Option Coding)) (ds : List Data) (columns : List Seen) (f : FieldShape) (b : Option Coding) (d : Data) (s : Seen) → AreReadColumns fields catalog ds columns
+    → slice_get fields (length ds) ≡ Some f → slice_get catalog (length ds) ≡ Some b → HoldsTop (kind_of_field f) b (length s.items) d s → AreReadColumns fields catalog (ds ++ d ∷ []) (columns ++ s ∷ [])
 columns_more fields catalog ds columns f b d s h at_field at_coding column = record {
   len = omega (arith, length-append columns (s ∷ []), length-append ds (d ∷ []), h.len);
   within = omega (arith, length-append ds (d ∷ []), slice_get_within catalog (length ds) b at_coding);
@@ -52,8 +52,8 @@ columns_more fields catalog ds columns f b d s h at_field at_coding column = rec
 
 -- the column of the field behind those before it
 pub column_taken : (fs : List Field) (cs : List (Option reader.Coding)) (ds : List Data) (columns : List Seen) (n : ℕ) (f : Field) (b : Option reader.Coding) (d : Data) (s : Seen)
-    → AreColumns (fields_of fs) (map (option_map coding_of) cs) ds columns → n ≡ length columns → n < length fs → f ≡ get_or fs n f → n < length cs → b ≡ get_or cs n b
-    → HoldsTop (kind_of (out-Field f).ty) (option_map coding_of b) (length s.items) d s → AreColumns (fields_of fs) (map (option_map coding_of) cs) (ds ++ d ∷ []) (columns ++ s ∷ [])
+    → AreReadColumns (fields_of fs) (map (option_map coding_of) cs) ds columns → n ≡ length columns → n < length fs → f ≡ get_or fs n f → n < length cs → b ≡ get_or cs n b
+    → HoldsTop (kind_of (out-Field f).ty) (option_map coding_of b) (length s.items) d s → AreReadColumns (fields_of fs) (map (option_map coding_of) cs) (ds ++ d ∷ []) (columns ++ s ∷ [])
 column_taken fs cs ds columns n f b d s h many at_field is_field at_coding is_coding column =
     let here = sym (many ∙ h.len) in
     let field : slice_get (fields_of fs) (length ds) ≡ Some (field_of f) = ap (slice_get (fields_of fs)) here ∙ field_at fs n f at_field is_field in

@@ -11,7 +11,7 @@ use Rattle.arrays.specs.Number.{is_of_type}
 use Rattle.serde_json.specs.Data.{Data, item, no_items}
 use Rattle.json_base.specs.JsonNumber.{whole_of, fitting, integer_of}
 use Rattle.json_read.specs.JsonCodes.{indices}
-use Rattle.json_read.specs.Unfit.{IsWith}
+use Rattle.json_read.specs.Unfit.{HasNextItem}
 use Rattle.json_read.proofs.JsonCodes.{index_added, no_codes_yet}
 
 pub integer_fits : (t : IntType) (d : Data) (z : ℤ) → whole_of d ≡ Some z → is_of_type t z ≡ true → integer_of t d ≡ Some z
@@ -28,7 +28,7 @@ pub shown_more : (entries : List Item) (x : Item) (old new : List Item) → new 
 shown_more entries x old new grown = ap (map (looked_up entries)) grown ∙ map-append (looked_up entries) old (x ∷ [])
 
 pub entry_with : (t : IntType) (entries : List Item) (d : Data) (z : ℤ) (old new : List Item) → whole_of d ≡ Some z → is_of_type t z ≡ true → is_code (length entries) (int z) ≡ true → new ≡ old ++ int z ∷ []
-    → IsWith (indices t entries) (map (looked_up entries) old) d (map (looked_up entries) new)
+    → HasNextItem (indices t entries) (map (looked_up entries) old) d (map (looked_up entries) new)
 entry_with t entries d z old new whole fits code grown = record {
   item = looked_up entries (int z);
   spelled = spells_entry t entries d z (integer_fits t d z whole fits) code;

@@ -15,13 +15,13 @@ use Rattle.json_base.specs.declared.path.Member.{Member}
 use Rattle.json_base.specs.declared.path.Member.TheVariants as member
 use Rattle.json_read.specs.JsonBatch.{ReadsColumn, HoldsColumn, ReadsTop, HoldsTop}
 use Rattle.json_read.specs.JsonCatalog.{Coding}
-use Rattle.json_read.specs.JsonColumn.{spelling_of, flags_of, HasFlags, valid_at, ReadsSlots, HasSlots, ReadsPlain}
+use Rattle.json_read.specs.JsonColumn.{spelling_of, flags_of, HasFlags, flagged_at, ReadsSlots, HasSlots, ReadsPlain}
 use Rattle.json_scan.specs.Spelling.{SpellsAt, before}
 use Rattle.json_scan.proofs.Values.{same_value}
 use Rattle.json_stream.specs.Validity.{IsValidity, valid_of}
 use Rattle.json_stream.specs.Field.{kind_in, coding_in}
-use Rattle.json_stream.specs.Slots.{spelling_at, is_plain, is_slotted, HoldsSlots}
-use Rattle.json_stream.specs.Column.{IsCount, StandsOn, IsValues, HoldsParts}
+use Rattle.json_stream.specs.Slots.{spelling_at, is_slotwise, is_slotted, HoldsSlots}
+use Rattle.json_stream.specs.Column.{IsCountMember, StandsOn, IsValues, HoldsParts}
 use Rattle.json_stream.specs.declared.column.Stretch.{Stretch}
 use Rattle.json_stream.specs.declared.column.ColumnParts.{ColumnParts}
 use Rattle.json_stream.specs.declared.field.EncodedField.{EncodedField}
@@ -54,8 +54,8 @@ pub no_member : (m n : Member) (name : List ℕ) → name ≡ member_name m → 
 no_member m n name e apart f = apart (sym e ∙ f)
 
 module _ (k : Kind) (c : Option Coding) (depth : ℕ) (text name : List ℕ) (d : Data) (ms : Members) (p : ColumnParts) (h : HoldsParts k c depth text ms p) where
-  same_count : name ≢ member_name member.Count → IsCount (get_member (member_name member.Count) (put name d ms)) p.count
-  same_count apart = subst (λ o. IsCount o p.count) (sym (there member.Count name d ms apart)) h.count
+  same_count : name ≢ member_name member.Count → IsCountMember (get_member (member_name member.Count) (put name d ms)) p.count
+  same_count apart = subst (λ o. IsCountMember o p.count) (sym (there member.Count name d ms apart)) h.count
 
   same_validity : name ≢ member_name member.Validity → IsValidity (get_member (member_name member.Validity) (put name d ms)) p.validity
   same_validity apart = subst (λ o. IsValidity o p.validity) (sym (there member.Validity name d ms apart)) h.validity
@@ -113,7 +113,7 @@ placed_values k c depth text validity found s ds a stands spelled h =
 
 -- ---- the column
 
-plain_column : (k : Kind) (n : ℕ) (d : Data) (items : List Item) → is_plain k ≡ true → ReadsPlain (spelling_of k) n d items → ReadsColumn k n d items
+plain_column : (k : Kind) (n : ℕ) (d : Data) (items : List Item) → is_slotwise k ≡ true → ReadsPlain (spelling_of k) n d items → ReadsColumn k n d items
 plain_column (int t) n d items plain h = h
 plain_column boolean n d items plain h = h
 plain_column (texts w) n d items plain h = h
@@ -126,7 +126,7 @@ slotted_column k (Some c) n d items slotted h = h
 
 -- the flags of the member, which are of n slots, and what they say
 pub flags_in : (n : ℕ) (found : Option Data) (validity : Option (List Bool)) → IsValidity found validity → IfSome validity (λ bits. length bits ≡ n)
-    → (flags : Option Items) × (flags_of found ≡ Some flags) × HasFlags n flags × ((i : ℕ) → valid_at flags i ≡ valid_of validity i)
+    → (flags : Option Items) × (flags_of found ≡ Some flags) × HasFlags n flags × ((i : ℕ) → flagged_at flags i ≡ valid_of validity i)
 flags_in n found None is whole = (None, is, tt, λ i. refl)
 flags_in n found (Some bits) is whole = (Some (before is.0 no_items), is.1, items_len-before is.0 ∙ (flags_len is.0 bits is.2 ∙ whole), λ i. flag_at is.0 bits i is.2)
 
@@ -137,7 +137,7 @@ column_held k c depth text ms p given a h found same count whole =
     let n = length a.items in
     let ds = values.0 in
     let slots = values.2 in
-    let counted : option_and_then count_of (get_member (member_name member.Count) ms) ≡ Some n = subst (IsCount (get_member (member_name member.Count) ms)) count h.count in
+    let counted : option_and_then count_of (get_member (member_name member.Count) ms) ≡ Some n = subst (IsCountMember (get_member (member_name member.Count) ms)) count h.count in
     let flags = flags_in n (get_member (member_name member.Validity) ms) p.validity h.validity whole in
     let len : length ds ≡ n = sym slots.slots.len in
     let read : ReadsSlots (spelling_at k c) flags.0 (before ds no_items) n a.items = subst (λ m. ReadsSlots (spelling_at k c) flags.0 (before ds no_items) m a.items) len (reads_slots (spelling_at k c) flags.0 p.validity ds a.items flags.3 slots.slots) in

@@ -4,7 +4,7 @@ use Rattle.std.specs.List.{slice_get}
 use Rattle.std.proofs.lemmas.List.{map-append, length-map}
 use Rattle.serde_json.specs.Data.{Data, no_items}
 use Rattle.json_base.specs.JsonNumber.{flag_of}
-use Rattle.json_read.specs.JsonColumn.{valid_at}
+use Rattle.json_read.specs.JsonColumn.{flagged_at}
 use Rattle.json_scan.specs.Spelling.{before}
 use Rattle.json_stream.specs.Validity.{AreFlags}
 
@@ -14,7 +14,7 @@ flags_more ds bits d b are is = map-append flag_of ds (d ∷ []) ∙ ap₂ (λ x
 pub flags_len : (ds : List Data) (bits : List Bool) → AreFlags ds bits → length ds ≡ length bits
 flags_len ds bits are = sym (length-map ds flag_of) ∙ ap length are ∙ length-map bits Some
 
-pub flag_at : (ds : List Data) (bits : List Bool) (i : ℕ) → AreFlags ds bits → valid_at (Some (before ds no_items)) i ≡ slice_get bits i
+pub flag_at : (ds : List Data) (bits : List Bool) (i : ℕ) → AreFlags ds bits → flagged_at (Some (before ds no_items)) i ≡ slice_get bits i
 flag_at [] [] i are = refl
 flag_at [] (b ∷ bits) i are = absurd cc
 flag_at (d ∷ ds) [] i are = absurd cc

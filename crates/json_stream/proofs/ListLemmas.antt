@@ -26,15 +26,15 @@ use Rattle.json_base.specs.JsonPath.{member_name}
 use Rattle.json_base.specs.declared.path.Member.TheVariants as member
 use Rattle.json_base.proofs.JsonItems.{slice_get-front, slice_get-last, first_pushed}
 use Rattle.json_read.specs.JsonBatch.{HoldsColumn}
-use Rattle.json_read.specs.JsonList.{Spells, are_enough, lists_fault, HasLists}
+use Rattle.json_read.specs.JsonList.{SpellsOffset, are_enough, lists_fault, HasListMembers}
 use Rattle.json_read.specs.ListBuffers.{HoldsFlags, HoldsOffsets}
 use Rattle.json_read.proofs.JsonLists.{offset_bytes-push, column_plain, lists_hold, child_holds}
 use Rattle.json_scan.specs.Spelling.{SpellsAt, before}
 use Rattle.json_scan.proofs.Values.{same_value}
-use Rattle.json_stream.specs.Column.{IsCount}
+use Rattle.json_stream.specs.Column.{IsCountMember}
 use Rattle.json_stream.specs.Validity.{IsValidity, valid_of}
-use Rattle.json_stream.specs.Offsets.{AreOffsets, IsOffsets}
-use Rattle.json_stream.specs.Lists.{StandsAt, HoldsChild, AreChildren, IsChild, HoldsLists, only}
+use Rattle.json_stream.specs.Offsets.{AreSpelledOffsets, IsOffsets}
+use Rattle.json_stream.specs.Lists.{IsOnStretch, HoldsChild, HoldsOnlyChild, HoldsChildMember, HoldsLists, array_of_one}
 use Rattle.json_stream.specs.declared.column.Stretch.{Stretch}
 use Rattle.json_stream.specs.declared.list.Child.{Child}
 use Rattle.json_stream.specs.declared.list.ListParts.{ListParts}
@@ -44,20 +44,20 @@ use Rattle.json_stream.proofs.ColumnLemmas.{first_apart, here, there, no_member,
 
 -- ---- offsets
 
-pub no_offsets : (w : OffsetWidth) (o : Offsets) → o.bytes.items ≡ [] → o.len ≡ 0 → AreOffsets w no_items o
+pub no_offsets : (w : OffsetWidth) (o : Offsets) → o.bytes.items ≡ [] → o.len ≡ 0 → AreSpelledOffsets w no_items o
 no_offsets w o none len = record { bytes = record { numbers = []; spelled = record { len = refl; each = λ i d z found got. absurd cc }; laid = none }; len = len }
 
 spelled_fits : (t : IntType) (d : Data) (z : ℤ) → whole_of d ≡ Some z → is_of_type t z ≡ true → integer_of t d ≡ Some z
 spelled_fits t d z is fits = ap (option_and_then (fitting t)) is ∙ ap (λ b. cond b (Some z) None) fits
 
 offsets_more : (w : OffsetWidth) (ds : List Data) (d : Data) (z : ℤ) (old new : Offsets) → integer_of (offset_type w) d ≡ Some z → new.bytes.items ≡ old.bytes.items ++ bytes_of_number (offset_type w) z
-    → new.len ≡ old.len + 1 → AreOffsets w (before ds no_items) old → AreOffsets w (before (ds ++ d ∷ []) no_items) new
+    → new.len ≡ old.len + 1 → AreSpelledOffsets w (before ds no_items) old → AreSpelledOffsets w (before (ds ++ d ∷ []) no_items) new
 offsets_more w ds d z old new is grown more h =
     let numbers = h.bytes.numbers in
     let all = before (ds ++ d ∷ []) no_items in
     let many : length numbers ≡ length ds = h.bytes.spelled.len ∙ items_len-before ds in
     let count : length ds + 1 ≡ items_len all = sym (items_len-before (ds ++ d ∷ []) ∙ length-append ds (d ∷ [])) in
-    let front : ReadsFirst (Spells w) all (length ds) numbers = record {
+    let front : ReadsFirst (SpellsOffset w) all (length ds) numbers = record {
       len = many;
       each = λ i e x found got.
           let within : i < length ds = omega (arith, many, slice_get_within numbers i x got) in
@@ -67,7 +67,7 @@ offsets_more w ds d z old new is grown more h =
     record {
       bytes = record {
         numbers = numbers ++ z ∷ [];
-        spelled = subst (λ m. ReadsFirst (Spells w) all m (numbers ++ z ∷ [])) count (first_pushed (Spells w) all (length ds) numbers d z front last is);
+        spelled = subst (λ m. ReadsFirst (SpellsOffset w) all m (numbers ++ z ∷ [])) count (first_pushed (SpellsOffset w) all (length ds) numbers d z front last is);
         laid = grown ∙ (ap (λ xs. xs ++ bytes_of_number (offset_type w) z) h.bytes.laid ∙ sym (offset_bytes-push w numbers z));
       };
       len = more ∙ (ap (λ n. n + 1) (h.len ∙ items_len-before ds) ∙ count);
@@ -75,23 +75,23 @@ offsets_more w ds d z old new is grown more h =
 
 -- one more offset where the width is that from before
 pub offset_taken : (v w : OffsetWidth) (ds : List Data) (d : Data) (z : ℤ) (old new : Offsets) → v ≡ w → whole_of d ≡ Some z → is_of_type (offset_type v) z ≡ true
-    → new.bytes.items ≡ old.bytes.items ++ bytes_of_number (offset_type v) z → new.len ≡ old.len + 1 → AreOffsets w (before ds no_items) old → AreOffsets w (before (ds ++ d ∷ []) no_items) new
+    → new.bytes.items ≡ old.bytes.items ++ bytes_of_number (offset_type v) z → new.len ≡ old.len + 1 → AreSpelledOffsets w (before ds no_items) old → AreSpelledOffsets w (before (ds ++ d ∷ []) no_items) new
 offset_taken v w ds d z old new same is fits grown more h =
     let fitting_is : integer_of (offset_type w) d ≡ Some z = subst (λ x. integer_of (offset_type x) d ≡ Some z) same (spelled_fits (offset_type v) d z is fits) in
     offsets_more w ds d z old new fitting_is (subst (λ x. new.bytes.items ≡ old.bytes.items ++ bytes_of_number (offset_type x) z) same grown) more h
 
 -- ---- the child
 
-pub child_taken : (k l : Kind) (depth : ℕ) (text : List ℕ) (ds : List Data) (d : Data) (old : Option Child) (child : Child) → l ≡ k → old ≡ None → AreChildren k depth text ds old → HoldsChild l depth text d child
-    → AreChildren k depth text (ds ++ d ∷ []) (Some child)
+pub child_taken : (k l : Kind) (depth : ℕ) (text : List ℕ) (ds : List Data) (d : Data) (old : Option Child) (child : Child) → l ≡ k → old ≡ None → HoldsOnlyChild k depth text ds old → HoldsChild l depth text d child
+    → HoldsOnlyChild k depth text (ds ++ d ∷ []) (Some child)
 child_taken k l depth text ds d old child same none are holds =
-    let nothing : ds ≡ [] = subst (AreChildren k depth text ds) none are in
+    let nothing : ds ≡ [] = subst (HoldsOnlyChild k depth text ds) none are in
     (d, ap (λ xs. xs ++ d ∷ []) nothing, subst (λ x. HoldsChild x depth text d child) same holds)
 
-pub child_alone : (k : Kind) (depth : ℕ) (text : List ℕ) (ds : List Data) (found : Option Child) (child : Child) → found ≡ Some child → AreChildren k depth text ds found
-    → (d : Data) × (array (before ds no_items) ≡ only d) × HoldsChild k depth text d child
+pub child_alone : (k : Kind) (depth : ℕ) (text : List ℕ) (ds : List Data) (found : Option Child) (child : Child) → found ≡ Some child → HoldsOnlyChild k depth text ds found
+    → (d : Data) × (array (before ds no_items) ≡ array_of_one d) × HoldsChild k depth text d child
 child_alone k depth text ds found child is are =
-    let one = subst (AreChildren k depth text ds) is are in
+    let one = subst (HoldsOnlyChild k depth text ds) is are in
     (one.0, ap (λ xs. array (before xs no_items)) one.1, one.2)
 
 -- the depth of the child's value is two less than that of the column
@@ -102,7 +102,7 @@ child_below k depth e text c s is inner d h =
     inner d (subst (λ n. HoldsChild k n text d c) same h)
 
 -- what is read where the child stands is the child
-pub child_there : (k : Kind) (depth : ℕ) (text : List ℕ) (d e : Data) (s : Stretch) (a : Seen) → StandsAt depth text d s → SpellsAt depth (drop s.start text) e (drop s.end text) → HoldsColumn k (length a.items) e a
+pub child_there : (k : Kind) (depth : ℕ) (text : List ℕ) (d e : Data) (s : Stretch) (a : Seen) → IsOnStretch depth text d s → SpellsAt depth (drop s.start text) e (drop s.end text) → HoldsColumn k (length a.items) e a
     → HoldsColumn k (length a.items) d a
 child_there k depth text d e s a stands read h =
     subst (λ x. HoldsColumn k (length a.items) x a) (sym (same_value depth (drop s.start text) (drop s.end text) (drop s.end text) d e stands.0 read stands.1 stands.1)) h
@@ -128,8 +128,8 @@ offset_apart_children : member_name member.Offset ≢ member_name member.Childre
 offset_apart_children e = absurd cc
 
 module _ (w : OffsetWidth) (k : Kind) (depth : ℕ) (text name : List ℕ) (d : Data) (ms : Members) (p : ListParts) (h : HoldsLists w k depth text ms p) where
-  same_count : name ≢ member_name member.Count → IsCount (get_member (member_name member.Count) (put name d ms)) p.count
-  same_count apart = subst (λ o. IsCount o p.count) (sym (there member.Count name d ms apart)) h.count
+  same_count : name ≢ member_name member.Count → IsCountMember (get_member (member_name member.Count) (put name d ms)) p.count
+  same_count apart = subst (λ o. IsCountMember o p.count) (sym (there member.Count name d ms apart)) h.count
 
   same_validity : name ≢ member_name member.Validity → IsValidity (get_member (member_name member.Validity) (put name d ms)) p.validity
   same_validity apart = subst (λ o. IsValidity o p.validity) (sym (there member.Validity name d ms apart)) h.validity
@@ -137,8 +137,8 @@ module _ (w : OffsetWidth) (k : Kind) (depth : ℕ) (text name : List ℕ) (d : 
   same_offsets : name ≢ member_name member.Offset → IsOffsets w (get_member (member_name member.Offset) (put name d ms)) p.offsets
   same_offsets apart = subst (λ o. IsOffsets w o p.offsets) (sym (there member.Offset name d ms apart)) h.offsets
 
-  same_child : name ≢ member_name member.Children → IsChild k depth text (get_member (member_name member.Children) (put name d ms)) p.child
-  same_child apart = subst (λ o. IsChild k depth text o p.child) (sym (there member.Children name d ms apart)) h.child
+  same_child : name ≢ member_name member.Children → HoldsChildMember k depth text (get_member (member_name member.Children) (put name d ms)) p.child
+  same_child apart = subst (λ o. HoldsChildMember k depth text o p.child) (sym (there member.Children name d ms apart)) h.child
 
   pub lists_count_taken : (n : ℕ) → name ≡ member_name member.Count → count_of d ≡ Some n → HoldsLists w k depth text (put name d ms) (record p { count = Some n })
   lists_count_taken n e is = record {
@@ -164,12 +164,12 @@ module _ (w : OffsetWidth) (k : Kind) (depth : ℕ) (text name : List ℕ) (d : 
     child = same_child (no_member member.Offset member.Children name e offset_apart_children);
   }
 
-  pub children_taken : (child : Child) → name ≡ member_name member.Children → IsChild k depth text (Some d) (Some child) → HoldsLists w k depth text (put name d ms) (record p { child = Some child })
+  pub children_taken : (child : Child) → name ≡ member_name member.Children → HoldsChildMember k depth text (Some d) (Some child) → HoldsLists w k depth text (put name d ms) (record p { child = Some child })
   children_taken child e is = record {
     count = same_count (λ f. count_apart_children (sym f ∙ e));
     validity = same_validity (λ f. validity_apart_children (sym f ∙ e));
     offsets = same_offsets (λ f. offset_apart_children (sym f ∙ e));
-    child = subst (λ o. IsChild k depth text o (Some child)) (sym (here member.Children name d ms e)) is;
+    child = subst (λ o. HoldsChildMember k depth text o (Some child)) (sym (here member.Children name d ms e)) is;
   }
 
   pub lists_passed : name ≢ member_name member.Count → name ≢ member_name member.Validity → name ≢ member_name member.Offset → name ≢ member_name member.Children → HoldsLists w k depth text (put name d ms) p
@@ -207,7 +207,7 @@ kept_bits n (Some bits) buffer whole holds =
 pub child_held : (w : OffsetWidth) (k : Kind) (depth : ℕ) (text : List ℕ) (ms : Members) (p : ListParts) (c : Child) (s : Seen) → HoldsLists w k depth text ms p → p.child ≡ Some c
     → ((d : Data) → HoldsChild k (depth - 1) text d c → HoldsColumn k (length s.items) d s) → (s.kind ≡ k) × (same_kind s.kind kind.dict ≡ false)
 child_held w k depth text ms p c s h child_is inner =
-    let child = subst (IsChild k depth text (get_member (member_name member.Children) ms)) child_is h.child in
+    let child = subst (HoldsChildMember k depth text (get_member (member_name member.Children) ms)) child_is h.child in
     let held = inner child.0 child.2 in
     (held.kind, ap (λ x. same_kind x kind.dict) held.kind ∙ column_plain k (length s.items) child.0 s.items held.reads)
 
@@ -220,9 +220,9 @@ lists_held w k depth text ms p n o c validity bytes s a h offsets_is child_is co
     let bits : AreBits n p.validity validity = kept_bits n p.validity validity whole buffer in
     let offsets = subst (IsOffsets w (get_member (member_name member.Offset) ms)) offsets_is h.offsets in
     let numbers : HoldsOffsets w offsets.0 bytes = subst (HoldsOffsets w offsets.0) (sym bytes_are) offsets.2.bytes in
-    let child = subst (IsChild k depth text (get_member (member_name member.Children) ms)) child_is h.child in
-    let given : HasLists n (object ms) flags.0 offsets.0 child.0 = record {
-      count = subst (IsCount (get_member (member_name member.Count) ms)) count h.count;
+    let child = subst (HoldsChildMember k depth text (get_member (member_name member.Children) ms)) child_is h.child in
+    let given : HasListMembers n (object ms) flags.0 offsets.0 child.0 = record {
+      count = subst (IsCountMember (get_member (member_name member.Count) ms)) count h.count;
       validity = flags.1;
       flagged = flags.2;
       listed = ap (option_and_then as_array) offsets.1;

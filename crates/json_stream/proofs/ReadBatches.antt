@@ -21,8 +21,8 @@ use Rattle.json_read.specs.JsonBatch.{ReadsTop, ReadsColumns, ReadsBatch}
 use Rattle.json_read.specs.JsonCatalog.{Coding}
 use Rattle.json_read.proofs.JsonSchemas.{position-none}
 use Rattle.json_scan.specs.Spelling.{before}
-use Rattle.json_stream.specs.Column.{IsCount}
-use Rattle.json_stream.specs.Columns.{AreColumns}
+use Rattle.json_stream.specs.Column.{IsCountMember}
+use Rattle.json_stream.specs.Columns.{AreReadColumns}
 use Rattle.json_stream.specs.Batch.{IsColumns, HoldsBatch}
 use Rattle.json_stream.specs.declared.batch.BatchParts.{BatchParts}
 use Rattle.json_stream.proofs.SlotLemmas.{items_len-before, get_item-before}
@@ -34,8 +34,8 @@ count_apart_columns : member_name member.Count ≢ member_name member.Columns
 count_apart_columns e = absurd cc
 
 module _ (fields : List FieldShape) (catalog : List (Option Coding)) (name : List ℕ) (d : Data) (ms : Members) (p : BatchParts) (h : HoldsBatch fields catalog ms p) where
-  same_count : name ≢ member_name member.Count → IsCount (get_member (member_name member.Count) (put name d ms)) p.count
-  same_count apart = subst (λ o. IsCount o p.count) (sym (there member.Count name d ms apart)) h.count
+  same_count : name ≢ member_name member.Count → IsCountMember (get_member (member_name member.Count) (put name d ms)) p.count
+  same_count apart = subst (λ o. IsCountMember o p.count) (sym (there member.Count name d ms apart)) h.count
 
   same_columns : name ≢ member_name member.Columns → IsColumns fields catalog (get_member (member_name member.Columns) (put name d ms)) (option_map (λ v. v.items) p.columns)
   same_columns apart = subst (λ o. IsColumns fields catalog o (option_map (λ v. v.items) p.columns)) (sym (there member.Columns name d ms apart)) h.columns
@@ -43,7 +43,7 @@ module _ (fields : List FieldShape) (catalog : List (Option Coding)) (name : Lis
   pub rows_taken : (n : ℕ) → name ≡ member_name member.Count → count_of d ≡ Some n → HoldsBatch fields catalog (put name d ms) (record p { count = Some n })
   rows_taken n e is = record { count = ap (option_and_then count_of) (here member.Count name d ms e) ∙ is; columns = same_columns (no_member member.Count member.Columns name e count_apart_columns) }
 
-  pub columns_taken : (v : Vec Seen Global) (ds : List Data) → name ≡ member_name member.Columns → d ≡ array (before ds no_items) → AreColumns fields catalog ds v.items → HoldsBatch fields catalog (put name d ms) (record p { columns = Some v })
+  pub columns_taken : (v : Vec Seen Global) (ds : List Data) → name ≡ member_name member.Columns → d ≡ array (before ds no_items) → AreReadColumns fields catalog ds v.items → HoldsBatch fields catalog (put name d ms) (record p { columns = Some v })
   columns_taken v ds e is columns = record { count = same_count (λ f. count_apart_columns (sym f ∙ e)); columns = (ds, here member.Columns name d ms e ∙ ap Some is, columns) }
 
   pub other_passed : name ≢ member_name member.Count → name ≢ member_name member.Columns → HoldsBatch fields catalog (put name d ms) p
@@ -62,7 +62,7 @@ both_at (x ∷ xs) (y ∷ ys) (suc i) p h = both_at xs ys i p h
 length_at : (columns : List Seen) (rows : ℕ) (i : ℕ) (s : Seen) → All (λ s. length s.items ≡ rows) columns → slice_get columns i ≡ Some s → length s.items ≡ rows
 length_at columns rows i s even at = sym (ap (λ (t : Seen). length t.items) (get_or_from_slice_get columns i s s at)) ∙ even i s (slice_get_within columns i s at)
 
-pub lawful_batch : (fields : List FieldShape) (catalog : List (Option Coding)) (ds : List Data) (columns : List Seen) (rows : ℕ) → AreColumns fields catalog ds columns → length columns ≡ length fields → All (λ s. length s.items ≡ rows) columns → rows ≤ 2147483647
+pub lawful_batch : (fields : List FieldShape) (catalog : List (Option Coding)) (ds : List Data) (columns : List Seen) (rows : ℕ) → AreReadColumns fields catalog ds columns → length columns ≡ length fields → All (λ s. length s.items ≡ rows) columns → rows ≤ 2147483647
     → batch_fault fields rows columns ≡ None
 lawful_batch fields catalog ds columns rows h len even small =
     let types : differing_type fields columns ≡ None =
@@ -84,7 +84,7 @@ some_under : {A B : Type 0} (f : A → B) (o : Option A) (y : B) → option_map 
 some_under f None y h = absurd cc
 some_under f (Some x) y h = (x, refl, cc)
 
-pub columns_read : (fields : List FieldShape) (catalog : List (Option Coding)) (ds : List Data) (columns : List Seen) (rows : ℕ) → AreColumns fields catalog ds columns → length columns ≡ length fields → All (λ s. length s.items ≡ rows) columns
+pub columns_read : (fields : List FieldShape) (catalog : List (Option Coding)) (ds : List Data) (columns : List Seen) (rows : ℕ) → AreReadColumns fields catalog ds columns → length columns ≡ length fields → All (λ s. length s.items ≡ rows) columns
     → ReadsColumns fields catalog rows (before ds no_items) (length fields) (map (λ s. s.items) columns)
 columns_read fields catalog ds columns rows h len even = record {
   len = length-map columns _ ∙ len;
@@ -99,10 +99,10 @@ pub batch_read : (fields gs : List FieldShape) (catalog : List (Option Coding)) 
     → b.rows ≡ rows → b.columns ≡ v.items → length b.columns ≡ length fields → All (λ (s : Seen). length s.items ≡ rows) b.columns → ReadsBatch fields catalog (object ms) (table_of b)
 batch_read fields gs catalog ms p rows v b same h count is at_rows at_columns len even =
     let held = subst (λ fs. HoldsBatch fs catalog ms p) same h in
-    let counted = subst (IsCount (get_member (member_name member.Count) ms)) count held.count in
+    let counted = subst (IsCountMember (get_member (member_name member.Count) ms)) count held.count in
     let columns = subst (λ o. IsColumns fields catalog (get_member (member_name member.Columns) ms) (option_map (λ w. w.items) o)) is held.columns in
     let ds = columns.0 in
-    let are : AreColumns fields catalog ds b.columns = subst (AreColumns fields catalog ds) (sym at_columns) columns.2 in
+    let are : AreReadColumns fields catalog ds b.columns = subst (AreReadColumns fields catalog ds) (sym at_columns) columns.2 in
     record {
       count = counted ∙ ap Some (sym at_rows);
       found = before ds no_items;

@@ -8,7 +8,7 @@ use Rattle.serde_json.specs.Data.{Data, Items, no_items}
 use Rattle.serde_json.specs.Find.{get_item}
 use Rattle.serde_json.specs.Events.{items_len}
 use Rattle.json_base.proofs.JsonItems.{slice_get-front, slice_get-last}
-use Rattle.json_read.specs.JsonColumn.{Spelling, is_past_offsets, slot_of, valid_at, ReadsSlots}
+use Rattle.json_read.specs.JsonColumn.{Spelling, is_past_offsets, slot_of, flagged_at, ReadsSlots}
 use Rattle.json_scan.specs.Spelling.{before}
 use Rattle.json_stream.specs.Validity.{valid_of}
 use Rattle.json_stream.specs.Slots.{AreSlots, IsSlotAdded}
@@ -44,7 +44,7 @@ slots_more s validity ds d old new h added =
       fits = added.fits h.fits;
     }
 
-pub reads_slots : (s : Spelling) (flags : Option Items) (validity : Option (List Bool)) (ds : List Data) (items : List Item) → ((i : ℕ) → valid_at flags i ≡ valid_of validity i) → AreSlots s validity ds items
+pub reads_slots : (s : Spelling) (flags : Option Items) (validity : Option (List Bool)) (ds : List Data) (items : List Item) → ((i : ℕ) → flagged_at flags i ≡ valid_of validity i) → AreSlots s validity ds items
     → ReadsSlots s flags (before ds no_items) (length ds) items
 reads_slots s flags validity ds items same h = record { len = h.len; each = λ i within. h.each i within ∙ sym (ap₂ (slot_of s) (same i) (get_item-before ds i)) }
 

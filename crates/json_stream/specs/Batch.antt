@@ -8,16 +8,16 @@ use Rattle.json_base.specs.JsonPath.{member_name}
 use Rattle.json_base.specs.declared.path.Member.TheVariants as member
 use Rattle.json_read.specs.JsonCatalog.{Coding}
 use Rattle.json_scan.specs.Spelling.{before}
-use Rattle.json_stream.specs.Column.{IsCount}
-use Rattle.json_stream.specs.Columns.{AreColumns}
+use Rattle.json_stream.specs.Column.{IsCountMember}
+use Rattle.json_stream.specs.Columns.{AreReadColumns}
 use Rattle.json_stream.specs.declared.batch.BatchParts.{BatchParts}
 
 -- The member is an array of these columns, if they are read.
 abbrev pub IsColumns : List FieldShape → List (Option Coding) → Option Data → Option (List Seen) → Type 0
 IsColumns fields catalog found None = Unit {0}
-IsColumns fields catalog found (Some columns) = (ds : List Data) × (found ≡ Some (array (before ds no_items))) × AreColumns fields catalog ds columns
+IsColumns fields catalog found (Some columns) = (ds : List Data) × (found ≡ Some (array (before ds no_items))) × AreReadColumns fields catalog ds columns
 
 -- What is known of the members.
 pub record HoldsBatch (fields : List FieldShape) (catalog : List (Option Coding)) (ms : Members) (p : BatchParts) : Type 0 where
-  pub count : IsCount (get_member (member_name member.Count) ms) p.count
+  pub count : IsCountMember (get_member (member_name member.Count) ms) p.count
   pub columns : IsColumns fields catalog (get_member (member_name member.Columns) ms) (option_map (λ v. v.items) p.columns)

@@ -16,9 +16,9 @@ use Rattle.json_stream.specs.declared.column.Stretch.{Stretch}
 use Rattle.json_stream.specs.declared.column.ColumnParts.{ColumnParts}
 
 -- The member is a count, if there is one.
-abbrev pub IsCount : Option Data → Option ℕ → Type 0
-IsCount found None = found ≡ None
-IsCount found (Some n) = option_and_then count_of found ≡ Some n
+abbrev pub IsCountMember : Option Data → Option ℕ → Type 0
+IsCountMember found None = found ≡ None
+IsCountMember found (Some n) = option_and_then count_of found ≡ Some n
 
 -- The member, if there is one, has the value that stands on the stretch of the text. It is no key: no colon follows.
 abbrev pub StandsOn : ℕ → List ℕ → Option Data → Option Stretch → Type 0
@@ -32,7 +32,7 @@ IsValues k c validity found (Some a) = (ds : List Data) × (found ≡ Some (arra
 
 -- What is known of the members, nested so deep in the text.
 pub record HoldsParts (k : Kind) (c : Option Coding) (depth : ℕ) (text : List ℕ) (ms : Members) (p : ColumnParts) : Type 0 where
-  pub count : IsCount (get_member (member_name member.Count) ms) p.count
+  pub count : IsCountMember (get_member (member_name member.Count) ms) p.count
   pub validity : IsValidity (get_member (member_name member.Validity) ms) p.validity
   pub place : StandsOn depth text (get_member (member_name member.Data) ms) p.place
   pub values : IsValues k c p.validity (get_member (member_name member.Data) ms) p.values

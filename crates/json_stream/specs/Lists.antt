@@ -9,7 +9,7 @@ use Rattle.json_base.specs.JsonPath.{member_name}
 use Rattle.json_base.specs.declared.path.Member.TheVariants as member
 use Rattle.json_read.specs.JsonBatch.{HoldsColumn}
 use Rattle.json_scan.specs.Spelling.{SpellsAt}
-use Rattle.json_stream.specs.Column.{IsCount}
+use Rattle.json_stream.specs.Column.{IsCountMember}
 use Rattle.json_stream.specs.Validity.{IsValidity}
 use Rattle.json_stream.specs.Offsets.{IsOffsets}
 use Rattle.json_stream.specs.declared.column.Stretch.{Stretch}
@@ -18,31 +18,31 @@ use Rattle.json_stream.specs.declared.list.Child.TheVariants.{Read, At}
 use Rattle.json_stream.specs.declared.list.ListParts.{ListParts}
 
 -- The value stands on the stretch of the text. It is no key: no colon follows.
-abbrev pub StandsAt : ℕ → List ℕ → Data → Stretch → Type 0
-StandsAt depth text d s = SpellsAt depth (drop s.start text) d (drop s.end text) × (begins_colon (lex between (drop s.end text)) ≡ false)
+abbrev pub IsOnStretch : ℕ → List ℕ → Data → Stretch → Type 0
+IsOnStretch depth text d s = SpellsAt depth (drop s.start text) d (drop s.end text) × (begins_colon (lex between (drop s.end text)) ≡ false)
 
 -- The column object of a child of the kind: its array, or where it stands.
 abbrev pub HoldsChild : Kind → ℕ → List ℕ → Data → Child → Type 0
 HoldsChild k depth text d (Read a) = HoldsColumn k (length a.items) d a
-HoldsChild k depth text d (At s) = StandsAt depth text d s
+HoldsChild k depth text d (At s) = IsOnStretch depth text d s
 
 -- The values so far are the child alone, or there are none.
-abbrev pub AreChildren : Kind → ℕ → List ℕ → List Data → Option Child → Type 0
-AreChildren k depth text ds None = ds ≡ []
-AreChildren k depth text ds (Some child) = (d : Data) × (ds ≡ d ∷ []) × HoldsChild k depth text d child
+abbrev pub HoldsOnlyChild : Kind → ℕ → List ℕ → List Data → Option Child → Type 0
+HoldsOnlyChild k depth text ds None = ds ≡ []
+HoldsOnlyChild k depth text ds (Some child) = (d : Data) × (ds ≡ d ∷ []) × HoldsChild k depth text d child
 
 -- The array of a value alone.
-abbrev pub only : Data → Data
-only d = array (item d no_items)
+abbrev pub array_of_one : Data → Data
+array_of_one d = array (item d no_items)
 
 -- The member is an array of the child alone, if it is found.
-abbrev pub IsChild : Kind → ℕ → List ℕ → Option Data → Option Child → Type 0
-IsChild k depth text found None = Unit {0}
-IsChild k depth text found (Some child) = (d : Data) × (found ≡ Some (only d)) × HoldsChild k (depth - 1) text d child
+abbrev pub HoldsChildMember : Kind → ℕ → List ℕ → Option Data → Option Child → Type 0
+HoldsChildMember k depth text found None = Unit {0}
+HoldsChildMember k depth text found (Some child) = (d : Data) × (found ≡ Some (array_of_one d)) × HoldsChild k (depth - 1) text d child
 
 -- What is known of the members, nested so deep in the text.
 pub record HoldsLists (w : OffsetWidth) (k : Kind) (depth : ℕ) (text : List ℕ) (ms : Members) (p : ListParts) : Type 0 where
-  pub count : IsCount (get_member (member_name member.Count) ms) p.count
+  pub count : IsCountMember (get_member (member_name member.Count) ms) p.count
   pub validity : IsValidity (get_member (member_name member.Validity) ms) p.validity
   pub offsets : IsOffsets w (get_member (member_name member.Offset) ms) p.offsets
-  pub child : IsChild k depth text (get_member (member_name member.Children) ms) p.child
+  pub child : HoldsChildMember k depth text (get_member (member_name member.Children) ms) p.child

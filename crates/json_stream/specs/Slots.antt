@@ -6,7 +6,7 @@ use Rattle.arrays.specs.Seen.{Seen}
 use Rattle.serde_json.specs.Data.{Data}
 use Rattle.json_read.specs.JsonCatalog.{Coding}
 use Rattle.json_read.specs.JsonCodes.{indices}
-use Rattle.json_read.specs.JsonColumn.{Spelling, spelling_of, is_full, slot_of}
+use Rattle.json_read.specs.JsonColumn.{Spelling, spelling_of, overflows, slot_of}
 use Rattle.json_stream.specs.Validity.{valid_of}
 
 -- What the values of a column's slots spell: where it is encoded, the entries that they name.
@@ -18,26 +18,26 @@ spelling_at k (Some c) = indices c.index c.texts
 pub record AreSlots (s : Spelling) (validity : Option (List Bool)) (ds : List Data) (items : List Item) : Type 0 where
   pub len : length items ≡ length ds
   pub each : (i : ℕ) → i < length ds → slice_get items i ≡ slot_of s (valid_of validity i) (slice_get ds i)
-  pub fits : is_full s items ≡ false
+  pub fits : overflows s items ≡ false
 
 -- The item of one more slot follows, which is valid or not.
 pub record IsSlotAdded (s : Spelling) (valid : Option Bool) (d : Data) (old new : List Item) : Type 0 where
   pub item : Item
   pub slot : slot_of s valid (Some d) ≡ Some item
   pub grown : new ≡ old ++ item ∷ []
-  pub fits : is_full s old ≡ false → is_full s new ≡ false
+  pub fits : overflows s old ≡ false → overflows s new ≡ false
 
 -- Each slot of the kind has a value of its own.
-abbrev pub is_plain : Kind → Bool
-is_plain (int t) = true
-is_plain boolean = true
-is_plain (texts w) = true
-is_plain (lists w k) = false
-is_plain dict = false
+abbrev pub is_slotwise : Kind → Bool
+is_slotwise (int t) = true
+is_slotwise boolean = true
+is_slotwise (texts w) = true
+is_slotwise (lists w k) = false
+is_slotwise dict = false
 
 -- Each slot of a column of the kind has: an index, where it is encoded.
 abbrev pub is_slotted : Kind → Option Coding → Bool
-is_slotted k None = is_plain k
+is_slotted k None = is_slotwise k
 is_slotted k (Some c) = true
 
 -- An array of the kind that has these slots.

@@ -9,7 +9,7 @@ ghost use Rattle.json_read.specs.CatalogParts.{coding_of};
 ghost use Rattle.json_read.specs.JsonBatch.{ReadsBatch};
 ghost use Rattle.json_read.specs.JsonCatalog as coded;
 ghost use Rattle.json_scan.specs.Spelling.{SpellsAt};
-ghost use Rattle.json_stream.specs.Columns.{AreColumns};
+ghost use Rattle.json_stream.specs.Columns.{AreReadColumns};
 
 use crate::columns::read_columns;
 use crate::natural::read_natural;
@@ -73,7 +73,7 @@ fn are_of_len(columns: &[Array], len: usize) -> bool
 
 /// The batch of columns of the schema's fields, if each is there and has so many slots.
 fn batch_of(schema: &Arc<Schema>, rows: u32, columns: Vec<Array>) -> Result<RecordBatch, Miss>
-    requires { (catalog : List (Option coded.Coding)) × (ds : List Data) × AreColumns (arc_value schema.now) catalog ds columns.items }
+    requires { (catalog : List (Option coded.Coding)) × (ds : List Data) × AreReadColumns (arc_value schema.now) catalog ds columns.items }
     ensures fields { IfOk result (λ b. b.fields ≡ arc_value schema.now) }
     ensures rows { IfOk result (λ b. b.rows ≡ rows) }
     ensures columns { IfOk result (λ b. b.columns ≡ columns.items) }
@@ -115,7 +115,7 @@ pub fn read_batch(
         count: None,
         columns: None,
     };
-    let end = read_object(text, at, depth, &mut parts)?;
+    let end = read_object(alloc, text, at, depth, &mut parts)?;
     let BatchParts { count, columns, .. } = parts;
     let Some(rows) = count else {
         return Err(Miss::Unread);

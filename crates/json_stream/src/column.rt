@@ -1,9 +1,8 @@
 //! Column objects: their members in any order, of those of one name the last.
 
-ghost use Rattle.std.specs.Prelude.{◌≡◌, ◌<◌, ◌≤◌, false, length, drop, List, Option, Some, option_map, IfOk, IfSome, IsTrue};
+ghost use Rattle.std.specs.Prelude.{◌≡◌, ◌<◌, ◌≤◌, length, drop, List, Option, Some, option_map, IfOk, IfSome, IsTrue};
 ghost use Rattle.types.specs.declared.data_type.Field.{out-Field};
 ghost use Rattle.arrays.specs.Kind.{kind_of};
-ghost use Rattle.json.specs.Lex.{lex, between, begins_colon};
 ghost use Rattle.serde_json.specs.Data.{Data, Members, object};
 ghost use Rattle.json_read.specs.CatalogParts.{coding_of};
 ghost use Rattle.json_read.specs.JsonBatch.{HoldsColumn, HoldsTop};
@@ -20,7 +19,7 @@ use arrays::{Array, DataType, Field, OffsetWidth};
 use colbits::BitmapBuf;
 use json_base::Member;
 use json_read::Coding;
-use json_scan::{Container, MemberVisitor, Miss, Placed, pass_value, read_mark, read_object};
+use json_scan::{Container, MemberVisitor, Miss, Placed, ends_in, pass_value, read_object};
 use std::alloc::Global;
 
 /// Where a value stands.
@@ -72,14 +71,6 @@ fn read_or_pass(
         Some(end) => Ok(Placed { value: None, end }),
         None => Err(Miss::Unread),
     }
-}
-
-/// Whether a member or an item ends here.
-pub(crate) fn ends_in(text: &str, at: usize, container: Container) -> bool
-    requires { at ≤ length text.now }
-    ensures { IsTrue result → begins_colon (lex between (drop at text.now)) ≡ false }
-{
-    read_mark(text.as_bytes(), at, container).is_some()
 }
 
 impl MemberVisitor for ColumnParts<'_> {
@@ -220,7 +211,7 @@ fn read_slotted(
         place: None,
         values: None,
     };
-    let end = read_object(text, at, depth, &mut parts)?;
+    let end = read_object(alloc, text, at, depth, &mut parts)?;
     match column_of(parts, text, depth.saturating_sub(1)) {
         Ok(value) => Ok(Placed { value, end }),
         Err(miss) => Err(miss),

@@ -5,7 +5,7 @@ ghost use Rattle.arrays.specs.Shape.{fields_of};
 ghost use Rattle.serde_json.specs.Data.{Data, array, no_items};
 ghost use Rattle.json_read.specs.CatalogParts.{coding_of};
 ghost use Rattle.json_scan.specs.Spelling.{SpellsAt, before};
-ghost use Rattle.json_stream.specs.Columns.{AreColumns};
+ghost use Rattle.json_stream.specs.Columns.{AreReadColumns};
 
 use crate::column::read_column;
 use arrays::{Array, Field};
@@ -34,10 +34,10 @@ impl ItemVisitor for Columns<'_> {
     ghost use Rattle.std.specs.Prelude.{◌≡◌, map, option_map};
     ghost use Rattle.arrays.specs.Shape.{fields_of};
     ghost use Rattle.json_read.specs.CatalogParts.{coding_of};
-    ghost use Rattle.json_stream.specs.Columns.{AreColumns};
+    ghost use Rattle.json_stream.specs.Columns.{AreReadColumns};
 
     ghost holds = { λ text depth first ds now. (now.fields ≡ first.fields) × (now.catalog ≡ first.catalog)
-        × AreColumns (fields_of first.fields.now) (map (option_map coding_of) first.catalog.now) ds now.columns.items };
+        × AreReadColumns (fields_of first.fields.now) (map (option_map coding_of) first.catalog.now) ds now.columns.items };
 
     fn visit(&mut self, text: &str, at: usize, depth: usize) -> Result<usize, Miss> {
         let index = self.columns.len();
@@ -69,7 +69,7 @@ pub fn read_columns(
 ) -> Result<Placed<Vec<Array>>, Miss>
     requires { at ≤ length text.now }
     ensures ok { IfOk result (λ r. (ds : List Data) × SpellsAt depth (drop at text.now) (array (before ds no_items)) (drop r.end text.now)
-        × AreColumns (fields_of fields.now) (map (option_map coding_of) catalog.now) ds r.value.items) }
+        × AreReadColumns (fields_of fields.now) (map (option_map coding_of) catalog.now) ds r.value.items) }
     ensures onward { IfOk result (λ r. at < r.end) }
     ensures within { IfOk result (λ r. r.end ≤ length text.now) }
 {

@@ -9,12 +9,14 @@ mod columns;
 mod field;
 mod list;
 mod natural;
-mod numeral;
 mod offsets;
 mod slots;
 mod validity;
 mod values;
+mod whole;
 
 pub use batch::read_batch;
 pub use column::{Stretch, read_column};
 pub use columns::read_columns;
+pub use natural::read_natural;
+pub use whole::read_whole;

@@ -12,9 +12,9 @@ ghost use Rattle.serde_json.specs.Data.{Data, Members, object};
 ghost use Rattle.json_read.specs.JsonBatch.{HoldsColumn};
 ghost use Rattle.json_read.specs.JsonList.{are_enough, lists_fault};
 ghost use Rattle.json_scan.specs.Spelling.{SpellsAt};
-ghost use Rattle.json_stream.specs.Lists.{HoldsChild, HoldsLists, StandsAt, only};
+ghost use Rattle.json_stream.specs.Lists.{HoldsChild, HoldsLists, IsOnStretch, array_of_one};
 
-use crate::column::{Stretch, are_flags_of, ends_in, read_plain, read_uncoded};
+use crate::column::{Stretch, are_flags_of, read_plain, read_uncoded};
 use crate::natural::read_natural;
 use crate::offsets::{Offsets, read_offsets};
 use crate::validity::read_validity;
@@ -22,7 +22,8 @@ use arrays::{Array, DataType, Field, LayoutFault, OffsetSlots, OffsetWidth};
 use colbits::{BitmapBuf, Buffer, NoMemory};
 use json_base::Member;
 use json_scan::{
-    Container, ItemVisitor, MemberVisitor, Miss, Placed, pass_value, read_array, read_object,
+    Container, ItemVisitor, MemberVisitor, Miss, Placed, ends_in, pass_value, read_array,
+    read_object,
 };
 use std::alloc::Global;
 
@@ -38,7 +39,7 @@ pub(crate) enum Child {
 fn find_child(text: &str, at: usize, depth: usize) -> Result<Placed<Stretch>, Miss>
     requires { at ≤ length text.now }
     ensures ok { IfOk result (λ r. (d : Data) × SpellsAt depth (drop at text.now) d (drop r.end text.now)
-        × StandsAt depth text.now d r.value) }
+        × IsOnStretch depth text.now d r.value) }
     ensures onward { IfOk result (λ r. at < r.end) }
     ensures within { IfOk result (λ r. r.end ≤ length text.now) }
 {
@@ -98,10 +99,10 @@ impl ItemVisitor for Children<'_> {
     ghost use Rattle.std.specs.Prelude.{◌≡◌};
     ghost use Rattle.types.specs.declared.data_type.Field.{out-Field};
     ghost use Rattle.arrays.specs.Kind.{kind_of};
-    ghost use Rattle.json_stream.specs.Lists.{AreChildren};
+    ghost use Rattle.json_stream.specs.Lists.{HoldsOnlyChild};
 
     ghost holds = { λ text depth first ds now. (now.item ≡ first.item)
-        × AreChildren (kind_of (out-Field first.item.now).ty) depth text ds now.child };
+        × HoldsOnlyChild (kind_of (out-Field first.item.now).ty) depth text ds now.child };
 
     fn visit(&mut self, text: &str, at: usize, depth: usize) -> Result<usize, Miss> {
         if self.child.is_some() {
@@ -122,7 +123,7 @@ fn read_children(
     depth: usize,
 ) -> Result<Placed<Child>, Miss>
     requires { at ≤ length text.now }
-    ensures ok { IfOk result (λ r. (d : Data) × SpellsAt depth (drop at text.now) (only d) (drop r.end text.now)
+    ensures ok { IfOk result (λ r. (d : Data) × SpellsAt depth (drop at text.now) (array_of_one d) (drop r.end text.now)
         × HoldsChild (kind_of (out-Field item.now).ty) (depth - 1) text.now d r.value) }
     ensures onward { IfOk result (λ r. at < r.end) }
     ensures within { IfOk result (λ r. r.end ≤ length text.now) }
@@ -224,7 +225,7 @@ fn read_parts(
             child: None,
         },
     };
-    let end = read_object(text, at, depth, &mut members)?;
+    let end = read_object(alloc, text, at, depth, &mut members)?;
     Ok(Placed {
         value: members.parts,
         end,

@@ -10,7 +10,7 @@ use json_scan::{Literal, Placed, read_integer, read_literal};
 
 /// The whole number from 0 up to 2^31 - 1 that stands here, or after spaces.
 #[inline(always)]
-pub(crate) fn read_natural(text: &[u8], at: usize) -> Option<Placed<u32>>
+pub fn read_natural(text: &[u8], at: usize) -> Option<Placed<u32>>
     requires { at ≤ length text.now }
     ensures reads { IfSome result (λ r. (n : Num) × (as_u64 n ≡ Some r.value)
         × Spells (drop at text.now) (number n) (drop r.end text.now)) }

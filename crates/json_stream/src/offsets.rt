@@ -3,9 +3,9 @@
 ghost use Rattle.std.specs.Prelude.{◌≡◌, ◌<◌, ◌≤◌, length, drop, IfOk};
 ghost use Rattle.serde_json.specs.Data.{Items, array};
 ghost use Rattle.json_scan.specs.Spelling.{SpellsAt};
-ghost use Rattle.json_stream.specs.Offsets.{AreOffsets};
+ghost use Rattle.json_stream.specs.Offsets.{AreSpelledOffsets};
 
-use crate::numeral::read_whole;
+use crate::whole::read_whole;
 use arrays::{MOST_SLOTS, OffsetWidth};
 use colbits::NoMemory;
 use json_read::{offset_type, push_offset};
@@ -25,9 +25,9 @@ impl ItemVisitor for Offsets {
     ghost use Rattle.std.specs.Prelude.{◌≡◌};
     ghost use Rattle.serde_json.specs.Data.{no_items};
     ghost use Rattle.json_scan.specs.Spelling.{before};
-    ghost use Rattle.json_stream.specs.Offsets.{AreOffsets};
+    ghost use Rattle.json_stream.specs.Offsets.{AreSpelledOffsets};
 
-    ghost holds = { λ text depth first ds now. (now.width ≡ first.width) × AreOffsets first.width (before ds no_items) now };
+    ghost holds = { λ text depth first ds now. (now.width ≡ first.width) × AreSpelledOffsets first.width (before ds no_items) now };
 
     #[inline]
     fn visit(&mut self, text: &str, at: usize, _depth: usize) -> Result<usize, Miss> {
@@ -58,7 +58,7 @@ pub(crate) fn read_offsets(
 ) -> Result<Placed<Offsets>, Miss>
     requires { at ≤ length text.now }
     ensures ok { IfOk result (λ r. (offsets : Items) × SpellsAt depth (drop at text.now) (array offsets) (drop r.end text.now)
-        × AreOffsets width offsets r.value) }
+        × AreSpelledOffsets width offsets r.value) }
     ensures onward { IfOk result (λ r. at < r.end) }
     ensures within { IfOk result (λ r. r.end ≤ length text.now) }
 {

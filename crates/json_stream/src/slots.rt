@@ -8,12 +8,12 @@ ghost use Rattle.arrays.specs.Dictionary.{is_code};
 ghost use Rattle.arrays.specs.Item.{int, null};
 ghost use Rattle.arrays.specs.Kind.{int32};
 ghost use Rattle.serde_json.specs.Data.{Data};
-ghost use Rattle.json_read.specs.Unfit.{IsWith};
+ghost use Rattle.json_read.specs.Unfit.{HasNextItem};
 ghost use Rattle.json_scan.specs.Spelling.{Spells};
 ghost use Rattle.json_stream.specs.Slots.{spelling_at};
 
 use crate::natural::read_flag;
-use crate::numeral::read_whole;
+use crate::whole::read_whole;
 use arrays::{Array, BoolBuilder, BuildFault, IntBuilder, IntType, TextBuilder};
 use colbits::NoMemory;
 use json_read::Coding;
@@ -40,7 +40,7 @@ pub(crate) trait SlotBuilder: Drop {
         ensures kind { kind self.new ≡ kind self.old }
         ensures coding { coding self.new ≡ coding self.old }
         ensures ok { IfOk result (λ end. (d : Data) × Spells (drop at text.now) d (drop end text.now)
-            × IsWith (spelling_at (kind self.old) (coding self.old)) (items self.old) d (items self.new)) }
+            × HasNextItem (spelling_at (kind self.old) (coding self.old)) (items self.old) d (items self.new)) }
         ensures err { OnErr result (items self.new ≡ items self.old) }
         ensures onward { IfOk result (λ end. at < end) }
         ensures within { IfOk result (λ end. end ≤ length text.now) };

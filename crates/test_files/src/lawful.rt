@@ -47,8 +47,9 @@ fn write_part(
     place: usize,
     part: &str,
 ) -> Result<(), Fail> {
+    let blanks = if chance.below(4) == 0 { " \n" } else { "" };
     text.push_str(if place > 0 { "," } else { "" })?;
-    text.push_str(if chance.below(4) == 0 { " \n" } else { "" })?;
+    text.push_str(blanks)?;
     text.push_str(part)?;
     Ok(())
 }
@@ -97,7 +98,7 @@ static COLUMNS: [Column; 9] = [
 ];
 
 /// The dictionaries that fields name.
-const DICTIONARIES: &str =
+static DICTIONARIES: &str =
     r#""dictionaries":[{"data":{"count":1,"columns":[{"name":"n","count":1,"VALIDITY":[1],"OFFSET":[0,1],"DATA":["a"]}]},"id":2},{"id":1,"data":{"columns":[{"DATA":["\n","b"],"count":2}],"count":2}}]"#;
 
 /// What is written of columns.
@@ -127,15 +128,26 @@ fn write_columns(
 
 /// Adds batches of them.
 fn write_batches(text: &mut String, chance: &mut Chance, places: &[usize]) -> Result<(), Fail> {
+    text.push_str("\"batches\":[")?;
     for index in 0..chance.below(3) {
-        let count_first = chance.below(2) == 0;
-        write_part(text, chance, index, "{")?;
-        text.push_str(if count_first { COUNT } else { "" })?;
-        text.push_str(if count_first { "," } else { "" })?;
-        text.push_str("\"columns\":[")?;
+        let (start, end) = if chance.below(2) == 0 {
+            ("{\"count\":3,\"columns\":[", "]}")
+        } else {
+            ("{\"columns\":[", "],\"count\":3}")
+        };
+        write_part(text, chance, index, start)?;
         write_columns(text, chance, places, Written::Slots)?;
-        text.push_str(if count_first { "]}" } else { "],\"count\":3}" })?;
+        text.push_str(end)?;
     }
+    text.push_str("]")?;
+    Ok(())
+}
+
+/// Adds the fields of the columns.
+fn write_schema(text: &mut String, chance: &mut Chance, places: &[usize]) -> Result<(), Fail> {
+    text.push_str("\"schema\":{\"fields\":[")?;
+    write_columns(text, chance, places, Written::Fields)?;
+    text.push_str("]}")?;
     Ok(())
 }
 
@@ -144,19 +156,12 @@ fn file(alloc: Global, chance: &mut Chance) -> Result<String, Fail> {
     let places = [0; 4].map(|_| chance.below(COLUMNS.len()));
     let count = chance.below(4).saturating_add(1);
     let places = places.get(..count).ok_or("no columns")?;
-    let mut schema = String::from_str(alloc, "\"schema\":{\"fields\":[")?;
-    write_columns(&mut schema, chance, places, Written::Fields)?;
-    schema.push_str("]}")?;
-    let mut batches = String::from_str(alloc, "\"batches\":[")?;
+    let (mut schema, mut batches) = (String::new(alloc), String::new(alloc));
+    write_schema(&mut schema, chance, places)?;
     write_batches(&mut batches, chance, places)?;
-    batches.push_str("]")?;
+    let other = r#""other":[{"key":1.5e3}]"#;
+    let members = [schema.as_str(), DICTIONARIES, batches.as_str(), other];
     let mut text = String::new(alloc);
-    let members = [
-        schema.as_str(),
-        DICTIONARIES,
-        batches.as_str(),
-        r#""other":[{"key":1.5e3}]"#,
-    ];
     write_object(&mut text, chance, &members)?;
     Ok(text)
 }
@@ -169,13 +174,17 @@ fn told(alloc: Global, read: Result<File, JsonFault>) -> Result<String, Fail> {
     }
 }
 
+/// Whether a text is printed of the file that the reader of trees makes of a text.
+fn is_print_of(alloc: Global, printed: &str, text: &str) -> Result<bool, Fail> {
+    let tree = json_read::read_file(alloc, text.as_bytes())?;
+    Ok(print_file(alloc, &tree)?.as_str() == printed)
+}
+
 /// Asserts that the reader of bytes takes a text, and makes of it what the reader of trees does.
 pub(crate) fn expect_read(rt: &impl Abort, alloc: Global, text: &str) -> Result<(), Fail> {
-    let read = read_text(alloc, text);
-    let tree = json_read::read_file(alloc, text.as_bytes());
-    assert!(rt; read.is_ok() && tree.is_ok(), "{text}");
-    let read = told(alloc, read.map_err(|_| JsonFault::no_memory(alloc)))?;
-    assert!(rt; read.as_str() == told(alloc, tree)?.as_str(), "{text}");
+    let read = read_text(alloc, text)?;
+    let printed = print_file(alloc, &read)?;
+    assert!(rt; is_print_of(alloc, printed.as_str(), text)?, "{text}");
     Ok(())
 }
 
@@ -202,10 +211,27 @@ static OTHERS: [&str; 6] = [
 
 #[test]
 fn a_schema_of_another_object_decides_nothing(rt: HostRuntime) -> Result<(), Fail> {
-    for text in OTHERS {
-        expect_read(&rt, rt.alloc(), text)?;
+    for text in &OTHERS {
+        expect_read(&rt, rt.alloc(), *text)?;
         let longer = format!(in rt.alloc(); "{text} 1")?;
         assert!(&rt; read_text(rt.alloc(), longer.as_str()).is_err(), "{longer}");
+    }
+    Ok(())
+}
+
+/// Files in which the document's schema or dictionaries can't be guessed: names with an escape, and a second schema behind the batches.
+#[rattlefmt::skip]
+static UNGUESSED: [&str; 4] = [
+    r#"{"sch\u0065ma":{"fi\u0065lds":[{"n\u0061me":"n","nullabl\u0065":true,"childr\u0065n":[],"typ\u0065":{"name":"int","bit\u0057idth":8,"isSigned":true}}]},"b\u0061tches":[{"c\u006funt":1,"column\u0073":[{"c\u006funt":1,"V\u0041LIDITY":[1],"D\u0041TA":[1]}]}]}"#,
+    r#"{"batches":[{"count":1,"columns":[{"count":1,"DATA":[1]}]}],"\u0073chema":{"fields":[{"name":"n","nullable":true,"children":[],"type":{"name":"int","bitWidth":8,"isSigned":true}}]}}"#,
+    r#"{"schema":{"fields":[{"name":"n","nullable":true,"type":{"name":"utf8"},"dictionary":{"id":0,"indexType":{"name":"int","bitWidth":8,"isSigned":true}}}]},"batches":[{"count":1,"columns":[{"count":1,"DATA":[0]}]}],"dictionari\u0065s":[{"i\u0064":0,"d\u0061ta":{"count":1,"columns":[{"count":1,"DATA":["a"]}]}}]}"#,
+    r#"{"schema":{"fields":[{"name":"n","nullable":true,"children":[],"type":{"name":"utf8"}}]},"batches":[{"count":1,"columns":[{"count":1,"DATA":[1]}]}],"schema":{"fields":[{"name":"n","nullable":true,"children":[],"type":{"name":"int","bitWidth":8,"isSigned":true}}]}}"#,
+];
+
+#[test]
+fn what_cannot_be_guessed_is_read(rt: HostRuntime) -> Result<(), Fail> {
+    for text in UNGUESSED {
+        expect_read(&rt, rt.alloc(), text)?;
     }
     Ok(())
 }
@@ -229,18 +255,22 @@ fn changed(alloc: Global, chance: &mut Chance, text: &[u8]) -> Result<Vec<u8>, F
 }
 
 /// What is put for others.
-const BYTES: &[u8] = b"0123456789[]{},:\"\\-.e \xff";
+static BYTES: &[u8] = b"0123456789[]{},:\"\\-.e \xff";
+
+/// Whether both readers tell the same of bytes.
+fn are_told_alike(alloc: Global, bytes: &[u8]) -> Result<bool, Fail> {
+    let read = told(alloc, json_file::read_file(alloc, bytes))?;
+    let tree = told(alloc, json_read::read_file(alloc, bytes))?;
+    Ok(read.as_str() == tree.as_str())
+}
 
 #[test]
 fn both_readers_tell_the_same_of_changed_files(rt: HostRuntime) -> Result<(), Fail> {
-    let alloc = rt.alloc();
     let mut chance = Chance { state: 2 };
     for _ in 0..20000 {
-        let text = file(alloc, &mut chance)?;
-        let bytes = changed(alloc, &mut chance, text.as_bytes())?;
-        let read = told(alloc, json_file::read_file(alloc, &bytes))?;
-        let tree = told(alloc, json_read::read_file(alloc, &bytes))?;
-        assert!(&rt; read.as_str() == tree.as_str(), "{text}");
+        let text = file(rt.alloc(), &mut chance)?;
+        let bytes = changed(rt.alloc(), &mut chance, text.as_bytes())?;
+        assert!(&rt; are_told_alike(rt.alloc(), &bytes)?, "{text}");
     }
     Ok(())
 }

@@ -3,6 +3,8 @@
 #![tactic(auto)]
 
 #[cfg(test)]
+mod dictionaries;
+#[cfg(test)]
 mod lawful;
 #[cfg(test)]
 mod printing;

@@ -5,7 +5,7 @@ mod lists;
 mod values;
 
 use arrays::{DataType, Field};
-use arrow_json::{fault_text, read_field, read_file};
+use arrow_json::{JsonFault, fault_text, read_field, read_file};
 use std::alloc::Global;
 use std::process::Abort;
 use std::test::Fail;
@@ -13,12 +13,17 @@ use std::test::Fail;
 /// What stands for MEMBERS in a file, and what is reported of it then, `read` where nothing is wrong.
 pub(crate) type Cases = &'static [(&'static str, &'static str)];
 
+/// What is reported, `read` where nothing is wrong.
+fn reported<T: Drop>(alloc: Global, read: Result<T, JsonFault>) -> Result<String, Fail> {
+    match read {
+        Ok(_) => Ok(String::from_str(alloc, "read")?),
+        Err(fault) => Ok(fault_text(alloc, &fault)?),
+    }
+}
+
 /// Asserts what is reported of a file, `read` where nothing is wrong.
-pub(crate) fn expect(rt: &impl Abort, alloc: Global, text: &str, wanted: &str) -> Result<(), Fail> {
-    let reported = match read_file(alloc, text.as_bytes()) {
-        Ok(_) => String::from_str(alloc, "read")?,
-        Err(fault) => fault_text(alloc, &fault)?,
-    };
+fn expect(rt: &impl Abort, alloc: Global, text: &str, wanted: &str) -> Result<(), Fail> {
+    let reported = reported(alloc, read_file(alloc, text.as_bytes()))?;
     assert!(rt; reported.as_str() == wanted, "{reported} for {text}");
     Ok(())
 }
@@ -52,7 +57,7 @@ pub(crate) fn expect_each_type(
 }
 
 /// Whole files.
-const FILES: Cases = &[
+static FILES: Cases = &[
     ("{", "J1 NotJson"),
     ("[]", "J3 WrongMember"),
     ("{}", "J2 MissingMember at /schema"),
@@ -90,19 +95,21 @@ const FILES: Cases = &[
 
 #[test]
 fn tells_the_faults_of_a_file(rt: HostRuntime) -> Result<(), Fail> {
-    expect_each(&rt, rt.alloc(), "MEMBERS", FILES)?;
-    match read_file(rt.alloc(), &[34, 255, 34]) {
-        Ok(_) => panic!(&rt; "no UTF-8 was read"),
-        Err(fault) => assert!(&rt; fault_text(rt.alloc(), &fault)?.as_str() == "J1 NotJson"),
-    }
+    expect_each(&rt, rt.alloc(), "MEMBERS", FILES)
+}
+
+#[test]
+fn tells_what_is_no_text(rt: HostRuntime) -> Result<(), Fail> {
+    let reported = reported(rt.alloc(), read_file(rt.alloc(), &[34, 255, 34]))?;
+    assert!(rt; reported.as_str() == "J1 NotJson");
     Ok(())
 }
 
 /// A file of one field with these members, and no batch.
-const FILE_OF_FIELD: &str = r#"{"schema":{"fields":[{"name":"n"MEMBERS}]},"batches":[]}"#;
+static FILE_OF_FIELD: &str = r#"{"schema":{"fields":[{"name":"n"MEMBERS}]},"batches":[]}"#;
 
 /// The members of a field.
-const FIELDS: Cases = &[
+static FIELDS: Cases = &[
     (
         r#","nullable":true,"type":{"name":"int","bitWidth":8,"isSigned":true}"#,
         "read",
@@ -163,7 +170,7 @@ fn tells_the_faults_of_a_field(rt: HostRuntime) -> Result<(), Fail> {
 }
 
 /// The same field by itself.
-const FIELD: &str = r#"{"name":"n"MEMBERS}"#;
+static FIELD: &str = r#"{"name":"n"MEMBERS}"#;
 
 #[test]
 fn tells_the_faults_of_a_field_by_itself(rt: HostRuntime) -> Result<(), Fail> {
@@ -172,34 +179,52 @@ fn tells_the_faults_of_a_field_by_itself(rt: HostRuntime) -> Result<(), Fail> {
         let wanted = wanted.replace(rt.alloc(), "/schema/fields/0", "")?;
         expect_field(&rt, rt.alloc(), text.as_bytes(), wanted.as_str())?;
     }
-    for text in ["", "{", "{} {}", "nul"] {
-        expect_field(&rt, rt.alloc(), text.as_bytes(), "J1 NotJson")?;
+    Ok(())
+}
+
+/// What is no field, and what is reported of it.
+static NO_FIELDS: [(&[u8], &str); 7] = [
+    (b"", "J1 NotJson"),
+    (b"{", "J1 NotJson"),
+    (b"{} {}", "J1 NotJson"),
+    (b"nul", "J1 NotJson"),
+    (b"\"\xff\"", "J1 NotJson"),
+    (b"[]", "J3 WrongMember"),
+    (b"{}", "J2 MissingMember at /name"),
+];
+
+#[test]
+fn tells_what_is_no_field(rt: HostRuntime) -> Result<(), Fail> {
+    for (text, wanted) in &NO_FIELDS {
+        expect_field(&rt, rt.alloc(), *text, *wanted)?;
     }
-    expect_field(&rt, rt.alloc(), &[34, 255, 34], "J1 NotJson")?;
-    expect_field(&rt, rt.alloc(), b"[]", "J3 WrongMember")?;
-    expect_field(&rt, rt.alloc(), b"{}", "J2 MissingMember at /name")
+    Ok(())
 }
 
 /// Asserts what is reported of a field, `read` where nothing is wrong.
 fn expect_field(rt: &impl Abort, alloc: Global, text: &[u8], wanted: &str) -> Result<(), Fail> {
-    let reported = match read_field(alloc, text) {
-        Ok(_) => String::from_str(alloc, "read")?,
-        Err(fault) => fault_text(alloc, &fault)?,
-    };
+    let reported = reported(alloc, read_field(alloc, text))?;
     assert!(rt; reported.as_str() == wanted, "{reported} for {text:?}");
     Ok(())
 }
 
+static ENCODED: &str =
+    r#"{"name":"m","nullable":false,"type":{"name":"utf8"},"dictionary":{"id":7,"indexType":{"name":"int","bitWidth":8,"isSigned":true}}}"#;
+
 #[test]
-fn a_field_is_read_by_itself(rt: HostRuntime) -> Result<(), Fail> {
-    let texts =
-        r#"{"name":"m","nullable":false,"type":{"name":"utf8"},"dictionary":{"id":7,"indexType":{"name":"int","bitWidth":8,"isSigned":true}}}"#;
-    let encoded = read_field(rt.alloc(), texts.as_bytes())?;
-    assert!(&rt; is_field(&encoded, "m", false) && is_dict(&encoded.ty));
-    let lists =
-        r#"{"name":"l","nullable":true,"type":{"name":"largelist"},"children":[{"name":"item","nullable":true,"type":{"name":"bool"}}]}"#;
-    let listed = read_field(rt.alloc(), lists.as_bytes())?;
-    assert!(&rt; is_field(&listed, "l", true) && is_list_of_truths(&listed.ty));
+fn an_encoded_field_is_read_by_itself(rt: HostRuntime) -> Result<(), Fail> {
+    let field = read_field(rt.alloc(), ENCODED.as_bytes())?;
+    assert!(rt; is_field(&field, "m", false) && is_dict(&field.ty));
+    Ok(())
+}
+
+static LISTED: &str =
+    r#"{"name":"l","nullable":true,"type":{"name":"largelist"},"children":[{"name":"item","nullable":true,"type":{"name":"bool"}}]}"#;
+
+#[test]
+fn a_field_of_lists_is_read_by_itself(rt: HostRuntime) -> Result<(), Fail> {
+    let field = read_field(rt.alloc(), LISTED.as_bytes())?;
+    assert!(rt; is_field(&field, "l", true) && is_list_of_truths(&field.ty));
     Ok(())
 }
 
@@ -230,11 +255,11 @@ fn is_list_of_truths(ty: &DataType) -> bool {
 }
 
 /// A file of one field of such an integer type, and of one batch of two slots with these members.
-pub(crate) const FILE_OF_COLUMN: &str =
+pub(crate) static FILE_OF_COLUMN: &str =
     r#"{"schema":{"fields":[{"name":"n","nullable":true,"type":{"name":"int",TYPE},"children":[]}]},"batches":[{"count":2,"columns":[{"name":"n","count":2,MEMBERS}]}]}"#;
 
 /// The members of a column of signed numbers of eight bits.
-const COLUMNS: Cases = &[
+static COLUMNS: Cases = &[
     (r#""DATA":[-128,127]"#, "read"),
     (r#""VALIDITY":null,"DATA":[1,2]"#, "read"),
     (r#""VALIDITY":[true,0],"DATA":[1,{}]"#, "read"),

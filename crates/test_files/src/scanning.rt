@@ -1,14 +1,17 @@
 //! JSON at places of its text: what stands there and where it ends, or nothing where it is at fault.
 
+ghost use Rattle.std.specs.Prelude.{◌≤◌, length};
+
 use json_scan::{
     Literal, Miss, find_member, pass_number, pass_value, read_integer, read_integers, read_literal,
     read_text, read_value,
 };
 use serde_json::Value;
+use std::alloc::Global;
 use std::test::Fail;
 
 /// Values, and where they end: numbers at the limits of a double, escapes, surrogates alone and in pairs, marks too many and too few.
-const VALUES: &[(&str, Option<usize>)] = &[
+static VALUES: &[(&str, Option<usize>)] = &[
     ("", None),
     ("null", Some(4)),
     (" true ,", Some(5)),
@@ -56,7 +59,7 @@ fn values_nest_to_their_depth(rt: HostRuntime) -> Result<(), Fail> {
 }
 
 /// Whole numbers, and what is none of them.
-const INTEGERS: &[(&str, Option<i128>)] = &[
+static INTEGERS: &[(&str, Option<i128>)] = &[
     ("0", Some(0)),
     (" 12,", Some(12)),
     ("-7]", Some(-7)),
@@ -100,7 +103,7 @@ fn literals_are_read(rt: HostRuntime) -> Result<(), Fail> {
 }
 
 /// Strings, and what they stand for.
-const TEXTS: &[(&str, &str)] = &[
+static TEXTS: &[(&str, &str)] = &[
     (r#""plain""#, "plain"),
     (r#" "" "#, ""),
     (r#""\"\\\/\b\f\n\r\t""#, "\"\\/\u{8}\u{c}\n\r\t"),
@@ -111,43 +114,67 @@ const TEXTS: &[(&str, &str)] = &[
 fn texts_are_read(rt: HostRuntime) -> Result<(), Fail> {
     let mut buffer = Vec::new(rt.alloc());
     for (text, wanted) in TEXTS {
-        let read = read_text(*text, 0, &mut buffer).ok().ok_or("not read")?;
+        let read = read_text(*text, 0, &mut buffer)?;
         assert!(rt; read.value == *wanted, "{text}");
     }
-    assert!(rt; read_text(r#""\ud83dx""#, 0, &mut buffer).is_err());
-    assert!(rt; read_text("1", 0, &mut buffer).is_err());
+    Ok(())
+}
+
+#[test]
+fn no_text_is_read_of_what_is_none(rt: HostRuntime) -> Result<(), Fail> {
+    let mut buffer = Vec::new(rt.alloc());
+    for text in [r#""\ud83dx""#, "1"] {
+        assert!(rt; read_text(text, 0, &mut buffer).is_err(), "{text}");
+    }
     Ok(())
 }
 
 #[test]
 fn arrays_of_integers_are_read(rt: HostRuntime) -> Result<(), Fail> {
-    let read = read_integers(rt.alloc(), "x [1,-2 , 3] ", 1, 1)
-        .ok()
-        .ok_or("not read")?;
-    assert!(rt; read.value.as_slice() == [1, -2, 3].as_slice());
-    assert!(rt; read.end == 12);
-    let none = read_integers(rt.alloc(), "[]", 0, 1)
-        .ok()
-        .ok_or("not read")?;
-    assert!(rt; none.value.is_empty());
+    let read = read_integers(rt.alloc(), "x [1,-2 , 3] ", 1, 1)?;
+    assert!(rt; read.value.as_slice() == [1, -2, 3].as_slice() && read.end == 12);
+    Ok(())
+}
+
+#[test]
+fn an_empty_array_of_integers_is_read(rt: HostRuntime) -> Result<(), Fail> {
+    let read = read_integers(rt.alloc(), "[]", 0, 1)?;
+    assert!(rt; read.value.is_empty());
+    Ok(())
+}
+
+/// Whether something isn't read, and not for want of memory.
+pub(crate) fn is_unread<T: Drop>(read: Result<T, Miss>) -> bool {
+    matches!(read, Err(Miss::Unread))
+}
+
+#[test]
+fn no_integers_are_read_of_what_is_no_array(rt: HostRuntime) -> Result<(), Fail> {
     for text in ["[1,true]", "[1,]", "[1", "1", "[1.5]"] {
-        let read = read_integers(rt.alloc(), text, 0, 1);
-        assert!(rt; matches!(read, Err(Miss::Unread)), "{text}");
+        assert!(rt; is_unread(read_integers(rt.alloc(), text, 0, 1)), "{text}");
+    }
+    Ok(())
+}
+
+static MEMBERS: &str = r#"{"a":1, "\u0062":[2],"a":3,"\u0061":4}"#;
+
+#[test]
+fn the_last_member_of_a_name_is_found(rt: HostRuntime) -> Result<(), Fail> {
+    let cases = [("a", Some(36)), ("b", Some(17)), ("c", None)];
+    for (name, wanted) in &cases {
+        let read = find_member(rt.alloc(), MEMBERS, 0, 2, *name)?;
+        assert!(rt;
+            read.value == *wanted && read.end == MEMBERS.len(),
+            "{name}"
+        );
     }
     Ok(())
 }
 
 #[test]
-fn the_last_member_of_a_name_is_found(rt: HostRuntime) -> Result<(), Fail> {
-    let text = r#"{"a":1, "b":[2],"a":3}"#;
-    let cases = [("a", Some(20)), ("b", Some(12)), ("c", None)];
-    for (name, wanted) in &cases {
-        let read = find_member(text, 0, 2, *name).ok().ok_or("not read")?;
-        assert!(rt; read.value == *wanted, "{name}");
-        assert!(rt; read.end == 22);
-    }
-    assert!(rt; find_member("[]", 0, 2, "a").is_err());
-    assert!(rt; find_member(text, 0, 1, "a").is_err());
+fn no_member_is_found_in_an_array_or_too_deep(rt: HostRuntime) -> Result<(), Fail> {
+    assert!(rt; find_member(rt.alloc(), "[]", 0, 2, "a").is_err());
+    assert!(rt; find_member(rt.alloc(), MEMBERS, 0, 1, "a").is_err());
     Ok(())
 }
 
@@ -172,29 +199,45 @@ static TREES: &[&str] = &[
     "{ }",
     r#"{"b" : [{"c":"\t"}], "a":{"b":null}, "":-7}"#,
     r#"{"a":1,"b":2,"a":[3]}"#,
+    r#"{"a":1,"\u0061\n":2,"\u0061":[3]}"#,
 ];
+
+/// Where the tree at a place of a text ends, none where it isn't what `serde_json` makes of another text.
+fn end_of(
+    alloc: Global,
+    text: &str,
+    at: usize,
+    depth: usize,
+    other: &str,
+) -> Result<Option<usize>, Fail>
+    requires { at ≤ length text.now }
+{
+    let read = read_value(alloc, text, at, depth)?;
+    let wanted = Value::from_str(alloc, other)?;
+    Ok(if read.value == wanted {
+        Some(read.end)
+    } else {
+        None
+    })
+}
 
 #[test]
 fn trees_are_read_as_serde_json_reads_them(rt: HostRuntime) -> Result<(), Fail> {
     for text in TREES {
-        let read = read_value(rt.alloc(), *text, 0, 3).ok().ok_or("not read")?;
-        assert!(rt; read.value == Value::from_str(rt.alloc(), *text)?, "{text}");
-        assert!(rt; read.end == text.len(), "{text}");
+        let end = end_of(rt.alloc(), *text, 0, 3, *text)?;
+        assert!(rt; end == Some(text.len()), "{text}");
     }
     Ok(())
 }
 
 #[test]
 fn a_tree_is_read_at_its_place(rt: HostRuntime) -> Result<(), Fail> {
-    let read = read_value(rt.alloc(), r#"[1, {"a" : [2]} ]"#, 3, 2)
-        .ok()
-        .ok_or("not read")?;
-    assert!(rt; read.value == Value::from_str(rt.alloc(), r#"{"a":[2]}"#)?);
-    assert!(rt; read.end == 15);
+    let end = end_of(rt.alloc(), r#"[1, {"a" : [2]} ]"#, 3, 2, r#"{"a":[2]}"#)?;
+    assert!(rt; end == Some(15));
     Ok(())
 }
 
-/// What isn't read, at the depth of its row: too deep, at fault, or with an escape in a key.
+/// What isn't read, at the depth of its row: too deep, or at fault.
 static NO_TREES: &[(&str, usize)] = &[
     ("[]", 0),
     ("{}", 0),
@@ -213,14 +256,16 @@ static NO_TREES: &[(&str, usize)] = &[
     (r#"{"a" 1}"#, 9),
     (r#"{"a":1,}"#, 9),
     ("{a:1}", 9),
-    (r#"{"\u0061":1}"#, 9),
+    (r#"{"\u006":1}"#, 9),
 ];
 
 #[test]
 fn no_tree_is_read_of_what_is_none(rt: HostRuntime) -> Result<(), Fail> {
     for (text, depth) in NO_TREES {
-        let read = read_value(rt.alloc(), *text, 0, *depth);
-        assert!(rt; matches!(read, Err(Miss::Unread)), "{text}");
+        assert!(rt;
+            is_unread(read_value(rt.alloc(), *text, 0, *depth)),
+            "{text}"
+        );
     }
     Ok(())
 }

@@ -1,11 +1,12 @@
 //! Columns read from the bytes of a text, beside what the reader of whole files makes of the same.
 
 use crate::lawful::expect_read;
-use arrays::{Array, Field, File, Schema, View, ViewType};
+use crate::scanning::is_unread;
+use arrays::{Array, Field, File, RecordBatch, Schema, View, ViewType};
 use arrow_json::{read_field, read_file};
 use json_file::read_batches;
 use json_read::{Coding, FileHead, read_head};
-use json_scan::{Miss, find_member};
+use json_scan::{Miss, Placed, find_member};
 use json_stream::{read_batch, read_column, read_columns};
 use serde_json::Value;
 use std::alloc::Global;
@@ -17,11 +18,8 @@ use test_samples::{Shown, shows};
 /// How deep a column's values may be nested.
 const DEPTH: usize = 8;
 
-/// A file of one field of the type TYPE, and of one batch with this column.
-const FILE: &str =
-    r#"{"schema":{"fields":[FIELD]},"batches":[{"count":COUNT,"columns":[COLUMN]}]}"#;
-
-const FIELD: &str = r#"{"name":"n","nullable":true,"type":{TYPE},"children":[]}"#;
+/// A field of the type TYPE.
+static FIELD: &str = r#"{"name":"n","nullable":true,"type":{TYPE},"children":[]}"#;
 
 /// The column of a text, which ends where the text does.
 fn read(alloc: Global, field: &Field, coding: &Option<Coding>, text: &str) -> Result<Array, Miss> {
@@ -33,35 +31,132 @@ fn read(alloc: Global, field: &Field, coding: &Option<Coding>, text: &str) -> Re
     }
 }
 
-/// Asserts that both readers take a column, and that it holds this.
+/// What slots hold: values, or lists of such.
+#[derive(Clone, Copy)]
+enum Held {
+    Values(Shown),
+    Lists(&'static [Option<Shown>]),
+}
+
+/// Whether the slots of a view hold this.
+fn holds(view: &View<'_>, held: Held) -> bool {
+    match held {
+        Held::Values(shown) => shows(view, shown),
+        Held::Lists(lists) => shows_each(view, lists),
+    }
+}
+
+/// Whether the slots of a view hold these lists.
+fn shows_each(view: &View<'_>, lists: &[Option<Shown>]) -> bool {
+    let ViewType::List(_, _) = view.ty() else {
+        return false;
+    };
+    if view.len() != lists.len() {
+        return false;
+    }
+    for (i, list) in lists.iter().enumerate() {
+        let is_same = match (view.list_at(i), list) {
+            (Some(items), Some(shown)) => shows(&items, *shown),
+            (None, None) => true,
+            _ => false,
+        };
+        if !is_same || view.holds(i) != list.is_some() {
+            return false;
+        }
+    }
+    true
+}
+
+/// The column of a file that has one.
+fn only_column(file: &File) -> Result<&Array, Fail> {
+    let batch = file.batches().first().ok_or("no batch")?;
+    Ok(batch.columns().first().ok_or("no column")?)
+}
+
+/// Asserts that both readers take a column of a field, and that it holds this.
 fn expect(
     rt: &impl Abort,
     alloc: Global,
-    ty: &str,
+    field: &str,
     column: &str,
-    shown: Shown,
+    held: Held,
 ) -> Result<(), Fail> {
-    let field_text = FIELD.replace(alloc, "TYPE", ty)?;
-    let field = read_field(alloc, field_text.as_bytes())?;
-    let read = read(alloc, &field, &None, column).ok().ok_or("not read")?;
-    assert!(rt; shows(&read.view(), shown), "{column}");
-    let file = file_of(alloc, field_text.as_str(), read.len(), column)?;
-    let batch = file.batches().first().ok_or("no batch")?;
-    let whole = batch.columns().first().ok_or("no column")?;
-    assert!(rt; shows(&whole.view(), shown), "{column} of a file");
+    assert!(rt; is_read(alloc, field, column, held)?, "{column}");
     Ok(())
 }
 
-/// The file of one column of this field, as the reader of files takes it.
-fn file_of(alloc: Global, field: &str, count: usize, column: &str) -> Result<File, Fail> {
-    let count = format!(in alloc; "{count}")?;
-    let file = FILE
-        .replace(alloc, "FIELD", field)?
-        .as_str()
-        .replace(alloc, "COUNT", count.as_str())?
-        .as_str()
-        .replace(alloc, "COLUMN", column)?;
-    Ok(read_file(alloc, file.as_bytes())?)
+/// Whether both readers find that a column holds this.
+fn is_read(alloc: Global, field: &str, column: &str, held: Held) -> Result<bool, Fail> {
+    let ty = read_field(alloc, field.as_bytes())?;
+    let array = read(alloc, &ty, &None, column)?;
+    if !holds(&array.view(), held) {
+        return Ok(false);
+    }
+    is_read_of_file(alloc, field, array.len(), column, held)
+}
+
+/// Whether the reader of files finds that a column of so many slots holds this.
+fn is_read_of_file(
+    alloc: Global,
+    field: &str,
+    count: usize,
+    column: &str,
+    held: Held,
+) -> Result<bool, Fail> {
+    let text = format!(in alloc;
+        "{{\"schema\":{{\"fields\":[{field}]}},\"batches\":[{{\"count\":{count},\"columns\":[{column}]}}]}}"
+    )?;
+    let file = read_file(alloc, text.as_bytes())?;
+    Ok(holds(&only_column(&file)?.view(), held))
+}
+
+/// Asserts that columns of a field aren't read.
+fn expect_unread(
+    rt: &impl Abort,
+    alloc: Global,
+    field: &str,
+    columns: &[&str],
+) -> Result<(), Fail> {
+    let field = read_field(alloc, field.as_bytes())?;
+    for column in columns {
+        assert!(rt; is_unread(read(alloc, &field, &None, *column)), "{column}");
+    }
+    Ok(())
+}
+
+/// The orders of four members.
+#[rattlefmt::skip]
+static ORDERS: [[usize; 4]; 24] = [
+    [0, 1, 2, 3], [0, 1, 3, 2], [0, 2, 1, 3], [0, 2, 3, 1], [0, 3, 1, 2], [0, 3, 2, 1],
+    [1, 0, 2, 3], [1, 0, 3, 2], [1, 2, 0, 3], [1, 2, 3, 0], [1, 3, 0, 2], [1, 3, 2, 0],
+    [2, 0, 1, 3], [2, 0, 3, 1], [2, 1, 0, 3], [2, 1, 3, 0], [2, 3, 0, 1], [2, 3, 1, 0],
+    [3, 0, 1, 2], [3, 0, 2, 1], [3, 1, 0, 2], [3, 1, 2, 0], [3, 2, 0, 1], [3, 2, 1, 0],
+];
+
+/// The column of these members in an order.
+fn column_of(alloc: Global, members: &[&str], order: &[usize]) -> Result<String, Fail> {
+    let mut column = String::new(alloc);
+    for place in order {
+        column.push_str(if column.is_empty() { "{" } else { "," })?;
+        column.push_str(members.get(*place).ok_or("no member")?)?;
+    }
+    column.push_str("}")?;
+    Ok(column)
+}
+
+/// Asserts that both readers take the column of four members in each order, and that it holds this.
+fn expect_in_each_order(
+    rt: &impl Abort,
+    alloc: Global,
+    field: &str,
+    members: &[&str],
+    held: Held,
+) -> Result<(), Fail> {
+    for order in &ORDERS {
+        let column = column_of(alloc, members, order)?;
+        expect(rt, alloc, field, column.as_str(), held)?;
+    }
+    Ok(())
 }
 
 const INT8: &str = r#""name":"int","bitWidth":8,"isSigned":true"#;
@@ -99,26 +194,16 @@ static CASES: [Case; 8] = [
 #[test]
 fn members_come_in_any_order(rt: HostRuntime) -> Result<(), Fail> {
     for case in &CASES {
-        let count = r#" "count":3"#;
-        let (validity, values) = (case.validity, case.values);
-        let orders = [
-            [count, validity, values],
-            [count, values, validity],
-            [validity, count, values],
-            [validity, values, count],
-            [values, count, validity],
-            [values, validity, count],
-        ];
-        for [first, second, third] in &orders {
-            let column = format!(in rt.alloc(); "{{\"name\":\"n\",{first},{second},{third}}}")?;
-            expect(&rt, rt.alloc(), case.ty, column.as_str(), case.shown)?;
-        }
+        let field = FIELD.replace(rt.alloc(), "TYPE", case.ty)?;
+        let members = [r#""name":"n""#, r#" "count":3"#, case.validity, case.values];
+        let held = Held::Values(case.shown);
+        expect_in_each_order(&rt, rt.alloc(), field.as_str(), &members, held)?;
     }
     Ok(())
 }
 
 /// Columns of integers with members of one name, of which the last decides.
-const DOUBLES: [(&str, Shown); 4] = [
+static DOUBLES: [(&str, Shown); 4] = [
     (
         r#"{"count":9,"DATA":["x"],"VALIDITY":[0,0,0],"count":1,"VALIDITY":[1],"DATA":[7]}"#,
         Shown::Numbers(&[Some(7)]),
@@ -139,14 +224,16 @@ const DOUBLES: [(&str, Shown); 4] = [
 
 #[test]
 fn the_last_of_doubled_members_decides(rt: HostRuntime) -> Result<(), Fail> {
-    for (column, shown) in DOUBLES {
-        expect(&rt, rt.alloc(), INT64, column, shown)?;
+    let field = FIELD.replace(rt.alloc(), "TYPE", INT64)?;
+    for (column, shown) in &DOUBLES {
+        let held = Held::Values(*shown);
+        expect(&rt, rt.alloc(), field.as_str(), *column, held)?;
     }
     Ok(())
 }
 
 /// Columns of integers of 8 bits that are at fault.
-const UNREAD: &[&str] = &[
+static UNREAD: &[&str] = &[
     "",
     "[]",
     "{}",
@@ -172,20 +259,15 @@ const UNREAD: &[&str] = &[
 #[test]
 fn what_is_at_fault_is_unread(rt: HostRuntime) -> Result<(), Fail> {
     let field = FIELD.replace(rt.alloc(), "TYPE", INT8)?;
-    let field = read_field(rt.alloc(), field.as_bytes())?;
-    for text in UNREAD {
-        let read = read(rt.alloc(), &field, &None, *text);
-        assert!(&rt; matches!(read, Err(Miss::Unread)), "{text}");
-    }
-    Ok(())
+    expect_unread(&rt, rt.alloc(), field.as_str(), UNREAD)
 }
 
 /// A batch of a column of integers and one of texts, both of two slots, with its members as they come in the files that are printed.
-const BATCH: &str =
+static BATCH: &str =
     r#"{"columns":[{"count":2,"DATA":[1,2],"VALIDITY":[1,0]}, {"DATA":["a","b"],"count":2}],"count":2}"#;
 
 /// Batches of such columns that are at fault.
-const UNREAD_BATCHES: &[&str] = &[
+static UNREAD_BATCHES: &[&str] = &[
     "[]",
     r#"{"count":0}"#,
     r#"{"count":0,"columns":[]}"#,
@@ -196,81 +278,113 @@ const UNREAD_BATCHES: &[&str] = &[
     r#"{"columns":[{"count":1,"DATA":[1]},{"count":1,"DATA":["a"]}]}"#,
 ];
 
+/// A file of no such batch.
+static NO_BATCHES: &str =
+    r#"{"schema":{"fields":[{"name":"n","nullable":true,"type":{"name":"int","bitWidth":8,"isSigned":true},"children":[]},{"name":"n","nullable":true,"type":{"name":"utf8"},"children":[]}]},"batches":[]}"#;
+
 /// The fields of such a batch.
 fn schema(alloc: Global) -> Result<Arc<Schema>, Fail> {
-    let mut fields = Vec::new(alloc);
-    for ty in [INT8, UTF8] {
-        let field = FIELD.replace(alloc, "TYPE", ty)?;
-        fields.push(read_field(alloc, field.as_bytes())?)?;
+    let (schema, _batches) = read_file(alloc, NO_BATCHES.as_bytes())?.into_parts();
+    Ok(schema)
+}
+
+/// What is read of such a batch.
+fn read_one(alloc: Global, schema: &Arc<Schema>, text: &str) -> Result<Placed<RecordBatch>, Miss> {
+    read_batch(alloc, schema, &[None, None], text, 0, DEPTH)
+}
+
+/// Whether it is the batch of the text above.
+fn is_batch(batch: &RecordBatch) -> bool {
+    match batch.columns() {
+        [numbers, texts] => {
+            batch.rows() == 2
+                && shows(&numbers.view(), Shown::Numbers(&[Some(1), None]))
+                && shows(&texts.view(), Shown::Texts(&[Some("a"), Some("b")]))
+        }
+        _ => false,
     }
-    Ok(Arc::new(alloc, Schema::new(fields)?)?)
 }
 
 #[test]
 fn batches_are_read(rt: HostRuntime) -> Result<(), Fail> {
-    let alloc = rt.alloc();
-    let schema = schema(alloc)?;
-    let read = read_batch(alloc, &schema, &[None, None], BATCH, 0, DEPTH)
-        .ok()
-        .ok_or("not read")?;
-    assert!(&rt; read.end == BATCH.len() && read.value.rows() == 2);
-    let columns = read.value.columns();
-    let numbers = columns.first().ok_or("no numbers")?;
-    let texts = columns.get(1).ok_or("no texts")?;
-    assert!(&rt; shows(&numbers.view(), Shown::Numbers(&[Some(1), None])));
-    assert!(&rt; shows(&texts.view(), Shown::Texts(&[Some("a"), Some("b")])));
-    let none = read_columns(alloc, schema.fields(), &[None, None], " []", 0, DEPTH)
-        .ok()
-        .ok_or("not read")?;
-    assert!(&rt; none.value.is_empty() && none.end == 3);
-    for text in UNREAD_BATCHES {
-        let read = read_batch(alloc, &schema, &[None, None], *text, 0, DEPTH);
-        assert!(&rt; matches!(read, Err(Miss::Unread)), "{text}");
-    }
+    let schema = schema(rt.alloc())?;
+    let read = read_one(rt.alloc(), &schema, BATCH)?;
+    assert!(rt; read.end == BATCH.len() && is_batch(&read.value));
     Ok(())
 }
 
 #[test]
-fn batches_share_their_schema(rt: HostRuntime) -> Result<(), Fail> {
-    let alloc = rt.alloc();
-    let schema = schema(alloc)?;
-    let text = format!(in alloc; "[{BATCH} , {BATCH}]")?;
-    let read = read_batches(alloc, &schema, &[None, None], text.as_str(), 0, DEPTH)
-        .ok()
-        .ok_or("not read")?;
-    assert!(&rt; read.end == text.len() && read.value.len() == 2);
-    for batch in &read.value {
-        let numbers = batch.columns().first().ok_or("no numbers")?;
-        assert!(&rt; shows(&numbers.view(), Shown::Numbers(&[Some(1), None])));
+fn no_columns_are_read(rt: HostRuntime) -> Result<(), Fail> {
+    let schema = schema(rt.alloc())?;
+    let read = read_columns(rt.alloc(), schema.fields(), &[None, None], " []", 0, DEPTH)?;
+    assert!(rt; read.value.is_empty() && read.end == 3);
+    Ok(())
+}
+
+#[test]
+fn batches_at_fault_are_unread(rt: HostRuntime) -> Result<(), Fail> {
+    let schema = schema(rt.alloc())?;
+    for text in UNREAD_BATCHES {
+        assert!(&rt; is_unread(read_one(rt.alloc(), &schema, *text)), "{text}");
     }
-    let text = format!(in alloc; "[{BATCH},{{}}]")?;
-    let read = read_batches(alloc, &schema, &[None, None], text.as_str(), 0, DEPTH);
-    assert!(&rt; matches!(read, Err(Miss::Unread)));
+    Ok(())
+}
+
+/// Two such batches, and one before what is none.
+static TWO_BATCHES: &str =
+    r#"[{"columns":[{"count":2,"DATA":[1,2],"VALIDITY":[1,0]}, {"DATA":["a","b"],"count":2}],"count":2} , {"columns":[{"count":2,"DATA":[1,2],"VALIDITY":[1,0]}, {"DATA":["a","b"],"count":2}],"count":2}]"#;
+
+static ONE_OF_TWO: &str =
+    r#"[{"columns":[{"count":2,"DATA":[1,2],"VALIDITY":[1,0]}, {"DATA":["a","b"],"count":2}],"count":2},{}]"#;
+
+/// Batches, where they stand.
+type Batches = Placed<Vec<Arc<RecordBatch>>>;
+
+/// What is read of such batches.
+fn read_all(alloc: Global, schema: &Arc<Schema>, text: &str) -> Result<Batches, Miss> {
+    read_batches(alloc, schema, &[None, None], text, 0, DEPTH)
+}
+
+/// Whether they are two of the text above.
+fn are_two(batches: &[Arc<RecordBatch>]) -> bool {
+    match batches {
+        [first, second] => is_batch(first) && is_batch(second),
+        _ => false,
+    }
+}
+
+#[test]
+fn batches_share_their_schema(rt: HostRuntime) -> Result<(), Fail> {
+    let schema = schema(rt.alloc())?;
+    let read = read_all(rt.alloc(), &schema, TWO_BATCHES)?;
+    assert!(&rt; read.end == TWO_BATCHES.len() && are_two(&read.value));
+    assert!(&rt; is_unread(read_all(rt.alloc(), &schema, ONE_OF_TWO)));
     Ok(())
 }
 
 /// A file of a field with a dictionary of three entries, of indices of the type INDEX, and of one batch with this column.
-const CODED: &str =
+static CODED: &str =
     r#"{"schema":{"fields":[{"name":"s","nullable":true,"type":{"name":"utf8"},"children":[],"dictionary":{"id":7,"indexType":{INDEX}}}]},"dictionaries":[{"id":7,"data":{"count":3,"columns":[{"count":3,"VALIDITY":[1,0,1],"DATA":["a","","c"]}]}}],"batches":[{"count":COUNT,"columns":[COLUMN]}]}"#;
 
-/// The column of indices of this type by either reader: by that of columns, and as it stands in a file.
-fn read_both(
-    alloc: Global,
-    index: &str,
-    count: &str,
-    column: &str,
-) -> Result<(Result<Array, Miss>, Option<File>), Fail> {
-    let file = CODED
-        .replace(alloc, "INDEX", index)?
-        .as_str()
-        .replace(alloc, "COUNT", count)?
-        .as_str()
-        .replace(alloc, "COLUMN", column)?;
-    let head = read_head(alloc, &Value::from_str(alloc, file.as_str())?)?;
+/// A file of a column of indices of this type.
+fn coded_text(alloc: Global, index: &str, count: &str, column: &str) -> Result<String, Fail> {
+    let text = CODED.replace(alloc, "INDEX", index)?;
+    let text = text.as_str().replace(alloc, "COUNT", count)?;
+    Ok(text.as_str().replace(alloc, "COLUMN", column)?)
+}
+
+/// What a file says before its batches.
+fn head_of(alloc: Global, text: &str) -> Result<FileHead, Fail> {
+    let document = Value::from_str(alloc, text)?;
+    Ok(read_head(alloc, &document)?)
+}
+
+/// What is read of the column of the first field of a file.
+fn read_coded(alloc: Global, text: &str, column: &str) -> Result<Result<Array, Miss>, Fail> {
+    let head = head_of(alloc, text)?;
     let field = head.schema.fields().first().ok_or("no field")?;
     let coding = head.catalog.first().ok_or("no coding")?;
-    let read = read(alloc, field, coding, column);
-    Ok((read, read_file(alloc, file.as_bytes()).ok()))
+    Ok(read(alloc, field, coding, column))
 }
 
 const UINT8: &str = r#""name":"int","bitWidth":8,"isSigned":false"#;
@@ -298,17 +412,19 @@ static CODED_CASES: [CodedCase; 7] = [
     CodedCase { index: UINT64, column: r#"{"count":3,"VALIDITY":null,"DATA":[0,0,0]}"#, codes: &[Some(0), Some(0), Some(0)], texts: &[Some("a"), Some("a"), Some("a")] },
 ];
 
+/// Whether both readers find that a column of indices holds its texts.
+fn is_coded(alloc: Global, case: &CodedCase) -> Result<bool, Fail> {
+    let text = coded_text(alloc, case.index, "3", case.column)?;
+    let array = read_coded(alloc, text.as_str(), case.column)??;
+    let file = read_file(alloc, text.as_bytes())?;
+    let shown = Shown::Encoded(case.codes, &[Some("a"), None, Some("c")], case.texts);
+    Ok(shows(&array.view(), shown) && shows(&only_column(&file)?.view(), shown))
+}
+
 #[test]
 fn indices_lead_into_their_dictionary(rt: HostRuntime) -> Result<(), Fail> {
     for case in &CODED_CASES {
-        let shown = Shown::Encoded(case.codes, &[Some("a"), None, Some("c")], case.texts);
-        let (read, file) = read_both(rt.alloc(), case.index, "3", case.column)?;
-        let read = read.ok().ok_or("not read")?;
-        assert!(&rt; shows(&read.view(), shown), "{}", case.column);
-        let file = file.ok_or("no file")?;
-        let batch = file.batches().first().ok_or("no batch")?;
-        let whole = batch.columns().first().ok_or("no column")?;
-        assert!(&rt; shows(&whole.view(), shown), "{} of a file", case.column);
+        assert!(&rt; is_coded(rt.alloc(), case)?, "{}", case.column);
     }
     Ok(())
 }
@@ -326,50 +442,59 @@ static UNREAD_CODES: [(&str, &str); 9] = [
     (INT16, r#"{"count":1,"VALIDITY":[],"DATA":[1]}"#),
 ];
 
+/// Whether neither reader takes a column of indices.
+fn is_read_by_none(alloc: Global, index: &str, column: &str) -> Result<bool, Fail> {
+    let text = coded_text(alloc, index, "1", column)?;
+    let read = read_coded(alloc, text.as_str(), column)?;
+    Ok(is_unread(read) && read_file(alloc, text.as_bytes()).is_err())
+}
+
 #[test]
 fn an_index_past_its_dictionary_is_unread(rt: HostRuntime) -> Result<(), Fail> {
     for (index, column) in &UNREAD_CODES {
-        let (read, file) = read_both(rt.alloc(), *index, "1", *column)?;
-        assert!(&rt;
-            matches!(read, Err(Miss::Unread)) && file.is_none(),
-            "{column}"
-        );
+        assert!(&rt; is_read_by_none(rt.alloc(), *index, *column)?, "{column}");
     }
     Ok(())
 }
 
 /// A file of two fields that share a dictionary, and of two batches.
-const SHARED: &str =
+static SHARED: &str =
     r#"{"schema":{"fields":[{"name":"a","nullable":true,"type":{"name":"utf8"},"children":[],"dictionary":{"id":7,"indexType":{"name":"int","bitWidth":8,"isSigned":true}}},{"name":"n","nullable":true,"type":{"name":"bool"},"children":[]},{"name":"b","nullable":true,"type":{"name":"utf8"},"children":[],"dictionary":{"id":7,"indexType":{"name":"int","bitWidth":64,"isSigned":false}}}]},"dictionaries":[{"id":7,"data":{"count":2,"columns":[{"count":2,"DATA":["x","y"]}]}}],"batches":[{"count":2,"columns":[{"count":2,"DATA":[1,0]},{"count":2,"DATA":[1,0]},{"count":2,"VALIDITY":[0,1],"DATA":[9,"1"]}]},{"count":0,"columns":[{"count":0,"DATA":[]},{"count":0,"DATA":[]},{"count":0,"DATA":[]}]}]}"#;
+
+/// Whether no batch of that file is read under a catalog.
+fn is_unread_under(
+    alloc: Global,
+    schema: &Arc<Schema>,
+    catalog: &[Option<Coding>],
+) -> Result<bool, Fail> {
+    let found = find_member(alloc, SHARED, 0, DEPTH, "batches")?;
+    let at = found.value.ok_or("no batches")?.min(SHARED.len());
+    Ok(is_unread(read_batches(alloc, schema, catalog, SHARED, at, DEPTH)))
+}
 
 #[test]
 fn fields_share_a_dictionary(rt: HostRuntime) -> Result<(), Fail> {
-    let alloc = rt.alloc();
-    let head = read_head(alloc, &Value::from_str(alloc, SHARED)?)?;
-    let found = find_member(SHARED, 0, DEPTH, "batches")
-        .ok()
-        .ok_or("no object")?;
-    let at = found.value.ok_or("no batches")?.min(SHARED.len());
-    let schema = head.schema;
-    let none = read_batches(alloc, &schema, &[], SHARED, at, DEPTH);
-    assert!(&rt; matches!(none, Err(Miss::Unread)));
-    let other = read_batches(alloc, &schema, &[None, None, None], SHARED, at, DEPTH);
-    assert!(&rt; matches!(other, Err(Miss::Unread)));
-    expect_read(&rt, alloc, SHARED)
+    let head = head_of(rt.alloc(), SHARED)?;
+    assert!(&rt; is_unread_under(rt.alloc(), &head.schema, &[])?);
+    assert!(&rt; is_unread_under(rt.alloc(), &head.schema, &[None, None, None])?);
+    expect_read(&rt, rt.alloc(), SHARED)
+}
+
+/// What is read of one slot of a field.
+fn read_slot(alloc: Global, field: &Field, coding: &Option<Coding>) -> Result<Array, Miss> {
+    read(alloc, field, coding, r#"{"count":1,"DATA":[1]}"#)
 }
 
 #[test]
 fn only_a_dictionary_is_encoded(rt: HostRuntime) -> Result<(), Fail> {
-    let alloc = rt.alloc();
-    let FileHead { schema, catalog } = read_head(alloc, &Value::from_str(alloc, SHARED)?)?;
-    let column = r#"{"count":1,"DATA":[1]}"#;
-    let encoded = schema.fields().first().ok_or("no field")?;
-    let plain = schema.fields().get(1).ok_or("one field")?;
-    let coding = catalog.first().ok_or("no coding")?;
-    assert!(&rt; read(alloc, encoded, coding, column).is_ok());
-    assert!(&rt; matches!(read(alloc, encoded, &None, column), Err(Miss::Unread)));
-    assert!(&rt; matches!(read(alloc, plain, coding, column), Err(Miss::Unread)));
-    assert!(&rt; read(alloc, plain, &None, column).is_ok());
+    let head = head_of(rt.alloc(), SHARED)?;
+    let encoded = head.schema.fields().first().ok_or("no field")?;
+    let plain = head.schema.fields().get(1).ok_or("one field")?;
+    let coding = head.catalog.first().ok_or("no coding")?;
+    assert!(&rt; read_slot(rt.alloc(), encoded, coding).is_ok());
+    assert!(&rt; is_unread(read_slot(rt.alloc(), encoded, &None)));
+    assert!(&rt; is_unread(read_slot(rt.alloc(), plain, coding)));
+    assert!(&rt; read_slot(rt.alloc(), plain, &None).is_ok());
     Ok(())
 }
 
@@ -389,7 +514,7 @@ const LIST: &str = r#""name":"list""#;
 const LARGE_LIST: &str = r#""name":"largelist""#;
 
 /// A field of lists of ITEM.
-const LISTS: &str =
+static LISTS: &str =
     r#"{"name":"n","nullable":true,"type":{TYPE},"children":[{"name":"i","nullable":true,"type":{ITEM},"children":[BELOW]}]}"#;
 
 /// A field of integers of 8 bits, and one of lists of them.
@@ -450,98 +575,62 @@ static LIST_CASES: [ListCase; 9] = [
     },
 ];
 
-/// Whether the slots of a view hold these lists.
-fn shows_each(view: &View<'_>, lists: &[Option<Shown>]) -> bool {
-    let ViewType::List(_, _) = view.ty() else {
-        return false;
-    };
-    if view.len() != lists.len() {
-        return false;
-    }
-    for (i, list) in lists.iter().enumerate() {
-        let is_same = match (view.list_at(i), list) {
-            (Some(items), Some(shown)) => shows(&items, *shown),
-            (None, None) => true,
-            _ => false,
-        };
-        if !is_same || view.holds(i) != list.is_some() {
-            return false;
-        }
-    }
-    true
-}
-
-/// Asserts that both readers take a column of lists, and that it holds these.
-fn expect_lists(rt: &impl Abort, alloc: Global, case: &ListCase, column: &str) -> Result<(), Fail> {
-    let field_text = lists_field(alloc, case)?;
-    let field = read_field(alloc, field_text.as_bytes())?;
-    let read = read(alloc, &field, &None, column).ok().ok_or("not read")?;
-    assert!(rt; shows_each(&read.view(), case.lists), "{column}");
-    let file = file_of(alloc, field_text.as_str(), read.len(), column)?;
-    let batch = file.batches().first().ok_or("no batch")?;
-    let whole = batch.columns().first().ok_or("no column")?;
-    assert!(rt; shows_each(&whole.view(), case.lists), "{column} of a file");
-    Ok(())
-}
-
-/// The text of the field of a column of lists.
+/// The field of a column of lists.
 fn lists_field(alloc: Global, case: &ListCase) -> Result<String, Fail> {
     let text = LISTS.replace(alloc, "TYPE", case.ty)?;
     let text = text.as_str().replace(alloc, "ITEM", case.item)?;
     Ok(text.as_str().replace(alloc, "BELOW", case.below)?)
 }
 
+/// Asserts that both readers take the column of lists of these members in an order, and that it holds its lists.
+fn expect_lists(rt: &impl Abort, alloc: Global, case: &ListCase) -> Result<(), Fail> {
+    let field = lists_field(alloc, case)?;
+    let (validity, offsets, child) = (case.validity, case.offsets, case.child);
+    let count = case.lists.len();
+    let column = format!(in alloc;
+        "{{\"name\":\"n\",{validity},\"count\":{count},{offsets},\"children\":[{child}]}}"
+    )?;
+    expect(
+        rt,
+        alloc,
+        field.as_str(),
+        column.as_str(),
+        Held::Lists(case.lists),
+    )
+}
+
 #[test]
 fn lists_are_read(rt: HostRuntime) -> Result<(), Fail> {
-    let alloc = rt.alloc();
     for case in &LIST_CASES {
-        let (validity, offsets, child) = (case.validity, case.offsets, case.child);
-        let count = case.lists.len();
-        let column = format!(in alloc;
-            "{{\"name\":\"n\",{validity},\"count\":{count},{offsets},\"children\":[{child}]}}"
-        )?;
-        expect_lists(&rt, alloc, case, column.as_str())?;
+        expect_lists(&rt, rt.alloc(), case)?;
     }
     Ok(())
 }
 
-/// The orders of four members.
-#[rattlefmt::skip]
-static ORDERS: [[usize; 4]; 24] = [
-    [0, 1, 2, 3], [0, 1, 3, 2], [0, 2, 1, 3], [0, 2, 3, 1], [0, 3, 1, 2], [0, 3, 2, 1],
-    [1, 0, 2, 3], [1, 0, 3, 2], [1, 2, 0, 3], [1, 2, 3, 0], [1, 3, 0, 2], [1, 3, 2, 0],
-    [2, 0, 1, 3], [2, 0, 3, 1], [2, 1, 0, 3], [2, 1, 3, 0], [2, 3, 0, 1], [2, 3, 1, 0],
-    [3, 0, 1, 2], [3, 0, 2, 1], [3, 1, 0, 2], [3, 1, 2, 0], [3, 2, 0, 1], [3, 2, 1, 0],
-];
+/// Asserts the same of the members in each order.
+fn expect_lists_in_each_order(rt: &impl Abort, alloc: Global, case: &ListCase) -> Result<(), Fail> {
+    let field = lists_field(alloc, case)?;
+    let count = format!(in alloc; "\"count\":{}", case.lists.len())?;
+    let children = format!(in alloc; "\"children\":[{}]", case.child)?;
+    let members = [
+        count.as_str(),
+        case.validity,
+        case.offsets,
+        children.as_str(),
+    ];
+    expect_in_each_order(rt, alloc, field.as_str(), &members, Held::Lists(case.lists))
+}
 
 #[test]
 fn members_of_lists_come_in_any_order(rt: HostRuntime) -> Result<(), Fail> {
-    let alloc = rt.alloc();
     for case in LIST_CASES.iter().take(2) {
-        let count = format!(in alloc; "\"count\":{}", case.lists.len())?;
-        let children = format!(in alloc; "\"children\":[{}]", case.child)?;
-        let members = [
-            count.as_str(),
-            case.validity,
-            case.offsets,
-            children.as_str(),
-        ];
-        for order in &ORDERS {
-            let mut column = String::new(alloc);
-            for i in order {
-                let start = if column.is_empty() { "{" } else { "," };
-                column.push_str(start)?;
-                column.push_str(members.get(*i).ok_or("no member")?)?;
-            }
-            column.push_str("}")?;
-            expect_lists(&rt, alloc, case, column.as_str())?;
-        }
+        expect_lists_in_each_order(&rt, rt.alloc(), case)?;
     }
     Ok(())
 }
 
 /// Columns of lists of integers of 8 bits, with narrow offsets, that are at fault.
-const UNREAD_LISTS: &[&str] = &[
+static UNREAD_LISTS: &[&str] = &[
     "[]",
     "{}",
     r#"{"OFFSET":[0,1],"children":[{"count":1,"DATA":[1]}]}"#,
@@ -569,18 +658,12 @@ const UNREAD_LISTS: &[&str] = &[
 
 #[test]
 fn lists_at_fault_are_unread(rt: HostRuntime) -> Result<(), Fail> {
-    let alloc = rt.alloc();
-    let case = LIST_CASES.first().ok_or("no case")?;
-    let field = read_field(alloc, lists_field(alloc, case)?.as_bytes())?;
-    for text in UNREAD_LISTS {
-        let read = read(alloc, &field, &None, *text);
-        assert!(&rt; matches!(read, Err(Miss::Unread)), "{text}");
-    }
-    Ok(())
+    let field = lists_field(rt.alloc(), LIST_CASES.first().ok_or("no case")?)?;
+    expect_unread(&rt, rt.alloc(), field.as_str(), UNREAD_LISTS)
 }
 
 /// Columns of lists of such lists that are at fault below, where the lists would be found.
-const UNREAD_BELOW: &[&str] = &[
+static UNREAD_BELOW: &[&str] = &[
     r#"{"count":0,"OFFSET":[0],"children":[[]]}"#,
     r#"{"count":0,"OFFSET":[0],"children":[{"count":0,"OFFSET":[0]}]}"#,
     r#"{"count":0,"OFFSET":[0],"children":[{"count":1,"OFFSET":[0,4294967297],"children":[{"count":1,"DATA":[1]}]}]}"#,
@@ -591,21 +674,19 @@ const UNREAD_BELOW: &[&str] = &[
 
 #[test]
 fn lists_at_fault_below_are_unread(rt: HostRuntime) -> Result<(), Fail> {
-    let alloc = rt.alloc();
-    let case = LIST_CASES.get(1).ok_or("no case")?;
-    let field = read_field(alloc, lists_field(alloc, case)?.as_bytes())?;
-    for text in UNREAD_BELOW {
-        let read = read(alloc, &field, &None, *text);
-        assert!(&rt; matches!(read, Err(Miss::Unread)), "{text}");
-    }
-    let deep =
-        r#"{"count":0,"OFFSET":[],"children":[{"count":0,"OFFSET":[],"children":[{"count":0,"DATA":[]}]}]}"#;
-    assert!(&rt; read_column(alloc, &field, &None, deep, 0, 6).is_ok());
-    assert!(&rt;
-        matches!(
-            read_column(alloc, &field, &None, deep, 0, 5),
-            Err(Miss::Unread)
-        )
-    );
+    let field = lists_field(rt.alloc(), LIST_CASES.get(1).ok_or("no case")?)?;
+    expect_unread(&rt, rt.alloc(), field.as_str(), UNREAD_BELOW)
+}
+
+/// A column of no lists of lists, which takes a depth of 6.
+static DEEP: &str =
+    r#"{"count":0,"OFFSET":[],"children":[{"count":0,"OFFSET":[],"children":[{"count":0,"DATA":[]}]}]}"#;
+
+#[test]
+fn lists_are_read_to_their_depth(rt: HostRuntime) -> Result<(), Fail> {
+    let field = lists_field(rt.alloc(), LIST_CASES.get(1).ok_or("no case")?)?;
+    let field = read_field(rt.alloc(), field.as_bytes())?;
+    assert!(&rt; read_column(rt.alloc(), &field, &None, DEEP, 0, 6).is_ok());
+    assert!(&rt; is_unread(read_column(rt.alloc(), &field, &None, DEEP, 0, 5)));
     Ok(())
 }

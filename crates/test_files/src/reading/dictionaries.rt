@@ -4,11 +4,11 @@ use super::{Cases, expect_each, expect_each_type};
 use std::test::Fail;
 
 /// A file of one field with these members, and no batch.
-const FILE_OF_FIELD: &str =
+static FILE_OF_FIELD: &str =
     r#"{"schema":{"fields":[{"name":"s","nullable":true,MEMBERS}]},"dictionaries":[{"id":0,"data":{"count":0,"columns":[{"count":0,"DATA":[]}]}}],"batches":[]}"#;
 
 /// The members of a field.
-const FIELDS: Cases = &[
+static FIELDS: Cases = &[
     (
         r#""type":{"name":"utf8"},"dictionary":{"id":"0","indexType":{"name":"int","bitWidth":64,"isSigned":false},"isOrdered":7}"#,
         "read",
@@ -77,11 +77,11 @@ fn tells_the_faults_of_encoded_fields(rt: HostRuntime) -> Result<(), Fail> {
 }
 
 /// A file of a field that names the dictionary 7, and these members.
-const FILE_OF_ENTRIES: &str =
+static FILE_OF_ENTRIES: &str =
     r#"{"schema":{"fields":[{"name":"s","nullable":true,"type":{"name":"utf8"},"dictionary":{"id":7,"indexType":{"name":"int","bitWidth":8,"isSigned":true}}}]},"batches":[]MEMBERS}"#;
 
 /// The members of a file.
-const ENTRIES: Cases = &[
+static ENTRIES: Cases = &[
     ("", "J2 MissingMember at /dictionaries"),
     (r#","dictionaries":null"#, "J3 WrongMember at /dictionaries"),
     (
@@ -152,7 +152,7 @@ fn tells_the_faults_of_dictionaries(rt: HostRuntime) -> Result<(), Fail> {
 }
 
 /// A file of a column of indices of this type into two texts.
-const FILE_OF_INDICES: &str =
+static FILE_OF_INDICES: &str =
     r#"{"schema":{"fields":[{"name":"s","nullable":true,"type":{"name":"utf8"},"dictionary":{"id":0,"indexType":{"name":"int",TYPE}}}]},"dictionaries":[{"id":0,"data":{"count":2,"columns":[{"count":2,"DATA":["a","b"]}]}}],"batches":[{"count":3,"columns":[{"name":"s","count":3,MEMBERS}]}]}"#;
 
 const INT8: &str = r#""bitWidth":8,"isSigned":true"#;
@@ -217,7 +217,7 @@ const OF_UINT64: Cases = &[
 ];
 
 /// Types of indices, and the members of the column.
-const INDICES: [(&str, Cases); 9] = [
+static INDICES: [(&str, Cases); 9] = [
     (INT8, OF_INT8),
     (r#""bitWidth":8,"isSigned":false"#, READ),
     (r#""bitWidth":16,"isSigned":true"#, READ),

@@ -5,17 +5,17 @@ use std::alloc::Global;
 use std::test::Fail;
 
 /// A file of this field alone, and no batch.
-const FILE_OF_FIELD: &str = r#"{"schema":{"fields":[MEMBERS]},"batches":[]}"#;
+static FILE_OF_FIELD: &str = r#"{"schema":{"fields":[MEMBERS]},"batches":[]}"#;
 
 /// A field of numbers.
-const NUMBERS: &str =
+static NUMBERS: &str =
     r#"{"name":"n","nullable":true,"type":{"name":"int","bitWidth":8,"isSigned":true}}"#;
 
 /// A field of lists of this child's items.
-const LISTS_OF: &str = r#"{"name":"l","nullable":true,"type":{"name":"list"},"children":[CHILD]}"#;
+static LISTS_OF: &str = r#"{"name":"l","nullable":true,"type":{"name":"list"},"children":[CHILD]}"#;
 
 /// The same where the lists are large.
-const LARGE_LISTS_OF: &str =
+static LARGE_LISTS_OF: &str =
     r#"{"name":"l","nullable":true,"type":{"name":"largelist"},"children":[CHILD]}"#;
 
 /// The field of numbers within so many lists, every other one of them large.
@@ -36,17 +36,20 @@ fn nested(alloc: Global, lists: usize) -> Result<String, Fail> {
 const NINTH: &str =
     "J4 UnsupportedType at /schema/fields/0/children/0/children/0/children/0/children/0/children/0/children/0/children/0/children/0";
 
+/// How many lists a field has, and what is reported of it.
+static DEPTHS: [(usize, &str); 4] = [(1, "read"), (8, "read"), (9, NINTH), (30, NINTH)];
+
 #[test]
 fn tells_the_ninth_list(rt: HostRuntime) -> Result<(), Fail> {
-    for (lists, wanted) in [(1, "read"), (8, "read"), (9, NINTH), (30, NINTH)] {
-        let field = nested(rt.alloc(), lists)?;
-        expect_each(&rt, rt.alloc(), FILE_OF_FIELD, &[(field.as_str(), wanted)])?;
+    for (lists, wanted) in &DEPTHS {
+        let field = nested(rt.alloc(), *lists)?;
+        expect_each(&rt, rt.alloc(), FILE_OF_FIELD, &[(field.as_str(), *wanted)])?;
     }
     Ok(())
 }
 
 /// Fields of lists.
-const FIELDS: Cases = &[
+static FIELDS: Cases = &[
     (
         r#"{"name":"l","nullable":true,"type":{"name":"list"}}"#,
         "J2 MissingMember at /schema/fields/0/children",
@@ -99,11 +102,11 @@ fn tells_the_faults_of_a_list_field(rt: HostRuntime) -> Result<(), Fail> {
 }
 
 /// A file of a column of such lists of numbers, and of a batch of two slots with these members.
-const FILE_OF_LISTS: &str =
+static FILE_OF_LISTS: &str =
     r#"{"schema":{"fields":[{"name":"l","nullable":true,"type":{"name":"TYPE"},"children":[{"name":"n","nullable":true,"type":{"name":"int","bitWidth":8,"isSigned":true}}]}]},"batches":[{"count":2,"columns":[{"name":"l","count":2,MEMBERS}]}]}"#;
 
 /// The members of a column of lists.
-const LISTS: Cases = &[
+static LISTS: Cases = &[
     (
         r#""OFFSET":[0,1,3],"children":[{"count":3,"DATA":[1,2,3]}]"#,
         "read",
@@ -195,7 +198,7 @@ const LISTS: Cases = &[
 ];
 
 /// Offsets past 32 bits, of lists that aren't large.
-const PAST_32_BITS: Cases = &[
+static PAST_32_BITS: Cases = &[
     (
         r#""VALIDITY":[0,0],"OFFSET":[0,0,2147483648],"children":[{"count":3,"DATA":[1,2,3]}]"#,
         "J6 BadOffset at /batches/0/columns/0/OFFSET/2",
@@ -207,7 +210,7 @@ const PAST_32_BITS: Cases = &[
 ];
 
 /// Offsets past 32 bits and past 64, of large lists.
-const PAST_64_BITS: Cases = &[
+static PAST_64_BITS: Cases = &[
     (
         r#""OFFSET":[0,"9223372036854775808",3],"children":[{"count":3,"DATA":[1,2,3]}]"#,
         "J6 BadOffset at /batches/0/columns/0/OFFSET/1",
@@ -250,11 +253,11 @@ fn reads_offsets_and_children(rt: HostRuntime) -> Result<(), Fail> {
 }
 
 /// A file of a column of such lists, and of a batch without rows: its offsets are these.
-const FILE_OF_NO_LISTS: &str =
+static FILE_OF_NO_LISTS: &str =
     r#"{"schema":{"fields":[{"name":"l","nullable":true,"type":{"name":"TYPE"},"children":[{"name":"n","nullable":true,"type":{"name":"bool"}}]}]},"batches":[{"count":0,"columns":[{"name":"l","count":0,"VALIDITY":[],"OFFSET":MEMBERS,"children":[{"name":"n","count":1,"DATA":[true]}]}]}]}"#;
 
 /// The offsets of a column without rows.
-const NO_LISTS: Cases = &[
+static NO_LISTS: Cases = &[
     ("[]", "read"),
     ("[0]", "read"),
     ("[1]", "read"),

@@ -1,8 +1,5 @@
-use Rattle.std.proofs.Common.{map, option_map, ap, subst}
 use Rattle.serde_json.specs.Data.{array, no_items}
-use Rattle.json_read.specs.CatalogParts.{coding_of}
 use Rattle.json_scan.specs.Spelling.{before}
-use Rattle.json_read.specs.JsonCatalog.{HasCatalog}
 use Rattle.json_file.proofs.DocumentLemmas.{file_held}
 use Rattle.json_file.proofs.document.read_by.Goals as goal
 

@@ -1,15 +1,10 @@
-use Rattle.std.proofs.Common.{◌≡◌, ◌∙◌, ◌≤◌, [], length, drop, None, refl, sym, ap, arith}
+use Rattle.std.proofs.Common.{◌≡◌, ◌∙◌, ◌≤◌, [], length, drop, refl, sym, ap, arith}
 use Rattle.std.proofs.lemmas.List.{drop_all}
 use Rattle.json.specs.Lex.{lex, between}
-use Rattle.serde_json.specs.Data.{object, no_members}
+use Rattle.serde_json.specs.Data.{object}
+use Rattle.json_scan.proofs.Numbers.{no_lexemes}
 use Rattle.json_scan.proofs.Values.{whole_document}
-use Rattle.json_file.specs.Document.{HoldsDocument}
-use Rattle.json_file.specs.declared.document.DocumentParts.{DocumentParts}
 use Rattle.json_file.proofs.document.read_text.Goals as goal
-
-no_lexemes : lex between [] ≡ []
-unfolding lex
-no_lexemes = refl
 
 pub returns-in-Ok-clause-ok : goal.returns-in-Ok-clause-ok
 returns-in-Ok-clause-ok c =

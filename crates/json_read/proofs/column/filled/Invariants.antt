@@ -1,5 +1,5 @@
 use Rattle.std.proofs.Common.{◌≡◌, false}
-use Rattle.json_read.specs.JsonColumn.{spelling_of, is_full, ReadsSlots}
+use Rattle.json_read.specs.JsonColumn.{spelling_of, overflows, ReadsSlots}
 use Rattle.json_read.specs.SlotParts.{flags_in, values_in}
 use Rattle.json_read.proofs.column.filled.Given as goal
 
@@ -8,4 +8,4 @@ abbrev pub invariant-loop-index : goal.invariant-loop-index
 invariant-loop-index g l =
     (g.B.ColumnBuilder.kind l.column ≡ g.B.ColumnBuilder.kind l.fn.builder)
     × ReadsSlots (spelling_of (g.B.ColumnBuilder.kind l.fn.builder)) (flags_in l.slots) (values_in l.slots) l.index (g.B.ColumnBuilder.items l.column)
-    × (is_full (spelling_of (g.B.ColumnBuilder.kind l.fn.builder)) (g.B.ColumnBuilder.items l.column) ≡ false)
+    × (overflows (spelling_of (g.B.ColumnBuilder.kind l.fn.builder)) (g.B.ColumnBuilder.items l.column) ≡ false)

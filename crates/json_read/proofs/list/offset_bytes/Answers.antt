@@ -5,7 +5,7 @@ use Rattle.std.proofs.lemmas.Int.{to_z-of_z}
 use Rattle.types.specs.OffsetWidth.{offset_type}
 use Rattle.arrays.specs.Number.{bytes_of_number}
 use Rattle.serde_json.specs.View.{view}
-use Rattle.json_read.specs.JsonList.{Spells}
+use Rattle.json_read.specs.JsonList.{SpellsOffset}
 use Rattle.json_base.specs.JsonNumber.{integer_of}
 use Rattle.json_base.proofs.JsonItems.{each_pushed, each_done}
 use Rattle.json_read.proofs.JsonLists.{offset_bytes-push, tells_no_offset}
@@ -26,7 +26,7 @@ loop-index-preserved c =
     let fits : FitsSigned w128 number = search rules in
     let grown = rw to_z-of_z at c.in-Ok.ensures.ok in (
       so_far.0 ++ number ∷ [],
-      each_pushed (Spells c.args.width) _ _ _ _ _ so_far.1 (omega arith) c.index-offsets-index.is spelled,
+      each_pushed (SpellsOffset c.args.width) _ _ _ _ _ so_far.1 (omega arith) c.index-offsets-index.is spelled,
       grown ∙ (ap (λ bytes. bytes ++ bytes_of_number (offset_type c.args.width) number) so_far.2 ∙ sym (offset_bytes-push c.args.width so_far.0 number)),
     )
 

@@ -10,9 +10,9 @@ pub returns-in-End-clause-ok : goal.returns-in-End-clause-ok
 returns-in-End-clause-ok g c =
     let d = c.args.text.now in
     let s = c.members.invariant.so_far in
-    let k = c.in-Some in
+    let k = c.in_ok-key in
     let v = c.in_ok-end.ensures.ok in
-    let mark = c.in-Some-read_mark in (
+    let mark = c.in-Some in (
       _,
       all_members c.args.depth (drop c.args.start d) (drop c.members.at d) (drop k.key.end d) (drop c.in_ok-end.end d) (drop mark.mark.end d) k.key.value.now v.0 no_members s.0 s.1 k.ensures.reads v.1
           (rw c.in-End.is at (rw c.as_bytes.ensures.value at mark.ensures.reads)),
@@ -23,9 +23,9 @@ pub members-preserved : goal.members-preserved
 members-preserved g c =
     let d = c.args.text.now in
     let s = c.members.invariant.so_far in
-    let k = c.in-Some in
+    let k = c.in_ok-key in
     let v = c.in_ok-end.ensures.ok in
-    let mark = c.in-Some-read_mark in
+    let mark = c.in-Some in
     record {
       onward = omega (arith, c.members.invariant.onward, k.ensures.onward, c.in_ok-end.ensures.onward, mark.ensures.onward);
       within = rw c.as_bytes.ensures.value at mark.ensures.within;

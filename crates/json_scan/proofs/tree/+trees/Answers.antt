@@ -64,9 +64,9 @@ read_object_value-returns-clause-ok t c =
 pub read_member_values-returns-in-End-clause-ok : goal.read_member_values-returns-in-End-clause-ok
 read_member_values-returns-in-End-clause-ok t c =
     let d = c.args.text.now in
-    let key = c.in-Some in
+    let key = c.in_ok-key in
     let member = c.in_ok-member in
-    let mark = c.in-Some-read_mark in
+    let mark = c.in-Some in
     let found = members_view c.members.values.entries in
     let all =
     all_members c.args.depth (drop c.args.start d) (drop c.members.at d) (drop key.key.end d) (drop member.member.end d) (drop mark.mark.end d) key.key.value.now (view member.member.value) no_members found c.members.invariant.so_far
@@ -76,9 +76,9 @@ read_member_values-returns-in-End-clause-ok t c =
 pub read_member_values-members-preserved : goal.read_member_values-members-preserved
 read_member_values-members-preserved t c =
     let d = c.args.text.now in
-    let key = c.in-Some in
+    let key = c.in_ok-key in
     let member = c.in_ok-member in
-    let mark = c.in-Some-read_mark in
+    let mark = c.in-Some in
     let found = members_view c.members.values.entries in
     let more =
     another_member c.args.depth (drop c.args.start d) (drop c.members.at d) (drop key.key.end d) (drop member.member.end d) (drop mark.mark.end d) key.key.value.now (view member.member.value) no_members found c.members.invariant.so_far

@@ -4,7 +4,7 @@ use Rattle.arrays.specs.Kind.{kind_of}
 use Rattle.serde_json.specs.Data.{number, array}
 use Rattle.json_base.specs.JsonPath.{member_name}
 use Rattle.json_base.specs.declared.path.Member.TheVariants as member
-use Rattle.json_stream.specs.Lists.{IsChild, only}
+use Rattle.json_stream.specs.Lists.{HoldsChildMember, array_of_one}
 use Rattle.json_stream.specs.Offsets.{IsOffsets}
 use Rattle.json_stream.proofs.ColumnLemmas.{counted}
 use Rattle.json_stream.proofs.ListLemmas.{lists_count_taken, lists_validity_taken, offsets_taken, children_taken, lists_passed}
@@ -44,7 +44,7 @@ pub returns-then-eq-4-clause-ok : goal.returns-then-eq-4-clause-ok
 returns-then-eq-4-clause-ok c =
     let read = c.in_ok-child.ensures.ok in
     let child = c.in_ok-child.child.value in
-    let d = only read.0 in
+    let d = array_of_one read.0 in
     let same : c.args.name.now ≡ member_name member.Children = search rules in (
       d,
       read.1,
@@ -52,7 +52,7 @@ returns-then-eq-4-clause-ok c =
         h.0,
         h.1,
         children_taken _ _ c.args.depth c.args.text.now c.args.name.now d ms c.args.self.now.parts h.2 child same
-            (subst (λ k. IsChild k c.args.depth c.args.text.now (Some d) (Some child)) (ap (λ f. kind_of (out-Field f.now).ty) h.1) (read.0, refl, read.2)),
+            (subst (λ k. HoldsChildMember k c.args.depth c.args.text.now (Some d) (Some child)) (ap (λ f. kind_of (out-Field f.now).ty) h.1) (read.0, refl, read.2)),
       ),
     )
 

@@ -1,0 +1,210 @@
+//! The dictionaries of a file: the entries of its `dictionaries`.
+
+ghost use Rattle.std.specs.Prelude.{◌≡◌, ◌<◌, ◌≤◌, ◌∷◌, ◌++◌, List, [], Some, length, drop, IfOk, IfSome, OnOk};
+ghost use Rattle.std.specs.Arc.{arc_value};
+ghost use Rattle.serde_json.specs.Data.{Data, array, no_items};
+ghost use Rattle.json_read.specs.JsonDictionary.{WrapsTexts};
+ghost use Rattle.json_read.specs.JsonEncoding.{id_of};
+ghost use Rattle.json_scan.specs.Spelling.{Spells, SpellsAt, before};
+ghost use Rattle.json_file.specs.Dictionary.{AreEntries, AreWords, IsEntry};
+
+use crate::texts::read_texts;
+use arrays::Words;
+use colbits::NoMemory;
+use json_base::Member;
+use json_scan::{ItemVisitor, MemberVisitor, Miss, Placed, pass_value, read_array, read_object};
+use json_stream::read_whole;
+use std::alloc::Global;
+use std::sync::Arc;
+use types::INT64;
+
+/// An entry: the number of a dictionary, and its texts.
+#[derive(Drop)]
+pub(crate) struct DictionaryEntry {
+    pub id: i128,
+    /// None where they aren't read, which is missed only if a field names the dictionary.
+    pub words: Option<Arc<Words>>,
+}
+
+/// The number of a dictionary that stands here, or after spaces.
+fn read_id(text: &str, at: usize) -> Option<Placed<i128>>
+    requires { at ≤ length text.now }
+    ensures reads { IfSome result (λ r. (d : Data) × (id_of d ≡ Some r.value) × Spells (drop at text.now) d (drop r.end text.now)) }
+    ensures onward { IfSome result (λ r. at < r.end) }
+    ensures within { IfSome result (λ r. r.end ≤ length text.now) }
+{
+    let id = read_whole(text, at)?;
+    if INT64.holds(id.value) {
+        Some(id)
+    } else {
+        None
+    }
+}
+
+/// The texts of what an entry has as its `data`, which stands here, or after spaces, to be shared.
+fn read_words(
+    alloc: Global,
+    text: &str,
+    at: usize,
+    depth: usize,
+) -> Result<Placed<Arc<Words>>, Miss>
+    requires { at ≤ length text.now }
+    ensures ok { IfOk result (λ r. (d : Data) × SpellsAt depth (drop at text.now) d (drop r.end text.now) × WrapsTexts d (arc_value r.value).items) }
+    ensures onward { IfOk result (λ r. at < r.end) }
+    ensures within { IfOk result (λ r. r.end ≤ length text.now) }
+{
+    let texts = match read_texts(alloc, text, at, depth) {
+        Ok(texts) => texts,
+        Err(miss) => return Err(miss),
+    };
+    match Arc::new(alloc, Words::of(texts.value)) {
+        Ok(value) => Ok(Placed {
+            value,
+            end: texts.end,
+        }),
+        Err(_) => Err(Miss::NoMemory),
+    }
+}
+
+/// The same; what isn't read so is passed over.
+fn read_or_pass(
+    alloc: Global,
+    text: &str,
+    at: usize,
+    depth: usize,
+) -> Result<Placed<Option<Arc<Words>>>, Miss>
+    requires { at ≤ length text.now }
+    ensures ok { IfOk result (λ r. (d : Data) × SpellsAt depth (drop at text.now) d (drop r.end text.now) × AreWords (Some d) r.value) }
+    ensures onward { IfOk result (λ r. at < r.end) }
+    ensures within { IfOk result (λ r. r.end ≤ length text.now) }
+{
+    match read_words(alloc, text, at, depth) {
+        Ok(words) => return Ok(Placed {
+            value: Some(words.value),
+            end: words.end,
+        }),
+        Err(Miss::NoMemory) => return Err(Miss::NoMemory),
+        Err(Miss::Unread) => {}
+    }
+    match pass_value(text.as_bytes(), at, depth) {
+        Some(end) => Ok(Placed { value: None, end }),
+        None => Err(Miss::Unread),
+    }
+}
+
+/// What has been read of an entry.
+#[derive(Drop)]
+pub(crate) struct EntryParts {
+    alloc: Global,
+    pub id: Option<i128>,
+    pub words: Option<Arc<Words>>,
+}
+
+impl MemberVisitor for EntryParts {
+    ghost use Rattle.json_file.specs.Dictionary.{HoldsEntry};
+
+    ghost holds = { λ text depth first ms now. HoldsEntry ms now };
+
+    fn visit(&mut self, text: &str, name: &str, at: usize, depth: usize) -> Result<usize, Miss> {
+        if name == Member::Id.name() {
+            let Some(id) = read_id(text, at) else {
+                return Err(Miss::Unread);
+            };
+            self.id = Some(id.value);
+            return Ok(id.end);
+        }
+        if name == Member::Texts.name() {
+            let words = read_or_pass(self.alloc, text, at, depth)?;
+            self.words = words.value;
+            return Ok(words.end);
+        }
+        match pass_value(text.as_bytes(), at, depth) {
+            Some(end) => Ok(end),
+            None => Err(Miss::Unread),
+        }
+    }
+}
+
+/// The entry that stands here, or after spaces.
+fn read_entry(
+    alloc: Global,
+    text: &str,
+    at: usize,
+    depth: usize,
+) -> Result<Placed<DictionaryEntry>, Miss>
+    requires { at ≤ length text.now }
+    ensures ok { IfOk result (λ r. (d : Data) × SpellsAt depth (drop at text.now) d (drop r.end text.now) × IsEntry d r.value) }
+    ensures onward { IfOk result (λ r. at < r.end) }
+    ensures within { IfOk result (λ r. r.end ≤ length text.now) }
+{
+    let mut parts = EntryParts {
+        alloc,
+        id: None,
+        words: None,
+    };
+    let end = read_object(alloc, text, at, depth, &mut parts)?;
+    let EntryParts { id, words, .. } = parts;
+    let Some(id) = id else {
+        return Err(Miss::Unread);
+    };
+    Ok(Placed {
+        value: DictionaryEntry { id, words },
+        end,
+    })
+}
+
+/// Adds an entry at the end.
+fn push(entries: &mut Vec<DictionaryEntry>, entry: DictionaryEntry) -> Result<(), NoMemory>
+    ensures { OnOk result (entries.new.items ≡ entries.old.items ++ entry ∷ []) }
+{
+    entries.push(entry).map_err(|_| NoMemory)
+}
+
+/// The entries so far.
+#[derive(Drop)]
+struct Entries {
+    alloc: Global,
+    entries: Vec<DictionaryEntry>,
+}
+
+impl ItemVisitor for Entries {
+    ghost use Rattle.json_file.specs.Dictionary.{AreEntries};
+
+    ghost holds = { λ text depth first ds now. AreEntries ds now.entries.items };
+
+    fn visit(&mut self, text: &str, at: usize, depth: usize) -> Result<usize, Miss> {
+        let entry = match read_entry(self.alloc, text, at, depth) {
+            Ok(entry) => entry,
+            Err(miss) => return Err(miss),
+        };
+        match push(&mut self.entries, entry.value) {
+            Ok(()) => Ok(entry.end),
+            Err(NoMemory) => Err(Miss::NoMemory),
+        }
+    }
+}
+
+/// The entries that stand here, or after spaces.
+pub(crate) fn read_entries(
+    alloc: Global,
+    text: &str,
+    at: usize,
+    depth: usize,
+) -> Result<Placed<Vec<DictionaryEntry>>, Miss>
+    requires { at ≤ length text.now }
+    ensures ok { IfOk result (λ r. (ds : List Data) × SpellsAt depth (drop at text.now) (array (before ds no_items)) (drop r.end text.now)
+        × AreEntries ds r.value.items) }
+    ensures onward { IfOk result (λ r. at < r.end) }
+    ensures within { IfOk result (λ r. r.end ≤ length text.now) }
+{
+    let mut entries = Entries {
+        alloc,
+        entries: Vec::new(alloc),
+    };
+    let end = read_array(text, at, depth, &mut entries)?;
+    let Entries { entries, .. } = entries;
+    Ok(Placed {
+        value: entries,
+        end,
+    })
+}
