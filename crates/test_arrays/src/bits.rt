@@ -8,7 +8,7 @@ use colbits::{BitmapBuf, Buffer, NoMemory};
 use std::test::Fail;
 
 /// Bits, and the bytes that hold them.
-const PACKED: &[(&[bool], &[u8])] = &[
+static PACKED: &[(&[bool], &[u8])] = &[
     (&[true, true, false, true, false, true], &[0x2b]),
     (
         &[true, false, false, false, false, false, false, true, true],
@@ -24,6 +24,9 @@ fn packs_bits(rt: HostRuntime) -> Result<(), Fail> {
         let buffer = bitmap.into_buffer();
         assert!(rt; buffer.bytes() == *bytes && buffer.stored_len() == 64);
     }
+    let places = AllBut { place: 2, len: 9 };
+    let made = BitmapBuf::from_places(rt.alloc(), &places);
+    assert!(rt; is_packed(made, &[0xfb, 0x01]));
     Ok(())
 }
 
@@ -33,13 +36,6 @@ fn is_packed(made: Result<BitmapBuf, NoMemory>, bytes: &[u8]) -> bool {
         Ok(bitmap) => bitmap.into_buffer().bytes() == bytes,
         Err(_) => false,
     }
-}
-
-#[test]
-fn packs_places(rt: HostRuntime) {
-    let places = AllBut { place: 2, len: 9 };
-    let made = BitmapBuf::from_places(rt.alloc(), &places);
-    assert!(rt; is_packed(made, &[0xfb, 0x01]));
 }
 
 #[test]

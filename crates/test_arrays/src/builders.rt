@@ -21,7 +21,7 @@ use test_samples::{
 /// Pushes of so many slots that are valid or not, how many slots there are then, and the validity that is kept.
 type Pushes = (&'static [(bool, usize)], usize, Option<&'static [bool]>);
 
-const PUSHES: &[Pushes] = &[
+static PUSHES: &[Pushes] = &[
     (
         &[
             (true, 1),
@@ -129,16 +129,11 @@ fn numbers(alloc: Global, has_validity: bool) -> Result<Array, Fail>
     Ok(Array::from_numbers(alloc, INT16, 4, validity, values)?)
 }
 
-/// The pushed numbers and four more, of which one is null if there is a validity.
-fn extended(alloc: Global, has_validity: bool) -> Result<Array, Fail> {
-    let more = numbers(alloc, has_validity)?;
-    Ok(pushed(alloc)?.extended::<i16>(&more.view())?.finish()?)
-}
-
 #[test]
 fn extends_numbers_after_a_null(rt: HostRuntime) -> Result<(), Fail> {
     for (has_validity, second) in [(true, None), (false, Some(-2))] {
-        let array = extended(rt.alloc(), has_validity)?;
+        let more = numbers(rt.alloc(), has_validity)?;
+        let array = pushed(rt.alloc())?.extended::<i16>(&more.view())?.finish()?;
         let expected = [Some(5), None, Some(-6), Some(1), second, Some(3), Some(4)];
         assert!(rt; is_result_of_numbers(&array, &expected), "{second:?}");
     }

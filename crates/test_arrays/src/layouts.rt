@@ -4,7 +4,7 @@ mod deep;
 mod hostile;
 mod worked;
 
-use Content::{Bytes, Cut, Int32s, Nothing, Offsets};
+use Content::{Bitmap, Bytes, Cut, Int32s, Nothing, Offsets};
 use Inner::{Bits, Indices, Numbers, Texts};
 use arrays::{DataType, IntType, OffsetWidth, RawArray, Width};
 use colbits::Buffer;
@@ -25,9 +25,11 @@ enum Inner {
 #[derive(Clone, Copy)]
 enum Content {
     Nothing,
+    /// A bitmap, which may be absent.
+    Bitmap(Option<&'static [u8]>),
     Bytes(&'static [u8]),
-    /// Numbers or indices, little-endian.
-    Int32s(&'static [i32]),
+    /// Numbers or indices of 32 bits, little-endian.
+    Int32s(&'static [i64]),
     /// Offsets, as wide as the array has them.
     Offsets(&'static [i64]),
     /// The same without so many of their last bytes.
@@ -44,6 +46,20 @@ const UNSIGNED: Inner = Numbers(Width::W16, false);
 /// The parts, without children or a dictionary, whose offsets are of these widths.
 fn parts(alloc: Global, widths: Widths, part: Part) -> Result<RawArray, Fail> {
     let (lists, inner, length, null_count, positions) = part;
+    parts_over(alloc, widths, (lists, inner, length, null_count), positions)
+}
+
+/// What parts say of themselves: so many lists in one another and the type in them, the length, and the null count.
+type Head = (usize, Inner, u64, Option<u64>);
+
+/// The parts over what lies at their positions.
+fn parts_over(
+    alloc: Global,
+    widths: Widths,
+    head: Head,
+    positions: &[Content],
+) -> Result<RawArray, Fail> {
+    let (lists, inner, length, null_count) = head;
     let ty = match inner {
         Numbers(bits, signed) => DataType::Int(IntType { bits, signed }),
         Bits => DataType::Bool,
@@ -61,21 +77,17 @@ fn parts(alloc: Global, widths: Widths, part: Part) -> Result<RawArray, Fail> {
 
 /// The buffer at a position of an array whose offsets are of this width.
 fn buffer(alloc: Global, width: OffsetWidth, content: Content) -> Result<Option<Buffer>, Fail> {
-    let mut bytes = Vec::new(alloc);
-    match content {
-        Nothing => return Ok(None),
-        Bytes(content) => bytes.extend_from_slice(content)?,
-        Int32s(numbers) => {
-            for number in numbers {
-                bytes.extend_from_slice(&number.to_le_bytes())?;
-            }
-        }
-        Offsets(offsets) => bytes = offset_bytes(alloc, width, offsets)?,
+    let bytes = match content {
+        Nothing | Bitmap(None) => return Ok(None),
+        Bytes(bytes) | Bitmap(Some(bytes)) => Vec::from_slice(alloc, bytes)?,
+        Int32s(numbers) => offset_bytes(alloc, OffsetWidth::Narrow, numbers)?,
+        Offsets(offsets) => offset_bytes(alloc, width, offsets)?,
         Cut(offsets, missing) => {
-            bytes = offset_bytes(alloc, width, offsets)?;
+            let mut bytes = offset_bytes(alloc, width, offsets)?;
             bytes.truncate(bytes.len().saturating_sub(missing));
+            bytes
         }
-    }
+    };
     Ok(Some(Buffer::from_vec(bytes)?))
 }
 

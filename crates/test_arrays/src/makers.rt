@@ -60,7 +60,7 @@ const OFFSETS: &[i64] = &[0, 1, 3, 3];
 const SHORT: &[i64] = &[0, 1, 3];
 
 /// What is wrong at each width.
-const WRONG: [(Outside<'_>, LayoutFault); 9] = [
+static WRONG: [(Outside<'_>, LayoutFault); 9] = [
     ((INT16, 2147483648, &[0x05], OFFSETS), LayoutFault::TooLong),
     ((INT32, 3, &[0x05], OFFSETS), LayoutFault::ChildDiffers),
     ((INT16, 3, &[], OFFSETS), LayoutFault::BufferTooShort),
@@ -85,7 +85,7 @@ const WRONG: [(Outside<'_>, LayoutFault); 9] = [
 ];
 
 /// What is wrong with offsets that 32 bits don't hold. The lower halves of the last are lawful.
-const WRONG_OF_64_BITS: [(Outside<'_>, LayoutFault); 4] = [
+static WRONG_OF_64_BITS: [(Outside<'_>, LayoutFault); 4] = [
     ((INT16, 0, &[], &[i64::MIN]), LayoutFault::OffsetNegative),
     (
         (INT16, 3, &[0x05], &[0, 1, 3, 1 << 31]),
@@ -137,7 +137,7 @@ const NUMBERS: Parts = (
 );
 
 /// Arrays, and what they and their copies hold.
-const COPIED: [(Sample, Shown); 5] = [
+static COPIED: [(Sample, Shown); 5] = [
     (
         Of(NUMBERS),
         Shown::Numbers(&[Some(1), None, Some(2), Some(4), Some(8)]),
@@ -194,21 +194,7 @@ fn copies_arrays(rt: HostRuntime) -> Result<(), Fail> {
 /// The texts `a`, `b` and `a`, and a null.
 const TEXTS: test_samples::Words = (Some(&[0x07]), &[0, 1, 2, 3, 3], b"aba");
 
-/// The codes 2, 0, 3, null and 1.
-fn codes(alloc: Global) -> Result<Array, Fail>
-    ensures kind { IfOk result (λ a. a.kind ≡ kind.int int32) }
-    ensures items { IfOk result (λ a. a.items ≡ int (pos 2) ∷ int (pos 0) ∷ int (pos 3) ∷ null ∷ int (pos 1) ∷ []) }
-{
-    let mut builder = IntBuilder::with_capacity(alloc, INT32, 5)?;
-    builder.push(Some(2))?;
-    builder.push(Some(0))?;
-    builder.push(Some(3))?;
-    builder.push(None)?;
-    builder.push(Some(1))?;
-    Ok(builder.finish()?)
-}
-
-/// The codes with the texts as their dictionary.
+/// The codes 2, 0, 3, null and 1, with the texts as their dictionary.
 fn encoded(rt: &impl Abort, alloc: Global) -> Result<Array, Fail> {
     let texts = sampled(alloc, Texts(TEXTS))?;
     let ViewType::Text(OffsetWidth::Narrow) = texts.view().ty() else {
@@ -216,7 +202,8 @@ fn encoded(rt: &impl Abort, alloc: Global) -> Result<Array, Fail> {
     };
     assert!(rt; texts.len() == 4);
     let words = Arc::new(alloc, Words::of(texts))?;
-    Ok(Array::dict(codes(alloc)?, words))
+    let codes = Array::of_ints(alloc, &[Some(2_i32), Some(0), Some(3), None, Some(1)])?;
+    Ok(Array::dict(codes, words))
 }
 
 const ENCODED: Shown = Shown::Encoded(

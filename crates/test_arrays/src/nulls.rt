@@ -10,7 +10,7 @@ use test_samples::{
 };
 
 /// Three nulls of the type of a sample, and what no slots of it are.
-const NULLS: &[(Sample, Shown, Shown)] = &[
+static NULLS: &[(Sample, Shown, Shown)] = &[
     (
         Sample::Of((Flat::Bool, 0, &[None, Some(&[])])),
         Shown::Bools(&[None, None, None]),

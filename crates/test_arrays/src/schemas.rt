@@ -36,7 +36,7 @@ fn tells_faults_of_schemas(rt: HostRuntime) -> Result<(), Fail> {
 /// The types of the fields, the rows, and the type and length of each column.
 type Columns = (&'static [IntType], u32, &'static [(IntType, u64)]);
 
-const BATCHES: &[(Columns, Option<BatchFault>)] = &[
+static BATCHES: &[(Columns, Option<BatchFault>)] = &[
     ((&[INT32, INT16], 2, &[(INT16, 1)]), Some(ColumnCount)),
     (
         (&[INT32, INT16], 2, &[(INT32, 1), (INT32, 1)]),

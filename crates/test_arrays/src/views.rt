@@ -1,8 +1,7 @@
 //! Tests of views and of their types.
 
 use crate::testing::has_bits;
-use arrays::{Array, DataType, OffsetWidth, ViewType, validate};
-use std::alloc::Global;
+use arrays::{DataType, OffsetWidth, ViewType, validate};
 use std::test::Fail;
 use test_samples::Sample::{self, Coded, Lists, ListsOfLists, Of, Texts};
 use test_samples::{
@@ -30,7 +29,7 @@ const LATE: Words = (None, &[2, 5], b"xxjoe");
 const ENTRIES: &[Option<&str>] = &[Some("a"), Some("b"), Some("a"), None];
 
 /// Arrays, of their slots the first and how many, and what these hold.
-const SLICES: [(Sample, usize, usize, Shown); 9] = [
+static SLICES: [(Sample, usize, usize, Shown); 9] = [
     (Of(NUMBERS), 3, 3, Shown::Numbers(&[Some(2), None, Some(3)])),
     (
         Of(TRUTHS),
@@ -93,10 +92,10 @@ const SLICES: [(Sample, usize, usize, Shown); 9] = [
 #[test]
 fn slices_hold_their_slots(rt: HostRuntime) -> Result<(), Fail> {
     for widths in WIDTHS {
-        for (sample, start, len, shown) in SLICES {
-            let array = sampled_at(rt.alloc(), widths, sample)?;
+        for (sample, start, len, shown) in &SLICES {
+            let array = sampled_at(rt.alloc(), widths, *sample)?;
             assert!(rt;
-                shows(&slots_of(&array, start, len), shown),
+                shows(&slots_of(&array, *start, *len), *shown),
                 "slots from {start} on, {widths:?}"
             );
         }
@@ -122,17 +121,12 @@ const LETTERS: Words = (None, &[0, 1, 2], b"xy");
 /// The code 0, and a null over one that names no entry.
 const PAST: Positions = &[Some(&[0x01]), Some(&[0, 0, 0, 0, 5, 0, 0, 0])];
 
-/// The text `x`, and a null over a code that names no entry.
-fn past(alloc: Global) -> Result<Array, Fail> {
-    let mut codes = raw(alloc, DataType::Dict, 2, PAST)?;
-    let entries = raw_words(alloc, OffsetWidth::Narrow, LETTERS)?;
-    codes.dictionary = Some(Box::new(alloc, entries)?);
-    Ok(validate(alloc, codes)?)
-}
-
 #[test]
 fn shows_no_text_where_a_null_names_no_entry(rt: HostRuntime) -> Result<(), Fail> {
-    let past = past(rt.alloc())?;
+    let mut codes = raw(rt.alloc(), DataType::Dict, 2, PAST)?;
+    let entries = raw_words(rt.alloc(), OffsetWidth::Narrow, LETTERS)?;
+    codes.dictionary = Some(Box::new(rt.alloc(), entries)?);
+    let past = validate(rt.alloc(), codes)?;
     assert!(rt; shows_texts(&past.view(), &[Some("x"), None]));
     Ok(())
 }

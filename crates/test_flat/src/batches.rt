@@ -1,14 +1,15 @@
 //! Tests of what batches of nodes show.
 
-use crate::testing::{ALONE, CODES, LIST, Part, UNKNOWN, nodes};
+use crate::testing::{ALONE, CODES, LIST, UNKNOWN, assert_case};
+use crate::{empty, node};
+use arrays::RecordBatch;
 use flat::{Node, batch_of, nodes_of};
 use std::alloc::Global;
-use std::process::Abort;
 use std::test::Fail;
 use test_samples::{Shown, shows};
 
-/// The parts of one column, and what it shows.
-type Column = (u32, &'static [Part], Shown);
+/// The rows, the nodes of one column, and what it shows.
+type Column = (u32, &'static [Node<'static>], Shown);
 
 const NARROW: &[u8] = b"\0\0\0\0\x01\0\0\0\x01\0\0\0\x03\0\0\0";
 
@@ -16,101 +17,11 @@ const WIDE: &[u8] = b"\0\0\0\0\0\0\0\0\x01\0\0\0\0\0\0\0\x01\0\0\0\0\0\0\0\x03\0
 
 const TEXTS: Shown = Shown::Texts(&[Some("a"), Some(""), Some("bc")]);
 
-static VALUES: &[Column] = &[
-    (
-        2,
-        &[(b"c", ALONE, 2, 0, [b"", b"\x01\xfe", b""])],
-        Shown::Numbers(&[Some(1), Some(-2)]),
-    ),
-    (
-        2,
-        &[(b"C", ALONE, 2, UNKNOWN, [b"", b"\x01\xfe", b""])],
-        Shown::Numbers(&[Some(1), Some(254)]),
-    ),
-    (
-        2,
-        &[(b"s", ALONE, 2, 1, [b"\x02", b"\x01\0\xfe\xff", b""])],
-        Shown::Numbers(&[None, Some(-2)]),
-    ),
-    (
-        1,
-        &[(b"S", ALONE, 1, 0, [b"", b"\xfe\xff", b""])],
-        Shown::Numbers(&[Some(65534)]),
-    ),
-    (
-        1,
-        &[(b"i", ALONE, 1, 0, [b"", b"\xfe\xff\xff\xff", b""])],
-        Shown::Numbers(&[Some(-2)]),
-    ),
-    (
-        1,
-        &[(b"I", ALONE, 1, 0, [b"", b"\xfe\xff\xff\xff", b""])],
-        Shown::Numbers(&[Some(4294967294)]),
-    ),
-    (
-        1,
-        &[(
-            b"l",
-            ALONE,
-            1,
-            0,
-            [b"", b"\xfe\xff\xff\xff\xff\xff\xff\xff", b""],
-        )],
-        Shown::Numbers(&[Some(-2)]),
-    ),
-    (
-        1,
-        &[(
-            b"L",
-            ALONE,
-            1,
-            0,
-            [b"", b"\xfe\xff\xff\xff\xff\xff\xff\xff", b""],
-        )],
-        Shown::Numbers(&[Some(18446744073709551614)]),
-    ),
-    (
-        3,
-        &[(b"b", ALONE, 3, UNKNOWN, [b"\x05", b"\x04", b""])],
-        Shown::Bools(&[Some(false), None, Some(true)]),
-    ),
-    (3, &[(b"u", ALONE, 3, 0, [b"", NARROW, b"abc"])], TEXTS),
-    (3, &[(b"U", ALONE, 3, 0, [b"", WIDE, b"abc"])], TEXTS),
-    // No offsets stand for the one of no slots.
-    (
-        0,
-        &[(b"u", ALONE, 0, 0, [b"", b"", b""])],
-        Shown::Texts(&[]),
-    ),
-];
-
-const ITEMS: Part = (b"c", ALONE, 3, 0, [b"", b"\x01\x02\x03", b""]);
+const ITEMS: Node<'static> = node!(b"c", ALONE, 3, 0, [b"", b"\x01\x02\x03", b""]);
 
 const LISTS: Shown = Shown::Lists(&[Some(&[Some(1)]), None, Some(&[Some(2), Some(3)])]);
 
-static OVER_OTHERS: &[Column] = &[
-    (
-        3,
-        &[(b"+l", LIST, 3, 1, [b"\x05", NARROW, b""]), ITEMS],
-        LISTS,
-    ),
-    (
-        3,
-        &[(b"+L", LIST, 3, 1, [b"\x05", WIDE, b""]), ITEMS],
-        LISTS,
-    ),
-    (
-        1,
-        &[
-            (b"+l", LIST, 1, 0, [b"", b"\0\0\0\0\x03\0\0\0", b""]),
-            (b"+L", LIST, 3, UNKNOWN, [b"\x05", WIDE, b""]),
-            ITEMS,
-        ],
-        Shown::ListsOfLists(&[Some(&[Some(&[Some(1)]), None, Some(&[Some(2), Some(3)])])]),
-    ),
-];
-
-const WORDS: Part = (b"u", ALONE, 3, 0, [b"", NARROW, b"abc"]);
+const WORDS: Node<'static> = node!(b"u", ALONE, 3, 0, [b"", NARROW, b"abc"]);
 
 const NAMED: Shown = Shown::Encoded(
     &[Some(2), None, Some(0)],
@@ -118,22 +29,98 @@ const NAMED: Shown = Shown::Encoded(
     &[Some("bc"), None, Some("a")],
 );
 
-/// What lies under a null names no entry.
-static INDICES: &[Column] = &[
+static COLUMNS: [Column; 28] = [
+    // Values.
     (
-        3,
-        &[(b"c", CODES, 3, 1, [b"\x05", b"\x02\xff\0", b""]), WORDS],
-        NAMED,
+        2,
+        &[node!(b"c", ALONE, 2, 0, [b"", b"\x01\xfe", b""])],
+        Shown::Numbers(&[Some(1), Some(-2)]),
+    ),
+    (
+        2,
+        &[node!(b"C", ALONE, 2, UNKNOWN, [b"", b"\x01\xfe", b""])],
+        Shown::Numbers(&[Some(1), Some(254)]),
+    ),
+    (
+        2,
+        &[node!(b"s", ALONE, 2, 1, [b"\x02", b"\x01\0\xfe\xff", b""])],
+        Shown::Numbers(&[None, Some(-2)]),
+    ),
+    (
+        1,
+        &[node!(b"S", ALONE, 1, 0, [b"", b"\xfe\xff", b""])],
+        Shown::Numbers(&[Some(65534)]),
+    ),
+    (
+        1,
+        &[node!(b"i", ALONE, 1, 0, [b"", b"\xfe\xff\xff\xff", b""])],
+        Shown::Numbers(&[Some(-2)]),
+    ),
+    (
+        1,
+        &[node!(b"I", ALONE, 1, 0, [b"", b"\xfe\xff\xff\xff", b""])],
+        Shown::Numbers(&[Some(4294967294)]),
+    ),
+    (
+        1,
+        &[node!(
+            b"l",
+            ALONE,
+            1,
+            0,
+            [b"", b"\xfe\xff\xff\xff\xff\xff\xff\xff", b""]
+        )],
+        Shown::Numbers(&[Some(-2)]),
+    ),
+    (
+        1,
+        &[node!(
+            b"L",
+            ALONE,
+            1,
+            0,
+            [b"", b"\xfe\xff\xff\xff\xff\xff\xff\xff", b""]
+        )],
+        Shown::Numbers(&[Some(18446744073709551614)]),
     ),
     (
         3,
-        &[(b"C", CODES, 3, 1, [b"\x05", b"\x02\xff\0", b""]), WORDS],
-        NAMED,
+        &[node!(b"b", ALONE, 3, UNKNOWN, [b"\x05", b"\x04", b""])],
+        Shown::Bools(&[Some(false), None, Some(true)]),
     ),
+    (3, &[node!(b"u", ALONE, 3, 0, [b"", NARROW, b"abc"])], TEXTS),
+    (3, &[node!(b"U", ALONE, 3, 0, [b"", WIDE, b"abc"])], TEXTS),
+    // No offsets stand for the one of no slots.
+    (
+        0,
+        &[node!(b"u", ALONE, 0, 0, [b"", b"", b""])],
+        Shown::Texts(&[]),
+    ),
+    // Lists.
+    (
+        3,
+        &[node!(b"+l", LIST, 3, 1, [b"\x05", NARROW, b""]), ITEMS],
+        LISTS,
+    ),
+    (
+        3,
+        &[node!(b"+L", LIST, 3, 1, [b"\x05", WIDE, b""]), ITEMS],
+        LISTS,
+    ),
+    (
+        1,
+        &[
+            node!(b"+l", LIST, 1, 0, [b"", b"\0\0\0\0\x03\0\0\0", b""]),
+            node!(b"+L", LIST, 3, UNKNOWN, [b"\x05", WIDE, b""]),
+            ITEMS,
+        ],
+        Shown::ListsOfLists(&[Some(&[Some(&[Some(1)]), None, Some(&[Some(2), Some(3)])])]),
+    ),
+    // Indices: what lies under a null names no entry.
     (
         3,
         &[
-            (b"s", CODES, 3, 1, [b"\x05", b"\x02\0\xff\xff\0\0", b""]),
+            node!(b"c", CODES, 3, 1, [b"\x05", b"\x02\xff\0", b""]),
             WORDS,
         ],
         NAMED,
@@ -141,7 +128,7 @@ static INDICES: &[Column] = &[
     (
         3,
         &[
-            (b"S", CODES, 3, 1, [b"\x05", b"\x02\0\xff\xff\0\0", b""]),
+            node!(b"C", CODES, 3, 1, [b"\x05", b"\x02\xff\0", b""]),
             WORDS,
         ],
         NAMED,
@@ -149,12 +136,28 @@ static INDICES: &[Column] = &[
     (
         3,
         &[
-            (
+            node!(b"s", CODES, 3, 1, [b"\x05", b"\x02\0\xff\xff\0\0", b""]),
+            WORDS,
+        ],
+        NAMED,
+    ),
+    (
+        3,
+        &[
+            node!(b"S", CODES, 3, 1, [b"\x05", b"\x02\0\xff\xff\0\0", b""]),
+            WORDS,
+        ],
+        NAMED,
+    ),
+    (
+        3,
+        &[
+            node!(
                 b"i",
                 CODES,
                 3,
                 1,
-                [b"\x05", b"\x02\0\0\0\xff\xff\xff\xff\0\0\0\0", b""],
+                [b"\x05", b"\x02\0\0\0\xff\xff\xff\xff\0\0\0\0", b""]
             ),
             WORDS,
         ],
@@ -163,12 +166,12 @@ static INDICES: &[Column] = &[
     (
         3,
         &[
-            (
+            node!(
                 b"I",
                 CODES,
                 3,
                 1,
-                [b"\x05", b"\x02\0\0\0\xff\xff\xff\xff\0\0\0\0", b""],
+                [b"\x05", b"\x02\0\0\0\xff\xff\xff\xff\0\0\0\0", b""]
             ),
             WORDS,
         ],
@@ -177,7 +180,7 @@ static INDICES: &[Column] = &[
     (
         3,
         &[
-            (
+            node!(
                 b"l",
                 CODES,
                 3,
@@ -185,8 +188,8 @@ static INDICES: &[Column] = &[
                 [
                     b"\x05",
                     b"\x02\0\0\0\0\0\0\0\0\0\0\0\x01\0\0\0\0\0\0\0\0\0\0\0",
-                    b"",
-                ],
+                    b""
+                ]
             ),
             WORDS,
         ],
@@ -195,7 +198,7 @@ static INDICES: &[Column] = &[
     (
         3,
         &[
-            (
+            node!(
                 b"L",
                 CODES,
                 3,
@@ -203,143 +206,165 @@ static INDICES: &[Column] = &[
                 [
                     b"\x05",
                     b"\x02\0\0\0\0\0\0\0\xff\xff\xff\xff\xff\xff\xff\xff\0\0\0\0\0\0\0\0",
-                    b"",
-                ],
+                    b""
+                ]
             ),
             WORDS,
         ],
         NAMED,
     ),
-];
-
-/// No slots, with no bytes at all.
-static WITHOUT_ROWS: &[Column] = &[
+    // No slots, with no bytes at all.
     (
         0,
-        &[(b"l", ALONE, 0, 0, [b"", b"", b""])],
+        &[node!(b"l", ALONE, 0, 0, [b"", b"", b""])],
         Shown::Numbers(&[]),
     ),
+    (0, &[empty!(b"b", ALONE)], Shown::Bools(&[])),
     (
         0,
-        &[(b"b", ALONE, 0, UNKNOWN, [b"", b"", b""])],
-        Shown::Bools(&[]),
-    ),
-    (
-        0,
-        &[(b"U", ALONE, 0, 0, [b"", b"", b""])],
+        &[node!(b"U", ALONE, 0, 0, [b"", b"", b""])],
         Shown::Texts(&[]),
     ),
     (
         0,
-        &[(b"+l", LIST, 0, 0, [b"", b"", b""]), NO_ITEMS],
+        &[
+            node!(b"+l", LIST, 0, 0, [b"", b"", b""]),
+            node!(b"c", ALONE, 0, 0, [b"", b"", b""]),
+        ],
         Shown::Lists(&[]),
     ),
     (
         0,
-        &[(b"i", CODES, 0, 0, [b"", b"", b""]), NO_WORDS],
+        &[
+            node!(b"i", CODES, 0, 0, [b"", b"", b""]),
+            node!(b"u", ALONE, 0, 0, [b"", b"", b""]),
+        ],
         Shown::Encoded(&[], &[], &[]),
     ),
 ];
 
-const NO_ITEMS: Part = (b"c", ALONE, 0, 0, [b"", b"", b""]);
-
-const NO_WORDS: Part = (b"u", ALONE, 0, 0, [b"", b"", b""]);
-
-#[test]
-fn a_column_shows_its_values(rt: HostRuntime) -> Result<(), Fail> {
-    for columns in [VALUES, OVER_OTHERS, INDICES, WITHOUT_ROWS] {
-        for (rows, parts, shown) in columns {
-            let nodes = nodes(rt.alloc(), parts)?;
-            let batch = batch_of(rt.alloc(), *rows, &nodes)?;
-            assert!(rt; batch.columns().len() == 1, "{parts:?}");
-            let column = &batch.columns()[0];
-            assert!(rt; shows(&column.view(), *shown), "{parts:?}");
-        }
+/// Whether nodes are a batch of one column, which shows this.
+fn is_shown(alloc: Global, rows: u32, nodes: &[Node<'_>], shown: Shown) -> bool {
+    match batch_of(alloc, rows, nodes) {
+        Ok(batch) => is_column(&batch, shown),
+        Err(_) => false,
     }
-    Ok(())
 }
 
-#[test]
-fn what_is_lent_on_shows_the_same(rt: HostRuntime) -> Result<(), Fail> {
-    for columns in [VALUES, OVER_OTHERS, INDICES, WITHOUT_ROWS] {
-        for (rows, parts, shown) in columns {
-            let batch = batch_of(rt.alloc(), *rows, &nodes(rt.alloc(), parts)?)?;
-            let lent = nodes_of(rt.alloc(), &batch)?;
-            assert!(rt; lent.len() == parts.len(), "{parts:?}");
-            let again = batch_of(rt.alloc(), *rows, &lent)?;
-            assert!(rt; again.columns().len() == 1, "{parts:?}");
-            assert!(rt; shows(&again.columns()[0].view(), *shown), "{parts:?}");
-        }
+fn is_column(batch: &RecordBatch, shown: Shown) -> bool {
+    match batch.columns() {
+        [column] => shows(&column.view(), shown),
+        _ => false,
     }
-    Ok(())
-}
-
-/// Whether a node has the bytes of another that may hold nulls.
-fn has_bytes_of(lent: &Node<'_>, made: &Node<'_>) -> bool {
-    let is_named = lent.format == made.format && lent.name == made.name;
-    let is_long = lent.length == made.length && lent.nullable == 1;
-    let is_over = lent.validity == made.validity
-        && lent.first == made.first
-        && lent.second == made.second;
-    is_named && is_long && is_over
-}
-
-/// Asserts that a batch of one plain column lends what it was made of.
-fn expect_lent(
-    rt: &impl Abort,
-    alloc: Global,
-    rows: u32,
-    parts: &'static [Part],
-) -> Result<(), Fail> {
-    let made = nodes(alloc, parts)?;
-    let batch = batch_of(alloc, rows, &made)?;
-    let lent = nodes_of(alloc, &batch)?;
-    assert_eq!(rt; lent.len(), 1);
-    let one = lent.first().ok_or("nothing lent")?;
-    let other = made.first().ok_or("nothing made")?;
-    assert!(rt; has_bytes_of(one, other), "{parts:?}");
-    Ok(())
 }
 
 #[test]
-fn what_is_lent_is_the_bytes_of_the_columns(rt: HostRuntime) -> Result<(), Fail> {
+fn a_column_shows_its_values(rt: HostRuntime) {
+    for (place, (rows, nodes, shown)) in COLUMNS.iter().enumerate() {
+        let is_right = is_shown(rt.alloc(), *rows, *nodes, *shown);
+        assert_case(&rt, is_right, place);
+    }
+}
+
+/// Whether what the batch of these nodes lends is as many nodes, of a batch that shows this.
+fn is_lent_on(alloc: Global, rows: u32, nodes: &[Node<'_>], shown: Shown) -> bool {
+    match batch_of(alloc, rows, nodes) {
+        Ok(batch) => lends(alloc, &batch, nodes.len(), shown),
+        Err(_) => false,
+    }
+}
+
+fn lends(alloc: Global, batch: &RecordBatch, count: usize, shown: Shown) -> bool {
+    match nodes_of(alloc, batch) {
+        Ok(lent) => lent.len() == count && is_shown(alloc, batch.rows(), &lent, shown),
+        Err(_) => false,
+    }
+}
+
+#[test]
+fn what_is_lent_on_shows_the_same(rt: HostRuntime) {
+    for (place, (rows, nodes, shown)) in COLUMNS.iter().enumerate() {
+        let is_right = is_lent_on(rt.alloc(), *rows, *nodes, *shown);
+        assert_case(&rt, is_right, place);
+    }
+}
+
+/// The format, the name and the buffers.
+fn bytes_of<'a>(node: &Node<'a>) -> [&'a [u8]; 5] {
+    [
+        node.format,
+        node.name,
+        node.validity,
+        node.first,
+        node.second,
+    ]
+}
+
+/// Whether a batch of one plain column lends what it was made of.
+fn lends_bytes(alloc: Global, batch: &RecordBatch, made: &[Node<'_>]) -> bool {
+    match nodes_of(alloc, batch) {
+        Ok(lent) => match (lent.as_slice(), made) {
+            ([lent], [made]) => {
+                bytes_of(lent) == bytes_of(made) && (lent.length, lent.nullable) == (made.length, 1)
+            }
+            _ => false,
+        },
+        Err(_) => false,
+    }
+}
+
+fn is_lent(alloc: Global, rows: u32, nodes: &[Node<'_>]) -> bool {
+    match batch_of(alloc, rows, nodes) {
+        Ok(batch) => lends_bytes(alloc, &batch, nodes),
+        Err(_) => false,
+    }
+}
+
+#[test]
+fn what_is_lent_is_the_bytes_of_the_columns(rt: HostRuntime) {
     for place in [2, 8, 9, 10] {
-        let (rows, parts, _) = VALUES.get(place).ok_or("no such column")?;
-        expect_lent(&rt, rt.alloc(), *rows, parts)?;
+        let is_right = match COLUMNS.get(place) {
+            Some((rows, nodes, _)) => is_lent(rt.alloc(), *rows, *nodes),
+            None => false,
+        };
+        assert_case(&rt, is_right, place);
     }
-    Ok(())
+}
+
+static BESIDE: [Node<'static>; 5] = [
+    node!(b"+l", LIST, 3, 1, [b"\x05", NARROW, b""]),
+    ITEMS,
+    node!(b"c", CODES, 3, 1, [b"\x05", b"\x02\xff\0", b""]),
+    WORDS,
+    ITEMS,
+];
+
+const NUMBERS: Shown = Shown::Numbers(&[Some(1), Some(2), Some(3)]);
+
+/// Whether a batch shows lists, what is named, and numbers.
+fn shows_three(batch: &RecordBatch) -> bool {
+    match batch.columns() {
+        [lists, named, numbers] => {
+            shows(&lists.view(), LISTS)
+                && shows(&named.view(), NAMED)
+                && shows(&numbers.view(), NUMBERS)
+        }
+        _ => false,
+    }
 }
 
 #[test]
 fn columns_stand_one_after_the_other(rt: HostRuntime) -> Result<(), Fail> {
-    let parts = [
-        (
-            b"+l".as_slice(),
-            LIST,
-            3,
-            1,
-            [b"\x05".as_slice(), NARROW, b""],
-        ),
-        ITEMS,
-        (b"c", CODES, 3, 1, [b"\x05", b"\x02\xff\0", b""]),
-        WORDS,
-        ITEMS,
-    ];
-    let nodes = nodes(rt.alloc(), &parts)?;
-    let batch = batch_of(rt.alloc(), 3, &nodes)?;
-    assert_eq!(rt; batch.rows(), 3);
-    assert_eq!(rt; batch.columns().len(), 3);
-    let numbers = Shown::Numbers(&[Some(1), Some(2), Some(3)]);
-    assert!(rt; shows(&batch.columns()[0].view(), LISTS));
-    assert!(rt; shows(&batch.columns()[1].view(), NAMED));
-    assert!(rt; shows(&batch.columns()[2].view(), numbers));
+    let batch = batch_of(rt.alloc(), 3, &BESIDE)?;
+    assert!(rt; batch.rows() == 3);
+    assert!(rt; shows_three(&batch));
     Ok(())
 }
 
 #[test]
 fn a_batch_without_columns_has_rows(rt: HostRuntime) -> Result<(), Fail> {
     let batch = batch_of(rt.alloc(), 4, &[])?;
-    assert_eq!(rt; batch.rows(), 4);
-    assert_eq!(rt; batch.columns().len(), 0);
+    assert!(rt; batch.rows() == 4);
+    assert!(rt; batch.columns().is_empty());
     Ok(())
 }

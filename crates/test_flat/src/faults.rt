@@ -1,56 +1,58 @@
 //! Tests of nodes that are no batch.
 
-use crate::testing::{ALONE, CODES, LIST, Part, UNKNOWN, node, nodes};
+use crate::node;
+use crate::testing::{ALONE, CODES, LIST, UNKNOWN, assert_case, is_line};
 use arrays::BatchFault::{self, LengthsDiffer};
 use arrays::LayoutFault::{
     self, BufferTooShort, ChildDiffers, IndexPastDictionary, NotUtf8, NullCountDiffers,
     OffsetDecreases, OffsetNegative, OffsetPastEnd, TooLong,
 };
-use flat::{FlatFault, batch_of, schema_of};
-use std::test::Fail;
+use flat::{FlatFault, Node, batch_of, schema_of};
+use std::alloc::Global;
+use std::process::Abort;
 
-/// The rows, the parts of columns, and the fault that stands.
-type Case<T> = (u32, &'static [Part], T);
+/// The rows, the nodes of columns, and the fault that stands.
+type Case<T> = (u32, &'static [Node<'static>], T);
 
-const NUMBERS: Part = (b"c", ALONE, 2, 0, [b"", b"\x01\x02", b""]);
+const NUMBERS: Node<'static> = node!(b"c", ALONE, 2, 0, [b"", b"\x01\x02", b""]);
 
 const OFFSETS: &[u8] = b"\0\0\0\0\x01\0\0\0\x02\0\0\0";
 
-const WORDS: Part = (b"u", ALONE, 2, 0, [b"", OFFSETS, b"ab"]);
+const WORDS: Node<'static> = node!(b"u", ALONE, 2, 0, [b"", OFFSETS, b"ab"]);
 
-const LISTS: Part = (b"+l", LIST, 2, 0, [b"", OFFSETS, b""]);
+const LISTS: Node<'static> = node!(b"+l", LIST, 2, 0, [b"", OFFSETS, b""]);
 
-static NODES: &[Case<FlatFault>] = &[
+static NODES: [Case<FlatFault>; 14] = [
     (
         2,
-        &[NUMBERS, (b"", ALONE, 2, 0, [b"", b"", b""])],
+        &[NUMBERS, node!(b"", ALONE, 2, 0, [b"", b"", b""])],
         FlatFault::UnknownFormat { column: 1 },
     ),
     (
         2,
-        &[NUMBERS, (b"g", ALONE, 2, 0, [b"", b"", b""])],
+        &[NUMBERS, node!(b"g", ALONE, 2, 0, [b"", b"", b""])],
         FlatFault::UnknownFormat { column: 1 },
     ),
     (
         2,
-        &[NUMBERS, (b"+w", LIST, 2, 0, [b"", b"", b""])],
+        &[NUMBERS, node!(b"+w", LIST, 2, 0, [b"", b"", b""])],
         FlatFault::UnknownFormat { column: 1 },
     ),
     (
         2,
-        &[NUMBERS, (b"tdD", ALONE, 2, 0, [b"", b"", b""])],
+        &[NUMBERS, node!(b"tdD", ALONE, 2, 0, [b"", b"", b""])],
         FlatFault::UnknownFormat { column: 1 },
     ),
     (
         2,
-        &[NUMBERS, (b"+l", ALONE, 2, 0, [b"", OFFSETS, b""])],
+        &[NUMBERS, node!(b"+l", ALONE, 2, 0, [b"", OFFSETS, b""])],
         FlatFault::ChildrenDiffer { column: 1 },
     ),
     (
         2,
         &[
             NUMBERS,
-            (b"+l", (2, 0), 2, 0, [b"", OFFSETS, b""]),
+            node!(b"+l", (2, 0), 2, 0, [b"", OFFSETS, b""]),
             NUMBERS,
             NUMBERS,
         ],
@@ -60,34 +62,42 @@ static NODES: &[Case<FlatFault>] = &[
         2,
         &[
             NUMBERS,
-            (b"c", LIST, 2, 0, [b"", b"\x01\x02", b""]),
+            node!(b"c", LIST, 2, 0, [b"", b"\x01\x02", b""]),
             NUMBERS,
         ],
         FlatFault::ChildrenDiffer { column: 1 },
     ),
     (
         2,
-        &[NUMBERS, (b"u", CODES, 2, 0, [b"", OFFSETS, b"ab"]), WORDS],
-        FlatFault::ChildrenDiffer { column: 1 },
-    ),
-    (
-        2,
-        &[NUMBERS, (b"c", CODES, 2, 0, [b"", b"\0\x01", b""]), NUMBERS],
+        &[
+            NUMBERS,
+            node!(b"u", CODES, 2, 0, [b"", OFFSETS, b"ab"]),
+            WORDS,
+        ],
         FlatFault::ChildrenDiffer { column: 1 },
     ),
     (
         2,
         &[
             NUMBERS,
-            (b"c", CODES, 2, 0, [b"", b"\0\x01", b""]),
-            (b"U", ALONE, 0, 0, [b"", b"", b""]),
+            node!(b"c", CODES, 2, 0, [b"", b"\0\x01", b""]),
+            NUMBERS,
+        ],
+        FlatFault::ChildrenDiffer { column: 1 },
+    ),
+    (
+        2,
+        &[
+            NUMBERS,
+            node!(b"c", CODES, 2, 0, [b"", b"\0\x01", b""]),
+            node!(b"U", ALONE, 0, 0, [b"", b"", b""]),
         ],
         FlatFault::ChildrenDiffer { column: 1 },
     ),
     (2, &[NUMBERS, LISTS], FlatFault::MissingNode { column: 1 }),
     (
         2,
-        &[NUMBERS, (b"c", CODES, 2, 0, [b"", b"\0\x01", b""])],
+        &[NUMBERS, node!(b"c", CODES, 2, 0, [b"", b"\0\x01", b""])],
         FlatFault::MissingNode { column: 1 },
     ),
     (
@@ -102,8 +112,8 @@ static NODES: &[Case<FlatFault>] = &[
         2,
         &[
             NUMBERS,
-            (b"c", ALONE, 3, 0, [b"", b"\x01", b""]),
-            (b"g", ALONE, 2, 0, [b"", b"", b""]),
+            node!(b"c", ALONE, 3, 0, [b"", b"\x01", b""]),
+            node!(b"g", ALONE, 2, 0, [b"", b"", b""]),
         ],
         FlatFault::Layout {
             column: 1,
@@ -113,37 +123,43 @@ static NODES: &[Case<FlatFault>] = &[
 ];
 
 /// The fault is that of the buffers of column 1.
-static BUFFERS: &[Case<LayoutFault>] = &[
+static BUFFERS: [Case<LayoutFault>; 19] = [
     (
         2,
-        &[NUMBERS, (b"c", ALONE, 2, 0, [b"", b"\x01", b""])],
+        &[NUMBERS, node!(b"c", ALONE, 2, 0, [b"", b"\x01", b""])],
         BufferTooShort,
     ),
     (
         2,
-        &[NUMBERS, (b"i", ALONE, 9, 0, [b"\xff", b"\x01\0\0\0", b""])],
+        &[
+            NUMBERS,
+            node!(b"i", ALONE, 9, 0, [b"\xff", b"\x01\0\0\0", b""]),
+        ],
         BufferTooShort,
     ),
     (
         2,
-        &[NUMBERS, (b"c", ALONE, u64::MAX, 0, [b"", b"", b""])],
+        &[NUMBERS, node!(b"c", ALONE, u64::MAX, 0, [b"", b"", b""])],
         TooLong,
     ),
     (
         2,
-        &[NUMBERS, (b"c", ALONE, 2, 2, [b"\x01", b"\x01\x02", b""])],
+        &[
+            NUMBERS,
+            node!(b"c", ALONE, 2, 2, [b"\x01", b"\x01\x02", b""]),
+        ],
         NullCountDiffers,
     ),
     (
         2,
-        &[NUMBERS, (b"c", ALONE, 2, 1, [b"", b"\x01\x02", b""])],
+        &[NUMBERS, node!(b"c", ALONE, 2, 1, [b"", b"\x01\x02", b""])],
         NullCountDiffers,
     ),
     (
         2,
         &[
             NUMBERS,
-            (b"+l", LIST, 2, 1, [b"\x03", OFFSETS, b""]),
+            node!(b"+l", LIST, 2, 1, [b"\x03", OFFSETS, b""]),
             NUMBERS,
         ],
         NullCountDiffers,
@@ -152,12 +168,12 @@ static BUFFERS: &[Case<LayoutFault>] = &[
         2,
         &[
             NUMBERS,
-            (
+            node!(
                 b"u",
                 ALONE,
                 2,
                 0,
-                [b"", b"\0\0\0\0\xff\xff\xff\xff\x02\0\0\0", b"ab"],
+                [b"", b"\0\0\0\0\xff\xff\xff\xff\x02\0\0\0", b"ab"]
             ),
         ],
         OffsetNegative,
@@ -166,34 +182,45 @@ static BUFFERS: &[Case<LayoutFault>] = &[
         2,
         &[
             NUMBERS,
-            (
+            node!(
                 b"u",
                 ALONE,
                 2,
                 0,
-                [b"", b"\0\0\0\0\x02\0\0\0\x01\0\0\0", b"ab"],
+                [b"", b"\0\0\0\0\x02\0\0\0\x01\0\0\0", b"ab"]
             ),
         ],
         OffsetDecreases { row: 1 },
     ),
     (
         2,
-        &[NUMBERS, (b"u", ALONE, 2, 0, [b"", OFFSETS, b"a"])],
+        &[NUMBERS, node!(b"u", ALONE, 2, 0, [b"", OFFSETS, b"a"])],
         OffsetPastEnd,
     ),
     (
         2,
-        &[NUMBERS, (b"u", ALONE, 2, UNKNOWN, [b"", OFFSETS, b"a\xff"])],
+        &[
+            NUMBERS,
+            node!(b"u", ALONE, 2, UNKNOWN, [b"", OFFSETS, b"a\xff"]),
+        ],
         NotUtf8 { row: 1 },
     ),
     (
         2,
-        &[NUMBERS, LISTS, (b"c", ALONE, 1, 0, [b"", b"\x01", b""])],
+        &[
+            NUMBERS,
+            LISTS,
+            node!(b"c", ALONE, 1, 0, [b"", b"\x01", b""]),
+        ],
         OffsetPastEnd,
     ),
     (
         2,
-        &[NUMBERS, LISTS, (b"c", ALONE, 2, 1, [b"", b"\x01\x02", b""])],
+        &[
+            NUMBERS,
+            LISTS,
+            node!(b"c", ALONE, 2, 1, [b"", b"\x01\x02", b""]),
+        ],
         NullCountDiffers,
     ),
     (
@@ -201,26 +228,25 @@ static BUFFERS: &[Case<LayoutFault>] = &[
         &[
             NUMBERS,
             LISTS,
-            (b"c", CODES, 2, 0, [b"", b"\0\x01", b""]),
+            node!(b"c", CODES, 2, 0, [b"", b"\0\x01", b""]),
             WORDS,
         ],
         ChildDiffers,
     ),
     (
         2,
-        &[NUMBERS, (b"c", CODES, 2, 0, [b"", b"\x01\xff", b""]), WORDS],
+        &[
+            NUMBERS,
+            node!(b"c", CODES, 2, 0, [b"", b"\x01\xff", b""]),
+            WORDS,
+        ],
         IndexPastDictionary { row: 1 },
     ),
     (
         2,
-        &[NUMBERS, (b"C", CODES, 2, 0, [b"", b"\x02\x01", b""]), WORDS],
-        IndexPastDictionary { row: 0 },
-    ),
-    (
-        1,
         &[
             NUMBERS,
-            (b"I", CODES, 1, 0, [b"", b"\0\0\0\x80", b""]),
+            node!(b"C", CODES, 2, 0, [b"", b"\x02\x01", b""]),
             WORDS,
         ],
         IndexPastDictionary { row: 0 },
@@ -229,83 +255,100 @@ static BUFFERS: &[Case<LayoutFault>] = &[
         1,
         &[
             NUMBERS,
-            (b"L", CODES, 1, 0, [b"", b"\0\0\0\0\x01\0\0\0", b""]),
+            node!(b"I", CODES, 1, 0, [b"", b"\0\0\0\x80", b""]),
+            WORDS,
+        ],
+        IndexPastDictionary { row: 0 },
+    ),
+    (
+        1,
+        &[
+            NUMBERS,
+            node!(b"L", CODES, 1, 0, [b"", b"\0\0\0\0\x01\0\0\0", b""]),
             WORDS,
         ],
         IndexPastDictionary { row: 0 },
     ),
     (
         2,
-        &[NUMBERS, (b"s", CODES, 2, 0, [b"", b"\0\0\x01", b""]), WORDS],
+        &[
+            NUMBERS,
+            node!(b"s", CODES, 2, 0, [b"", b"\0\0\x01", b""]),
+            WORDS,
+        ],
         BufferTooShort,
     ),
     (
         2,
         &[
             NUMBERS,
-            (b"c", CODES, 2, 0, [b"", b"\0\x01", b""]),
-            (b"u", ALONE, 2, 0, [b"", OFFSETS, b"a"]),
+            node!(b"c", CODES, 2, 0, [b"", b"\0\x01", b""]),
+            node!(b"u", ALONE, 2, 0, [b"", OFFSETS, b"a"]),
         ],
         OffsetPastEnd,
     ),
 ];
 
-static BATCHES: &[Case<BatchFault>] = &[
+static BATCHES: [Case<BatchFault>; 3] = [
     (3, &[NUMBERS], LengthsDiffer { column: 0 }),
     (
         2,
-        &[NUMBERS, (b"c", ALONE, 1, 0, [b"", b"\x01", b""])],
+        &[NUMBERS, node!(b"c", ALONE, 1, 0, [b"", b"\x01", b""])],
         LengthsDiffer { column: 1 },
     ),
     (2147483648, &[], LengthsDiffer { column: 0 }),
 ];
 
-#[test]
-fn the_first_column_at_fault_is_told(rt: HostRuntime) -> Result<(), Fail> {
-    for (rows, parts, fault) in NODES {
-        let nodes = nodes(rt.alloc(), parts)?;
-        let refused = batch_of(rt.alloc(), *rows, &nodes).err();
-        assert!(rt; refused == Some(*fault), "{parts:?} {refused:?}");
-    }
-    Ok(())
+/// Asserts that nodes are no batch of so many rows, for this fault.
+fn expect_fault(rt: &impl Abort, alloc: Global, rows: u32, nodes: &[Node<'_>], fault: FlatFault) {
+    let refused = batch_of(alloc, rows, nodes).err();
+    assert!(rt; refused == Some(fault), "{refused:?} for {fault:?}");
 }
 
 #[test]
-fn a_fault_of_buffers_is_told_at_its_column(rt: HostRuntime) -> Result<(), Fail> {
-    for (rows, parts, fault) in BUFFERS {
-        let nodes = nodes(rt.alloc(), parts)?;
-        let refused = batch_of(rt.alloc(), *rows, &nodes).err();
-        let expected = FlatFault::Layout {
+fn the_first_column_at_fault_is_told(rt: HostRuntime) {
+    for (rows, nodes, fault) in &NODES {
+        expect_fault(&rt, rt.alloc(), *rows, *nodes, *fault);
+    }
+}
+
+#[test]
+fn a_fault_of_buffers_is_told_at_its_column(rt: HostRuntime) {
+    for (rows, nodes, fault) in &BUFFERS {
+        let fault = FlatFault::Layout {
             column: 1,
             fault: *fault,
         };
-        assert!(rt; refused == Some(expected), "{parts:?} {refused:?}");
+        expect_fault(&rt, rt.alloc(), *rows, *nodes, fault);
     }
-    Ok(())
 }
 
 #[test]
-fn columns_of_another_length_are_no_batch(rt: HostRuntime) -> Result<(), Fail> {
-    for (rows, parts, fault) in BATCHES {
-        let nodes = nodes(rt.alloc(), parts)?;
-        let refused = batch_of(rt.alloc(), *rows, &nodes).err();
-        let expected = FlatFault::Batch { fault: *fault };
-        assert!(rt; refused == Some(expected), "{parts:?} {refused:?}");
+fn columns_of_another_length_are_no_batch(rt: HostRuntime) {
+    for (rows, nodes, fault) in &BATCHES {
+        let fault = FlatFault::Batch { fault: *fault };
+        expect_fault(&rt, rt.alloc(), *rows, *nodes, fault);
     }
-    Ok(())
 }
 
+/// The second column's name is no text.
+static NAMED: [Node<'static>; 2] = [
+    NUMBERS,
+    Node {
+        name: b"\xff",
+        ..NUMBERS
+    },
+];
+
 #[test]
-fn a_name_is_utf8(rt: HostRuntime) -> Result<(), Fail> {
-    let nodes = [node(b"a", NUMBERS), node(b"\xff", NUMBERS)];
-    let fault = Some(FlatFault::NameNotUtf8 { column: 1 });
-    assert!(rt; batch_of(rt.alloc(), 2, &nodes).err() == fault);
-    assert!(rt; schema_of(rt.alloc(), &nodes).err() == fault);
-    Ok(())
+fn a_name_is_utf8(rt: HostRuntime) {
+    let fault = FlatFault::NameNotUtf8 { column: 1 };
+    expect_fault(&rt, rt.alloc(), 2, &NAMED, fault);
+    assert!(rt; schema_of(rt.alloc(), &NAMED).err() == Some(fault));
 }
 
 /// Faults as they are printed.
-static LINES: &[(FlatFault, &str)] = &[
+static LINES: [(FlatFault, &str); 8] = [
     (
         FlatFault::NameNotUtf8 { column: 3 },
         "X1 NameNotUtf8 column=3",
@@ -340,10 +383,8 @@ static LINES: &[(FlatFault, &str)] = &[
 ];
 
 #[test]
-fn a_fault_is_a_line(rt: HostRuntime) -> Result<(), Fail> {
-    for (fault, line) in LINES {
-        let printed = format!(in rt.alloc(); "{fault}")?;
-        assert!(rt; printed.as_str() == *line, "{printed}");
+fn a_fault_is_a_line(rt: HostRuntime) {
+    for (place, (fault, line)) in LINES.iter().enumerate() {
+        assert_case(&rt, is_line(rt.alloc(), fault, *line), place);
     }
-    Ok(())
 }

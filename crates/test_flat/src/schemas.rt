@@ -1,159 +1,162 @@
 //! Tests of the schemas that nodes name.
 
-use crate::testing::{ALONE, Behind, CODES, LIST, Part, UNKNOWN, node, nodes};
+use crate::testing::{ALONE, CODES, LIST, assert_case};
+use crate::{empty, node};
 use arrays::SchemaFault::DictInList;
-use arrays::{DataType, IntType, OffsetWidth, Width, is_too_deep};
+use arrays::{DataType, Field, Schema, is_too_deep};
 use flat::{FlatFault, Node, fields_of, schema_of};
 use std::alloc::Global;
+use std::process::Abort;
 use std::test::Fail;
-use test_samples::INT8;
+use test_samples::{INT8, UINT16};
 
-/// A part without a slot.
-fn empty(format: &'static [u8], behind: Behind) -> Part {
-    (format, behind, 0, UNKNOWN, [b"", b"", b""])
-}
+/// Six columns, of which the second may hold no null.
+static SIX: [Node<'static>; 8] = [
+    empty!(b"c", ALONE),
+    Node {
+        nullable: 0,
+        ..empty!(b"b", ALONE)
+    },
+    empty!(b"U", ALONE),
+    empty!(b"+L", LIST),
+    empty!(b"S", ALONE),
+    empty!(b"i", CODES),
+    empty!(b"u", ALONE),
+    empty!(b"u", ALONE),
+];
 
-/// Whether the type is of lists with such offsets over such numbers.
-fn is_list(ty: &DataType, width: OffsetWidth, number: IntType) -> bool {
-    match ty.as_list() {
-        Some((own, item)) => own == width && is_int(&item.ty, number),
-        None => false,
-    }
-}
-
-/// Whether the type is of such numbers.
-fn is_int(ty: &DataType, number: IntType) -> bool {
-    match ty {
-        DataType::Int(own) => *own == number,
+/// Whether a column of the six is of its type.
+fn is_of_column(ty: &DataType, column: usize) -> bool {
+    match (column, ty) {
+        (0, DataType::Int(own)) => *own == INT8,
+        (3, DataType::LargeList(item)) => match &item.ty {
+            DataType::Int(own) => *own == UINT16,
+            _ => false,
+        },
+        (1, DataType::Bool) | (2, DataType::LargeUtf8) | (4, DataType::Dict) => true,
+        (5, DataType::Utf8) => true,
         _ => false,
     }
 }
 
-/// The nodes of six columns.
-fn six_columns(alloc: Global) -> Result<Vec<Node<'static>>, Fail> {
-    let parts = [
-        empty(b"c", ALONE),
-        empty(b"b", ALONE),
-        empty(b"U", ALONE),
-        empty(b"+L", LIST),
-        empty(b"S", ALONE),
-        empty(b"i", CODES),
-        empty(b"u", ALONE),
-        empty(b"u", ALONE),
-    ];
-    nodes(alloc, &parts)
-}
-
 #[test]
 fn a_schema_has_a_field_for_each_column(rt: HostRuntime) -> Result<(), Fail> {
-    let nodes = six_columns(rt.alloc())?;
-    let schema = schema_of(rt.alloc(), &nodes)?;
-    let uint16 = IntType {
-        bits: Width::W16,
-        signed: false,
-    };
-    assert_eq!(rt; schema.len(), 6);
-    let fields = schema.fields();
-    assert_eq!(rt; fields.len(), 6);
-    assert!(rt; is_int(&fields[0].ty, INT8));
-    assert!(rt; matches!(fields[1].ty, DataType::Bool));
-    assert!(rt; matches!(fields[2].ty, DataType::LargeUtf8));
-    assert!(rt; is_list(&fields[3].ty, OffsetWidth::Wide, uint16));
-    assert!(rt; matches!(fields[4].ty, DataType::Dict));
-    assert!(rt; matches!(fields[5].ty, DataType::Utf8));
+    let schema = schema_of(rt.alloc(), &SIX)?;
+    assert!(rt; schema.len() == 6 && schema.fields().len() == 6);
+    for (column, field) in schema.fields().iter().enumerate() {
+        assert_case(&rt, is_of_column(&field.ty, column), column);
+    }
     Ok(())
+}
+
+/// Whether nodes name so many fields.
+fn are_fields(alloc: Global, nodes: &[Node<'_>], count: usize) -> bool {
+    match schema_of(alloc, nodes) {
+        Ok(schema) => schema.len() == count,
+        Err(_) => false,
+    }
 }
 
 /// Whether a node without slots names what another does: the same type, and unless it is a dictionary, the same name.
 fn names_the_same(lent: &Node<'_>, named: &Node<'_>, is_dictionary: bool) -> bool {
-    let type_is = lent.format == named.format
-        && lent.children == named.children
-        && lent.dictionary == named.dictionary;
-    let name_is = is_dictionary
-        || (lent.name == named.name && (lent.nullable == 0) == (named.nullable == 0));
-    let has_no_slot = lent.length == 0
-        && lent.validity.is_empty()
-        && lent.first.is_empty()
-        && lent.second.is_empty();
-    type_is && name_is && has_no_slot
+    let has_type = (lent.format, lent.children, lent.dictionary)
+        == (named.format, named.children, named.dictionary);
+    let has_name = (lent.name, lent.nullable == 0) == (named.name, named.nullable == 0);
+    has_type && (is_dictionary || has_name) && has_no_slot(lent)
+}
+
+fn has_no_slot(node: &Node<'_>) -> bool {
+    let sizes = [node.validity.len(), node.first.len(), node.second.len()];
+    node.length == 0 && sizes == [0, 0, 0]
+}
+
+/// Asserts that the fields of the six columns are lent as the nodes that named them.
+fn expect_lent(rt: &impl Abort, alloc: Global, schema: &Schema) -> Result<(), Fail> {
+    let lent = fields_of(alloc, schema)?;
+    assert!(rt; lent.len() == SIX.len());
+    for (place, (lent, named)) in lent.iter().zip(&SIX).enumerate() {
+        // The texts of the indices.
+        let is_dictionary = place == 6;
+        assert_case(rt, names_the_same(lent, named, is_dictionary), place);
+    }
+    assert!(rt; are_fields(alloc, &lent, 6));
+    Ok(())
 }
 
 #[test]
 fn fields_are_lent_as_the_nodes_that_named_them(rt: HostRuntime) -> Result<(), Fail> {
-    let mut nodes = six_columns(rt.alloc())?;
-    if let Some(node) = nodes.get_mut(1) {
-        node.nullable = 0;
+    let schema = schema_of(rt.alloc(), &SIX)?;
+    expect_lent(&rt, rt.alloc(), &schema)
+}
+
+static NAMED: [Node<'static>; 2] = [
+    Node {
+        name: b"citt\xc3\xa0",
+        ..empty!(b"u", ALONE)
+    },
+    Node {
+        name: b"",
+        nullable: 0,
+        ..empty!(b"l", ALONE)
+    },
+];
+
+/// Whether these are the fields of the two.
+fn are_named(fields: &[Field]) -> bool {
+    match fields {
+        [city, people] => {
+            (city.name.as_str(), city.nullable) == ("città", true)
+                && (people.name.as_str(), people.nullable) == ("", false)
+        }
+        _ => false,
     }
-    let schema = schema_of(rt.alloc(), &nodes)?;
-    let lent = fields_of(rt.alloc(), &schema)?;
-    assert_eq!(rt; lent.len(), nodes.len());
-    for k in 0..lent.len() {
-        let is_dictionary = k > 0 && nodes[k - 1].dictionary == 1;
-        assert!(rt;
-            names_the_same(&lent[k], &nodes[k], is_dictionary),
-            "at {k}"
-        );
-    }
-    assert_eq!(rt; schema_of(rt.alloc(), &lent)?.len(), 6);
-    Ok(())
 }
 
 #[test]
 fn a_field_has_its_name_and_may_be_null(rt: HostRuntime) -> Result<(), Fail> {
-    let city = node("città".as_bytes(), empty(b"u", ALONE));
-    let people = Node {
-        nullable: 0,
-        ..node(b"", empty(b"l", ALONE))
-    };
-    let schema = schema_of(rt.alloc(), &[city, people])?;
-    let fields = schema.fields();
-    assert_eq!(rt; fields.len(), 2);
-    assert!(rt; fields[0].name.as_str() == "città" && fields[0].nullable);
-    assert!(rt; fields[1].name.is_empty() && !fields[1].nullable);
+    let schema = schema_of(rt.alloc(), &NAMED)?;
+    assert!(rt; are_named(schema.fields()));
     Ok(())
 }
 
+static WITH_BYTES: [Node<'static>; 1] = [node!(b"i", ALONE, 9, 3, [b"\x01", b"", b""])];
+
 #[test]
-fn lengths_and_buffers_are_not_looked_at(rt: HostRuntime) -> Result<(), Fail> {
-    let parts: [Part; 1] = [(b"i", ALONE, 9, 3, [b"\x01", b"", b""])];
-    let nodes = nodes(rt.alloc(), &parts)?;
-    assert_eq!(rt; schema_of(rt.alloc(), &nodes)?.len(), 1);
-    Ok(())
+fn lengths_and_buffers_are_not_looked_at(rt: HostRuntime) {
+    assert!(rt; are_fields(rt.alloc(), &WITH_BYTES, 1));
 }
+
+static EIGHT_LISTS: [Node<'static>; 9] = [
+    empty!(b"+l", LIST),
+    empty!(b"+l", LIST),
+    empty!(b"+l", LIST),
+    empty!(b"+l", LIST),
+    empty!(b"+l", LIST),
+    empty!(b"+l", LIST),
+    empty!(b"+l", LIST),
+    empty!(b"+l", LIST),
+    empty!(b"b", ALONE),
+];
 
 #[test]
 fn eight_lists_are_a_type(rt: HostRuntime) -> Result<(), Fail> {
-    let list = empty(b"+l", LIST);
-    let parts = [
-        list,
-        list,
-        list,
-        list,
-        list,
-        list,
-        list,
-        list,
-        empty(b"b", ALONE),
-    ];
-    let nodes = nodes(rt.alloc(), &parts)?;
-    let schema = schema_of(rt.alloc(), &nodes)?;
-    assert_eq!(rt; schema.len(), 1);
-    assert!(rt; !is_too_deep(&schema.fields()[0].ty));
+    let schema = schema_of(rt.alloc(), &EIGHT_LISTS)?;
+    assert!(rt; schema.len() == 1);
+    assert!(rt; matches!(schema.fields(), [field] if !is_too_deep(&field.ty)));
     Ok(())
 }
 
+static INDICES_IN_A_LIST: [Node<'static>; 4] = [
+    empty!(b"b", ALONE),
+    empty!(b"+l", LIST),
+    empty!(b"c", CODES),
+    empty!(b"u", ALONE),
+];
+
 #[test]
-fn a_list_of_indices_is_no_field(rt: HostRuntime) -> Result<(), Fail> {
-    let parts = [
-        empty(b"b", ALONE),
-        empty(b"+l", LIST),
-        empty(b"c", CODES),
-        empty(b"u", ALONE),
-    ];
-    let nodes = nodes(rt.alloc(), &parts)?;
+fn a_list_of_indices_is_no_field(rt: HostRuntime) {
     let fault = FlatFault::Schema {
         fault: DictInList { column: 1 },
     };
-    assert!(rt; schema_of(rt.alloc(), &nodes).err() == Some(fault));
-    Ok(())
+    assert!(rt; schema_of(rt.alloc(), &INDICES_IN_A_LIST).err() == Some(fault));
 }

@@ -1,46 +1,57 @@
 //! Tests of tables that are filled with what is lent.
 
-use crate::testing::{ALONE, CODES, Part, UNKNOWN, nodes};
+use crate::node;
+use crate::testing::{ALONE, CODES, UNKNOWN};
 use arrays::LayoutFault::BufferTooShort;
-use flat::FlatFault;
+use flat::{FlatFault, Node};
 use intake::{IntakeFault, append, table_of};
 use std::test::Fail;
-use table::Refusal;
+use table::{Refusal, TableState};
 
-const PEOPLE: Part = (b"l", ALONE, 1, 0, [b"", b"\x05\0\0\0\0\0\0\0", b""]);
+const PEOPLE: Node<'static> = node!(b"l", ALONE, 1, 0, [b"", b"\x05\0\0\0\0\0\0\0", b""]);
 
-const CITY: Part = (b"u", ALONE, 1, UNKNOWN, [b"", b"\0\0\0\0\x02\0\0\0", b"ab"]);
+const CITY: Node<'static> = node!(b"u", ALONE, 1, UNKNOWN, [b"", b"\0\0\0\0\x02\0\0\0", b"ab"]);
 
-/// The same column by a dictionary.
-const CODED: [Part; 2] = [(b"C", CODES, 1, 0, [b"", b"\0", b""]), CITY];
+static PLAIN: [Node<'static>; 2] = [PEOPLE, CITY];
 
-const SHORT: Part = (b"l", ALONE, 1, 0, [b"", b"\x05", b""]);
+/// The same, of which the texts have a dictionary.
+static CODED: [Node<'static>; 3] = [PEOPLE, node!(b"C", CODES, 1, 0, [b"", b"\0", b""]), CITY];
 
-#[test]
-fn a_table_has_the_batches_that_it_was_lent(rt: HostRuntime) -> Result<(), Fail> {
-    let alloc = rt.alloc();
-    let mut table = table_of(alloc, &nodes(alloc, &[PEOPLE, CITY])?)?;
-    let numbers = nodes(alloc, &[PEOPLE, CITY])?;
-    assert_eq!(rt; append(alloc, &mut table, 3, 1, &numbers)?, 0);
-    let coded = nodes(alloc, &[PEOPLE, CODED[0], CODED[1]])?;
-    assert_eq!(rt; append(alloc, &mut table, 3, 1, &coded)?, 1);
-    assert_eq!(rt; table.version()?.rows(), 2);
-    Ok(())
+/// Whether a table has so many rows.
+fn has_rows(table: &TableState, count: u64) -> bool {
+    match table.version() {
+        Ok(version) => version.rows() == count,
+        Err(_) => false,
+    }
 }
 
 #[test]
+fn a_table_has_the_batches_that_it_was_lent(rt: HostRuntime) -> Result<(), Fail> {
+    let mut table = table_of(rt.alloc(), &PLAIN)?;
+    assert!(rt; append(rt.alloc(), &mut table, 3, 1, &PLAIN) == Ok(0));
+    assert!(rt; append(rt.alloc(), &mut table, 3, 1, &CODED) == Ok(1));
+    assert!(rt; has_rows(&table, 2));
+    Ok(())
+}
+
+static NUMBERS: [Node<'static>; 1] = [PEOPLE];
+
+static SHORT: [Node<'static>; 1] = [node!(b"l", ALONE, 1, 0, [b"", b"\x05", b""])];
+
+static TEXTS: [Node<'static>; 1] = [CITY];
+
+#[test]
 fn a_refusal_leaves_the_table_as_it_was(rt: HostRuntime) -> Result<(), Fail> {
-    let alloc = rt.alloc();
-    let mut table = table_of(alloc, &nodes(alloc, &[PEOPLE])?)?;
-    let short = append(alloc, &mut table, 0, 1, &nodes(alloc, &[SHORT])?);
+    let mut table = table_of(rt.alloc(), &NUMBERS)?;
     let fault = FlatFault::Layout {
         column: 0,
         fault: BufferTooShort,
     };
+    let short = append(rt.alloc(), &mut table, 0, 1, &SHORT);
     assert!(rt; short == Err(IntakeFault::Flat { fault }));
-    let other = append(alloc, &mut table, 0, 1, &nodes(alloc, &[CITY])?);
     let refusal = Refusal::SchemaDiffers { column: 0 };
+    let other = append(rt.alloc(), &mut table, 0, 1, &TEXTS);
     assert!(rt; other == Err(IntakeFault::Refused { refusal }));
-    assert_eq!(rt; table.version()?.rows(), 0);
+    assert!(rt; has_rows(&table, 0));
     Ok(())
 }

@@ -1,13 +1,10 @@
 //! Calls on columns: kernels, selections and statistics.
 
-use crate::columns::{
-    BOOLS, CODES, Column, KEPT_OF_3, KEPT_OF_4, KEPT_OF_5, LARGE_LISTS, LARGE_LISTS_OF_LISTS,
-    LARGE_TEXTS, LISTS, LISTS_OF_LISTS, LONG, NUMBERS, ROWS, TEXTS,
-};
+use crate::columns::Column;
 use crate::refusals::Refused;
-use crate::run::{Due, Ran, Scene, Stop, answered, run, told};
+use crate::run::{Due, Ran, Scene, Stop, given, run, told};
 use crate::sweep::Trial;
-use crate::tell::{tell_array, tell_arrays};
+use crate::tell::tell_each;
 use arrays::{Array, RawArray, View, has_dict_in_list, is_too_deep, validate};
 use group::{ColumnStats, joined, stats_of};
 use kernels::{
@@ -17,7 +14,6 @@ use kernels::{
 use select::{concat, copy, filter, take};
 use std::alloc::Global;
 use std::test::Fail;
-use test_samples::{Sample, raw_sample, sampled_at};
 
 /// A kernel, on one column or on two that are alike.
 #[derive(Clone, Copy)]
@@ -71,7 +67,7 @@ pub(crate) struct Case(Call, Column);
 /// A call on a column.
 macro_rules! on {
     ($kind:ident :: $call:ident, $column:ident) => {
-        Case(Call::$kind($kind::$call), $column)
+        Case(Call::$kind($kind::$call), Column::$column)
     };
 }
 
@@ -79,17 +75,17 @@ macro_rules! on {
 macro_rules! of_each {
     ($name:literal, $selection:ident) => {
         [
-            (concat!($name, ", numbers"), on!(Selection::$selection, NUMBERS)),
-            (concat!($name, ", truth values"), on!(Selection::$selection, BOOLS)),
-            (concat!($name, ", texts"), on!(Selection::$selection, TEXTS)),
-            (concat!($name, ", large texts"), on!(Selection::$selection, LARGE_TEXTS)),
-            (concat!($name, ", codes"), on!(Selection::$selection, CODES)),
-            (concat!($name, ", lists"), on!(Selection::$selection, LISTS)),
-            (concat!($name, ", large lists"), on!(Selection::$selection, LARGE_LISTS)),
-            (concat!($name, ", lists of lists"), on!(Selection::$selection, LISTS_OF_LISTS)),
+            (concat!($name, ", numbers"), on!(Selection::$selection, Numbers)),
+            (concat!($name, ", truth values"), on!(Selection::$selection, Bools)),
+            (concat!($name, ", texts"), on!(Selection::$selection, Texts)),
+            (concat!($name, ", large texts"), on!(Selection::$selection, LargeTexts)),
+            (concat!($name, ", codes"), on!(Selection::$selection, Codes)),
+            (concat!($name, ", lists"), on!(Selection::$selection, Lists)),
+            (concat!($name, ", large lists"), on!(Selection::$selection, LargeLists)),
+            (concat!($name, ", lists of lists"), on!(Selection::$selection, ListsOfLists)),
             (
                 concat!($name, ", large lists of lists"),
-                on!(Selection::$selection, LARGE_LISTS_OF_LISTS),
+                on!(Selection::$selection, LargeListsOfLists),
             ),
         ]
     };
@@ -109,68 +105,66 @@ pub(crate) static NULLS: [(&str, Case); 9] = of_each!("Array::nulls", Nulls);
 
 #[rattlefmt::skip]
 pub(crate) static KERNELS: [(&str, Case); 23] = [
-    ("add", on!(Kernel::Add, NUMBERS)),
-    ("add, 64 bits", on!(Kernel::Add, LONG)),
-    ("sub", on!(Kernel::Sub, NUMBERS)),
-    ("mul", on!(Kernel::Mul, NUMBERS)),
-    ("add_number", on!(Kernel::AddNumber, NUMBERS)),
-    ("add_number, 64 bits", on!(Kernel::AddNumber, LONG)),
-    ("sub_number", on!(Kernel::SubNumber, NUMBERS)),
-    ("sub_from_number", on!(Kernel::SubFromNumber, NUMBERS)),
-    ("mul_number", on!(Kernel::MulNumber, NUMBERS)),
-    ("compare", on!(Kernel::Compare, NUMBERS)),
-    ("compare, 64 bits", on!(Kernel::Compare, LONG)),
-    ("compare, truth values", on!(Kernel::Compare, BOOLS)),
-    ("compare, texts", on!(Kernel::Compare, TEXTS)),
-    ("compare, large texts", on!(Kernel::Compare, LARGE_TEXTS)),
-    ("compare, codes", on!(Kernel::Compare, CODES)),
-    ("compare_number", on!(Kernel::CompareNumber, NUMBERS)),
-    ("kleene_and", on!(Kernel::And, BOOLS)),
-    ("kleene_or", on!(Kernel::Or, BOOLS)),
-    ("kleene_not", on!(Kernel::Not, BOOLS)),
-    ("is_null", on!(Kernel::IsNull, NUMBERS)),
-    ("is_null, codes", on!(Kernel::IsNull, CODES)),
-    ("is_null, lists", on!(Kernel::IsNull, LISTS)),
-    ("is_null, large lists", on!(Kernel::IsNull, LARGE_LISTS)),
+    ("add", on!(Kernel::Add, Numbers)),
+    ("add, 64 bits", on!(Kernel::Add, Long)),
+    ("sub", on!(Kernel::Sub, Numbers)),
+    ("mul", on!(Kernel::Mul, Numbers)),
+    ("add_number", on!(Kernel::AddNumber, Numbers)),
+    ("add_number, 64 bits", on!(Kernel::AddNumber, Long)),
+    ("sub_number", on!(Kernel::SubNumber, Numbers)),
+    ("sub_from_number", on!(Kernel::SubFromNumber, Numbers)),
+    ("mul_number", on!(Kernel::MulNumber, Numbers)),
+    ("compare", on!(Kernel::Compare, Numbers)),
+    ("compare, 64 bits", on!(Kernel::Compare, Long)),
+    ("compare, truth values", on!(Kernel::Compare, Bools)),
+    ("compare, texts", on!(Kernel::Compare, Texts)),
+    ("compare, large texts", on!(Kernel::Compare, LargeTexts)),
+    ("compare, codes", on!(Kernel::Compare, Codes)),
+    ("compare_number", on!(Kernel::CompareNumber, Numbers)),
+    ("kleene_and", on!(Kernel::And, Bools)),
+    ("kleene_or", on!(Kernel::Or, Bools)),
+    ("kleene_not", on!(Kernel::Not, Bools)),
+    ("is_null", on!(Kernel::IsNull, Numbers)),
+    ("is_null, codes", on!(Kernel::IsNull, Codes)),
+    ("is_null, lists", on!(Kernel::IsNull, Lists)),
+    ("is_null, large lists", on!(Kernel::IsNull, LargeLists)),
 ];
 
 #[rattlefmt::skip]
 pub(crate) static STATISTICS: [(&str, Case); 9] = [
-    ("stats_of, texts", on!(Summary::Of, TEXTS)),
-    ("stats_of, large texts", on!(Summary::Of, LARGE_TEXTS)),
-    ("stats_of, codes", on!(Summary::Of, CODES)),
-    ("joined, texts", on!(Summary::Joined, TEXTS)),
-    ("joined, large texts", on!(Summary::Joined, LARGE_TEXTS)),
-    ("joined, codes", on!(Summary::Joined, CODES)),
-    ("ColumnStats::copy, texts", on!(Summary::Copy, TEXTS)),
-    ("ColumnStats::copy, large texts", on!(Summary::Copy, LARGE_TEXTS)),
-    ("ColumnStats::copy, codes", on!(Summary::Copy, CODES)),
+    ("stats_of, texts", on!(Summary::Of, Texts)),
+    ("stats_of, large texts", on!(Summary::Of, LargeTexts)),
+    ("stats_of, codes", on!(Summary::Of, Codes)),
+    ("joined, texts", on!(Summary::Joined, Texts)),
+    ("joined, large texts", on!(Summary::Joined, LargeTexts)),
+    ("joined, codes", on!(Summary::Joined, Codes)),
+    ("ColumnStats::copy, texts", on!(Summary::Copy, Texts)),
+    ("ColumnStats::copy, large texts", on!(Summary::Copy, LargeTexts)),
+    ("ColumnStats::copy, codes", on!(Summary::Copy, Codes)),
 ];
 
 impl<R> Trial<R> for Case {
     fn run(&self, rt: &R, alloc: Global, refused: Option<Refused>) -> Result<Ran, Fail> {
         let Case(call, column) = *self;
-        let (widths, sample) = column;
-        let (other_widths, other_sample) = other(call, column);
-        let array = sampled_at(alloc, widths, sample)?;
-        let stats = stats_of(alloc, &array.view())?;
-        let scene = Columns {
+        let array = column.array(alloc)?;
+        let mut scene = Columns {
             call,
-            stats,
-            arrays: [array, sampled_at(alloc, other_widths, other_sample)?],
-            raw: raw_sample(alloc, widths, sample)?,
+            stats: stats_of(alloc, &array.view())?,
+            arrays: [array, other(call, column).array(alloc)?],
+            raw: column.parts(alloc)?,
         };
-        run(rt, alloc, scene, Due::Answer, refused)
+        run(rt, alloc, &mut scene, Due::Answer, refused)
     }
 }
 
 /// What goes with a column: the rows that are taken, the mask, or the column itself.
 fn other(call: Call, column: Column) -> Column {
-    match (call, column.1) {
-        (Call::Selection(Selection::Take), _) => ROWS,
-        (Call::Selection(Selection::Filter), Sample::Coded) => KEPT_OF_5,
-        (Call::Selection(Selection::Filter), Sample::ListsOfLists) => KEPT_OF_3,
-        (Call::Selection(Selection::Filter), _) => KEPT_OF_4,
+    match (call, column) {
+        (Call::Selection(Selection::Take), _) => Column::Rows,
+        (Call::Selection(Selection::Filter), Column::Codes) => Column::Kept(5),
+        (Call::Selection(Selection::Filter), Column::ListsOfLists | Column::LargeListsOfLists) =>
+            Column::Kept(3),
+        (Call::Selection(Selection::Filter), _) => Column::Kept(4),
         _ => column,
     }
 }
@@ -188,46 +182,50 @@ impl<R> Scene<R> for Columns {
     fn call(&mut self, _rt: &R, alloc: Global, report: &mut String) -> Result<(), Stop> {
         let [column, other] = &self.arrays;
         let (view, other) = (column.view(), other.view());
-        let array = match self.call {
-            Call::Kernel(kernel) => answered(report, computed(alloc, kernel, &view, &other))?,
-            Call::Selection(selection) => self.selected(alloc, report, selection)?,
-            Call::Summary(summary) => return self.summed(alloc, report, summary),
-        };
-        Ok(tell_array(report, &array)?)
+        match self.call {
+            Call::Kernel(kernel) => given(report, computed(alloc, kernel, &view, &other)),
+            Call::Selection(selection) => self.tell_selection(alloc, report, selection),
+            Call::Summary(summary) => self.tell_summary(alloc, report, summary),
+        }
     }
 
     fn tell(&mut self, _rt: &R, report: &mut String) -> Result<(), Fail> {
         let stats = &self.stats;
         write!(report, "{stats:?} ")?;
-        Ok(tell_arrays(report, &self.arrays)?)
+        Ok(tell_each(report, &self.arrays)?)
     }
 }
 
 impl Columns {
-    /// What a selection makes of the column.
-    fn selected(
+    /// Tells what a selection makes of the column.
+    fn tell_selection(
         &self,
         alloc: Global,
         report: &mut String,
         selection: Selection,
-    ) -> Result<Array, Stop> {
+    ) -> Result<(), Stop> {
         let [column, other] = &self.arrays;
         let (view, other) = (column.view(), other.view());
         match selection {
-            Selection::Take => answered(report, take(alloc, &view, &other)),
-            Selection::Filter => answered(report, filter(alloc, &view, &other)),
-            Selection::Concat => answered(report, concat(alloc, &[view, other])),
-            Selection::Copy => answered(report, copy(alloc, &view)),
-            Selection::Validate => answered(report, validate(alloc, self.raw.copy(alloc)?)),
+            Selection::Take => given(report, take(alloc, &view, &other)),
+            Selection::Filter => given(report, filter(alloc, &view, &other)),
+            Selection::Concat => given(report, concat(alloc, &[view, other])),
+            Selection::Copy => given(report, copy(alloc, &view)),
+            Selection::Validate => given(report, validate(alloc, self.raw.copy(alloc)?)),
             Selection::Nulls if is_too_deep(column.ty()) || has_dict_in_list(column.ty()) => {
                 Err(Stop::Refused)
             }
-            Selection::Nulls => answered(report, Array::nulls(alloc, column.ty(), 100)),
+            Selection::Nulls => given(report, Array::nulls(alloc, column.ty(), 100)),
         }
     }
 
     /// Tells statistics of the column, or what is made of them.
-    fn summed(&self, alloc: Global, report: &mut String, summary: Summary) -> Result<(), Stop> {
+    fn tell_summary(
+        &self,
+        alloc: Global,
+        report: &mut String,
+        summary: Summary,
+    ) -> Result<(), Stop> {
         let stats = &self.stats;
         match summary {
             Summary::Of => told(report, stats_of(alloc, &self.arrays[0].view())),

@@ -1,48 +1,82 @@
 //! Columns that calls are tried on.
 
+use arrays::{Array, RawArray};
+use std::alloc::Global;
+use std::test::Fail;
 use test_samples::{
     Flat, INT8, INT32, INT64, NAMES, NARROW, Positions, Sample, WIDE, WIDE_IN_NARROW, Widths,
+    raw_sample, sampled_at,
 };
 
-/// A column: how wide its offsets are, and what it holds.
-pub(crate) type Column = (Widths, Sample);
+/// A column.
+#[derive(Clone, Copy)]
+pub(crate) enum Column {
+    Numbers,
+    /// The numbers 1, 2, 3 and 4, none of which is null.
+    Long,
+    Bools,
+    Texts,
+    LargeTexts,
+    Codes,
+    Lists,
+    LargeLists,
+    ListsOfLists,
+    /// Large lists, of lists that aren't.
+    LargeListsOfLists,
+    /// Rows to be taken.
+    Rows,
+    /// Of so many rows the first and the third are kept.
+    Kept(u64),
+}
 
 #[rattlefmt::skip]
-pub(crate) const NUMBERS: Column = (NARROW, Sample::Numbers(INT8, &[Some(1), None, Some(3), Some(4)]));
+static NUMBERS: Sample = Sample::Numbers(INT8, &[Some(1), None, Some(3), Some(4)]);
 
-/// The numbers 1, 2, 3 and 4, none of which is null.
 #[rattlefmt::skip]
-pub(crate) const LONG: Column = (NARROW, Sample::Of((Flat::Int(INT64), 4, &[None, Some(
+static LONG: Sample = Sample::Of((Flat::Int(INT64), 4, &[None, Some(
     b"\x01\0\0\0\0\0\0\0\x02\0\0\0\0\0\0\0\x03\0\0\0\0\0\0\0\x04\0\0\0\0\0\0\0",
-)])));
+)]));
 
-#[rattlefmt::skip]
-pub(crate) const BOOLS: Column = (NARROW, Sample::Bools(&[Some(true), None, Some(false), Some(true)]));
+static BOOLS: Sample = Sample::Bools(&[Some(true), None, Some(false), Some(true)]);
 
-pub(crate) const TEXTS: Column = (NARROW, Sample::Texts(NAMES));
+static TEXTS: Sample = Sample::Texts(NAMES);
 
-pub(crate) const LARGE_TEXTS: Column = (WIDE, Sample::Texts(NAMES));
+static ROWS: Sample = Sample::Numbers(INT32, &[Some(2), None, Some(0), Some(2)]);
 
-pub(crate) const CODES: Column = (NARROW, Sample::Coded);
+static KEPT: Positions = &[None, Some(&[0x05])];
 
-pub(crate) const LISTS: Column = (NARROW, Sample::Lists);
+impl Column {
+    /// How wide its offsets are.
+    fn widths(self) -> Widths {
+        match self {
+            Column::LargeTexts | Column::LargeLists => WIDE,
+            Column::LargeListsOfLists => WIDE_IN_NARROW,
+            _ => NARROW,
+        }
+    }
 
-pub(crate) const LARGE_LISTS: Column = (WIDE, Sample::Lists);
+    /// What it holds.
+    fn sample(self) -> Sample {
+        match self {
+            Column::Numbers => NUMBERS,
+            Column::Long => LONG,
+            Column::Bools => BOOLS,
+            Column::Texts | Column::LargeTexts => TEXTS,
+            Column::Codes => Sample::Coded,
+            Column::Lists | Column::LargeLists => Sample::Lists,
+            Column::ListsOfLists | Column::LargeListsOfLists => Sample::ListsOfLists,
+            Column::Rows => ROWS,
+            Column::Kept(rows) => Sample::Of((Flat::Bool, rows, KEPT)),
+        }
+    }
 
-pub(crate) const LISTS_OF_LISTS: Column = (NARROW, Sample::ListsOfLists);
+    /// The column as an array.
+    pub(crate) fn array(self, alloc: Global) -> Result<Array, Fail> {
+        sampled_at(alloc, self.widths(), self.sample())
+    }
 
-/// Large lists, of lists that aren't.
-pub(crate) const LARGE_LISTS_OF_LISTS: Column = (WIDE_IN_NARROW, Sample::ListsOfLists);
-
-/// Rows to be taken.
-#[rattlefmt::skip]
-pub(crate) const ROWS: Column = (NARROW, Sample::Numbers(INT32, &[Some(2), None, Some(0), Some(2)]));
-
-/// Of so many rows the first and the third are kept.
-pub(crate) const KEPT_OF_3: Column = (NARROW, Sample::Of((Flat::Bool, 3, KEPT)));
-
-pub(crate) const KEPT_OF_4: Column = (NARROW, Sample::Of((Flat::Bool, 4, KEPT)));
-
-pub(crate) const KEPT_OF_5: Column = (NARROW, Sample::Of((Flat::Bool, 5, KEPT)));
-
-const KEPT: Positions = &[None, Some(&[0x05])];
+    /// The parts of the array.
+    pub(crate) fn parts(self, alloc: Global) -> Result<RawArray, Fail> {
+        raw_sample(alloc, self.widths(), self.sample())
+    }
+}

@@ -2,7 +2,7 @@
 
 use crate::run::{Scene, Stop, told};
 use crate::stage::tell_workers;
-use crate::tell::tell_version;
+use crate::tell::Tell;
 use shared::{GatherCause, Naming, Publish, SharedTable, Shown, Worker};
 use std::alloc::Global;
 use std::sync::Wait;
@@ -23,7 +23,7 @@ impl<N: Naming, P: Publish<Item = Shown<N>>, R: Wait> Scene<R> for Gathering<N, 
         match table.gather(rt, workers) {
             Ok(gathered) => {
                 self.workers = Some(gathered.workers);
-                Ok(tell_version(report, &gathered.version)?)
+                Ok(gathered.version.tell(report)?)
             }
             Err(fault) => {
                 self.table = Some(fault.table);

@@ -6,10 +6,11 @@ ghost use Rattle.shared.specs.Named.{IsNamed};
 use crate::permit::Permit;
 use crate::refusals::{Refused, begin, end};
 use crate::run::{Fault, Ran};
-use crate::samples::{ONE_COLUMN, ONE_MORE, TWO_BATCHES, file};
+use crate::samples::SampleFile;
 use crate::stage::tell_workers;
 use crate::sweep::Trial;
 use crate::tell::tell_rows;
+use arrays::File;
 use loads::{LoadFault, OpenGate, load_all};
 use shared::{
     Naming, Opening, Publish, Reader, Receipt, SharedTable, Shown, Version, Worker, open,
@@ -20,22 +21,15 @@ use std::sync::Wait;
 use std::test::Fail;
 use std::thread::Threads;
 
-/// Two workers load a file each, the second that of a text, into a new table that so many readers look at.
+/// Two workers load a file each, the second this one, into a new table that so many readers look at.
 #[derive(Clone, Copy)]
-pub(crate) struct Loading(u32, Second);
-
-/// The second worker's file.
-#[derive(Clone, Copy)]
-enum Second {
-    OneMore,
-    OneColumn,
-}
+pub(crate) struct Loading(u32, SampleFile);
 
 #[rattlefmt::skip]
 pub(crate) static CASES: [(&str, Loading); 3] = [
-    ("load_all", Loading(1, Second::OneMore)),
-    ("load_all, no readers", Loading(0, Second::OneMore)),
-    ("load_all, a file of other fields", Loading(1, Second::OneColumn)),
+    ("load_all", Loading(1, SampleFile::OneMore)),
+    ("load_all, no readers", Loading(0, SampleFile::OneMore)),
+    ("load_all, a file of other fields", Loading(1, SampleFile::OneColumn)),
 ];
 
 impl<R: Threads + Wait + Sync> Trial<R> for Loading {
@@ -59,7 +53,7 @@ fn load<R: Threads + Wait + Sync>(
     loading: Loading,
     refused: Option<Refused>,
 ) -> Result<Ran, Fail> {
-    let file = file(alloc, TWO_BATCHES)?;
+    let file = SampleFile::TwoBatches.read(alloc)?;
     let opening = Opening::new(alloc, file.schema().copy(alloc)?, 2)?;
     load_under::<Brand, R>(rt, alloc, opening, loading, refused)
 }
@@ -84,17 +78,13 @@ fn load_by<N: Naming + Send + Sync, P: Publish<Item = Shown<N>> + Send, R: Threa
     rt: &R,
     alloc: Global,
     opened: (SharedTable<N, P>, Vec<Worker<N>>, Vec<Reader<N>>),
-    second: Second,
+    second: SampleFile,
     refused: Option<Refused>,
 ) -> Result<Ran, Fail>
     requires { 0 < length opened.1.items }
 {
     let (table, mut workers, mut readers) = opened;
-    let second = match second {
-        Second::OneMore => ONE_MORE,
-        Second::OneColumn => ONE_COLUMN,
-    };
-    let files = [file(alloc, TWO_BATCHES)?, file(alloc, second)?];
+    let files = both(alloc, second)?;
     begin(alloc, refused);
     let called = load_all(rt, rt, alloc, &table, &mut workers, &files, &OpenGate);
     let met = end(alloc);
@@ -102,17 +92,36 @@ fn load_by<N: Naming + Send + Sync, P: Publish<Item = Shown<N>> + Send, R: Threa
         return Ok(Ran::Wrong(Fault::NoAnswer));
     };
     let version = table.snapshot(rt, worker)?;
-    if !are_counted(&version, &workers) {
+    came_to(alloc, met, called, &version, &workers, &mut readers)
+}
+
+/// The files of both workers.
+fn both(alloc: Global, second: SampleFile) -> Result<[File; 2], Fail> {
+    Ok([SampleFile::TwoBatches.read(alloc)?, second.read(alloc)?])
+}
+
+/// What comes of a load in which a request was refused or not.
+fn came_to<N: Naming>(
+    alloc: Global,
+    met: bool,
+    called: Result<Vec<Receipt<N>>, LoadFault>,
+    version: &Version,
+    workers: &[Worker<N>],
+    readers: &mut [Reader<N>],
+) -> Result<Ran, Fail> {
+    if !are_counted(version, workers) {
         return Ok(Ran::Wrong(Fault::Miscounted));
     }
-    let report = match called {
-        Ok(receipts) => report(alloc, &receipts, &version, &workers, &mut readers)?,
-        Err(LoadFault::NoMemory) if met => return Ok(Ran::Wrong(Fault::NoSecondAnswer)),
-        Err(LoadFault::NoMemory) => return Ok(Ran::Wrong(Fault::NoAnswer)),
+    match called {
+        Ok(receipts) => {
+            let report = report(alloc, &receipts, version, workers, readers)?;
+            Ok(Ran::Answered(met, report))
+        }
+        Err(LoadFault::NoMemory) if met => Ok(Ran::Wrong(Fault::NoSecondAnswer)),
+        Err(LoadFault::NoMemory) => Ok(Ran::Wrong(Fault::NoAnswer)),
         // What the other worker could append is open.
-        Err(fault) => format!(in alloc; "{fault}")?,
-    };
-    Ok(Ran::Answered(met, report))
+        Err(fault) => Ok(Ran::Answered(met, format!(in alloc; "{fault}")?)),
+    }
 }
 
 /// Whether each worker made as many calls as it has batches in the table.
@@ -141,19 +150,41 @@ fn report<N: Naming>(
     readers: &mut [Reader<N>],
 ) -> Result<String, Fail> {
     let mut report = String::new(alloc);
-    let count = receipts.len();
-    let last = receipts.iter().map(|receipt| receipt.entry()).max();
-    let rows = version.rows();
-    write!(report, "{count} receipts up to {last:?}, {rows} rows ")?;
+    tell_receipts(&mut report, receipts, version)?;
     tell_workers(&mut report, workers)?;
     for worker in workers {
         tell_batches_of(&mut report, version, worker.number())?;
     }
+    tell_readers(&mut report, readers)?;
+    Ok(report)
+}
+
+/// Tells how many receipts there are, the last entry of these, and how many rows the table has.
+fn tell_receipts<N: Naming>(
+    report: &mut String,
+    receipts: &[Receipt<N>],
+    version: &Version,
+) -> Result<(), Fail> {
+    let (count, last, rows) = (receipts.len(), last_entry(receipts), version.rows());
+    Ok(write!(report, "{count} receipts up to {last}, {rows} rows ")?)
+}
+
+/// The last entry of receipts, 0 where there is none.
+fn last_entry<N: Naming>(receipts: &[Receipt<N>]) -> u32 {
+    let mut last = 0;
+    for receipt in receipts {
+        last = receipt.entry().max(last);
+    }
+    last
+}
+
+/// Tells how many rows each reader sees.
+fn tell_readers<N: Naming>(report: &mut String, readers: &mut [Reader<N>]) -> Result<(), Fail> {
     for reader in readers.iter_mut() {
         let rows = reader.latest()?.rows();
         write!(report, "{rows} ")?;
     }
-    Ok(report)
+    Ok(())
 }
 
 /// Tells the batches of a worker, one after the other.

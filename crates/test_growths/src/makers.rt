@@ -5,10 +5,10 @@ ghost use Rattle.arrays.specs.Kind as kind;
 
 use crate::nodes::nodes;
 use crate::refusals::Refused;
-use crate::run::{Due, Ran, Scene, Stop, answered, run, told};
-use crate::samples::{BY_TEXT, TWO_BATCHES};
+use crate::run::{Due, Ran, Scene, Stop, answered, given, given_table, run, told};
+use crate::samples::{SampleFile, SampleQuery};
 use crate::sweep::Trial;
-use crate::tell::{tell_array, tell_arrays, tell_batch, tell_batches, tell_file, tell_version};
+use crate::tell::Tell;
 use arrays::{
     Array, BuildFault, DataType, Field, IntBuilder, ListBuilder, OffsetWidth, Schema, TextBuilder,
     Words,
@@ -21,10 +21,10 @@ use flat::{batch_of, schema_of};
 use intake::table_of;
 use job::job;
 use json_file::{read_batches, read_text as read_file_text};
-use json_read::{Coding, read_head};
-use json_scan::{read_integers, read_text, read_value};
+use json_read::{Coding, read_head, read_schema};
+use json_scan::{find_member, read_integers, read_key, read_text, read_value};
 use json_stream::{read_batch, read_column, read_columns};
-use std::alloc::Global;
+use std::alloc::{AllocError, Global};
 use std::sync::Arc;
 use std::test::Fail;
 use test_samples::{INT8, INT32};
@@ -58,15 +58,18 @@ pub(crate) enum Column {
 /// What is read from bytes or words.
 #[derive(Clone, Copy)]
 pub(crate) enum Document {
-    File(&'static str),
+    File(SampleFile),
     FileOfVec,
-    Query(&'static str),
+    Query(SampleQuery),
     Field,
     Whole,
     Job,
     Text,
+    Key,
+    Member,
     Integers,
     Tree,
+    Schema,
     Column,
     Codes,
     FileTree,
@@ -86,8 +89,9 @@ pub(crate) enum Part {
 /// What is made of nodes.
 #[derive(Clone, Copy)]
 pub(crate) enum Lent {
-    /// The truth values are in these bits.
-    Batch(&'static [u8]),
+    Batch,
+    /// A batch of which a buffer is too short.
+    ShortBatch,
     Schema,
     Table,
 }
@@ -122,17 +126,19 @@ pub(crate) static MAKERS: [(&str, Maker); 17] = [
 ];
 
 #[rattlefmt::skip]
-pub(crate) static DOCUMENTS: [(&str, Maker); 20] = [
-    ("read_file", Maker::Document(Document::File(TWO_BATCHES))),
-    ("read_file, a wrong kind", Maker::Document(Document::File(WRONG_KIND))),
-    ("read_file, an offset past the items", Maker::Document(Document::File(PAST_END))),
+pub(crate) static DOCUMENTS: [(&str, Maker); 23] = [
+    ("read_file", Maker::Document(Document::File(SampleFile::TwoBatches))),
+    ("read_file, a wrong kind", Maker::Document(Document::File(SampleFile::WrongKind))),
+    ("read_file, an offset past the items", Maker::Document(Document::File(SampleFile::PastEnd))),
     ("read_file_from_vec", Maker::Document(Document::FileOfVec)),
-    ("read_query", Maker::Document(Document::Query(BY_TEXT))),
-    ("read_query, an aggregate that isn't one", Maker::Document(Document::Query(NO_AGGREGATE))),
+    ("read_query", Maker::Document(Document::Query(SampleQuery::ByText))),
+    ("read_query, an aggregate that isn't one", Maker::Document(Document::Query(SampleQuery::NoAggregate))),
     ("read_field", Maker::Document(Document::Field)),
     ("read_whole", Maker::Document(Document::Whole)),
     ("job", Maker::Document(Document::Job)),
     ("json_scan::read_text", Maker::Document(Document::Text)),
+    ("json_scan::read_key", Maker::Document(Document::Key)),
+    ("json_scan::find_member", Maker::Document(Document::Member)),
     ("json_scan::read_integers", Maker::Document(Document::Integers)),
     ("json_scan::read_value", Maker::Document(Document::Tree)),
     ("json_stream::read_column", Maker::Document(Document::Column)),
@@ -141,88 +147,86 @@ pub(crate) static DOCUMENTS: [(&str, Maker); 20] = [
     ("json_stream::read_batch", Maker::Document(Document::Part(Part::Batch))),
     ("json_file::read_batches", Maker::Document(Document::Part(Part::Batches))),
     ("json_file::read_text", Maker::Document(Document::FileText)),
+    ("json_read::read_schema", Maker::Document(Document::Schema)),
     ("json_read::read_head", Maker::Document(Document::Head)),
     ("json_read::read_file", Maker::Document(Document::FileTree)),
 ];
 
 #[rattlefmt::skip]
 pub(crate) static LENT: [(&str, Maker); 4] = [
-    ("flat::batch_of", Maker::Lent(Lent::Batch(b"\x05"))),
-    ("flat::batch_of, a short buffer", Maker::Lent(Lent::Batch(b""))),
+    ("flat::batch_of", Maker::Lent(Lent::Batch)),
+    ("flat::batch_of, a short buffer", Maker::Lent(Lent::ShortBatch)),
     ("flat::schema_of", Maker::Lent(Lent::Schema)),
     ("intake::table_of", Maker::Lent(Lent::Table)),
 ];
 
 /// More bytes than there is room for at first.
-const LONG: &str =
+static LONG: &str =
     "a text of more bytes than the padding of a buffer has, so that its builder has to grow";
 
 /// A field of lists in lists.
-const FIELD: &str =
+static FIELD: &str =
     r#"{"name":"l","nullable":true,"type":{"name":"list"},"children":[{"name":"item","nullable":true,"type":{"name":"largelist"},"children":[{"name":"item","nullable":false,"type":{"name":"utf8"}}]}]}"#;
 
-/// A field whose `nullable` is a number.
-const WRONG_KIND: &str =
-    r#"{"schema":{"fields":[{"name":"s","nullable":1,"type":{"name":"utf8"},"children":[]}]},"batches":[]}"#;
-
-/// A column of lists whose second offset is past their items.
-const PAST_END: &str =
-    r#"{"schema":{"fields":[{"name":"l","nullable":true,"type":{"name":"list"},"children":[{"name":"item","nullable":true,"type":{"name":"bool"},"children":[]}]}]},"batches":[{"count":1,"columns":[{"name":"l","count":1,"VALIDITY":[1],"OFFSET":[0,2],"children":[{"name":"item","count":1,"VALIDITY":[1],"DATA":[true]}]}]}]}"#;
-
-const NO_AGGREGATE: &str = r#"{"by":["s"],"aggs":[{"agg":"mean","column":"n"}]}"#;
-
 /// A column of texts with a null, in one of which much is escaped.
-const COLUMN: &str =
+static COLUMN: &str =
     r#"{"count":3,"VALIDITY":[1,0,1],"DATA":["plain",7,"\u0061\u0062\u0063\u0064\u0065\u0066\u0067\u0068\u0069\u006a\u006b\u006c\u006d\u006e"]}"#;
 
 /// Batches of such a column, one.
-const BATCHES: &str =
+static BATCHES: &str =
     r#"[{"count":3,"columns":[{"count":3,"VALIDITY":[1,0,1],"DATA":["plain",7,"\u0061\u0062\u0063\u0064\u0065\u0066\u0067\u0068\u0069\u006a\u006b\u006c\u006d\u006e"]}]}]"#;
 
 /// Where its columns stand.
 const COLUMNS_AT: usize = 22;
 
 /// A column of indices with a null.
-const CODES: &str = r#"{"count":3,"DATA":[1,null,0],"VALIDITY":[1,0,1]}"#;
+static CODES: &str = r#"{"count":3,"DATA":[1,null,0],"VALIDITY":[1,0,1]}"#;
 
 /// A string in which much is escaped.
-const ESCAPED: &str =
+static ESCAPED: &str =
     r#"  "a text\n\u00e9\ud83d\ude00 that is longer than a buffer is at first, \"twice\"", "#;
 
-const INTEGERS: &str = "[1, -2, 3, 18446744073709551615, 5, 6, 7, 8, 9, 10]";
+/// An object, in the keys of which much is escaped.
+static KEYS: &str =
+    r#"{"\u0061\u0062\u0063\u0064\u0065\u0066\u0067\u0068\u0069\u006a\u006b\u006c\u006d" : 1, "b": 2}"#;
+
+/// A schema of two fields, one of which is encoded.
+static SCHEMA: &str =
+    r#"{"fields":[{"name":"a","nullable":true,"type":{"name":"utf8"},"dictionary":{"id":7,"indexType":{"name":"int","bitWidth":8,"isSigned":true}}},{"name":"b","nullable":true,"type":{"name":"bool"}}]}"#;
+
+static INTEGERS: &str = "[1, -2, 3, 18446744073709551615, 5, 6, 7, 8, 9, 10]";
 
 /// Values of each kind in one another, with more items than there is room for at first.
-const TREE: &str =
+static TREE: &str =
     r#"{"a":[true,null,-1,1.5,"plain","\u0061\u0062\u0063",{"b":[],"c":{}},8,9,10],"d":{},"a2":2}"#;
 
 #[rattlefmt::skip]
-const WORDS: [&str; 9] =
+static WORDS: [&str; 9] =
     ["arrowtab", "query", "--workers", "2", "--query", "{}", "--add-column", "[]", "towns.json"];
+
+/// What a maker is to come to.
+fn due(maker: Maker) -> Due {
+    match maker {
+        Maker::Document(Document::File(SampleFile::WrongKind | SampleFile::PastEnd)) =>
+            Due::Refusal,
+        Maker::Document(Document::Query(SampleQuery::NoAggregate)) => Due::Refusal,
+        Maker::Lent(Lent::ShortBatch) => Due::Refusal,
+        _ => Due::Answer,
+    }
+}
 
 impl<R> Trial<R> for Maker {
     fn run(&self, rt: &R, alloc: Global, refused: Option<Refused>) -> Result<Ran, Fail> {
-        let due = match self {
-            Maker::Document(Document::File(text)) if *text != TWO_BATCHES => Due::Refusal,
-            Maker::Document(Document::Query(text)) if *text != BY_TEXT => Due::Refusal,
-            Maker::Lent(Lent::Batch(b"")) => Due::Refusal,
-            _ => Due::Answer,
-        };
-        run(rt, alloc, *self, due, refused)
+        let mut maker = *self;
+        run(rt, alloc, &mut maker, due(*self), refused)
     }
 }
 
 impl<R> Scene<R> for Maker {
     fn call(&mut self, _rt: &R, alloc: Global, report: &mut String) -> Result<(), Stop> {
         match *self {
-            Maker::Buffer(maker) => {
-                let buffer = buffer(alloc, maker)?;
-                let bytes = buffer.bytes();
-                Ok(write!(report, "{bytes:?}")?)
-            }
-            Maker::Column(maker) => {
-                let array = answered(report, built(alloc, maker))?;
-                Ok(tell_array(report, &array)?)
-            }
+            Maker::Buffer(maker) => given(report, buffer(alloc, maker)),
+            Maker::Column(maker) => given(report, built(alloc, maker)),
             Maker::Document(document) => read(alloc, report, document),
             Maker::Lent(lent) => made_of_nodes(alloc, report, lent),
         }
@@ -330,49 +334,64 @@ fn lists(alloc: Global, width: OffsetWidth) -> Result<Array, BuildFault> {
 /// Tells what is read.
 fn read(alloc: Global, report: &mut String, document: Document) -> Result<(), Stop> {
     match document {
-        Document::File(text) => {
-            let file = answered(report, read_file(alloc, text.as_bytes()))?;
-            Ok(tell_file(report, &file)?)
+        Document::File(file) => given(report, read_file(alloc, file.bytes())),
+        Document::FileOfVec => given(report, read_file_from_vec(alloc, two_batches(alloc)?)),
+        Document::FileText => given(report, read_file_text(alloc, SampleFile::TwoBatches.text())),
+        Document::FileTree => {
+            given(
+                report,
+                json_read::read_file(alloc, SampleFile::TwoBatches.bytes()),
+            )
         }
-        Document::FileOfVec => {
-            let bytes = Vec::from_slice(alloc, TWO_BATCHES.as_bytes())?;
-            let file = answered(report, read_file_from_vec(alloc, bytes))?;
-            Ok(tell_file(report, &file)?)
-        }
-        Document::Query(text) => told(report, read_query(alloc, text.as_bytes())),
+        Document::Head => read_head_of(alloc, report),
+        Document::Schema => read_schema_of(alloc, report),
+        Document::Whole => read_source(alloc, report),
+        Document::Column => read_plain(alloc, report),
+        Document::Codes => read_coded(alloc, report),
+        Document::Part(part) => read_part(alloc, report, part),
+        _ => read_value_of(alloc, report, document),
+    }
+}
+
+/// The same of what isn't a file or a part of it.
+fn read_value_of(alloc: Global, report: &mut String, document: Document) -> Result<(), Stop> {
+    match document {
+        Document::Query(query) => told(report, read_query(alloc, query.text().as_bytes())),
         Document::Field => told(report, read_field(alloc, FIELD.as_bytes())),
-        Document::Whole => {
-            let mut source = MemorySource::new(Vec::from_slice(alloc, TWO_BATCHES.as_bytes())?);
-            told(report, read_whole(alloc, &mut source))
-        }
         Document::Job => told(report, job(alloc, &WORDS)),
-        Document::Text => {
-            let mut buffer = Vec::new(alloc);
-            told(report, read_text(ESCAPED, 0, &mut buffer))
-        }
+        Document::Text => told(report, read_text(ESCAPED, 0, &mut Vec::new(alloc))),
+        Document::Key => told(report, read_key(KEYS, 1, &mut Vec::new(alloc))),
+        Document::Member => told(report, find_member(alloc, KEYS, 0, 1, "b")),
         Document::Integers => told(report, read_integers(alloc, INTEGERS, 0, 1)),
         Document::Tree => told(report, read_value(alloc, TREE, 0, 4)),
-        Document::Column => read_one(alloc, report, DataType::Utf8, &None, COLUMN),
-        Document::Codes => {
-            let coding = answered(report, coding(alloc))?;
-            read_one(alloc, report, DataType::Dict, &Some(coding), CODES)
-        }
-        Document::FileTree => {
-            let file = answered(report, json_read::read_file(alloc, TWO_BATCHES.as_bytes()))?;
-            Ok(tell_file(report, &file)?)
-        }
-        Document::FileText => {
-            let file = answered(report, read_file_text(alloc, TWO_BATCHES))?;
-            Ok(tell_file(report, &file)?)
-        }
-        Document::Head => {
-            let document = answered(report, read_value(alloc, TWO_BATCHES, 0, 20))?;
-            let head = answered(report, read_head(alloc, &document.value))?;
-            let fields = head.schema.fields();
-            Ok(write!(report, "{fields:?}")?)
-        }
-        Document::Part(part) => read_part(alloc, report, part),
+        _ => Err(Stop::Refused),
     }
+}
+
+/// The bytes of a file.
+fn two_batches(alloc: Global) -> Result<Vec<u8>, AllocError> {
+    Vec::from_slice(alloc, SampleFile::TwoBatches.bytes())
+}
+
+/// Tells what is read of a source.
+fn read_source(alloc: Global, report: &mut String) -> Result<(), Stop> {
+    let mut source = MemorySource::new(two_batches(alloc)?);
+    told(report, read_whole(alloc, &mut source))
+}
+
+/// Tells what a file says before its batches.
+fn read_head_of(alloc: Global, report: &mut String) -> Result<(), Stop> {
+    let document = read_value(alloc, SampleFile::TwoBatches.text(), 0, 20);
+    let document = answered(report, document)?;
+    let head = answered(report, read_head(alloc, &document.value))?;
+    Ok(head.schema.tell(report)?)
+}
+
+/// Tells the schema of a document.
+fn read_schema_of(alloc: Global, report: &mut String) -> Result<(), Stop> {
+    let document = answered(report, read_value(alloc, SCHEMA, 0, 20))?;
+    let read = answered(report, read_schema(alloc, &document.value))?;
+    Ok(read.schema.tell(report)?)
 }
 
 /// A coding by two texts.
@@ -384,74 +403,54 @@ fn coding(alloc: Global) -> Result<Coding, BuildFault> {
     })
 }
 
-/// Tells the column of a field.
-fn read_one(
-    alloc: Global,
-    report: &mut String,
-    ty: DataType,
-    coding: &Option<Coding>,
-    column: &str,
-) -> Result<(), Stop> {
-    let field = Field {
-        name: String::from_str(alloc, "s")?,
-        nullable: true,
-        ty,
-    };
-    let column = answered(report, read_column(alloc, &field, coding, column, 0, 2))?;
-    Ok(tell_array(report, &column.value)?)
+/// Tells a column of texts.
+fn read_plain(alloc: Global, report: &mut String) -> Result<(), Stop> {
+    let field = Field::nullable(alloc, "s", DataType::Utf8)?;
+    given(report, read_column(alloc, &field, &None, COLUMN, 0, 2))
+}
+
+/// Tells a column of codes.
+fn read_coded(alloc: Global, report: &mut String) -> Result<(), Stop> {
+    let coding = Some(answered(report, coding(alloc))?);
+    let field = Field::nullable(alloc, "s", DataType::Dict)?;
+    given(report, read_column(alloc, &field, &coding, CODES, 0, 2))
 }
 
 /// The schema of one column of texts.
 fn schema_of_texts(alloc: Global) -> Result<Arc<Schema>, NoMemory> {
-    let field = Field {
-        name: String::from_str(alloc, "s")?,
-        nullable: true,
-        ty: DataType::Utf8,
-    };
+    let field = Field::nullable(alloc, "s", DataType::Utf8)?;
     let Ok(schema) = Schema::new(vec![in alloc; field]?) else {
         return Err(NoMemory);
     };
-    Arc::new(alloc, schema).map_err(|_| NoMemory)
+    Ok(Arc::new(alloc, schema)?)
 }
 
 /// Tells what is read of batches of texts.
 fn read_part(alloc: Global, report: &mut String, part: Part) -> Result<(), Stop> {
     let schema = answered(report, schema_of_texts(alloc))?;
+    let catalog = [None];
     match part {
         Part::Columns => {
             let fields = schema.fields();
-            let columns = read_columns(alloc, fields, &[None], BATCHES, COLUMNS_AT, 4);
-            let columns = answered(report, columns)?;
-            Ok(tell_arrays(report, &columns.value)?)
+            given(
+                report,
+                read_columns(alloc, fields, &catalog, BATCHES, COLUMNS_AT, 4),
+            )
         }
-        Part::Batch => {
-            let batch = answered(report, read_batch(alloc, &schema, &[None], BATCHES, 1, 5))?;
-            Ok(tell_batch(report, &batch.value)?)
-        }
-        Part::Batches => {
-            let batches = read_batches(alloc, &schema, &[None], BATCHES, 0, 6);
-            let batches = answered(report, batches)?;
-            Ok(tell_batches(report, &batches.value)?)
-        }
+        Part::Batch => given(report, read_batch(alloc, &schema, &catalog, BATCHES, 1, 5)),
+        Part::Batches => given(
+            report,
+            read_batches(alloc, &schema, &catalog, BATCHES, 0, 6),
+        ),
     }
 }
 
 /// Tells what is made of nodes.
 fn made_of_nodes(alloc: Global, report: &mut String, lent: Lent) -> Result<(), Stop> {
     match lent {
-        Lent::Batch(bits) => {
-            let batch = answered(report, batch_of(alloc, 3, &nodes(bits)))?;
-            Ok(tell_batch(report, &batch)?)
-        }
-        Lent::Schema => {
-            let schema = answered(report, schema_of(alloc, &nodes(b"\x05")))?;
-            let fields = schema.fields();
-            Ok(write!(report, "{fields:?}")?)
-        }
-        Lent::Table => {
-            let table = answered(report, table_of(alloc, &nodes(b"\x05")))?;
-            let version = table.version()?;
-            Ok(tell_version(report, &version)?)
-        }
+        Lent::Batch => given(report, batch_of(alloc, 3, &nodes(b"\x05"))),
+        Lent::ShortBatch => given(report, batch_of(alloc, 3, &nodes(b""))),
+        Lent::Schema => given(report, schema_of(alloc, &nodes(b"\x05"))),
+        Lent::Table => given_table(report, table_of(alloc, &nodes(b"\x05"))),
     }
 }

@@ -7,10 +7,10 @@ ghost use Rattle.query.specs.Fault.{fits};
 
 use crate::permit::Permit;
 use crate::refusals::Refused;
-use crate::run::{Due, Ran, Scene, Stop, answered, run, told};
-use crate::samples::{BY_LARGE_TEXT, BY_TEXT, BY_TWO, ONE_MORE, first_batch, table};
+use crate::run::{Due, Ran, Scene, Stop, given, run, told};
+use crate::samples::{SampleFile, SampleQuery, table};
 use crate::sweep::Trial;
-use crate::tell::{tell_file, tell_version};
+use crate::tell::Tell;
 use answers::OpenGate;
 use arrays::File;
 use arrow_json::{print_file, read_query};
@@ -28,59 +28,56 @@ enum Call {
     Resolve,
     /// The query is answered in so many pieces.
     Answer(u32),
-    /// The query of a text is asked.
-    Ask(&'static str),
+    /// This query's text is asked.
+    Ask(SampleQuery),
     Export,
     /// The version's file is printed.
     Print,
 }
 
-/// A call, and the text of a query.
+/// A call, and its query.
 #[derive(Clone, Copy)]
-pub(crate) struct Case(Call, &'static str);
+pub(crate) struct Case(Call, SampleQuery);
 
 #[rattlefmt::skip]
 pub(crate) static CASES: [(&str, Case); 17] = [
-    ("resolve, by texts", Case(Call::Resolve, BY_TEXT)),
-    ("resolve, by large texts", Case(Call::Resolve, BY_LARGE_TEXT)),
-    ("resolve, by two", Case(Call::Resolve, BY_TWO)),
-    ("answer, a sum past its type", Case(Call::Answer(1), PAST_TYPE)),
-    ("answer, by texts, 1 piece", Case(Call::Answer(1), BY_TEXT)),
-    ("answer, by texts, 2 pieces", Case(Call::Answer(2), BY_TEXT)),
-    ("answer, by texts, 4 pieces", Case(Call::Answer(4), BY_TEXT)),
-    ("answer, by large texts, 1 piece", Case(Call::Answer(1), BY_LARGE_TEXT)),
-    ("answer, by large texts, 2 pieces", Case(Call::Answer(2), BY_LARGE_TEXT)),
-    ("answer, by large texts, 4 pieces", Case(Call::Answer(4), BY_LARGE_TEXT)),
-    ("answer, by two, 1 piece", Case(Call::Answer(1), BY_TWO)),
-    ("answer, by two, 2 pieces", Case(Call::Answer(2), BY_TWO)),
-    ("answer, by two, 4 pieces", Case(Call::Answer(4), BY_TWO)),
-    ("ask, by two", Case(Call::Ask(BY_TWO), BY_TWO)),
-    ("ask, no such column", Case(Call::Ask(NO_COLUMN), BY_TWO)),
-    ("export", Case(Call::Export, BY_TWO)),
-    ("print_file", Case(Call::Print, BY_TWO)),
+    ("resolve, by texts", Case(Call::Resolve, SampleQuery::ByText)),
+    ("resolve, by large texts", Case(Call::Resolve, SampleQuery::ByLargeText)),
+    ("resolve, by two", Case(Call::Resolve, SampleQuery::ByTwo)),
+    ("answer, a sum past its type", Case(Call::Answer(1), SampleQuery::PastType)),
+    ("answer, by texts, 1 piece", Case(Call::Answer(1), SampleQuery::ByText)),
+    ("answer, by texts, 2 pieces", Case(Call::Answer(2), SampleQuery::ByText)),
+    ("answer, by texts, 4 pieces", Case(Call::Answer(4), SampleQuery::ByText)),
+    ("answer, by large texts, 1 piece", Case(Call::Answer(1), SampleQuery::ByLargeText)),
+    ("answer, by large texts, 2 pieces", Case(Call::Answer(2), SampleQuery::ByLargeText)),
+    ("answer, by large texts, 4 pieces", Case(Call::Answer(4), SampleQuery::ByLargeText)),
+    ("answer, by two, 1 piece", Case(Call::Answer(1), SampleQuery::ByTwo)),
+    ("answer, by two, 2 pieces", Case(Call::Answer(2), SampleQuery::ByTwo)),
+    ("answer, by two, 4 pieces", Case(Call::Answer(4), SampleQuery::ByTwo)),
+    ("ask, by two", Case(Call::Ask(SampleQuery::ByTwo), SampleQuery::ByTwo)),
+    ("ask, no such column", Case(Call::Ask(SampleQuery::NoColumn), SampleQuery::ByTwo)),
+    ("export", Case(Call::Export, SampleQuery::ByTwo)),
+    ("print_file", Case(Call::Print, SampleQuery::ByTwo)),
 ];
 
-/// A query whose second column isn't there.
-const NO_COLUMN: &str = r#"{"by":["s","x"],"aggs":[{"agg":"rows"}]}"#;
-
-/// A query whose filter adds past the type of a column.
-const PAST_TYPE: &str =
-    r#"{"filter":{"op":"lt","args":[{"op":"add","args":[{"column":"n"},{"int":2147483647}]},{"int":0}]},"by":["s"],"aggs":[{"agg":"rows"}]}"#;
+/// The version of a table of a batch that was joined and another.
+fn version(alloc: Global) -> Result<Arc<Version>, Fail> {
+    let mut table = table(alloc)?;
+    table.compact(100)?;
+    let batch = SampleFile::OneMore.first_batch(alloc)?;
+    table.admit(2, &batch)?;
+    Ok(table.version()?)
+}
 
 impl<R: Threads + Sync> Trial<R> for Case {
     fn run(&self, rt: &R, alloc: Global, refused: Option<Refused>) -> Result<Ran, Fail> {
-        let Case(call, text) = *self;
-        let mut table = table(alloc)?;
-        table.compact(100)?;
-        let batch = first_batch(alloc, ONE_MORE)?;
-        table.admit(2, &batch)?;
-        let scene = Asking::new(alloc, call, table.version()?, text)?;
-        let due = match call {
-            Call::Ask(text) if text == NO_COLUMN => Due::Refusal,
-            Call::Answer(_) if text == PAST_TYPE => Due::Refusal,
+        let Case(call, query) = *self;
+        let mut scene = Asking::new(alloc, call, version(alloc)?, query)?;
+        let due = match (call, query) {
+            (Call::Ask(SampleQuery::NoColumn), _) | (_, SampleQuery::PastType) => Due::Refusal,
             _ => Due::Answer,
         };
-        run(rt, alloc, scene, due, refused)
+        run(rt, alloc, &mut scene, due, refused)
     }
 }
 
@@ -96,14 +93,14 @@ struct Asking {
 }
 
 impl Asking {
-    /// A call with a version, and with the query of a text placed under its fields.
+    /// A call with a version, and with a query placed under its fields.
     fn new(
         alloc: Global,
         call: Call,
         version: Arc<Version>,
-        text: &'static str,
+        sample: SampleQuery,
     ) -> Result<Asking, Fail> {
-        let text = read_query(alloc, text.as_bytes())?;
+        let text = read_query(alloc, sample.text().as_bytes())?;
         let query = resolve(alloc, &text, version.schema())?;
         Ok(Asking {
             call,
@@ -125,11 +122,8 @@ impl<R: Threads + Sync> Scene<R> for Asking {
                 told(report, version.answer(&rt, alloc, query, pieces, &OpenGate))
             }
             Call::Answer(_) => Err(Stop::Refused),
-            Call::Ask(text) => told(report, ask(&rt, alloc, version, text)),
-            Call::Export => {
-                let file = answered(report, version.export(alloc))?;
-                Ok(tell_file(report, &file)?)
-            }
+            Call::Ask(asked) => told(report, ask(&rt, alloc, version, asked.text())),
+            Call::Export => given(report, version.export(alloc)),
             Call::Print => told(report, print_file(alloc, &self.file)),
         }
     }
@@ -137,7 +131,7 @@ impl<R: Threads + Sync> Scene<R> for Asking {
     fn tell(&mut self, _rt: &R, report: &mut String) -> Result<(), Fail> {
         let (text, query) = (&self.text, &self.query);
         write!(report, "{text:?} {query:?} ")?;
-        tell_file(report, &self.file)?;
-        Ok(tell_version(report, &self.version)?)
+        self.file.tell(report)?;
+        Ok(self.version.tell(report)?)
     }
 }

@@ -1,10 +1,12 @@
 //! One run of a call.
 
 use crate::refusals::{Refused, begin, end};
+use crate::tell::Tell;
 use colbits::NoMemory;
 use std::alloc::{AllocError, Global};
 use std::fmt;
 use std::test::Fail;
+use table::TableState;
 
 /// More bytes than are told of any call, so that telling wants no memory.
 const ROOM: usize = 1 << 16;
@@ -17,7 +19,7 @@ pub(crate) enum Due {
 }
 
 /// Why a call has no answer.
-#[derive(Clone, Copy)]
+#[derive(Clone, Copy, Debug)]
 pub(crate) enum Stop {
     NoMemory,
     /// It was refused for another cause, or what it is to be made with isn't there.
@@ -37,7 +39,7 @@ impl From<NoMemory> for Stop {
 }
 
 /// A call with all that it looks at.
-pub(crate) trait Scene<R>: Drop {
+pub(crate) trait Scene<R> {
     /// Makes the call, with all that it takes by value, and tells its answer, or why it was refused.
     fn call(&mut self, rt: &R, alloc: Global, report: &mut String) -> Result<(), Stop>;
 
@@ -103,35 +105,74 @@ pub(crate) fn told<T: fmt::Debug + Drop, F: fmt::Debug + Drop>(
     Ok(write!(report, "{answer:?}")?)
 }
 
+/// Tells all that is seen of what a call answered.
+pub(crate) fn given<T: Tell + Drop, F: fmt::Debug + Drop>(
+    report: &mut String,
+    called: Result<T, F>,
+) -> Result<(), Stop> {
+    let answer = answered(report, called)?;
+    Ok(answer.tell(report)?)
+}
+
+/// The same of a table.
+pub(crate) fn given_table<F: fmt::Debug + Drop>(
+    report: &mut String,
+    called: Result<TableState, F>,
+) -> Result<(), Stop> {
+    let table = answered(report, called)?;
+    given(report, table.version())
+}
+
+/// What came of a call.
+#[derive(Drop)]
+struct Outcome {
+    /// Whether a request was refused.
+    met: bool,
+    called: Result<(), Stop>,
+    /// What is wrong where something else was due.
+    fault: Fault,
+}
+
 /// Makes the call of a scene, of which these requests are refused, and makes it again where it wants memory and left no trace.
 pub(crate) fn run<S: Scene<R>, R>(
     rt: &R,
     alloc: Global,
-    scene: S,
+    scene: &mut S,
     due: Due,
     refused: Option<Refused>,
 ) -> Result<Ran, Fail> {
-    let mut scene = scene;
-    let before = seen(rt, alloc, &mut scene)?;
+    let before = seen(rt, alloc, scene)?;
     let mut report = String::with_capacity(alloc, ROOM)?;
-    begin(alloc, refused);
-    let mut called = scene.call(rt, alloc, &mut report);
-    let met = end(alloc);
-    let mut fault = Fault::NoAnswer;
-    if met && matches!(called, Err(Stop::NoMemory)) {
-        if seen(rt, alloc, &mut scene)?.as_str() != before.as_str() {
-            return Ok(Ran::Wrong(Fault::Trace));
-        }
-        report.clear();
-        called = scene.call(rt, alloc, &mut report);
-        fault = Fault::NoSecondAnswer;
-    }
-    match (called, due) {
+    let outcome = call(rt, alloc, scene, refused, before.as_str(), &mut report)?;
+    match (outcome.called, due) {
         (Ok(()), Due::Answer) | (Err(Stop::Refused), Due::Refusal) => {}
-        _ => return Ok(Ran::Wrong(fault)),
+        _ => return Ok(Ran::Wrong(outcome.fault)),
     }
     scene.tell(rt, &mut report)?;
-    Ok(Ran::Answered(met, report))
+    Ok(Ran::Answered(outcome.met, report))
+}
+
+/// The call, made again where it wants memory and what was seen before it is still seen.
+fn call<S: Scene<R>, R>(
+    rt: &R,
+    alloc: Global,
+    scene: &mut S,
+    refused: Option<Refused>,
+    before: &str,
+    report: &mut String,
+) -> Result<Outcome, Fail> {
+    begin(alloc, refused);
+    let called = scene.call(rt, alloc, report);
+    let met = end(alloc);
+    let (called, fault) = if !met || !matches!(called, Err(Stop::NoMemory)) {
+        (called, Fault::NoAnswer)
+    } else if seen(rt, alloc, scene)?.as_str() != before {
+        (called, Fault::Trace)
+    } else {
+        report.clear();
+        (scene.call(rt, alloc, report), Fault::NoSecondAnswer)
+    };
+    Ok(Outcome { met, called, fault })
 }
 
 /// What is to be left as it was.

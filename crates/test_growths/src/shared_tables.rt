@@ -3,13 +3,13 @@
 use crate::gathering::Gathering;
 use crate::refusals::Refused;
 use crate::run::{Due, Ran, run};
-use crate::samples::{ONE_MORE, TWO_BATCHES, file, first_batch};
+use crate::samples::SampleFile;
 use crate::stage::{Call, Stage};
 use crate::sweep::Trial;
-use arrays::{DataType, Field};
+use arrays::{DataType, Field, RecordBatch, Schema};
 use shared::{Naming, Publish, Reader, Session, SharedTable, Shown, Worker, with_table};
 use std::alloc::Global;
-use std::sync::Wait;
+use std::sync::{Arc, Wait};
 use std::test::Fail;
 
 /// What is tried, and how many readers there are.
@@ -33,26 +33,34 @@ pub(crate) static CASES: [(&str, Case); 11] = [
 
 impl<R: Wait> Trial<R> for Case {
     fn run(&self, rt: &R, alloc: Global, refused: Option<Refused>) -> Result<Ran, Fail> {
-        let file = file(alloc, TWO_BATCHES)?;
-        let schema = file.schema().copy(alloc)?;
         let Case(call, readers) = *self;
         let playing = Playing {
             rt,
             alloc,
             call,
             refused,
+            batch: SampleFile::OneMore.first_batch(alloc)?,
+            field: Field::nullable(alloc, "added", DataType::Utf8)?,
         };
-        with_table(rt, alloc, schema, 2, readers, playing)?
+        with_table(rt, alloc, schema(alloc)?, 2, readers, playing)?
     }
 }
 
-/// A play on a table.
+/// The schema of a table.
+fn schema(alloc: Global) -> Result<Schema, Fail> {
+    let file = SampleFile::TwoBatches.read(alloc)?;
+    Ok(file.schema().copy(alloc)?)
+}
+
+/// A play on a table, with a batch and a field for it.
 #[derive(Drop)]
 struct Playing<'a, R: Wait> {
     rt: &'a R,
     alloc: Global,
     call: Call,
     refused: Option<Refused>,
+    batch: Arc<RecordBatch>,
+    field: Field,
 }
 
 impl<'a, R: Wait> Session for Playing<'a, R> {
@@ -69,26 +77,28 @@ impl<'a, R: Wait> Session for Playing<'a, R> {
             alloc,
             call,
             refused,
+            batch,
+            field,
         } = self;
         let (mut workers, mut readers) = (workers, readers);
         append_two(rt, alloc, &table, &mut workers, &mut readers)?;
         if call == Call::Gather {
-            let scene = Gathering {
+            let mut scene = Gathering {
                 table: Some(table),
                 workers: Some(workers),
             };
-            return run(rt, alloc, scene, Due::Answer, refused);
+            return run(rt, alloc, &mut scene, Due::Answer, refused);
         }
-        let scene = Stage {
+        let mut scene = Stage {
             call,
-            batch: first_batch(alloc, ONE_MORE)?,
-            field: Field::nullable(alloc, "added", DataType::Utf8)?,
+            batch,
+            field,
             table,
             workers,
             readers,
             turns: 0,
         };
-        run(rt, alloc, scene, Due::Answer, refused)
+        run(rt, alloc, &mut scene, Due::Answer, refused)
     }
 }
 
@@ -100,7 +110,7 @@ fn append_two<N: Naming, P: Publish<Item = Shown<N>>, R: Wait>(
     workers: &mut [Worker<N>],
     readers: &mut [Reader<N>],
 ) -> Result<(), Fail> {
-    let file = file(alloc, TWO_BATCHES)?;
+    let file = SampleFile::TwoBatches.read(alloc)?;
     for worker in workers.iter_mut() {
         for batch in file.batches() {
             let receipt = table.append(rt, worker, batch)?;

@@ -1,10 +1,10 @@
 //! A table with its workers and readers.
 
-use crate::run::{Scene, Stop, answered, told};
-use crate::tell::tell_version;
+use crate::run::{Scene, Stop, given, told};
+use crate::tell::Tell;
 use arrays::{Field, RecordBatch};
-use shared::{Naming, Publish, Reader, SharedTable, Shown, Worker};
-use std::alloc::Global;
+use shared::{Naming, Publish, Reader, Receipt, SharedTable, Shown, Worker};
+use std::alloc::{AllocError, Global};
 use std::sync::{Arc, Wait};
 use std::test::Fail;
 
@@ -45,9 +45,7 @@ impl<N: Naming, P: Publish<Item = Shown<N>>> Stage<N, P> {
         let Some(worker) = self.workers.get_mut(place) else {
             return Err(Stop::Refused);
         };
-        let receipt = answered(report, self.table.append(rt, worker, &self.batch))?;
-        let entry = receipt.entry();
-        Ok(write!(report, "{entry} ")?)
+        given(report, self.table.append(rt, worker, &self.batch))
     }
 
     /// Has the first worker join the batches, or only look.
@@ -55,12 +53,11 @@ impl<N: Naming, P: Publish<Item = Shown<N>>> Stage<N, P> {
         let Some(worker) = self.workers.first_mut() else {
             return Err(Stop::Refused);
         };
-        let version = if joins {
-            answered(report, self.table.compact(rt, worker, 100))?
+        if joins {
+            given(report, self.table.compact(rt, worker, 100))
         } else {
-            answered(report, self.table.snapshot(rt, worker))?
-        };
-        Ok(tell_version(report, &version)?)
+            given(report, self.table.snapshot(rt, worker))
+        }
     }
 
     /// Has the first worker add a column.
@@ -82,23 +79,40 @@ impl<N: Naming, P: Publish<Item = Shown<N>>> Stage<N, P> {
         let Some(reader) = self.readers.first_mut() else {
             return Err(Stop::Refused);
         };
-        let version = answered(report, reader.latest())?;
-        Ok(tell_version(report, &version)?)
+        given(report, reader.latest())
     }
 
     /// Makes those of several calls that aren't behind yet, and tells what the last gives.
     fn go_on<R: Wait>(&mut self, rt: &R, alloc: Global, report: &mut String) -> Result<(), Stop> {
         for turn in self.turns..TURNS {
-            match turn {
-                0 => self.append(rt, report, 0)?,
-                1 => self.append(rt, report, 1)?,
-                2 => self.compact(rt, report, true)?,
-                _ => self.add_column(rt, alloc, report)?,
-            }
+            self.take_turn(rt, alloc, report, turn)?;
             self.turns = turn + 1;
         }
         report.clear();
         self.latest(report)
+    }
+
+    /// Makes one of those calls.
+    fn take_turn<R: Wait>(
+        &mut self,
+        rt: &R,
+        alloc: Global,
+        report: &mut String,
+        turn: u32,
+    ) -> Result<(), Stop> {
+        match turn {
+            0 => self.append(rt, report, 0),
+            1 => self.append(rt, report, 1),
+            2 => self.compact(rt, report, true),
+            _ => self.add_column(rt, alloc, report),
+        }
+    }
+}
+
+impl<N: Naming> Tell for Receipt<N> {
+    fn tell(&self, report: &mut String) -> Result<(), AllocError> {
+        let entry = self.entry();
+        write!(report, "{entry} ")
     }
 }
 
@@ -126,8 +140,7 @@ impl<N: Naming, P: Publish<Item = Shown<N>>, R: Wait> Scene<R> for Stage<N, P> {
             return Ok(());
         }
         if let Some(worker) = self.workers.last_mut() {
-            let version = self.table.snapshot(rt, worker)?;
-            tell_version(report, &version)?;
+            self.table.snapshot(rt, worker)?.tell(report)?;
         }
         Ok(())
     }

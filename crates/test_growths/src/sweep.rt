@@ -53,12 +53,21 @@ pub(crate) fn sweep_all<T: Trial<R>, R: Print>(
 
 /// How many requests were refused, in both ways.
 fn counted<T: Trial<R>, R>(rt: &R, alloc: Global, trial: &T) -> Result<Result<u32, Wrong>, Fail> {
-    let wanted = match trial.run(rt, alloc, None)? {
-        Ran::Answered(_, report) => report,
-        Ran::Wrong(fault) => return Ok(Err(Wrong { number: 0, fault })),
-    };
-    let alone = counted_so(rt, alloc, trial, wanted.as_str(), false)?;
-    let behind = counted_so(rt, alloc, trial, wanted.as_str(), true)?;
+    match trial.run(rt, alloc, None)? {
+        Ran::Answered(_, report) => counted_both(rt, alloc, trial, report.as_str()),
+        Ran::Wrong(fault) => Ok(Err(Wrong { number: 0, fault })),
+    }
+}
+
+/// The same, where this is what the call is to come to.
+fn counted_both<T: Trial<R>, R>(
+    rt: &R,
+    alloc: Global,
+    trial: &T,
+    wanted: &str,
+) -> Result<Result<u32, Wrong>, Fail> {
+    let alone = counted_so(rt, alloc, trial, wanted, false)?;
+    let behind = counted_so(rt, alloc, trial, wanted, true)?;
     Ok(match (alone, behind) {
         (Ok(alone), Ok(behind)) => Ok(alone.wrapping_add(behind)),
         (Err(wrong), _) | (_, Err(wrong)) => Err(wrong),

@@ -3,13 +3,13 @@
 ghost use Rattle.std.specs.Prelude.{◌≡◌};
 ghost use Rattle.shared.specs.Named.{IsNamed};
 
-use crate::columns::{CODES, Column, LARGE_LISTS_OF_LISTS, NUMBERS, TEXTS};
+use crate::columns::Column;
 use crate::nodes::nodes;
 use crate::refusals::Refused;
-use crate::run::{Due, Ran, Scene, Stop, answered, run, told};
-use crate::samples::{ONE_COLUMN, ONE_MORE, TWO_BATCHES, first_batch, table};
+use crate::run::{Due, Ran, Scene, Stop, answered, given, given_table, run, told};
+use crate::samples::{SampleFile, table};
 use crate::sweep::Trial;
-use crate::tell::{tell_batch, tell_version};
+use crate::tell::Tell;
 use arrays::{Field, RecordBatch};
 use intake::{append, table_of};
 use shared::{
@@ -21,7 +21,6 @@ use std::marker::Brand;
 use std::sync::{Arc, Wait};
 use std::test::Fail;
 use table::{Ready, TableState};
-use test_samples::sampled_at;
 
 /// What is made of the batch or of its schema.
 #[derive(Clone, Copy)]
@@ -67,74 +66,84 @@ enum Call {
     Change(Change),
 }
 
-/// A call, the text of a file whose first batch it's given, and a column of the type that is added.
+/// A call, a file whose first batch it's given, and a column of the type that is added.
 #[derive(Clone, Copy)]
-pub(crate) struct Case(Call, &'static str, Column);
+pub(crate) struct Case(Call, SampleFile, Column);
 
 /// A call with a batch, or with the type of a column.
 macro_rules! on {
-    ($kind:ident :: $call:ident, $text:ident) => {
-        Case(Call::$kind($kind::$call), $text, NUMBERS)
+    ($kind:ident :: $call:ident, $file:ident) => {
+        Case(Call::$kind($kind::$call), SampleFile::$file, Column::Numbers)
     };
     ($call:ident of $column:ident) => {
-        Case(Call::Change(Change::$call), ONE_MORE, $column)
+        Case(Call::Change(Change::$call), SampleFile::OneMore, Column::$column)
     };
     ($call:ident with $readers:literal) => {
-        Case(Call::Open(Open::$call($readers)), TWO_BATCHES, NUMBERS)
+        Case(Call::Open(Open::$call($readers)), SampleFile::TwoBatches, Column::Numbers)
     };
 }
 
 #[rattlefmt::skip]
 pub(crate) static CASES: [(&str, Case); 28] = [
-    ("RecordBatch::copy", on!(Make::Batch, ONE_MORE)),
-    ("Ready::new", on!(Make::Ready, ONE_MORE)),
-    ("Ready::new, codes", on!(Make::Ready, TWO_BATCHES)),
-    ("TableState::new", on!(Make::Table, ONE_MORE)),
-    ("TableState::new, codes", on!(Make::Table, TWO_BATCHES)),
-    ("Opening::new", on!(Make::Opening, ONE_MORE)),
-    ("Opening::new, codes", on!(Make::Opening, TWO_BATCHES)),
+    ("RecordBatch::copy", on!(Make::Batch, OneMore)),
+    ("Ready::new", on!(Make::Ready, OneMore)),
+    ("Ready::new, codes", on!(Make::Ready, TwoBatches)),
+    ("TableState::new", on!(Make::Table, OneMore)),
+    ("TableState::new, codes", on!(Make::Table, TwoBatches)),
+    ("Opening::new", on!(Make::Opening, OneMore)),
+    ("Opening::new, codes", on!(Make::Opening, TwoBatches)),
     ("open", on!(Alone with 2)),
     ("open, no readers", on!(Alone with 0)),
     ("with_table", on!(Session with 2)),
     ("with_table, no readers", on!(Session with 0)),
-    ("TableState::admit", on!(Admit::Lent, ONE_MORE)),
-    ("TableState::admit, codes", on!(Admit::Lent, TWO_BATCHES)),
-    ("TableState::admit_ready", on!(Admit::Ready, ONE_MORE)),
-    ("TableState::admit_ready, codes", on!(Admit::Ready, TWO_BATCHES)),
-    ("TableState::admit_ready, other fields", on!(Admit::Ready, ONE_COLUMN)),
-    ("TableState::admit_shown", on!(Admit::Shown, ONE_MORE)),
-    ("TableState::admit_shown, codes", on!(Admit::Shown, TWO_BATCHES)),
-    ("intake::append", on!(Admit::Nodes, ONE_MORE)),
-    ("TableState::compact", on!(Change::Compact, ONE_MORE)),
-    ("TableState::compact_shown", on!(Change::CompactShown, ONE_MORE)),
-    ("TableState::version", on!(Change::Version, ONE_MORE)),
-    ("TableState::add_column, numbers", on!(AddColumn of NUMBERS)),
-    ("TableState::add_column, texts", on!(AddColumn of TEXTS)),
-    ("TableState::add_column, codes", on!(AddColumn of CODES)),
-    ("TableState::add_column, large lists of lists", on!(AddColumn of LARGE_LISTS_OF_LISTS)),
-    ("TableState::add_column_shown, texts", on!(AddColumnShown of TEXTS)),
-    ("TableState::add_column_shown, large lists of lists", on!(AddColumnShown of LARGE_LISTS_OF_LISTS)),
+    ("TableState::admit", on!(Admit::Lent, OneMore)),
+    ("TableState::admit, codes", on!(Admit::Lent, TwoBatches)),
+    ("TableState::admit_ready", on!(Admit::Ready, OneMore)),
+    ("TableState::admit_ready, codes", on!(Admit::Ready, TwoBatches)),
+    ("TableState::admit_ready, other fields", on!(Admit::Ready, OneColumn)),
+    ("TableState::admit_shown", on!(Admit::Shown, OneMore)),
+    ("TableState::admit_shown, codes", on!(Admit::Shown, TwoBatches)),
+    ("intake::append", on!(Admit::Nodes, OneMore)),
+    ("TableState::compact", on!(Change::Compact, OneMore)),
+    ("TableState::compact_shown", on!(Change::CompactShown, OneMore)),
+    ("TableState::version", on!(Change::Version, OneMore)),
+    ("TableState::add_column, numbers", on!(AddColumn of Numbers)),
+    ("TableState::add_column, texts", on!(AddColumn of Texts)),
+    ("TableState::add_column, codes", on!(AddColumn of Codes)),
+    ("TableState::add_column, large lists of lists", on!(AddColumn of LargeListsOfLists)),
+    ("TableState::add_column_shown, texts", on!(AddColumnShown of Texts)),
+    ("TableState::add_column_shown, large lists of lists", on!(AddColumnShown of LargeListsOfLists)),
 ];
+
+impl Case {
+    /// The table that is changed: it has two batches, or none.
+    fn table(self, alloc: Global) -> Result<TableState, Fail> {
+        match self.0 {
+            Call::Admit(Admit::Nodes) => Ok(table_of(alloc, &nodes(b"\x05"))?),
+            _ => table(alloc),
+        }
+    }
+
+    /// The field of the column that is added.
+    fn field(self, alloc: Global) -> Result<Field, Fail> {
+        let ty = self.2.array(alloc)?.ty().copy(alloc)?;
+        Ok(Field::nullable(alloc, "added", ty)?)
+    }
+}
 
 impl<R: Wait> Trial<R> for Case {
     fn run(&self, rt: &R, alloc: Global, refused: Option<Refused>) -> Result<Ran, Fail> {
-        let Case(call, text, (widths, sample)) = *self;
-        let ty = sampled_at(alloc, widths, sample)?.ty().copy(alloc)?;
-        let scene = Growing {
-            call,
-            table: match call {
-                Call::Admit(Admit::Nodes) => table_of(alloc, &nodes(b"\x05"))?,
-                _ => table(alloc)?,
-            },
-            batch: first_batch(alloc, text)?,
-            field: Field::nullable(alloc, "added", ty)?,
+        let mut scene = Growing {
+            call: self.0,
+            table: self.table(alloc)?,
+            batch: self.1.first_batch(alloc)?,
+            field: self.field(alloc)?,
         };
-        let due = if text == ONE_COLUMN {
-            Due::Refusal
-        } else {
-            Due::Answer
+        let due = match self.1 {
+            SampleFile::OneColumn => Due::Refusal,
+            _ => Due::Answer,
         };
-        run(rt, alloc, scene, due, refused)
+        run(rt, alloc, &mut scene, due, refused)
     }
 }
 
@@ -158,9 +167,8 @@ impl<R: Wait> Scene<R> for Growing {
     }
 
     fn tell(&mut self, _rt: &R, report: &mut String) -> Result<(), Fail> {
-        tell_batch(report, &self.batch)?;
-        let version = self.table.version()?;
-        Ok(tell_version(report, &version)?)
+        self.batch.tell(report)?;
+        Ok(self.table.version()?.tell(report)?)
     }
 }
 
@@ -168,26 +176,18 @@ impl Growing {
     /// Tells what is made of the batch.
     fn make(&self, alloc: Global, report: &mut String, make: Make) -> Result<(), Stop> {
         match make {
-            Make::Batch => {
-                let batch = answered(report, self.batch.copy(alloc))?;
-                tell_batch(report, &batch)?;
-            }
-            Make::Ready => {
-                let ready = answered(report, Ready::new(alloc, &self.batch))?;
-                tell_batch(report, ready.batch())?;
-            }
+            Make::Batch => given(report, self.batch.copy(alloc)),
+            Make::Ready => given(report, Ready::new(alloc, &self.batch)),
             Make::Table => {
                 let schema = self.batch.schema().copy(alloc)?;
-                let table = answered(report, TableState::new(alloc, schema))?;
-                let version = table.version()?;
-                tell_version(report, &version)?;
+                given_table(report, TableState::new(alloc, schema))
             }
             Make::Opening => {
                 let schema = self.batch.schema().copy(alloc)?;
                 let _opening = answered(report, Opening::new(alloc, schema, 2))?;
+                Ok(())
             }
         }
-        Ok(())
     }
 
     /// Tells how many workers and readers a table is opened with.
@@ -220,36 +220,27 @@ impl Growing {
             }
             Admit::Shown => {
                 let ready = Ready::new(alloc, &self.batch)?;
-                let (number, version) = answered(report, self.table.admit_shown(7, ready))?;
-                write!(report, "{number}: ")?;
-                Ok(tell_version(report, &version)?)
+                given(report, self.table.admit_shown(7, ready))
             }
             Admit::Nodes => {
-                told(
-                    report,
-                    append(alloc, &mut self.table, 7, 3, &nodes(b"\x05")),
-                )
+                let nodes = nodes(b"\x05");
+                told(report, append(alloc, &mut self.table, 7, 3, &nodes))
             }
         }
     }
 
     /// Joins batches of the table, adds a column, or looks at it.
     fn change(&mut self, alloc: Global, report: &mut String, change: Change) -> Result<(), Stop> {
-        let (one, other) = match change {
-            Change::Compact => return told(report, self.table.compact(100)),
+        match change {
+            Change::Compact => told(report, self.table.compact(100)),
+            Change::CompactShown => given(report, self.table.compact_shown(100)),
             Change::AddColumn => {
                 let field = self.field.copy(alloc)?;
-                return told(report, self.table.add_column(field));
+                told(report, self.table.add_column(field))
             }
-            Change::CompactShown => answered(report, self.table.compact_shown(100))?,
-            Change::AddColumnShown => answered(report, self.table.add_column_shown(&self.field))?,
-            Change::Version => {
-                let version = answered(report, self.table.version())?;
-                (version.clone()?, version)
-            }
-        };
-        tell_version(report, &one)?;
-        Ok(tell_version(report, &other)?)
+            Change::AddColumnShown => given(report, self.table.add_column_shown(&self.field)),
+            Change::Version => given(report, self.table.version()),
+        }
     }
 }
 

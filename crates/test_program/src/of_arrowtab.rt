@@ -1,6 +1,6 @@
 //! The program over memory. To prove a function costs for each value that it would let go where something fails, and most
-//! for an assertion that has a message, and for each reference of a table: so cases are checked by functions that answer a
-//! `bool`, one function asserts for all of them, and a row of a table has few texts.
+//! for an assertion that has a message, and for each reference of a table that isn't static: so cases are rows of statics, they
+//! are checked by functions that answer a `bool`, over values that are lent to them, and one function asserts for all of them.
 ghost use Rattle.std.specs.Prelude.{◌≡◌, ◌^◌, ◌-◌, ◌<◌, All, IfOk};
 
 mod bytes;
@@ -38,6 +38,16 @@ pub(crate) struct Outcome {
 }
 
 impl Outcome {
+    /// The status, and what was written.
+    pub(crate) fn parts(&self) -> (u8, &[u8], &[u8]) {
+        (self.status, self.out.taken(), self.err.taken())
+    }
+
+    /// Whether it is of this status, and wrote this.
+    pub(crate) fn is(&self, status: u8, out: &str, err: &str) -> bool {
+        self.parts() == (status, out.as_bytes(), err.as_bytes())
+    }
+
     /// Whether it reported this alone: its output, or the line of its fault, which begins with the program's name.
     pub(crate) fn tells(&self, wanted: &str) -> bool {
         if wanted.starts_with("arrowtab: ") {
@@ -45,13 +55,6 @@ impl Outcome {
         } else {
             self.is(0, wanted, "")
         }
-    }
-
-    /// Whether it is of this status, and wrote this.
-    pub(crate) fn is(&self, status: u8, out: &str, err: &str) -> bool {
-        self.status == status
-            && self.out.taken() == out.as_bytes()
-            && self.err.taken() == err.as_bytes()
     }
 }
 
@@ -102,53 +105,75 @@ pub(crate) fn ran_job(
     Some(Outcome { status, out, err })
 }
 
-/// The same over one file or two of these texts.
-fn ran_over(
+/// The same over a file of this text.
+pub(crate) fn ran_over(
     rt: &(impl Wait + Threads + Sync),
     alloc: Global,
-    words: &[&str],
+    job: &Job,
+    text: &str,
+    out: MemorySink,
+) -> Option<Outcome>
+    requires { out.failures < 2 ^ 64 - 1 }
+{
+    match source(alloc, text) {
+        Ok(source) => ran_job(rt, alloc, job, &mut [source], out),
+        Err(_) => None,
+    }
+}
+
+/// The same over files of two texts.
+fn ran_over_both(
+    rt: &(impl Wait + Threads + Sync),
+    alloc: Global,
+    job: &Job,
+    texts: (&str, &str),
+    out: MemorySink,
+) -> Option<Outcome>
+    requires { out.failures < 2 ^ 64 - 1 }
+{
+    match (source(alloc, texts.0), source(alloc, texts.1)) {
+        (Ok(first), Ok(second)) => ran_job(rt, alloc, job, &mut [first, second], out),
+        _ => None,
+    }
+}
+
+/// Whether a job over one file or two of these texts tells this, and the library gives the same.
+fn is_right(
+    rt: &(impl Wait + Threads + Sync),
+    alloc: Global,
+    job: &Job,
     files: (&str, Option<&str>),
-) -> Option<Outcome> {
-    let Ok(first) = source(alloc, files.0) else {
-        return None;
+    wanted: &str,
+) -> bool {
+    let out = MemorySink::new(alloc);
+    let came = match files.1 {
+        Some(second) => ran_over_both(rt, alloc, job, (files.0, second), out),
+        None => ran_over(rt, alloc, job, files.0, out),
     };
-    let Some(text) = files.1 else {
-        return ran(rt, alloc, words, &mut [first], MemorySink::new(alloc));
-    };
-    let Ok(second) = source(alloc, text) else {
-        return None;
-    };
-    ran(
-        rt,
-        alloc,
-        words,
-        &mut [first, second],
-        MemorySink::new(alloc),
-    )
+    match came {
+        Some(came) => came.tells(wanted) && is_of_library(alloc, job, files, &came),
+        None => false,
+    }
 }
 
 /// Whether the library gives of the same files what a run came to. It has one worker, and adds no column.
-fn is_of_library(
-    alloc: Global,
-    words: &[&str],
-    files: (&str, Option<&str>),
-    came: &Outcome,
-) -> bool {
-    let Ok(job) = job(alloc, words) else {
-        return false;
-    };
+fn is_of_library(alloc: Global, job: &Job, files: (&str, Option<&str>), came: &Outcome) -> bool {
     if job.workers != 1 || job.column.is_some() {
         return true;
     }
+    let first = files.0.as_bytes();
     match files.1 {
-        Some(second) => {
-            let given = given(alloc, &job, &[files.0.as_bytes(), second.as_bytes()]);
-            is_same(alloc, &job, given, came)
-        }
-        None => {
-            let given = given(alloc, &job, &[files.0.as_bytes()]);
-            is_same(alloc, &job, given, came)
-        }
+        Some(second) => is_given(alloc, job, &[first, second.as_bytes()], came),
+        None => is_given(alloc, job, &[first], came),
+    }
+}
+
+/// Whether the library's answer, where it has a call for the job, is what a run came to: its output, or the line of its fault.
+fn is_given(alloc: Global, job: &Job, texts: &[&[u8]], came: &Outcome) -> bool {
+    match given(alloc, job, texts) {
+        None => true,
+        Some(Ok(text)) => came.is(0, text.as_str(), ""),
+        Some(Err(fault)) => is_line(alloc, job, &fault, came),
     }
 }
 
@@ -170,20 +195,11 @@ fn given(alloc: Global, job: &Job, texts: &[&[u8]]) -> Option<Result<String, Run
     }
 }
 
-/// Whether the library's answer is what a run came to: its output, or the line of its fault.
-fn is_same(
-    alloc: Global,
-    job: &Job,
-    given: Option<Result<String, RunFault>>,
-    came: &Outcome,
-) -> bool {
-    match given {
-        None => true,
-        Some(Ok(text)) => came.is(0, text.as_str(), ""),
-        Some(Err(fault)) => match line_of(alloc, name_of(job, &fault), &fault) {
-            Ok(line) => came.is(1, "", line.as_str()),
-            Err(_) => false,
-        },
+/// Whether a run came to the line of this fault.
+fn is_line(alloc: Global, job: &Job, fault: &RunFault, came: &Outcome) -> bool {
+    match line_of(alloc, name_of(job, fault), fault) {
+        Ok(line) => came.is(1, "", line.as_str()),
+        Err(_) => false,
     }
 }
 
@@ -206,14 +222,40 @@ pub(crate) fn expect(
     files: (&str, Option<&str>),
     wanted: &str,
 ) {
-    let is_right = match ran_over(rt, alloc, words, files) {
-        Some(came) => came.tells(wanted) && is_of_library(alloc, words, files, &came),
-        None => false,
+    let is_right = match job(alloc, words) {
+        Ok(job) => is_right(rt, alloc, &job, files, wanted),
+        Err(_) => false,
     };
     assert_case(rt, is_right, words, files.0);
+}
+
+/// The words of a run, one file or two, and what it tells.
+pub(crate) type Case = (
+    &'static [&'static str],
+    &'static str,
+    Option<&'static str>,
+    &'static str,
+);
+
+/// Asserts each.
+pub(crate) fn expect_all(rt: &(impl Abort + Wait + Threads + Sync), alloc: Global, cases: &[Case]) {
+    for (words, first, second, wanted) in cases {
+        expect(rt, alloc, *words, (*first, *second), *wanted);
+    }
 }
 
 /// Asserts that a case is as it should be, and names it by its words and a text where it isn't.
 pub(crate) fn assert_case(rt: &impl Abort, is_right: bool, words: &[&str], text: &str) {
     assert!(rt; is_right, "for {words:?} and {text}");
+}
+
+/// A text with a piece, so many times, in the place of a word.
+pub(crate) fn filled(
+    alloc: Global,
+    text: &str,
+    word: &str,
+    (piece, times): (&str, usize),
+) -> Result<String, AllocError> {
+    let pieces = piece.repeat(alloc, times)?;
+    text.replace(alloc, word, pieces.as_str())
 }

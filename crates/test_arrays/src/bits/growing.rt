@@ -53,7 +53,7 @@ type Growth = (
     &'static [u8],
 );
 
-const GROWN: [Growth; 2] = [
+static GROWN: [Growth; 2] = [
     // 1, 0, 1, then 130 times 1, then 0, 1, 0, then 1, 1, 0 and four times 1: over words.
     (
         &[
@@ -83,8 +83,8 @@ const GROWN: [Growth; 2] = [
 ];
 
 /// The bits that are pushed, cut, and pushed.
-fn grown(rt: &impl Abort, alloc: Global, growth: Growth) -> Result<BitmapBuilder, Fail> {
-    let (front, len, cut, back, _) = growth;
+fn grown(rt: &impl Abort, alloc: Global, growth: &Growth) -> Result<BitmapBuilder, Fail> {
+    let (front, len, cut, back, _) = *growth;
     let mut builder = BitmapBuilder::new(alloc);
     assert!(rt; builder.is_empty());
     for pushed in front {
@@ -101,7 +101,7 @@ fn grown(rt: &impl Abort, alloc: Global, growth: Growth) -> Result<BitmapBuilder
 
 #[test]
 fn bits_grow_and_are_cut(rt: HostRuntime) -> Result<(), Fail> {
-    for growth in GROWN {
+    for growth in &GROWN {
         let buffer = grown(&rt, rt.alloc(), growth)?.finish()?.into_buffer();
         assert!(rt; buffer.bytes() == growth.4, "{} bits", growth.1);
     }

@@ -7,7 +7,7 @@ use std::alloc::Global;
 use std::process::Abort;
 
 /// Lengths at which words and lanes end, and their neighbours.
-const LENGTHS: [usize; 11] = [0, 1, 7, 63, 64, 65, 127, 128, 511, 512, 513];
+static LENGTHS: [usize; 11] = [0, 1, 7, 63, 64, 65, 127, 128, 511, 512, 513];
 
 /// As many bytes as the greatest length takes from any start.
 const SIZE: usize = 65;
@@ -26,11 +26,6 @@ fn surrounded(start: usize, len: usize, salt: u32) -> [u8; SIZE]
         }
     }
     bytes
-}
-
-#[test]
-fn tells_the_word_of_few_bits(rt: HostRuntime) {
-    assert!(rt; Bits::new(&[0x2b], 1, 5).word(0) == 21);
 }
 
 /// Whether a word has the bits from its first on, and 0 past the last.
@@ -87,9 +82,10 @@ fn assert_at_each_start(rt: &impl Abort, len: usize)
 
 #[test]
 fn tells_words(rt: HostRuntime) {
-    for len in LENGTHS {
-        assert!(rt; len <= 513);
-        assert_at_each_start(&rt, len);
+    assert!(rt; Bits::new(&[0x2b], 1, 5).word(0) == 21);
+    for len in &LENGTHS {
+        assert!(rt; *len <= 513);
+        assert_at_each_start(&rt, *len);
     }
 }
 
@@ -162,23 +158,15 @@ impl Operation {
             self.assert_made(rt, alloc, (pair / 8, pair % 8), len);
         }
     }
-
-    fn assert_at_each_length(self, rt: &impl Abort, alloc: Global) {
-        for len in LENGTHS {
-            assert!(rt; len <= 513);
-            self.assert_from_each_start(rt, alloc, len);
-        }
-    }
 }
 
 #[test]
 fn makes_of_each_two_bits_what_the_operation_says(rt: HostRuntime) {
-    for operation in [
-        Operation::And,
-        Operation::Or,
-        Operation::AndNot,
-        Operation::Not,
-    ] {
-        operation.assert_at_each_length(&rt, rt.alloc());
+    for len in &LENGTHS {
+        assert!(rt; *len <= 513);
+        Operation::And.assert_from_each_start(&rt, rt.alloc(), *len);
+        Operation::Or.assert_from_each_start(&rt, rt.alloc(), *len);
+        Operation::AndNot.assert_from_each_start(&rt, rt.alloc(), *len);
+        Operation::Not.assert_from_each_start(&rt, rt.alloc(), *len);
     }
 }

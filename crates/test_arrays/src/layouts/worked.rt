@@ -13,7 +13,7 @@ use arrays::LayoutFault::{
 use std::test::Fail;
 use test_samples::NARROW;
 
-const FIVE: &[i32] = &[1, 0, 2, 4, 8];
+const FIVE: &[i64] = &[1, 0, 2, 4, 8];
 
 const NAMES: &[u8] = b"joe\xff\xffmark";
 
@@ -48,7 +48,7 @@ const LAWFUL: Group = (
     ],
 );
 
-const ROWS: &[Group] = &[
+static ROWS: &[Group] = &[
     LAWFUL,
     (
         Some(NullCountDiffers),
@@ -129,7 +129,7 @@ const ROWS: &[Group] = &[
 ];
 
 /// Codes into a dictionary, of which the second is past it.
-const CODES: &[Group] = &[
+static CODES: &[Group] = &[
     (
         None,
         &[(

@@ -24,18 +24,20 @@ fn digits(alloc: Global, call: u64) -> Result<MemorySource, AllocError>
     Ok(source.in_pieces(3).failing(Plan::At(call)))
 }
 
-// Ten bytes in pieces of three come in four reads, and a fifth finds the end.
+/// Ten bytes in pieces of three come in four reads, and a fifth finds the end: the read that fails, and what it leaves.
+static READS: [(u64, &str); 5] = [
+    (0, "0123456789"),
+    (1, "3456789"),
+    (2, "6789"),
+    (3, "9"),
+    (4, ""),
+];
+
 #[test]
 fn tells_each_failed_read(rt: HostRuntime) {
-    for (call, left) in [
-        (0, "0123456789"),
-        (1, "3456789"),
-        (2, "6789"),
-        (3, "9"),
-        (4, ""),
-    ] {
-        let is_right = fails_before(rt.alloc(), call, left.as_bytes());
-        assert_case(&rt, is_right, &["a read fails"], left);
+    for (call, left) in &READS {
+        let is_right = fails_before(rt.alloc(), *call, left.as_bytes());
+        assert_case(&rt, is_right, &["a read fails"], *left);
     }
     assert!(rt; gives_all_digits(rt.alloc()));
 }
@@ -47,8 +49,7 @@ fn fails_before(alloc: Global, call: u64, left: &[u8]) -> bool {
     };
     let fault = read_whole(alloc, &mut source).err();
     fault == Some(SourceFault::ReadFailed)
-        && source.remaining() == left
-        && source.failures() == 1
+        && (source.remaining(), source.failures()) == (left, 1)
         && gives(alloc, &mut source, left)
 }
 
@@ -60,12 +61,14 @@ fn gives_all_digits(alloc: Global) -> bool {
     }
 }
 
-// Five bytes, two a write, are three writes.
+/// Five bytes, two a write, are three writes: the write that is to fail, and what is taken.
+static WRITES: [(u64, &str); 4] = [(0, ""), (1, "01"), (2, "0123"), (3, "01234")];
+
 #[test]
 fn tells_each_failed_write(rt: HostRuntime) {
-    for (call, taken) in [(0, ""), (1, "01"), (2, "0123"), (3, "01234")] {
-        let is_right = fails_behind(rt.alloc(), call, taken.as_bytes());
-        assert_case(&rt, is_right, &["a write fails"], taken);
+    for (call, taken) in &WRITES {
+        let is_right = fails_behind(rt.alloc(), *call, taken.as_bytes());
+        assert_case(&rt, is_right, &["a write fails"], *taken);
     }
 }
 
@@ -73,5 +76,5 @@ fn tells_each_failed_write(rt: HostRuntime) {
 fn fails_behind(alloc: Global, call: u64, taken: &[u8]) -> bool {
     let mut sink = MemorySink::new(alloc).in_pieces(2).failing(Plan::At(call));
     let failed = write_whole(&mut sink, b"01234").is_err();
-    failed == (call < 3) && sink.failures() == u64::from(failed) && sink.taken() == taken
+    (failed, sink.failures(), sink.taken()) == (call < 3, u64::from(failed), taken)
 }

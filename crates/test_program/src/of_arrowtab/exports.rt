@@ -1,6 +1,6 @@
 //! Files exported: the table as one file, and that it reads back as it is.
 
-use super::expect;
+use super::{Case, expect, expect_all};
 
 const ONE: &[&str] = &["arrowtab", "export", "A"];
 
@@ -74,25 +74,23 @@ const BOTH_OUT: &str =
 "#;
 
 /// One file or two, and what is exported.
-const EXPORTED: [(&str, Option<&str>, &str); 9] = [
-    (NUMBERS, None, NUMBERS_OUT),
-    (TEXTS, None, TEXTS_OUT),
-    (LISTS, None, LISTS_OUT),
-    (LARGE, None, LARGE_OUT),
-    (LETTERS, None, LETTERS_OUT),
-    (BARE_LETTERS, None, LETTERS_OUT),
-    (EMPTY, None, EMPTY_OUT),
-    (BARE, None, BARE_OUT),
-    (TEXTS, Some(MORE), BOTH_OUT),
+static EXPORTED: [Case; 9] = [
+    (ONE, NUMBERS, None, NUMBERS_OUT),
+    (ONE, TEXTS, None, TEXTS_OUT),
+    (ONE, LISTS, None, LISTS_OUT),
+    (ONE, LARGE, None, LARGE_OUT),
+    (ONE, LETTERS, None, LETTERS_OUT),
+    (ONE, BARE_LETTERS, None, LETTERS_OUT),
+    (ONE, EMPTY, None, EMPTY_OUT),
+    (ONE, BARE, None, BARE_OUT),
+    (TWO, TEXTS, Some(MORE), BOTH_OUT),
 ];
 
 #[test]
 fn exports_files_as_one(rt: HostRuntime) {
-    for (first, second, wanted) in EXPORTED {
-        let words = if second.is_some() { TWO } else { ONE };
-        expect(&rt, rt.alloc(), words, (first, second), wanted);
-
-        // What is exported is exported as it is.
-        expect(&rt, rt.alloc(), ONE, (wanted, None), wanted);
+    expect_all(&rt, rt.alloc(), &EXPORTED);
+    // What is exported is exported as it is.
+    for (_, _, _, wanted) in &EXPORTED {
+        expect(&rt, rt.alloc(), ONE, (*wanted, None), *wanted);
     }
 }

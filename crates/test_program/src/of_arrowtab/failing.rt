@@ -1,9 +1,10 @@
 //! Each read of each source and each write of the output fails in turn, until a run meets no failure.
-ghost use Rattle.std.specs.Prelude.{◌≡◌};
+ghost use Rattle.std.specs.Prelude.{◌≡◌, ◌^◌, ◌-◌, ◌<◌, All, IfOk};
 
 use super::{Outcome, assert_case, ran, source};
-use arrowtab::memory::{MemorySink, Plan};
-use std::alloc::Global;
+use arrowtab::memory::{MemorySink, MemorySource, Plan};
+use std::alloc::{AllocError, Global};
+use std::process::Abort;
 use std::sync::Wait;
 use std::thread::Threads;
 
@@ -19,7 +20,7 @@ const COLUMN: &str = r#"{"name":"m","nullable":true,"type":{"name":"utf8"}}"#;
 const SUM: &str = r#"{"aggs":[{"agg":"rows"},{"agg":"sum","column":"n"}]}"#;
 
 /// The words of runs over one file.
-const ALONE: [&[&str]; 7] = [
+static ALONE: [&[&str]; 7] = [
     &["arrowtab", "stats", "A"],
     &["arrowtab", "stats", "--workers", "2", "A"],
     &["arrowtab", "schema", "A"],
@@ -30,7 +31,7 @@ const ALONE: [&[&str]; 7] = [
 ];
 
 /// The words of runs over two files, which print the same whichever worker is first.
-const BESIDE: [&[&str]; 6] = [
+static BESIDE: [&[&str]; 6] = [
     &["arrowtab", "stats", "A", "B"],
     &["arrowtab", "stats", "--workers", "2", "A", "B"],
     &["arrowtab", "export", "A", "B"],
@@ -83,18 +84,27 @@ impl End {
 
 #[test]
 fn each_call_of_an_end_fails(rt: HostRuntime) {
-    for words in ALONE {
-        for end in [End::First, End::Output] {
-            let is_right = all_fail(&rt, rt.alloc(), words, None, end);
-            assert_case(&rt, is_right, words, end.line());
-        }
+    for words in &ALONE {
+        expect_all_fail(&rt, rt.alloc(), *words, None, End::First);
+        expect_all_fail(&rt, rt.alloc(), *words, None, End::Output);
     }
-    for words in BESIDE {
-        for end in [End::First, End::Second, End::Output] {
-            let is_right = all_fail(&rt, rt.alloc(), words, Some(NUMBER), end);
-            assert_case(&rt, is_right, words, end.line());
-        }
+    for words in &BESIDE {
+        expect_all_fail(&rt, rt.alloc(), *words, Some(NUMBER), End::First);
+        expect_all_fail(&rt, rt.alloc(), *words, Some(NUMBER), End::Second);
+        expect_all_fail(&rt, rt.alloc(), *words, Some(NUMBER), End::Output);
     }
+}
+
+/// Asserts that each call of an end fails in turn.
+fn expect_all_fail(
+    rt: &(impl Abort + Wait + Threads + Sync),
+    alloc: Global,
+    words: &[&str],
+    second: Option<&str>,
+    end: End,
+) {
+    let is_right = all_fail(rt, alloc, words, second, end);
+    assert_case(rt, is_right, words, end.line());
 }
 
 /// Whether each call of an end that fails is reported, and at last, where none does, what is printed without failures.
@@ -105,20 +115,32 @@ fn all_fail(
     second: Option<&str>,
     end: End,
 ) -> bool {
-    let Some((whole, _)) = ran_failing(rt, alloc, words, second, end, Plan::Never) else {
-        return false;
-    };
+    match ran_failing(rt, alloc, words, second, end, Plan::Never) {
+        Some((whole, _)) => all_fail_before(rt, alloc, words, second, end, &whole),
+        None => false,
+    }
+}
+
+/// The same, where this is what comes without failures.
+fn all_fail_before(
+    rt: &(impl Wait + Threads + Sync),
+    alloc: Global,
+    words: &[&str],
+    second: Option<&str>,
+    end: End,
+    whole: &Outcome,
+) -> bool {
     for call in 0..1000 {
         match ran_failing(rt, alloc, words, second, end, Plan::At(call)) {
-            Some((came, 0)) => return call > 0 && came.is_same(&whole),
-            Some((came, _)) if came.tells_failure(&whole, end) => {}
+            Some((came, 0)) => return call > 0 && came.parts() == whole.parts(),
+            Some((came, _)) if came.tells_failure(whole, end) => {}
             _ => return false,
         }
     }
     false
 }
 
-/// A run over the numbers, and a second file, in which an end fails as planned, and how often it did. Ends take little at once.
+/// A run over the numbers, and a second file, in which an end fails as planned, and how often it did.
 fn ran_failing(
     rt: &(impl Wait + Threads + Sync),
     alloc: Global,
@@ -127,43 +149,82 @@ fn ran_failing(
     end: End,
     plan: Plan,
 ) -> Option<(Outcome, u64)> {
-    let out = MemorySink::new(alloc)
-        .in_pieces(30)
-        .failing(End::Output.plan(end, plan));
-    let first = source(alloc, NUMBERS)
-        .ok()?
-        .in_pieces(50)
-        .failing(End::First.plan(end, plan));
-    let Some(text) = second else {
-        let mut sources = [first];
-        let came = ran(rt, alloc, words, &mut sources, out)?;
-        let failures = sources[0].failures().max(came.out.failures());
-        return Some((came, failures));
-    };
-    let second = source(alloc, text)
-        .ok()?
-        .in_pieces(50)
-        .failing(End::Second.plan(end, plan));
-    let mut sources = [first, second];
-    let came = ran(rt, alloc, words, &mut sources, out)?;
-    let read = sources[0].failures().max(sources[1].failures());
-    let failures = read.max(came.out.failures());
+    match second {
+        Some(text) => ran_beside(rt, alloc, words, text, end, plan),
+        None => ran_alone(rt, alloc, words, end, plan),
+    }
+}
+
+fn ran_alone(
+    rt: &(impl Wait + Threads + Sync),
+    alloc: Global,
+    words: &[&str],
+    end: End,
+    plan: Plan,
+) -> Option<(Outcome, u64)> {
+    let out = slow_output(alloc, End::Output.plan(end, plan));
+    match slow_source(alloc, NUMBERS, End::First.plan(end, plan)) {
+        Ok(first) => ran_from(rt, alloc, words, &mut [first], out),
+        Err(_) => None,
+    }
+}
+
+fn ran_beside(
+    rt: &(impl Wait + Threads + Sync),
+    alloc: Global,
+    words: &[&str],
+    second: &str,
+    end: End,
+    plan: Plan,
+) -> Option<(Outcome, u64)> {
+    let out = slow_output(alloc, End::Output.plan(end, plan));
+    let first = slow_source(alloc, NUMBERS, End::First.plan(end, plan));
+    let second = slow_source(alloc, second, End::Second.plan(end, plan));
+    match (first, second) {
+        (Ok(first), Ok(second)) => ran_from(rt, alloc, words, &mut [first, second], out),
+        _ => None,
+    }
+}
+
+/// An output that takes little at once, and fails as planned.
+fn slow_output(alloc: Global, plan: Plan) -> MemorySink
+    ensures { result.failures ≡ 0 }
+{
+    MemorySink::new(alloc).in_pieces(30).failing(plan)
+}
+
+/// A source that gives little at once, and fails as planned.
+fn slow_source(alloc: Global, text: &str, plan: Plan) -> Result<MemorySource, AllocError>
+    ensures { IfOk result (λ s. s.failures ≡ 0) }
+{
+    Ok(source(alloc, text)?.in_pieces(50).failing(plan))
+}
+
+/// A run, and the most failures of an end.
+fn ran_from(
+    rt: &(impl Wait + Threads + Sync),
+    alloc: Global,
+    words: &[&str],
+    sources: &mut [MemorySource],
+    out: MemorySink,
+) -> Option<(Outcome, u64)>
+    requires sources { All (λ s. s.failures < 2 ^ 64 - 1) sources.old }
+    requires out { out.failures < 2 ^ 64 - 1 }
+{
+    let came = ran(rt, alloc, words, sources, out)?;
+    let mut failures = came.out.failures();
+    for source in sources.iter() {
+        failures = failures.max(source.failures());
+    }
     Some((came, failures))
 }
 
 impl Outcome {
-    /// Whether both are of one status, and wrote the same.
-    fn is_same(&self, other: &Outcome) -> bool {
-        self.status == other.status
-            && self.out.taken() == other.out.taken()
-            && self.err.taken() == other.err.taken()
-    }
-
     /// Whether it tells that an end failed, and wrote nothing, or a front of all where the output failed.
     fn tells_failure(&self, whole: &Outcome, end: End) -> bool {
-        self.status == 1
-            && self.err.taken() == end.line().as_bytes()
-            && whole.out.taken().starts_with(self.out.taken())
-            && (end == End::Output || self.out.taken().is_empty())
+        let (status, out, err) = self.parts();
+        (status, err) == (1, end.line().as_bytes())
+            && whole.out.taken().starts_with(out)
+            && (end == End::Output || out.is_empty())
     }
 }

@@ -1,7 +1,7 @@
 //! The first rows of files.
 
-use super::expect;
 use super::runs::FILE;
+use super::{Case, expect_all};
 
 const TEN: &[&str] = &["arrowtab", "head", "A"];
 
@@ -30,7 +30,7 @@ const LISTS: &str =
     r#"{"schema":{"fields":[{"name":"l","nullable":true,"type":{"name":"list"},"children":[{"name":"item","nullable":true,"type":{"name":"largelist"},"children":[{"name":"item","nullable":true,"type":{"name":"int","bitWidth":64,"isSigned":false},"children":[]}]}]}]},"batches":[{"count":3,"columns":[{"name":"l","count":3,"VALIDITY":[1,1,0],"OFFSET":[0,3,3,3],"children":[{"name":"item","count":3,"VALIDITY":[1,0,1],"OFFSET":["0","2","2","2"],"children":[{"name":"item","count":2,"VALIDITY":[1,0],"DATA":["18446744073709551615","0"]}]}]}]}]}"#;
 
 /// A command, one file or two, and what is printed.
-const LOOKED: [(&[&str], &str, Option<&str>, &str); 8] = [
+static LOOKED: [Case; 8] = [
     (
         TEN,
         FILE,
@@ -73,7 +73,5 @@ const LOOKED: [(&[&str], &str, Option<&str>, &str); 8] = [
 
 #[test]
 fn first_rows_are_printed(rt: HostRuntime) {
-    for (words, first, second, wanted) in LOOKED {
-        expect(&rt, rt.alloc(), words, (first, second), wanted);
-    }
+    expect_all(&rt, rt.alloc(), &LOOKED);
 }

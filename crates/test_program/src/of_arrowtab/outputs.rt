@@ -1,7 +1,7 @@
 //! Groups as arrays of JSON and as records of CSV.
 
-use super::expect;
 use super::runs::FILE;
+use super::{Case, expect_all};
 
 /// Texts that CSV has within quotes, and that JSON escapes, an empty one and null, in a column whose name has a comma.
 const TEXTS: &str =
@@ -79,7 +79,7 @@ plain,true,1,1,18446744073709551615,plain,true\r
 ";
 
 /// A query, one file or two, and what is printed.
-const ASKED: [(&[&str], &str, Option<&str>, &str); 9] = [
+static ASKED: [Case; 9] = [
     (JSON, TEXTS, None, ARRAYS),
     (CSV, TEXTS, None, RECORDS),
     (JSON_SUM, FILE, Some(FILE), "[18446744073709551612]\n"),
@@ -98,7 +98,5 @@ const ASKED: [(&[&str], &str, Option<&str>, &str); 9] = [
 
 #[test]
 fn groups_are_printed_in_each_form(rt: HostRuntime) {
-    for (words, first, second, wanted) in ASKED {
-        expect(&rt, rt.alloc(), words, (first, second), wanted);
-    }
+    expect_all(&rt, rt.alloc(), &ASKED);
 }

@@ -1,6 +1,6 @@
 //! Queries over memory: the status, what went to the output, and the line of the fault.
 
-use super::{assert_case, expect, ran, source};
+use super::{assert_case, expect, filled, ran, source};
 use arrowtab::memory::{MemorySink, Plan};
 use std::alloc::{AllocError, Global};
 use std::process::Abort;
@@ -35,61 +35,67 @@ fn expect_answer(
     expect(rt, alloc, &words, (file, None), wanted);
 }
 
-/// A query over the pairs, and what it tells.
-const OF_PAIRS: [(&str, &str); 13] = [
+/// A file, a query, and what it tells.
+static ASKED: [(&str, &str, &str); 20] = [
     (
+        PAIRS,
         r#"{"by":["k"],"aggs":[{"agg":"sum","column":"v"}]}"#,
         "null 4\n\"b\" 2\n\"a\" null\n",
     ),
     // Keys of two columns, and no cells.
     (
+        PAIRS,
         r#"{"by":["v","k"]}"#,
         "1 null\n2 \"b\"\n3 null\nnull \"a\"\n",
     ),
-    ("{}", "\n"),
+    (PAIRS, "{}", "\n"),
     (
+        PAIRS,
         r#"{"filter":{"op":"eq","args":[{"column":"k"},{"text":"b"}]},"aggs":[{"agg":"rows"}]}"#,
         "1\n",
     ),
     // Literals beside one another are of 64 bits, signed.
     (
+        PAIRS,
         r#"{"filter":{"op":"eq","args":[{"int":1},{"int":1}]},"aggs":[{"agg":"rows"}]}"#,
         "4\n",
     ),
     (
+        PAIRS,
         r#"{"filter":{"op":"eq","args":[{"int":"18446744073709551615"},{"int":1}]},"aggs":[{"agg":"rows"}]}"#,
         "arrowtab: query: Q3 WrongKind\n",
     ),
     // Rows whose filter is null are dropped.
     (
+        PAIRS,
         r#"{"filter":{"op":"ne","args":[{"column":"k"},{"text":"c"}]},"by":["k"],"aggs":[{"agg":"rows"},{"agg":"count","column":"v"}]}"#,
         "\"b\" 1 1\n\"a\" 1 0\n",
     ),
     // What is null there hides no overflow.
     (
+        PAIRS,
         r#"{"filter":{"op":"or","args":[{"op":"is_null","args":[{"column":"v"}]},{"op":"gt","args":[{"op":"add","args":[{"column":"v"},{"int":2147483645}]},{"int":0}]}]},"aggs":[{"agg":"rows"}]}"#,
         "arrowtab: query: Q4 Overflow row=2\n",
     ),
     // The sum of the third row is past 32 bits.
     (
+        PAIRS,
         r#"{"filter":{"op":"gt","args":[{"op":"add","args":[{"column":"v"},{"int":2147483645}]},{"int":0}]},"aggs":[{"agg":"rows"}]}"#,
         "arrowtab: query: Q4 Overflow row=2\n",
     ),
-    (r#"{"by":["w"]}"#, "arrowtab: query: Q1 NoColumn\n"),
+    (PAIRS, r#"{"by":["w"]}"#, "arrowtab: query: Q1 NoColumn\n"),
     // A number that no column of 32 bits is compared with.
     (
+        PAIRS,
         r#"{"filter":{"op":"gt","args":[{"column":"v"},{"int":2147483648}]}}"#,
         "arrowtab: query: Q3 WrongKind\n",
     ),
     (
+        PAIRS,
         r#"{"by":["k","v","k","v","k"]}"#,
         "arrowtab: query: J3 WrongMember at /by\n",
     ),
-    ("{", "arrowtab: query: J1 NotJson\n"),
-];
-
-/// Another file, a query, and what it tells.
-const OF_OTHERS: [(&str, &str, &str); 7] = [
+    (PAIRS, "{", "arrowtab: query: J1 NotJson\n"),
     // Texts of both widths compare.
     (
         LARGE,
@@ -134,27 +140,17 @@ const NEGATED: &str =
     r#"{"filter":NOT{"op":"is_null","args":[{"column":"k"}]}END,"aggs":[{"agg":"rows"}]}"#;
 
 fn negated(alloc: Global, times: usize) -> Result<String, AllocError> {
-    let nots = r#"{"op":"not","args":["#.repeat(alloc, times)?;
-    let text = NEGATED.replace(alloc, "NOT", nots.as_str())?;
-    let ends = "]}".repeat(alloc, times)?;
-    text.as_str().replace(alloc, "END", ends.as_str())
+    let text = filled(alloc, NEGATED, "NOT", (r#"{"op":"not","args":["#, times))?;
+    filled(alloc, text.as_str(), "END", ("]}", times))
 }
 
 #[test]
 fn answers_queries(rt: HostRuntime) {
-    for (query, wanted) in OF_PAIRS {
-        expect_answer(&rt, rt.alloc(), PAIRS, query, wanted);
+    for (file, query, wanted) in &ASKED {
+        expect_answer(&rt, rt.alloc(), *file, *query, *wanted);
     }
-    expect_others(&rt, rt.alloc());
     expect_negated(&rt, rt.alloc(), 30, "2\n");
     expect_negated(&rt, rt.alloc(), 31, "arrowtab: query: Q5 TooDeep\n");
-}
-
-/// Asserts what queries over other files tell.
-fn expect_others(rt: &(impl Abort + Wait + Threads + Sync), alloc: Global) {
-    for (file, query, wanted) in OF_OTHERS {
-        expect_answer(rt, alloc, file, query, wanted);
-    }
 }
 
 /// Asserts what the query that is so often negated tells.
@@ -170,15 +166,18 @@ fn expect_negated(
     }
 }
 
-// A query that isn't read is reported before a source is touched, one that doesn't resolve once all files are loaded.
+/// A query that isn't read is reported before a source is touched, one that doesn't resolve once all files are loaded: the query,
+/// how often the source fails, and the line.
+static READ_FIRST: [(&str, u64, &str); 2] = [
+    ("[]", 0, "arrowtab: query: J3 WrongMember\n"),
+    (r#"{"by":["w"]}"#, 1, "arrowtab: A: cannot be read\n"),
+];
+
 #[test]
 fn reads_the_query_first(rt: HostRuntime) {
-    for (query, failures, line) in [
-        ("[]", 0, "arrowtab: query: J3 WrongMember\n"),
-        (r#"{"by":["w"]}"#, 1, "arrowtab: A: cannot be read\n"),
-    ] {
-        let is_right = fails_after(&rt, rt.alloc(), query, failures, line);
-        assert_case(&rt, is_right, &[query], line);
+    for (query, failures, line) in &READ_FIRST {
+        let is_right = fails_after(&rt, rt.alloc(), *query, *failures, *line);
+        assert_case(&rt, is_right, &[*query], *line);
     }
 }
 

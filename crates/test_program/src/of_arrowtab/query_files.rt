@@ -1,11 +1,11 @@
 //! Queries in files: what is told where their file is read, and where it can't be.
-ghost use Rattle.std.specs.Prelude.{◌≡◌};
+ghost use Rattle.std.specs.Prelude.{◌≡◌, IfOk};
 
 use super::runs::FILE;
-use super::{Outcome, assert_case, ran_job, source};
+use super::{Outcome, assert_case, ran_over};
 use arrowtab::memory::{MemorySink, MemorySource, Plan};
-use arrowtab::{job, read_query_file};
-use std::alloc::Global;
+use arrowtab::{Job, job, read_query_file};
+use std::alloc::{AllocError, Global};
 use std::sync::Wait;
 use std::thread::Threads;
 
@@ -30,7 +30,7 @@ const RECORDS: &str = "rows,sum(n)\r\n3,9223372036854775806\r\n";
 const SUM: &[u8] = br#"{"aggs":[{"agg":"rows"},{"agg":"sum","column":"n"}]}"#;
 
 /// Words, what the query's file holds, and what is told.
-const READ: [(&[&str], &[u8], &str); 7] = [
+static READ: [(&[&str], &[u8], &str); 7] = [
     (OF_FILE, SUM, LINES),
     (OF_INPUT, SUM, RECORDS),
     (OF_FILE, b"", "arrowtab: query: J1 NotJson\n"),
@@ -56,10 +56,17 @@ const READ: [(&[&str], &[u8], &str); 7] = [
 
 #[test]
 fn a_query_is_read_from_its_file(rt: HostRuntime) {
-    for (words, text, wanted) in READ {
-        let is_right = tells(&rt, rt.alloc(), words, text, wanted);
-        assert_case(&rt, is_right, words, wanted);
+    for (words, text, wanted) in &READ {
+        let is_right = tells(&rt, rt.alloc(), *words, *text, *wanted);
+        assert_case(&rt, is_right, *words, *wanted);
     }
+}
+
+/// A query's file of these bytes.
+fn query_of(alloc: Global, bytes: &[u8]) -> Result<MemorySource, AllocError>
+    ensures { IfOk result (λ s. s.failures ≡ 0) }
+{
+    Ok(MemorySource::new(Vec::from_slice(alloc, bytes)?))
 }
 
 /// Whether a run of these words tells this, where the query's file holds that.
@@ -67,21 +74,20 @@ fn tells(
     rt: &(impl Wait + Threads + Sync),
     alloc: Global,
     words: &[&str],
-    text: &[u8],
+    bytes: &[u8],
     wanted: &str,
 ) -> bool {
-    let Ok(bytes) = Vec::from_slice(alloc, text) else {
+    let Ok(mut query) = query_of(alloc, bytes) else {
         return false;
     };
-    let query = MemorySource::new(bytes);
-    match ran_over_query(rt, alloc, words, query, MemorySink::new(alloc)) {
-        Some((came, 0)) => came.tells(wanted),
-        _ => false,
+    match ran_over_query(rt, alloc, words, &mut query, MemorySink::new(alloc)) {
+        Some(came) => came.tells(wanted) && query.failures() == 0,
+        None => false,
     }
 }
 
 /// The words of a run, whether writes of its output fail or reads of its query's file, what is printed where none does, and what is reported.
-const FAILING: [(&[&str], bool, &str, &str); 3] = [
+static FAILING: [(&[&str], bool, &str, &str); 3] = [
     (OF_FILE, false, LINES, "arrowtab: Q: cannot be read\n"),
     (OF_INPUT, false, RECORDS, "arrowtab: -: cannot be read\n"),
     (OF_FILE, true, LINES, "arrowtab: output failed\n"),
@@ -89,9 +95,9 @@ const FAILING: [(&[&str], bool, &str, &str); 3] = [
 
 #[test]
 fn each_call_of_an_end_fails(rt: HostRuntime) {
-    for (words, is_output, whole, line) in FAILING {
-        let is_right = all_fail(&rt, rt.alloc(), words, is_output, whole, line);
-        assert_case(&rt, is_right, words, line);
+    for (words, is_output, whole, line) in &FAILING {
+        let is_right = all_fail(&rt, rt.alloc(), *words, *is_output, *whole, *line);
+        assert_case(&rt, is_right, *words, *line);
     }
 }
 
@@ -117,10 +123,10 @@ fn all_fail(
 impl Outcome {
     /// Whether it reported this line, and printed nothing, or a front of this.
     fn tells_front(&self, is_front: bool, whole: &str, line: &str) -> bool {
-        self.status == 1
-            && self.err.taken() == line.as_bytes()
-            && whole.as_bytes().starts_with(self.out.taken())
-            && (is_front || self.out.taken().is_empty())
+        let (status, out, err) = self.parts();
+        (status, err) == (1, line.as_bytes())
+            && whole.as_bytes().starts_with(out)
+            && (is_front || out.is_empty())
     }
 }
 
@@ -137,36 +143,49 @@ fn ran_failing(
     } else {
         (plan, Plan::Never)
     };
-    let bytes = Vec::from_slice(alloc, SUM).ok()?;
-    let query = MemorySource::new(bytes).in_pieces(20).failing(of_query);
+    let query = query_of(alloc, SUM).ok()?;
+    let mut query = query.in_pieces(20).failing(of_query);
     let out = MemorySink::new(alloc).in_pieces(5).failing(of_output);
-    ran_over_query(rt, alloc, words, query, out)
+    let came = ran_over_query(rt, alloc, words, &mut query, out)?;
+    let failures = query.failures().max(came.out.failures());
+    Some((came, failures))
 }
 
-/// A run over the numbers with this for the query's file, to this output, and how often its reads and writes failed.
+/// A run over the numbers with this for the query's file, to this output.
 fn ran_over_query(
     rt: &(impl Wait + Threads + Sync),
     alloc: Global,
     words: &[&str],
-    query: MemorySource,
+    query: &mut MemorySource,
     out: MemorySink,
-) -> Option<(Outcome, u64)>
-    requires query { query.failures ≡ 0 }
+) -> Option<Outcome>
+    requires query { query.old.failures ≡ 0 }
     requires out { out.failures ≡ 0 }
 {
-    let asked = job(alloc, words).ok()?;
-    let mut query = query;
+    match job(alloc, words) {
+        Ok(job) => ran_asked(rt, alloc, job, query, out),
+        Err(_) => None,
+    }
+}
+
+/// The same of a job whose query may be in that file.
+fn ran_asked(
+    rt: &(impl Wait + Threads + Sync),
+    alloc: Global,
+    asked: Job,
+    query: &mut MemorySource,
+    out: MemorySink,
+) -> Option<Outcome>
+    requires query { query.old.failures ≡ 0 }
+    requires out { out.failures ≡ 0 }
+{
     let mut err = MemorySink::new(alloc);
-    let Some(job) = read_query_file(alloc, asked, &mut query, &mut err) else {
-        let told = Outcome {
+    match read_query_file(alloc, asked, query, &mut err) {
+        Some(job) => ran_over(rt, alloc, &job, FILE, out),
+        None => Some(Outcome {
             status: 1,
             out,
             err,
-        };
-        return Some((told, query.failures()));
-    };
-    let mut sources = [source(alloc, FILE).ok()?];
-    let came = ran_job(rt, alloc, &job, &mut sources, out)?;
-    let failures = came.out.failures();
-    Some((came, failures))
+        }),
+    }
 }

@@ -6,7 +6,7 @@ use std::alloc::Global;
 use table::Refusal;
 
 /// Each refusal, and how it is reported.
-const TOLD: [(Refusal, &str); 6] = [
+static TOLD: [(Refusal, &str); 6] = [
     (
         Refusal::SchemaDiffers { column: 2 },
         "A1 SchemaDiffers column=2",
@@ -23,9 +23,9 @@ const TOLD: [(Refusal, &str); 6] = [
 
 #[test]
 fn refusals_are_reported(rt: HostRuntime) {
-    for (refusal, wanted) in TOLD {
-        let is_right = is_reported(rt.alloc(), refusal, wanted);
-        assert_case(&rt, is_right, &["refusal"], wanted);
+    for (refusal, wanted) in &TOLD {
+        let is_right = is_reported(rt.alloc(), *refusal, *wanted);
+        assert_case(&rt, is_right, &["refusal"], *wanted);
     }
 }
 

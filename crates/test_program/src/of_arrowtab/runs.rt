@@ -1,6 +1,6 @@
 //! Runs over memory: the status, what went to the output, and the line of the fault.
 
-use super::{assert_case, expect};
+use super::{assert_case, expect, filled};
 use std::alloc::{AllocError, Global};
 use std::process::Abort;
 use std::sync::Wait;
@@ -19,7 +19,7 @@ const OUTPUT: &str =
 const TEMPLATE: &str = r#"{"schema":{"fields":[FIELD]},"batches":[BATCHES]}"#;
 
 /// Fields, batches, and what is printed of their file.
-const PRINTED: [(&str, &str, &str); 15] = [
+static PRINTED: [(&str, &str, &str); 15] = [
     // No batch.
     (
         r#"{"name":"n","nullable":true,"type":{"name":"int","bitWidth":8,"isSigned":false},"children":[]}"#,
@@ -113,9 +113,9 @@ const PRINTED: [(&str, &str, &str); 15] = [
 #[test]
 fn prints_the_statistics(rt: HostRuntime) {
     expect(&rt, rt.alloc(), STATS, (FILE, None), OUTPUT);
-    for (field, batches, output) in PRINTED {
-        let text = file_of(rt.alloc(), field, batches);
-        expect_made(&rt, rt.alloc(), text, output);
+    for (field, batches, output) in &PRINTED {
+        let text = file_of(rt.alloc(), *field, *batches);
+        expect_made(&rt, rt.alloc(), text, *output);
     }
 }
 
@@ -139,7 +139,7 @@ fn expect_made(
 }
 
 /// What stands in the file, what is put for it, and the line of the fault.
-const CHANGED: [(&str, &str, &str); 5] = [
+static CHANGED: [(&str, &str, &str); 5] = [
     (
         "807\"",
         "808\"",
@@ -169,9 +169,9 @@ const CHANGED: [(&str, &str, &str); 5] = [
 
 #[test]
 fn tells_the_fault(rt: HostRuntime) {
-    for (found, put, line) in CHANGED {
-        let text = FILE.replace(rt.alloc(), found, put);
-        expect_made(&rt, rt.alloc(), text, line);
+    for (found, put, line) in &CHANGED {
+        let text = FILE.replace(rt.alloc(), *found, *put);
+        expect_made(&rt, rt.alloc(), text, *line);
     }
 }
 
@@ -185,34 +185,32 @@ fn tells_each_cut(rt: HostRuntime) {
     }
 }
 
+/// How many arrays stand in one another, and what is told of them.
+static LEVELS: [(usize, &str); 2] = [
+    (127, "arrowtab: A: J3 WrongMember\n"),
+    (128, "arrowtab: A: J1 NotJson\n"),
+];
+
 #[test]
 fn reads_127_levels(rt: HostRuntime) {
-    for (depth, line) in [
-        (127, "arrowtab: A: J3 WrongMember\n"),
-        (128, "arrowtab: A: J1 NotJson\n"),
-    ] {
-        let text = levels(rt.alloc(), depth);
-        expect_made(&rt, rt.alloc(), text, line);
+    for (depth, line) in &LEVELS {
+        let text = levels(rt.alloc(), *depth);
+        expect_made(&rt, rt.alloc(), text, *line);
     }
 }
 
 /// Arrays within one another.
 fn levels(alloc: Global, depth: usize) -> Result<String, AllocError> {
-    let mut text = "[".repeat(alloc, depth)?;
-    text.push_str("]".repeat(alloc, depth)?.as_str())?;
-    Ok(text)
+    let text = filled(alloc, "BEGINEND", "BEGIN", ("[", depth))?;
+    filled(alloc, text.as_str(), "END", ("]", depth))
 }
 
 #[test]
 fn refuses_the_513th_large_batch(rt: HostRuntime) {
-    let text = large_batches(rt.alloc());
+    // Batches that are as large as they may be.
+    let file = r#"{"schema":{"fields":[]},"batches":[BATCHES{"count":2147483647,"columns":[]}]}"#;
+    let batch = r#"{"count":2147483647,"columns":[]},"#;
+    let text = filled(rt.alloc(), file, "BATCHES", (batch, 512));
     let line = "arrowtab: A: batch 512: A3 TableFull\n";
     expect_made(&rt, rt.alloc(), text, line);
-}
-
-/// A file of 513 batches that are as large as they may be.
-fn large_batches(alloc: Global) -> Result<String, AllocError> {
-    let batches = r#"{"count":2147483647,"columns":[]},"#.repeat(alloc, 512)?;
-    let file = r#"{"schema":{"fields":[]},"batches":[BATCHES{"count":2147483647,"columns":[]}]}"#;
-    file.replace(alloc, "BATCHES", batches.as_str())
 }

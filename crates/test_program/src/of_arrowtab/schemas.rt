@@ -1,7 +1,7 @@
 //! The fields of files, and whether files make one table.
 
-use super::expect;
 use super::runs::FILE;
+use super::{Case, expect_all};
 
 const SCHEMA: &[&str] = &["arrowtab", "schema", "A"];
 
@@ -17,7 +17,7 @@ const LINES: &str =
     "\"k\\n\" dictionary nullable=true\n\"b\" bool nullable=false\n\"l\" list<uint8> nullable=true\n\"s\" largeutf8 nullable=false\n";
 
 /// A command, one file or two, and what is printed.
-const LOOKED: [(&[&str], &str, Option<&str>, &str); 7] = [
+static LOOKED: [Case; 7] = [
     (SCHEMA, FIELDS, None, LINES),
     (SCHEMA, FILE, None, "\"n\" int64 nullable=true\n"),
     (SCHEMA, "{", None, "arrowtab: A: J1 NotJson\n"),
@@ -34,7 +34,5 @@ const LOOKED: [(&[&str], &str, Option<&str>, &str); 7] = [
 
 #[test]
 fn fields_are_printed_and_files_validated(rt: HostRuntime) {
-    for (words, first, second, wanted) in LOOKED {
-        expect(&rt, rt.alloc(), words, (first, second), wanted);
-    }
+    expect_all(&rt, rt.alloc(), &LOOKED);
 }

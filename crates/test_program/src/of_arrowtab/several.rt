@@ -1,6 +1,6 @@
 //! Runs over two files: which faults name which file, and what is counted where.
 
-use super::expect;
+use super::{Case, expect_all};
 
 const STATS: &[&str] = &["arrowtab", "stats", "A", "B"];
 
@@ -33,36 +33,38 @@ const CUT: &str =
     r#"{"schema":{"fields":[{"name":"n","nullable":false,"type":{"name":"int","bitWidth":8,"isSigned":true}"#;
 
 /// Two files, and what is reported of them.
-const RUNS: [(&str, &str, &str); 5] = [
+static RUNS: [Case; 5] = [
     (
+        STATS,
         FIVE_AND_SEVEN,
-        MINUS_THREE,
+        Some(MINUS_THREE),
         "rows 3\nworker 0 calls 2 rows 3\n\"n\" int8 rows=3 nulls=0 sum=9 least=-3 greatest=7\n",
     ),
     // Batches are counted within their file.
     (
+        STATS,
         FIVE_AND_SEVEN,
-        MINUS_THREE_AND_NULL,
+        Some(MINUS_THREE_AND_NULL),
         "arrowtab: B: batch 1: A2 NullInNonNullable column=0 row=0\n",
     ),
     (
+        STATS,
         FIVE_AND_SEVEN,
-        OTHER,
+        Some(OTHER),
         "arrowtab: B: batch 0: A1 SchemaDiffers column=0\n",
     ),
     // Another schema without batches is none that differs.
     (
+        STATS,
         FIVE_AND_SEVEN,
-        NO_OTHER,
+        Some(NO_OTHER),
         "rows 2\nworker 0 calls 1 rows 2\n\"n\" int8 rows=2 nulls=0 sum=12 least=5 greatest=7\n",
     ),
     // All files are read before a batch is added.
-    (NULL, CUT, "arrowtab: B: J1 NotJson\n"),
+    (STATS, NULL, Some(CUT), "arrowtab: B: J1 NotJson\n"),
 ];
 
 #[test]
 fn files_are_added_in_order(rt: HostRuntime) {
-    for (first, second, wanted) in RUNS {
-        expect(&rt, rt.alloc(), STATS, (first, Some(second)), wanted);
-    }
+    expect_all(&rt, rt.alloc(), &RUNS);
 }

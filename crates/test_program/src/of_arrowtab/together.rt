@@ -1,10 +1,6 @@
 //! Runs of several workers: what they print doesn't depend on who was first.
 
-use super::expect;
-use std::alloc::Global;
-use std::process::Abort;
-use std::sync::Wait;
-use std::thread::Threads;
+use super::{Case, expect_all};
 
 /// A file of the three numbers 9223372036854775807, null and -1.
 const NUMBERS: &str =
@@ -18,98 +14,129 @@ const OTHER: &str =
 const PAIRS: &str =
     r#"{"schema":{"fields":[{"name":"k","nullable":true,"type":{"name":"utf8"},"children":[]},{"name":"v","nullable":true,"type":{"name":"int","bitWidth":32,"isSigned":true},"children":[]}]},"batches":[{"count":4,"columns":[{"name":"k","count":4,"VALIDITY":[0,1,0,1],"OFFSET":[0,0,1,1,2],"DATA":["","b","","a"]},{"name":"v","count":4,"VALIDITY":[1,1,1,0],"DATA":[1,2,3,0]}]}]}"#;
 
-/// How many workers load the numbers and a second file, its name, which that is, and what is reported of both.
-const RUNS: [(&str, &str, &str, &str); 5] = [
+/// Runs of several workers.
+static RUNS: [Case; 6] = [
     (
-        "2",
-        "B",
+        &["arrowtab", "stats", "--workers", "2", "A", "B"],
         NUMBERS,
+        Some(NUMBERS),
         "rows 6\nworker 0 calls 1 rows 3\nworker 1 calls 1 rows 3\n\"n\" int64 rows=6 nulls=2 sum=18446744073709551612 least=-1 greatest=9223372036854775807\n",
     ),
     // A worker without a file has its line.
     (
-        "3",
-        "B",
+        &["arrowtab", "stats", "--workers", "3", "A", "B"],
         NUMBERS,
+        Some(NUMBERS),
         "rows 6\nworker 0 calls 1 rows 3\nworker 1 calls 1 rows 3\nworker 2 calls 0 rows 0\n\"n\" int64 rows=6 nulls=2 sum=18446744073709551612 least=-1 greatest=9223372036854775807\n",
     ),
     (
-        "2",
-        "Q",
-        PAIRS,
+        &["arrowtab", "stats", "--workers", "2", "A", "Q"],
+        NUMBERS,
+        Some(PAIRS),
         "arrowtab: Q: batch 0: A1 SchemaDiffers column=0\n",
     ),
     (
-        "2",
-        "M",
-        OTHER,
+        &["arrowtab", "stats", "--workers", "2", "A", "M"],
+        NUMBERS,
+        Some(OTHER),
         "arrowtab: M: batch 0: A1 SchemaDiffers column=0\n",
     ),
     // The file of a refusal is reported before any worker begins.
-    ("64", "B", "{", "arrowtab: B: J1 NotJson\n"),
+    (
+        &["arrowtab", "stats", "--workers", "64", "A", "B"],
+        NUMBERS,
+        Some("{"),
+        "arrowtab: B: J1 NotJson\n",
+    ),
+    (
+        &[
+            "arrowtab",
+            "query",
+            "--workers",
+            "2",
+            "--query",
+            COUNTS,
+            "A",
+            "B",
+        ],
+        NUMBERS,
+        Some(NUMBERS),
+        "9223372036854775807 2\nnull 2\n-1 2\n",
+    ),
 ];
 
-/// Counts the rows of each number of two files.
-const COUNTS: &[&str] = &[
-    "arrowtab",
-    "query",
-    "--workers",
-    "2",
-    "--query",
-    r#"{"by":["n"],"aggs":[{"agg":"rows"}]}"#,
-    "A",
-    "B",
-];
+/// Counts the rows of each number.
+const COUNTS: &str = r#"{"by":["n"],"aggs":[{"agg":"rows"}]}"#;
 
 #[test]
 fn several_workers_print_what_one_would(rt: HostRuntime) {
-    for (workers, name, second, wanted) in RUNS {
-        let words = ["arrowtab", "stats", "--workers", workers, "A", name];
-        expect(&rt, rt.alloc(), &words, (NUMBERS, Some(second)), wanted);
-    }
-    let counts = "9223372036854775807 2\nnull 2\n-1 2\n";
-    expect(&rt, rt.alloc(), COUNTS, (NUMBERS, Some(NUMBERS)), counts);
+    expect_all(&rt, rt.alloc(), &RUNS);
 }
 
-/// How many workers there are, and pieces of the rows, which are four.
-const WORKERS: [&str; 4] = ["1", "2", "4", "64"];
+/// Adds the numbers beside each text.
+const SUMS: &str = r#"{"by":["k"],"aggs":[{"agg":"sum","column":"v"}]}"#;
 
-/// A query over the pairs, and what is reported.
-const ANSWERS: [(&str, &str); 2] = [
+const SUMMED: &str = "null 4\n\"b\" 2\n\"a\" null\n";
+
+/// Is past 32 bits at the third row.
+const PAST: &str =
+    r#"{"filter":{"op":"gt","args":[{"op":"add","args":[{"column":"v"},{"int":2147483645}]},{"int":0}]},"aggs":[{"agg":"rows"}]}"#;
+
+const OVERFLOW: &str = "arrowtab: query: Q4 Overflow row=2\n";
+
+/// Each query by so many workers, and pieces of the rows, which are four.
+static ANSWERS: [Case; 8] = [
     (
-        r#"{"by":["k"],"aggs":[{"agg":"sum","column":"v"}]}"#,
-        "null 4\n\"b\" 2\n\"a\" null\n",
+        &["arrowtab", "query", "--workers", "1", "--query", SUMS, "A"],
+        PAIRS,
+        None,
+        SUMMED,
     ),
     (
-        r#"{"filter":{"op":"gt","args":[{"op":"add","args":[{"column":"v"},{"int":2147483645}]},{"int":0}]},"aggs":[{"agg":"rows"}]}"#,
-        "arrowtab: query: Q4 Overflow row=2\n",
+        &["arrowtab", "query", "--workers", "2", "--query", SUMS, "A"],
+        PAIRS,
+        None,
+        SUMMED,
+    ),
+    (
+        &["arrowtab", "query", "--workers", "4", "--query", SUMS, "A"],
+        PAIRS,
+        None,
+        SUMMED,
+    ),
+    (
+        &["arrowtab", "query", "--workers", "64", "--query", SUMS, "A"],
+        PAIRS,
+        None,
+        SUMMED,
+    ),
+    (
+        &["arrowtab", "query", "--workers", "1", "--query", PAST, "A"],
+        PAIRS,
+        None,
+        OVERFLOW,
+    ),
+    (
+        &["arrowtab", "query", "--workers", "2", "--query", PAST, "A"],
+        PAIRS,
+        None,
+        OVERFLOW,
+    ),
+    (
+        &["arrowtab", "query", "--workers", "4", "--query", PAST, "A"],
+        PAIRS,
+        None,
+        OVERFLOW,
+    ),
+    (
+        &["arrowtab", "query", "--workers", "64", "--query", PAST, "A"],
+        PAIRS,
+        None,
+        OVERFLOW,
     ),
 ];
 
 #[test]
 fn an_answer_does_not_tell_the_workers(rt: HostRuntime) {
-    for (query, wanted) in ANSWERS {
-        expect_pairs(&rt, rt.alloc(), query, wanted);
-    }
-}
-
-/// Asserts what any number of workers tells of a query over the pairs.
-fn expect_pairs(
-    rt: &(impl Abort + Wait + Threads + Sync),
-    alloc: Global,
-    query: &str,
-    wanted: &str,
-) {
-    for workers in WORKERS {
-        let words = [
-            "arrowtab",
-            "query",
-            "--workers",
-            workers,
-            "--query",
-            query,
-            "A",
-        ];
-        expect(rt, alloc, &words, (PAIRS, None), wanted);
-    }
+    expect_all(&rt, rt.alloc(), &ANSWERS);
 }

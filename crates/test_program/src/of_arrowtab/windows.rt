@@ -1,9 +1,10 @@
 //! Files that are parsed side by side: however many workers there are, one thing is reported of five files.
-ghost use Rattle.std.specs.Prelude.{◌≡◌, IfOk};
+ghost use Rattle.std.specs.Prelude.{◌≡◌, ◌^◌, ◌-◌, ◌<◌, All, IfOk};
 
-use super::{Outcome, assert_case, ran, source};
+use super::{assert_case, ran, source};
 use arrowtab::memory::{MemorySink, MemorySource, Plan};
 use std::alloc::{AllocError, Global};
+use std::process::Abort;
 use std::sync::Wait;
 use std::thread::Threads;
 
@@ -19,11 +20,11 @@ const CUT: &str = r#"{"schema":"#;
 /// Counts the rows, and adds the numbers.
 const SUM: &str = r#"{"aggs":[{"agg":"rows"},{"agg":"sum","column":"n"}]}"#;
 
-const WORKERS: [&str; 4] = ["1", "2", "4", "64"];
+static WORKERS: [&str; 4] = ["1", "2", "4", "64"];
 
 /// What each of five files is, by a letter, and what is reported of them: s is seven, n has no batches, c is cut, and the source
 /// of f fails.
-const RUNS: [([u8; 5], &str); 18] = [
+static RUNS: [([u8; 5], &str); 18] = [
     (*b"sssss", "5 35\n"),
     (*b"snsns", "3 21\n"),
     (*b"nnnns", "1 7\n"),
@@ -46,56 +47,63 @@ const RUNS: [([u8; 5], &str); 18] = [
 
 #[test]
 fn the_first_fault_is_reported(rt: HostRuntime) {
-    for (files, wanted) in RUNS {
-        for workers in WORKERS {
-            let is_right = is_reported(&rt, rt.alloc(), workers, files, wanted);
-            assert_case(&rt, is_right, &[workers], wanted);
-        }
+    for (files, wanted) in &RUNS {
+        expect_by_each(&rt, rt.alloc(), files, *wanted);
     }
 }
 
-/// Whether this is what so many workers tell of five files.
+/// Asserts what each number of workers tells of five files.
+fn expect_by_each(
+    rt: &(impl Abort + Wait + Threads + Sync),
+    alloc: Global,
+    files: &[u8],
+    wanted: &str,
+) {
+    for workers in &WORKERS {
+        let words = [
+            "arrowtab",
+            "query",
+            "--workers",
+            *workers,
+            "--query",
+            SUM,
+            "A",
+            "B",
+            "C",
+            "D",
+            "E",
+        ];
+        let is_right = is_reported(rt, alloc, &words, files, wanted);
+        assert_case(rt, is_right, &words, wanted);
+    }
+}
+
+/// Whether this is what the words of a run tell of files.
 fn is_reported(
     rt: &(impl Wait + Threads + Sync),
     alloc: Global,
-    workers: &str,
-    files: [u8; 5],
+    words: &[&str],
+    files: &[u8],
     wanted: &str,
 ) -> bool {
-    match ran_over_five(rt, alloc, workers, files) {
+    let Ok(mut sources) = sources_of(alloc, files) else {
+        return false;
+    };
+    match ran(rt, alloc, words, &mut sources, MemorySink::new(alloc)) {
         Some(came) => came.tells(wanted),
         None => false,
     }
 }
 
-/// A run of so many workers over five files.
-fn ran_over_five(
-    rt: &(impl Wait + Threads + Sync),
-    alloc: Global,
-    workers: &str,
-    files: [u8; 5],
-) -> Option<Outcome> {
-    let words = [
-        "arrowtab",
-        "query",
-        "--workers",
-        workers,
-        "--query",
-        SUM,
-        "A",
-        "B",
-        "C",
-        "D",
-        "E",
-    ];
-    let mut sources = [
-        source_of(alloc, files[0]).ok()?,
-        source_of(alloc, files[1]).ok()?,
-        source_of(alloc, files[2]).ok()?,
-        source_of(alloc, files[3]).ok()?,
-        source_of(alloc, files[4]).ok()?,
-    ];
-    ran(rt, alloc, &words, &mut sources, MemorySink::new(alloc))
+/// The sources of files, by their letters.
+fn sources_of(alloc: Global, files: &[u8]) -> Result<Vec<MemorySource>, AllocError>
+    ensures { IfOk result (λ v. All (λ s. s.failures < 2 ^ 64 - 1) v.items) }
+{
+    let mut sources = Vec::new(alloc);
+    for file in files {
+        sources.push(source_of(alloc, *file)?)?;
+    }
+    Ok(sources)
 }
 
 /// The source of a file, by its letter.

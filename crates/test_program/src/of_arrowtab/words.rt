@@ -8,7 +8,9 @@ use std::alloc::Global;
 
 /// Words, each behind one space, the command that they ask for, or the text of its query, or the name of its file, the files that it is about,
 /// how many workers, and the text of a column, a dash where there is none.
-const JOBS: [(&str, &str, &str, u32, &str); 24] = [
+type Row = (&'static str, &'static str, &'static str, u32, &'static str);
+
+static JOBS: [Row; 24] = [
     ("arrowtab stats A", "stats", "A", 1, "-"),
     ("a/b stats B A B", "stats", "B A B", 1, "-"),
     // An empty name.
@@ -86,62 +88,82 @@ fn name_of(command: &Command) -> &str {
 
 #[test]
 fn words_ask_for_a_job(rt: HostRuntime) {
-    for (line, command, names, workers, column) in JOBS {
-        let is_right = match job_of(rt.alloc(), line) {
-            Ok(job) => {
-                name_of(&job.command) == command
-                    && are(&job.names, names)
-                    && job.workers == workers
-                    && is_column(&job.column, column)
-            }
-            Err(_) => false,
-        };
-        assert_case(&rt, is_right, &[line], command);
+    for row in &JOBS {
+        assert_case(&rt, asks_for_job(rt.alloc(), row), &[row.0], row.1);
     }
 }
 
-/// Words, and how many rows they ask for.
-const HEADS: [(&str, u64); 5] = [
-    ("arrowtab head A", 10),
-    ("arrowtab head -n 0 A", 0),
-    ("arrowtab head -n3 A", 3),
-    ("arrowtab head A -n=+7", 7),
+/// Whether the words of a row ask for its job.
+fn asks_for_job(alloc: Global, row: &Row) -> bool {
+    match job_of(alloc, row.0) {
+        Ok(job) => is_job(&job, row),
+        Err(_) => false,
+    }
+}
+
+fn is_job(job: &Job, row: &Row) -> bool {
+    let (_, command, names, workers, column) = *row;
+    (name_of(&job.command), job.workers) == (command, workers)
+        && are(&job.names, names)
+        && is_column(&job.column, column)
+}
+
+/// How many rows words ask for, or for what form.
+#[derive(Clone, Copy)]
+enum Request {
+    Rows(u64),
+    Form(Output),
+}
+
+/// Words, and what they ask for.
+static REQUESTS: [(&str, Request); 9] = [
+    ("arrowtab head A", Request::Rows(10)),
+    ("arrowtab head -n 0 A", Request::Rows(0)),
+    ("arrowtab head -n3 A", Request::Rows(3)),
+    ("arrowtab head A -n=+7", Request::Rows(7)),
     (
         "arrowtab head -n 18446744073709551615 A",
-        18_446_744_073_709_551_615,
+        Request::Rows(18_446_744_073_709_551_615),
     ),
-];
-
-/// Words, and the form that they ask for.
-const OUTPUTS: [(&str, Output); 4] = [
-    ("arrowtab query --query {} A", Output::Lines),
-    ("arrowtab query --query {} --output lines A", Output::Lines),
-    ("arrowtab query A --output=json --query {}", Output::Json),
-    ("arrowtab query --output csv --query {} A", Output::Csv),
+    ("arrowtab query --query {} A", Request::Form(Output::Lines)),
+    (
+        "arrowtab query --query {} --output lines A",
+        Request::Form(Output::Lines),
+    ),
+    (
+        "arrowtab query A --output=json --query {}",
+        Request::Form(Output::Json),
+    ),
+    (
+        "arrowtab query --output csv --query {} A",
+        Request::Form(Output::Csv),
+    ),
 ];
 
 #[test]
 fn words_ask_for_rows_and_forms(rt: HostRuntime) {
-    for (line, count) in HEADS {
-        let is_right = match job_of(rt.alloc(), line) {
-            Ok(job) => job.command == Command::Head(count),
-            Err(_) => false,
-        };
-        assert_case(&rt, is_right, &[line], "head");
-    }
-    for (line, form) in OUTPUTS {
-        let is_right = match job_of(rt.alloc(), line) {
-            Ok(job) => is_of_form(&job.command, form),
-            Err(_) => false,
-        };
-        assert_case(&rt, is_right, &[line], "query");
+    for (line, asked) in &REQUESTS {
+        assert_case(
+            &rt,
+            ask_for(rt.alloc(), *line, *asked),
+            &[*line],
+            "rows or a form",
+        );
     }
 }
 
-/// Whether a command is a query of this form.
-fn is_of_form(command: &Command, form: Output) -> bool {
-    match command {
-        Command::Query { query: _, output } => *output == form,
+/// Whether the words of a line ask for this.
+fn ask_for(alloc: Global, line: &str, asked: Request) -> bool {
+    match job_of(alloc, line) {
+        Ok(job) => is_asked(&job.command, asked),
+        Err(_) => false,
+    }
+}
+
+fn is_asked(command: &Command, asked: Request) -> bool {
+    match (command, asked) {
+        (Command::Head(count), Request::Rows(wanted)) => *count == wanted,
+        (Command::Query { query: _, output }, Request::Form(wanted)) => *output == wanted,
         _ => false,
     }
 }
@@ -337,7 +359,7 @@ fn tells_that_help_failed(alloc: Global) -> bool {
 }
 
 /// Words that are no job, what `clap` says of them, and whether that is the help or the version that was requested.
-const NO_JOBS: [(&str, &str, bool); 27] = [
+static NO_JOBS: [(&str, &str, bool); 27] = [
     ("arrowtab --help", HELP, true),
     ("bin/arrowtab -h", HELP, true),
     ("arrowtab help", HELP, true),
@@ -467,9 +489,9 @@ For more information, try '--help'.
 
 #[test]
 fn what_is_no_job_is_reported(rt: HostRuntime) {
-    for (line, text, is_help) in NO_JOBS {
-        let is_right = tells(rt.alloc(), job_of(rt.alloc(), line), text, is_help);
-        assert_case(&rt, is_right, &[line], text);
+    for (line, text, is_help) in &NO_JOBS {
+        let is_right = tells(rt.alloc(), job_of(rt.alloc(), *line), *text, *is_help);
+        assert_case(&rt, is_right, &[*line], *text);
     }
     assert!(rt; tells(rt.alloc(), job(rt.alloc(), &[]), HELP, false));
 }

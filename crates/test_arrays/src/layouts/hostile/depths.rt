@@ -15,7 +15,7 @@ const CODE: Part = (0, Indices, 1, None, &[Nothing, Int32s(&[0])]);
 
 const TEXT: Part = (0, Texts, 1, None, &[Nothing, Offsets(&[0, 1]), Bytes(b"a")]);
 
-const IN_SEVEN: &[Group] = &[
+static IN_SEVEN: &[Group] = &[
     (None, &[("a list", Lists(1, None, &[0, 1], 1))]),
     (
         Some(OffsetPastEnd),
@@ -23,7 +23,7 @@ const IN_SEVEN: &[Group] = &[
     ),
 ];
 
-const IN_EIGHT: &[Group] = &[
+static IN_EIGHT: &[Group] = &[
     (
         None,
         &[
@@ -45,7 +45,7 @@ const IN_EIGHT: &[Group] = &[
     ),
 ];
 
-const IN_MORE: &[Group] = &[(
+static IN_MORE: &[Group] = &[(
     Some(TooDeep),
     &[
         ("a number", Alone(NUMBER)),
@@ -65,7 +65,7 @@ const NINE: Part = (9, INT8, 1, None, &[Nothing, Offsets(&[0, 0])]);
 const NINE_OF_TEXTS: Part = (9, Texts, 1, None, &[Nothing, Offsets(&[0, 0])]);
 
 /// Types that differ by lists: how deep a child's type is isn't looked at.
-const TYPES: &[Group] = &[
+static TYPES: &[Group] = &[
     (
         Some(ChildDiffers),
         &[

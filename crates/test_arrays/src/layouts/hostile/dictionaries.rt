@@ -26,7 +26,7 @@ const THREE: Part = (
     &[Bytes(&[3]), Offsets(&[0, 1, 2, 2]), Bytes(b"aa")],
 );
 
-const POSITIONS: &[Group] = &[
+static POSITIONS: &[Group] = &[
     (
         Some(MissingBuffer),
         &[
@@ -70,7 +70,7 @@ const POSITIONS: &[Group] = &[
     ),
 ];
 
-const SIZES: &[Group] = &[
+static SIZES: &[Group] = &[
     (
         None,
         &[
@@ -98,7 +98,7 @@ const SIZES: &[Group] = &[
 ];
 
 /// Only the nulls of the codes are counted.
-const COUNTS: &[Group] = &[
+static COUNTS: &[Group] = &[
     (
         None,
         &[
@@ -143,7 +143,7 @@ const COUNTS: &[Group] = &[
     ),
 ];
 
-const CODES: &[Group] = &[
+static CODES: &[Group] = &[
     (
         None,
         &[
@@ -161,8 +161,8 @@ const CODES: &[Group] = &[
         Some(IndexPastDictionary { row: 0 }),
         &[
             ("past the last entry", Codes(1, None, &[3], 3)),
-            ("2^31 - 1", Codes(1, None, &[i32::MAX], 3)),
-            ("-2^31", Codes(1, None, &[i32::MIN], 3)),
+            ("2^31 - 1", Codes(1, None, &[2147483647], 3)),
+            ("-2^31", Codes(1, None, &[-2147483648], 3)),
             // Its lower bytes are 0.
             ("2^16", Codes(1, None, &[65536], 3)),
             ("of no entries", Codes(1, None, &[0], 0)),
@@ -194,7 +194,7 @@ const NUMBER: Part = (0, LONGER, 1, None, &[Nothing, Bytes(&[0; 4])]);
 const LIST: Part = (1, Texts, 1, None, &[Nothing, Offsets(&[0, 0])]);
 
 /// Dictionaries that aren't there or aren't texts, and children beside them.
-const PARTS: &[Group] = &[
+static PARTS: &[Group] = &[
     (None, &[("texts", Over(FIRST, &[], Some(THREE)))]),
     (
         Some(ChildDiffers),
@@ -210,7 +210,7 @@ const PARTS: &[Group] = &[
 ];
 
 /// What is no array of texts, or is one over others.
-const AS_ENTRIES: &[Group] = &[
+static AS_ENTRIES: &[Group] = &[
     (None, &[("texts", Alone(THREE))]),
     (
         Some(ChildDiffers),
@@ -225,7 +225,7 @@ const AS_ENTRIES: &[Group] = &[
 ];
 
 /// Lawful codes, which no list may have as its items.
-const IN_A_LIST: &[Group] = &[(
+static IN_A_LIST: &[Group] = &[(
     Some(ChildDiffers),
     &[
         ("a code", Over(FIRST, &[], Some(THREE))),
@@ -244,7 +244,7 @@ fn codes_from_outside_are_checked(rt: HostRuntime) -> Result<(), Fail> {
 }
 
 /// Lawful arrays that are no dictionary, over lawful codes.
-const LARGE: &[Group] = &[(
+static LARGE: &[Group] = &[(
     Some(ChildDiffers),
     &[
         ("texts", Over(FIRST, &[], Some(THREE))),

@@ -1,13 +1,13 @@
 //! Parts of arrays, each given in a line.
 
-use crate::layouts::Content::{Int32s, Nothing, Offsets};
-use crate::layouts::{Inner, Part, assembled, buffer, parts};
+use crate::layouts::Content::{self, Bytes, Int32s, Nothing, Offsets};
+use crate::layouts::Inner::{self, Bits, Indices, Texts};
+use crate::layouts::{Part, assembled, parts, parts_over};
 use Form::{Alone, Codes, Lists, Over, Truths, Values, Words};
-use arrays::{DataType, OffsetWidth, RawArray};
-use colbits::Buffer;
+use arrays::{DataType, RawArray};
 use std::alloc::Global;
 use std::test::Fail;
-use test_samples::{Positions, Widths, list_of, raw};
+use test_samples::{Positions, Widths, raw};
 
 /// The bytes of a bitmap, none where it is absent.
 type Bitmap = Option<&'static [u8]>;
@@ -27,7 +27,7 @@ pub(in crate::layouts) enum Form {
     /// Lists: how many, their bitmap and offsets, and how many items there are, of which 8 have their bytes.
     Lists(u64, Bitmap, &'static [i64], u64),
     /// Codes: how many, their bitmap and numbers, and how many entries there are, of which 3 have their offsets.
-    Codes(u64, Bitmap, &'static [i32], u64),
+    Codes(u64, Bitmap, &'static [i64], u64),
 }
 
 impl Form {
@@ -38,67 +38,39 @@ impl Form {
             Over(own, children, dictionary) => {
                 assembled(alloc, widths, (own, children, dictionary))
             }
-            Values(inner, slots, bytes) => values(alloc, widths, inner, slots, bytes),
-            Truths(slots, null_count, bitmap) => truths(alloc, slots, null_count, bitmap),
+            Values(inner, slots, bytes) => {
+                parts_over(
+                    alloc,
+                    widths,
+                    (0, inner, slots, None),
+                    &[Nothing, Bytes(bytes)],
+                )
+            }
+            Truths(slots, null_count, bitmap) => {
+                let positions = [Content::Bitmap(bitmap), Bytes(&[0; 65])];
+                parts_over(alloc, widths, (0, Bits, slots, null_count), &positions)
+            }
             Words(slots, bitmap, offsets, bytes) => {
-                words(alloc, widths.texts, slots, bitmap, (offsets, bytes))
+                let positions = [Content::Bitmap(bitmap), Offsets(offsets), Bytes(bytes)];
+                parts_over(alloc, widths, (0, Texts, slots, None), &positions)
             }
             Lists(slots, bitmap, offsets, items) => {
-                lists(alloc, widths.inner, slots, bitmap, (offsets, items))
+                let positions = [Content::Bitmap(bitmap), Offsets(offsets)];
+                let lists = parts_over(alloc, widths, (1, Bits, slots, None), &positions)?;
+                over_truths(alloc, lists, items)
             }
-            Codes(slots, bitmap, codes, entries) => coded(alloc, slots, bitmap, codes, entries),
+            Codes(slots, bitmap, codes, entries) => {
+                let positions = [Content::Bitmap(bitmap), Int32s(codes)];
+                let codes = parts_over(alloc, widths, (0, Indices, slots, None), &positions)?;
+                over_texts(alloc, codes, entries)
+            }
         }
     }
 }
 
-fn values(
-    alloc: Global,
-    widths: Widths,
-    inner: Inner,
-    slots: u64,
-    bytes: &'static [u8],
-) -> Result<RawArray, Fail> {
-    let mut values = parts(alloc, widths, (0, inner, slots, None, &[Nothing]))?;
-    values
-        .buffers
-        .push(Some(Buffer::from_bytes(alloc, bytes)?))?;
-    Ok(values)
-}
-
-fn truths(
-    alloc: Global,
-    slots: u64,
-    null_count: Option<u64>,
-    bitmap: Bitmap,
-) -> Result<RawArray, Fail> {
-    let mut truths = raw(alloc, DataType::Bool, slots, &[bitmap, Some(&[0; 65])])?;
-    truths.null_count = null_count;
-    Ok(truths)
-}
-
-fn words(
-    alloc: Global,
-    width: OffsetWidth,
-    slots: u64,
-    bitmap: Bitmap,
-    (offsets, bytes): (&'static [i64], &'static [u8]),
-) -> Result<RawArray, Fail> {
-    let mut words = raw(alloc, DataType::of_texts(width), slots, &[bitmap])?;
-    words.buffers.push(buffer(alloc, width, Offsets(offsets))?)?;
-    words.buffers.push(Some(Buffer::from_bytes(alloc, bytes)?))?;
-    Ok(words)
-}
-
-fn lists(
-    alloc: Global,
-    width: OffsetWidth,
-    slots: u64,
-    bitmap: Bitmap,
-    (offsets, items): (&'static [i64], u64),
-) -> Result<RawArray, Fail> {
-    let ty = list_of(alloc, width, DataType::Bool)?;
-    let mut lists = raw(alloc, ty, slots, &[bitmap])?;
-    lists.buffers.push(buffer(alloc, width, Offsets(offsets))?)?;
+/// Lists over so many truth values.
+fn over_truths(alloc: Global, lists: RawArray, items: u64) -> Result<RawArray, Fail> {
+    let mut lists = lists;
     let child = raw(alloc, DataType::Bool, items, &[None, Some(&[0x55])])?;
     lists.children.push(child)?;
     Ok(lists)
@@ -107,17 +79,10 @@ fn lists(
 /// Three texts without bytes.
 const ENTRIES: Positions = &[None, Some(&[0; 16]), Some(&[])];
 
-fn coded(
-    alloc: Global,
-    slots: u64,
-    bitmap: Bitmap,
-    codes: &'static [i32],
-    entries: u64,
-) -> Result<RawArray, Fail> {
-    let mut coded = raw(alloc, DataType::Dict, slots, &[bitmap])?;
-    let codes = buffer(alloc, OffsetWidth::Narrow, Int32s(codes))?;
-    coded.buffers.push(codes)?;
+/// Codes over so many texts.
+fn over_texts(alloc: Global, codes: RawArray, entries: u64) -> Result<RawArray, Fail> {
+    let mut codes = codes;
     let dictionary = raw(alloc, DataType::Utf8, entries, ENTRIES)?;
-    coded.dictionary = Some(Box::new(alloc, dictionary)?);
-    Ok(coded)
+    codes.dictionary = Some(Box::new(alloc, dictionary)?);
+    Ok(codes)
 }

@@ -13,7 +13,7 @@ use test_samples::{Positions, Shown, WIDTHS, has_width, raw, shows};
 
 const EMPTY: Content = Bytes(&[]);
 
-const TEXTS: &[Group] = &[
+static TEXTS: &[Group] = &[
     (
         None,
         &[
@@ -96,7 +96,7 @@ const TEXTS: &[Group] = &[
     ),
 ];
 
-const LISTS: &[Group] = &[
+static LISTS: &[Group] = &[
     (
         Some(OffsetNegative),
         &[

@@ -19,7 +19,7 @@ const MOST: u64 = 2147483647;
 /// Of its lower 32 bits it would be 1.
 const ODD: u64 = 4294967297;
 
-const NUMBERS: &[Group] = &[
+static NUMBERS: &[Group] = &[
     (None, &[("a number", Values(INT64, 1, &[0; 8]))]),
     (
         Some(BufferTooShort),
@@ -52,7 +52,7 @@ const NUMBERS: &[Group] = &[
     ),
 ];
 
-const TEXTS: &[Group] = &[
+static TEXTS: &[Group] = &[
     (None, &[("a text", Words(1, None, &[0, 0], b""))]),
     (
         Some(BufferTooShort),
@@ -81,7 +81,7 @@ const TEXTS: &[Group] = &[
     ),
 ];
 
-const LISTS: &[Group] = &[
+static LISTS: &[Group] = &[
     (None, &[("a list", Lists(1, None, &[0, 0], 0))]),
     (
         Some(BufferTooShort),
@@ -103,7 +103,7 @@ const LISTS: &[Group] = &[
 ];
 
 /// Lists whose child says that it is long.
-const ITEMS: &[Group] = &[
+static ITEMS: &[Group] = &[
     (None, &[("an item", Lists(1, None, &[0, 1], 1))]),
     (
         Some(OffsetPastEnd),
@@ -142,7 +142,7 @@ const ITEMS: &[Group] = &[
     ),
 ];
 
-const CODES: &[Group] = &[
+static CODES: &[Group] = &[
     (None, &[("a code", Codes(1, None, &[0], 1))]),
     (
         Some(BufferTooShort),
@@ -163,7 +163,7 @@ const CODES: &[Group] = &[
 ];
 
 /// Dictionaries that say that they are long.
-const ENTRIES: &[Group] = &[
+static ENTRIES: &[Group] = &[
     (
         Some(BufferTooShort),
         &[("the last of 2^31 - 1", Codes(1, None, &[2147483646], MOST))],
@@ -171,7 +171,7 @@ const ENTRIES: &[Group] = &[
     (
         Some(TooLong),
         &[
-            ("the last of 2^31", Codes(1, None, &[i32::MAX], MOST + 1)),
+            ("the last of 2^31", Codes(1, None, &[2147483647], MOST + 1)),
             ("the first of 2^32", Codes(1, None, &[0], 1 << 32)),
             ("none of 2^64 - 1", Codes(0, None, &[], u64::MAX)),
         ],
@@ -179,7 +179,7 @@ const ENTRIES: &[Group] = &[
     (
         Some(IndexPastDictionary { row: 0 }),
         &[
-            ("past 2^31 - 1", Codes(1, None, &[i32::MAX], MOST)),
+            ("past 2^31 - 1", Codes(1, None, &[2147483647], MOST)),
             // As an unsigned number it would be below either.
             ("-1 of 2^32", Codes(1, None, &[-1], 1 << 32)),
             ("-1 of 2^64 - 1", Codes(1, None, &[-1], u64::MAX)),

@@ -7,7 +7,7 @@ use crate::layouts::Content::{self, Bytes, Cut, Nothing, Offsets};
 use crate::layouts::Inner::{self, Bits, Indices, Numbers, Texts};
 use crate::layouts::{Part, parts};
 use arrays::LayoutFault::{
-    self, BufferTooShort, ChildDiffers, ExtraBuffer, MissingBuffer, NotUtf8, NullCountDiffers,
+    BufferTooShort, ChildDiffers, ExtraBuffer, MissingBuffer, NotUtf8, NullCountDiffers,
     OffsetDecreases, OffsetNegative, OffsetPastEnd,
 };
 use arrays::{Width, validate};
@@ -19,7 +19,7 @@ const EMPTY: Content = Bytes(&[]);
 
 const NUMBERS: Part = (0, INT8, 0, None, &[Nothing, EMPTY]);
 
-const POSITIONS: &[Group] = &[
+static POSITIONS: &[Group] = &[
     (
         Some(MissingBuffer),
         &[
@@ -64,7 +64,7 @@ const POSITIONS: &[Group] = &[
 ];
 
 /// Offsets and bitmaps that are too few.
-const SIZES: &[Group] = &[
+static SIZES: &[Group] = &[
     (
         None,
         &[
@@ -109,7 +109,7 @@ const SIZES: &[Group] = &[
     ),
 ];
 
-const RISING: &[Group] = &[
+static RISING: &[Group] = &[
     (
         None,
         &[
@@ -144,7 +144,7 @@ const RISING: &[Group] = &[
     ),
 ];
 
-const PAST_END: &[Group] = &[
+static PAST_END: &[Group] = &[
     (
         None,
         &[
@@ -170,7 +170,7 @@ const PAST_END: &[Group] = &[
 /// Two nulls.
 const NULLS: Part = (0, INT8, 2, Some(2), &[Bytes(&[0]), Bytes(&[7; 2])]);
 
-const COUNTS: &[Group] = &[
+static COUNTS: &[Group] = &[
     (
         None,
         &[
@@ -235,7 +235,7 @@ const CODES: Part = (0, Indices, 0, None, &[Nothing, EMPTY]);
 
 const LISTS: Part = (1, INT8, 0, None, &[Nothing, EMPTY]);
 
-const CHILDREN: &[Group] = &[
+static CHILDREN: &[Group] = &[
     (None, &[("its child", Over(LISTS, &[NUMBERS], None))]),
     (
         Some(ChildDiffers),
@@ -271,7 +271,7 @@ const COVERED: Part = (
     &[Bytes(&[1]), Offsets(&[0, 1, 2]), Bytes(b"a\xff")],
 );
 
-const UNNAMED: &[Group] = &[
+static UNNAMED: &[Group] = &[
     (None, &[("under a null", Over(OF_TEXT, &[COVERED], None))]),
     (
         Some(NotUtf8 { row: 1 }),
@@ -284,7 +284,7 @@ const LISTS_OF_LISTS: Part = (2, INT8, 0, None, &[Nothing, EMPTY]);
 const LISTS_OF_CODES: Part = (1, Indices, 0, None, &[Nothing, EMPTY]);
 
 /// Children of another depth, and codes.
-const DEEPER: &[Group] = &[(
+static DEEPER: &[Group] = &[(
     Some(ChildDiffers),
     &[
         ("over numbers", Over(LISTS_OF_LISTS, &[NUMBERS], None)),
@@ -326,33 +326,24 @@ fn lists_from_outside_are_checked(rt: HostRuntime) -> Result<(), Fail> {
 const ONE_ITEM: &[Content] = &[Nothing, Offsets(&[0, 1])];
 
 /// A list of a list of truth values, and of a text: the type of its items, and the item.
-const OF_LISTS_AND_TEXTS: &[(usize, Inner, Form)] = &[
+static OF_LISTS_AND_TEXTS: &[(usize, Inner, Form)] = &[
     (2, Bits, Lists(1, None, &[0, 1], 1)),
     (1, Texts, Words(1, None, &[0, 1], b"a")),
 ];
 
-/// The fault of a list of one item, of a type of these widths, over a child of others.
-fn child_fault(
-    alloc: Global,
-    widths: Widths,
-    others: Widths,
-    (lists, inner, child): (usize, Inner, Form),
-) -> Result<Option<LayoutFault>, Fail> {
-    let mut list = parts(alloc, widths, (lists, inner, 1, None, ONE_ITEM))?;
-    list.children.push(child.parts(alloc, others)?)?;
-    Ok(validate(alloc, list).err())
-}
-
-/// Whether a child is lawful where its width is that of the items alone.
+/// Whether the child of a list of one item is lawful where its width is that of the items alone. The list's type is of some
+/// widths, the child of others.
 fn is_reported(
     alloc: Global,
     widths: Widths,
     others: Widths,
-    case: (usize, Inner, Form),
+    (lists, inner, child): (usize, Inner, Form),
 ) -> Result<bool, Fail> {
-    let items = case.0.saturating_sub(1);
+    let items = lists.saturating_sub(1);
     let is_same = widths.of_lists(items) == others.of_lists(items);
-    let fault = child_fault(alloc, widths, others, case)?;
+    let mut list = parts(alloc, widths, (lists, inner, 1, None, ONE_ITEM))?;
+    list.children.push(child.parts(alloc, others)?)?;
+    let fault = validate(alloc, list).err();
     Ok(fault == if is_same { None } else { Some(ChildDiffers) })
 }
 

@@ -16,7 +16,7 @@ const UINT32: Inner = Numbers(Width::W32, false);
 const UINT64: Inner = Numbers(Width::W64, false);
 
 /// Three numbers of each type, and a byte less.
-const WIDTHS: &[Group] = &[
+static WIDTHS: &[Group] = &[
     (
         None,
         &[
@@ -43,7 +43,7 @@ const WIDTHS: &[Group] = &[
     ),
 ];
 
-const SIZES: &[Group] = &[
+static SIZES: &[Group] = &[
     (
         None,
         &[
@@ -77,7 +77,7 @@ const SIZES: &[Group] = &[
     ),
 ];
 
-const POSITIONS: &[Group] = &[
+static POSITIONS: &[Group] = &[
     (
         Some(MissingBuffer),
         &[
@@ -122,7 +122,7 @@ const TRUTH: Part = (0, Bits, 1, None, &[Nothing, Bytes(&[1])]);
 
 const TEXT: Part = (0, Texts, 1, None, &[Nothing, Offsets(&[0, 0]), Bytes(&[])]);
 
-const PARTS: &[Group] = &[
+static PARTS: &[Group] = &[
     (
         None,
         &[("a number", Alone(NUMBER)), ("a truth value", Alone(TRUTH))],

@@ -17,7 +17,7 @@ const EMPTY: Content = Bytes(&[]);
 
 const SEVEN: Content = Bytes(&[7]);
 
-const NUMBERS: &[Group] = &[
+static NUMBERS: &[Group] = &[
     (
         Some(TooLong),
         &[(
@@ -64,7 +64,7 @@ const NUMBERS: &[Group] = &[
     ),
 ];
 
-const TEXTS: &[Group] = &[
+static TEXTS: &[Group] = &[
     (
         Some(MissingBuffer),
         &[(
@@ -148,7 +148,7 @@ const NUMBER: Part = (0, INT8, 1, None, &[Nothing, SEVEN]);
 /// A list of one item.
 const LIST: Part = (1, INT8, 1, Some(0), &[Nothing, Offsets(&[0, 1])]);
 
-const LISTS: &[Group] = &[
+static LISTS: &[Group] = &[
     (
         None,
         &[("a child with its bytes", Over(LIST, &[NUMBER], None))],
@@ -255,7 +255,7 @@ const WRITTEN: Part = (0, Texts, 2, None, &[Nothing, Offsets(&[0; 3]), EMPTY]);
 
 const CODE: Part = (0, Indices, 1, Some(0), &[Nothing, Int32s(&[1])]);
 
-const CODES: &[Group] = &[
+static CODES: &[Group] = &[
     (
         None,
         &[(

@@ -13,7 +13,7 @@ use std::test::Fail;
 
 const EMPTY: Content = Bytes(&[]);
 
-const POSITIONS: &[Group] = &[
+static POSITIONS: &[Group] = &[
     (
         Some(MissingBuffer),
         &[
@@ -41,7 +41,7 @@ const POSITIONS: &[Group] = &[
 ];
 
 /// Offsets that are too few.
-const SIZES: &[Group] = &[
+static SIZES: &[Group] = &[
     (
         None,
         &[
@@ -81,7 +81,7 @@ const SIZES: &[Group] = &[
     ),
 ];
 
-const RISING: &[Group] = &[
+static RISING: &[Group] = &[
     (
         None,
         &[
@@ -136,7 +136,7 @@ const RISING: &[Group] = &[
 /// 63 letters, and the euro sign over the 64th byte.
 const EURO: &[u8] = b"aaaaaaaaaaaaaaaaaaaaaaaaaaaaaaaaaaaaaaaaaaaaaaaaaaaaaaaaaaaaaaa\xe2\x82\xac";
 
-const PAST_END: &[Group] = &[
+static PAST_END: &[Group] = &[
     (
         None,
         &[
@@ -169,7 +169,7 @@ const PAST_END: &[Group] = &[
 ];
 
 /// One character, and its neighbours that are none.
-const CHARACTERS: &[Group] = &[
+static CHARACTERS: &[Group] = &[
     (
         None,
         &[
@@ -232,7 +232,7 @@ const CHARACTERS: &[Group] = &[
 ];
 
 /// Which slots are looked at, and the least that is no text.
-const SLOTS: &[Group] = &[
+static SLOTS: &[Group] = &[
     (
         None,
         &[
@@ -296,7 +296,7 @@ const TEXT: Part = (0, Texts, 1, None, &[Nothing, Offsets(&[0, 0]), EMPTY]);
 
 const NO_NUMBERS: Part = (0, INT8, 0, None, &[Nothing, EMPTY]);
 
-const PARTS: &[Group] = &[
+static PARTS: &[Group] = &[
     (None, &[("a text", Alone(TEXT))]),
     (
         Some(ChildDiffers),

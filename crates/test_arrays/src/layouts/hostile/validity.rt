@@ -7,7 +7,7 @@ use crate::layouts::Inner::Texts;
 use arrays::LayoutFault::{BufferTooShort, NullCountDiffers};
 use std::test::Fail;
 
-const BITMAPS: &[Group] = &[
+static BITMAPS: &[Group] = &[
     (
         None,
         &[
@@ -43,7 +43,7 @@ const BITMAPS: &[Group] = &[
     ),
 ];
 
-const BITMAPS_OF_TEXTS: &[Group] = &[
+static BITMAPS_OF_TEXTS: &[Group] = &[
     (
         None,
         &[
@@ -63,7 +63,7 @@ const BITMAPS_OF_TEXTS: &[Group] = &[
 /// 64 nulls and a slot that is valid.
 const LAST_OF_65: Option<&[u8]> = Some(&[0, 0, 0, 0, 0, 0, 0, 0, 1]);
 
-const COUNTS: &[Group] = &[
+static COUNTS: &[Group] = &[
     (
         None,
         &[
@@ -102,7 +102,7 @@ const COUNTS: &[Group] = &[
     ),
 ];
 
-const COUNTS_OF_TEXTS: &[Group] = &[
+static COUNTS_OF_TEXTS: &[Group] = &[
     (
         None,
         &[
