@@ -71,7 +71,7 @@ least() {
     cat "$top/build/minutes-$1"
   else
     for name in $(names "$1"); do find "$top/crates/$name" -name out -prune -o \( -name '*.rt' -o -name '*.antt' \) -exec cat {} +; done |
-      awk -v processors="$(nproc)" '{ lines++ } END { printf "%d", lines / 10 * 0.65 / 60 / processors + 1 }'
+      awk -v processors="$(nproc)" '{ lines++ } END { printf "%d", lines / 10 * 0.35 / 60 / processors + 1 }'
   fi
 }
 
